@@ -1,0 +1,17 @@
+-- A superset of a majority is a majority.
+use Rattle.std.specs.Prelude.{◌≡◌, ◌≤◌, Bool, true, false, cond, List, [], ◌∷◌, count_by, refl}
+use Rattle.std.specs.Set.{unique_keys}
+use Rattle.std.proofs.Common.{arith, ltb-true, lt-ltb}
+use Rattle.std.proofs.lemmas.List.Sums.{sum_by-cons}
+use Rattle.raft_members.specs.Majority.{is_majority}
+
+-- a larger set has no fewer members
+pub count_by-le-larger : {K : Type 0} (s t : K → Bool) → ((x : K) → s x ≡ true → t x ≡ true) → (xs : List K) → count_by s xs ≤ count_by t xs
+count_by-le-larger s t h [] = omega arith
+count_by-le-larger {K} s t h (x ∷ xs) =
+    let one : (b : Bool) → s x ≡ b → cond b 1 0 ≤ cond (t x) 1 0 = elim [ true ↦ λ e. rw (h x e) (omega arith) | false ↦ λ e. omega arith ] in
+    omega (arith, one (s x) refl, count_by-le-larger s t h xs, sum_by-cons (λ y. cond (s y) 1 0) x xs, sum_by-cons (λ y. cond (t y) 1 0) x xs)
+
+pub is_majority-superset : {K : Type 0} (eq : K → K → Bool) (config : List K) (s t : K → Bool) → ((x : K) → s x ≡ true → t x ≡ true) → is_majority eq config s ≡ true → is_majority eq config t ≡ true
+is_majority-superset eq config s t h q =
+    lt-ltb _ _ (omega (arith, ltb-true _ _ q, count_by-le-larger s t h (unique_keys eq config)))
