@@ -1,0 +1,39 @@
+use Rattle.std.proofs.Common.{arith, refl, sym, ap, ◌∙◌, true≢false, nat_lt, lt-ltb, ltb, is_lt, ◌&&◌, ◌≡◌, Bool, true, false, ◌≤◌, ℕ, ltb-true}
+use Rattle.raft_progress.proofs.progress.vec_progress.VecProgress.settle.Goals as goal
+use Rattle.raft_progress.proofs.progress.vec_progress.VecProgress.settle.Goals.{else-place-self-via-then-place-self+else-is_raised, else-place-self-via-else-place-self}
+
+not_less : (a b : ℕ) → b ≤ a → nat_lt a b ≡ false
+not_less a b l = by (ltb a b) refl
+  where
+    by : (t : Bool) → ltb a b ≡ t → t ≡ false
+    by false e = refl
+    by true e = let h = ltb-true a b e in absurd (omega arith)
+
+and_false : (b c : Bool) → c ≡ false → (b && c) ≡ false
+and_false true c e = e
+and_false false c e = refl
+
+pub returns-then-is_raised : goal.returns-then-is_raised
+returns-then-is_raised g c =
+    let yes : (nat_lt c.args.place c.args.self.now.voter_count && (is_lt (g.P.Ord.cmp c.args.before (g.V.ProgressPart.part_of c.index.result.now.1)) && is_lt (g.P.Ord.cmp c.args.self.now.granted (g.V.ProgressPart.part_of c.index.result.now.1)))) ≡ true =
+    rw (lt-ltb _ _ c.if-place-self.true, ← c.part-after.ensures) (sym c.is_raised.ensures ∙ c.if-is_raised.true) in
+    record {
+      entry = c.index.result.now;
+      at = c.index.ensures;
+      raised = λ h. rw (← c.cmp.ensures, ← c.is_le.ensures) c.raise.ensures;
+      kept = λ h. absurd (true≢false (sym yes ∙ h));
+    }
+
+pub returns-else-place-self : goal.returns-else-place-self
+returns-else-place-self g c =
+    let no : (nat_lt c.args.place c.args.self.now.voter_count && (is_lt (g.P.Ord.cmp c.args.before (g.V.ProgressPart.part_of c.index.result.now.1)) && is_lt (g.P.Ord.cmp c.args.self.now.granted (g.V.ProgressPart.part_of c.index.result.now.1)))) ≡ false =
+    elim c.else-place-self.branch [
+      | else-place-self-via-then-place-self+else-is_raised w ↦ and_false (nat_lt c.args.place c.args.self.now.voter_count) (is_lt (g.P.Ord.cmp c.args.before (g.V.ProgressPart.part_of c.index.result.now.1)) && is_lt (g.P.Ord.cmp c.args.self.now.granted (g.V.ProgressPart.part_of c.index.result.now.1))) (rw (← c.part-after.ensures) (sym w.is_raised.ensures ∙ w.if-is_raised.false))
+      | else-place-self-via-else-place-self w ↦ ap (λ b. b && (is_lt (g.P.Ord.cmp c.args.before (g.V.ProgressPart.part_of c.index.result.now.1)) && is_lt (g.P.Ord.cmp c.args.self.now.granted (g.V.ProgressPart.part_of c.index.result.now.1)))) (not_less c.args.place c.args.self.now.voter_count w.if-place-self.false)
+    ] in
+    record {
+      entry = c.index.result.now;
+      at = c.index.ensures;
+      raised = λ h. absurd (true≢false (sym h ∙ no));
+      kept = λ h. refl;
+    }

@@ -1,0 +1,64 @@
+-- What a step does to a progress, and what it is answered.
+use Rattle.std.specs.Prelude.{◌≡◌, Bool, true, false, Option, Some, None, List, [], ◌∷◌, not, ◌⊎◌}
+use Rattle.std.specs.Ordering.{is_lt, partial_gt}
+use Rattle.std.specs.declared.cmp.Ordering.{Ordering}
+use Rattle.raft_progress.specs.Counted.{State, IsCounted, IsSame, Writes}
+use Rattle.raft_progress.specs.Shown.{LearnersFit}
+use Rattle.raft_progress.specs.Upgraded.{CanUpgrade, IsUpgraded, IsLeastBelow}
+use Rattle.raft_progress.specs.declared.progress.steps.AnyStep.{AnyStep}
+use Rattle.raft_progress.specs.declared.progress.steps.AnyStep.TheVariants.{Update, IncreaseTo, Upgrade}
+use Rattle.raft_progress.specs.declared.progress.steps.Reply.{Reply}
+use Rattle.raft_progress.specs.declared.progress.steps.Reply.TheVariants.{Granted, Unknown, WouldFall, Refused, BelowDefault, BadLearners, OutOfMemory}
+
+-- whether a value's part is below that of the present value
+abbrev pub falls : {V P : Type 0} → (P → P → Ordering) → (V → P) → Option V → V → Bool
+falls cmp part None value = false
+falls cmp part (Some current) value = is_lt (cmp (part value) (part current))
+
+-- whether there is a value that the new one isn't greater than
+abbrev pub stays : {V : Type 0} → (V → V → Option Ordering) → Option V → V → Bool
+stays partial_cmp None value = false
+stays partial_cmp (Some current) value = not (partial_gt partial_cmp value current)
+
+module _ {ID V P QS : Type 0} (eq : ID → ID → Bool) (cmp : P → P → Ordering) (part : V → P) (has_quorum : QS → (ID → Bool) → Bool) where
+  -- the value of an id is written, unless the id is unknown or its part would fall
+  abbrev pub IsWritten : State ID V P QS → ID → V → Reply ID P → State ID V P QS → Type 0
+  IsWritten old id value (Granted p) new =
+      (current : V) × (old.value id ≡ Some current) × (falls cmp part (Some current) value ≡ false) × Writes eq old id value new × IsCounted cmp part has_quorum new p
+  IsWritten old id value (Unknown p) new = (old.value id ≡ None) × IsCounted cmp part has_quorum old p × IsSame old new
+  IsWritten old id value WouldFall new =
+      (current : V) × (old.value id ≡ Some current) × (falls cmp part (Some current) value ≡ true) × IsSame old new
+  IsWritten old id value (Refused why) new = ⊥
+  IsWritten old id value (BelowDefault below) new = ⊥
+  IsWritten old id value BadLearners new = ⊥
+  IsWritten old id value OutOfMemory new = ⊥
+
+module _ {ID V P QS : Type 0} (eq : ID → ID → Bool) (id_cmp : ID → ID → Ordering) (cmp : P → P → Ordering) (partial_cmp : V → V → Option Ordering) (part : V → P) (IsClone : V → V → Type 0) (has_quorum : QS → (ID → Bool) → Bool) (is_voter : QS → ID → Bool) where
+  -- From old, the step may be answered so and go on to new. No granted value is kept: it is counted where a reply needs it.
+  abbrev pub IsStep : State ID V P QS → AnyStep ID V QS → Reply ID P → State ID V P QS → Type 0
+  IsStep old (Update id value) reply new = IsWritten eq cmp part has_quorum old id value reply new
+  IsStep old (IncreaseTo id value) (Granted p) new =
+      ((stays partial_cmp (old.value id) value ≡ true) × IsCounted cmp part has_quorum old p × IsSame old new)
+      ⊎ ((stays partial_cmp (old.value id) value ≡ false) × IsWritten eq cmp part has_quorum old id value (Granted p) new)
+  IsStep old (IncreaseTo id value) (Unknown p) new = IsWritten eq cmp part has_quorum old id value (Unknown p) new
+  IsStep old (IncreaseTo id value) WouldFall new = (stays partial_cmp (old.value id) value ≡ false) × IsWritten eq cmp part has_quorum old id value WouldFall new
+  IsStep old (IncreaseTo id value) (Refused why) new = ⊥
+  IsStep old (IncreaseTo id value) (BelowDefault below) new = ⊥
+  IsStep old (IncreaseTo id value) BadLearners new = ⊥
+  IsStep old (IncreaseTo id value) OutOfMemory new = ⊥
+  IsStep old (Upgrade quorum_set learners default) OutOfMemory new = IsSame old new
+  IsStep old (Upgrade quorum_set learners default) (Granted p) new =
+      LearnersFit eq (is_voter quorum_set) learners.items × CanUpgrade eq cmp part (is_voter quorum_set) learners.items default old.value × IsUpgraded eq IsClone part (is_voter quorum_set) quorum_set learners.items default old.value new × IsCounted cmp part has_quorum new p
+  IsStep old (Upgrade quorum_set learners default) BadLearners new = (LearnersFit eq (is_voter quorum_set) learners.items → ⊥) × IsSame old new
+  IsStep old (Upgrade quorum_set learners default) (BelowDefault id) new =
+      LearnersFit eq (is_voter quorum_set) learners.items × IsLeastBelow eq id_cmp cmp part (is_voter quorum_set) learners.items default old.value id × IsSame old new
+  IsStep old (Upgrade quorum_set learners default) (Unknown p) new = ⊥
+  IsStep old (Upgrade quorum_set learners default) WouldFall new = ⊥
+  IsStep old (Upgrade quorum_set learners default) (Refused why) new = ⊥
+
+  -- The steps may be answered so, one after another.
+  abbrev pub IsRun : State ID V P QS → List (AnyStep ID V QS) → List (Reply ID P) → State ID V P QS → Type 0
+  IsRun old [] [] new = IsSame old new
+  IsRun old (step ∷ steps) (reply ∷ replies) new = (middle : State ID V P QS) × IsStep old step reply middle × IsRun middle steps replies new
+  IsRun old [] (reply ∷ replies) new = ⊥
+  IsRun old (step ∷ steps) [] new = ⊥

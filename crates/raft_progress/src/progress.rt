@@ -1,0 +1,14 @@
+//! The progress of a cluster: a value for each voter and learner, and the greatest part that a
+//! quorum of the voters has reached.
+
+mod count;
+mod fit;
+mod part;
+mod replay;
+mod steps;
+mod vec_progress;
+
+pub use part::ProgressPart;
+pub use replay::replay_any;
+pub use steps::{AnyStep, Reply};
+pub use vec_progress::{Stat, VecProgress};

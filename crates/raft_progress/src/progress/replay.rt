@@ -1,0 +1,112 @@
+//! Steps of a progress, and their replies.
+ghost use Rattle.std.specs.Prelude.{◌≡◌, IfOk, OnErr};
+ghost use Rattle.raft_progress.specs.Shown.{state, IsInOrder};
+ghost use Rattle.raft_progress.specs.Steps.{IsStep, IsRun, IsWritten, falls, stays};
+
+use crate::progress::part::ProgressPart;
+use crate::progress::steps::{AnyStep, Reply};
+use crate::progress::vec_progress::VecProgress;
+use raft_members::quorum::QuorumSet;
+use std::alloc::{AllocError, Global};
+
+/// Makes one step.
+fn answer<
+    ID: Copy + Ord,
+    V: ProgressPart<P> + PartialOrd + Clone + Drop,
+    P: Copy + Ord,
+    QS: QuorumSet<ID> + Drop,
+>(progress: &mut VecProgress<ID, V, P, QS>, step: AnyStep<ID, V, QS>) -> Reply<ID, P>
+    requires { IsInOrder ID.eq P.cmp V.part_of QS.has_quorum progress.old }
+    ensures step { IsStep ID.eq ID.cmp P.cmp V.partial_cmp V.part_of V.is_clone QS.has_quorum QS.is_voter (state ID.eq progress.old) step result (state ID.eq progress.new) }
+    ensures ordered { IsInOrder ID.eq P.cmp V.part_of QS.has_quorum progress.new }
+{
+    match step {
+        AnyStep::Update(id, value) => write(progress, &id, value),
+        AnyStep::IncreaseTo(id, value) => {
+            if is_not_greater(progress, &id, &value) {
+                return Reply::Granted(*progress.granted());
+            }
+            write(progress, &id, value)
+        }
+        AnyStep::Upgrade {
+            quorum_set: _,
+            learners: _,
+            default: _,
+        } => Reply::OutOfMemory,
+    }
+}
+
+/// Writes a value where its part isn't below the present one.
+fn write<ID: Copy + Ord, V: ProgressPart<P> + Drop, P: Copy + Ord, QS: QuorumSet<ID> + Drop>(
+    progress: &mut VecProgress<ID, V, P, QS>,
+    id: &ID,
+    value: V,
+) -> Reply<ID, P>
+    requires { IsInOrder ID.eq P.cmp V.part_of QS.has_quorum progress.old }
+    ensures step { IsWritten ID.eq P.cmp V.part_of QS.has_quorum (state ID.eq progress.old) id.now value result (state ID.eq progress.new) }
+    ensures ordered { IsInOrder ID.eq P.cmp V.part_of QS.has_quorum progress.new }
+{
+    if would_fall(progress, id, &value) {
+        return Reply::WouldFall;
+    }
+    match progress.update(id, value) {
+        Ok(granted) => Reply::Granted(*granted),
+        Err(granted) => Reply::Unknown(*granted),
+    }
+}
+
+/// Whether there is a value that the new one isn't greater than.
+fn is_not_greater<
+    ID: Copy + Ord,
+    V: ProgressPart<P> + PartialOrd + Drop,
+    P: Copy + Ord,
+    QS: QuorumSet<ID> + Drop,
+>(progress: &VecProgress<ID, V, P, QS>, id: &ID, value: &V) -> bool
+    ensures { result ≡ stays V.partial_cmp ((state ID.eq progress.now).value id.now) value.now }
+{
+    match progress.try_get(id) {
+        Some(current) => !(*value > *current),
+        None => false,
+    }
+}
+
+/// Whether the value's part is below that of the present value.
+fn would_fall<ID: Copy + Ord, V: ProgressPart<P> + Drop, P: Copy + Ord, QS: QuorumSet<ID> + Drop>(
+    progress: &VecProgress<ID, V, P, QS>,
+    id: &ID,
+    value: &V,
+) -> bool
+    ensures { result ≡ falls P.cmp V.part_of ((state ID.eq progress.now).value id.now) value.now }
+{
+    match progress.try_get(id) {
+        Some(current) => value.part().cmp(&current.part()).is_lt(),
+        None => false,
+    }
+}
+
+/// Makes the steps in order, with a reply for each.
+pub fn replay_any<
+    ID: Copy + Ord,
+    V: ProgressPart<P> + PartialOrd + Clone + Drop,
+    P: Copy + Ord,
+    QS: QuorumSet<ID> + Drop,
+>(
+    alloc: Global,
+    progress: &mut VecProgress<ID, V, P, QS>,
+    steps: Vec<AnyStep<ID, V, QS>>,
+) -> Result<Vec<Reply<ID, P>>, AllocError>
+    requires ordered { IsInOrder ID.eq P.cmp V.part_of QS.has_quorum progress.old }
+    requires clones_are_equal { (v w : V) → V.is_clone v w → w ≡ v }
+    ensures run { IfOk result (λ replies. IsRun ID.eq ID.cmp P.cmp V.partial_cmp V.part_of V.is_clone QS.has_quorum QS.is_voter (state ID.eq progress.old) steps.items replies.items (state ID.eq progress.new)) }
+    ensures ordered { IsInOrder ID.eq P.cmp V.part_of QS.has_quorum progress.new }
+    ensures err { OnErr result (progress.new ≡ progress.old) }
+{
+    let mut replies = Vec::with_capacity(alloc, steps.len())?;
+    let mut rest = steps;
+    rest.reverse();
+    while let Some(step) = rest.pop() {
+        let reply = answer(progress, step);
+        replies.push_reserved(reply);
+    }
+    Ok(replies)
+}
