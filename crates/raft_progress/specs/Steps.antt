@@ -2,9 +2,10 @@
 use Rattle.std.specs.Prelude.{◌≡◌, Bool, true, false, Option, Some, None, List, [], ◌∷◌, not, ◌⊎◌}
 use Rattle.std.specs.Ordering.{is_lt, partial_gt}
 use Rattle.std.specs.declared.cmp.Ordering.{Ordering}
-use Rattle.raft_progress.specs.Counted.{State, IsCounted, IsSame, Writes}
-use Rattle.raft_progress.specs.Shown.{LearnersFit}
-use Rattle.raft_progress.specs.Upgraded.{CanUpgrade, IsUpgraded, IsLeastBelow}
+use Rattle.raft_progress.specs.CountedValue.{IsCounted}
+use Rattle.raft_progress.specs.NewProgress.{LearnersFit}
+use Rattle.raft_progress.specs.ProgressState.{IsSame, State, Writes}
+use Rattle.raft_progress.specs.Upgrade.{CanUpgrade, IsLeastBelow, IsUpgraded}
 use Rattle.raft_progress.specs.declared.progress.steps.AnyStep.{AnyStep}
 use Rattle.raft_progress.specs.declared.progress.steps.AnyStep.TheVariants.{Update, IncreaseTo, Upgrade}
 use Rattle.raft_progress.specs.declared.progress.steps.Reply.{Reply}

@@ -1,11 +1,13 @@
 //! Steps of a progress, and their replies.
 ghost use Rattle.std.specs.Prelude.{◌≡◌, IfOk, OnErr};
-ghost use Rattle.raft_progress.specs.Shown.{state, IsInOrder};
-ghost use Rattle.raft_progress.specs.Steps.{IsStep, IsRun, IsWritten, falls, stays};
+ghost use Rattle.raft_progress.specs.InOrder.{IsInOrder};
+ghost use Rattle.raft_progress.specs.Shown.{state};
+ghost use Rattle.raft_progress.specs.VecProgress.{shown};
+ghost use Rattle.raft_progress.specs.Steps.{IsRun, IsStep, IsWritten, falls, stays};
 
-use crate::progress::part::ProgressPart;
-use crate::progress::steps::{AnyStep, Reply};
-use crate::progress::vec_progress::VecProgress;
+use super::part::ProgressPart;
+use super::steps::{AnyStep, Reply};
+use super::vec_progress::VecProgress;
 use raft_members::quorum::QuorumSet;
 use std::alloc::{AllocError, Global};
 
@@ -16,9 +18,9 @@ fn answer<
     P: Copy + Ord,
     QS: QuorumSet<ID> + Drop,
 >(progress: &mut VecProgress<ID, V, P, QS>, step: AnyStep<ID, V, QS>) -> Reply<ID, P>
-    requires { IsInOrder ID.eq P.cmp V.part_of QS.has_quorum progress.old }
-    ensures step { IsStep ID.eq ID.cmp P.cmp V.partial_cmp V.part_of V.is_clone QS.has_quorum QS.is_voter (state ID.eq progress.old) step result (state ID.eq progress.new) }
-    ensures ordered { IsInOrder ID.eq P.cmp V.part_of QS.has_quorum progress.new }
+    requires { IsInOrder ID.eq P.cmp V.part_of QS.has_quorum (shown progress.old) }
+    ensures step { IsStep ID.eq ID.cmp P.cmp V.partial_cmp V.part_of V.is_clone QS.has_quorum QS.is_voter (state ID.eq (shown progress.old)) step result (state ID.eq (shown progress.new)) }
+    ensures ordered { IsInOrder ID.eq P.cmp V.part_of QS.has_quorum (shown progress.new) }
 {
     match step {
         AnyStep::Update(id, value) => write(progress, &id, value),
@@ -42,9 +44,9 @@ fn write<ID: Copy + Ord, V: ProgressPart<P> + Drop, P: Copy + Ord, QS: QuorumSet
     id: &ID,
     value: V,
 ) -> Reply<ID, P>
-    requires { IsInOrder ID.eq P.cmp V.part_of QS.has_quorum progress.old }
-    ensures step { IsWritten ID.eq P.cmp V.part_of QS.has_quorum (state ID.eq progress.old) id.now value result (state ID.eq progress.new) }
-    ensures ordered { IsInOrder ID.eq P.cmp V.part_of QS.has_quorum progress.new }
+    requires { IsInOrder ID.eq P.cmp V.part_of QS.has_quorum (shown progress.old) }
+    ensures step { IsWritten ID.eq P.cmp V.part_of QS.has_quorum (state ID.eq (shown progress.old)) id.now value result (state ID.eq (shown progress.new)) }
+    ensures ordered { IsInOrder ID.eq P.cmp V.part_of QS.has_quorum (shown progress.new) }
 {
     if would_fall(progress, id, &value) {
         return Reply::WouldFall;
@@ -62,7 +64,7 @@ fn is_not_greater<
     P: Copy + Ord,
     QS: QuorumSet<ID> + Drop,
 >(progress: &VecProgress<ID, V, P, QS>, id: &ID, value: &V) -> bool
-    ensures { result ≡ stays V.partial_cmp ((state ID.eq progress.now).value id.now) value.now }
+    ensures { result ≡ stays V.partial_cmp ((state ID.eq (shown progress.now)).value id.now) value.now }
 {
     match progress.try_get(id) {
         Some(current) => !(*value > *current),
@@ -76,7 +78,7 @@ fn would_fall<ID: Copy + Ord, V: ProgressPart<P> + Drop, P: Copy + Ord, QS: Quor
     id: &ID,
     value: &V,
 ) -> bool
-    ensures { result ≡ falls P.cmp V.part_of ((state ID.eq progress.now).value id.now) value.now }
+    ensures { result ≡ falls P.cmp V.part_of ((state ID.eq (shown progress.now)).value id.now) value.now }
 {
     match progress.try_get(id) {
         Some(current) => value.part().cmp(&current.part()).is_lt(),
@@ -95,11 +97,11 @@ pub fn replay_any<
     progress: &mut VecProgress<ID, V, P, QS>,
     steps: Vec<AnyStep<ID, V, QS>>,
 ) -> Result<Vec<Reply<ID, P>>, AllocError>
-    requires ordered { IsInOrder ID.eq P.cmp V.part_of QS.has_quorum progress.old }
-    requires clones_are_equal { (v w : V) → V.is_clone v w → w ≡ v }
-    ensures run { IfOk result (λ replies. IsRun ID.eq ID.cmp P.cmp V.partial_cmp V.part_of V.is_clone QS.has_quorum QS.is_voter (state ID.eq progress.old) steps.items replies.items (state ID.eq progress.new)) }
-    ensures ordered { IsInOrder ID.eq P.cmp V.part_of QS.has_quorum progress.new }
-    ensures err { OnErr result (progress.new ≡ progress.old) }
+    requires ordered { IsInOrder ID.eq P.cmp V.part_of QS.has_quorum (shown progress.old) }
+    requires clones_have_the_part { (v w : V) → V.is_clone v w → V.part_of w ≡ V.part_of v }
+    ensures run { IfOk result (λ replies. IsRun ID.eq ID.cmp P.cmp V.partial_cmp V.part_of V.is_clone QS.has_quorum QS.is_voter (state ID.eq (shown progress.old)) steps.items replies.items (state ID.eq (shown progress.new))) }
+    ensures ordered { IsInOrder ID.eq P.cmp V.part_of QS.has_quorum (shown progress.new) }
+    ensures err { OnErr result (shown progress.new ≡ shown progress.old) }
 {
     let mut replies = Vec::with_capacity(alloc, steps.len())?;
     let mut rest = steps;

@@ -1,6 +1,6 @@
 use Rattle.std.proofs.Common.{sym, ◌∙◌, refl, ◌≡◌, nat_lt}
-use Rattle.raft_progress.proofs.Walks.{lookup_absent}
-use Rattle.raft_progress.proofs.Members.{member_place, value_place}
+use Rattle.raft_progress.proofs.WalkLemmas.{lookup_absent}
+use Rattle.raft_progress.proofs.VoterLemmas.{member_place, value_place}
 use Rattle.raft_progress.proofs.progress.vec_progress.VecProgress.is_voter.Goals as goal
 
 pub returns-in-Some-clause-known : goal.returns-in-Some-clause-known
