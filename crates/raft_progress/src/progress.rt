@@ -3,6 +3,7 @@
 
 mod entries;
 mod fit;
+mod in_order;
 mod part;
 mod recount;
 mod replay;
@@ -10,6 +11,7 @@ mod rise;
 mod scan;
 mod stat;
 mod steps;
+mod upgrade;
 mod vec_progress;
 
 pub use part::ProgressPart;

@@ -3,7 +3,9 @@ ghost use Rattle.std.specs.Prelude.{◌≡◌, ◌≤◌, ◌<◌, length};
 
 use super::entries::{place_all, write_at};
 use super::fit::are_apart;
+use super::in_order::{has_distinct_ids, is_at_least, is_falling};
 use super::part::ProgressPart;
+use super::recount::count;
 use super::rise::{is_raised, move_up};
 use super::scan::{leading, least_front};
 use super::stat::Stat;
@@ -146,6 +148,28 @@ impl<
         ensures ordered { IsInOrder ID.eq P.cmp V.part_of QS.has_quorum (shown self.new) }
     {
         self.apply(id, |current| *current = value);
+    }
+
+    /// Whether the progress is in order: the condition of the updates and of an upgrade.
+    ///
+    /// It can be lost only by a write through `get_mut` or `iter_mut` that changes an id or a
+    /// voter's part. The test changes nothing and takes no memory.
+    pub fn is_in_order(&mut self) -> bool
+        ensures answer { IsTrue result ↔ IsInOrder ID.eq P.cmp V.part_of QS.has_quorum (shown self.old) }
+        ensures same { shown self.new ≡ shown self.old }
+    {
+        if !has_distinct_ids(&self.entries) {
+            return false;
+        }
+        let voters = &self.entries[..self.voter_count];
+        if !is_falling(voters, self.granted) {
+            return false;
+        }
+        if !is_at_least(voters, self.default_part) {
+            return false;
+        }
+        let counted = count(&self.quorum_set, voters, self.default_part, &mut self.room);
+        counted.cmp(&self.granted).is_eq()
     }
 
     /// The granted value.
