@@ -9,6 +9,7 @@ use super::recount::count;
 use super::rise::{is_raised, move_up};
 use super::scan::{leading, least_front};
 use super::stat::Stat;
+use super::upgrade::{is_among, is_before};
 use raft_members::quorum::QuorumSet;
 use std::alloc::{AllocError, Global};
 
@@ -32,7 +33,7 @@ impl<
     P: Copy + Ord,
     QS: QuorumSet<ID> + Drop,
 > VecProgress<ID, V, P, QS> {
-    ghost use Rattle.std.specs.Prelude.{◌≡◌, ◌≤◌, ◌<◌, ◌↔◌, IsTrue, IfOk, IfErr, List, vec_len, ⊤, position, is_some, OnSome, IsSome, Bool, true, if◌then◌else◌, length};
+    ghost use Rattle.std.specs.Prelude.{◌≡◌, ◌≤◌, ◌<◌, ◌↔◌, IsTrue, IfOk, IfErr, List, vec_len, ⊤, position, is_some, OnSome, IsSome, Bool, true, if◌then◌else◌, length, ◌&&◌};
     ghost use Rattle.std.specs.Borrow.{sem, LendsSo};
     ghost use Rattle.std.specs.Slice.Iter.{iter_mut_rest, iter_rest};
     ghost use Rattle.std.specs.Ordering.{partial_gt};
@@ -49,7 +50,8 @@ impl<
     ghost use Rattle.raft_progress.specs.NewProgress.{IsNew, LearnersFit};
     ghost use Rattle.raft_progress.specs.Shown.{state};
     ghost use Rattle.raft_progress.specs.Updated.{Answers, IsUpdated};
-    ghost use Rattle.raft_progress.specs.Upgrade.{CanUpgrade, IsUpgraded};
+    ghost use Rattle.raft_progress.specs.Upgrade.{CanUpgrade, IsLeastBelow, IsUpgraded};
+    ghost use Rattle.raft_progress.specs.Inner.Tests.{IsLeastPassing, among, is_value_below};
     ghost use Rattle.raft_progress.specs.Statistics.{CountsGoOn};
     ghost use Rattle.raft_progress.specs.Kept.{with_value};
     ghost use Rattle.raft_progress.specs.VecProgress.{shown};
@@ -148,6 +150,64 @@ impl<
         ensures ordered { IsInOrder ID.eq P.cmp V.part_of QS.has_quorum (shown self.new) }
     {
         self.apply(id, |current| *current = value);
+    }
+
+    /// Whether no value that an upgrade would take over is below the new default.
+    pub fn can_upgrade(
+        &self,
+        quorum_set: &QS,
+        learners: &[ID],
+        default: &V,
+    ) -> Result<bool, AllocError>
+        ensures { IfOk result (λ can. IsTrue can ↔ CanUpgrade ID.eq P.cmp V.part_of (QS.is_voter quorum_set.now) learners.now default.now ((state ID.eq (shown self.now)).value)) }
+    {
+        let least = self.least_below(quorum_set, learners, default)?;
+        Ok(least.is_none())
+    }
+
+    /// The least id whose value an upgrade would take over and that is below the new default.
+    pub(crate) fn least_below(
+        &self,
+        quorum_set: &QS,
+        learners: &[ID],
+        default: &V,
+    ) -> Result<Option<ID>, AllocError>
+        ensures none { IfOk result (λ least. least ≡ None → CanUpgrade ID.eq P.cmp V.part_of (QS.is_voter quorum_set.now) learners.now default.now ((state ID.eq (shown self.now)).value)) }
+        ensures some { IfOk result (λ least. (id : ID) → least ≡ Some id → IsLeastBelow ID.eq ID.cmp P.cmp V.part_of (QS.is_voter quorum_set.now) learners.now default.now ((state ID.eq (shown self.now)).value) id) }
+    {
+        let alloc = *self.entries.allocator();
+        let voters = quorum_set.ids(alloc)?;
+        Ok(self.least_of(&voters, learners, default.part()))
+    }
+
+    /// The least id among the voters and the learners whose value is below a part.
+    fn least_of(&self, voters: &[ID], learners: &[ID], part: P) -> Option<ID>
+        ensures { IsLeastPassing ID.cmp (λ x. among ID.eq voters.now learners.now x && is_value_below P.cmp V.part_of part ((state ID.eq (shown self.now)).value x)) (shown self.now).walk result }
+    {
+        let mut least = None;
+        for entry in &self.entries {
+            if self.is_below(voters, learners, part, &entry.0) && is_before(entry.0, least) {
+                least = Some(entry.0);
+            }
+        }
+        least
+    }
+
+    /// Whether an id is one of the voters or learners, and its value is below a part.
+    fn is_below(&self, voters: &[ID], learners: &[ID], part: P, id: &ID) -> bool
+        ensures { result ≡ (among ID.eq voters.now learners.now id.now && is_value_below P.cmp V.part_of part ((state ID.eq (shown self.now)).value id.now)) }
+    {
+        is_among(voters, learners, id) && self.is_value_below(part, id)
+    }
+
+    /// Whether an id has a value that is below a part.
+    fn is_value_below(&self, part: P, id: &ID) -> bool
+        ensures { result ≡ is_value_below P.cmp V.part_of part ((state ID.eq (shown self.now)).value id.now) }
+    {
+        match self.try_get(id) {
+            Some(value) => value.part().cmp(&part).is_lt(),
+            None => false,
+        }
     }
 
     /// Whether the progress is in order: the condition of the updates and of an upgrade.
