@@ -34,6 +34,19 @@ module _ {ID V P QS : Type 0} (eq : ID → ID → Bool) (cmp : P → P → Order
   IsWritten old id value BadLearners new = ⊥
   IsWritten old id value OutOfMemory new = ⊥
 
+module _ {ID V P QS : Type 0} (eq : ID → ID → Bool) (id_cmp : ID → ID → Ordering) (cmp : P → P → Ordering) (part : V → P) (IsClone : V → V → Type 0) (has_quorum : QS → (ID → Bool) → Bool) (is_voter : QS → ID → Bool) where
+  -- the progress goes over to another quorum set, learners and default, unless the learners don't fit or an inherited value is below the default; or a growth was refused
+  abbrev pub IsAnsweredUpgrade : State ID V P QS → QS → List ID → V → Reply ID P → State ID V P QS → Type 0
+  IsAnsweredUpgrade old quorum_set learners default (Granted p) new =
+      LearnersFit eq (is_voter quorum_set) learners × CanUpgrade eq cmp part (is_voter quorum_set) learners default old.value × IsUpgraded eq IsClone part (is_voter quorum_set) quorum_set learners default old.value new × IsCounted cmp part has_quorum new p
+  IsAnsweredUpgrade old quorum_set learners default BadLearners new = (LearnersFit eq (is_voter quorum_set) learners → ⊥) × IsSame old new
+  IsAnsweredUpgrade old quorum_set learners default (BelowDefault id) new =
+      LearnersFit eq (is_voter quorum_set) learners × IsLeastBelow eq id_cmp cmp part (is_voter quorum_set) learners default old.value id × IsSame old new
+  IsAnsweredUpgrade old quorum_set learners default OutOfMemory new = IsSame old new
+  IsAnsweredUpgrade old quorum_set learners default (Unknown p) new = ⊥
+  IsAnsweredUpgrade old quorum_set learners default WouldFall new = ⊥
+  IsAnsweredUpgrade old quorum_set learners default (Refused why) new = ⊥
+
 module _ {ID V P QS : Type 0} (eq : ID → ID → Bool) (id_cmp : ID → ID → Ordering) (cmp : P → P → Ordering) (partial_cmp : V → V → Option Ordering) (part : V → P) (IsClone : V → V → Type 0) (has_quorum : QS → (ID → Bool) → Bool) (is_voter : QS → ID → Bool) where
   -- From old, the step may be answered so and go on to new. No granted value is kept: it is counted where a reply needs it.
   abbrev pub IsStep : State ID V P QS → AnyStep ID V QS → Reply ID P → State ID V P QS → Type 0
@@ -47,15 +60,7 @@ module _ {ID V P QS : Type 0} (eq : ID → ID → Bool) (id_cmp : ID → ID → 
   IsStep old (IncreaseTo id value) (BelowDefault below) new = ⊥
   IsStep old (IncreaseTo id value) BadLearners new = ⊥
   IsStep old (IncreaseTo id value) OutOfMemory new = ⊥
-  IsStep old (Upgrade quorum_set learners default) OutOfMemory new = IsSame old new
-  IsStep old (Upgrade quorum_set learners default) (Granted p) new =
-      LearnersFit eq (is_voter quorum_set) learners.items × CanUpgrade eq cmp part (is_voter quorum_set) learners.items default old.value × IsUpgraded eq IsClone part (is_voter quorum_set) quorum_set learners.items default old.value new × IsCounted cmp part has_quorum new p
-  IsStep old (Upgrade quorum_set learners default) BadLearners new = (LearnersFit eq (is_voter quorum_set) learners.items → ⊥) × IsSame old new
-  IsStep old (Upgrade quorum_set learners default) (BelowDefault id) new =
-      LearnersFit eq (is_voter quorum_set) learners.items × IsLeastBelow eq id_cmp cmp part (is_voter quorum_set) learners.items default old.value id × IsSame old new
-  IsStep old (Upgrade quorum_set learners default) (Unknown p) new = ⊥
-  IsStep old (Upgrade quorum_set learners default) WouldFall new = ⊥
-  IsStep old (Upgrade quorum_set learners default) (Refused why) new = ⊥
+  IsStep old (Upgrade quorum_set learners default) reply new = IsAnsweredUpgrade eq id_cmp cmp part IsClone has_quorum is_voter old quorum_set learners.items default reply new
 
   -- The steps may be answered so, one after another.
   abbrev pub IsRun : State ID V P QS → List (AnyStep ID V QS) → List (Reply ID P) → State ID V P QS → Type 0

@@ -3,7 +3,7 @@ ghost use Rattle.std.specs.Prelude.{◌≡◌, IfOk, OnErr};
 ghost use Rattle.raft_progress.specs.InOrder.{IsInOrder};
 ghost use Rattle.raft_progress.specs.Shown.{state};
 ghost use Rattle.raft_progress.specs.VecProgress.{shown};
-ghost use Rattle.raft_progress.specs.Steps.{IsRun, IsStep, IsWritten, falls, stays};
+ghost use Rattle.raft_progress.specs.Steps.{IsAnsweredUpgrade, IsRun, IsStep, IsWritten, falls, stays};
 
 use super::part::ProgressPart;
 use super::steps::{AnyStep, Reply};
@@ -18,7 +18,8 @@ fn answer<
     P: Copy + Ord,
     QS: QuorumSet<ID> + Drop,
 >(progress: &mut VecProgress<ID, V, P, QS>, step: AnyStep<ID, V, QS>) -> Reply<ID, P>
-    requires { IsInOrder ID.eq P.cmp V.part_of QS.has_quorum (shown progress.old) }
+    requires ordered { IsInOrder ID.eq P.cmp V.part_of QS.has_quorum (shown progress.old) }
+    requires clones_have_the_part { (v w : V) → V.is_clone v w → V.part_of w ≡ V.part_of v }
     ensures step { IsStep ID.eq ID.cmp P.cmp V.partial_cmp V.part_of V.is_clone QS.has_quorum QS.is_voter (state ID.eq (shown progress.old)) step result (state ID.eq (shown progress.new)) }
     ensures ordered { IsInOrder ID.eq P.cmp V.part_of QS.has_quorum (shown progress.new) }
 {
@@ -31,10 +32,66 @@ fn answer<
             write(progress, &id, value)
         }
         AnyStep::Upgrade {
-            quorum_set: _,
-            learners: _,
-            default: _,
-        } => Reply::OutOfMemory,
+            quorum_set,
+            learners,
+            default,
+        } => upgrade(progress, quorum_set, &learners, default),
+    }
+}
+
+/// Goes over to another quorum set, or leaves the progress as it is.
+fn upgrade<
+    ID: Copy + Ord,
+    V: ProgressPart<P> + Clone + Drop,
+    P: Copy + Ord,
+    QS: QuorumSet<ID> + Drop,
+>(
+    progress: &mut VecProgress<ID, V, P, QS>,
+    quorum_set: QS,
+    learners: &[ID],
+    default: V,
+) -> Reply<ID, P>
+    requires ordered { IsInOrder ID.eq P.cmp V.part_of QS.has_quorum (shown progress.old) }
+    requires clones_have_the_part { (v w : V) → V.is_clone v w → V.part_of w ≡ V.part_of v }
+    ensures step { IsAnsweredUpgrade ID.eq ID.cmp P.cmp V.part_of V.is_clone QS.has_quorum QS.is_voter (state ID.eq (shown progress.old)) quorum_set learners.now default result (state ID.eq (shown progress.new)) }
+    ensures ordered { IsInOrder ID.eq P.cmp V.part_of QS.has_quorum (shown progress.new) }
+{
+    match try_upgrade(progress, quorum_set, learners, default) {
+        Ok(reply) => reply,
+        Err(_) => Reply::OutOfMemory,
+    }
+}
+
+/// Asks first whether the learners fit, then whether a value is below the new default.
+fn try_upgrade<
+    ID: Copy + Ord,
+    V: ProgressPart<P> + Clone + Drop,
+    P: Copy + Ord,
+    QS: QuorumSet<ID> + Drop,
+>(
+    progress: &mut VecProgress<ID, V, P, QS>,
+    quorum_set: QS,
+    learners: &[ID],
+    default: V,
+) -> Result<Reply<ID, P>, AllocError>
+    requires ordered { IsInOrder ID.eq P.cmp V.part_of QS.has_quorum (shown progress.old) }
+    requires clones_have_the_part { (v w : V) → V.is_clone v w → V.part_of w ≡ V.part_of v }
+    ensures step { IfOk result (λ reply. IsAnsweredUpgrade ID.eq ID.cmp P.cmp V.part_of V.is_clone QS.has_quorum QS.is_voter (state ID.eq (shown progress.old)) quorum_set learners.now default reply (state ID.eq (shown progress.new))) }
+    ensures err { OnErr result (shown progress.new ≡ shown progress.old) }
+    ensures ordered { IsInOrder ID.eq P.cmp V.part_of QS.has_quorum (shown progress.new) }
+{
+    let alloc = progress.allocator();
+    let fits = VecProgress::<ID, V, P, QS>::learners_fit(alloc, &quorum_set, learners)?;
+    if !fits {
+        return Ok(Reply::BadLearners);
+    }
+    match progress.least_below(&quorum_set, learners, &default)? {
+        Some(id) => Ok(Reply::BelowDefault(id)),
+        None => {
+            let upgraded = progress.upgrade_quorum_set(quorum_set, learners, default)?;
+            *progress = upgraded;
+            Ok(Reply::Granted(*progress.granted()))
+        }
     }
 }
 

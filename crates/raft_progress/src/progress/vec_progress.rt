@@ -118,7 +118,7 @@ impl<
         ensures ordered { IfOk result (λ made. IsInOrder ID.eq P.cmp V.part_of QS.has_quorum (shown made)) }
         ensures counts { IfOk result (λ made. CountsGoOn (length (shown self.now).walk) (shown made).voter_count (shown self.now).stat (shown made).stat) }
     {
-        let alloc = *self.entries.allocator();
+        let alloc = self.allocator();
         let mut made = VecProgress::new(alloc, quorum_set, learners, default)?;
         made.go_on_from(
             self.stat.update_count,
@@ -152,6 +152,11 @@ impl<
         self.apply(id, |current| *current = value);
     }
 
+    /// The allocator of its entries.
+    pub(crate) fn allocator(&self) -> Global {
+        *self.entries.allocator()
+    }
+
     /// Whether no value that an upgrade would take over is below the new default.
     pub fn can_upgrade(
         &self,
@@ -175,7 +180,7 @@ impl<
         ensures none { IfOk result (λ least. least ≡ None → CanUpgrade ID.eq P.cmp V.part_of (QS.is_voter quorum_set.now) learners.now default.now ((state ID.eq (shown self.now)).value)) }
         ensures some { IfOk result (λ least. (id : ID) → least ≡ Some id → IsLeastBelow ID.eq ID.cmp P.cmp V.part_of (QS.is_voter quorum_set.now) learners.now default.now ((state ID.eq (shown self.now)).value) id) }
     {
-        let alloc = *self.entries.allocator();
+        let alloc = self.allocator();
         let voters = quorum_set.ids(alloc)?;
         Ok(self.least_of(&voters, learners, default.part()))
     }
