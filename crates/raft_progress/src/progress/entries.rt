@@ -1,9 +1,10 @@
 //! The entries of a progress: made, and written one at a time.
-ghost use Rattle.std.specs.Prelude.{◌≡◌, ◌<◌, length, slice_set, slice_get, OnOk};
+ghost use Rattle.std.specs.Prelude.{◌≡◌, ◌<◌, length, slice_set, slice_get, OnOk, IfOk};
+ghost use Rattle.std.specs.List.{AllZip};
 ghost use Rattle.std.specs.Fn.{FnOnceReturnsAtMut, FnOnceTakesAtMut};
 ghost use Rattle.raft_progress.specs.Inner.Placed.{IsPlaced};
 
-use std::alloc::AllocError;
+use std::alloc::{AllocError, Global};
 
 /// Puts the ids at the end, each with a clone of the default.
 pub(crate) fn place_all<ID: Copy, V: Clone>(
@@ -31,4 +32,25 @@ pub(crate) fn write_at<ID: Copy, V, F: FnOnce(&mut V)>(
 {
     let entry = &mut entries[place];
     f(&mut entry.1);
+}
+
+/// A clone of each entry.
+pub(crate) fn clone_entries<ID: Copy, V: Clone>(
+    alloc: Global,
+    entries: &[(ID, V)],
+) -> Result<Vec<(ID, V)>, AllocError>
+    ensures { IfOk result (λ made. AllZip (λ d e. (e.0 ≡ d.0) × V.is_clone d.1 e.1) entries.now made.items) }
+{
+    let mut made = Vec::new(alloc);
+    for entry in entries {
+        made.push((entry.0, entry.1.clone()?))?;
+    }
+    Ok(made)
+}
+
+/// The ids, as they stand.
+pub(crate) fn copy_ids<ID: Copy>(alloc: Global, ids: &[ID]) -> Result<Vec<ID>, AllocError>
+    ensures { IfOk result (λ made. made.items ≡ ids.now) }
+{
+    ids.iter().copied().collect(alloc)
 }

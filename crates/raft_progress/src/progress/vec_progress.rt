@@ -1,7 +1,7 @@
 //! The progress of a group of nodes.
 ghost use Rattle.std.specs.Prelude.{◌≡◌, ◌≤◌, ◌<◌, length};
 
-use super::entries::{place_all, write_at};
+use super::entries::{clone_entries, copy_ids, place_all, write_at};
 use super::fit::are_apart;
 use super::in_order::{has_distinct_ids, is_at_least, is_falling};
 use super::part::ProgressPart;
@@ -14,7 +14,7 @@ use raft_members::quorum::QuorumSet;
 use std::alloc::{AllocError, Global};
 
 /// The values of voters and learners, and the greatest part that a quorum of the voters has reached.
-#[derive(Drop)]
+#[derive(Debug, Drop)]
 pub struct VecProgress<ID: Copy + Ord, V, P, QS> {
     quorum_set: QS,
     granted: P,
@@ -430,5 +430,76 @@ impl<
         if let Some(front) = found.front {
             self.granted = self.entries[front - 1].1.part();
         }
+    }
+}
+
+impl<ID: Copy + Ord, V: PartialEq, P: Copy + Ord, QS: PartialEq> PartialEq
+    for VecProgress<ID, V, P, QS> {
+    ghost use Rattle.std.specs.Cmp.{and_per, nat_eq_equiv, on_per, partial_equiv_from_equiv};
+    ghost use Rattle.std.specs.Cmp.Lexicographic.{lists_per};
+    ghost use Rattle.raft_progress.specs.Equal.{equal};
+    ghost use Rattle.raft_progress.specs.VecProgress.{shown};
+
+    ghost eq = { λ a b. equal ID.eq V.eq P.eq QS.eq (shown a) (shown b) };
+
+    ghost laws = { and_per (and_per (and_per (and_per (and_per (on_per (λ a. a.quorum_set) QS.PartialEq.laws) (on_per (λ a. a.granted) P.PartialEq.laws)) (on_per (λ a. a.voter_count) (partial_equiv_from_equiv nat_eq_equiv))) (on_per (λ a. a.entries.items) (lists_per (and_per (on_per (λ e. e.0) ID.PartialEq.laws) (on_per (λ e. e.1) V.PartialEq.laws))))) (on_per (λ a. a.default_part) P.PartialEq.laws)) (on_per (λ a. a.stat) (and_per (and_per (on_per (λ t. t.update_count) (partial_equiv_from_equiv nat_eq_equiv)) (on_per (λ t. t.move_count) (partial_equiv_from_equiv nat_eq_equiv))) (on_per (λ t. t.is_quorum_count) (partial_equiv_from_equiv nat_eq_equiv)))) };
+
+    fn eq(&self, other: &Self) -> bool {
+        self.quorum_set == other.quorum_set
+            && self.granted == other.granted
+            && self.voter_count == other.voter_count
+            && self.entries == other.entries
+            && self.default_part == other.default_part
+            && self.stat == other.stat
+    }
+}
+
+impl<ID: Copy + Ord, V: Eq, P: Copy + Ord, QS: Eq> Eq for VecProgress<ID, V, P, QS> {
+    ghost use Rattle.std.specs.Cmp.{and_equiv, nat_eq_equiv, on_equiv};
+    ghost use Rattle.std.specs.Cmp.Lexicographic.{lists_equiv};
+
+    ghost laws = { and_equiv (and_equiv (and_equiv (and_equiv (and_equiv (on_equiv (λ a. a.quorum_set) QS.Eq.laws) (on_equiv (λ a. a.granted) P.Eq.laws)) (on_equiv (λ a. a.voter_count) nat_eq_equiv)) (on_equiv (λ a. a.entries.items) (lists_equiv (and_equiv (on_equiv (λ e. e.0) ID.Eq.laws) (on_equiv (λ e. e.1) V.Eq.laws))))) (on_equiv (λ a. a.default_part) P.Eq.laws)) (on_equiv (λ a. a.stat) (and_equiv (and_equiv (on_equiv (λ t. t.update_count) nat_eq_equiv) (on_equiv (λ t. t.move_count) nat_eq_equiv)) (on_equiv (λ t. t.is_quorum_count) nat_eq_equiv))) };
+}
+
+/// A clone reserves the room that `new` does.
+impl<ID: Copy + Ord, V: Clone, P: Copy + Ord, QS: Clone> Clone for VecProgress<ID, V, P, QS> {
+    ghost use Rattle.raft_progress.specs.Equal.{IsCloned};
+    ghost use Rattle.raft_progress.specs.VecProgress.{shown};
+
+    ghost is_clone = { λ old new. IsCloned V.is_clone QS.is_clone (shown old) (shown new) };
+
+    fn clone(&self) -> Result<Self, AllocError> {
+        let alloc = *self.entries.allocator();
+        Ok(VecProgress {
+            quorum_set: self.quorum_set.clone()?,
+            granted: self.granted,
+            default_part: self.default_part,
+            voter_count: self.voter_count,
+            entries: clone_entries(alloc, &self.entries)?,
+            room: copy_ids(alloc, &self.room)?,
+            stat: self.stat.clone()?,
+        })
+    }
+}
+
+impl<ID: Copy + Ord, V: Clone + PartialEq, P: Copy + Ord, QS: Clone + PartialEq> VecProgress<
+    ID,
+    V,
+    P,
+    QS,
+> {
+    ghost use Rattle.std.specs.Prelude.{IfOk, IsTrue};
+    ghost use Rattle.std.specs.Set.{ClonesAreEqual};
+    ghost use Rattle.raft_progress.specs.Equal.{IsCloned, equal};
+    ghost use Rattle.raft_progress.specs.VecProgress.{shown};
+
+    /// An equal progress, where clones of values and of quorum sets equal their sources.
+    pub fn try_clone(&self) -> Result<Self, AllocError>
+        requires values { ClonesAreEqual V.eq V.is_clone }
+        requires quorum_sets { ClonesAreEqual QS.eq QS.is_clone }
+        ensures equal { IfOk result (λ made. IsTrue (equal ID.eq V.eq P.eq QS.eq (shown self.now) (shown made))) }
+        ensures cloned { IfOk result (λ made. IsCloned V.is_clone QS.is_clone (shown self.now) (shown made)) }
+    {
+        self.clone()
     }
 }
