@@ -1,9 +1,10 @@
 //! Steps of a progress, and their replies.
 ghost use Rattle.std.specs.Prelude.{◌≡◌, IfOk, OnErr};
+ghost use Rattle.raft_progress.specs.CountedValue.{IsCounted};
 ghost use Rattle.raft_progress.specs.InOrder.{IsInOrder};
 ghost use Rattle.raft_progress.specs.Shown.{state};
 ghost use Rattle.raft_progress.specs.VecProgress.{shown};
-ghost use Rattle.raft_progress.specs.Steps.{IsAnsweredUpgrade, IsRun, IsStep, IsWritten, falls, stays};
+ghost use Rattle.raft_progress.specs.Steps.{IsAnsweredUpgrade, IsIncreased, IsRun, IsStep, IsWritten, falls, stays};
 
 use super::part::ProgressPart;
 use super::steps::{AnyStep, Reply};
@@ -25,12 +26,7 @@ fn answer<
 {
     match step {
         AnyStep::Update(id, value) => write(progress, &id, value),
-        AnyStep::IncreaseTo(id, value) => {
-            if is_not_greater(progress, &id, &value) {
-                return Reply::Granted(*progress.granted());
-            }
-            write(progress, &id, value)
-        }
+        AnyStep::IncreaseTo(id, value) => increase(progress, &id, value),
         AnyStep::Upgrade {
             quorum_set,
             learners,
@@ -114,6 +110,26 @@ fn write<ID: Copy + Ord, V: ProgressPart<P> + Drop, P: Copy + Ord, QS: QuorumSet
     }
 }
 
+/// Writes a value where it is greater than the present one, unless its part is below.
+fn increase<
+    ID: Copy + Ord,
+    V: ProgressPart<P> + PartialOrd + Drop,
+    P: Copy + Ord,
+    QS: QuorumSet<ID> + Drop,
+>(progress: &mut VecProgress<ID, V, P, QS>, id: &ID, value: V) -> Reply<ID, P>
+    requires { IsInOrder ID.eq P.cmp V.part_of QS.has_quorum (shown progress.old) }
+    ensures step { IsIncreased ID.eq P.cmp V.partial_cmp V.part_of QS.has_quorum (state ID.eq (shown progress.old)) id.now value result (state ID.eq (shown progress.new)) }
+    ensures ordered { IsInOrder ID.eq P.cmp V.part_of QS.has_quorum (shown progress.new) }
+{
+    if !is_not_greater(progress, id, &value) && would_fall(progress, id, &value) {
+        return Reply::WouldFall;
+    }
+    match progress.increase_to(id, value) {
+        Ok(granted) => Reply::Granted(*granted),
+        Err(granted) => Reply::Unknown(*granted),
+    }
+}
+
 /// Whether there is a value that the new one isn't greater than.
 fn is_not_greater<
     ID: Copy + Ord,
@@ -130,11 +146,12 @@ fn is_not_greater<
 }
 
 /// Whether the value's part is below that of the present value.
-fn would_fall<ID: Copy + Ord, V: ProgressPart<P> + Drop, P: Copy + Ord, QS: QuorumSet<ID> + Drop>(
-    progress: &VecProgress<ID, V, P, QS>,
-    id: &ID,
-    value: &V,
-) -> bool
+pub(super) fn would_fall<
+    ID: Copy + Ord,
+    V: ProgressPart<P> + Drop,
+    P: Copy + Ord,
+    QS: QuorumSet<ID> + Drop,
+>(progress: &VecProgress<ID, V, P, QS>, id: &ID, value: &V) -> bool
     ensures { result ≡ falls P.cmp V.part_of ((state ID.eq (shown progress.now)).value id.now) value.now }
 {
     match progress.try_get(id) {
@@ -158,6 +175,7 @@ pub fn replay_any<
     requires clones_have_the_part { (v w : V) → V.is_clone v w → V.part_of w ≡ V.part_of v }
     ensures run { IfOk result (λ replies. IsRun ID.eq ID.cmp P.cmp V.partial_cmp V.part_of V.is_clone QS.has_quorum QS.is_voter (state ID.eq (shown progress.old)) steps.items replies.items (state ID.eq (shown progress.new))) }
     ensures ordered { IsInOrder ID.eq P.cmp V.part_of QS.has_quorum (shown progress.new) }
+    ensures granted { IsCounted P.cmp V.part_of QS.has_quorum (state ID.eq (shown progress.new)) (shown progress.new).granted }
     ensures err { OnErr result (shown progress.new ≡ shown progress.old) }
 {
     let mut replies = Vec::with_capacity(alloc, steps.len())?;

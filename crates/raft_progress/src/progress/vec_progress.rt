@@ -1,6 +1,7 @@
 //! The progress of a group of nodes.
 ghost use Rattle.std.specs.Prelude.{◌≡◌, ◌≤◌, ◌<◌, length};
 
+use super::Progress;
 use super::entries::{clone_entries, copy_ids, place_all, write_at};
 use super::fit::are_apart;
 use super::in_order::{has_distinct_ids, is_at_least, is_falling};
@@ -48,6 +49,7 @@ impl<
     ghost use Rattle.raft_progress.specs.InOrder.{IsInOrder};
     ghost use Rattle.raft_progress.specs.Inner.Settled.{IsPutInOrder, IsRaised, IsScanned};
     ghost use Rattle.raft_progress.specs.NewProgress.{IsNew, LearnersFit};
+    ghost use Rattle.raft_progress.specs.ProgressState.{voter_of};
     ghost use Rattle.raft_progress.specs.Shown.{state};
     ghost use Rattle.raft_progress.specs.Updated.{Answers, IsUpdated};
     ghost use Rattle.raft_progress.specs.Upgrade.{CanUpgrade, IsLeastBelow, IsUpgraded};
@@ -281,8 +283,7 @@ impl<
 
     /// Whether an id is a voter, if it is there.
     pub fn is_voter(&self, id: &ID) -> Option<bool>
-        ensures unknown { result ≡ None → (state ID.eq (shown self.now)).value id.now ≡ None }
-        ensures known { (b : Bool) → result ≡ Some b → IsSome ((state ID.eq (shown self.now)).value id.now) × ((state ID.eq (shown self.now)).is_voter id.now ≡ b) }
+        ensures { result ≡ voter_of (state ID.eq (shown self.now)) id.now }
     {
         match self.index(id) {
             Some(place) => Some(place < self.voter_count),
@@ -501,5 +502,71 @@ impl<ID: Copy + Ord, V: Clone + PartialEq, P: Copy + Ord, QS: Clone + PartialEq>
         ensures cloned { IfOk result (λ made. IsCloned V.is_clone QS.is_clone (shown self.now) (shown made)) }
     {
         self.clone()
+    }
+}
+
+impl<ID: Copy + Ord, V: ProgressPart<P> + Drop, P: Copy + Ord, QS: QuorumSet<ID> + Drop> Progress<
+    ID,
+    V,
+    P,
+    QS,
+> for VecProgress<ID, V, P, QS> {
+    ghost use Rattle.raft_progress.specs.VecProgress.{shown};
+
+    ghost shows = { shown };
+
+    fn granted(&self) -> &P {
+        VecProgress::granted(self)
+    }
+
+    fn try_get(&self, id: &ID) -> Option<&V> {
+        VecProgress::try_get(self, id)
+    }
+
+    fn get(&self, id: &ID) -> &V {
+        VecProgress::get(self, id)
+    }
+
+    fn quorum_set(&self) -> &QS {
+        VecProgress::quorum_set(self)
+    }
+
+    fn iter(&self) -> std::slice::Iter<(ID, V)> {
+        VecProgress::iter(self)
+    }
+
+    fn get_mut(&mut self, id: &ID) -> Option<&mut V> {
+        VecProgress::get_mut(self, id)
+    }
+
+    fn is_voter(&self, id: &ID) -> Option<bool> {
+        VecProgress::is_voter(self, id)
+    }
+
+    fn update_with<F: FnOnce(&mut V)>(&mut self, id: &ID, f: F) -> Result<&P, &P> {
+        VecProgress::update_with(self, id, f)
+    }
+
+    fn update(&mut self, id: &ID, value: V) -> Result<&P, &P> {
+        VecProgress::update(self, id, value)
+    }
+
+    fn increase_to(&mut self, id: &ID, value: V) -> Result<&P, &P>
+    where
+        V: PartialOrd,
+    {
+        VecProgress::increase_to(self, id, value)
+    }
+
+    fn upgrade_quorum_set(
+        &self,
+        quorum_set: QS,
+        learners: &[ID],
+        default: V,
+    ) -> Result<Self, AllocError>
+    where
+        V: Clone,
+    {
+        VecProgress::upgrade_quorum_set(self, quorum_set, learners, default)
     }
 }
