@@ -53,3 +53,10 @@ clone_is_equal {ID} {V} {P} {QS} {id_eq} laws value_eq {part_eq} part_laws set_e
 pub ok_from_match : {T E : Type 0} (P R : T → Type 0) (Q : E → Type 0) (r : Result T E) → MatchResult r P Q → ((x : T) → P x → R x) → IfOk r R
 ok_from_match P R Q (Ok x) m f = f x m
 ok_from_match P R Q (Err e) m f = tt
+
+-- where an item equals its clone, a list equals its own
+pub list_is_equal : {X : Type 0} (eq : X → X → Bool) (IsClone : X → X → Type 0) → ClonesAreEqual eq IsClone → (xs ys : List X) → AllZip IsClone xs ys → pointwise eq xs ys ≡ true
+list_is_equal eq IsClone c [] [] a = refl
+list_is_equal eq IsClone c [] (y ∷ ys) a = absurd a
+list_is_equal eq IsClone c (x ∷ xs) [] a = absurd a
+list_is_equal eq IsClone c (x ∷ xs) (y ∷ ys) a = both_so _ _ (c x y a.0) (list_is_equal eq IsClone c xs ys a.1)

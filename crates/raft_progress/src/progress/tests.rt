@@ -29,16 +29,15 @@ fn made<ID: Copy + Ord, V: ProgressPart<P> + Clone + Drop, P: Copy + Ord, QS: Qu
     VecProgress::new(alloc, quorum_set, learners, default)
 }
 
-/// An update that doesn't lower the value.
+/// An update of a progress in order that doesn't lower the value.
 fn updated<ID: Copy + Ord, V: ProgressPart<P> + Drop, P: Copy + Ord, QS: QuorumSet<ID> + Drop>(
     rt: &impl Abort,
     progress: &mut VecProgress<ID, V, P, QS>,
     id: ID,
     value: V,
-) -> Result<P, P>
-    requires { IsInOrder ID.eq P.cmp V.part_of QS.has_quorum (shown progress.old) }
-    ensures { IsInOrder ID.eq P.cmp V.part_of QS.has_quorum (shown progress.new) }
-{
+) -> Result<P, P> {
+    let ordered = progress.is_in_order();
+    assert!(rt; ordered);
     let falls = would_fall(progress, &id, &value);
     assert!(rt; !falls);
     match progress.update(&id, value) {
@@ -52,21 +51,22 @@ fn first_ids(alloc: Global, n: u64) -> Result<Vec<u64>, AllocError> {
     (0..n).collect(alloc)
 }
 
-/// The reply to one step.
+/// The reply of a progress in order to one step.
 fn replied<
     ID: Copy + Ord,
     V: ProgressPart<P> + PartialOrd + Clone + Drop,
     P: Copy + Ord,
     QS: QuorumSet<ID> + Drop,
 >(
+    rt: &impl Abort,
     alloc: Global,
     progress: &mut VecProgress<ID, V, P, QS>,
     step: AnyStep<ID, V, QS>,
 ) -> Result<Option<Reply<ID, P>>, AllocError>
-    requires ordered { IsInOrder ID.eq P.cmp V.part_of QS.has_quorum (shown progress.old) }
-    requires clones_have_the_part { (v w : V) → V.is_clone v w → V.part_of w ≡ V.part_of v }
-    ensures { IsInOrder ID.eq P.cmp V.part_of QS.has_quorum (shown progress.new) }
+    requires { (v w : V) → V.is_clone v w → V.part_of w ≡ V.part_of v }
 {
+    let ordered = progress.is_in_order();
+    assert!(rt; ordered);
     let mut steps = Vec::new(alloc);
     steps.push(step)?;
     let mut replies = replay_any(alloc, progress, steps)?;

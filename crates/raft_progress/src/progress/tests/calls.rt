@@ -109,13 +109,13 @@ fn increases(rt: HostRuntime) -> Result<(), Fail> {
     let rows = [(0, 5, 0, 5), (0, 4, 0, 5), (1, 6, 5, 6), (1, 6, 5, 6)];
     for (id, value, granted, now) in rows {
         assert_eq!(rt;
-            replied(alloc, &mut progress, AnyStep::IncreaseTo(id, value))?,
+            replied(&rt, alloc, &mut progress, AnyStep::IncreaseTo(id, value))?,
             Some(Reply::Granted(granted))
         );
         assert_eq!(rt; progress.try_get(&id), Some(&now));
     }
     assert_eq!(rt;
-        replied(alloc, &mut progress, AnyStep::IncreaseTo(9, 6))?,
+        replied(&rt, alloc, &mut progress, AnyStep::IncreaseTo(9, 6))?,
         Some(Reply::Unknown(5))
     );
     assert_eq!(rt; progress.stat().update_count, 5);
@@ -160,7 +160,7 @@ fn upgrades_are_refused(rt: HostRuntime) -> Result<(), Fail> {
         default: 1,
     };
     assert_eq!(rt;
-        replied(alloc, &mut progress, below)?,
+        replied(&rt, alloc, &mut progress, below)?,
         Some(Reply::BelowDefault(2))
     );
     let twice = AnyStep::Upgrade {
@@ -169,7 +169,7 @@ fn upgrades_are_refused(rt: HostRuntime) -> Result<(), Fail> {
         default: 1,
     };
     assert_eq!(rt;
-        replied(alloc, &mut progress, twice)?,
+        replied(&rt, alloc, &mut progress, twice)?,
         Some(Reply::BadLearners)
     );
     let voter = AnyStep::Upgrade {
@@ -178,7 +178,7 @@ fn upgrades_are_refused(rt: HostRuntime) -> Result<(), Fail> {
         default: 0,
     };
     assert_eq!(rt;
-        replied(alloc, &mut progress, voter)?,
+        replied(&rt, alloc, &mut progress, voter)?,
         Some(Reply::BadLearners)
     );
     assert_eq!(rt; progress, before);

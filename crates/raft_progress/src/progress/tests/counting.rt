@@ -2,14 +2,18 @@
 
 ghost use Rattle.raft_members.specs.Majority.{is_majority};
 ghost use Rattle.raft_members.specs.MajorityLaws.{is_majority-superset};
+ghost use Rattle.raft_progress.specs.InOrder.{IsInOrder};
+ghost use Rattle.raft_progress.specs.VecProgress.{shown};
+ghost use Rattle.std.specs.Ordering.{nat_cmp};
 ghost use Rattle.std.specs.Prelude.{nat_eq};
 ghost use Rattle.std.specs.Set.{is_member};
 
-use super::super::{AnyStep, Reply, VecProgress};
-use super::{first_ids, made, replied, updated};
+use super::super::{AnyStep, VecProgress, replay_any};
+use super::{first_ids, made, would_fall};
 use raft_members::quorum::QuorumSet;
 use std::alloc::{AllocError, Global};
 use std::cell::Cell;
+use std::process::Abort;
 use std::test::Fail;
 
 /// A list of voters that counts how often it is asked.
@@ -43,76 +47,80 @@ fn make_asked(alloc: Global, n: u64) -> Result<Asked, AllocError> {
     })
 }
 
-#[test]
-fn counts_are_calls(rt: HostRuntime) -> Result<(), Fail> {
-    let alloc = rt.alloc();
-    let rows: [&[(u64, u64)]; 3] = [
-        &[
-            (6, 9),
-            (1, 2),
-            (2, 3),
-            (3, 1),
-            (4, 5),
-            (0, 4),
-            (3, 2),
-            (3, 3),
-            (1, 4),
-            (9, 1),
-        ],
-        &[(0, 5), (1, 3), (2, 4), (2, 10), (3, 6)],
-        &[(1, 2), (2, 3), (1, 3), (4, 8), (0, 5)],
-    ];
-    for row in rows {
-        let mut by_update: VecProgress<u64, u64, u64, Asked> = made(
-            &rt,
-            alloc,
-            make_asked(alloc, 5)?,
-            &[6],
-            0,
-        )?;
-        let mut by_replay: VecProgress<u64, u64, u64, Asked> = made(
-            &rt,
-            alloc,
-            make_asked(alloc, 5)?,
-            &[6],
-            0,
-        )?;
-        for (id, value) in row {
-            let granted = updated(&rt, &mut by_update, *id, *value);
-            let reply = replied(alloc, &mut by_replay, AnyStep::Update(*id, *value))?;
-            match granted {
-                Ok(granted) => assert_eq!(rt; reply, Some(Reply::Granted(granted))),
-                Err(granted) => assert_eq!(rt; reply, Some(Reply::Unknown(granted))),
-            }
-            assert_eq!(rt;
-                by_update.stat().is_quorum_count,
-                by_update.quorum_set().calls.get()
-            );
-            assert_eq!(rt;
-                by_replay.stat().is_quorum_count,
-                by_replay.quorum_set().calls.get()
-            );
-        }
+/// Makes the updates, and compares the counts with the calls after each.
+fn compare_counts(
+    rt: &impl Abort,
+    progress: &mut VecProgress<u64, u64, u64, Asked>,
+    updates: &[(u64, u64)],
+)
+    requires { IsInOrder nat_eq nat_cmp (λ x. x) (λ a s. is_majority nat_eq a.voters.items s) (shown progress.old) }
+{
+    for (id, value) in updates {
+        let falls = would_fall(progress, id, value);
+        assert!(rt; !falls);
+        let _ = progress.update(id, *value);
+        assert_eq!(rt;
+            progress.stat().is_quorum_count,
+            progress.quorum_set().calls.get()
+        );
+    }
+}
+
+/// Replays the updates one by one, and compares the counts with the calls after each.
+fn compare_counts_of_replay(
+    rt: &impl Abort,
+    alloc: Global,
+    progress: &mut VecProgress<u64, u64, u64, Asked>,
+    updates: &[(u64, u64)],
+) -> Result<(), AllocError>
+    requires { IsInOrder nat_eq nat_cmp (λ x. x) (λ a s. is_majority nat_eq a.voters.items s) (shown progress.old) }
+{
+    for (id, value) in updates {
+        let mut steps = Vec::new(alloc);
+        steps.push(AnyStep::Update(*id, *value))?;
+        let _ = replay_any(alloc, progress, steps)?;
+        assert_eq!(rt;
+            progress.stat().is_quorum_count,
+            progress.quorum_set().calls.get()
+        );
     }
     Ok(())
 }
 
 #[test]
-fn counts_are_calls_of_a_hundred(rt: HostRuntime) -> Result<(), Fail> {
+fn counts_are_calls(rt: HostRuntime) -> Result<(), Fail> {
     let alloc = rt.alloc();
-    let mut progress: VecProgress<u64, u64, u64, Asked> = made(
-        &rt,
-        alloc,
-        make_asked(alloc, 100)?,
-        &[],
-        0,
-    )?;
-    for id in 0..51 {
-        let _ = updated(&rt, &mut progress, id, id + 1);
-        assert_eq!(rt;
-            progress.stat().is_quorum_count,
-            progress.quorum_set().calls.get()
-        );
+    let mut risen = [(0, 0); 51];
+    for i in 0..51u64 {
+        risen[i as usize] = (i, i + 1);
+    }
+    let rows: [(u64, &[u64], &[(u64, u64)]); 4] = [
+        (
+            5,
+            &[6],
+            &[
+                (6, 9),
+                (1, 2),
+                (2, 3),
+                (3, 1),
+                (4, 5),
+                (0, 4),
+                (3, 2),
+                (3, 3),
+                (1, 4),
+                (9, 1),
+            ],
+        ),
+        (5, &[6], &[(0, 5), (1, 3), (2, 4), (2, 10), (3, 6)]),
+        (5, &[6], &[(1, 2), (2, 3), (1, 3), (4, 8), (0, 5)]),
+        (100, &[], &risen),
+    ];
+    for (voters, learners, updates) in rows {
+        let mut updated = made(&rt, alloc, make_asked(alloc, voters)?, learners, 0)?;
+        compare_counts(&rt, &mut updated, updates);
+        let mut replayed = made(&rt, alloc, make_asked(alloc, voters)?, learners, 0)?;
+        compare_counts_of_replay(&rt, alloc, &mut replayed, updates)?;
+        assert_eq!(rt; *updated.stat(), *replayed.stat());
     }
     Ok(())
 }
