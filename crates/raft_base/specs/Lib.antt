@@ -1,0 +1,2 @@
+pub mod LeaderId
+pub mod LogId

@@ -1,0 +1,11 @@
+//! The names that a Raft cluster agrees on: node ids, leader ids and log ids.
+#![tactic(auto)]
+
+pub mod leader_id;
+pub mod log_id;
+pub mod node;
+pub mod order;
+
+pub use leader_id::{CommittedLeaderId, LeaderId};
+pub use log_id::{LogId, LogIdOf, RaftLogId};
+pub use node::{EmptyNode, Node, NodeDefault, NodeEssential, NodeId, NodeIdEssential};
