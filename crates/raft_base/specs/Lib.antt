@@ -1,2 +1,6 @@
 pub mod LeaderId
+pub mod LeaderIdLaws
+pub mod LeaderOrder
 pub mod LogId
+pub mod Vote
+pub mod VoteLaws
