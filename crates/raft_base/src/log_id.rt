@@ -4,7 +4,7 @@ ghost use Rattle.std.specs.Prelude.{◌≡◌};
 mod raft_log_id;
 
 use crate::leader_id::CommittedLeaderId;
-pub use raft_log_id::RaftLogId;
+pub use raft_log_id::{RaftLogId, RaftLogIdOf};
 use std::fmt;
 
 /// Identifies a log entry in the whole cluster: the leader that proposed it, and its index.

@@ -1,15 +1,19 @@
 //! The orders of ids, each as a call whose contract says it.
 //!
 //! `<`, `max`, sorting and maps follow the same orders. A caller's proof takes them from here.
-ghost use Rattle.std.specs.Prelude.{◌≡◌};
+ghost use Rattle.std.specs.Prelude.{◌≡◌, ◌↔◌, Some, IsTrue};
+ghost use Rattle.std.specs.declared.cmp.Ordering.TheVariants.{Equal};
 ghost use Rattle.std.specs.Ordering.{is_eq};
 ghost use Rattle.std.specs.Option.{option_cmp};
 ghost use Rattle.raft_base.specs.LeaderId.{leader_id_cmp};
 ghost use Rattle.raft_base.specs.LogId.{log_id_cmp};
+ghost use Rattle.raft_base.specs.Vote.{vote_cmp, default_vote_cmp};
 
+use crate::kind::LeaderIdentity;
 use crate::leader_id::LeaderId;
 use crate::log_id::LogIdOf;
 use crate::node::NodeId;
+use crate::vote::{Vote, VoteIn};
 use std::cmp::Ordering;
 
 /// How two leader ids compare: by term, then by node id.
@@ -38,4 +42,25 @@ pub fn compare_optional_log_ids<C: Ord>(a: &Option<LogIdOf<C>>, b: &Option<LogId
     ensures { result ≡ option_cmp (log_id_cmp C.cmp) a.now b.now }
 {
     a.cmp(b)
+}
+
+/// How two votes compare, over any kind of leader ids: by leader, then by being committed.
+pub fn compare_votes<L: LeaderIdentity>(a: &VoteIn<L>, b: &VoteIn<L>) -> Option<Ordering>
+    ensures { result ≡ vote_cmp L.order a.now b.now }
+{
+    a.partial_cmp(b)
+}
+
+/// How two votes over the default leader ids compare. Any two do.
+pub fn compare_default_votes<NID: NodeId>(a: &Vote<NID>, b: &Vote<NID>) -> Option<Ordering>
+    ensures { result ≡ Some (default_vote_cmp NID.cmp a.now b.now) }
+{
+    a.partial_cmp(b)
+}
+
+/// Whether two votes are equal: exactly where they compare as equal.
+pub fn same_votes<L: LeaderIdentity>(a: &VoteIn<L>, b: &VoteIn<L>) -> bool
+    ensures { IsTrue result ↔ (vote_cmp L.order a.now b.now ≡ Some Equal) }
+{
+    a == b
 }

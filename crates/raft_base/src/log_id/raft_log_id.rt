@@ -2,12 +2,14 @@
 ghost use Rattle.std.specs.Prelude.{◌≡◌, refl};
 
 use super::LogIdOf;
+use crate::leader_id::CommittedLeaderId;
+use crate::node::NodeId;
 
 /// A value that a log id identifies, as a log entry or the log id itself.
 ///
-/// The parameter is the committed leader id of its log ids: `RaftLogId<CommittedLeaderId<NID>>`
-/// with the default leader ids.
-pub trait RaftLogId<C> {
+/// The parameter is the committed leader id of the log ids. A type implements this trait, and has
+/// `RaftLogId<NID>` with it where its log ids are `LogId<NID>`.
+pub trait RaftLogIdOf<C> {
     ghost use Rattle.raft_base.specs.declared.log_id.LogIdOf.{LogIdOf};
 
     /// The log id of a value.
@@ -34,7 +36,12 @@ pub trait RaftLogId<C> {
     ghost last_id: { (a : Self) (id next : LogIdOf C) → with_id (with_id a id) next ≡ with_id a next };
 }
 
-impl<C: Copy> RaftLogId<C> for LogIdOf<C> {
+/// A value that a `LogId<NID>` identifies.
+pub trait RaftLogId<NID: NodeId>: RaftLogIdOf<CommittedLeaderId<NID>> {}
+
+impl<NID: NodeId, T: RaftLogIdOf<CommittedLeaderId<NID>>> RaftLogId<NID> for T {}
+
+impl<C: Copy> RaftLogIdOf<C> for LogIdOf<C> {
     ghost id_of = { λ a. a };
 
     ghost with_id = { λ a id. id };
