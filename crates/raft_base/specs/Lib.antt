@@ -2,5 +2,6 @@ pub mod LeaderId
 pub mod LeaderIdLaws
 pub mod LeaderOrder
 pub mod LogId
+pub mod LogIdLaws
 pub mod Vote
 pub mod VoteLaws

@@ -157,7 +157,7 @@ impl<NID: NodeId> LeaderIdentity for LeaderId<NID> {
     type Committed = LeaderId<NID>;
 
     ghost use Rattle.raft_base.specs.LeaderId.{leader_id_cmp};
-    ghost use Rattle.raft_base.specs.LeaderIdLaws.{term_then_node_po, first_decides, apart, le_not_gt, never_none};
+    ghost use Rattle.raft_base.specs.LeaderIdLaws.{term_then_node-partial, first_decides, apart, le_not_gt, never_none};
 
     ghost order = { λ a b. Some (leader_id_cmp NID.cmp a b) };
 
@@ -197,7 +197,7 @@ impl<NID: NodeId> LeaderIdentity for LeaderId<NID> {
         leader.is_same_as_committed(other)
     }
 
-    ghost partial = { term_then_node_po NID.Ord.total NID.Ord.matches_eq (λ a. a.term) (λ a. a.node_id) };
+    ghost partial = { term_then_node-partial NID.Ord.total NID.Ord.matches_eq (λ a. a.term) (λ a. a.node_id) };
 
     ghost by_term = { λ a b h. first_decides (nat_cmp a.term b.term) _ (apart a.term b.term h) };
 

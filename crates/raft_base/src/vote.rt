@@ -26,11 +26,11 @@ pub type Vote<NID> = VoteOf<NID, LeaderAdv>;
 
 impl<L: LeaderIdentity> PartialOrd for VoteIn<L> {
     ghost use Rattle.raft_base.specs.Vote.{vote_cmp};
-    ghost use Rattle.raft_base.specs.VoteLaws.{vote_po};
+    ghost use Rattle.raft_base.specs.VoteLaws.{vote_cmp-partial};
 
     ghost partial_cmp = { vote_cmp L.order };
 
-    ghost laws = { vote_po L.partial L.incomparable (λ a. a.leader_id) (λ a. a.committed) };
+    ghost laws = { vote_cmp-partial L.partial L.incomparable (λ a. a.leader_id) (λ a. a.committed) };
 
     fn partial_cmp(&self, other: &Self) -> Option<Ordering> {
         match L::compare(&self.leader_id, &other.leader_id) {
