@@ -72,13 +72,16 @@ pub trait LeaderIdentity: Eq + Copy + Default + Debug + Display + 'static {
     ghost partial: { IsPartialOrder Self.eq order };
 
     /// Leaders of different terms compare as their terms.
-    ghost by_term: { (a b : Self) → term_of a ≢ term_of b → order a b ≡ Some (nat_cmp (term_of a) (term_of b)) };
+    ghost by_term: { (a b : Self) → term_of a ≢ term_of b
+        → order a b ≡ Some (nat_cmp (term_of a) (term_of b)) };
 
     /// What is kept of a leader is not above what is kept of a leader that is no lesser one.
-    ghost rises: { (a b : Self) → IsTrue (partial_le order a b) → is_gt (Self.Committed.cmp (committed a) (committed b)) ≡ false };
+    ghost rises: { (a b : Self) → IsTrue (partial_le order a b)
+        → is_gt (Self.Committed.cmp (committed a) (committed b)) ≡ false };
 
     /// The leader that a node is in a term has that term and is that node's.
-    ghost made: { (t : ℕ) (n : Self.Id) → (term_of (leader_of t n) ≡ t) × (voted (leader_of t n) ≡ Some n) };
+    ghost made: { (t : ℕ) (n : Self.Id)
+        → (term_of (leader_of t n) ≡ t) × (voted (leader_of t n) ≡ Some n) };
 
     /// Leaders that do not compare stand on the same side of each third one.
     ghost incomparable: { IncomparableAlike order };

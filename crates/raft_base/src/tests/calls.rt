@@ -29,7 +29,8 @@ fn grant<NID: NodeId, K: LeaderKind<NID>>(
     vote: VoteOf<NID, K>,
     last_log_id: Option<LogIdOf<K::Committed>>,
 ) -> bool
-    ensures rule { result ≡ (partial_ge (vote_cmp K.Leader.order) vote promise.old.vote && is_ge (option_cmp (log_id_cmp K.Committed.cmp) last_log_id promise.old.last_log_id)) }
+    ensures rule { result ≡ (partial_ge (vote_cmp K.Leader.order) vote promise.old.vote
+        && is_ge (option_cmp (log_id_cmp K.Committed.cmp) last_log_id promise.old.last_log_id)) }
     ensures granted { IsTrue result → promise.new ≡ record promise.old { vote = vote } }
     ensures refused { result ≡ false → promise.new ≡ promise.old }
 {
