@@ -1,1 +1,3 @@
 pub mod MajorityCounts
+pub mod Meeting
+pub mod Clones

@@ -1,2 +1,4 @@
 pub mod Majority
 pub mod MajorityLaws
+pub mod Coherence
+pub mod Meeting
