@@ -9,7 +9,7 @@ use Rattle.std.proofs.lemmas.Map.Made.{distinct_count-le}
 use Rattle.std.proofs.lemmas.List.Sums.{length-filter}
 use Rattle.raft_members.specs.Majority.{is_majority, is_joint_majority, is_voter_of}
 use Rattle.raft_members.specs.Coherence.{has_config, is_coherent}
-use Rattle.raft_members.specs.Meeting.{ShareMember, ShareVoter, RespectsEquality, MajorityHasVoter, QuorumsMeet, CoherentQuorumsMeet}
+use Rattle.raft_members.specs.Meeting.{ShareMember, MajorityHasVoter, QuorumsMeet, CoherentQuorumsMeet}
 use Rattle.raft_members.proofs.MajorityCounts.{is_member-alike, is_member-unique_keys}
 
 pub left_true : (a b : Bool) → a ≡ true → (a || b) ≡ true

@@ -5,16 +5,14 @@ ghost use Rattle.raft_members.specs.Meeting.{MajorityHasVoter, QuorumsMeet, Cohe
 /// A majority of a config has one of its voters.
 pub fn majority_has_voter<ID: Copy + Ord>()
     ensures { MajorityHasVoter ID.eq }
-{
-}
+{}
 
 /// Two quorums of several configs, of one at least, share a voter.
 ///
 /// So whatever one quorum has decided, some voter of every other quorum knows of.
 pub fn quorums_meet<ID: Copy + Ord>()
     ensures { QuorumsMeet ID.eq }
-{
-}
+{}
 
 /// A quorum of the one and a quorum of the other of two coherent lists of configs share a voter.
 ///
@@ -22,17 +20,14 @@ pub fn quorums_meet<ID: Copy + Ord>()
 /// a quorum of the new ones.
 pub fn coherent_quorums_meet<ID: Copy + Ord>()
     ensures { CoherentQuorumsMeet ID.eq }
-{
-}
+{}
 
 /// An empty config has no quorum.
 pub fn empty_config_has_no_quorum<ID: Copy + Ord>()
     ensures { EmptyConfigHasNoQuorum ID.eq }
-{
-}
+{}
 
 /// Where there are no configs, every set is a quorum.
 pub fn no_configs_take_every_set<ID: Copy + Ord>()
     ensures { NoConfigsTakeEverySet ID.eq }
-{
-}
+{}
