@@ -2,3 +2,11 @@ pub mod Majority
 pub mod MajorityLaws
 pub mod Coherence
 pub mod Meeting
+pub mod MemberList
+pub mod Members
+pub mod Valid
+pub mod Change
+pub mod Refusal
+pub mod Reached
+pub mod Defaults
+pub mod Learners

@@ -8,6 +8,7 @@ pub mod laws;
 mod quorum_set;
 mod quorum_set_impl;
 
+pub(crate) use joint_impl::ids_of_each;
 pub use coherent::{Coherent, FindCoherent};
 pub use joint::{AsJoint, Joint};
 pub use quorum_set::QuorumSet;
