@@ -1,9 +1,10 @@
 -- Entries that are copied one by one, in order.
-use Rattle.std.specs.Prelude.{◌≡◌, Bool, true, false, cond, Some, List, [], ◌∷◌, ◌++◌, IsTrue, refl, not, ◌||◌}
+use Rattle.std.specs.Prelude.{◌≡◌, ◌&&◌, Bool, true, false, cond, Some, List, [], ◌∷◌, ◌++◌, IsTrue, refl, not, ◌||◌}
 use Rattle.std.proofs.Common.{◌∙◌, ap, append-nil}
 use Rattle.std.specs.declared.cmp.Ordering.{Ordering}
 use Rattle.std.specs.declared.cmp.Ordering.TheVariants.{Less, Greater}
 use Rattle.std.specs.Cmp.{IsTotalOrder, IsEquivalence}
+use Rattle.std.specs.Cmp.Lexicographic.{lists_equiv}
 use Rattle.std.specs.Ordering.{ordering_reverse}
 use Rattle.std.specs.List.{filter}
 use Rattle.std.specs.List.{AllByRecursion}
@@ -14,6 +15,7 @@ use Rattle.std.specs.BTreeMap.{insert_entry}
 use Rattle.std.specs.Option.{option_eq}
 use Rattle.raft_members.specs.Majority.{is_voter_of}
 use Rattle.raft_members.specs.Change.{stays}
+use Rattle.raft_members.specs.Members.{MemberList, same_nodes, same_members}
 use Rattle.raft_members.proofs.MajorityCounts.{is_member-alike}
 
 module _ {K N : Type 0} (same : N → N → Bool) where
@@ -89,3 +91,23 @@ voter_alike laws (c ∷ cs) x y h = λ i. is_member-alike laws x y h c i || vote
 
 pub same_stays : {K : Type 0} {e : K → K → Bool} → IsEquivalence e → (old new : List (List K)) (retain : Bool) (x y : K) → e x y ≡ true → stays e old new retain x ≡ stays e old new retain y
 same_stays laws old new retain x y h = λ i. retain || (not (voter_alike laws old x y h i) || voter_alike laws new x y h i)
+
+-- the same keys with equal values are equal nodes
+both_so : (a b : Bool) → a ≡ true → b ≡ true → (a && b) ≡ true
+both_so a b h k = λ i. h i && k i
+
+module _ {K N : Type 0} {eq : K → K → Bool} {same : N → N → Bool} (e : IsEquivalence eq) (s : IsEquivalence same) where
+  pub same_entries : (xs ys : List (K × N)) → SameEntries same xs ys → IsTrue (same_nodes eq same ys xs)
+  same_entries [] [] h = refl
+  same_entries [] (y ∷ ys) h = absurd h
+  same_entries (x ∷ xs) [] h = absurd h
+  same_entries (x ∷ xs) (y ∷ ys) h =
+      both_so _ _ (both_so _ _ (rw h.0 (e.refl y.0)) (s.symm y.1 x.1 ∙ h.1)) (same_entries xs ys h.2)
+
+-- the same configs and equal nodes make equal memberships
+pub equal_members : {K N : Type 0} {eq : K → K → Bool} (same : N → N → Bool) → IsEquivalence eq → (m w : MemberList K N) → w.configs ≡ m.configs → IsTrue (same_nodes eq same m.nodes w.nodes) → IsTrue (same_members eq same m w)
+equal_members same e m w c h = both_so _ _ (rw c ((lists_equiv (lists_equiv e)).refl m.configs)) h
+
+pub filter-true : {X : Type 0} (xs : List X) → filter (λ _. true) xs ≡ xs
+filter-true [] = refl
+filter-true (x ∷ xs) = ap (λ ys. x ∷ ys) (filter-true xs)

@@ -10,7 +10,10 @@ pub mod quorum;
 mod tests;
 
 pub use change_members::ChangeMembers;
-pub use membership::{IntoNodes, LearnerIds, Membership};
+pub use membership::{
+    EffectiveMembership, EffectiveMembershipOf, IntoNodes, LearnerIds, Membership, StoredMembership,
+    StoredMembershipOf,
+};
 pub use error::{
     ChangeMembershipError, ChangeMembershipErrorOf, EmptyMembership, InProgress, InProgressOf,
     LearnerNotFound,

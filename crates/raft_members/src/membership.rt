@@ -6,8 +6,9 @@ ghost use Rattle.std.specs.List.Sorted.{IsStrictlySortedBy};
 ghost use Rattle.std.specs.Set.{ClonesAreEqual, is_member};
 ghost use Rattle.std.specs.Map.{keys_of};
 ghost use Rattle.std.specs.BTreeMap.{get, keys};
-ghost use Rattle.std.specs.Cmp.{and_per, on_per, and_equiv, on_equiv};
-ghost use Rattle.std.specs.Cmp.Lexicographic.{pointwise, lists_per, lists_equiv};
+ghost use Rattle.std.specs.Cmp.{partial_equiv_from_equiv};
+ghost use Rattle.std.specs.Cmp.Lexicographic.{pointwise};
+ghost use Rattle.raft_members.specs.MembersLaws.{same_members-equiv};
 ghost use Rattle.raft_members.specs.Majority.{is_majority, is_joint_majority, is_voter_of};
 ghost use Rattle.raft_members.specs.Members.{MemberList, node_at, members_of, same_nodes, same_members};
 ghost use Rattle.raft_members.specs.Valid.{has_empty_config, FirstWithoutNode, IsValid};
@@ -19,13 +20,18 @@ ghost use Rattle.raft_members.specs.declared.error.ChangeMembershipErrorOf.TheVa
 mod change;
 mod configs;
 mod defaults;
-mod ids;
+mod effective;
+pub(crate) mod ids;
 mod into_nodes;
 mod learner_ids;
-mod nodes;
+pub mod laws;
+pub(crate) mod nodes;
+mod stored;
 
+pub use effective::{EffectiveMembership, EffectiveMembershipOf};
 pub use into_nodes::IntoNodes;
 pub use learner_ids::LearnerIds;
+pub use stored::{StoredMembership, StoredMembershipOf};
 
 use crate::error::{ChangeMembershipError, EmptyMembership, LearnerNotFound};
 use crate::quorum::Joint;
@@ -103,6 +109,18 @@ impl<NID: NodeId, N: Node> Membership<NID, N> {
             configs: Vec::new(alloc),
             nodes: BTreeMap::new(alloc),
         })
+    }
+
+    /// An equal membership, with clones of the nodes.
+    pub fn try_clone(&self) -> Result<Self, AllocError>
+        requires { ClonesAreEqual N.eq N.is_clone }
+        ensures equal { IfOk result (λ m. IsTrue (same_members NID.eq N.eq self.now m)) }
+        ensures configs { IfOk result (λ m. m.configs ≡ self.now.configs) }
+    {
+        let alloc = *self.configs.allocator();
+        let configs = configs::copy(alloc, &self.configs)?;
+        let nodes = nodes::copy(alloc, &self.nodes)?;
+        Ok(Membership { configs, nodes })
     }
 
     /// The old nodes, and copies of those new ones whose ids have no old node.
@@ -230,7 +248,7 @@ impl<NID: NodeId, N: Node> Membership<NID, N> {
 impl<NID: NodeId, N: Node> PartialEq for Membership<NID, N> {
     ghost eq = { λ a b. same_members NID.eq N.eq a b };
 
-    ghost laws = { and_per (on_per (λ a. a.configs) (lists_per (lists_per NID.PartialEq.laws))) (on_per (λ a. a.nodes) (lists_per (and_per (on_per (λ p. p.0) NID.PartialEq.laws) (on_per (λ p. p.1) N.PartialEq.laws)))) };
+    ghost laws = { partial_equiv_from_equiv (same_members-equiv NID.Eq.laws N.Eq.laws) };
 
     fn eq(&self, other: &Self) -> bool {
         let configs = self.has_configs_of(other);
@@ -256,5 +274,5 @@ impl<NID: NodeId, N: Node> Membership<NID, N> {
 }
 
 impl<NID: NodeId, N: Node> Eq for Membership<NID, N> {
-    ghost laws = { and_equiv (on_equiv (λ a. a.configs) (lists_equiv (lists_equiv NID.Eq.laws))) (on_equiv (λ a. a.nodes) (lists_equiv (and_equiv (on_equiv (λ p. p.0) NID.Eq.laws) (on_equiv (λ p. p.1) N.Eq.laws)))) };
+    ghost laws = { same_members-equiv NID.Eq.laws N.Eq.laws };
 }

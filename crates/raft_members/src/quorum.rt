@@ -12,3 +12,4 @@ pub(crate) use joint_impl::ids_of_each;
 pub use coherent::{Coherent, FindCoherent};
 pub use joint::{AsJoint, Joint};
 pub use quorum_set::QuorumSet;
+pub(crate) use quorum_set_impl::sorted_ids;

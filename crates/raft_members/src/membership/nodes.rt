@@ -1,7 +1,8 @@
 //! The nodes of a membership, by their ids.
 ghost use Rattle.std.specs.Prelude.{◌≡◌, Bool, IfOk, IsTrue, OnOk, true, false, map, cond, not, ◌&&◌, Some, None, is_some};
 ghost use Rattle.std.specs.Option.{option_eq, option_or};
-ghost use Rattle.std.specs.List.{find};
+ghost use Rattle.std.specs.List.{find, filter};
+ghost use Rattle.raft_members.specs.Members.{same_nodes};
 ghost use Rattle.std.specs.List.Sorted.{IsStrictlySortedBy};
 ghost use Rattle.std.specs.Set.{ClonesAreEqual, is_member};
 ghost use Rattle.std.specs.BTreeMap.{get, insert_entry, is_at};
@@ -23,7 +24,8 @@ pub fn kept<NID: NodeId, N: Node>(
     retain: bool,
 ) -> Result<BTreeMap<NID, N>, AllocError>
     requires { ClonesAreEqual N.eq N.is_clone }
-    ensures { IfOk result (λ n. (q : NID) → IsTrue (option_eq N.eq (get NID.cmp n q) (cond (stays NID.eq (map (λ s. s.keys) old.now) (map (λ s. s.keys) new.now) retain q) (get NID.cmp nodes.now q) None))) }
+    ensures nodes { IfOk result (λ n. (q : NID) → IsTrue (option_eq N.eq (get NID.cmp n q) (cond (stays NID.eq (map (λ s. s.keys) old.now) (map (λ s. s.keys) new.now) retain q) (get NID.cmp nodes.now q) None))) }
+    ensures entries { IfOk result (λ n. IsTrue (same_nodes NID.eq N.eq (filter (λ e. stays NID.eq (map (λ s. s.keys) old.now) (map (λ s. s.keys) new.now) retain e.0) nodes.now.entries) n.entries)) }
 {
     let mut kept = BTreeMap::new(alloc);
     for (id, node) in nodes.iter() {
@@ -68,7 +70,8 @@ pub fn copy<NID: NodeId, N: Node>(
     nodes: &BTreeMap<NID, N>,
 ) -> Result<BTreeMap<NID, N>, AllocError>
     requires { ClonesAreEqual N.eq N.is_clone }
-    ensures { IfOk result (λ n. (q : NID) → IsTrue (option_eq N.eq (get NID.cmp n q) (get NID.cmp nodes.now q))) }
+    ensures nodes { IfOk result (λ n. (q : NID) → IsTrue (option_eq N.eq (get NID.cmp n q) (get NID.cmp nodes.now q))) }
+    ensures entries { IfOk result (λ n. IsTrue (same_nodes NID.eq N.eq nodes.now.entries n.entries)) }
 {
     let none: Vec<BTreeSet<NID>> = Vec::new(alloc);
     kept(alloc, nodes, &none, &none, true)
