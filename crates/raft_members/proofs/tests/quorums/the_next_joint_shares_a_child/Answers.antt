@@ -1,7 +1,7 @@
 use Rattle.std.proofs.Common.{◌≡◌, ℕ, nat_eq, IsTrue, arith}
 use Rattle.std.proofs.lemmas.Bool.Decides.{nat_tests}
 use Rattle.raft_members.proofs.Clones.{list_clones}
-use Rattle.raft_members.proofs.tests.the_next_joint_shares_a_child.Goals as goal
+use Rattle.raft_members.proofs.tests.quorums.the_next_joint_shares_a_child.Goals as goal
 
 same : (a b : ℕ) → b ≡ a → IsTrue (nat_eq a b)
 same a b e = grind (arith, nat_tests)
