@@ -12,6 +12,8 @@ use Rattle.std.proofs.lemmas.List.{length-map}
 use Rattle.raft_members.specs.Coherence.{next_children}
 use Rattle.std.specs.Prelude.{◌&&◌}
 use Rattle.std.specs.Cmp.Lexicographic.{pointwise}
+use Rattle.std.specs.Set.{is_member}
+use Rattle.raft_members.specs.Majority.{is_majority, is_joint_majority, is_voter_of}
 
 module _ {X Y : Type 0} (f : X → Y) where
   pub list_any-map : (p : Y → Bool) (xs : List X) → list_any p (map f xs) ≡ list_any (λ x. p (f x)) xs
@@ -53,3 +55,11 @@ any_more p xs i d h e =
     or_false : (b : Bool) → (b || false) ≡ b
     or_false true = refl
     or_false false = refl
+
+-- a joint of lists has the quorums and the voters of its configs
+module _ {K X : Type 0} (f : X → List K) (eq : K → K → Bool) (xs : List X) (configs : List (List K)) (same : map f xs ≡ configs) where
+  pub quorums_of_lists : (set : K → Bool) → list_all (λ x. is_majority eq (f x) set) xs ≡ is_joint_majority eq configs set
+  quorums_of_lists set = sym (list_all-map f (λ c. is_majority eq c set) xs) ∙ ap (λ cs. is_joint_majority eq cs set) same
+
+  pub voters_of_lists : (id : K) → list_any (λ x. is_member eq (f x) id) xs ≡ is_voter_of eq configs id
+  voters_of_lists id = sym (list_any-map f (λ c. is_member eq c id) xs) ∙ ap (λ cs. is_voter_of eq cs id) same

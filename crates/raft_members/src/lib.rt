@@ -10,11 +10,11 @@ pub mod quorum;
 mod tests;
 
 pub use change_members::ChangeMembers;
-pub use membership::{
-    EffectiveMembership, EffectiveMembershipOf, IntoNodes, LearnerIds, Membership, StoredMembership,
-    StoredMembershipOf,
-};
 pub use error::{
     ChangeMembershipError, ChangeMembershipErrorOf, EmptyMembership, InProgress, InProgressOf,
     LearnerNotFound,
+};
+pub use membership::{
+    EffectiveMembership, EffectiveMembershipOf, IntoNodes, LearnerIds, Membership,
+    StoredMembership, StoredMembershipOf,
 };

@@ -23,23 +23,22 @@ mod defaults;
 mod effective;
 pub(crate) mod ids;
 mod into_nodes;
-mod learner_ids;
 pub mod laws;
+mod learner_ids;
 pub(crate) mod nodes;
 mod stored;
 
+use crate::error::{ChangeMembershipError, EmptyMembership, LearnerNotFound};
+use crate::quorum::Joint;
 pub use effective::{EffectiveMembership, EffectiveMembershipOf};
 pub use into_nodes::IntoNodes;
 pub use learner_ids::LearnerIds;
-pub use stored::{StoredMembership, StoredMembershipOf};
-
-use crate::error::{ChangeMembershipError, EmptyMembership, LearnerNotFound};
-use crate::quorum::Joint;
 use raft_base::{Node, NodeId};
 use std::alloc::{AllocError, Global};
 use std::collections::btree_map::Iter;
 use std::collections::{BTreeMap, BTreeSet};
 use std::marker::Model;
+pub use stored::{StoredMembership, StoredMembershipOf};
 
 /// The members of a cluster: its configs, each a set of voters, and the node at each id.
 ///
@@ -197,7 +196,9 @@ impl<NID: NodeId, N: Node> Membership<NID, N> {
 
     /// The configs as one quorum set: a quorum has a majority of each.
     pub fn to_quorum_set(&self) -> Result<Joint<NID, Vec<NID>, Vec<Vec<NID>>>, AllocError>
-        ensures { IfOk result (λ joint. map (λ c. c.items) joint.items ≡ self.now.configs) }
+        ensures configs { IfOk result (λ joint. map (λ c. c.items) joint.items ≡ self.now.configs) }
+        ensures quorums { IfOk result (λ joint. (set : NID → Bool) → list_all (λ c. is_majority NID.eq c.items set) joint.items ≡ is_joint_majority NID.eq self.now.configs set) }
+        ensures voters { IfOk result (λ joint. (id : NID) → list_any (λ c. is_member NID.eq c.items id) joint.items ≡ is_voter_of NID.eq self.now.configs id) }
     {
         let alloc = *self.configs.allocator();
         let lists = configs::lists_of(alloc, &self.configs)?;

@@ -12,11 +12,10 @@ ghost use Rattle.raft_members.specs.MajorityLaws.{is_joint_majority-superset};
 ghost use Rattle.raft_members.specs.Learners.{learners_among, learners_ahead};
 ghost use Rattle.raft_members.specs.Members.{node_at};
 
-use super::configs;
 use super::ids::set_of;
 use super::learner_ids::LearnerIds;
 use super::stored::StoredMembershipOf;
-use super::Membership;
+use super::{Membership, configs};
 use crate::quorum::{Joint, QuorumSet};
 use raft_base::{CommittedLeaderId, LogIdOf, Node, NodeId, RaftLogIdOf};
 use std::alloc::{AllocError, Global};

@@ -19,10 +19,7 @@ pub fn set_of<ID: Copy + Ord>(alloc: Global, ids: &[ID]) -> Result<BTreeSet<ID>,
 }
 
 /// A set with the same ids.
-pub fn copy<ID: Copy + Ord>(
-    alloc: Global,
-    ids: &BTreeSet<ID>,
-) -> Result<BTreeSet<ID>, AllocError>
+pub fn copy<ID: Copy + Ord>(alloc: Global, ids: &BTreeSet<ID>) -> Result<BTreeSet<ID>, AllocError>
     ensures { IfOk result (λ set. set.keys ≡ ids.now.keys) }
 {
     let list: Vec<ID> = ids.iter().copied().collect(alloc)?;

@@ -10,5 +10,4 @@ use raft_base::{Node, NodeId};
 /// So an entry that the voters have granted is not lost by a change of the voters.
 pub fn change_keeps_reached<NID: NodeId, N: Node>()
     ensures { ChangeKeepsReached NID N NID.eq NID.cmp }
-{
-}
+{}

@@ -1,135 +1,76 @@
-use super::{Members, map_of, members, set_of};
-use crate::{ChangeMembers, ChangeMembershipError, EmptyMembership, InProgress, LearnerNotFound};
+use super::words::{change_is_right, configs, ids, nodes};
+use crate::{
+    ChangeMembers, ChangeMembershipError, EmptyMembership, InProgress, LearnerNotFound, Membership,
+};
 use raft_base::{CommittedLeaderId, LogId, NodeDefault};
 use std::alloc::{AllocError, Global};
 use std::collections::BTreeMap;
 use std::test::Fail;
 
-use crate::Membership;
+/// Changes of two voters and a learner, with their answers; each kind is accepted at least once.
+const ROWS: &str = "
+1,2 1=1,2=2,3=3 add-ids 4 retain err LearnerNotFound 4
+1,2 1=1,2=2,3=3 add-ids 4,5 retain err LearnerNotFound 4
+1,2 1=1,2=2,3=3 add-ids 3 retain ok 1,2/1,2,3 1=1,2=2,3=3
+1,2 1=1,2=2,3=3 add 5=5 retain ok 1,2/1,2,5 1=1,2=2,3=3,5=5
+1,2 1=1,2=2,3=3 add 3=30 retain ok 1,2/1,2,3 1=1,2=2,3=3
+1,2 1=1,2=2,3=3 remove 5 retain ok 1,2 1=1,2=2,3=3
+1,2 1=1,2=2,3=3 remove 1 retain ok 1,2/2 1=1,2=2,3=3
+1,2 1=1,2=2,3=3 remove 1 drop ok 1,2/2 1=1,2=2,3=3
+1,2/2 1=1,2=2,3=3 remove 1 drop ok 2 2=2,3=3
+1,2 1=1,2=2,3=3 remove 1,2 retain err EmptyMembership
+1,2 1=1,2=2,3=3 remove-nodes 2 retain err LearnerNotFound 2
+1,2 1=1,2=2,3=3 set-nodes 3=30,4=40 retain ok 1,2 1=1,2=2,3=30,4=40
+1,2 1=1,2=2,3=3 replace 2 drop ok 1,2/2 1=1,2=2,3=3
+1,2 1=1,2=2,3=3 replace 2,3 drop ok 1,2/2,3 1=1,2=2,3=3
+1,2/2,3 1=1,2=2,3=3 replace 1,3 drop ok 2,3/1,3 1=1,2=2,3=3
+2,3/1,3 1=1,2=2,3=3 replace 1,3 drop ok 1,3 1=1,3=3
+1,2 1=1,2=2,3=3 add-nodes 2=20 retain ok 1,2 1=1,2=2,3=3
+1,2 1=1,2=2,3=3 add-nodes 3=30 drop ok 1,2 1=1,2=2,3=3
+1,2 1=1,2=2,3=3 add-nodes 4=4 retain ok 1,2 1=1,2=2,3=3,4=4
+1,2 1=1,2=2,3=3 remove-nodes 3 retain ok 1,2 1=1,2=2
+1,2 1=1,2=2,3=3 replace-nodes 1=1,2=2,4=4 retain ok 1,2 1=1,2=2,4=4
+5,7/4,9/3 3=3,5=5 replace-nodes 3=3 retain err LearnerNotFound 4
+";
 
-/// The voter without a node that a change was refused for.
-fn missing(made: Result<Members, ChangeMembershipError<u64>>) -> Option<u64> {
-    match made {
-        Err(ChangeMembershipError::LearnerNotFound(refused)) => Some(refused.node_id),
-        _ => None,
+#[test]
+fn changes_have_their_worked_answers(rt: HostRuntime) -> Result<(), Fail> {
+    for line in ROWS.trim().lines() {
+        assert!(rt; change_is_right(rt.alloc(), line)?);
     }
-}
-
-/// Two voters, and a learner.
-fn start(alloc: Global) -> Result<Members, AllocError> {
-    members(alloc, &[&[1, 2]], &[(1, 1), (2, 2), (3, 3)])
-}
-
-#[test]
-fn voter_ids_are_added(rt: HostRuntime) -> Result<(), Fail> {
-    let alloc = rt.alloc();
-    let from = start(alloc)?;
-    let absent = from.change(ChangeMembers::AddVoterIds(set_of(alloc, &[4])?), true);
-    assert_eq!(rt; missing(absent), Some(4));
-    let absent = from.change(ChangeMembers::AddVoterIds(set_of(alloc, &[4, 5])?), true);
-    assert_eq!(rt; missing(absent), Some(4));
-    let more = from.change(ChangeMembers::AddVoterIds(set_of(alloc, &[3])?), true)?;
-    assert!(rt; more == members(alloc, &[&[1, 2], &[1, 2, 3]], &[(1, 1), (2, 2), (3, 3)])?);
-    assert!(rt; from == start(alloc)?);
     Ok(())
 }
 
 #[test]
-fn voters_are_added_with_their_nodes(rt: HostRuntime) -> Result<(), Fail> {
-    let alloc = rt.alloc();
-    let from = start(alloc)?;
-    let more = from.change(ChangeMembers::AddVoters(map_of(alloc, &[(5, 5)])?), true)?;
-    let want: [(u64, u64); 4] = [(1, 1), (2, 2), (3, 3), (5, 5)];
-    assert!(rt; more == members(alloc, &[&[1, 2], &[1, 2, 5]], &want)?);
-    // A node that is there stays.
-    let more = from.change(ChangeMembers::AddVoters(map_of(alloc, &[(3, 30)])?), true)?;
-    assert!(rt; more == members(alloc, &[&[1, 2], &[1, 2, 3]], &[(1, 1), (2, 2), (3, 3)])?);
+fn all_voters_are_replaced_by_a_list(rt: HostRuntime) -> Result<(), Fail> {
+    let made: ChangeMembers<u64, u64> = ChangeMembers::replace_all(rt.alloc(), &[3, 2, 3])?;
+    assert!(rt; made == ChangeMembers::ReplaceAllVoters(ids(rt.alloc(), "2,3")?));
     Ok(())
 }
 
-#[test]
-fn voters_are_removed(rt: HostRuntime) -> Result<(), Fail> {
-    let alloc = rt.alloc();
-    let from = start(alloc)?;
-    let same = from.change(ChangeMembers::RemoveVoters(set_of(alloc, &[5])?), true)?;
-    assert!(rt; same == from);
-    let retained = from.change(ChangeMembers::RemoveVoters(set_of(alloc, &[1])?), true)?;
-    assert!(rt; retained == members(alloc, &[&[1, 2], &[2]], &[(1, 1), (2, 2), (3, 3)])?);
-    let one = from.change(ChangeMembers::RemoveVoters(set_of(alloc, &[1])?), false)?;
-    assert!(rt; one == retained);
-    let two = one.change(ChangeMembers::RemoveVoters(set_of(alloc, &[1])?), false)?;
-    assert!(rt; two == members(alloc, &[&[2]], &[(2, 2), (3, 3)])?);
-    let none = from.change(ChangeMembers::RemoveVoters(set_of(alloc, &[1, 2])?), true);
-    assert!(rt; matches!(&none, Err(ChangeMembershipError::EmptyMembership(_))));
-    Ok(())
-}
-
-#[test]
-fn voters_are_replaced(rt: HostRuntime) -> Result<(), Fail> {
-    let alloc = rt.alloc();
-    let from = start(alloc)?;
-    let all: [(u64, u64); 3] = [(1, 1), (2, 2), (3, 3)];
-    let one = from.change(ChangeMembers::replace_all(alloc, &[2])?, false)?;
-    assert!(rt; one == members(alloc, &[&[1, 2], &[2]], &all)?);
-    let one = from.change(ChangeMembers::replace_all(alloc, &[3, 2, 3])?, false)?;
-    assert!(rt; one == members(alloc, &[&[1, 2], &[2, 3]], &all)?);
-    let to = ChangeMembers::replace_all(alloc, &[1, 3])?;
-    let two = one.change(to.try_clone(alloc)?, false)?;
-    assert!(rt; two == members(alloc, &[&[2, 3], &[1, 3]], &all)?);
-    let three = two.change(to, false)?;
-    assert!(rt; three == members(alloc, &[&[1, 3]], &[(1, 1), (3, 3)])?);
-    Ok(())
-}
-
-#[test]
-fn nodes_are_added_and_set(rt: HostRuntime) -> Result<(), Fail> {
-    let alloc = rt.alloc();
-    let from = start(alloc)?;
-    let same = from.change(ChangeMembers::AddNodes(map_of(alloc, &[(2, 20)])?), true)?;
-    assert!(rt; same == from);
-    let same = from.change(ChangeMembers::AddNodes(map_of(alloc, &[(3, 30)])?), false)?;
-    assert!(rt; same == from);
-    let more = from.change(ChangeMembers::AddNodes(map_of(alloc, &[(4, 4)])?), true)?;
-    assert!(rt; more == members(alloc, &[&[1, 2]], &[(1, 1), (2, 2), (3, 3), (4, 4)])?);
-    let to = map_of(alloc, &[(3, 30), (4, 40)])?;
-    let put = from.change(ChangeMembers::SetNodes(to), true)?;
-    assert!(rt; put == members(alloc, &[&[1, 2]], &[(1, 1), (2, 2), (3, 30), (4, 40)])?);
-    Ok(())
-}
-
-#[test]
-fn nodes_are_removed_and_replaced(rt: HostRuntime) -> Result<(), Fail> {
-    let alloc = rt.alloc();
-    let from = start(alloc)?;
-    let lost = from.change(ChangeMembers::RemoveNodes(set_of(alloc, &[2])?), true);
-    assert_eq!(rt; missing(lost), Some(2));
-    let left = from.change(ChangeMembers::RemoveNodes(set_of(alloc, &[3])?), true)?;
-    assert!(rt; left == members(alloc, &[&[1, 2]], &[(1, 1), (2, 2)])?);
-    let to = map_of(alloc, &[(1, 1), (2, 2), (4, 4)])?;
-    let all = from.change(ChangeMembers::ReplaceAllNodes(to), true)?;
-    assert!(rt; all == members(alloc, &[&[1, 2]], &[(1, 1), (2, 2), (4, 4)])?);
-    Ok(())
+/// Whether a clone of a change equals it.
+fn has_equal_clone(alloc: Global, change: ChangeMembers<u64, u64>) -> Result<bool, AllocError> {
+    let copy = change.try_clone(alloc)?;
+    Ok(copy == change && change.clone()? == change)
 }
 
 #[test]
 fn clones_of_changes_are_equal(rt: HostRuntime) -> Result<(), Fail> {
     let alloc = rt.alloc();
-    let changes: Vec<ChangeMembers<u64, u64>> = vec![in alloc;
-        ChangeMembers::AddVoterIds(set_of(alloc, &[3])?),
-        ChangeMembers::AddVoters(map_of(alloc, &[(3, 30)])?),
-        ChangeMembers::RemoveVoters(set_of(alloc, &[3])?),
-        ChangeMembers::ReplaceAllVoters(set_of(alloc, &[3])?),
-        ChangeMembers::AddNodes(map_of(alloc, &[(3, 30)])?),
-        ChangeMembers::SetNodes(map_of(alloc, &[(3, 30)])?),
-        ChangeMembers::RemoveNodes(set_of(alloc, &[3])?),
-        ChangeMembers::ReplaceAllNodes(map_of(alloc, &[(3, 30)])?),
-    ]?;
-    for (place, change) in changes.iter().enumerate() {
-        let copy = change.try_clone(alloc)?;
-        for (other_place, other) in changes.iter().enumerate() {
-            assert_eq!(rt; copy == *other, place == other_place);
-        }
-    }
+    assert!(rt; has_equal_clone(alloc, ChangeMembers::AddVoterIds(ids(alloc, "3")?))?);
+    assert!(rt; has_equal_clone(alloc, ChangeMembers::AddVoters(nodes(alloc, "3=30")?))?);
+    assert!(rt; has_equal_clone(alloc, ChangeMembers::RemoveVoters(ids(alloc, "3")?))?);
+    assert!(rt; has_equal_clone(alloc, ChangeMembers::ReplaceAllVoters(ids(alloc, "3")?))?);
+    Ok(())
+}
+
+#[test]
+fn clones_of_changes_of_nodes_are_equal(rt: HostRuntime) -> Result<(), Fail> {
+    let alloc = rt.alloc();
+    assert!(rt; has_equal_clone(alloc, ChangeMembers::AddNodes(nodes(alloc, "3=30")?))?);
+    assert!(rt; has_equal_clone(alloc, ChangeMembers::SetNodes(nodes(alloc, "3=30")?))?);
+    assert!(rt; has_equal_clone(alloc, ChangeMembers::RemoveNodes(ids(alloc, "3")?))?);
+    assert!(rt; has_equal_clone(alloc, ChangeMembers::ReplaceAllNodes(nodes(alloc, "3=30")?))?);
     Ok(())
 }
 
@@ -153,35 +94,48 @@ impl NodeDefault for Address {
     ghost one_default = { λ a b h k. rw (h, k) refl };
 }
 
+/// One voter, at the default address.
+fn one_voter(alloc: Global) -> Result<Membership<u64, Address>, AllocError> {
+    Membership::new(configs(alloc, "1")?, ())
+}
+
+/// A node at an address.
+fn there(alloc: Global) -> Result<BTreeMap<u64, Address>, AllocError> {
+    let mut nodes = BTreeMap::new(alloc);
+    let text = String::from_str(alloc, "there")?;
+    nodes.insert(2, Address { text })?;
+    Ok(nodes)
+}
+
 #[test]
 fn a_node_may_hold_a_text(rt: HostRuntime) -> Result<(), Fail> {
-    let alloc = rt.alloc();
-    let configs = vec![in alloc; set_of(alloc, &[1])?]?;
-    let from: Membership<u64, Address> = Membership::new(configs, ())?;
-    let mut nodes = BTreeMap::new(alloc);
-    let there = Address {
-        text: format!(in alloc; "there")?,
-    };
-    nodes.insert(2, there)?;
-    let more = from.change(ChangeMembers::AddVoters(nodes), true)?;
-    assert!(rt; more.get_node(&1).is_some_and(|node| node.text.is_empty()));
-    assert!(rt; more.get_node(&2).is_some_and(|node| node.text.as_str() == "there"));
-    assert_eq!(rt; more.voter_ids()?.len(), 2);
+    let from = one_voter(rt.alloc())?;
+    let made = from.change(ChangeMembers::AddVoters(there(rt.alloc())?), true)?;
+    assert!(rt; made.get_node(&1).is_some_and(|node| node.text.is_empty()));
+    assert!(rt;
+        made.get_node(&2)
+            .is_some_and(|node| node.text.as_str() == "there")
+    );
     Ok(())
 }
 
 #[test]
 fn refusals_print(rt: HostRuntime) -> Result<(), Fail> {
     let alloc = rt.alloc();
-    let missing: ChangeMembershipError<u64> = ChangeMembershipError::LearnerNotFound(LearnerNotFound {
-        node_id: 4,
-    });
+    let missing: ChangeMembershipError<u64> = ChangeMembershipError::LearnerNotFound(
+        LearnerNotFound { node_id: 4 },
+    );
     assert_eq!(rt;
         format!(in alloc; "{missing}")?.as_str(),
         "Learner 4 not found: add it as learner before adding it as a voter"
     );
-    let empty: ChangeMembershipError<u64> = ChangeMembershipError::EmptyMembership(EmptyMembership {});
-    assert_eq!(rt; format!(in alloc; "{empty}")?.as_str(), "new membership can not be empty");
+    let empty: ChangeMembershipError<u64> = ChangeMembershipError::EmptyMembership(
+        EmptyMembership {},
+    );
+    assert_eq!(rt;
+        format!(in alloc; "{empty}")?.as_str(),
+        "new membership can not be empty"
+    );
     let memory: ChangeMembershipError<u64> = ChangeMembershipError::OutOfMemory;
     assert_eq!(rt; format!(in alloc; "{memory}")?.as_str(), "out of memory");
     let id = LogId::new(CommittedLeaderId::new(1, 2u64), 3);

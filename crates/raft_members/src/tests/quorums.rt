@@ -1,11 +1,19 @@
-use super::set_of;
 use crate::quorum::{AsJoint, Coherent, FindCoherent, Joint, QuorumSet, laws};
+use std::alloc::{AllocError, Global};
 use std::collections::BTreeSet;
 use std::rc::Rc;
 use std::test::Fail;
 
 /// Two configs of a cluster as one.
 type Configs = Joint<u64, Vec<u64>, Vec<Vec<u64>>>;
+
+fn set_of(alloc: Global, ids: &[u64]) -> Result<BTreeSet<u64>, AllocError> {
+    let mut set = BTreeSet::new(alloc);
+    for id in ids {
+        set.insert(*id)?;
+    }
+    Ok(set)
+}
 
 #[test]
 fn a_quorum_is_more_than_half(rt: HostRuntime) -> Result<(), Fail> {
