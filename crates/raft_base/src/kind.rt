@@ -10,7 +10,7 @@ ghost use Rattle.std.specs.Cmp.{IsPartialOrder};
 ghost use Rattle.std.specs.Ordering.{nat_cmp, is_gt, partial_le};
 ghost use Rattle.raft_base.specs.LeaderOrder.{IncomparableAlike};
 
-use crate::leader_id::LeaderId;
+use crate::leader_id::{CommittedLeaderId, LeaderId};
 use crate::node::NodeId;
 use std::cmp::Ordering;
 use std::fmt::{Debug, Display};
@@ -72,13 +72,16 @@ pub trait LeaderIdentity: Eq + Copy + Default + Debug + Display + 'static {
     ghost partial: { IsPartialOrder Self.eq order };
 
     /// Leaders of different terms compare as their terms.
-    ghost by_term: { (a b : Self) → term_of a ≢ term_of b → order a b ≡ Some (nat_cmp (term_of a) (term_of b)) };
+    ghost by_term: { (a b : Self) → term_of a ≢ term_of b
+        → order a b ≡ Some (nat_cmp (term_of a) (term_of b)) };
 
     /// What is kept of a leader is not above what is kept of a leader that is no lesser one.
-    ghost rises: { (a b : Self) → IsTrue (partial_le order a b) → is_gt (Self.Committed.cmp (committed a) (committed b)) ≡ false };
+    ghost rises: { (a b : Self) → IsTrue (partial_le order a b)
+        → is_gt (Self.Committed.cmp (committed a) (committed b)) ≡ false };
 
     /// The leader that a node is in a term has that term and is that node's.
-    ghost made: { (t : ℕ) (n : Self.Id) → (term_of (leader_of t n) ≡ t) × (voted (leader_of t n) ≡ Some n) };
+    ghost made: { (t : ℕ) (n : Self.Id)
+        → (term_of (leader_of t n) ≡ t) × (voted (leader_of t n) ≡ Some n) };
 
     /// Leaders that do not compare stand on the same side of each third one.
     ghost incomparable: { IncomparableAlike order };
@@ -148,13 +151,13 @@ pub struct LeaderAdv;
 impl<NID: NodeId> LeaderKind<NID> for LeaderAdv {
     type Leader = LeaderId<NID>;
 
-    type Committed = LeaderId<NID>;
+    type Committed = CommittedLeaderId<NID>;
 }
 
 impl<NID: NodeId> LeaderIdentity for LeaderId<NID> {
     type Id = NID;
 
-    type Committed = LeaderId<NID>;
+    type Committed = CommittedLeaderId<NID>;
 
     ghost use Rattle.raft_base.specs.LeaderId.{leader_id_cmp};
     ghost use Rattle.raft_base.specs.LeaderIdLaws.{term_then_node-partial, first_decides, apart, le_not_gt, never_none};
@@ -174,11 +177,11 @@ impl<NID: NodeId> LeaderIdentity for LeaderId<NID> {
     }
 
     fn new_leader(term: u64, id: NID) -> Self {
-        LeaderId::new(term, id)
+        Self::new(term, id)
     }
 
-    fn new_committed(term: u64, id: NID) -> LeaderId<NID> {
-        LeaderId::new(term, id)
+    fn new_committed(term: u64, id: NID) -> CommittedLeaderId<NID> {
+        CommittedLeaderId::new(term, id)
     }
 
     fn term(leader: &Self) -> u64 {
@@ -189,11 +192,11 @@ impl<NID: NodeId> LeaderIdentity for LeaderId<NID> {
         leader.voted_for()
     }
 
-    fn to_committed(leader: &Self) -> LeaderId<NID> {
+    fn to_committed(leader: &Self) -> CommittedLeaderId<NID> {
         leader.to_committed()
     }
 
-    fn is_same_as_committed(leader: &Self, other: &LeaderId<NID>) -> bool {
+    fn is_same_as_committed(leader: &Self, other: &CommittedLeaderId<NID>) -> bool {
         leader.is_same_as_committed(other)
     }
 

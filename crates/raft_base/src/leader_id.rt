@@ -8,8 +8,9 @@ use std::fmt;
 
 /// Identifies a leader: the term, and the node that leads in it.
 ///
-/// Compared by term, then by node id. So two candidates of one term compare too, and the greater
-/// may still be granted where Raft's own leader ids would leave the term without a leader.
+/// Compared by term, then by node id. So any two candidates compare, and where the votes of a term
+/// are split, a candidate of a greater node id can still win that term. In standard Raft, where a
+/// node votes once in a term, such a term stays without a leader.
 #[derive(Debug, Clone, Copy, Default, PartialEq, Eq, PartialOrd, Ord)]
 pub struct LeaderId<NID: NodeId> {
     /// The term in which the node leads or means to lead.

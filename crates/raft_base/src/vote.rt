@@ -96,7 +96,8 @@ impl<L: LeaderIdentity> VoteIn<L> {
     /// In term 0 it need not be granted. There the first entry of a new cluster is written, before
     /// anyone could vote.
     pub fn committed_leader_id(&self) -> Option<L::Committed>
-        ensures { result ≡ (if self.now.committed || (L.term_of self.now.leader_id == 0) then Some (L.committed self.now.leader_id) else None) }
+        ensures { result ≡ (if self.now.committed || (L.term_of self.now.leader_id == 0)
+            then Some (L.committed self.now.leader_id) else None) }
     {
         if self.is_committed() || L::term(self.leader_id()) == 0 {
             Some(L::to_committed(self.leader_id()))

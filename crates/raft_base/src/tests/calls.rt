@@ -1,15 +1,18 @@
 // Callers, whose contracts show how much the contracts of this crate tell them.
 ghost use Rattle.std.specs.Prelude.{◌≡◌, ◌&&◌, true, false, Some, IsTrue, IfOk};
-ghost use Rattle.std.specs.Ordering.{is_ge, partial_ge};
+ghost use Rattle.std.specs.Ordering.{is_ge, is_gt, partial_ge};
 ghost use Rattle.std.specs.Option.{option_cmp};
 ghost use Rattle.raft_base.specs.LogId.{log_id_cmp};
 ghost use Rattle.raft_base.specs.Vote.{vote_cmp};
 
+use crate::order::compare_optional_log_ids;
 use crate::{
     CommittedLeaderId, EmptyNode, LeaderAdv, LeaderId, LeaderKind, LogId, LogIdOf, Node,
     NodeDefault, NodeId, RaftLogId, RaftLogIdOf, Vote, VoteOf,
 };
 use std::alloc::{AllocError, Global};
+use std::cmp::Ordering;
+use std::fmt;
 use std::test::Fail;
 
 /// What a node has promised, over any kind of leader ids.
@@ -26,7 +29,8 @@ fn grant<NID: NodeId, K: LeaderKind<NID>>(
     vote: VoteOf<NID, K>,
     last_log_id: Option<LogIdOf<K::Committed>>,
 ) -> bool
-    ensures rule { result ≡ (partial_ge (vote_cmp K.Leader.order) vote promise.old.vote && is_ge (option_cmp (log_id_cmp K.Committed.cmp) last_log_id promise.old.last_log_id)) }
+    ensures rule { result ≡ (partial_ge (vote_cmp K.Leader.order) vote promise.old.vote
+        && is_ge (option_cmp (log_id_cmp K.Committed.cmp) last_log_id promise.old.last_log_id)) }
     ensures granted { IsTrue result → promise.new ≡ record promise.old { vote = vote } }
     ensures refused { result ≡ false → promise.new ≡ promise.old }
 {
@@ -36,6 +40,19 @@ fn grant<NID: NodeId, K: LeaderKind<NID>>(
     } else {
         false
     }
+}
+
+/// Of log ids that stand in turn the first is not past the last.
+fn in_turn<C: Ord>(
+    a: &Option<LogIdOf<C>>,
+    b: &Option<LogIdOf<C>>,
+    c: &Option<LogIdOf<C>>,
+) -> Ordering
+    requires first { is_gt (option_cmp (log_id_cmp C.cmp) a.now b.now) ≡ false }
+    requires second { is_gt (option_cmp (log_id_cmp C.cmp) b.now c.now) ≡ false }
+    ensures { is_gt result ≡ false }
+{
+    compare_optional_log_ids(a, c)
 }
 
 /// The leader under which a node may append, if there is one, and the first id that it gives.
@@ -100,6 +117,20 @@ fn payload_stays(entry: &mut Entry, id: LogId<u64>)
     renumber(entry, &id);
 }
 
+/// A node id of two numbers.
+#[derive(Debug, Clone, Copy, Default, PartialEq, Eq, PartialOrd, Ord, Hash)]
+struct Rack {
+    row: u8,
+    place: u8,
+}
+
+impl fmt::Display for Rack {
+    fn fmt<W: fmt::Write>(&self, f: &mut fmt::Formatter<W>) -> fmt::Result {
+        let Rack { row, place } = self;
+        write!(f, "{row}/{place}")
+    }
+}
+
 /// A node with an address.
 #[derive(Debug, Clone, PartialEq, Eq, Drop)]
 struct Addressed {
@@ -155,6 +186,30 @@ fn a_vote_is_granted_once(rt: HostRuntime) -> Result<(), Fail> {
 }
 
 #[test]
+fn any_node_id_will_do(rt: HostRuntime) -> Result<(), Fail> {
+    let near = Rack { row: 1, place: 9 };
+    let far = Rack { row: 2, place: 0 };
+    let vote = Vote::new(1, far);
+    assert!(rt; LeaderId::new(1, near) < LeaderId::new(1, far));
+    assert!(rt; LeaderId::new(2, near) > LeaderId::new(1, far));
+    assert!(rt; Vote::new_committed(1, near) < vote);
+    assert_eq!(rt; vote.leader_id().voted_for(), Some(far));
+    assert_eq!(rt;
+        format!(in rt.alloc(); "{vote}")?.as_str(),
+        "T1-N2/0:uncommitted"
+    );
+    Ok(())
+}
+
+#[test]
+fn log_ids_stand_in_turn(rt: HostRuntime) -> Result<(), Fail> {
+    let first = Some(LogId::new(LeaderId::new(1, 2u64), 3));
+    let last = Some(LogId::new(LeaderId::new(2, 1u64), 3));
+    assert_eq!(rt; in_turn(&None, &first, &last), Ordering::Less);
+    Ok(())
+}
+
+#[test]
 fn an_entry_is_renumbered(rt: HostRuntime) -> Result<(), Fail> {
     let id = LogId::new(LeaderId::new(1, 2u64), 3);
     let mut entry = Entry {
@@ -173,6 +228,7 @@ fn an_entry_is_renumbered(rt: HostRuntime) -> Result<(), Fail> {
 fn nodes_have_defaults(rt: HostRuntime) -> Result<(), Fail> {
     assert_eq!(rt; zero(rt.alloc())?, 0);
     assert_eq!(rt; any_default::<u64>(rt.alloc())?, 0);
+    assert_eq!(rt; any_default::<()>(rt.alloc())?, ());
     assert_eq!(rt; any_default::<EmptyNode>(rt.alloc())?, EmptyNode {});
     assert_eq!(rt; any_default::<Addressed>(rt.alloc())?.address.as_str(), "");
     Ok(())
