@@ -1,1 +1,12 @@
 pub mod MajorityCounts
+pub mod Meeting
+pub mod Clones
+pub mod Ascending
+pub mod Mapped
+pub mod Granted
+pub mod Missing
+pub mod Said
+pub mod Twice
+pub mod Added
+pub mod Kept
+pub mod DefaultsMade

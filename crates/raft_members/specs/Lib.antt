@@ -1,2 +1,17 @@
 pub mod Majority
 pub mod MajorityLaws
+pub mod Coherence
+pub mod Meeting
+pub mod MemberList
+pub mod Members
+pub mod MembersLaws
+pub mod Valid
+pub mod Change
+pub mod ReplaceAll
+pub mod SameChange
+pub mod Refusal
+pub mod Reached
+pub mod Defaults
+pub mod Learners
+pub mod Stored
+pub mod StoredLaws

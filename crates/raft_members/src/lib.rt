@@ -1,6 +1,20 @@
-//! Who decides in a Raft cluster: which sets of nodes are quorums.
+//! Who decides in a Raft cluster: which sets of nodes are quorums, which nodes are members, and how
+//! both change.
 #![tactic(auto)]
 
+pub mod change_members;
+pub mod error;
+pub mod membership;
 pub mod quorum;
 #[cfg(test)]
 mod tests;
+
+pub use change_members::ChangeMembers;
+pub use error::{
+    ChangeMembershipError, ChangeMembershipErrorOf, EmptyMembership, InProgress, InProgressOf,
+    LearnerNotFound,
+};
+pub use membership::{
+    EffectiveMembership, EffectiveMembershipOf, IntoNodes, LearnerIds, Membership,
+    StoredMembership, StoredMembershipOf,
+};

@@ -1,4 +1,5 @@
-//! Lists and sets of voters as quorum sets: a quorum has more than half of the voters.
+//! Lists and sets of voters as quorum sets: a quorum has more than half of the voters. Shared quorum
+//! sets.
 ghost use Rattle.std.specs.Prelude.{◌≡◌, IfOk, count_by};
 ghost use Rattle.std.specs.List.{IsDistinct, list_any};
 ghost use Rattle.std.specs.Set.{is_member};
@@ -10,6 +11,7 @@ ghost use Rattle.raft_members.specs.MajorityLaws.{is_majority-superset};
 use super::quorum_set::QuorumSet;
 use std::alloc::{AllocError, Global};
 use std::collections::BTreeSet;
+use std::rc::Rc;
 
 /// More than half of the vector's length; a repeated voter adds to the length and counts once.
 impl<ID: Copy + Ord> QuorumSet<ID> for Vec<ID> {
@@ -59,6 +61,23 @@ impl<ID: Copy + Ord> QuorumSet<ID> for BTreeSet<ID> {
 
     fn ids(&self, alloc: Global) -> Result<Vec<ID>, AllocError> {
         self.iter().copied().collect(alloc)
+    }
+}
+
+/// A shared quorum set is that quorum set.
+impl<ID: Copy + Ord, T: QuorumSet<ID> + Drop> QuorumSet<ID> for Rc<T> {
+    ghost has_quorum = { λ q s. T.has_quorum q.value s };
+
+    ghost is_voter = { λ q x. T.is_voter q.value x };
+
+    ghost superset = { λ q. T.superset q.value };
+
+    fn is_quorum(&self, ids: &[ID]) -> bool {
+        (**self).is_quorum(ids)
+    }
+
+    fn ids(&self, alloc: Global) -> Result<Vec<ID>, AllocError> {
+        (**self).ids(alloc)
     }
 }
 

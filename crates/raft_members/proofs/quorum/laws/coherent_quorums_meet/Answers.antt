@@ -1,0 +1,5 @@
+use Rattle.raft_members.proofs.Meeting.{coherent_meet}
+use Rattle.raft_members.proofs.quorum.laws.coherent_quorums_meet.Goals as goal
+
+pub returns : goal.returns
+returns g c = coherent_meet g.met.ID.Eq.laws

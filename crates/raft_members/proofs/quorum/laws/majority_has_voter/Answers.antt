@@ -1,0 +1,5 @@
+use Rattle.raft_members.proofs.Meeting.{majority_member}
+use Rattle.raft_members.proofs.quorum.laws.majority_has_voter.Goals as goal
+
+pub returns : goal.returns
+returns g c = majority_member g.met.ID.Eq.laws

@@ -1,0 +1,5 @@
+use Rattle.raft_members.proofs.Meeting.{quorums_meet}
+use Rattle.raft_members.proofs.quorum.laws.quorums_meet.Goals as goal
+
+pub returns : goal.returns
+returns g c = quorums_meet g.met.ID.Eq.laws

@@ -1,0 +1,33 @@
+-- What a membership says: its configs, and the node at each id.
+pub use Rattle.raft_members.specs.MemberList.{MemberList}
+use Rattle.std.specs.Prelude.{◌≡◌, ◌&&◌, Bool, Option, List, IsTrue}
+use Rattle.std.specs.Cmp.Lexicographic.{pointwise}
+use Rattle.std.specs.declared.cmp.Ordering.{Ordering}
+use Rattle.std.specs.Map.{lookup}
+use Rattle.std.specs.Option.{option_eq}
+use Rattle.std.specs.BTreeMap.{is_at}
+
+-- the configs, each as its ids in order, and the node at each id
+pub record Members (K N : Type 0) : Type 0 where
+  pub configs : List (List K)
+  pub node : K → Option N
+
+-- the node at an id, in a list of nodes
+abbrev pub node_at : {K N : Type 0} → (K → K → Ordering) → List (K × N) → K → Option N
+node_at cmp nodes id = lookup (is_at (cmp id)) nodes
+
+-- what a membership says
+abbrev pub members_of : {K N : Type 0} → (K → K → Ordering) → MemberList K N → Members K N
+members_of cmp m = record { configs = m.configs; node = node_at cmp m.nodes }
+
+-- the membership has exactly these configs, and at each id an equal node or, like them, none
+abbrev pub Says : {K N : Type 0} → (N → N → Bool) → (K → K → Ordering) → MemberList K N → Members K N → Type 0
+Says {K} same cmp m w = (m.configs ≡ w.configs) × ((id : K) → IsTrue (option_eq same (node_at cmp m.nodes id) (w.node id)))
+
+-- two lists of nodes are equal: the same ids, with equal nodes
+abbrev pub same_nodes : {K N : Type 0} → (K → K → Bool) → (N → N → Bool) → List (K × N) → List (K × N) → Bool
+same_nodes eq same xs ys = pointwise (λ x y. eq x.0 y.0 && same x.1 y.1) xs ys
+
+-- two memberships are equal: equal configs and equal nodes
+abbrev pub same_members : {K N : Type 0} → (K → K → Bool) → (N → N → Bool) → MemberList K N → MemberList K N → Bool
+same_members eq same m w = pointwise (pointwise eq) m.configs w.configs && same_nodes eq same m.nodes w.nodes

@@ -1,0 +1,79 @@
+//! Changes of a membership.
+ghost use Rattle.std.specs.Prelude.{IfOk};
+ghost use Rattle.std.specs.Set.{ClonesAreEqual};
+
+use crate::membership::{ids, nodes};
+use crate::quorum::sorted_ids;
+use raft_base::{Node, NodeId};
+use std::alloc::{AllocError, Global};
+use std::collections::{BTreeMap, BTreeSet};
+
+/// A change of the voters or of the nodes of a membership.
+///
+/// A change of voters starts from the last config and leads to a goal, in one step or in two.
+#[derive(Debug, Clone, PartialEq, Eq, Drop)]
+pub enum ChangeMembers<NID: NodeId, N: Node> {
+    /// Makes learners voters. Each has to have a node.
+    AddVoterIds(BTreeSet<NID>),
+    /// Makes nodes voters, and adds those whose ids have none.
+    AddVoters(BTreeMap<NID, N>),
+    /// Takes voters away. Ids that are no voters are ignored.
+    RemoveVoters(BTreeSet<NID>),
+    /// Makes these the voters in place of all others.
+    ReplaceAllVoters(BTreeSet<NID>),
+    /// Adds nodes as learners. A node that is there stays as it is.
+    AddNodes(BTreeMap<NID, N>),
+    /// Adds nodes, or puts them in place of those that are there.
+    SetNodes(BTreeMap<NID, N>),
+    /// Takes nodes away. They must be no voters.
+    RemoveNodes(BTreeSet<NID>),
+    /// Makes these the nodes in place of all others.
+    ReplaceAllNodes(BTreeMap<NID, N>),
+}
+
+impl<NID: NodeId, N: Node> ChangeMembers<NID, N> {
+    ghost use Rattle.raft_members.specs.ReplaceAll.{ReplacesAllBy};
+    ghost use Rattle.raft_members.specs.SameChange.{IsSameChange};
+
+    /// The change that makes these ids the voters in place of all others. Repeated ids count once.
+    pub fn replace_all(alloc: Global, voters: &[NID]) -> Result<Self, AllocError>
+        ensures { IfOk result (λ change. ReplacesAllBy NID.eq voters.now change) }
+    {
+        let voters = sorted_ids(alloc, voters)?;
+        let ids = ids::set_of(alloc, &voters)?;
+        Ok(ChangeMembers::ReplaceAllVoters(ids))
+    }
+
+    /// An equal change, with clones of the nodes.
+    pub fn try_clone(&self, alloc: Global) -> Result<Self, AllocError>
+        requires { ClonesAreEqual N.eq N.is_clone }
+        ensures { IfOk result (IsSameChange NID.eq N.eq self.now) }
+    {
+        match self {
+            ChangeMembers::AddVoterIds(ids) => {
+                Ok(ChangeMembers::AddVoterIds(ids::copy(alloc, ids)?))
+            }
+            ChangeMembers::AddVoters(nodes) => {
+                Ok(ChangeMembers::AddVoters(nodes::copy(alloc, nodes)?))
+            }
+            ChangeMembers::RemoveVoters(ids) => {
+                Ok(ChangeMembers::RemoveVoters(ids::copy(alloc, ids)?))
+            }
+            ChangeMembers::ReplaceAllVoters(ids) => {
+                Ok(ChangeMembers::ReplaceAllVoters(ids::copy(alloc, ids)?))
+            }
+            ChangeMembers::AddNodes(nodes) => {
+                Ok(ChangeMembers::AddNodes(nodes::copy(alloc, nodes)?))
+            }
+            ChangeMembers::SetNodes(nodes) => {
+                Ok(ChangeMembers::SetNodes(nodes::copy(alloc, nodes)?))
+            }
+            ChangeMembers::RemoveNodes(ids) => {
+                Ok(ChangeMembers::RemoveNodes(ids::copy(alloc, ids)?))
+            }
+            ChangeMembers::ReplaceAllNodes(nodes) => {
+                Ok(ChangeMembers::ReplaceAllNodes(nodes::copy(alloc, nodes)?))
+            }
+        }
+    }
+}

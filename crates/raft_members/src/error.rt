@@ -1,0 +1,64 @@
+//! Why a change of a membership is refused.
+ghost use Rattle.std.specs.Prelude.{◌≡◌};
+
+use raft_base::{CommittedLeaderId, LogIdOf, NodeId};
+use std::alloc::AllocError;
+use std::fmt::Debug;
+use thiserror::Error;
+
+/// Why a change of a membership is refused.
+#[derive(Debug, Clone, PartialEq, Eq, Drop, Error)]
+pub enum ChangeMembershipErrorOf<C: Ord + Copy + Default + Debug, NID: NodeId> {
+    /// An earlier change is not committed yet.
+    #[error(transparent)]
+    InProgress(#[from] InProgressOf<C>),
+    /// A config would be empty.
+    #[error(transparent)]
+    EmptyMembership(#[from] EmptyMembership),
+    /// A voter would have no node.
+    #[error(transparent)]
+    LearnerNotFound(#[from] LearnerNotFound<NID>),
+    /// A growth was refused.
+    #[error("out of memory")]
+    OutOfMemory,
+}
+
+/// Why a change of a membership is refused, with the default leader ids.
+pub type ChangeMembershipError<NID> = ChangeMembershipErrorOf<CommittedLeaderId<NID>, NID>;
+
+/// An earlier change of the membership is not committed yet.
+#[derive(Debug, Clone, PartialEq, Eq, Drop, Error)]
+#[error("the cluster is already undergoing a configuration change at log {membership_log_id:?}, last committed membership log id: {committed:?}")]
+pub struct InProgressOf<C: Ord + Copy + Default + Debug> {
+    /// The log id of the last committed membership.
+    pub committed: Option<LogIdOf<C>>,
+    /// The log id of the membership that is not committed yet.
+    pub membership_log_id: Option<LogIdOf<C>>,
+}
+
+/// An earlier change is not committed yet, with the default leader ids.
+pub type InProgress<NID> = InProgressOf<CommittedLeaderId<NID>>;
+
+/// A config would have no voters.
+#[derive(Debug, Clone, PartialEq, Eq, Drop, Error)]
+#[error("new membership can not be empty")]
+pub struct EmptyMembership {}
+
+/// A voter would have no node: it has to be a learner first.
+#[derive(Debug, Clone, PartialEq, Eq, Drop, Error)]
+#[error("Learner {node_id} not found: add it as learner before adding it as a voter")]
+pub struct LearnerNotFound<NID: NodeId> {
+    /// The least such voter.
+    pub node_id: NID,
+}
+
+impl<C: Ord + Copy + Default + Debug, NID: NodeId> From<AllocError>
+    for ChangeMembershipErrorOf<C, NID> {
+    ghost use Rattle.raft_members.specs.declared.error.ChangeMembershipErrorOf.TheVariants.{OutOfMemory};
+
+    ghost from_gives = { λ _ e. e ≡ OutOfMemory };
+
+    fn from(_refused: AllocError) -> Self {
+        ChangeMembershipErrorOf::OutOfMemory
+    }
+}

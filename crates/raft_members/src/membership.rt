@@ -1,0 +1,279 @@
+//! Memberships: which nodes vote, in one config or in several, and which nodes are known.
+ghost use Rattle.std.specs.Prelude.{◌≡◌, Bool, List, [], ◌∷◌, IfOk, IfErr, IsTrue, true, false, map, None, is_some, is_err, ◌&&◌, nat_lt, length};
+ghost use Rattle.std.specs.Option.{option_copied, option_eq, option_or};
+ghost use Rattle.std.specs.List.{list_any, list_all};
+ghost use Rattle.std.specs.List.Sorted.{IsStrictlySortedBy};
+ghost use Rattle.std.specs.Set.{ClonesAreEqual, is_member};
+ghost use Rattle.std.specs.Map.{keys_of};
+ghost use Rattle.std.specs.BTreeMap.{get, keys};
+ghost use Rattle.std.specs.Cmp.{partial_equiv_from_equiv};
+ghost use Rattle.std.specs.Cmp.Lexicographic.{pointwise};
+ghost use Rattle.raft_members.specs.MembersLaws.{same_members-equiv};
+ghost use Rattle.raft_members.specs.Majority.{is_majority, is_joint_majority, is_voter_of};
+ghost use Rattle.raft_members.specs.Members.{MemberList, node_at, members_of, same_nodes, same_members};
+ghost use Rattle.raft_members.specs.Valid.{has_empty_config, FirstWithoutNode, IsValid};
+ghost use Rattle.raft_members.specs.Refusal.{err_of, IsRefusal};
+ghost use Rattle.raft_members.specs.Defaults.{WithDefault};
+ghost use Rattle.raft_members.specs.Learners.{learners_among, learners_ahead};
+ghost use Rattle.raft_members.specs.declared.error.ChangeMembershipErrorOf.TheVariants.{OutOfMemory};
+
+mod change;
+mod configs;
+mod defaults;
+mod effective;
+pub(crate) mod ids;
+mod into_nodes;
+pub mod laws;
+mod learner_ids;
+pub(crate) mod nodes;
+mod stored;
+
+use crate::error::{ChangeMembershipError, EmptyMembership, LearnerNotFound};
+use crate::quorum::Joint;
+pub use effective::{EffectiveMembership, EffectiveMembershipOf};
+pub use into_nodes::IntoNodes;
+pub use learner_ids::LearnerIds;
+use raft_base::{Node, NodeId};
+use std::alloc::{AllocError, Global};
+use std::collections::btree_map::Iter;
+use std::collections::{BTreeMap, BTreeSet};
+use std::marker::Model;
+pub use stored::{StoredMembership, StoredMembershipOf};
+
+/// The members of a cluster: its configs, each a set of voters, and the node at each id.
+///
+/// Decisions need a majority of every config. There is one config, or while the voters change more
+/// than one: then the cluster is in joint consensus. A node that is in no config is a learner: it
+/// receives logs and has no say.
+///
+/// In contracts a membership is its two lists, the configs and the nodes in the order of their ids.
+/// Two memberships are equal if their configs and their nodes are.
+#[derive(Debug, Clone, Drop)]
+pub struct Membership<NID: NodeId, N: Node> {
+    configs: Vec<BTreeSet<NID>>,
+    nodes: BTreeMap<NID, N>,
+}
+
+impl<NID: NodeId, N: Node> Model for Membership<NID, N> {
+    ghost use Rattle.std.specs.Prelude.{map};
+    ghost use Rattle.raft_members.specs.MemberList.{MemberList};
+
+    ghost Value = { MemberList NID N };
+
+    ghost view = { λ a. record { configs = map (λ c. c.keys) a.configs.items; nodes = a.nodes.entries } };
+}
+
+impl<NID: NodeId, N: Node> Membership<NID, N> {
+    /// A membership of these configs and nodes, where a voter without a node has the default node.
+    pub fn new<T: IntoNodes<NID, N>>(
+        configs: Vec<BTreeSet<NID>>,
+        nodes: T,
+    ) -> Result<Self, AllocError>
+        ensures configs { IfOk result (λ m. m.configs ≡ map (λ c. c.keys) configs.items) }
+        ensures nodes { IfOk result (λ m. (given : List (NID × N)) × T.gives nodes given × ((id : NID) → WithDefault N.is_default_node (node_at NID.cmp given id) (is_voter_of NID.eq (map (λ c. c.keys) configs.items) id) (node_at NID.cmp m.nodes id))) }
+    {
+        let alloc = *configs.allocator();
+        let given = nodes.into_nodes(alloc)?;
+        let nodes = defaults::with_voters(given, alloc, &configs)?;
+        Ok(Membership { configs, nodes })
+    }
+
+    /// A membership of these configs and nodes, as they stand.
+    pub fn new_unchecked<T: IntoNodes<NID, N>>(
+        configs: Vec<BTreeSet<NID>>,
+        nodes: T,
+    ) -> Result<Self, AllocError>
+        ensures configs { IfOk result (λ m. m.configs ≡ map (λ c. c.keys) configs.items) }
+        ensures nodes { IfOk result (λ m. T.gives nodes m.nodes) }
+    {
+        let alloc = *configs.allocator();
+        let nodes = nodes.into_nodes(alloc)?;
+        Ok(Membership { configs, nodes })
+    }
+
+    /// A membership of these nodes, all of them voters of its only config.
+    pub fn from_nodes(alloc: Global, nodes: BTreeMap<NID, N>) -> Result<Self, AllocError>
+        ensures { IfOk result (λ m. m ≡ record { configs = keys nodes ∷ []; nodes = nodes.entries }) }
+    {
+        let mut configs = Vec::with_capacity(alloc, 1)?;
+        configs.push(ids::key_set(alloc, &nodes)?)?;
+        Ok(Membership { configs, nodes })
+    }
+
+    /// The membership without configs and nodes, in place of a `Default`, which has no allocator.
+    pub fn try_default(alloc: Global) -> Result<Self, AllocError>
+        ensures { IfOk result (λ m. m ≡ record { configs = []; nodes = [] }) }
+    {
+        Ok(Membership {
+            configs: Vec::new(alloc),
+            nodes: BTreeMap::new(alloc),
+        })
+    }
+
+    /// An equal membership, with clones of the nodes.
+    pub fn try_clone(&self) -> Result<Self, AllocError>
+        requires { ClonesAreEqual N.eq N.is_clone }
+        ensures equal { IfOk result (λ m. IsTrue (same_members NID.eq N.eq self.now m)) }
+        ensures configs { IfOk result (λ m. m.configs ≡ self.now.configs) }
+    {
+        let alloc = *self.configs.allocator();
+        let configs = configs::copy(alloc, &self.configs)?;
+        let nodes = nodes::copy(alloc, &self.nodes)?;
+        Ok(Membership { configs, nodes })
+    }
+
+    /// The old nodes, and copies of those new ones whose ids have no old node.
+    pub fn extend_nodes(
+        old: BTreeMap<NID, N>,
+        new: &BTreeMap<NID, N>,
+    ) -> Result<BTreeMap<NID, N>, AllocError>
+        requires { ClonesAreEqual N.eq N.is_clone }
+        ensures { IfOk result (λ nodes. (id : NID) → IsTrue (option_eq N.eq (get NID.cmp nodes id) (option_or (get NID.cmp old id) (get NID.cmp new.now id)))) }
+    {
+        nodes::added(old, new)
+    }
+
+    /// The configs.
+    pub fn get_joint_config(&self) -> &Vec<BTreeSet<NID>>
+        ensures { map (λ c. c.keys) result.now.items ≡ self.now.configs }
+    {
+        &self.configs
+    }
+
+    /// Whether there is more than one config.
+    pub fn is_in_joint_consensus(&self) -> bool
+        ensures { result ≡ nat_lt 1 (length self.now.configs) }
+    {
+        self.configs.len() > 1
+    }
+
+    /// The nodes, in the order of their ids.
+    pub fn nodes(&self) -> Iter<'_, NID, N>
+        ensures { result ≡ self.now.nodes }
+    {
+        self.nodes.iter()
+    }
+
+    /// The node at an id.
+    pub fn get_node(&self, id: &NID) -> Option<&N>
+        ensures { option_copied result ≡ node_at NID.cmp self.now.nodes id.now }
+    {
+        self.nodes.get(id)
+    }
+
+    /// Whether the id has a node, as a voter or as a learner.
+    pub fn contains(&self, id: &NID) -> bool
+        ensures { result ≡ is_some (node_at NID.cmp self.now.nodes id.now) }
+    {
+        self.nodes.contains_key(id)
+    }
+
+    /// Whether the id is in a config.
+    pub fn is_voter(&self, id: &NID) -> bool
+        ensures { result ≡ is_voter_of NID.eq self.now.configs id.now }
+    {
+        configs::has_id(&self.configs, id)
+    }
+
+    /// The voters of all configs, each once, ascending.
+    pub fn voter_ids(&self) -> Result<Vec<NID>, AllocError>
+        ensures ascending { IfOk result (λ ids. IsStrictlySortedBy NID.cmp ids.items) }
+        ensures voters { IfOk result (λ ids. (id : NID) → is_member NID.eq ids.items id ≡ is_voter_of NID.eq self.now.configs id) }
+    {
+        let alloc = *self.configs.allocator();
+        configs::voters(alloc, &self.configs)
+    }
+
+    /// The learners, each once, ascending: the nodes that are in no config.
+    pub fn learner_ids(&self) -> LearnerIds<'_, NID, N>
+        ensures { learners_ahead NID.eq result ≡ learners_among NID.eq self.now.configs (keys_of self.now.nodes) }
+    {
+        LearnerIds {
+            nodes: self.nodes.keys(),
+            configs: &self.configs,
+        }
+    }
+
+    /// The configs as one quorum set: a quorum has a majority of each.
+    pub fn to_quorum_set(&self) -> Result<Joint<NID, Vec<NID>, Vec<Vec<NID>>>, AllocError>
+        ensures configs { IfOk result (λ joint. map (λ c. c.items) joint.items ≡ self.now.configs) }
+        ensures quorums { IfOk result (λ joint. (set : NID → Bool) → list_all (λ c. is_majority NID.eq c.items set) joint.items ≡ is_joint_majority NID.eq self.now.configs set) }
+        ensures voters { IfOk result (λ joint. (id : NID) → list_any (λ c. is_member NID.eq c.items id) joint.items ≡ is_voter_of NID.eq self.now.configs id) }
+    {
+        let alloc = *self.configs.allocator();
+        let lists = configs::lists_of(alloc, &self.configs)?;
+        Ok(Joint::new(lists))
+    }
+
+    /// Refuses a membership of which a config is empty. No memory is taken.
+    pub fn ensure_non_empty_config(&self) -> Result<(), EmptyMembership>
+        ensures { is_err result ≡ has_empty_config self.now.configs }
+    {
+        if configs::has_empty(&self.configs) {
+            Err(EmptyMembership {})
+        } else {
+            Ok(())
+        }
+    }
+
+    /// Refuses a membership of which a voter has no node, and answers the least such voter. No
+    /// memory is taken.
+    pub fn ensure_voter_nodes(&self) -> Result<(), NID>
+        ensures { FirstWithoutNode NID.eq NID.cmp (members_of NID.cmp self.now) (err_of result) }
+    {
+        match nodes::least_missing(&self.configs, &self.nodes) {
+            Some(id) => Err(id),
+            None => Ok(()),
+        }
+    }
+
+    /// Refuses a membership of which a config is empty, else one of which a voter has no node. No
+    /// memory is taken.
+    pub fn ensure_valid(&self) -> Result<(), ChangeMembershipError<NID>>
+        ensures valid { IfOk result (λ _. IsValid NID.eq (members_of NID.cmp self.now)) }
+        ensures refused { IfErr result (λ e. IsRefusal NID.eq NID.cmp (members_of NID.cmp self.now) e) }
+        ensures no_memory { IfErr result (λ e. e ≡ OutOfMemory → ⊥) }
+    {
+        if let Err(refused) = self.ensure_non_empty_config() {
+            return Err(ChangeMembershipError::EmptyMembership(refused));
+        }
+        match self.ensure_voter_nodes() {
+            Err(node_id) => Err(ChangeMembershipError::LearnerNotFound(LearnerNotFound {
+                node_id,
+            })),
+            Ok(()) => Ok(()),
+        }
+    }
+}
+
+impl<NID: NodeId, N: Node> PartialEq for Membership<NID, N> {
+    ghost eq = { λ a b. same_members NID.eq N.eq a b };
+
+    ghost laws = { partial_equiv_from_equiv (same_members-equiv NID.Eq.laws N.Eq.laws) };
+
+    fn eq(&self, other: &Self) -> bool {
+        let configs = self.has_configs_of(other);
+        let nodes = self.has_nodes_of(other);
+        configs && nodes
+    }
+}
+
+impl<NID: NodeId, N: Node> Membership<NID, N> {
+    /// Whether the configs are equal.
+    fn has_configs_of(&self, other: &Self) -> bool
+        ensures { result ≡ pointwise (pointwise NID.eq) self.now.configs other.now.configs }
+    {
+        self.configs == other.configs
+    }
+
+    /// Whether the nodes are equal.
+    fn has_nodes_of(&self, other: &Self) -> bool
+        ensures { result ≡ same_nodes NID.eq N.eq self.now.nodes other.now.nodes }
+    {
+        self.nodes == other.nodes
+    }
+}
+
+impl<NID: NodeId, N: Node> Eq for Membership<NID, N> {
+    ghost laws = { same_members-equiv NID.Eq.laws N.Eq.laws };
+}

@@ -1,0 +1,138 @@
+//! How a membership changes.
+ghost use Rattle.std.specs.Prelude.{◌≡◌, ◌<◌, Bool, IfOk, IfErr, true, None, cond, length};
+ghost use Rattle.std.specs.Option.{option_or};
+ghost use Rattle.std.specs.Set.{ClonesAreEqual};
+ghost use Rattle.std.specs.BTreeMap.{get};
+ghost use Rattle.std.specs.BTreeSet.{contains};
+ghost use Rattle.raft_members.specs.Coherence.{is_coherent};
+ghost use Rattle.raft_members.specs.Members.{node_at, members_of, Says};
+ghost use Rattle.raft_members.specs.Valid.{IsValid};
+ghost use Rattle.raft_members.specs.Change.{next_members, with_nodes, changed};
+ghost use Rattle.raft_members.specs.Refusal.{IsRefusal, OnlyMemory, TwoChanges};
+
+use super::{Membership, configs, ids, nodes};
+use crate::change_members::ChangeMembers;
+use crate::error::ChangeMembershipError;
+use raft_base::{Node, NodeId};
+use std::alloc::AllocError;
+use std::collections::{BTreeMap, BTreeSet};
+
+impl<NID: NodeId, N: Node> Membership<NID, N> {
+    /// The membership that stands next on the way to the voters `goal`.
+    ///
+    /// Its configs are the goal alone where it is a config already or there are none, else the last
+    /// config and the goal: so it shares a config with this one, and a second step ends at the goal
+    /// alone. Without `retain` a voter that is in no new config loses its node too; with it, such a
+    /// voter becomes a learner.
+    pub fn next_coherent(&self, goal: BTreeSet<NID>, retain: bool) -> Result<Self, AllocError>
+        requires { ClonesAreEqual N.eq N.is_clone }
+        ensures { IfOk result (λ m. Says N.eq NID.cmp m (next_members NID.eq (members_of NID.cmp self.now) goal.keys retain)) }
+    {
+        let alloc = *self.configs.allocator();
+        let configs = configs::next(alloc, &self.configs, goal)?;
+        let nodes = nodes::kept(alloc, &self.nodes, &self.configs, &configs, retain)?;
+        Ok(Membership { configs, nodes })
+    }
+
+    /// The membership that a change makes of this one, which stays as it is.
+    ///
+    /// # Errors
+    ///
+    /// `EmptyMembership` where the change leaves a config without voters; else `LearnerNotFound`
+    /// with the least voter that it leaves without a node; `OutOfMemory` where a growth was refused.
+    pub fn change(
+        &self,
+        change: ChangeMembers<NID, N>,
+        retain: bool,
+    ) -> Result<Self, ChangeMembershipError<NID>>
+        requires { ClonesAreEqual N.eq N.is_clone }
+        ensures valid { IfOk result (λ m. IsValid NID.eq (changed NID.eq NID.cmp (members_of NID.cmp self.now) change retain)) }
+        ensures changed { IfOk result (λ m. Says N.eq NID.cmp m (changed NID.eq NID.cmp (members_of NID.cmp self.now) change retain)) }
+        ensures refused { IfErr result (λ e. IsRefusal NID.eq NID.cmp (changed NID.eq NID.cmp (members_of NID.cmp self.now) change retain) e) }
+        ensures coherent { IfOk result (λ m. 0 < length self.now.configs → is_coherent NID.eq self.now.configs m.configs ≡ true) }
+        ensures only_memory { IfErr result (λ e. OnlyMemory NID.eq (members_of NID.cmp self.now) change e) }
+        ensures two_changes { IfOk result (λ m. TwoChanges NID.eq NID.cmp (members_of NID.cmp self.now) change m) }
+    {
+        let next = self.changed(change, retain)?;
+        match next.ensure_valid() {
+            Ok(()) => Ok(next),
+            Err(refused) => Err(refused),
+        }
+    }
+
+    /// What a change makes of this membership, before it is tested.
+    fn changed(&self, change: ChangeMembers<NID, N>, retain: bool) -> Result<Self, AllocError>
+        requires { ClonesAreEqual N.eq N.is_clone }
+        ensures { IfOk result (λ m. Says N.eq NID.cmp m (changed NID.eq NID.cmp (members_of NID.cmp self.now) change retain)) }
+    {
+        let alloc = *self.configs.allocator();
+        match change {
+            ChangeMembers::AddVoterIds(ids) => {
+                let last = configs::last(alloc, &self.configs)?;
+                let goal = configs::union(alloc, &last, &ids)?;
+                Ok(self.next_coherent(goal, retain)?)
+            }
+            ChangeMembers::AddVoters(nodes) => {
+                let ids = ids::key_set(alloc, &nodes)?;
+                let last = configs::last(alloc, &self.configs)?;
+                let goal = configs::union(alloc, &last, &ids)?;
+                let widened = self.with_added(&nodes)?;
+                Ok(widened.next_coherent(goal, retain)?)
+            }
+            ChangeMembers::RemoveVoters(ids) => {
+                let last = configs::last(alloc, &self.configs)?;
+                let goal = configs::difference(alloc, &last, &ids)?;
+                Ok(self.next_coherent(goal, retain)?)
+            }
+            ChangeMembers::ReplaceAllVoters(ids) => Ok(self.next_coherent(ids, retain)?),
+            ChangeMembers::AddNodes(nodes) => Ok(self.with_added(&nodes)?),
+            ChangeMembers::SetNodes(nodes) => Ok(self.with_set(nodes)?),
+            ChangeMembers::RemoveNodes(ids) => Ok(self.without_nodes(&ids)?),
+            ChangeMembers::ReplaceAllNodes(nodes) => Ok(self.with_only(nodes)?),
+        }
+    }
+
+    /// The same configs, and among the nodes those of `more` whose ids have none.
+    fn with_added(&self, more: &BTreeMap<NID, N>) -> Result<Self, AllocError>
+        requires { ClonesAreEqual N.eq N.is_clone }
+        ensures { IfOk result (λ m. Says N.eq NID.cmp m (with_nodes (members_of NID.cmp self.now) (λ id. option_or (node_at NID.cmp self.now.nodes id) (get NID.cmp more.now id)))) }
+    {
+        let alloc = *self.configs.allocator();
+        let configs = configs::copy(alloc, &self.configs)?;
+        let copies = nodes::copy(alloc, &self.nodes)?;
+        let nodes = nodes::added(copies, more)?;
+        Ok(Membership { configs, nodes })
+    }
+
+    /// The same configs, and the nodes of `more` added or put in place.
+    fn with_set(&self, more: BTreeMap<NID, N>) -> Result<Self, AllocError>
+        requires { ClonesAreEqual N.eq N.is_clone }
+        ensures { IfOk result (λ m. Says N.eq NID.cmp m (with_nodes (members_of NID.cmp self.now) (λ id. option_or (get NID.cmp more id) (node_at NID.cmp self.now.nodes id)))) }
+    {
+        let alloc = *self.configs.allocator();
+        let configs = configs::copy(alloc, &self.configs)?;
+        let nodes = nodes::added(more, &self.nodes)?;
+        Ok(Membership { configs, nodes })
+    }
+
+    /// The same configs, without the nodes at the ids.
+    fn without_nodes(&self, ids: &BTreeSet<NID>) -> Result<Self, AllocError>
+        requires { ClonesAreEqual N.eq N.is_clone }
+        ensures { IfOk result (λ m. Says N.eq NID.cmp m (with_nodes (members_of NID.cmp self.now) (λ id. cond (contains NID.cmp ids.now id) None (node_at NID.cmp self.now.nodes id)))) }
+    {
+        let alloc = *self.configs.allocator();
+        let configs = configs::copy(alloc, &self.configs)?;
+        let mut nodes = nodes::copy(alloc, &self.nodes)?;
+        nodes::remove_all(&mut nodes, ids);
+        Ok(Membership { configs, nodes })
+    }
+
+    /// The same configs with these nodes.
+    fn with_only(&self, nodes: BTreeMap<NID, N>) -> Result<Self, AllocError>
+        ensures { IfOk result (λ m. Says N.eq NID.cmp m (with_nodes (members_of NID.cmp self.now) (get NID.cmp nodes))) }
+    {
+        let alloc = *self.configs.allocator();
+        let configs = configs::copy(alloc, &self.configs)?;
+        Ok(Membership { configs, nodes })
+    }
+}

@@ -1,0 +1,165 @@
+//! Lists of configs.
+ghost use Rattle.std.specs.Prelude.{◌≡◌, IfOk, map};
+ghost use Rattle.std.specs.List.{list_any};
+ghost use Rattle.std.specs.List.Sorted.{IsStrictlySortedBy};
+ghost use Rattle.std.specs.Set.{is_member};
+ghost use Rattle.std.specs.Ordering.{eq_by_cmp};
+ghost use Rattle.std.specs.Cmp.Lexicographic.{pointwise};
+ghost use Rattle.std.specs.BTreeSet.{contains};
+ghost use Rattle.raft_members.specs.Majority.{is_voter_of};
+ghost use Rattle.raft_members.specs.Coherence.{next_configs};
+ghost use Rattle.raft_members.specs.Valid.{is_empty_config, has_empty_config};
+ghost use Rattle.raft_members.specs.Change.{last_config, united, without};
+
+use super::ids;
+use crate::quorum::ids_of_each;
+use std::alloc::{AllocError, Global};
+use std::collections::BTreeSet;
+
+/// Whether a config has the id.
+pub fn has_id<ID: Copy + Ord>(configs: &[BTreeSet<ID>], id: &ID) -> bool
+    ensures { result ≡ is_voter_of ID.eq (map (λ c. c.keys) configs.now) id.now }
+{
+    any_contains(configs, id)
+}
+
+/// The same, of ids that are compared by their order.
+fn any_contains<ID: Copy + Ord>(configs: &[BTreeSet<ID>], id: &ID) -> bool
+    ensures { result ≡ list_any (λ c. contains ID.cmp c id.now) configs.now }
+{
+    configs.iter().any(|config| config.contains(id))
+}
+
+/// Whether a config equals `goal`.
+fn has_config<ID: Copy + Ord>(configs: &[BTreeSet<ID>], goal: &BTreeSet<ID>) -> bool
+    ensures { result ≡ list_any (λ c. pointwise ID.eq c.keys goal.now.keys) configs.now }
+{
+    configs.iter().any(|config| config == goal)
+}
+
+/// Whether a config has no ids.
+pub fn has_empty<ID: Copy + Ord>(configs: &[BTreeSet<ID>]) -> bool
+    ensures { result ≡ has_empty_config (map (λ c. c.keys) configs.now) }
+{
+    any_empty(configs)
+}
+
+/// The same, of configs as sets.
+fn any_empty<ID: Copy + Ord>(configs: &[BTreeSet<ID>]) -> bool
+    ensures { result ≡ list_any (λ c. is_empty_config c.keys) configs.now }
+{
+    configs.iter().any(|config| config.is_empty())
+}
+
+/// The last config, and the empty one where there is none.
+pub fn last<ID: Copy + Ord>(
+    alloc: Global,
+    configs: &[BTreeSet<ID>],
+) -> Result<BTreeSet<ID>, AllocError>
+    ensures { IfOk result (λ set. set.keys ≡ last_config (map (λ c. c.keys) configs.now)) }
+{
+    match configs.last() {
+        None => Ok(BTreeSet::new(alloc)),
+        Some(last) => ids::copy(alloc, last),
+    }
+}
+
+/// The configs that stand next on the way to `goal`.
+pub fn next<ID: Copy + Ord>(
+    alloc: Global,
+    configs: &[BTreeSet<ID>],
+    goal: BTreeSet<ID>,
+) -> Result<Vec<BTreeSet<ID>>, AllocError>
+    ensures { IfOk result (λ next. map (λ c. c.keys) next.items ≡ next_configs ID.eq (map (λ c. c.keys) configs.now) goal.keys) }
+{
+    let mut next = Vec::with_capacity(alloc, 2)?;
+    if has_config(configs, &goal) {
+        next.push(goal)?;
+        return Ok(next);
+    }
+    match configs.last() {
+        None => {
+            next.push(goal)?;
+            Ok(next)
+        }
+        Some(last) => {
+            next.push(ids::copy(alloc, last)?)?;
+            next.push(goal)?;
+            Ok(next)
+        }
+    }
+}
+
+/// The ids of either set.
+pub fn union<ID: Copy + Ord>(
+    alloc: Global,
+    these: &BTreeSet<ID>,
+    others: &BTreeSet<ID>,
+) -> Result<BTreeSet<ID>, AllocError>
+    ensures { IfOk result (λ set. set.keys ≡ united ID.cmp these.now.keys others.now.keys) }
+{
+    let list: Vec<ID> = these.union(others).copied().collect(alloc)?;
+    ids::set_of(alloc, &list)
+}
+
+/// The ids of the first set that the second lacks.
+pub fn difference<ID: Copy + Ord>(
+    alloc: Global,
+    these: &BTreeSet<ID>,
+    others: &BTreeSet<ID>,
+) -> Result<BTreeSet<ID>, AllocError>
+    ensures { IfOk result (λ set. set.keys ≡ without ID.eq these.now.keys others.now.keys) }
+{
+    ordered_difference(alloc, these, others)
+}
+
+/// The same, of ids that are compared by their order.
+fn ordered_difference<ID: Copy + Ord>(
+    alloc: Global,
+    these: &BTreeSet<ID>,
+    others: &BTreeSet<ID>,
+) -> Result<BTreeSet<ID>, AllocError>
+    ensures { IfOk result (λ set. set.keys ≡ without (eq_by_cmp ID.cmp) these.now.keys others.now.keys) }
+{
+    let list: Vec<ID> = these.difference(others).copied().collect(alloc)?;
+    ids::set_of(alloc, &list)
+}
+
+/// The same configs.
+pub fn copy<ID: Copy + Ord>(
+    alloc: Global,
+    configs: &[BTreeSet<ID>],
+) -> Result<Vec<BTreeSet<ID>>, AllocError>
+    ensures { IfOk result (λ copies. map (λ c. c.keys) copies.items ≡ map (λ c. c.keys) configs.now) }
+{
+    let mut copies = Vec::with_capacity(alloc, configs.len())?;
+    for config in configs {
+        copies.push(ids::copy(alloc, config)?)?;
+    }
+    Ok(copies)
+}
+
+/// The voters of all configs, each once, ascending.
+pub fn voters<ID: Copy + Ord>(
+    alloc: Global,
+    configs: &[BTreeSet<ID>],
+) -> Result<Vec<ID>, AllocError>
+    ensures ascending { IfOk result (λ ids. IsStrictlySortedBy ID.cmp ids.items) }
+    ensures voters { IfOk result (λ ids. (x : ID) → is_member ID.eq ids.items x ≡ is_voter_of ID.eq (map (λ c. c.keys) configs.now) x) }
+{
+    ids_of_each(alloc, configs)
+}
+
+/// The configs, each as the list of its ids in order.
+pub fn lists_of<ID: Copy + Ord>(
+    alloc: Global,
+    configs: &[BTreeSet<ID>],
+) -> Result<Vec<Vec<ID>>, AllocError>
+    ensures { IfOk result (λ lists. map (λ c. c.items) lists.items ≡ map (λ c. c.keys) configs.now) }
+{
+    let mut lists = Vec::with_capacity(alloc, configs.len())?;
+    for config in configs {
+        lists.push(ids::list_of(alloc, config)?)?;
+    }
+    Ok(lists)
+}

@@ -1,0 +1,55 @@
+//! Default nodes for ids that have none.
+ghost use Rattle.std.specs.Prelude.{◌≡◌, IfOk, OnOk, cond, map, Some};
+ghost use Rattle.std.specs.BTreeMap.{get, is_at};
+ghost use Rattle.std.specs.Set.{is_member};
+ghost use Rattle.raft_members.specs.Majority.{is_voter_of};
+ghost use Rattle.raft_members.specs.Defaults.{WithDefault};
+
+use super::configs;
+use raft_base::{Node, NodeId};
+use std::alloc::{AllocError, Global};
+use std::collections::{BTreeMap, BTreeSet};
+
+/// The nodes, and the default one at each voter that has none.
+pub fn with_voters<NID: NodeId, N: Node>(
+    nodes: BTreeMap<NID, N>,
+    alloc: Global,
+    configs: &[BTreeSet<NID>],
+) -> Result<BTreeMap<NID, N>, AllocError>
+    ensures { IfOk result (λ full. (id : NID) → WithDefault N.is_default_node (get NID.cmp nodes id) (is_voter_of NID.eq (map (λ c. c.keys) configs.now) id) (get NID.cmp full id)) }
+{
+    let voters = configs::voters(alloc, configs)?;
+    let full = with_defaults(nodes, alloc, &voters)?;
+    Ok(full)
+}
+
+/// The nodes, and the default one at each of the ids that has none.
+pub fn with_defaults<NID: NodeId, N: Node>(
+    nodes: BTreeMap<NID, N>,
+    alloc: Global,
+    ids: &[NID],
+) -> Result<BTreeMap<NID, N>, AllocError>
+    ensures { IfOk result (λ full. (id : NID) → WithDefault N.is_default_node (get NID.cmp nodes id) (is_member NID.eq ids.now id) (get NID.cmp full id)) }
+{
+    let mut full = nodes;
+    for id in ids {
+        if full.contains_key(id) {
+            continue;
+        }
+        put_default(&mut full, alloc, *id)?;
+    }
+    Ok(full)
+}
+
+/// Puts the default node at the id.
+fn put_default<NID: NodeId, N: Node>(
+    nodes: &mut BTreeMap<NID, N>,
+    alloc: Global,
+    id: NID,
+) -> Result<(), AllocError>
+    ensures { OnOk result ((made : N) × N.is_default_node made × ((q : NID) → get NID.cmp nodes.new q ≡ cond (is_at (NID.cmp id) q) (Some made) (get NID.cmp nodes.old q))) }
+{
+    let node = N::default_node(alloc)?;
+    let _old = nodes.insert(id, node)?;
+    Ok(())
+}

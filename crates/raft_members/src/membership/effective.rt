@@ -1,0 +1,257 @@
+//! The membership that is in effect.
+ghost use Rattle.std.specs.Prelude.{◌≡◌, Bool, true, false, ◌&&◌, IfOk, IsTrue, map, Some, None, [], nat_eq};
+ghost use Rattle.std.specs.List.{IsDistinct};
+ghost use Rattle.std.specs.List.Sorted.{IsStrictlySortedBy};
+ghost use Rattle.std.specs.Map.{keys_of};
+ghost use Rattle.std.specs.Option.{option_copied, option_eq};
+ghost use Rattle.std.specs.Set.{is_member, ClonesAreEqual};
+ghost use Rattle.std.specs.Cmp.{partial_equiv_from_equiv};
+ghost use Rattle.raft_members.specs.StoredLaws.{same_stored-equiv};
+ghost use Rattle.raft_members.specs.Majority.{is_voter_of, is_joint_majority};
+ghost use Rattle.raft_members.specs.MajorityLaws.{is_joint_majority-superset};
+ghost use Rattle.raft_members.specs.Learners.{learners_among, learners_ahead};
+ghost use Rattle.raft_members.specs.Members.{node_at};
+
+use super::ids::set_of;
+use super::learner_ids::LearnerIds;
+use super::stored::StoredMembershipOf;
+use super::{Membership, configs};
+use crate::quorum::{Joint, QuorumSet};
+use raft_base::{CommittedLeaderId, LogIdOf, Node, NodeId, RaftLogIdOf};
+use std::alloc::{AllocError, Global};
+use std::collections::{BTreeSet, btree_map, btree_set};
+use std::fmt;
+use std::marker::Model;
+use std::rc::Rc;
+
+/// The membership that is in effect: the last one that a node has seen, committed or not.
+///
+/// Beside the stored membership stand its configs as a quorum set and its voters as a set, so that
+/// a test of a quorum takes no memory. In contracts it is its stored membership. Two are equal if
+/// their stored memberships are, since the rest follows from it.
+#[derive(Drop)]
+pub struct EffectiveMembershipOf<C, NID: NodeId, N: Node> {
+    stored_membership: Rc<StoredMembershipOf<C, NID, N>>,
+    quorum_set: Joint<NID, Vec<NID>, Vec<Vec<NID>>>,
+    voter_ids: BTreeSet<NID>,
+}
+
+/// The membership that is in effect, with the default leader ids.
+pub type EffectiveMembership<NID, N> = EffectiveMembershipOf<CommittedLeaderId<NID>, NID, N>;
+
+impl<C, NID: NodeId, N: Node> Model for EffectiveMembershipOf<C, NID, N> {
+    ghost use Rattle.std.specs.Prelude.{◌≡◌, map};
+    ghost use Rattle.std.specs.List.Sorted.{IsStrictlySortedBy};
+    ghost use Rattle.std.specs.Set.{is_member};
+    ghost use Rattle.raft_members.specs.Majority.{is_voter_of};
+    ghost use Rattle.raft_members.specs.declared.membership.stored.StoredMembershipOf.{StoredMembershipOf};
+
+    ghost Value = { StoredMembershipOf C NID N };
+
+    ghost view = { λ a. a.stored_membership.value };
+
+    ghost invariant = { λ a. (map (λ c. c.items) a.quorum_set.items ≡ a.stored_membership.value.membership.configs) × IsStrictlySortedBy NID.cmp a.voter_ids.keys × ((id : NID) → is_member NID.eq a.voter_ids.keys id ≡ is_voter_of NID.eq a.stored_membership.value.membership.configs id) };
+}
+
+impl<C: Copy + Drop, NID: NodeId, N: Node> EffectiveMembershipOf<C, NID, N> {
+    /// A membership under a log id.
+    pub fn new(
+        log_id: Option<LogIdOf<C>>,
+        membership: Membership<NID, N>,
+    ) -> Result<Self, AllocError>
+        ensures { IfOk result (λ e. e ≡ record { log_id = log_id; membership = membership }) }
+    {
+        let alloc = *membership.get_joint_config().allocator();
+        let stored = Rc::new(alloc, StoredMembershipOf::new(log_id, membership))?;
+        EffectiveMembershipOf::of_stored(stored)
+    }
+
+    /// A stored membership that may be shared.
+    fn of_stored(stored: Rc<StoredMembershipOf<C, NID, N>>) -> Result<Self, AllocError>
+        ensures { IfOk result (λ e. e ≡ stored.value) }
+    {
+        let membership = stored.membership();
+        let alloc = *membership.get_joint_config().allocator();
+        let quorum_set = membership.to_quorum_set()?;
+        let voters = membership.voter_ids()?;
+        let voter_ids = set_of(alloc, &voters)?;
+        Ok(EffectiveMembershipOf {
+            stored_membership: stored,
+            quorum_set,
+            voter_ids,
+        })
+    }
+
+    /// The same, to be shared.
+    pub fn new_arc(
+        log_id: Option<LogIdOf<C>>,
+        membership: Membership<NID, N>,
+    ) -> Result<Rc<Self>, AllocError>
+        ensures { IfOk result (λ e. e.value ≡ record { log_id = log_id; membership = membership }) }
+    {
+        let alloc = *membership.get_joint_config().allocator();
+        let effective = EffectiveMembershipOf::new(log_id, membership)?;
+        Ok(Rc::new(alloc, effective)?)
+    }
+
+    /// A membership under the log id of a value, as of the log entry that holds it.
+    pub fn from_log<LID: RaftLogIdOf<C>>(
+        log: &LID,
+        membership: Membership<NID, N>,
+    ) -> Result<Self, AllocError>
+        ensures { IfOk result (λ e. e ≡ record { log_id = Some (LID.id_of log.now); membership = membership }) }
+    {
+        let log_id = *log.get_log_id();
+        EffectiveMembershipOf::new(Some(log_id), membership)
+    }
+
+    /// A stored membership.
+    pub fn new_from_stored_membership(
+        stored: StoredMembershipOf<C, NID, N>,
+    ) -> Result<Self, AllocError>
+        ensures { IfOk result (λ e. e ≡ stored) }
+    {
+        let alloc = *stored.membership().get_joint_config().allocator();
+        let stored = Rc::new(alloc, stored)?;
+        EffectiveMembershipOf::of_stored(stored)
+    }
+
+    /// The membership without configs and nodes under no log id, in place of a `Default`, which has
+    /// no allocator.
+    pub fn try_default(alloc: Global) -> Result<Self, AllocError>
+        ensures { IfOk result (λ e. e ≡ record { log_id = None; membership = record { configs = []; nodes = [] } }) }
+    {
+        let stored = StoredMembershipOf::try_default(alloc)?;
+        EffectiveMembershipOf::new_from_stored_membership(stored)
+    }
+
+    /// The same membership, with the stored one shared. Its nodes aren't cloned.
+    pub fn try_clone(&self) -> Result<Self, AllocError>
+        ensures { IfOk result (λ e. e ≡ self.now) }
+    {
+        let stored = self.stored_membership.clone()?;
+        EffectiveMembershipOf::of_stored(stored)
+    }
+
+    /// The stored membership.
+    pub fn stored_membership(&self) -> &Rc<StoredMembershipOf<C, NID, N>>
+        ensures { result.now.value ≡ self.now }
+    {
+        &self.stored_membership
+    }
+
+    /// The id of the log entry that stored the membership.
+    pub fn log_id(&self) -> &Option<LogIdOf<C>>
+        ensures { result.now ≡ self.now.log_id }
+    {
+        self.stored_membership.log_id()
+    }
+
+    /// The membership.
+    pub fn membership(&self) -> &Membership<NID, N>
+        ensures { result.now ≡ self.now.membership }
+    {
+        self.stored_membership.membership()
+    }
+
+    /// Whether the id is in a config.
+    pub fn is_voter(&self, id: &NID) -> bool
+        ensures { result ≡ is_voter_of NID.eq self.now.membership.configs id.now }
+    {
+        self.membership().is_voter(id)
+    }
+
+    /// The voters of all configs, each once, ascending.
+    pub fn voter_ids(&self) -> btree_set::Iter<'_, NID>
+        ensures ascending { IsStrictlySortedBy NID.cmp result }
+        ensures voters { (id : NID) → is_member NID.eq result id ≡ is_voter_of NID.eq self.now.membership.configs id }
+    {
+        self.voter_ids.iter()
+    }
+
+    /// The learners, each once, ascending: the nodes that are in no config.
+    pub fn learner_ids(&self) -> LearnerIds<'_, NID, N>
+        ensures { learners_ahead NID.eq result ≡ learners_among NID.eq self.now.membership.configs (keys_of self.now.membership.nodes) }
+    {
+        self.membership().learner_ids()
+    }
+
+    /// The node at an id.
+    pub fn get_node(&self, id: &NID) -> Option<&N>
+        ensures { option_copied result ≡ node_at NID.cmp self.now.membership.nodes id.now }
+    {
+        self.membership().get_node(id)
+    }
+
+    /// The nodes, in the order of their ids.
+    pub fn nodes(&self) -> btree_map::Iter<'_, NID, N>
+        ensures { result ≡ self.now.membership.nodes }
+    {
+        self.membership().nodes()
+    }
+
+    /// The configs, each as the list of its ids in order.
+    pub fn get_joint_config(&self) -> &Vec<Vec<NID>>
+        ensures { map (λ c. c.items) result.now.items ≡ self.now.membership.configs }
+    {
+        self.quorum_set.children()
+    }
+
+    /// Whether the ids are a quorum of each config.
+    fn has_quorum(&self, ids: &[NID]) -> bool
+        ensures { IsDistinct NID.eq ids.now → result ≡ is_joint_majority NID.eq self.now.membership.configs (is_member NID.eq ids.now) }
+    {
+        self.quorum_set.is_quorum(ids)
+    }
+}
+
+/// A quorum has a majority of each config of the membership.
+impl<C: Copy + Drop, NID: NodeId, N: Node> QuorumSet<NID> for EffectiveMembershipOf<C, NID, N> {
+    ghost has_quorum = { λ e s. is_joint_majority NID.eq e.membership.configs s };
+
+    ghost is_voter = { λ e id. is_voter_of NID.eq e.membership.configs id };
+
+    ghost superset = { λ e. is_joint_majority-superset NID.eq e.membership.configs };
+
+    fn is_quorum(&self, ids: &[NID]) -> bool {
+        self.has_quorum(ids)
+    }
+
+    fn ids(&self, alloc: Global) -> Result<Vec<NID>, AllocError> {
+        configs::voters(alloc, self.membership().get_joint_config())
+    }
+}
+
+impl<C: Copy + Drop, NID: NodeId, N: Node> Clone for EffectiveMembershipOf<C, NID, N> {
+    ghost is_clone = { λ e copy. copy ≡ e };
+
+    fn clone(&self) -> Result<Self, AllocError> {
+        self.try_clone()
+    }
+}
+
+impl<C: Copy + Eq + Drop, NID: NodeId, N: Node> PartialEq for EffectiveMembershipOf<C, NID, N> {
+    ghost use Rattle.raft_members.specs.Stored.{same_stored};
+
+    ghost eq = { λ a b. same_stored C.eq NID.eq N.eq a b };
+
+    ghost laws = { partial_equiv_from_equiv (same_stored-equiv C.Eq.laws NID.Eq.laws N.Eq.laws) };
+
+    fn eq(&self, other: &Self) -> bool {
+        self.stored_membership == other.stored_membership
+    }
+}
+
+impl<C: Copy + Eq + Drop, NID: NodeId, N: Node> Eq for EffectiveMembershipOf<C, NID, N> {
+    ghost laws = { same_stored-equiv C.Eq.laws NID.Eq.laws N.Eq.laws };
+}
+
+impl<C: fmt::Debug, NID: NodeId, N: Node> fmt::Debug for EffectiveMembershipOf<C, NID, N> {
+    fn fmt<W: fmt::Write>(&self, f: &mut fmt::Formatter<W>) -> fmt::Result {
+        f.debug_struct("EffectiveMembership")
+            .field("stored_membership", &*self.stored_membership)
+            .field("quorum_set", &self.quorum_set)
+            .field("voter_ids", &self.voter_ids)
+            .finish()
+    }
+}

@@ -1,0 +1,61 @@
+//! What gives the nodes of a membership.
+ghost use Rattle.std.specs.Prelude.{◌≡◌, List, IfOk, None, MatchOption};
+ghost use Rattle.std.specs.Set.{is_member};
+ghost use Rattle.raft_members.specs.Members.{node_at};
+ghost use Rattle.raft_members.specs.Defaults.{WithDefault};
+
+use super::defaults::with_defaults;
+use super::ids::list_of;
+use raft_base::{Node, NodeId};
+use std::alloc::{AllocError, Global};
+use std::collections::{BTreeMap, BTreeSet};
+
+/// A source of nodes: none, a set of ids with default nodes, or the nodes themselves.
+pub trait IntoNodes<NID: NodeId, N: Node>: Sized {
+    /// Whether these are the nodes, as entries in the order of their ids.
+    ghost gives: { Self → List (NID × N) → Type 0 };
+
+    /// The nodes.
+    fn into_nodes(self, alloc: Global) -> Result<BTreeMap<NID, N>, AllocError>
+        ensures { IfOk result (λ nodes. gives self nodes.entries) };
+}
+
+/// No nodes.
+impl<NID: NodeId, N: Node> IntoNodes<NID, N> for () {
+    ghost gives = { λ _ nodes. (id : NID) → node_at NID.cmp nodes id ≡ None };
+
+    fn into_nodes(self, alloc: Global) -> Result<BTreeMap<NID, N>, AllocError> {
+        Ok(BTreeMap::new(alloc))
+    }
+}
+
+/// A default node at each id.
+impl<NID: NodeId, N: Node> IntoNodes<NID, N> for BTreeSet<NID> {
+    ghost gives = { λ ids nodes. (id : NID) → WithDefault N.is_default_node None (is_member NID.eq ids.keys id) (node_at NID.cmp nodes id) };
+
+    fn into_nodes(self, alloc: Global) -> Result<BTreeMap<NID, N>, AllocError> {
+        let ids = list_of(alloc, &self)?;
+        with_defaults(BTreeMap::new(alloc), alloc, &ids)
+    }
+}
+
+/// A default node at each id, where there is a set.
+impl<NID: NodeId, N: Node> IntoNodes<NID, N> for Option<BTreeSet<NID>> {
+    ghost gives = { λ given nodes. MatchOption given ((id : NID) → node_at NID.cmp nodes id ≡ None) (λ ids. (id : NID) → WithDefault N.is_default_node None (is_member NID.eq ids.keys id) (node_at NID.cmp nodes id)) };
+
+    fn into_nodes(self, alloc: Global) -> Result<BTreeMap<NID, N>, AllocError> {
+        match self {
+            None => Ok(BTreeMap::new(alloc)),
+            Some(ids) => ids.into_nodes(alloc),
+        }
+    }
+}
+
+/// The nodes themselves.
+impl<NID: NodeId, N: Node> IntoNodes<NID, N> for BTreeMap<NID, N> {
+    ghost gives = { λ given nodes. nodes ≡ given.entries };
+
+    fn into_nodes(self, _alloc: Global) -> Result<BTreeMap<NID, N>, AllocError> {
+        Ok(self)
+    }
+}

@@ -1,0 +1,147 @@
+//! The nodes of a membership, by their ids.
+ghost use Rattle.std.specs.Prelude.{◌≡◌, Bool, IfOk, IsTrue, OnOk, true, false, map, cond, not, ◌&&◌, Some, None, is_some};
+ghost use Rattle.std.specs.Option.{option_eq, option_or};
+ghost use Rattle.std.specs.List.{find, filter};
+ghost use Rattle.raft_members.specs.Members.{same_nodes};
+ghost use Rattle.std.specs.List.Sorted.{IsStrictlySortedBy};
+ghost use Rattle.std.specs.Set.{ClonesAreEqual, is_member};
+ghost use Rattle.std.specs.BTreeMap.{get, insert_entry, is_at};
+ghost use Rattle.std.specs.BTreeSet.{contains};
+ghost use Rattle.raft_members.specs.Valid.{lesser, FirstWithoutNode};
+ghost use Rattle.raft_members.specs.Change.{stays};
+
+use super::configs::has_id;
+use raft_base::{Node, NodeId};
+use std::alloc::{AllocError, Global};
+use std::collections::{BTreeMap, BTreeSet};
+
+/// The nodes, without those of voters that are lost, unless they are retained.
+pub fn kept<NID: NodeId, N: Node>(
+    alloc: Global,
+    nodes: &BTreeMap<NID, N>,
+    old: &[BTreeSet<NID>],
+    new: &[BTreeSet<NID>],
+    retain: bool,
+) -> Result<BTreeMap<NID, N>, AllocError>
+    requires { ClonesAreEqual N.eq N.is_clone }
+    ensures nodes { IfOk result (λ n. (q : NID) → IsTrue (option_eq N.eq (get NID.cmp n q) (cond (stays NID.eq (map (λ s. s.keys) old.now) (map (λ s. s.keys) new.now) retain q) (get NID.cmp nodes.now q) None))) }
+    ensures entries { IfOk result (λ n. IsTrue (same_nodes NID.eq N.eq (filter (λ e. stays NID.eq (map (λ s. s.keys) old.now) (map (λ s. s.keys) new.now) retain e.0) nodes.now.entries) n.entries)) }
+{
+    let mut kept = BTreeMap::new(alloc);
+    for (id, node) in nodes.iter() {
+        if is_kept(old, new, retain, id) {
+            put_copy(&mut kept, *id, node)?;
+        }
+    }
+    Ok(kept)
+}
+
+/// Whether the node at an id stays.
+fn is_kept<NID: NodeId>(
+    old: &[BTreeSet<NID>],
+    new: &[BTreeSet<NID>],
+    retain: bool,
+    id: &NID,
+) -> bool
+    ensures { result ≡ stays NID.eq (map (λ s. s.keys) old.now) (map (λ s. s.keys) new.now) retain id.now }
+{
+    let was = has_id(old, id);
+    let is = has_id(new, id);
+    retain || !was || is
+}
+
+/// Puts a copy of the node at the id.
+fn put_copy<NID: NodeId, N: Node>(
+    kept: &mut BTreeMap<NID, N>,
+    id: NID,
+    node: &N,
+) -> Result<(), AllocError>
+    requires { ClonesAreEqual N.eq N.is_clone }
+    ensures { OnOk result ((w : N) × IsTrue (N.eq node.now w) × (kept.new.entries ≡ insert_entry NID.cmp kept.old.entries id w) × ((q : NID) → get NID.cmp kept.new q ≡ cond (is_at (NID.cmp id) q) (Some w) (get NID.cmp kept.old q))) }
+{
+    let copy = node.clone()?;
+    let _old = kept.insert(id, copy)?;
+    Ok(())
+}
+
+/// Copies of the nodes.
+pub fn copy<NID: NodeId, N: Node>(
+    alloc: Global,
+    nodes: &BTreeMap<NID, N>,
+) -> Result<BTreeMap<NID, N>, AllocError>
+    requires { ClonesAreEqual N.eq N.is_clone }
+    ensures nodes { IfOk result (λ n. (q : NID) → IsTrue (option_eq N.eq (get NID.cmp n q) (get NID.cmp nodes.now q))) }
+    ensures entries { IfOk result (λ n. IsTrue (same_nodes NID.eq N.eq nodes.now.entries n.entries)) }
+{
+    let none: Vec<BTreeSet<NID>> = Vec::new(alloc);
+    kept(alloc, nodes, &none, &none, true)
+}
+
+/// The nodes, and copies of those of `more` whose ids are absent.
+pub fn added<NID: NodeId, N: Node>(
+    nodes: BTreeMap<NID, N>,
+    more: &BTreeMap<NID, N>,
+) -> Result<BTreeMap<NID, N>, AllocError>
+    requires { ClonesAreEqual N.eq N.is_clone }
+    ensures { IfOk result (λ n. (q : NID) → IsTrue (option_eq N.eq (get NID.cmp n q) (option_or (get NID.cmp nodes q) (get NID.cmp more.now q)))) }
+{
+    let mut added = nodes;
+    for (id, node) in more.iter() {
+        if !added.contains_key(id) {
+            put_copy(&mut added, *id, node)?;
+        }
+    }
+    Ok(added)
+}
+
+/// Takes the nodes at the ids away.
+pub fn remove_all<NID: NodeId, N: Node>(nodes: &mut BTreeMap<NID, N>, ids: &BTreeSet<NID>)
+    ensures { (q : NID) → get NID.cmp nodes.new q ≡ cond (contains NID.cmp ids.now q) None (get NID.cmp nodes.old q) }
+{
+    for id in ids.iter() {
+        remove_one(nodes, id);
+    }
+}
+
+/// Takes the node at the id away.
+fn remove_one<NID: NodeId, N: Node>(nodes: &mut BTreeMap<NID, N>, id: &NID)
+    ensures { (q : NID) → get NID.cmp nodes.new q ≡ cond (is_at (NID.cmp id.now) q) None (get NID.cmp nodes.old q) }
+{
+    let _gone = nodes.remove(id);
+}
+
+/// The lesser of two ids, where there are two.
+fn lesser<ID: Copy + Ord>(a: Option<ID>, b: Option<ID>) -> Option<ID>
+    ensures { result ≡ lesser ID.cmp a b }
+{
+    match (a, b) {
+        (None, b) => b,
+        (Some(x), None) => Some(x),
+        (Some(x), Some(y)) => if y < x { Some(y) } else { Some(x) },
+    }
+}
+
+/// The first id of a config that has no node.
+fn first_missing<NID: NodeId, N: Node>(
+    config: &BTreeSet<NID>,
+    nodes: &BTreeMap<NID, N>,
+) -> Option<NID>
+    ensures found { result ≡ find (λ q. not (is_some (get NID.cmp nodes.now q))) config.now.keys }
+    ensures ordered { IsStrictlySortedBy NID.cmp config.now.keys }
+{
+    config.iter().copied().find(|id| !nodes.contains_key(id))
+}
+
+/// The least voter that has no node.
+pub fn least_missing<NID: NodeId, N: Node>(
+    configs: &[BTreeSet<NID>],
+    nodes: &BTreeMap<NID, N>,
+) -> Option<NID>
+    ensures { FirstWithoutNode NID.eq NID.cmp (record { configs = map (λ s. s.keys) configs.now; node = get NID.cmp nodes.now }) result }
+{
+    let mut least = None;
+    for c in configs {
+        least = lesser(least, first_missing(c, nodes));
+    }
+    least
+}

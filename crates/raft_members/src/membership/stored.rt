@@ -1,0 +1,79 @@
+//! A membership that a log entry stored.
+ghost use Rattle.std.specs.Prelude.{◌≡◌, None, [], IfOk, IsTrue};
+ghost use Rattle.std.specs.List.Sorted.{IsStrictlySortedBy};
+ghost use Rattle.std.specs.Set.{ClonesAreEqual, is_member};
+ghost use Rattle.raft_members.specs.Majority.{is_voter_of};
+ghost use Rattle.raft_members.specs.Members.{same_members};
+
+use super::Membership;
+use raft_base::{CommittedLeaderId, LogIdOf, Node, NodeId};
+use std::alloc::{AllocError, Global};
+use std::collections::btree_map::Iter;
+
+/// A membership, and the id of the log entry that stored it. The first membership of a node that
+/// has no log yet has none.
+#[derive(Debug, Clone, PartialEq, Eq, Drop)]
+pub struct StoredMembershipOf<C, NID: NodeId, N: Node> {
+    pub(super) log_id: Option<LogIdOf<C>>,
+    pub(super) membership: Membership<NID, N>,
+}
+
+/// A stored membership, with the default leader ids.
+pub type StoredMembership<NID, N> = StoredMembershipOf<CommittedLeaderId<NID>, NID, N>;
+
+impl<C: Copy, NID: NodeId, N: Node> StoredMembershipOf<C, NID, N> {
+    /// A membership under a log id.
+    pub fn new(log_id: Option<LogIdOf<C>>, membership: Membership<NID, N>) -> Self
+        ensures { result ≡ record { log_id = log_id; membership = membership } }
+    {
+        StoredMembershipOf { log_id, membership }
+    }
+
+    /// The membership without configs and nodes under no log id, in place of a `Default`, which has
+    /// no allocator.
+    pub fn try_default(alloc: Global) -> Result<Self, AllocError>
+        ensures { IfOk result (λ stored. stored ≡ record { log_id = None; membership = record { configs = []; nodes = [] } }) }
+    {
+        let membership = Membership::try_default(alloc)?;
+        Ok(StoredMembershipOf::new(None, membership))
+    }
+
+    /// An equal stored membership, with clones of the nodes.
+    pub fn try_clone(&self) -> Result<Self, AllocError>
+        requires { ClonesAreEqual N.eq N.is_clone }
+        ensures log_id { IfOk result (λ stored. stored.log_id ≡ self.now.log_id) }
+        ensures membership { IfOk result (λ stored. IsTrue (same_members NID.eq N.eq self.now.membership stored.membership)) }
+    {
+        let membership = self.membership.try_clone()?;
+        Ok(StoredMembershipOf::new(self.log_id, membership))
+    }
+
+    /// The id of the log entry.
+    pub fn log_id(&self) -> &Option<LogIdOf<C>>
+        ensures { result.now ≡ self.now.log_id }
+    {
+        &self.log_id
+    }
+
+    /// The membership.
+    pub fn membership(&self) -> &Membership<NID, N>
+        ensures { result.now ≡ self.now.membership }
+    {
+        &self.membership
+    }
+
+    /// The voters of all configs, each once, ascending.
+    pub fn voter_ids(&self) -> Result<Vec<NID>, AllocError>
+        ensures ascending { IfOk result (λ ids. IsStrictlySortedBy NID.cmp ids.items) }
+        ensures voters { IfOk result (λ ids. (id : NID) → is_member NID.eq ids.items id ≡ is_voter_of NID.eq self.now.membership.configs id) }
+    {
+        self.membership.voter_ids()
+    }
+
+    /// The nodes, in the order of their ids.
+    pub fn nodes(&self) -> Iter<'_, NID, N>
+        ensures { result ≡ self.now.membership.nodes }
+    {
+        self.membership.nodes()
+    }
+}

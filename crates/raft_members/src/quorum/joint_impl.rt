@@ -1,0 +1,73 @@
+//! A joint as a quorum set: a quorum is a quorum in every child.
+ghost use Rattle.std.specs.Prelude.{◌≡◌, IfOk};
+ghost use Rattle.std.specs.List.{IsDistinct, list_any, list_all};
+ghost use Rattle.std.specs.List.Sorted.{IsStrictlySortedBy};
+ghost use Rattle.std.specs.Set.{is_member};
+ghost use Rattle.raft_members.specs.MajorityLaws.{list_all-weaker};
+
+use super::joint::Joint;
+use super::quorum_set::QuorumSet;
+use super::quorum_set_impl::sorted_ids;
+use std::alloc::{AllocError, Global};
+
+/// A quorum in every child; without children every set is a quorum.
+impl<ID: Copy + Ord, QS: QuorumSet<ID>> QuorumSet<ID> for Joint<ID, QS, Vec<QS>> {
+    ghost has_quorum = { λ j s. list_all (λ c. QS.has_quorum c s) j.items };
+
+    ghost is_voter = { λ j x. list_any (λ c. QS.is_voter c x) j.items };
+
+    ghost superset = { λ j s t h. list_all-weaker (λ c. QS.has_quorum c s) (λ c. QS.has_quorum c t) (λ c. QS.superset c s t h) j.items };
+
+    fn is_quorum(&self, ids: &[ID]) -> bool {
+        is_quorum_of_each(self.children(), ids)
+    }
+
+    fn ids(&self, alloc: Global) -> Result<Vec<ID>, AllocError> {
+        ids_of_each(alloc, self.children())
+    }
+}
+
+/// As for a joint over a vector.
+impl<'a, ID: Copy + Ord, QS: QuorumSet<ID>> QuorumSet<ID> for Joint<ID, QS, &'a [QS]> {
+    ghost has_quorum = { λ j s. list_all (λ c. QS.has_quorum c s) j.now };
+
+    ghost is_voter = { λ j x. list_any (λ c. QS.is_voter c x) j.now };
+
+    ghost superset = { λ j s t h. list_all-weaker (λ c. QS.has_quorum c s) (λ c. QS.has_quorum c t) (λ c. QS.superset c s t h) j.now };
+
+    fn is_quorum(&self, ids: &[ID]) -> bool {
+        is_quorum_of_each(self.children(), ids)
+    }
+
+    fn ids(&self, alloc: Global) -> Result<Vec<ID>, AllocError> {
+        ids_of_each(alloc, self.children())
+    }
+}
+
+/// Whether the ids are a quorum of each child.
+fn is_quorum_of_each<ID: Copy + Ord, QS: QuorumSet<ID>>(children: &[QS], ids: &[ID]) -> bool
+    ensures { IsDistinct ID.eq ids.now → result ≡ list_all (λ c. QS.has_quorum c (is_member ID.eq ids.now)) children.now }
+{
+    for child in children {
+        if !child.is_quorum(ids) {
+            return false;
+        }
+    }
+    true
+}
+
+/// The voters of all children, each once, ascending.
+pub(crate) fn ids_of_each<ID: Copy + Ord, QS: QuorumSet<ID>>(
+    alloc: Global,
+    children: &[QS],
+) -> Result<Vec<ID>, AllocError>
+    ensures ascending { IfOk result (λ ids. IsStrictlySortedBy ID.cmp ids.items) }
+    ensures voters { IfOk result (λ ids. (x : ID) → is_member ID.eq ids.items x ≡ list_any (λ c. QS.is_voter c x) children.now) }
+{
+    let mut all: Vec<ID> = Vec::new(alloc);
+    for child in children {
+        let mut ids = child.ids(alloc)?;
+        all.append(&mut ids)?;
+    }
+    sorted_ids(alloc, &all)
+}
