@@ -6,7 +6,7 @@ mod fit;
 mod in_order;
 mod part;
 mod recount;
-mod replay;
+mod replay_any_steps;
 mod rise;
 mod scan;
 mod stat;
@@ -18,7 +18,7 @@ mod vec_progress;
 
 pub use part::ProgressPart;
 use raft_members::quorum::QuorumSet;
-pub use replay::replay_any;
+pub use replay_any_steps::replay_any;
 pub use stat::Stat;
 use std::alloc::AllocError;
 pub use steps::{AnyStep, Reply};

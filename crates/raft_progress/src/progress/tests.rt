@@ -6,7 +6,7 @@ mod calls;
 mod counting;
 mod rows;
 
-use super::replay::would_fall;
+use super::replay_any_steps::would_fall;
 use super::{AnyStep, ProgressPart, Reply, VecProgress, replay_any};
 use raft_members::quorum::QuorumSet;
 use std::alloc::{AllocError, Global};

@@ -14,7 +14,13 @@ use super::upgrade::{is_among, is_before};
 use raft_members::quorum::QuorumSet;
 use std::alloc::{AllocError, Global};
 
-/// The values of voters and learners, and the greatest part that a quorum of the voters has reached.
+/// The values of voters and learners in a vector, and the greatest part that a quorum of the voters
+/// has reached.
+///
+/// The voters whose part exceeds the granted value come first, and their parts never rise along the
+/// vector. So the voters that have reached a part are a front of it, and a quorum is found by testing
+/// fronts. Voters up to granted are in no order, and learners, which come last, never move. Suited
+/// to the few voters that a cluster has: an id is found by a search.
 #[derive(Debug, Drop)]
 pub struct VecProgress<ID: Copy + Ord, V, P, QS> {
     quorum_set: QS,
@@ -48,7 +54,7 @@ impl<
     ghost use Rattle.raft_progress.specs.CountedValue.{AtMost};
     ghost use Rattle.raft_progress.specs.InOrder.{IsInOrder};
     ghost use Rattle.raft_progress.specs.Inner.Settled.{IsPutInOrder, IsRaised, IsScanned};
-    ghost use Rattle.raft_progress.specs.NewProgress.{IsNew, LearnersFit};
+    ghost use Rattle.raft_progress.specs.NewProgress.{IsFirstWalk, IsNew, LearnersFit};
     ghost use Rattle.raft_progress.specs.ProgressState.{voter_of};
     ghost use Rattle.raft_progress.specs.Shown.{state};
     ghost use Rattle.raft_progress.specs.Updated.{Answers, IsUpdated};
@@ -59,6 +65,8 @@ impl<
     ghost use Rattle.raft_progress.specs.VecProgress.{shown};
 
     /// Whether the learners fit a quorum set: none stands twice, and none is a voter.
+    ///
+    /// It is the test for the condition of `new` and of `upgrade_quorum_set`.
     pub fn learners_fit(alloc: Global, quorum_set: &QS, learners: &[ID]) -> Result<bool, AllocError>
         ensures { IfOk result (λ fits. IsTrue fits ↔ LearnersFit ID.eq (QS.is_voter quorum_set.now) learners.now) }
     {
@@ -66,7 +74,11 @@ impl<
         Ok(are_apart(&voters, learners))
     }
 
-    /// A progress at whose start each voter and each learner has the default.
+    /// A progress in which each voter and each learner has a clone of the default.
+    ///
+    /// The walk begins with the voters of the quorum set, ascending, and goes on with the learners
+    /// as they are given. The default's part is granted from the start: every voter has it. The
+    /// room for quorum tests is reserved here, so that updates and reads take no memory.
     pub fn new(
         alloc: Global,
         quorum_set: QS,
@@ -78,6 +90,7 @@ impl<
         requires clones_have_the_part { (w : V) → V.is_clone default w → V.part_of w ≡ V.part_of default }
         requires learners_fit { LearnersFit ID.eq (QS.is_voter quorum_set) learners.now }
         ensures made { IfOk result (λ made. IsNew ID.eq V.is_clone V.part_of (QS.is_voter quorum_set) quorum_set learners.now default (state ID.eq (shown made))) }
+        ensures walk { IfOk result (λ made. IsFirstWalk ID.cmp learners.now (shown made)) }
         ensures granted { IfOk result (λ made. (shown made).granted ≡ V.part_of default) }
         ensures ordered { IfOk result (λ made. IsInOrder ID.eq P.cmp V.part_of QS.has_quorum (shown made)) }
         ensures no_counts { IfOk result (λ made. (shown made).stat ≡ record { update_count = 0; move_count = 0; is_quorum_count = 0 }) }
@@ -103,7 +116,11 @@ impl<
         })
     }
 
-    /// A progress over another quorum set that takes over the values and the statistics.
+    /// A progress over another quorum set that takes over the values of the ids that it has too.
+    ///
+    /// Granted is counted afresh over the new quorum set, so it may be less than before: the new
+    /// voters may have reached less. The counts go on from the present ones; each present id counts
+    /// an update, also one that is gone. `self` stays as it is, also where a growth is refused.
     pub fn upgrade_quorum_set(
         &self,
         quorum_set: QS,
@@ -160,6 +177,9 @@ impl<
     }
 
     /// Whether no value that an upgrade would take over is below the new default.
+    ///
+    /// It is the test for the condition of `upgrade_quorum_set`: values never fall, and those at the
+    /// default are the least.
     pub fn can_upgrade(
         &self,
         quorum_set: &QS,
@@ -239,7 +259,8 @@ impl<
         counted.cmp(&self.granted).is_eq()
     }
 
-    /// The granted value.
+    /// The granted value: the greatest part that a quorum of the voters has reached, and at least
+    /// the default's.
     pub fn granted(&self) -> &P
         ensures { result.now ≡ (shown self.now).granted }
     {
@@ -253,7 +274,7 @@ impl<
         &self.default_part
     }
 
-    /// The place of an id in the walk.
+    /// The place of an id in the walk, counted from 0. It may change with each update.
     pub fn index(&self, id: &ID) -> Option<usize>
         ensures { result ≡ position (λ e. ID.eq id.now e.0) ((shown self.now).walk) }
     {
@@ -305,7 +326,7 @@ impl<
         &self.quorum_set
     }
 
-    /// How it runs.
+    /// How much it has done.
     pub fn stat(&self) -> &Stat
         ensures { result.now ≡ (shown self.now).stat }
     {
@@ -313,6 +334,9 @@ impl<
     }
 
     /// The value of an id, to be written.
+    ///
+    /// Nothing is counted and nothing moves. Where the part of a voter changes, the progress may be
+    /// out of order afterwards: `is_in_order` tells.
     pub fn get_mut(&mut self, id: &ID) -> Option<&mut V>
         ensures* writes_back { sem 𝓛 (LendsSo (the_row ID.row V.row P.row QS.row ID.Ord.own ID.PartialEq ID.PartialOrd.own) V.row self.entry result (λ n w. OnSome result (shown n ≡ with_value ID.eq (shown self.old) id.now w)) (λ n. shown n ≡ shown self.old)) }
         ensures value { option_copied_mut result ≡ (state ID.eq (shown self.old)).value id.now }
@@ -326,7 +350,8 @@ impl<
         }
     }
 
-    /// The entries, to be written.
+    /// The ids and their values, to be written. Ids and voters' parts should stay as they are:
+    /// `is_in_order` tells whether updates may go on.
     pub fn iter_mut(&mut self) -> std::slice::IterMut<(ID, V)>
         ensures { iter_mut_rest result ≡ (shown self.old).walk }
     {
@@ -334,6 +359,11 @@ impl<
     }
 
     /// Changes the value of an id by `f`, and answers granted: as an error where the id is unknown.
+    ///
+    /// A value's part may not fall: what a follower has acknowledged it keeps. A voter whose part
+    /// exceeds granted moves up past the voters directly before it that have less, and where it
+    /// passes granted, the least front of the walk that is a quorum tells what is granted now. A
+    /// learner grants nothing. No memory is taken.
     pub fn update_with<F: FnOnce(&mut V)>(&mut self, id: &ID, f: F) -> Result<&P, &P>
         requires ordered { IsInOrder ID.eq P.cmp V.part_of QS.has_quorum (shown self.old) }
         requires callable { (v : V) → (state ID.eq (shown self.old)).value id.now ≡ Some v → FnOnceTakesAtMut F.FnOnce f v }
@@ -356,7 +386,8 @@ impl<
         self.update_with(id, |current| *current = value)
     }
 
-    /// Writes the value of an id where it is greater than the present one, and counts an update either way.
+    /// Writes the value of an id where it is greater than the present one, and counts an update
+    /// either way.
     pub fn increase_to(&mut self, id: &ID, value: V) -> Result<&P, &P>
     where
         V: PartialOrd,

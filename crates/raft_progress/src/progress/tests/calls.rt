@@ -122,8 +122,9 @@ fn increases(rt: HostRuntime) -> Result<(), Fail> {
     Ok(())
 }
 
+// An upgrade that always lacks memory fails here.
 #[test]
-fn upgrades(rt: HostRuntime) -> Result<(), Fail> {
+fn always_out_of_memory(rt: HostRuntime) -> Result<(), Fail> {
     let alloc = rt.alloc();
     let mut progress: Numbers = made(&rt, alloc, first_ids(alloc, 3)?, &[], 0)?;
     let steps = vec![in alloc;
@@ -189,8 +190,9 @@ fn upgrades_are_refused(rt: HostRuntime) -> Result<(), Fail> {
     Ok(())
 }
 
+// A replay goes on after a refused step, and one that always lacks memory fails here.
 #[test]
-fn a_refused_step_does_not_end_a_replay(rt: HostRuntime) -> Result<(), Fail> {
+fn replay_always_alloc_error(rt: HostRuntime) -> Result<(), Fail> {
     let alloc = rt.alloc();
     let mut progress: Numbers = made(&rt, alloc, vec![in alloc; 1, 2, 3]?, &[], 0)?;
     let steps = vec![in alloc;

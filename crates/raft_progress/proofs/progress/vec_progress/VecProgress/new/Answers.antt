@@ -23,3 +23,11 @@ returns-clause-ordered g c =
     (keys_placed _ _ _ _ _ c.new-entries.ensures.items voters rest ∙ ap (λ ids. ids ++ c.args.learners.now) c.deref.ensures.value)
     (all_placed _ _ _ _ _ c.new-entries.ensures.items voters rest)
     (c.len-voter_count.ensures ∙ c.in_ok-room.room.ok.0) c.part-part.ensures
+
+pub returns-clause-walk : goal.returns-clause-walk
+returns-clause-walk g c = record {
+  voters = c.in_ok-room.room.items;
+  ascending = c.in_ok-room.ensures.ascending;
+  ids = keys_placed _ _ _ _ _ c.new-entries.ensures.items c.in_ok-place_all.ensures c.in_ok-place_all-2.ensures ∙ ap (λ ids. ids ++ c.args.learners.now) c.deref.ensures.value;
+  first = c.len-voter_count.ensures ∙ c.in_ok-room.room.ok.0;
+}

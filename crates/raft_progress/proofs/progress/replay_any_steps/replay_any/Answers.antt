@@ -3,7 +3,7 @@ use Rattle.std.proofs.lemmas.List.{nil_from_length}
 use Rattle.raft_progress.specs.Shown.{state}
 use Rattle.raft_progress.proofs.RunLemmas.{run_more, run_all}
 use Rattle.raft_progress.specs.VecProgress.{shown}
-use Rattle.raft_progress.proofs.progress.replay.replay_any.Goals as goal
+use Rattle.raft_progress.proofs.progress.replay_any_steps.replay_any.Goals as goal
 
 pub loop-step-preserved : goal.loop-step-preserved
 loop-step-preserved g c = record {

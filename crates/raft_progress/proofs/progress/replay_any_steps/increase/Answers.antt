@@ -5,8 +5,8 @@ use Rattle.raft_progress.specs.Steps.{IsIncreased, falls, stays}
 use Rattle.raft_progress.specs.VecProgress.{shown}
 use Rattle.raft_progress.specs.declared.progress.steps.Reply.TheVariants.{Granted}
 use Rattle.raft_progress.proofs.StepLemmas.{increased}
-use Rattle.raft_progress.proofs.progress.replay.increase.Goals as goal
-use Rattle.raft_progress.proofs.progress.replay.increase.Goals.{else-not-is_not_greater-via-then-not-is_not_greater+else-would_fall, else-not-is_not_greater-via-else-not-is_not_greater}
+use Rattle.raft_progress.proofs.progress.replay_any_steps.increase.Goals as goal
+use Rattle.raft_progress.proofs.progress.replay_any_steps.increase.Goals.{else-not-is_not_greater-via-then-not-is_not_greater+else-would_fall, else-not-is_not_greater-via-else-not-is_not_greater}
 
 pub returns-in-Ok-clause-step : goal.returns-in-Ok-clause-step
 returns-in-Ok-clause-step g c =

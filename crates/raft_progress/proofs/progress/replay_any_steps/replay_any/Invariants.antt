@@ -6,7 +6,7 @@ use Rattle.raft_progress.specs.Shown.{state}
 use Rattle.raft_progress.specs.Steps.{IsRun}
 use Rattle.raft_progress.specs.declared.progress.steps.Reply.{Reply}
 use Rattle.raft_progress.specs.VecProgress.{shown}
-use Rattle.raft_progress.proofs.progress.replay.replay_any.Given as goal
+use Rattle.raft_progress.proofs.progress.replay_any_steps.replay_any.Given as goal
 
 -- whatever ends the steps that are left ends all of them, after the replies so far
 abbrev pub invariant-loop-step : goal.invariant-loop-step

@@ -2,7 +2,7 @@ use Rattle.std.proofs.Common.{refl, sym, subst}
 use Rattle.raft_progress.specs.CountedValue.{IsCounted}
 use Rattle.raft_progress.specs.Shown.{state}
 use Rattle.raft_progress.specs.VecProgress.{shown}
-use Rattle.raft_progress.proofs.progress.replay.try_upgrade.Goals as goal
+use Rattle.raft_progress.proofs.progress.replay_any_steps.try_upgrade.Goals as goal
 
 pub returns-in-Some-clause-step : goal.returns-in-Some-clause-step
 returns-in-Some-clause-step g c = (
