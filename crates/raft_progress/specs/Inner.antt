@@ -3,4 +3,5 @@ pub mod Counts
 pub mod Placed
 pub mod Rises
 pub mod Settled
+pub mod TakenOver
 pub mod Tests

@@ -1,9 +1,10 @@
 -- What a step does to a progress, and what it is answered.
-use Rattle.std.specs.Prelude.{◌≡◌, Bool, true, false, Option, Some, None, List, [], ◌∷◌, not, MatchBool}
+use Rattle.std.specs.Prelude.{◌≡◌, Bool, true, false, Option, Some, None, List, not, MatchBool}
 use Rattle.std.specs.Ordering.{is_lt, partial_gt}
 use Rattle.std.specs.declared.cmp.Ordering.{Ordering}
 use Rattle.raft_progress.specs.CountedValue.{IsCounted}
 use Rattle.raft_progress.specs.NewProgress.{LearnersFit}
+use Rattle.raft_progress.specs.Run.{Runs}
 use Rattle.raft_progress.specs.ProgressState.{IsSame, State, Writes}
 use Rattle.raft_progress.specs.Upgrade.{CanUpgrade, IsLeastBelow, IsUpgraded}
 use Rattle.raft_progress.specs.declared.progress.steps.AnyStep.{AnyStep}
@@ -62,7 +63,4 @@ module _ {ID V P QS : Type 0} (eq : ID → ID → Bool) (id_cmp : ID → ID → 
 
   -- The steps may be answered so, one after another.
   abbrev pub IsRun : State ID V P QS → List (AnyStep ID V QS) → List (Reply ID P) → State ID V P QS → Type 0
-  IsRun old [] [] new = IsSame old new
-  IsRun old (step ∷ steps) (reply ∷ replies) new = (middle : State ID V P QS) × IsStep old step reply middle × IsRun middle steps replies new
-  IsRun old [] (reply ∷ replies) new = ⊥
-  IsRun old (step ∷ steps) [] new = ⊥
+  IsRun old steps replies new = Runs IsStep IsSame old steps replies new

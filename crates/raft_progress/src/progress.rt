@@ -7,10 +7,12 @@ mod in_order;
 mod part;
 mod recount;
 mod replay_any_steps;
+mod replay_steps;
 mod rise;
 mod scan;
 mod stat;
 mod steps;
+mod tracked;
 #[cfg(test)]
 mod tests;
 mod upgrade;
@@ -19,9 +21,11 @@ mod vec_progress;
 pub use part::ProgressPart;
 use raft_members::quorum::QuorumSet;
 pub use replay_any_steps::replay_any;
+pub use replay_steps::replay;
 pub use stat::Stat;
 use std::alloc::AllocError;
-pub use steps::{AnyStep, Reply};
+pub use steps::{AnyStep, Reply, Step};
+pub use tracked::{MembershipProgress, Tracked};
 pub use vec_progress::VecProgress;
 
 /// The values of voters and learners over a quorum set, and what a quorum of the voters has reached.

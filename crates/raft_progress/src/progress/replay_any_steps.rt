@@ -92,7 +92,7 @@ fn try_upgrade<
 }
 
 /// Writes a value where its part isn't below the present one.
-fn write<ID: Copy + Ord, V: ProgressPart<P> + Drop, P: Copy + Ord, QS: QuorumSet<ID> + Drop>(
+pub(super) fn write<ID: Copy + Ord, V: ProgressPart<P> + Drop, P: Copy + Ord, QS: QuorumSet<ID> + Drop>(
     progress: &mut VecProgress<ID, V, P, QS>,
     id: &ID,
     value: V,
@@ -111,7 +111,7 @@ fn write<ID: Copy + Ord, V: ProgressPart<P> + Drop, P: Copy + Ord, QS: QuorumSet
 }
 
 /// Writes a value where it is greater than the present one, unless its part is below.
-fn increase<
+pub(super) fn increase<
     ID: Copy + Ord,
     V: ProgressPart<P> + PartialOrd + Drop,
     P: Copy + Ord,

@@ -1,0 +1,57 @@
+-- What a step does to a membership and its progress, and what it is answered.
+use Rattle.std.specs.Prelude.{◌≡◌, Bool, true, false, Option, Some, None, List}
+use Rattle.std.specs.declared.cmp.Ordering.{Ordering}
+use Rattle.raft_members.specs.Change.{changed}
+use Rattle.raft_members.specs.Members.{Members, Says, members_of}
+use Rattle.raft_members.specs.Valid.{FirstWithoutNode, IsValid, has_empty_config}
+use Rattle.raft_members.specs.declared.change_members.ChangeMembers.{ChangeMembers}
+use Rattle.raft_progress.specs.ProgressState.{IsSame, State}
+use Rattle.raft_progress.specs.Run.{Runs}
+use Rattle.raft_progress.specs.Steps.{IsAnsweredUpgrade, IsIncreased, IsWritten}
+use Rattle.raft_progress.specs.TrackedState.{AreLearners, Configs, HasConfigs, TrackedState, has_quorum, is_voter}
+use Rattle.raft_progress.specs.declared.progress.steps.Reply.{Reply}
+use Rattle.raft_progress.specs.declared.progress.steps.Reply.TheVariants.{Granted, Unknown, WouldFall, Refused, BelowDefault, BadLearners, OutOfMemory}
+use Rattle.raft_progress.specs.declared.progress.steps.Step.{Step}
+use Rattle.raft_progress.specs.declared.progress.steps.Step.TheVariants.{Update, IncreaseTo, Change}
+
+module _ {K N V P : Type 0} where
+  -- the same membership and the same progress
+  pub record IsSamePair (old new : TrackedState K N V P) : Type 0 where
+    pub membership : new.membership ≡ old.membership
+    pub progress : IsSame old.progress new.progress
+
+module _ {K N V P : Type 0} (eq : K → K → Bool) (id_cmp : K → K → Ordering) (cmp : P → P → Ordering) (part : V → P) (IsClone : V → V → Type 0) where
+  -- the progress goes over to the configs and the learners of a membership, and is answered so
+  abbrev pub GoesOver : State K V P (Configs K) → Members K N → V → Reply K P → State K V P (Configs K) → Type 0
+  GoesOver old m default reply new =
+      (configs : Configs K) × (learners : List K) × HasConfigs m configs × AreLearners eq m learners
+      × IsAnsweredUpgrade eq id_cmp cmp part IsClone (has_quorum eq) (is_voter eq) old configs learners default reply new
+
+module _ {K N V P : Type 0} (eq : K → K → Bool) (id_cmp : K → K → Ordering) (same : N → N → Bool) (cmp : P → P → Ordering) (partial_cmp : V → V → Option Ordering) (part : V → P) (IsClone : V → V → Type 0) where
+  -- a change of the membership is answered so: it is refused for an empty config, else for the first voter without a node, and else the pair goes over to the changed membership; or a growth was refused
+  abbrev pub IsChanged : TrackedState K N V P → ChangeMembers K N → Bool → V → Reply K P → TrackedState K N V P → Type 0
+  IsChanged old change retain default (Granted p) new =
+      let next = changed eq id_cmp (members_of id_cmp old.membership) change retain in
+      IsValid eq next × Says same id_cmp new.membership next × GoesOver eq id_cmp cmp part IsClone old.progress next default (Granted p) new.progress
+  IsChanged old change retain default (BelowDefault id) new =
+      let next = changed eq id_cmp (members_of id_cmp old.membership) change retain in
+      IsValid eq next × (new.membership ≡ old.membership) × GoesOver eq id_cmp cmp part IsClone old.progress next default (BelowDefault id) new.progress
+  IsChanged old change retain default (Refused None) new =
+      (has_empty_config (changed eq id_cmp (members_of id_cmp old.membership) change retain).configs ≡ true) × IsSamePair old new
+  IsChanged old change retain default (Refused (Some id)) new =
+      let next = changed eq id_cmp (members_of id_cmp old.membership) change retain in
+      (has_empty_config next.configs ≡ false) × FirstWithoutNode eq id_cmp next (Some id) × IsSamePair old new
+  IsChanged old change retain default OutOfMemory new = IsSamePair old new
+  IsChanged old change retain default (Unknown p) new = ⊥
+  IsChanged old change retain default WouldFall new = ⊥
+  IsChanged old change retain default BadLearners new = ⊥
+
+  -- From old, the step may be answered so and go on to new.
+  abbrev pub IsTrackedStep : TrackedState K N V P → Step K N V → Reply K P → TrackedState K N V P → Type 0
+  IsTrackedStep old (Update id value) reply new = (new.membership ≡ old.membership) × IsWritten eq cmp part (has_quorum eq) old.progress id value reply new.progress
+  IsTrackedStep old (IncreaseTo id value) reply new = (new.membership ≡ old.membership) × IsIncreased eq cmp partial_cmp part (has_quorum eq) old.progress id value reply new.progress
+  IsTrackedStep old (Change change retain default) reply new = IsChanged old change retain default reply new
+
+  -- The steps may be answered so, one after another.
+  abbrev pub IsTrackedRun : TrackedState K N V P → List (Step K N V) → List (Reply K P) → TrackedState K N V P → Type 0
+  IsTrackedRun old steps replies new = Runs IsTrackedStep IsSamePair old steps replies new

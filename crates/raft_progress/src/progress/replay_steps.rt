@@ -1,0 +1,136 @@
+//! A replay of steps on a membership and its progress.
+ghost use Rattle.std.specs.Prelude.{◌≡◌, IfOk, OnErr};
+ghost use Rattle.std.specs.Set.{ClonesAreEqual};
+ghost use Rattle.raft_members.specs.Members.{members_of};
+ghost use Rattle.raft_members.specs.Refusal.{IsRefusal};
+ghost use Rattle.raft_progress.specs.CountedValue.{IsCounted};
+ghost use Rattle.raft_progress.specs.Headline.{ChangedQuorumsKnowGranted, QuorumsKnowGranted};
+ghost use Rattle.raft_progress.specs.Shown.{state};
+ghost use Rattle.raft_progress.specs.Tracked.{tracked};
+ghost use Rattle.raft_progress.specs.TrackedState.{IsReady, has_quorum, tracked_state};
+ghost use Rattle.raft_progress.specs.Inner.TakenOver.{TakesOver};
+ghost use Rattle.raft_progress.specs.TrackedSteps.{IsChanged, IsTrackedRun, IsTrackedStep};
+
+use super::part::ProgressPart;
+use super::replay_any_steps::{increase, write};
+use super::steps::{Reply, Step};
+use super::tracked::Tracked;
+use raft_base::{Node, NodeId};
+use raft_members::change_members::ChangeMembers;
+use raft_members::error::ChangeMembershipError;
+use raft_members::membership::Membership;
+use std::alloc::{AllocError, Global};
+
+/// Makes one step.
+fn answer<NID: NodeId, N: Node, V: ProgressPart<P> + PartialOrd + Clone + Drop, P: Copy + Ord>(
+    pair: &mut Tracked<NID, N, V, P>,
+    step: Step<NID, N, V>,
+) -> Reply<NID, P>
+    requires ready { IsReady NID.eq NID.cmp P.cmp V.part_of (tracked pair.old) }
+    requires clones_have_the_part { (v w : V) → V.is_clone v w → V.part_of w ≡ V.part_of v }
+    requires clones_of_nodes_are_equal { ClonesAreEqual N.eq N.is_clone }
+    ensures step { IsTrackedStep NID.eq NID.cmp N.eq P.cmp V.partial_cmp V.part_of V.is_clone (tracked_state NID.eq (tracked pair.old)) step result (tracked_state NID.eq (tracked pair.new)) }
+    ensures ready { IsReady NID.eq NID.cmp P.cmp V.part_of (tracked pair.new) }
+{
+    match step {
+        Step::Update(id, value) => write(&mut pair.progress, &id, value),
+        Step::IncreaseTo(id, value) => increase(&mut pair.progress, &id, value),
+        Step::Change {
+            change,
+            retain,
+            default,
+        } => change_members(pair, change, retain, default),
+    }
+}
+
+/// Changes the membership and goes over to the changed one, or leaves the pair as it is.
+fn change_members<NID: NodeId, N: Node, V: ProgressPart<P> + Clone + Drop, P: Copy + Ord>(
+    pair: &mut Tracked<NID, N, V, P>,
+    change: ChangeMembers<NID, N>,
+    retain: bool,
+    default: V,
+) -> Reply<NID, P>
+    requires ready { IsReady NID.eq NID.cmp P.cmp V.part_of (tracked pair.old) }
+    requires clones_have_the_part { (v w : V) → V.is_clone v w → V.part_of w ≡ V.part_of v }
+    requires clones_of_nodes_are_equal { ClonesAreEqual N.eq N.is_clone }
+    ensures step { IsChanged NID.eq NID.cmp N.eq P.cmp V.part_of V.is_clone (tracked_state NID.eq (tracked pair.old)) change retain default result (tracked_state NID.eq (tracked pair.new)) }
+    ensures ready { IsReady NID.eq NID.cmp P.cmp V.part_of (tracked pair.new) }
+{
+    match pair.membership.change(change, retain) {
+        Ok(next) => match take_over(pair, next, default) {
+            Ok(reply) => reply,
+            Err(_) => Reply::OutOfMemory,
+        },
+        Err(refused) => refusal(refused),
+    }
+}
+
+/// The reply to a refused change.
+fn refusal<NID: NodeId, P>(refused: ChangeMembershipError<NID>) -> Reply<NID, P> {
+    match refused {
+        ChangeMembershipError::EmptyMembership(_) => Reply::Refused(None),
+        ChangeMembershipError::LearnerNotFound(missing) => Reply::Refused(Some(missing.node_id)),
+        ChangeMembershipError::OutOfMemory => Reply::OutOfMemory,
+        ChangeMembershipError::InProgress(_) => Reply::OutOfMemory,
+    }
+}
+
+/// Puts a membership and a progress over it in place of the old ones, unless an inherited value is
+/// below the new default.
+fn take_over<NID: NodeId, N: Node, V: ProgressPart<P> + Clone + Drop, P: Copy + Ord>(
+    pair: &mut Tracked<NID, N, V, P>,
+    next: Membership<NID, N>,
+    default: V,
+) -> Result<Reply<NID, P>, AllocError>
+    requires ready { IsReady NID.eq NID.cmp P.cmp V.part_of (tracked pair.old) }
+    requires clones_have_the_part { (v w : V) → V.is_clone v w → V.part_of w ≡ V.part_of v }
+    ensures step { IfOk result (λ reply. TakesOver NID.eq NID.cmp P.cmp V.part_of V.is_clone (tracked_state NID.eq (tracked pair.old)) next default reply (tracked_state NID.eq (tracked pair.new))) }
+    ensures err { OnErr result (tracked pair.new ≡ tracked pair.old) }
+    ensures ready { IsReady NID.eq NID.cmp P.cmp V.part_of (tracked pair.new) }
+{
+    let alloc = *next.get_joint_config().allocator();
+    let configs = next.to_quorum_set()?;
+    let learners: Vec<NID> = next.learner_ids().collect(alloc)?;
+    match pair.progress.least_below(&configs, &learners, &default)? {
+        Some(id) => Ok(Reply::BelowDefault(id)),
+        None => {
+            let upgraded = pair.progress.upgrade_quorum_set(configs, &learners, default)?;
+            pair.progress = upgraded;
+            pair.membership = next;
+            Ok(Reply::Granted(*pair.progress.granted()))
+        }
+    }
+}
+
+/// Makes the steps in order, with a reply for each.
+///
+/// Room for the replies is taken first: where it is refused nothing has changed. A step that is
+/// refused changes nothing either, and the next one is made.
+///
+/// What a voter of the progress has at the end, and what is granted, is counted afresh over the
+/// membership as it then stands; and every quorum of that membership, and of each that one change
+/// makes of it, has a voter whose part is at least granted.
+pub fn replay<NID: NodeId, N: Node, V: ProgressPart<P> + PartialOrd + Clone + Drop, P: Copy + Ord>(
+    alloc: Global,
+    pair: &mut Tracked<NID, N, V, P>,
+    steps: Vec<Step<NID, N, V>>,
+) -> Result<Vec<Reply<NID, P>>, AllocError>
+    requires ready { IsReady NID.eq NID.cmp P.cmp V.part_of (tracked pair.old) }
+    requires clones_have_the_part { (v w : V) → V.is_clone v w → V.part_of w ≡ V.part_of v }
+    requires clones_of_nodes_are_equal { ClonesAreEqual N.eq N.is_clone }
+    ensures run { IfOk result (λ replies. IsTrackedRun NID.eq NID.cmp N.eq P.cmp V.partial_cmp V.part_of V.is_clone (tracked_state NID.eq (tracked pair.old)) steps.items replies.items (tracked_state NID.eq (tracked pair.new))) }
+    ensures ready { IsReady NID.eq NID.cmp P.cmp V.part_of (tracked pair.new) }
+    ensures granted { IsCounted P.cmp V.part_of (has_quorum NID.eq) (state NID.eq (tracked pair.new).progress) (tracked pair.new).progress.granted }
+    ensures quorums { QuorumsKnowGranted NID.eq P.cmp V.part_of (tracked pair.new) }
+    ensures changed_quorums { ChangedQuorumsKnowGranted NID.eq NID.cmp P.cmp V.part_of (tracked pair.new) }
+    ensures err { OnErr result (tracked pair.new ≡ tracked pair.old) }
+{
+    let mut replies = Vec::with_capacity(alloc, steps.len())?;
+    let mut rest = steps;
+    rest.reverse();
+    while let Some(step) = rest.pop() {
+        let reply = answer(pair, step);
+        replies.push_reserved(reply);
+    }
+    Ok(replies)
+}

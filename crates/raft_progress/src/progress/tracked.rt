@@ -1,0 +1,66 @@
+//! A membership and the progress that counts by it.
+
+use super::part::ProgressPart;
+use super::vec_progress::VecProgress;
+use raft_base::{Node, NodeId};
+use raft_members::membership::Membership;
+use raft_members::quorum::Joint;
+use std::alloc::AllocError;
+
+/// The progress of a membership's voters, by the quorums of its configs, and of its learners.
+pub type MembershipProgress<NID, V, P> = VecProgress<NID, V, P, Joint<NID, Vec<NID>, Vec<Vec<NID>>>>;
+
+/// A membership, and the progress of its voters and learners.
+///
+/// A quorum of the progress is a quorum of the membership, and its learners are the membership's.
+/// Both change only together, by `replay`.
+#[derive(Debug, Drop)]
+pub struct Tracked<NID: NodeId, N: Node, V, P: Copy + Ord> {
+    pub(super) membership: Membership<NID, N>,
+    pub(super) progress: MembershipProgress<NID, V, P>,
+}
+
+impl<NID: NodeId, N: Node, V: ProgressPart<P> + Drop, P: Copy + Ord> Tracked<NID, N, V, P> {
+    ghost use Rattle.std.specs.Prelude.{◌≡◌, IfOk, List};
+    ghost use Rattle.raft_members.specs.Members.{members_of};
+    ghost use Rattle.raft_progress.specs.NewProgress.{IsNew};
+    ghost use Rattle.raft_progress.specs.Shown.{state};
+    ghost use Rattle.raft_progress.specs.Tracked.{tracked};
+    ghost use Rattle.raft_progress.specs.TrackedState.{AreLearners, Configs, HasConfigs, IsReady, is_voter};
+    ghost use Rattle.raft_progress.specs.VecProgress.{shown};
+
+    /// The membership, with a progress in which each voter and each learner has a clone of the
+    /// default.
+    pub fn new(membership: Membership<NID, N>, default: V) -> Result<Self, AllocError>
+    where
+        V: Clone,
+        requires clones_have_the_part { (w : V) → V.is_clone default w → V.part_of w ≡ V.part_of default }
+        ensures membership { IfOk result (λ made. (tracked made).membership ≡ membership) }
+        ensures progress { IfOk result (λ made. (configs : Configs NID) × (learners : List NID) × HasConfigs (members_of NID.cmp membership) configs × AreLearners NID.eq (members_of NID.cmp membership) learners × IsNew NID.eq V.is_clone V.part_of (is_voter NID.eq configs) configs learners default (state NID.eq (tracked made).progress)) }
+        ensures granted { IfOk result (λ made. (tracked made).progress.granted ≡ V.part_of default) }
+        ensures ready { IfOk result (λ made. IsReady NID.eq NID.cmp P.cmp V.part_of (tracked made)) }
+    {
+        let alloc = *membership.get_joint_config().allocator();
+        let configs = membership.to_quorum_set()?;
+        let learners: Vec<NID> = membership.learner_ids().collect(alloc)?;
+        let progress = VecProgress::new(alloc, configs, &learners, default)?;
+        Ok(Tracked {
+            membership,
+            progress,
+        })
+    }
+
+    /// The membership.
+    pub fn membership(&self) -> &Membership<NID, N>
+        ensures { result.now ≡ (tracked self.now).membership }
+    {
+        &self.membership
+    }
+
+    /// The progress of its voters and learners.
+    pub fn progress(&self) -> &MembershipProgress<NID, V, P>
+        ensures { shown result.now ≡ (tracked self.now).progress }
+    {
+        &self.progress
+    }
+}
