@@ -1,12 +1,12 @@
 -- What a quorum has reached, each quorum of coherent configs knows of.
-use Rattle.std.specs.Prelude.{◌≡◌, ◌<◌, Bool, true, false, ◌&&◌, List, [], ◌∷◌, length, ◌-◌, Option, Some, None, ◌⊎◌}
+use Rattle.std.specs.Prelude.{◌≡◌, ◌<◌, Bool, true, false, ◌&&◌, List, [], ◌∷◌, length, ◌-◌, Option, Some, None}
 use Rattle.std.proofs.Common.{sym, arith, inl, inr, get_or}
 use Rattle.std.specs.Cmp.{IsEquivalence, first_so, second_so}
 use Rattle.std.specs.Cmp.Lexicographic.{pointwise, lists_equiv}
 use Rattle.std.specs.List.{slice_get}
 use Rattle.std.proofs.lemmas.Map.Keys.{any_passes_from_place}
 use Rattle.std.proofs.lemmas.Option.{slice_get-get_or}
-use Rattle.raft_members.specs.Majority.{is_joint_majority, is_voter_of}
+use Rattle.raft_members.specs.Majority.{is_voter_of}
 use Rattle.raft_members.specs.Coherence.{has_config, is_coherent, next_configs}
 use Rattle.raft_members.specs.Meeting.{RespectsEquality}
 use Rattle.raft_members.specs.Reached.{IsReached, EachQuorumKnows}

@@ -1,6 +1,6 @@
 -- Entries that are copied one by one, in order.
 use Rattle.std.specs.Prelude.{◌≡◌, ◌&&◌, Bool, true, false, cond, Some, List, [], ◌∷◌, ◌++◌, IsTrue, refl, not, ◌||◌}
-use Rattle.std.proofs.Common.{◌∙◌, ap, append-nil}
+use Rattle.std.proofs.Common.{◌∙◌, ap, sym, append_assoc, append-nil}
 use Rattle.std.specs.declared.cmp.Ordering.{Ordering}
 use Rattle.std.specs.declared.cmp.Ordering.TheVariants.{Less, Greater}
 use Rattle.std.specs.Cmp.{IsTotalOrder, IsEquivalence}
@@ -107,6 +107,10 @@ module _ {K N : Type 0} {eq : K → K → Bool} {same : N → N → Bool} (e : I
 -- the same configs and equal nodes make equal memberships
 pub equal_members : {K N : Type 0} {eq : K → K → Bool} (same : N → N → Bool) → IsEquivalence eq → (m w : MemberList K N) → w.configs ≡ m.configs → IsTrue (same_nodes eq same m.nodes w.nodes) → IsTrue (same_members eq same m w)
 equal_members same e m w c h = both_so _ _ (rw c ((lists_equiv (lists_equiv e)).refl m.configs)) h
+
+-- an item goes from what is ahead to what is done
+pub moved_on : {X : Type 0} (done : List X) (x : X) (ahead all : List X) → all ≡ done ++ x ∷ ahead → all ≡ (done ++ x ∷ []) ++ ahead
+moved_on done x ahead all h = h ∙ sym (append_assoc done (x ∷ []) ahead)
 
 pub filter-true : {X : Type 0} (xs : List X) → filter (λ _. true) xs ≡ xs
 filter-true [] = refl

@@ -10,3 +10,4 @@ pub mod Twice
 pub mod Added
 pub mod Kept
 pub mod DefaultsMade
+pub mod Learned

@@ -2,7 +2,7 @@
 use Rattle.std.specs.Prelude.{Bool}
 use Rattle.std.specs.Cmp.{IsEquivalence, and_equiv, on_equiv}
 use Rattle.std.specs.Cmp.Lexicographic.{lists_equiv}
-use Rattle.raft_members.specs.Members.{MemberList, same_nodes, same_members}
+use Rattle.raft_members.specs.Members.{same_nodes, same_members}
 
 module _ {K N : Type 0} {eq : K → K → Bool} {same : N → N → Bool} (e : IsEquivalence eq) (s : IsEquivalence same) where
   pub same_nodes-equiv : IsEquivalence (same_nodes eq same)

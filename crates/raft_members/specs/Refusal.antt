@@ -1,8 +1,7 @@
 -- When a change is refused, and what two changes to the same voters lead to.
-use Rattle.std.specs.Prelude.{◌≡◌, ◌⊎◌, ◌<◌, Bool, true, false, Option, Some, None, List, [], ◌∷◌, length, is_some, Result, Ok, Err}
+use Rattle.std.specs.Prelude.{◌≡◌, ◌⊎◌, ◌<◌, Bool, true, false, Option, Some, None, [], ◌∷◌, length, is_some, Result, Ok, Err}
 use Rattle.std.specs.Set.{is_member}
 use Rattle.std.specs.declared.cmp.Ordering.{Ordering}
-use Rattle.raft_members.specs.Majority.{is_voter_of}
 use Rattle.raft_members.specs.Members.{MemberList, Members, members_of}
 use Rattle.raft_members.specs.Valid.{has_empty_config, FirstWithoutNode, IsValid}
 use Rattle.raft_members.specs.Change.{last_config, changed}

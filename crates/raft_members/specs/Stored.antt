@@ -1,5 +1,5 @@
 -- When two stored memberships are equal.
-use Rattle.std.specs.Prelude.{◌&&◌, Bool, Option, nat_eq}
+use Rattle.std.specs.Prelude.{◌&&◌, Bool, nat_eq}
 use Rattle.std.specs.Option.{option_eq}
 use Rattle.raft_base.specs.declared.log_id.LogIdOf.{LogIdOf}
 use Rattle.raft_members.specs.Members.{same_members}

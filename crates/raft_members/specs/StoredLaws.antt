@@ -4,7 +4,6 @@ use Rattle.std.specs.Cmp.{IsEquivalence, and_equiv, on_equiv, nat_eq_equiv}
 use Rattle.std.specs.Cmp.Lexicographic.{options_equiv}
 use Rattle.raft_members.specs.MembersLaws.{same_members-equiv}
 use Rattle.raft_members.specs.Stored.{same_stored}
-use Rattle.raft_members.specs.declared.membership.stored.StoredMembershipOf.{StoredMembershipOf}
 
 pub same_stored-equiv : {C K N : Type 0} {leader : C → C → Bool} {eq : K → K → Bool} {same : N → N → Bool} → IsEquivalence leader → IsEquivalence eq → IsEquivalence same → IsEquivalence (same_stored leader eq same)
 same_stored-equiv l e s =

@@ -1,5 +1,5 @@
 //! Memberships: which nodes vote, in one config or in several, and which nodes are known.
-ghost use Rattle.std.specs.Prelude.{◌≡◌, Bool, List, [], ◌∷◌, IfOk, IfErr, IsTrue, true, false, map, None, is_some, is_err, ◌&&◌, nat_lt, length};
+ghost use Rattle.std.specs.Prelude.{◌≡◌, Bool, List, [], ◌∷◌, IfOk, IfErr, IsTrue, true, false, map, None, not, is_some, is_err, ◌&&◌, nat_lt, length};
 ghost use Rattle.std.specs.Option.{option_copied, option_eq, option_or};
 ghost use Rattle.std.specs.List.{list_any, list_all};
 ghost use Rattle.std.specs.List.Sorted.{IsStrictlySortedBy};
@@ -149,7 +149,8 @@ impl<NID: NodeId, N: Node> Membership<NID, N> {
 
     /// The nodes, in the order of their ids.
     pub fn nodes(&self) -> Iter<'_, NID, N>
-        ensures { result ≡ self.now.nodes }
+        ensures rest { result ≡ self.now.nodes }
+        ensures ascending { IsStrictlySortedBy NID.cmp (keys_of result) }
     {
         self.nodes.iter()
     }
@@ -186,7 +187,9 @@ impl<NID: NodeId, N: Node> Membership<NID, N> {
 
     /// The learners, each once, ascending: the nodes that are in no config.
     pub fn learner_ids(&self) -> LearnerIds<'_, NID, N>
-        ensures { learners_ahead NID.eq result ≡ learners_among NID.eq self.now.configs (keys_of self.now.nodes) }
+        ensures rest { learners_ahead NID.eq result ≡ learners_among NID.eq self.now.configs (keys_of self.now.nodes) }
+        ensures ascending { IsStrictlySortedBy NID.cmp (learners_ahead NID.eq result) }
+        ensures learners { (id : NID) → is_member NID.eq (learners_ahead NID.eq result) id ≡ (is_some (node_at NID.cmp self.now.nodes id) && not (is_voter_of NID.eq self.now.configs id)) }
     {
         LearnerIds {
             nodes: self.nodes.keys(),

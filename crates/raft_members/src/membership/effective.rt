@@ -1,5 +1,5 @@
 //! The membership that is in effect.
-ghost use Rattle.std.specs.Prelude.{◌≡◌, Bool, true, false, ◌&&◌, IfOk, IsTrue, map, Some, None, [], nat_eq};
+ghost use Rattle.std.specs.Prelude.{◌≡◌, Bool, true, false, ◌&&◌, IfOk, IsTrue, map, not, is_some, Some, None, [], nat_eq};
 ghost use Rattle.std.specs.List.{IsDistinct};
 ghost use Rattle.std.specs.List.Sorted.{IsStrictlySortedBy};
 ghost use Rattle.std.specs.Map.{keys_of};
@@ -171,7 +171,9 @@ impl<C: Copy + Drop, NID: NodeId, N: Node> EffectiveMembershipOf<C, NID, N> {
 
     /// The learners, each once, ascending: the nodes that are in no config.
     pub fn learner_ids(&self) -> LearnerIds<'_, NID, N>
-        ensures { learners_ahead NID.eq result ≡ learners_among NID.eq self.now.membership.configs (keys_of self.now.membership.nodes) }
+        ensures rest { learners_ahead NID.eq result ≡ learners_among NID.eq self.now.membership.configs (keys_of self.now.membership.nodes) }
+        ensures ascending { IsStrictlySortedBy NID.cmp (learners_ahead NID.eq result) }
+        ensures learners { (id : NID) → is_member NID.eq (learners_ahead NID.eq result) id ≡ (is_some (node_at NID.cmp self.now.membership.nodes id) && not (is_voter_of NID.eq self.now.membership.configs id)) }
     {
         self.membership().learner_ids()
     }
@@ -185,7 +187,8 @@ impl<C: Copy + Drop, NID: NodeId, N: Node> EffectiveMembershipOf<C, NID, N> {
 
     /// The nodes, in the order of their ids.
     pub fn nodes(&self) -> btree_map::Iter<'_, NID, N>
-        ensures { result ≡ self.now.membership.nodes }
+        ensures rest { result ≡ self.now.membership.nodes }
+        ensures ascending { IsStrictlySortedBy NID.cmp (keys_of result) }
     {
         self.membership().nodes()
     }

@@ -1,5 +1,6 @@
 //! A membership that a log entry stored.
 ghost use Rattle.std.specs.Prelude.{◌≡◌, None, [], IfOk, IsTrue};
+ghost use Rattle.std.specs.Map.{keys_of};
 ghost use Rattle.std.specs.List.Sorted.{IsStrictlySortedBy};
 ghost use Rattle.std.specs.Set.{ClonesAreEqual, is_member};
 ghost use Rattle.raft_members.specs.Majority.{is_voter_of};
@@ -72,7 +73,8 @@ impl<C: Copy, NID: NodeId, N: Node> StoredMembershipOf<C, NID, N> {
 
     /// The nodes, in the order of their ids.
     pub fn nodes(&self) -> Iter<'_, NID, N>
-        ensures { result ≡ self.now.membership.nodes }
+        ensures rest { result ≡ self.now.membership.nodes }
+        ensures ascending { IsStrictlySortedBy NID.cmp (keys_of result) }
     {
         self.membership.nodes()
     }

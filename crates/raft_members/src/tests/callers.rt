@@ -11,18 +11,16 @@ use crate::{ChangeMembers, ChangeMembershipError, Membership};
 use raft_base::{Node, NodeId};
 use std::test::Fail;
 
-/// Changes the members only where a quorum of them holds an entry. Then every quorum of the new
-/// membership contains a node that holds it.
+/// Changes the members, of one config at least, only where a quorum of them holds an entry. Then
+/// every quorum of the new membership contains a node that holds it.
 fn change_once_held<NID: NodeId, N: Node>(
     from: &Membership<NID, N>,
     holders: &[NID],
     change: ChangeMembers<NID, N>,
     retain: bool,
 ) -> Result<Option<Membership<NID, N>>, ChangeMembershipError<NID>>
-    requires clones { ClonesAreEqual N.eq N.is_clone }
-    requires distinct { IsDistinct NID.eq holders.now }
-    requires config { 0 < length from.now.configs }
-    ensures { IfOk result (λ made. MatchOption made (Unit {0}) (λ to. (set : NID → Bool) → is_joint_majority NID.eq to.configs set ≡ true → (id : NID) × (set id ≡ true) × (is_member NID.eq holders.now id ≡ true))) }
+    requires { ClonesAreEqual N.eq N.is_clone }
+    ensures { IsDistinct NID.eq holders.now → 0 < length from.now.configs → IfOk result (λ made. MatchOption made (Unit {0}) (λ to. (set : NID → Bool) → is_joint_majority NID.eq to.configs set ≡ true → (id : NID) × (set id ≡ true) × (is_member NID.eq holders.now id ≡ true))) }
 {
     let quorums = from.to_quorum_set()?;
     if !quorums.is_quorum(holders) {

@@ -1,4 +1,4 @@
-use Rattle.std.proofs.Common.{◌≡◌, Bool, List, [], ◌∷◌, ◌++◌, sym, ◌∙◌, ap, append_assoc, append-nil, map, subst, IsTrue, Option}
+use Rattle.std.proofs.Common.{◌≡◌, Bool, List, [], ◌∷◌, ◌++◌, sym, ◌∙◌, ap, append-nil, map, subst, IsTrue, Option}
 use Rattle.std.specs.Map.{keys_of}
 use Rattle.std.specs.BTreeMap.{is_at, get}
 use Rattle.std.specs.List.{filter}
@@ -8,7 +8,7 @@ use Rattle.std.specs.Option.{option_eq}
 use Rattle.std.proofs.lemmas.Map.Iter.{rest_all}
 use Rattle.std.proofs.lemmas.Map.Entries.{lookup-filter-keys}
 use Rattle.raft_members.specs.Change.{stays}
-use Rattle.raft_members.proofs.Kept.{kept_in, kept_out, same_lookup, same_stays, same_entries}
+use Rattle.raft_members.proofs.Kept.{kept_in, kept_out, same_lookup, same_stays, same_entries, moved_on}
 use Rattle.raft_members.proofs.membership.nodes.kept.Goals as goal
 
 pub returns-clause-nodes : goal.returns-clause-nodes
@@ -33,7 +33,7 @@ pub loop-id-preserved : goal.loop-id-preserved
 loop-id-preserved g c =
     let i = c.loop-id.invariant in
     let x : g.row.NID.Denot × g.row.N.Denot = (c.in-Some.id.now, c.in-Some.node.now) in
-    let rest : c.args.nodes.now.entries ≡ (i.0 ++ x ∷ []) ++ c.next.new.self = i.1 ∙ ap (λ l. i.0 ++ l) c.in-Some.ensures.steps ∙ sym (append_assoc i.0 (x ∷ []) c.next.new.self) in
+    let rest : c.args.nodes.now.entries ≡ (i.0 ++ x ∷ []) ++ c.next.new.self = moved_on i.0 x c.next.new.self c.args.nodes.now.entries (i.1 ∙ ap (λ l. i.0 ++ l) c.in-Some.ensures.steps) in
     (i.0 ++ x ∷ [], rest, kept_out g.N.PartialEq.eq _ i.0 c.loop-id.kept.entries x (sym c.if-is_kept.ensures) i.2)
 
 pub loop-id-preserved-in-Continue-1 : goal.loop-id-preserved-in-Continue-1
@@ -41,7 +41,7 @@ loop-id-preserved-in-Continue-1 g c =
     let i = c.loop-id.invariant in
     let x : g.row.NID.Denot × g.row.N.Denot = (c.in-Some.id.now, c.in-Some.node.now) in
     let front : c.args.nodes.now.entries ≡ i.0 ++ x ∷ c.next.new.self = i.1 ∙ ap (λ l. i.0 ++ l) c.in-Some.ensures.steps in
-    let rest : c.args.nodes.now.entries ≡ (i.0 ++ x ∷ []) ++ c.next.new.self = front ∙ sym (append_assoc i.0 (x ∷ []) c.next.new.self) in
+    let rest : c.args.nodes.now.entries ≡ (i.0 ++ x ∷ []) ++ c.next.new.self = moved_on i.0 x c.next.new.self c.args.nodes.now.entries front in
     let w = c.in_ok-put_copy.ensures in
     let P : List (g.row.NID.Denot × g.row.N.Denot) → Type 0 = λ es. IsStrictlySortedBy g.NID.Ord.cmp (keys_of es) in
     (i.0 ++ x ∷ [], rest, rw w.2 (kept_in g.N.PartialEq.eq g.met.NID.Ord.total _ i.0 c.next.new.self c.loop-id.kept.entries x.0 x.1 w.0 (subst P front c.iter-id-items.ensures.ordered) (sym c.if-is_kept.ensures) (g.met.N.PartialEq.laws.symm w.0 x.1 ∙ w.1) i.2))
