@@ -9,16 +9,15 @@ use Rattle.raft_progress.specs.CountedValue.{has_part}
 use Rattle.raft_progress.specs.Shown.{state}
 use Rattle.raft_progress.specs.TrackedState.{TrackedShown}
 
-module _ {K N V P : Type 0} (eq : K → K → Bool) (id_cmp : K → K → Ordering) (cmp : P → P → Ordering) (part : V → P) where
-  -- where the membership has a config, each of its quorums contains a voter whose part is at least granted
-  abbrev pub QuorumsKnowGranted : TrackedShown K N V P → Type 0
-  QuorumsKnowGranted t =
-      0 < length t.membership.configs
-      → EachQuorumKnows eq t.membership.configs (state eq t.progress).is_voter (λ id. has_part cmp part t.progress.granted ((state eq t.progress).value id))
+-- where the membership has a config, each of its quorums contains a voter whose part is at least granted
+abbrev pub QuorumsKnowGranted : {K N V P : Type 0} → (K → K → Bool) → (P → P → Ordering) → (V → P) → TrackedShown K N V P → Type 0
+QuorumsKnowGranted eq cmp part t =
+    0 < length t.membership.configs
+    → EachQuorumKnows eq t.membership.configs (state eq t.progress).is_voter (λ id. has_part cmp part t.progress.granted ((state eq t.progress).value id))
 
-  -- and so does each quorum of what one change makes of the membership, accepted or not
-  abbrev pub ChangedQuorumsKnowGranted : TrackedShown K N V P → Type 0
-  ChangedQuorumsKnowGranted t =
-      0 < length t.membership.configs
-      → (change : ChangeMembers K N) (retain : Bool)
-      → EachQuorumKnows eq (changed eq id_cmp (members_of id_cmp t.membership) change retain).configs (state eq t.progress).is_voter (λ id. has_part cmp part t.progress.granted ((state eq t.progress).value id))
+-- and so does each quorum of what one change makes of the membership, accepted or not
+abbrev pub ChangedQuorumsKnowGranted : {K N V P : Type 0} → (K → K → Bool) → (K → K → Ordering) → (P → P → Ordering) → (V → P) → TrackedShown K N V P → Type 0
+ChangedQuorumsKnowGranted {K} {N} eq id_cmp cmp part t =
+    0 < length t.membership.configs
+    → (change : ChangeMembers K N) (retain : Bool)
+    → EachQuorumKnows eq (changed eq id_cmp (members_of id_cmp t.membership) change retain).configs (state eq t.progress).is_voter (λ id. has_part cmp part t.progress.granted ((state eq t.progress).value id))

@@ -27,7 +27,7 @@ module _ {K N V P : Type 0} (eq : K → K → Bool) (id_cmp : K → K → Orderi
       (configs : Configs K) × (learners : List K) × HasConfigs m configs × AreLearners eq m learners
       × IsAnsweredUpgrade eq id_cmp cmp part IsClone (has_quorum eq) (is_voter eq) old configs learners default reply new
 
-module _ {K N V P : Type 0} (eq : K → K → Bool) (id_cmp : K → K → Ordering) (same : N → N → Bool) (cmp : P → P → Ordering) (partial_cmp : V → V → Option Ordering) (part : V → P) (IsClone : V → V → Type 0) where
+module _ {K N V P : Type 0} (eq : K → K → Bool) (id_cmp : K → K → Ordering) (same : N → N → Bool) (cmp : P → P → Ordering) (part : V → P) (IsClone : V → V → Type 0) where
   -- a change of the membership is answered so: it is refused for an empty config, else for the first voter without a node, and else the pair goes over to the changed membership; or a growth was refused
   abbrev pub IsChanged : TrackedState K N V P → ChangeMembers K N → Bool → V → Reply K P → TrackedState K N V P → Type 0
   IsChanged old change retain default (Granted p) new =
@@ -46,11 +46,12 @@ module _ {K N V P : Type 0} (eq : K → K → Bool) (id_cmp : K → K → Orderi
   IsChanged old change retain default WouldFall new = ⊥
   IsChanged old change retain default BadLearners new = ⊥
 
+module _ {K N V P : Type 0} (eq : K → K → Bool) (id_cmp : K → K → Ordering) (same : N → N → Bool) (cmp : P → P → Ordering) (partial_cmp : V → V → Option Ordering) (part : V → P) (IsClone : V → V → Type 0) where
   -- From old, the step may be answered so and go on to new.
   abbrev pub IsTrackedStep : TrackedState K N V P → Step K N V → Reply K P → TrackedState K N V P → Type 0
   IsTrackedStep old (Update id value) reply new = (new.membership ≡ old.membership) × IsWritten eq cmp part (has_quorum eq) old.progress id value reply new.progress
   IsTrackedStep old (IncreaseTo id value) reply new = (new.membership ≡ old.membership) × IsIncreased eq cmp partial_cmp part (has_quorum eq) old.progress id value reply new.progress
-  IsTrackedStep old (Change change retain default) reply new = IsChanged old change retain default reply new
+  IsTrackedStep old (Change change retain default) reply new = IsChanged eq id_cmp same cmp part IsClone old change retain default reply new
 
   -- The steps may be answered so, one after another.
   abbrev pub IsTrackedRun : TrackedState K N V P → List (Step K N V) → List (Reply K P) → TrackedState K N V P → Type 0

@@ -12,9 +12,9 @@ mod rise;
 mod scan;
 mod stat;
 mod steps;
-mod tracked;
 #[cfg(test)]
 mod tests;
+mod tracked;
 mod upgrade;
 mod vec_progress;
 

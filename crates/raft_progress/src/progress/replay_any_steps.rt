@@ -92,11 +92,12 @@ fn try_upgrade<
 }
 
 /// Writes a value where its part isn't below the present one.
-pub(super) fn write<ID: Copy + Ord, V: ProgressPart<P> + Drop, P: Copy + Ord, QS: QuorumSet<ID> + Drop>(
-    progress: &mut VecProgress<ID, V, P, QS>,
-    id: &ID,
-    value: V,
-) -> Reply<ID, P>
+pub(super) fn write<
+    ID: Copy + Ord,
+    V: ProgressPart<P> + Drop,
+    P: Copy + Ord,
+    QS: QuorumSet<ID> + Drop,
+>(progress: &mut VecProgress<ID, V, P, QS>, id: &ID, value: V) -> Reply<ID, P>
     requires { IsInOrder ID.eq P.cmp V.part_of QS.has_quorum (shown progress.old) }
     ensures step { IsWritten ID.eq P.cmp V.part_of QS.has_quorum (state ID.eq (shown progress.old)) id.now value result (state ID.eq (shown progress.new)) }
     ensures ordered { IsInOrder ID.eq P.cmp V.part_of QS.has_quorum (shown progress.new) }

@@ -1,8 +1,6 @@
 //! A replay of steps on a membership and its progress.
 ghost use Rattle.std.specs.Prelude.{◌≡◌, IfOk, OnErr};
 ghost use Rattle.std.specs.Set.{ClonesAreEqual};
-ghost use Rattle.raft_members.specs.Members.{members_of};
-ghost use Rattle.raft_members.specs.Refusal.{IsRefusal};
 ghost use Rattle.raft_progress.specs.CountedValue.{IsCounted};
 ghost use Rattle.raft_progress.specs.Headline.{ChangedQuorumsKnowGranted, QuorumsKnowGranted};
 ghost use Rattle.raft_progress.specs.Shown.{state};
@@ -14,7 +12,7 @@ ghost use Rattle.raft_progress.specs.TrackedSteps.{IsChanged, IsTrackedRun, IsTr
 use super::part::ProgressPart;
 use super::replay_any_steps::{increase, write};
 use super::steps::{Reply, Step};
-use super::tracked::Tracked;
+use super::tracked::{Tracked, learners_of};
 use raft_base::{Node, NodeId};
 use raft_members::change_members::ChangeMembers;
 use raft_members::error::ChangeMembershipError;
@@ -61,17 +59,13 @@ fn change_members<NID: NodeId, N: Node, V: ProgressPart<P> + Clone + Drop, P: Co
             Ok(reply) => reply,
             Err(_) => Reply::OutOfMemory,
         },
-        Err(refused) => refusal(refused),
-    }
-}
-
-/// The reply to a refused change.
-fn refusal<NID: NodeId, P>(refused: ChangeMembershipError<NID>) -> Reply<NID, P> {
-    match refused {
-        ChangeMembershipError::EmptyMembership(_) => Reply::Refused(None),
-        ChangeMembershipError::LearnerNotFound(missing) => Reply::Refused(Some(missing.node_id)),
-        ChangeMembershipError::OutOfMemory => Reply::OutOfMemory,
-        ChangeMembershipError::InProgress(_) => Reply::OutOfMemory,
+        Err(ChangeMembershipError::EmptyMembership(_)) => Reply::Refused(None),
+        Err(ChangeMembershipError::LearnerNotFound(missing)) => Reply::Refused(Some(
+            missing.node_id,
+        )),
+        Err(ChangeMembershipError::OutOfMemory) => Reply::OutOfMemory,
+        // `change` refuses nothing for an earlier change.
+        Err(ChangeMembershipError::InProgress(_)) => unreachable!(),
     }
 }
 
@@ -90,11 +84,13 @@ fn take_over<NID: NodeId, N: Node, V: ProgressPart<P> + Clone + Drop, P: Copy + 
 {
     let alloc = *next.get_joint_config().allocator();
     let configs = next.to_quorum_set()?;
-    let learners: Vec<NID> = next.learner_ids().collect(alloc)?;
+    let learners = learners_of(alloc, &next)?;
     match pair.progress.least_below(&configs, &learners, &default)? {
         Some(id) => Ok(Reply::BelowDefault(id)),
         None => {
-            let upgraded = pair.progress.upgrade_quorum_set(configs, &learners, default)?;
+            let upgraded = pair
+                .progress
+                .upgrade_quorum_set(configs, &learners, default)?;
             pair.progress = upgraded;
             pair.membership = next;
             Ok(Reply::Granted(*pair.progress.granted()))

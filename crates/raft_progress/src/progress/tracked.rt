@@ -1,14 +1,23 @@
 //! A membership and the progress that counts by it.
+ghost use Rattle.std.specs.Prelude.{◌≡◌, IfOk};
+ghost use Rattle.raft_members.specs.Learners.{learners_ahead};
+ghost use Rattle.raft_members.specs.Members.{members_of};
+ghost use Rattle.raft_progress.specs.TrackedState.{AreLearners};
 
 use super::part::ProgressPart;
 use super::vec_progress::VecProgress;
 use raft_base::{Node, NodeId};
-use raft_members::membership::Membership;
+use raft_members::membership::{LearnerIds, Membership};
 use raft_members::quorum::Joint;
-use std::alloc::AllocError;
+use std::alloc::{AllocError, Global};
 
 /// The progress of a membership's voters, by the quorums of its configs, and of its learners.
-pub type MembershipProgress<NID, V, P> = VecProgress<NID, V, P, Joint<NID, Vec<NID>, Vec<Vec<NID>>>>;
+pub type MembershipProgress<NID, V, P> = VecProgress<
+    NID,
+    V,
+    P,
+    Joint<NID, Vec<NID>, Vec<Vec<NID>>>,
+>;
 
 /// A membership, and the progress of its voters and learners.
 ///
@@ -42,7 +51,7 @@ impl<NID: NodeId, N: Node, V: ProgressPart<P> + Drop, P: Copy + Ord> Tracked<NID
     {
         let alloc = *membership.get_joint_config().allocator();
         let configs = membership.to_quorum_set()?;
-        let learners: Vec<NID> = membership.learner_ids().collect(alloc)?;
+        let learners = learners_of(alloc, &membership)?;
         let progress = VecProgress::new(alloc, configs, &learners, default)?;
         Ok(Tracked {
             membership,
@@ -63,4 +72,29 @@ impl<NID: NodeId, N: Node, V: ProgressPart<P> + Drop, P: Copy + Ord> Tracked<NID
     {
         &self.progress
     }
+}
+
+/// The learners of a membership.
+pub(super) fn learners_of<NID: NodeId, N: Node>(
+    alloc: Global,
+    membership: &Membership<NID, N>,
+) -> Result<Vec<NID>, AllocError>
+    ensures { IfOk result (λ ids. AreLearners NID.eq (members_of NID.cmp membership.now) ids.items) }
+{
+    let ids = listed(alloc, membership.learner_ids())?;
+    Ok(ids)
+}
+
+/// The learners that an iterator gives, in a list.
+fn listed<NID: NodeId, N: Node>(
+    alloc: Global,
+    learners: LearnerIds<'_, NID, N>,
+) -> Result<Vec<NID>, AllocError>
+    ensures { IfOk result (λ ids. ids.items ≡ learners_ahead NID.eq learners.entry) }
+{
+    let mut ids = Vec::new(alloc);
+    for id in learners {
+        ids.push(id)?;
+    }
+    Ok(ids)
 }

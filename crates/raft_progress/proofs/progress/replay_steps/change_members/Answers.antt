@@ -1,0 +1,12 @@
+use Rattle.std.proofs.Common.{◌≡◌, subst, sym}
+use Rattle.raft_members.specs.Change.{changed}
+use Rattle.raft_members.specs.Members.{members_of}
+use Rattle.raft_progress.proofs.ChangeLemmas.{changed_step}
+use Rattle.raft_progress.specs.Shown.{state}
+use Rattle.raft_progress.specs.Tracked.{tracked}
+use Rattle.raft_progress.specs.TrackedState.{tracked_state}
+use Rattle.raft_progress.proofs.progress.replay_steps.change_members.Goals as goal
+
+pub returns-in-Ok-take_over-clause-step : goal.returns-in-Ok-take_over-clause-step
+returns-in-Ok-take_over-clause-step g c =
+    changed_step g.NID.PartialEq.eq g.NID.Ord.cmp g.N.PartialEq.eq g.P.Ord.cmp g.V.ProgressPart.part_of g.V.Clone.is_clone (tracked_state g.NID.PartialEq.eq (tracked c.args.pair.now)) c.args.change c.args.retain c.args.default c.in-Ok.next (tracked_state g.NID.PartialEq.eq (tracked c.take_over.new.pair)) c.in-Ok.ensures.valid c.in-Ok.ensures.changed c.in-Ok-take_over.reply c.in-Ok-take_over.ensures.step

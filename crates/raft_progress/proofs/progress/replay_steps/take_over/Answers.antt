@@ -1,0 +1,57 @@
+use Rattle.std.proofs.Common.{List, ◌≡◌, refl, subst, sym}
+use Rattle.raft_members.specs.Members.{members_of}
+use Rattle.raft_progress.specs.CountedValue.{IsCounted}
+use Rattle.raft_progress.specs.NewProgress.{LearnersFit}
+use Rattle.raft_progress.specs.Shown.{state}
+use Rattle.raft_progress.specs.TrackedState.{has_quorum, is_voter}
+use Rattle.raft_progress.specs.Upgrade.{CanUpgrade, IsLeastBelow, IsUpgraded}
+use Rattle.raft_progress.specs.VecProgress.{shown}
+use Rattle.raft_progress.proofs.TrackedLemmas.{counts_upgraded, learners_of_fit}
+use Rattle.raft_progress.proofs.progress.replay_steps.take_over.Goals as goal
+
+pub upgrade_quorum_set-requires-clause-learners_fit : goal.upgrade_quorum_set-requires-clause-learners_fit
+upgrade_quorum_set-requires-clause-learners_fit g c =
+    subst (LearnersFit g.NID.PartialEq.eq (is_voter g.NID.PartialEq.eq c.in_ok-configs.configs)) (sym c.deref-in-None.ensures.value)
+    (learners_of_fit g.NID.PartialEq.eq (members_of g.NID.Ord.cmp c.args.next) c.in_ok-configs.configs c.in_ok-learners.learners.items c.in_ok-configs.ensures.voters c.in_ok-learners.ensures)
+
+pub returns-in-Some-clause-step : goal.returns-in-Some-clause-step
+returns-in-Some-clause-step g c =
+    let fit = learners_of_fit g.NID.PartialEq.eq (members_of g.NID.Ord.cmp c.args.next) c.in_ok-configs.configs c.in_ok-learners.learners.items c.in_ok-configs.ensures.voters c.in_ok-learners.ensures in (
+      refl,
+      (
+        c.in_ok-configs.configs,
+        c.in_ok-learners.learners.items,
+        c.in_ok-configs.ensures.configs,
+        c.in_ok-learners.ensures,
+        (
+          fit,
+          subst (λ (ls : List g.row.NID.Denot). IsLeastBelow g.NID.PartialEq.eq g.NID.Ord.cmp g.P.Ord.cmp g.V.ProgressPart.part_of (is_voter g.NID.PartialEq.eq c.in_ok-configs.configs) ls c.args.default ((state g.NID.PartialEq.eq (shown c.args.pair.now.progress)).value) c.in-Some.id) c.deref.ensures.value (c.in_ok-id.ensures.some c.in-Some.id c.in-Some.is),
+          record { quorum_set = refl; is_voter = λ x. refl; value = λ x. refl; default_part = refl },
+        ),
+      ),
+    )
+
+pub returns-in_ok-upgraded-in-None-clause-step : goal.returns-in_ok-upgraded-in-None-clause-step
+returns-in_ok-upgraded-in-None-clause-step g c =
+    let fit = learners_of_fit g.NID.PartialEq.eq (members_of g.NID.Ord.cmp c.args.next) c.in_ok-configs.configs c.in_ok-learners.learners.items c.in_ok-configs.ensures.voters c.in_ok-learners.ensures in (
+      refl,
+      (
+        c.in_ok-configs.configs,
+        c.in_ok-learners.learners.items,
+        c.in_ok-configs.ensures.configs,
+        c.in_ok-learners.ensures,
+        (
+          fit,
+          subst (λ (ls : List g.row.NID.Denot). CanUpgrade g.NID.PartialEq.eq g.P.Ord.cmp g.V.ProgressPart.part_of (is_voter g.NID.PartialEq.eq c.in_ok-configs.configs) ls c.args.default ((state g.NID.PartialEq.eq (shown c.args.pair.now.progress)).value)) c.deref.ensures.value (c.in_ok-id.ensures.none c.in-None.is),
+          subst (λ (ls : List g.row.NID.Denot). IsUpgraded g.NID.PartialEq.eq g.V.Clone.is_clone g.V.ProgressPart.part_of (is_voter g.NID.PartialEq.eq c.in_ok-configs.configs) c.in_ok-configs.configs ls c.args.default ((state g.NID.PartialEq.eq (shown c.args.pair.now.progress)).value) (state g.NID.PartialEq.eq (shown c.in_ok-upgraded-in-None.upgraded))) c.deref-in-None.ensures.value c.in_ok-upgraded-in-None.ensures.made,
+          subst (λ (p : g.row.P.Denot). IsCounted g.P.Ord.cmp g.V.ProgressPart.part_of (has_quorum g.NID.PartialEq.eq) (state g.NID.PartialEq.eq (shown c.in_ok-upgraded-in-None.upgraded)) p) (sym c.granted.ensures) c.in_ok-upgraded-in-None.ensures.ordered.counted,
+        ),
+      ),
+    )
+
+pub returns-in_ok-upgraded-in-None-clause-ready : goal.returns-in_ok-upgraded-in-None-clause-ready
+returns-in_ok-upgraded-in-None-clause-ready g c = record {
+  ordered = c.in_ok-upgraded-in-None.ensures.ordered;
+  counts_by = counts_upgraded g.NID.PartialEq.eq g.NID.Ord.cmp c.args.next c.in_ok-configs.configs c.in_ok-learners.learners.items c.in_ok-configs.ensures.voters c.in_ok-configs.ensures.configs c.in_ok-learners.ensures g.V.Clone.is_clone g.V.ProgressPart.part_of c.args.default ((state g.NID.PartialEq.eq (shown c.args.pair.now.progress)).value) (state g.NID.PartialEq.eq (shown c.in_ok-upgraded-in-None.upgraded))
+      (subst (λ (ls : List g.row.NID.Denot). IsUpgraded g.NID.PartialEq.eq g.V.Clone.is_clone g.V.ProgressPart.part_of (is_voter g.NID.PartialEq.eq c.in_ok-configs.configs) c.in_ok-configs.configs ls c.args.default ((state g.NID.PartialEq.eq (shown c.args.pair.now.progress)).value) (state g.NID.PartialEq.eq (shown c.in_ok-upgraded-in-None.upgraded))) c.deref-in-None.ensures.value c.in_ok-upgraded-in-None.ensures.made);
+}

@@ -1,0 +1,32 @@
+use Rattle.std.proofs.Common.{List, ◌≡◌, subst, sym, refl, None}
+use Rattle.raft_members.specs.Members.{members_of}
+use Rattle.raft_progress.specs.NewProgress.{IsNew, LearnersFit}
+use Rattle.raft_progress.specs.Shown.{state}
+use Rattle.raft_progress.specs.TrackedState.{AreLearners, is_voter}
+use Rattle.raft_progress.specs.VecProgress.{shown}
+use Rattle.raft_progress.proofs.TrackedLemmas.{counts_upgraded, learners_of_fit}
+use Rattle.raft_progress.proofs.UpgradeLemmas.{upgraded_none}
+use Rattle.raft_progress.proofs.progress.tracked.Tracked.new.Goals as goal
+
+pub new-requires-clause-learners_fit : goal.new-requires-clause-learners_fit
+new-requires-clause-learners_fit g c =
+    subst (LearnersFit g.NID.PartialEq.eq (is_voter g.NID.PartialEq.eq c.in_ok-configs.configs)) (sym c.deref.ensures.value)
+    (learners_of_fit g.NID.PartialEq.eq (members_of g.NID.Ord.cmp c.args.membership) c.in_ok-configs.configs c.in_ok-learners.learners.items c.in_ok-configs.ensures.voters c.in_ok-learners.ensures)
+
+pub returns-clause-progress : goal.returns-clause-progress
+returns-clause-progress g c = (
+  c.in_ok-configs.configs,
+  c.in_ok-learners.learners.items,
+  c.in_ok-configs.ensures.configs,
+  c.in_ok-learners.ensures,
+  subst (λ (ls : List g.row.NID.Denot). IsNew g.NID.PartialEq.eq g.V.Clone.is_clone g.V.ProgressPart.part_of (is_voter g.NID.PartialEq.eq c.in_ok-configs.configs) c.in_ok-configs.configs ls c.args.default (state g.NID.PartialEq.eq (shown c.in_ok-progress.progress))) c.deref.ensures.value c.in_ok-progress.ensures.made,
+)
+
+pub returns-clause-ready : goal.returns-clause-ready
+returns-clause-ready g c =
+    let made = subst (λ (ls : List g.row.NID.Denot). IsNew g.NID.PartialEq.eq g.V.Clone.is_clone g.V.ProgressPart.part_of (is_voter g.NID.PartialEq.eq c.in_ok-configs.configs) c.in_ok-configs.configs ls c.args.default (state g.NID.PartialEq.eq (shown c.in_ok-progress.progress))) c.deref.ensures.value c.in_ok-progress.ensures.made in
+    record {
+      ordered = c.in_ok-progress.ensures.ordered;
+      counts_by = counts_upgraded g.NID.PartialEq.eq g.NID.Ord.cmp c.args.membership c.in_ok-configs.configs c.in_ok-learners.learners.items c.in_ok-configs.ensures.voters c.in_ok-configs.ensures.configs c.in_ok-learners.ensures g.V.Clone.is_clone g.V.ProgressPart.part_of c.args.default (λ id. None) (state g.NID.PartialEq.eq (shown c.in_ok-progress.progress))
+          (upgraded_none g.NID.PartialEq.eq g.V.Clone.is_clone g.V.ProgressPart.part_of (is_voter g.NID.PartialEq.eq c.in_ok-configs.configs) c.in_ok-configs.configs c.in_ok-learners.learners.items c.args.default (state g.NID.PartialEq.eq (shown c.in_ok-progress.progress)) made);
+    }
