@@ -1,0 +1,84 @@
+//! Runs a script: a line at a time, from its words to its reply.
+
+mod command;
+mod engine;
+mod reply;
+
+ghost use Rattle.raft_script.specs.Engine.{IsReady};
+
+use command::{Command, LineError};
+use engine::Engine;
+use std::alloc::Global;
+use std::io::{self, BufRead, BufReader, BufWriter, Read, Write};
+
+/// The room for what is read ahead, and for replies that are not yet written.
+const BUFFER_SIZE: usize = 65536;
+
+/// Runs the script that `reader` gives, and writes a reply a line to `writer`.
+///
+/// The answer is the exit status: 0 at the end of input, 2 after a line of no known form, which
+/// is named and ends the script, and 1 after a fault of input or output or for want of memory.
+/// Replies are written together, but each before more input is waited for.
+pub fn run<R: Read + Drop, W: Write>(alloc: Global, reader: R, writer: &mut W) -> u8 {
+    match run_lines(alloc, reader, writer) {
+        Ok(status) => status,
+        Err(_) => 1,
+    }
+}
+
+fn run_lines<R: Read + Drop, W: Write>(alloc: Global, reader: R, writer: &mut W) -> io::Result<u8> {
+    let mut reader = BufReader::with_capacity(alloc, BUFFER_SIZE, reader)?;
+    let mut replies = BufWriter::with_capacity(alloc, BUFFER_SIZE, writer)?;
+    let mut engine = Engine::new();
+    let mut line = Vec::new(alloc);
+    for passed in 0..u64::MAX {
+        if !reader.buffer().contains(&b'\n') {
+            replies.flush()?;
+        }
+        line.clear();
+        if reader.read_until(b'\n', &mut line)? == 0 {
+            return Ok(0);
+        }
+        if line.last() == Some(&b'\n') {
+            line.pop();
+        }
+        if !run_line(alloc, &mut engine, &line, &mut replies)? {
+            writeln!(replies, "bad line {}", passed + 1)?;
+            replies.flush()?;
+            return Ok(2);
+        }
+    }
+    Ok(1)
+}
+
+/// Runs one line, and answers whether it has a form that can be run.
+fn run_line<W: Write>(
+    alloc: Global,
+    engine: &mut Engine,
+    line: &[u8],
+    replies: &mut W,
+) -> io::Result<bool>
+    requires { IsReady engine.old }
+    ensures { IsReady engine.new }
+{
+    match command::parse(alloc, line) {
+        Ok(None) => Ok(true),
+        Ok(Some(Command::Init { default, voters, learners })) => {
+            if engine.init(alloc, default, &voters, &learners).is_err() {
+                replies.write_all(b"no-memory\n")?;
+            }
+            Ok(true)
+        }
+        Ok(Some(Command::Step(step))) => {
+            match engine.answer(alloc, step)? {
+                None => Ok(false),
+                Some(answer) => {
+                    reply::write(replies, &answer)?;
+                    Ok(true)
+                }
+            }
+        }
+        Err(LineError::BadLine) => Ok(false),
+        Err(LineError::OutOfMemory(error)) => Err(io::Error::from(error)),
+    }
+}

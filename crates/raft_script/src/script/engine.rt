@@ -1,0 +1,75 @@
+//! The progress that a script runs.
+ghost use Rattle.std.specs.Prelude.{◌≡◌, IfOk, OnErr};
+ghost use Rattle.std.specs.BTreeSet.{IsDifference};
+ghost use Rattle.std.specs.List.Sorted.{IsStrictlySortedBy};
+ghost use Rattle.std.specs.Ordering.{nat_cmp};
+
+use raft_members::quorum::QuorumSet;
+use raft_progress::progress::{AnyStep, Reply, VecProgress, replay_any};
+use std::alloc::{AllocError, Global};
+use std::collections::BTreeSet;
+
+/// The progress of the last `init` that succeeded.
+#[derive(Drop)]
+pub struct Engine {
+    progress: Option<VecProgress<u64, u64, u64, Vec<u64>>>,
+}
+
+impl Engine {
+    ghost use Rattle.raft_script.specs.Engine.{IsReady};
+
+    /// An engine before any `init`.
+    pub fn new() -> Engine
+        ensures { IsReady result }
+    {
+        Engine { progress: None }
+    }
+
+    /// Goes over to a new progress; for want of memory the earlier one stays.
+    pub fn init(
+        &mut self,
+        alloc: Global,
+        default: u64,
+        voters: &BTreeSet<u64>,
+        learners: &BTreeSet<u64>,
+    ) -> Result<(), AllocError>
+        requires { IsReady self.old }
+        ensures ready { IsReady self.new }
+        ensures err { OnErr result (self.new ≡ self.old) }
+    {
+        let learners = learners_only(alloc, learners, voters)?;
+        let voters = voters.ids(alloc)?;
+        let progress = VecProgress::new(alloc, voters, &learners, default)?;
+        self.progress = Some(progress);
+        Ok(())
+    }
+
+    /// Makes a step; `None` where there is no progress yet.
+    pub fn answer(
+        &mut self,
+        alloc: Global,
+        step: AnyStep<u64, u64, Vec<u64>>,
+    ) -> Result<Option<Reply<u64, u64>>, AllocError>
+        requires { IsReady self.old }
+        ensures { IsReady self.new }
+    {
+        let Some(progress) = &mut self.progress else {
+            return Ok(None);
+        };
+        let steps = vec![in alloc; step]?;
+        let mut replies = replay_any(alloc, progress, steps)?;
+        Ok(replies.pop())
+    }
+}
+
+/// The learners that are no voters, ascending.
+fn learners_only(
+    alloc: Global,
+    learners: &BTreeSet<u64>,
+    voters: &BTreeSet<u64>,
+) -> Result<Vec<u64>, AllocError>
+    ensures ascending { IfOk result (λ found. IsStrictlySortedBy nat_cmp found.items) }
+    ensures members { IfOk result (λ found. IsDifference nat_cmp learners.now voters.now found.items) }
+{
+    learners.difference(voters).copied().collect(alloc)
+}
