@@ -1,12 +1,14 @@
 //! Runs a script: a line at a time, from its words to its reply.
 
 mod command;
+mod dialogue;
 mod engine;
 mod reply;
 
 ghost use Rattle.raft_script.specs.Engine.{IsReady};
 
 use command::{Command, LineError};
+use dialogue::Dialogue;
 use engine::Engine;
 use std::alloc::Global;
 use std::io::{self, BufRead, BufReader, BufWriter, Read, Write};
@@ -27,22 +29,21 @@ pub fn run<R: Read + Drop, W: Write>(alloc: Global, reader: R, writer: &mut W) -
 }
 
 fn run_lines<R: Read + Drop, W: Write>(alloc: Global, reader: R, writer: &mut W) -> io::Result<u8> {
-    let mut reader = BufReader::with_capacity(alloc, BUFFER_SIZE, reader)?;
-    let mut replies = BufWriter::with_capacity(alloc, BUFFER_SIZE, writer)?;
-    let mut engine = Engine::new();
+    let replies = BufWriter::with_capacity(alloc, BUFFER_SIZE, writer)?;
+    let dialogue = Dialogue { reader, replies };
+    let mut lines = BufReader::with_capacity(alloc, BUFFER_SIZE, dialogue)?;
     let mut line = Vec::new(alloc);
+    let mut engine = Engine::new();
     for passed in 0..u64::MAX {
-        if !reader.buffer().contains(&b'\n') {
-            replies.flush()?;
-        }
         line.clear();
-        if reader.read_until(b'\n', &mut line)? == 0 {
+        if lines.read_until(b'\n', &mut line)? == 0 {
             return Ok(0);
         }
         if line.last() == Some(&b'\n') {
             line.pop();
         }
-        if !run_line(alloc, &mut engine, &line, &mut replies)? {
+        let replies = &mut lines.get_mut().replies;
+        if !run_line(alloc, &mut engine, &line, replies)? {
             writeln!(replies, "bad line {}", passed + 1)?;
             replies.flush()?;
             return Ok(2);
@@ -63,7 +64,15 @@ fn run_line<W: Write>(
 {
     match command::parse(alloc, line) {
         Ok(None) => Ok(true),
-        Ok(Some(Command::Init { default, voters, learners })) => {
+        Ok(
+            Some(
+                Command::Init {
+                    default,
+                    voters,
+                    learners,
+                },
+            ),
+        ) => {
             if engine.init(alloc, default, &voters, &learners).is_err() {
                 replies.write_all(b"no-memory\n")?;
             }

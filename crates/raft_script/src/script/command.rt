@@ -1,4 +1,6 @@
 //! What a line says.
+ghost use Rattle.std.specs.Prelude.{◌<◌, ◌^◌, SomeIff};
+ghost use Rattle.std.specs.Str.Parse.{IsNumeral, digits_value};
 
 use raft_progress::progress::AnyStep;
 use std::alloc::{AllocError, Global};
@@ -62,7 +64,10 @@ impl<'a> Words<'a> {
     fn next(&mut self) -> Option<&'a [u8]> {
         let start = self.rest.iter().position(|byte| *byte != b' ')?;
         let from = &self.rest[start..];
-        let end = from.iter().position(|byte| *byte == b' ').unwrap_or(from.len());
+        let end = from
+            .iter()
+            .position(|byte| *byte == b' ')
+            .unwrap_or(from.len());
         self.rest = &from[end..];
         Some(&from[..end])
     }
@@ -98,16 +103,16 @@ fn list(alloc: Global, word: &[u8]) -> Result<BTreeSet<u64>, LineError> {
 }
 
 /// The value of decimal digits, where there are any and it fits.
-fn number(word: &[u8]) -> Option<u64> {
+fn number(word: &[u8]) -> Option<u64>
+    ensures { SomeIff result (IsNumeral 10 word.now × (digits_value 10 word.now < 2 ^ 64)) (digits_value 10 word.now) }
+{
     if word.is_empty() {
         return None;
     }
     let mut value = 0u64;
     for byte in word {
-        if !byte.is_ascii_digit() {
-            return None;
-        }
-        value = value.checked_mul(10)?.checked_add(u64::from(*byte - b'0'))?;
+        let digit = char::from(*byte).to_digit(10)?;
+        value = value.checked_mul(10)?.checked_add(u64::from(digit))?;
     }
     Some(value)
 }

@@ -4,7 +4,6 @@ ghost use Rattle.std.specs.BTreeSet.{IsDifference};
 ghost use Rattle.std.specs.List.Sorted.{IsStrictlySortedBy};
 ghost use Rattle.std.specs.Ordering.{nat_cmp};
 
-use raft_members::quorum::QuorumSet;
 use raft_progress::progress::{AnyStep, Reply, VecProgress, replay_any};
 use std::alloc::{AllocError, Global};
 use std::collections::BTreeSet;
@@ -16,16 +15,18 @@ pub struct Engine {
 }
 
 impl Engine {
-    ghost use Rattle.raft_script.specs.Engine.{IsReady};
+    ghost use Rattle.std.specs.Prelude.{Some, OnOk, IsNone, IsSomeAnd};
+    ghost use Rattle.raft_script.specs.Engine.{IsReady, IsNew, Answers, progress_of};
 
     /// An engine before any `init`.
     pub fn new() -> Engine
-        ensures { IsReady result }
+        ensures ready { IsReady result }
+        ensures empty { IsNone (progress_of result) }
     {
         Engine { progress: None }
     }
 
-    /// Goes over to a new progress; for want of memory the earlier one stays.
+    /// Goes over to a new progress, in which an id that is both a voter and a learner is a voter.
     pub fn init(
         &mut self,
         alloc: Global,
@@ -35,23 +36,26 @@ impl Engine {
     ) -> Result<(), AllocError>
         requires { IsReady self.old }
         ensures ready { IsReady self.new }
+        ensures ok { OnOk result (IsSomeAnd (progress_of self.new) (IsNew voters.now.keys learners.now.keys default)) }
         ensures err { OnErr result (self.new ≡ self.old) }
     {
         let learners = learners_only(alloc, learners, voters)?;
-        let voters = voters.ids(alloc)?;
+        let voters = ids(alloc, voters)?;
         let progress = VecProgress::new(alloc, voters, &learners, default)?;
         self.progress = Some(progress);
         Ok(())
     }
 
-    /// Makes a step; `None` where there is no progress yet.
+    /// Makes a step; without a progress there is no reply.
     pub fn answer(
         &mut self,
         alloc: Global,
         step: AnyStep<u64, u64, Vec<u64>>,
     ) -> Result<Option<Reply<u64, u64>>, AllocError>
         requires { IsReady self.old }
-        ensures { IsReady self.new }
+        ensures ready { IsReady self.new }
+        ensures ok { IfOk result (λ reply. Answers (progress_of self.old) step reply (progress_of self.new)) }
+        ensures err { OnErr result (self.new ≡ self.old) }
     {
         let Some(progress) = &mut self.progress else {
             return Ok(None);
@@ -60,6 +64,13 @@ impl Engine {
         let mut replies = replay_any(alloc, progress, steps)?;
         Ok(replies.pop())
     }
+}
+
+/// The ids of a set, ascending.
+fn ids(alloc: Global, set: &BTreeSet<u64>) -> Result<Vec<u64>, AllocError>
+    ensures { IfOk result (λ ids. ids.items ≡ set.now.keys) }
+{
+    set.iter().copied().collect(alloc)
 }
 
 /// The learners that are no voters, ascending.
