@@ -2,6 +2,8 @@
 #![tactic(auto)]
 
 mod script;
+#[cfg(test)]
+mod tests;
 
 use std::io;
 use std::process::ExitCode;

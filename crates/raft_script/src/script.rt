@@ -3,7 +3,7 @@
 mod command;
 mod dialogue;
 mod engine;
-mod reply;
+pub(crate) mod reply;
 
 ghost use Rattle.raft_script.specs.Engine.{IsReady};
 
@@ -36,17 +36,18 @@ fn run_lines<R: Read + Drop, W: Write>(alloc: Global, reader: R, writer: &mut W)
     let mut engine = Engine::new();
     for passed in 0..u64::MAX {
         line.clear();
-        if lines.read_until(b'\n', &mut line)? == 0 {
-            return Ok(0);
-        }
-        if line.last() == Some(&b'\n') {
-            line.pop();
-        }
+        lines.read_until(b'\n', &mut line)?;
+        // Only the last line has no line feed. An empty one says nothing.
+        let is_last = line.pop_if(|byte| *byte == b'\n').is_none();
         let replies = &mut lines.get_mut().replies;
         if !run_line(alloc, &mut engine, &line, replies)? {
             writeln!(replies, "bad line {}", passed + 1)?;
             replies.flush()?;
             return Ok(2);
+        }
+        if is_last {
+            replies.flush()?;
+            return Ok(0);
         }
     }
     Ok(1)
@@ -62,32 +63,28 @@ fn run_line<W: Write>(
     requires { IsReady engine.old }
     ensures { IsReady engine.new }
 {
-    match command::parse(alloc, line) {
-        Ok(None) => Ok(true),
-        Ok(
-            Some(
-                Command::Init {
-                    default,
-                    voters,
-                    learners,
-                },
-            ),
-        ) => {
+    let command = match command::parse(alloc, line) {
+        Ok(Some(command)) => command,
+        Ok(None) => return Ok(true),
+        Err(LineError::BadLine) => return Ok(false),
+        Err(LineError::OutOfMemory(error)) => return Err(io::Error::from(error)),
+    };
+    match command {
+        Command::Init {
+            default,
+            voters,
+            learners,
+        } => {
             if engine.init(alloc, default, &voters, &learners).is_err() {
                 replies.write_all(b"no-memory\n")?;
             }
-            Ok(true)
         }
-        Ok(Some(Command::Step(step))) => {
-            match engine.answer(alloc, step)? {
-                None => Ok(false),
-                Some(answer) => {
-                    reply::write(replies, &answer)?;
-                    Ok(true)
-                }
-            }
+        Command::Step(step) => {
+            let Some(answer) = engine.answer(alloc, step)? else {
+                return Ok(false);
+            };
+            reply::write(replies, &answer)?;
         }
-        Err(LineError::BadLine) => Ok(false),
-        Err(LineError::OutOfMemory(error)) => Err(io::Error::from(error)),
     }
+    Ok(true)
 }

@@ -2,7 +2,7 @@
 ghost use Rattle.std.specs.Prelude.{◌<◌, ◌^◌, SomeIff};
 ghost use Rattle.std.specs.Str.Parse.{IsNumeral, digits_value};
 
-use raft_progress::progress::AnyStep;
+use super::engine::Step;
 use std::alloc::{AllocError, Global};
 use std::collections::BTreeSet;
 
@@ -14,7 +14,7 @@ pub enum Command {
         voters: BTreeSet<u64>,
         learners: BTreeSet<u64>,
     },
-    Step(AnyStep<u64, u64, Vec<u64>>),
+    Step(Step),
 }
 
 /// Why a line can't be run.
@@ -43,8 +43,8 @@ pub fn parse(alloc: Global, line: &[u8]) -> Result<Option<Command>, LineError> {
             voters: words.list(alloc)?,
             learners: words.list(alloc)?,
         },
-        b"update" => Command::Step(AnyStep::Update(words.number()?, words.number()?)),
-        b"increase" => Command::Step(AnyStep::IncreaseTo(words.number()?, words.number()?)),
+        b"update" => Command::Step(Step::Update(words.number()?, words.number()?)),
+        b"increase" => Command::Step(Step::IncreaseTo(words.number()?, words.number()?)),
         _ => return Err(LineError::BadLine),
     };
     match words.next() {

@@ -8,6 +8,9 @@ use raft_progress::progress::{AnyStep, Reply, VecProgress, replay_any};
 use std::alloc::{AllocError, Global};
 use std::collections::BTreeSet;
 
+/// A step of the engine.
+pub type Step = AnyStep<u64, u64, Vec<u64>>;
+
 /// The progress of the last `init` that succeeded.
 #[derive(Drop)]
 pub struct Engine {
@@ -50,7 +53,7 @@ impl Engine {
     pub fn answer(
         &mut self,
         alloc: Global,
-        step: AnyStep<u64, u64, Vec<u64>>,
+        step: Step,
     ) -> Result<Option<Reply<u64, u64>>, AllocError>
         requires { IsReady self.old }
         ensures ready { IsReady self.new }
