@@ -1,10 +1,11 @@
 -- What a step does to a progress, and what it is answered.
-use Rattle.std.specs.Prelude.{◌≡◌, Bool, true, false, Option, Some, None, List, [], ◌∷◌, not, ◌⊎◌}
+use Rattle.std.specs.Prelude.{◌≡◌, Bool, true, false, Option, Some, None, List, [], ◌∷◌, not, MatchBool}
 use Rattle.std.specs.Ordering.{is_lt, partial_gt}
 use Rattle.std.specs.declared.cmp.Ordering.{Ordering}
-use Rattle.raft_progress.specs.Counted.{State, IsCounted, IsSame, Writes}
-use Rattle.raft_progress.specs.Shown.{LearnersFit}
-use Rattle.raft_progress.specs.Upgraded.{CanUpgrade, IsUpgraded, IsLeastBelow}
+use Rattle.raft_progress.specs.CountedValue.{IsCounted}
+use Rattle.raft_progress.specs.NewProgress.{LearnersFit}
+use Rattle.raft_progress.specs.ProgressState.{IsSame, State, Writes}
+use Rattle.raft_progress.specs.Upgrade.{CanUpgrade, IsLeastBelow, IsUpgraded}
 use Rattle.raft_progress.specs.declared.progress.steps.AnyStep.{AnyStep}
 use Rattle.raft_progress.specs.declared.progress.steps.AnyStep.TheVariants.{Update, IncreaseTo, Upgrade}
 use Rattle.raft_progress.specs.declared.progress.steps.Reply.{Reply}
@@ -33,28 +34,31 @@ module _ {ID V P QS : Type 0} (eq : ID → ID → Bool) (cmp : P → P → Order
   IsWritten old id value BadLearners new = ⊥
   IsWritten old id value OutOfMemory new = ⊥
 
+module _ {ID V P QS : Type 0} (eq : ID → ID → Bool) (cmp : P → P → Ordering) (partial_cmp : V → V → Option Ordering) (part : V → P) (has_quorum : QS → (ID → Bool) → Bool) where
+  -- a value that isn't greater changes nothing, and any other is written
+  abbrev pub IsIncreased : State ID V P QS → ID → V → Reply ID P → State ID V P QS → Type 0
+  IsIncreased old id value reply new =
+      MatchBool (stays partial_cmp (old.value id) value) ((p : P) × (reply ≡ Granted p) × IsCounted cmp part has_quorum old p × IsSame old new) (IsWritten eq cmp part has_quorum old id value reply new)
+
+module _ {ID V P QS : Type 0} (eq : ID → ID → Bool) (id_cmp : ID → ID → Ordering) (cmp : P → P → Ordering) (part : V → P) (IsClone : V → V → Type 0) (has_quorum : QS → (ID → Bool) → Bool) (is_voter : QS → ID → Bool) where
+  -- the progress goes over to another quorum set, learners and default, unless the learners don't fit or an inherited value is below the default; or a growth was refused
+  abbrev pub IsAnsweredUpgrade : State ID V P QS → QS → List ID → V → Reply ID P → State ID V P QS → Type 0
+  IsAnsweredUpgrade old quorum_set learners default (Granted p) new =
+      LearnersFit eq (is_voter quorum_set) learners × CanUpgrade eq cmp part (is_voter quorum_set) learners default old.value × IsUpgraded eq IsClone part (is_voter quorum_set) quorum_set learners default old.value new × IsCounted cmp part has_quorum new p
+  IsAnsweredUpgrade old quorum_set learners default BadLearners new = (LearnersFit eq (is_voter quorum_set) learners → ⊥) × IsSame old new
+  IsAnsweredUpgrade old quorum_set learners default (BelowDefault id) new =
+      LearnersFit eq (is_voter quorum_set) learners × IsLeastBelow eq id_cmp cmp part (is_voter quorum_set) learners default old.value id × IsSame old new
+  IsAnsweredUpgrade old quorum_set learners default OutOfMemory new = IsSame old new
+  IsAnsweredUpgrade old quorum_set learners default (Unknown p) new = ⊥
+  IsAnsweredUpgrade old quorum_set learners default WouldFall new = ⊥
+  IsAnsweredUpgrade old quorum_set learners default (Refused why) new = ⊥
+
 module _ {ID V P QS : Type 0} (eq : ID → ID → Bool) (id_cmp : ID → ID → Ordering) (cmp : P → P → Ordering) (partial_cmp : V → V → Option Ordering) (part : V → P) (IsClone : V → V → Type 0) (has_quorum : QS → (ID → Bool) → Bool) (is_voter : QS → ID → Bool) where
   -- From old, the step may be answered so and go on to new. No granted value is kept: it is counted where a reply needs it.
   abbrev pub IsStep : State ID V P QS → AnyStep ID V QS → Reply ID P → State ID V P QS → Type 0
   IsStep old (Update id value) reply new = IsWritten eq cmp part has_quorum old id value reply new
-  IsStep old (IncreaseTo id value) (Granted p) new =
-      ((stays partial_cmp (old.value id) value ≡ true) × IsCounted cmp part has_quorum old p × IsSame old new)
-      ⊎ ((stays partial_cmp (old.value id) value ≡ false) × IsWritten eq cmp part has_quorum old id value (Granted p) new)
-  IsStep old (IncreaseTo id value) (Unknown p) new = IsWritten eq cmp part has_quorum old id value (Unknown p) new
-  IsStep old (IncreaseTo id value) WouldFall new = (stays partial_cmp (old.value id) value ≡ false) × IsWritten eq cmp part has_quorum old id value WouldFall new
-  IsStep old (IncreaseTo id value) (Refused why) new = ⊥
-  IsStep old (IncreaseTo id value) (BelowDefault below) new = ⊥
-  IsStep old (IncreaseTo id value) BadLearners new = ⊥
-  IsStep old (IncreaseTo id value) OutOfMemory new = ⊥
-  IsStep old (Upgrade quorum_set learners default) OutOfMemory new = IsSame old new
-  IsStep old (Upgrade quorum_set learners default) (Granted p) new =
-      LearnersFit eq (is_voter quorum_set) learners.items × CanUpgrade eq cmp part (is_voter quorum_set) learners.items default old.value × IsUpgraded eq IsClone part (is_voter quorum_set) quorum_set learners.items default old.value new × IsCounted cmp part has_quorum new p
-  IsStep old (Upgrade quorum_set learners default) BadLearners new = (LearnersFit eq (is_voter quorum_set) learners.items → ⊥) × IsSame old new
-  IsStep old (Upgrade quorum_set learners default) (BelowDefault id) new =
-      LearnersFit eq (is_voter quorum_set) learners.items × IsLeastBelow eq id_cmp cmp part (is_voter quorum_set) learners.items default old.value id × IsSame old new
-  IsStep old (Upgrade quorum_set learners default) (Unknown p) new = ⊥
-  IsStep old (Upgrade quorum_set learners default) WouldFall new = ⊥
-  IsStep old (Upgrade quorum_set learners default) (Refused why) new = ⊥
+  IsStep old (IncreaseTo id value) reply new = IsIncreased eq cmp partial_cmp part has_quorum old id value reply new
+  IsStep old (Upgrade quorum_set learners default) reply new = IsAnsweredUpgrade eq id_cmp cmp part IsClone has_quorum is_voter old quorum_set learners.items default reply new
 
   -- The steps may be answered so, one after another.
   abbrev pub IsRun : State ID V P QS → List (AnyStep ID V QS) → List (Reply ID P) → State ID V P QS → Type 0

@@ -1,14 +1,119 @@
 //! The progress of a cluster: a value for each voter and learner, and the greatest part that a
 //! quorum of the voters has reached.
 
-mod count;
+mod entries;
 mod fit;
+mod in_order;
 mod part;
+mod recount;
 mod replay;
+mod rise;
+mod scan;
+mod stat;
 mod steps;
+#[cfg(test)]
+mod tests;
+mod upgrade;
 mod vec_progress;
 
 pub use part::ProgressPart;
+use raft_members::quorum::QuorumSet;
 pub use replay::replay_any;
+pub use stat::Stat;
+use std::alloc::AllocError;
 pub use steps::{AnyStep, Reply};
-pub use vec_progress::{Stat, VecProgress};
+pub use vec_progress::VecProgress;
+
+/// The values of voters and learners over a quorum set, and what a quorum of the voters has reached.
+pub trait Progress<ID: Copy + Ord, V: ProgressPart<P>, P: Copy + Ord, QS: QuorumSet<ID>>: Drop {
+    ghost use Rattle.std.specs.Prelude.{◌≡◌, IfOk, IsSome, OnSome, Some, if◌then◌else◌, length, true, ⊤};
+    ghost use Rattle.std.specs.Borrow.{LendsSo, sem};
+    ghost use Rattle.std.specs.Fn.{FnOnceReturnsAtMut, FnOnceTakesAtMut};
+    ghost use Rattle.std.specs.Option.{option_copied, option_copied_mut};
+    ghost use Rattle.std.specs.Ordering.{partial_gt};
+    ghost use Rattle.std.specs.Slice.Iter.{iter_rest};
+    ghost use denote.Follow.{follows_so};
+    ghost use mathlib.Core.Option.{none};
+    ghost use Rattle.raft_progress.specs.CountedValue.{AtMost};
+    ghost use Rattle.raft_progress.specs.InOrder.{IsInOrder};
+    ghost use Rattle.raft_progress.specs.Kept.{with_value};
+    ghost use Rattle.raft_progress.specs.NewProgress.{LearnersFit};
+    ghost use Rattle.raft_progress.specs.Shown.{Shown, state};
+    ghost use Rattle.raft_progress.specs.ProgressState.{voter_of};
+    ghost use Rattle.raft_progress.specs.Statistics.{CountsGoOn};
+    ghost use Rattle.raft_progress.specs.Upgrade.{CanUpgrade, IsUpgraded};
+    ghost use Rattle.raft_progress.specs.Updated.{Answers, IsUpdated};
+
+    /// What it shows.
+    ghost shows: { Self → Shown ID V P QS };
+
+    /// The granted value.
+    fn granted(&self) -> &P
+        ensures { result.now ≡ (shows self.now).granted };
+
+    /// The value of an id.
+    fn try_get(&self, id: &ID) -> Option<&V>
+        ensures { option_copied result ≡ (state ID.eq (shows self.now)).value id.now };
+
+    /// The value of an id that is there.
+    fn get(&self, id: &ID) -> &V
+        requires { IsSome ((state ID.eq (shows self.now)).value id.now) }
+        ensures { (state ID.eq (shows self.now)).value id.now ≡ Some result.now };
+
+    /// The value of an id, to be written. The progress is in order afterwards if the part of a voter
+    /// stays as it was; `is_in_order` tells.
+    fn get_mut(&mut self, id: &ID) -> Option<&mut V>
+        ensures* writes_back { sem 𝓛 (LendsSo Self.row V.row self.entry result (λ n w. OnSome result (shows n ≡ with_value ID.eq (shows self.old) id.now w)) (λ n. shows n ≡ shows self.old)) }
+        ensures value { option_copied_mut result ≡ (state ID.eq (shows self.old)).value id.now };
+
+    /// Whether an id is a voter: `None` for an unknown one.
+    fn is_voter(&self, id: &ID) -> Option<bool>
+        ensures { result ≡ voter_of (state ID.eq (shows self.now)) id.now };
+
+    /// The quorum set.
+    fn quorum_set(&self) -> &QS
+        ensures { result.now ≡ (shows self.now).quorum_set };
+
+    /// The ids and their values: the voters, then the learners.
+    fn iter(&self) -> std::slice::Iter<(ID, V)>
+        ensures { iter_rest result ≡ (shows self.now).walk };
+
+    /// Changes the value of an id by `f` and answers granted: as an error where the id is unknown.
+    fn update_with<F: FnOnce(&mut V)>(&mut self, id: &ID, f: F) -> Result<&P, &P>
+        requires ordered { IsInOrder ID.eq P.cmp V.part_of QS.has_quorum (shows self.old) }
+        requires callable { (v : V) → (state ID.eq (shows self.old)).value id.now ≡ Some v → FnOnceTakesAtMut F.FnOnce f v }
+        requires not_lower { (v w : V) → (state ID.eq (shows self.old)).value id.now ≡ Some v → FnOnceReturnsAtMut F.FnOnce f v tt w → AtMost P.cmp (V.part_of v) (V.part_of w) }
+        ensures* after { sem 𝓛 (follows_so Self.row Self.row self.entry.ghost_name none (λ _ _. ⊤) (λ new. IsUpdated ID.eq P.cmp V.part_of (λ v w. FnOnceReturnsAtMut F.FnOnce f v tt w) (shows self.old) id.now (shows new) × IsInOrder ID.eq P.cmp V.part_of QS.has_quorum (shows new) × Answers ID.eq (shows self.old) id.now result (λ r. r.now) (λ r. r.now) (shows new))) };
+
+    /// Writes the value of an id and answers granted: as an error where the id is unknown.
+    fn update(&mut self, id: &ID, value: V) -> Result<&P, &P>
+        requires ordered { IsInOrder ID.eq P.cmp V.part_of QS.has_quorum (shows self.old) }
+        requires not_lower { (v : V) → (state ID.eq (shows self.old)).value id.now ≡ Some v → AtMost P.cmp (V.part_of v) (V.part_of value) }
+        ensures* after { sem 𝓛 (follows_so Self.row Self.row self.entry.ghost_name none (λ _ _. ⊤) (λ new. IsUpdated ID.eq P.cmp V.part_of (λ v w. w ≡ value) (shows self.old) id.now (shows new) × IsInOrder ID.eq P.cmp V.part_of QS.has_quorum (shows new) × Answers ID.eq (shows self.old) id.now result (λ r. r.now) (λ r. r.now) (shows new))) };
+
+    /// Writes the value of an id where it is greater than the present one, and counts an update
+    /// either way.
+    fn increase_to(&mut self, id: &ID, value: V) -> Result<&P, &P>
+    where
+        V: PartialOrd,
+        requires ordered { IsInOrder ID.eq P.cmp V.part_of QS.has_quorum (shows self.old) }
+        requires not_lower { (v : V) → (state ID.eq (shows self.old)).value id.now ≡ Some v → partial_gt V.partial_cmp value v ≡ true → AtMost P.cmp (V.part_of v) (V.part_of value) }
+        ensures* after { sem 𝓛 (follows_so Self.row Self.row self.entry.ghost_name none (λ _ _. ⊤) (λ new. IsUpdated ID.eq P.cmp V.part_of (λ v w. w ≡ (if partial_gt V.partial_cmp value v then value else v)) (shows self.old) id.now (shows new) × IsInOrder ID.eq P.cmp V.part_of QS.has_quorum (shows new) × Answers ID.eq (shows self.old) id.now result (λ r. r.now) (λ r. r.now) (shows new))) };
+
+    /// A progress over another quorum set that takes over the values and the counts.
+    fn upgrade_quorum_set(
+        &self,
+        quorum_set: QS,
+        learners: &[ID],
+        default: V,
+    ) -> Result<Self, AllocError>
+    where
+        V: Clone,
+        requires ordered { IsInOrder ID.eq P.cmp V.part_of QS.has_quorum (shows self.now) }
+        requires clones_have_the_part { (v w : V) → V.is_clone v w → V.part_of w ≡ V.part_of v }
+        requires learners_fit { LearnersFit ID.eq (QS.is_voter quorum_set) learners.now }
+        requires can_upgrade { CanUpgrade ID.eq P.cmp V.part_of (QS.is_voter quorum_set) learners.now default ((state ID.eq (shows self.now)).value) }
+        ensures made { IfOk result (λ made. IsUpgraded ID.eq V.is_clone V.part_of (QS.is_voter quorum_set) quorum_set learners.now default ((state ID.eq (shows self.now)).value) (state ID.eq (shows made))) }
+        ensures ordered { IfOk result (λ made. IsInOrder ID.eq P.cmp V.part_of QS.has_quorum (shows made)) }
+        ensures counts { IfOk result (λ made. CountsGoOn (length (shows self.now).walk) (shows made).voter_count (shows self.now).stat (shows made).stat) };
+}

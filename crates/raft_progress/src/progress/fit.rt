@@ -1,6 +1,6 @@
 //! When learners fit a quorum set.
 ghost use Rattle.std.specs.Prelude.{◌≡◌};
-ghost use Rattle.raft_progress.specs.Fit.{apart};
+ghost use Rattle.raft_progress.specs.Inner.Tests.{apart};
 
 /// Whether no learner stands twice, and none is among the voters.
 pub(crate) fn are_apart<ID: Copy + Ord>(voters: &[ID], learners: &[ID]) -> bool

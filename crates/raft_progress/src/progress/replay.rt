@@ -1,11 +1,14 @@
 //! Steps of a progress, and their replies.
 ghost use Rattle.std.specs.Prelude.{◌≡◌, IfOk, OnErr};
-ghost use Rattle.raft_progress.specs.Shown.{state, IsInOrder};
-ghost use Rattle.raft_progress.specs.Steps.{IsStep, IsRun, IsWritten, falls, stays};
+ghost use Rattle.raft_progress.specs.CountedValue.{IsCounted};
+ghost use Rattle.raft_progress.specs.InOrder.{IsInOrder};
+ghost use Rattle.raft_progress.specs.Shown.{state};
+ghost use Rattle.raft_progress.specs.VecProgress.{shown};
+ghost use Rattle.raft_progress.specs.Steps.{IsAnsweredUpgrade, IsIncreased, IsRun, IsStep, IsWritten, falls, stays};
 
-use crate::progress::part::ProgressPart;
-use crate::progress::steps::{AnyStep, Reply};
-use crate::progress::vec_progress::VecProgress;
+use super::part::ProgressPart;
+use super::steps::{AnyStep, Reply};
+use super::vec_progress::VecProgress;
 use raft_members::quorum::QuorumSet;
 use std::alloc::{AllocError, Global};
 
@@ -16,23 +19,75 @@ fn answer<
     P: Copy + Ord,
     QS: QuorumSet<ID> + Drop,
 >(progress: &mut VecProgress<ID, V, P, QS>, step: AnyStep<ID, V, QS>) -> Reply<ID, P>
-    requires { IsInOrder ID.eq P.cmp V.part_of QS.has_quorum progress.old }
-    ensures step { IsStep ID.eq ID.cmp P.cmp V.partial_cmp V.part_of V.is_clone QS.has_quorum QS.is_voter (state ID.eq progress.old) step result (state ID.eq progress.new) }
-    ensures ordered { IsInOrder ID.eq P.cmp V.part_of QS.has_quorum progress.new }
+    requires ordered { IsInOrder ID.eq P.cmp V.part_of QS.has_quorum (shown progress.old) }
+    requires clones_have_the_part { (v w : V) → V.is_clone v w → V.part_of w ≡ V.part_of v }
+    ensures step { IsStep ID.eq ID.cmp P.cmp V.partial_cmp V.part_of V.is_clone QS.has_quorum QS.is_voter (state ID.eq (shown progress.old)) step result (state ID.eq (shown progress.new)) }
+    ensures ordered { IsInOrder ID.eq P.cmp V.part_of QS.has_quorum (shown progress.new) }
 {
     match step {
         AnyStep::Update(id, value) => write(progress, &id, value),
-        AnyStep::IncreaseTo(id, value) => {
-            if is_not_greater(progress, &id, &value) {
-                return Reply::Granted(*progress.granted());
-            }
-            write(progress, &id, value)
-        }
+        AnyStep::IncreaseTo(id, value) => increase(progress, &id, value),
         AnyStep::Upgrade {
-            quorum_set: _,
-            learners: _,
-            default: _,
-        } => Reply::OutOfMemory,
+            quorum_set,
+            learners,
+            default,
+        } => upgrade(progress, quorum_set, &learners, default),
+    }
+}
+
+/// Goes over to another quorum set, or leaves the progress as it is.
+fn upgrade<
+    ID: Copy + Ord,
+    V: ProgressPart<P> + Clone + Drop,
+    P: Copy + Ord,
+    QS: QuorumSet<ID> + Drop,
+>(
+    progress: &mut VecProgress<ID, V, P, QS>,
+    quorum_set: QS,
+    learners: &[ID],
+    default: V,
+) -> Reply<ID, P>
+    requires ordered { IsInOrder ID.eq P.cmp V.part_of QS.has_quorum (shown progress.old) }
+    requires clones_have_the_part { (v w : V) → V.is_clone v w → V.part_of w ≡ V.part_of v }
+    ensures step { IsAnsweredUpgrade ID.eq ID.cmp P.cmp V.part_of V.is_clone QS.has_quorum QS.is_voter (state ID.eq (shown progress.old)) quorum_set learners.now default result (state ID.eq (shown progress.new)) }
+    ensures ordered { IsInOrder ID.eq P.cmp V.part_of QS.has_quorum (shown progress.new) }
+{
+    match try_upgrade(progress, quorum_set, learners, default) {
+        Ok(reply) => reply,
+        Err(_) => Reply::OutOfMemory,
+    }
+}
+
+/// Asks first whether the learners fit, then whether a value is below the new default.
+fn try_upgrade<
+    ID: Copy + Ord,
+    V: ProgressPart<P> + Clone + Drop,
+    P: Copy + Ord,
+    QS: QuorumSet<ID> + Drop,
+>(
+    progress: &mut VecProgress<ID, V, P, QS>,
+    quorum_set: QS,
+    learners: &[ID],
+    default: V,
+) -> Result<Reply<ID, P>, AllocError>
+    requires ordered { IsInOrder ID.eq P.cmp V.part_of QS.has_quorum (shown progress.old) }
+    requires clones_have_the_part { (v w : V) → V.is_clone v w → V.part_of w ≡ V.part_of v }
+    ensures step { IfOk result (λ reply. IsAnsweredUpgrade ID.eq ID.cmp P.cmp V.part_of V.is_clone QS.has_quorum QS.is_voter (state ID.eq (shown progress.old)) quorum_set learners.now default reply (state ID.eq (shown progress.new))) }
+    ensures err { OnErr result (shown progress.new ≡ shown progress.old) }
+    ensures ordered { IsInOrder ID.eq P.cmp V.part_of QS.has_quorum (shown progress.new) }
+{
+    let alloc = progress.allocator();
+    let fits = VecProgress::<ID, V, P, QS>::learners_fit(alloc, &quorum_set, learners)?;
+    if !fits {
+        return Ok(Reply::BadLearners);
+    }
+    match progress.least_below(&quorum_set, learners, &default)? {
+        Some(id) => Ok(Reply::BelowDefault(id)),
+        None => {
+            let upgraded = progress.upgrade_quorum_set(quorum_set, learners, default)?;
+            *progress = upgraded;
+            Ok(Reply::Granted(*progress.granted()))
+        }
     }
 }
 
@@ -42,14 +97,34 @@ fn write<ID: Copy + Ord, V: ProgressPart<P> + Drop, P: Copy + Ord, QS: QuorumSet
     id: &ID,
     value: V,
 ) -> Reply<ID, P>
-    requires { IsInOrder ID.eq P.cmp V.part_of QS.has_quorum progress.old }
-    ensures step { IsWritten ID.eq P.cmp V.part_of QS.has_quorum (state ID.eq progress.old) id.now value result (state ID.eq progress.new) }
-    ensures ordered { IsInOrder ID.eq P.cmp V.part_of QS.has_quorum progress.new }
+    requires { IsInOrder ID.eq P.cmp V.part_of QS.has_quorum (shown progress.old) }
+    ensures step { IsWritten ID.eq P.cmp V.part_of QS.has_quorum (state ID.eq (shown progress.old)) id.now value result (state ID.eq (shown progress.new)) }
+    ensures ordered { IsInOrder ID.eq P.cmp V.part_of QS.has_quorum (shown progress.new) }
 {
     if would_fall(progress, id, &value) {
         return Reply::WouldFall;
     }
     match progress.update(id, value) {
+        Ok(granted) => Reply::Granted(*granted),
+        Err(granted) => Reply::Unknown(*granted),
+    }
+}
+
+/// Writes a value where it is greater than the present one, unless its part is below.
+fn increase<
+    ID: Copy + Ord,
+    V: ProgressPart<P> + PartialOrd + Drop,
+    P: Copy + Ord,
+    QS: QuorumSet<ID> + Drop,
+>(progress: &mut VecProgress<ID, V, P, QS>, id: &ID, value: V) -> Reply<ID, P>
+    requires { IsInOrder ID.eq P.cmp V.part_of QS.has_quorum (shown progress.old) }
+    ensures step { IsIncreased ID.eq P.cmp V.partial_cmp V.part_of QS.has_quorum (state ID.eq (shown progress.old)) id.now value result (state ID.eq (shown progress.new)) }
+    ensures ordered { IsInOrder ID.eq P.cmp V.part_of QS.has_quorum (shown progress.new) }
+{
+    if !is_not_greater(progress, id, &value) && would_fall(progress, id, &value) {
+        return Reply::WouldFall;
+    }
+    match progress.increase_to(id, value) {
         Ok(granted) => Reply::Granted(*granted),
         Err(granted) => Reply::Unknown(*granted),
     }
@@ -62,7 +137,7 @@ fn is_not_greater<
     P: Copy + Ord,
     QS: QuorumSet<ID> + Drop,
 >(progress: &VecProgress<ID, V, P, QS>, id: &ID, value: &V) -> bool
-    ensures { result ≡ stays V.partial_cmp ((state ID.eq progress.now).value id.now) value.now }
+    ensures { result ≡ stays V.partial_cmp ((state ID.eq (shown progress.now)).value id.now) value.now }
 {
     match progress.try_get(id) {
         Some(current) => !(*value > *current),
@@ -71,12 +146,13 @@ fn is_not_greater<
 }
 
 /// Whether the value's part is below that of the present value.
-fn would_fall<ID: Copy + Ord, V: ProgressPart<P> + Drop, P: Copy + Ord, QS: QuorumSet<ID> + Drop>(
-    progress: &VecProgress<ID, V, P, QS>,
-    id: &ID,
-    value: &V,
-) -> bool
-    ensures { result ≡ falls P.cmp V.part_of ((state ID.eq progress.now).value id.now) value.now }
+pub(super) fn would_fall<
+    ID: Copy + Ord,
+    V: ProgressPart<P> + Drop,
+    P: Copy + Ord,
+    QS: QuorumSet<ID> + Drop,
+>(progress: &VecProgress<ID, V, P, QS>, id: &ID, value: &V) -> bool
+    ensures { result ≡ falls P.cmp V.part_of ((state ID.eq (shown progress.now)).value id.now) value.now }
 {
     match progress.try_get(id) {
         Some(current) => value.part().cmp(&current.part()).is_lt(),
@@ -95,11 +171,12 @@ pub fn replay_any<
     progress: &mut VecProgress<ID, V, P, QS>,
     steps: Vec<AnyStep<ID, V, QS>>,
 ) -> Result<Vec<Reply<ID, P>>, AllocError>
-    requires ordered { IsInOrder ID.eq P.cmp V.part_of QS.has_quorum progress.old }
-    requires clones_are_equal { (v w : V) → V.is_clone v w → w ≡ v }
-    ensures run { IfOk result (λ replies. IsRun ID.eq ID.cmp P.cmp V.partial_cmp V.part_of V.is_clone QS.has_quorum QS.is_voter (state ID.eq progress.old) steps.items replies.items (state ID.eq progress.new)) }
-    ensures ordered { IsInOrder ID.eq P.cmp V.part_of QS.has_quorum progress.new }
-    ensures err { OnErr result (progress.new ≡ progress.old) }
+    requires ordered { IsInOrder ID.eq P.cmp V.part_of QS.has_quorum (shown progress.old) }
+    requires clones_have_the_part { (v w : V) → V.is_clone v w → V.part_of w ≡ V.part_of v }
+    ensures run { IfOk result (λ replies. IsRun ID.eq ID.cmp P.cmp V.partial_cmp V.part_of V.is_clone QS.has_quorum QS.is_voter (state ID.eq (shown progress.old)) steps.items replies.items (state ID.eq (shown progress.new))) }
+    ensures ordered { IsInOrder ID.eq P.cmp V.part_of QS.has_quorum (shown progress.new) }
+    ensures granted { IsCounted P.cmp V.part_of QS.has_quorum (state ID.eq (shown progress.new)) (shown progress.new).granted }
+    ensures err { OnErr result (shown progress.new ≡ shown progress.old) }
 {
     let mut replies = Vec::with_capacity(alloc, steps.len())?;
     let mut rest = steps;

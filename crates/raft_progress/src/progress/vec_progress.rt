@@ -1,22 +1,21 @@
 //! The progress of a group of nodes.
 ghost use Rattle.std.specs.Prelude.{◌≡◌, ◌≤◌, ◌<◌, length};
 
-use crate::progress::count::{is_raised, leading, least_front, move_up, place_all, write_at};
-use crate::progress::fit::are_apart;
-use crate::progress::part::ProgressPart;
+use super::Progress;
+use super::entries::{clone_entries, copy_ids, place_all, write_at};
+use super::fit::are_apart;
+use super::in_order::{has_distinct_ids, is_at_least, is_falling};
+use super::part::ProgressPart;
+use super::recount::count;
+use super::rise::{is_raised, move_up};
+use super::scan::{leading, least_front};
+use super::stat::Stat;
+use super::upgrade::{is_among, is_before};
 use raft_members::quorum::QuorumSet;
 use std::alloc::{AllocError, Global};
 
-/// How a progress runs. A count at the greatest u64 stays there.
-#[derive(Debug, Clone, Default, PartialEq, Eq, Drop)]
-pub struct Stat {
-    pub update_count: u64,
-    pub move_count: u64,
-    pub is_quorum_count: u64,
-}
-
 /// The values of voters and learners, and the greatest part that a quorum of the voters has reached.
-#[derive(Drop)]
+#[derive(Debug, Drop)]
 pub struct VecProgress<ID: Copy + Ord, V, P, QS> {
     quorum_set: QS,
     granted: P,
@@ -35,7 +34,7 @@ impl<
     P: Copy + Ord,
     QS: QuorumSet<ID> + Drop,
 > VecProgress<ID, V, P, QS> {
-    ghost use Rattle.std.specs.Prelude.{◌≡◌, ◌≤◌, ◌<◌, ◌↔◌, IsTrue, IfOk, IfErr, List, vec_len, ⊤, position, is_some, OnSome, IsSome, Bool, true, if◌then◌else◌};
+    ghost use Rattle.std.specs.Prelude.{◌≡◌, ◌≤◌, ◌<◌, ◌↔◌, IsTrue, IfOk, IfErr, List, vec_len, ⊤, position, is_some, OnSome, IsSome, Bool, true, if◌then◌else◌, length, ◌&&◌};
     ghost use Rattle.std.specs.Borrow.{sem, LendsSo};
     ghost use Rattle.std.specs.Slice.Iter.{iter_mut_rest, iter_rest};
     ghost use Rattle.std.specs.Ordering.{partial_gt};
@@ -46,10 +45,18 @@ impl<
     ghost use Rattle.raft_progress.specs.contracts.progress.vec_progress.VecProgress.{the_row};
     ghost use denote.Follow.{follows_so};
     ghost use mathlib.Core.Option.{none};
-    ghost use Rattle.raft_progress.specs.Counted.{AtMost};
-    ghost use Rattle.raft_progress.specs.Shown.{walk, granted_of, default_part_of, stat_of, state, IsInOrder, IsUpdated, Answers, Lent, IsKept, IsKeptButCounts, LearnersFit, IsNew};
-    ghost use Rattle.raft_progress.specs.Upgraded.{IsUpgraded, CanUpgrade};
-    ghost use Rattle.raft_progress.specs.Settled.{IsPutInOrder, IsRaised, IsScanned};
+    ghost use Rattle.raft_progress.specs.CountedValue.{AtMost};
+    ghost use Rattle.raft_progress.specs.InOrder.{IsInOrder};
+    ghost use Rattle.raft_progress.specs.Inner.Settled.{IsPutInOrder, IsRaised, IsScanned};
+    ghost use Rattle.raft_progress.specs.NewProgress.{IsNew, LearnersFit};
+    ghost use Rattle.raft_progress.specs.ProgressState.{voter_of};
+    ghost use Rattle.raft_progress.specs.Shown.{state};
+    ghost use Rattle.raft_progress.specs.Updated.{Answers, IsUpdated};
+    ghost use Rattle.raft_progress.specs.Upgrade.{CanUpgrade, IsLeastBelow, IsUpgraded};
+    ghost use Rattle.raft_progress.specs.Inner.Tests.{IsLeastPassing, among, is_value_below};
+    ghost use Rattle.raft_progress.specs.Statistics.{CountsGoOn};
+    ghost use Rattle.raft_progress.specs.Kept.{with_value};
+    ghost use Rattle.raft_progress.specs.VecProgress.{shown};
 
     /// Whether the learners fit a quorum set: none stands twice, and none is a voter.
     pub fn learners_fit(alloc: Global, quorum_set: &QS, learners: &[ID]) -> Result<bool, AllocError>
@@ -68,11 +75,12 @@ impl<
     ) -> Result<Self, AllocError>
     where
         V: Clone,
-        requires clones_are_equal { (w : V) → V.is_clone default w → w ≡ default }
+        requires clones_have_the_part { (w : V) → V.is_clone default w → V.part_of w ≡ V.part_of default }
         requires learners_fit { LearnersFit ID.eq (QS.is_voter quorum_set) learners.now }
-        ensures made { IfOk result (λ made. IsNew ID.eq V.part_of (QS.is_voter quorum_set) quorum_set learners.now default (state ID.eq made)) }
-        ensures granted { IfOk result (λ made. granted_of made ≡ V.part_of default) }
-        ensures ordered { IfOk result (IsInOrder ID.eq P.cmp V.part_of QS.has_quorum) }
+        ensures made { IfOk result (λ made. IsNew ID.eq V.is_clone V.part_of (QS.is_voter quorum_set) quorum_set learners.now default (state ID.eq (shown made))) }
+        ensures granted { IfOk result (λ made. (shown made).granted ≡ V.part_of default) }
+        ensures ordered { IfOk result (λ made. IsInOrder ID.eq P.cmp V.part_of QS.has_quorum (shown made)) }
+        ensures no_counts { IfOk result (λ made. (shown made).stat ≡ record { update_count = 0; move_count = 0; is_quorum_count = 0 }) }
     {
         let room = quorum_set.ids(alloc)?;
         let voter_count = room.len();
@@ -104,17 +112,21 @@ impl<
     ) -> Result<Self, AllocError>
     where
         V: Clone,
-        requires ordered { IsInOrder ID.eq P.cmp V.part_of QS.has_quorum self.now }
-        requires clones_are_equal { (w : V) → V.is_clone default w → w ≡ default }
+        requires ordered { IsInOrder ID.eq P.cmp V.part_of QS.has_quorum (shown self.now) }
         requires clones_have_the_part { (v w : V) → V.is_clone v w → V.part_of w ≡ V.part_of v }
         requires learners_fit { LearnersFit ID.eq (QS.is_voter quorum_set) learners.now }
-        requires can_upgrade { CanUpgrade ID.eq P.cmp V.part_of (QS.is_voter quorum_set) learners.now default ((state ID.eq self.now).value) }
-        ensures made { IfOk result (λ made. IsUpgraded ID.eq V.is_clone V.part_of (QS.is_voter quorum_set) quorum_set learners.now default ((state ID.eq self.now).value) (state ID.eq made)) }
-        ensures ordered { IfOk result (IsInOrder ID.eq P.cmp V.part_of QS.has_quorum) }
+        requires can_upgrade { CanUpgrade ID.eq P.cmp V.part_of (QS.is_voter quorum_set) learners.now default ((state ID.eq (shown self.now)).value) }
+        ensures made { IfOk result (λ made. IsUpgraded ID.eq V.is_clone V.part_of (QS.is_voter quorum_set) quorum_set learners.now default ((state ID.eq (shown self.now)).value) (state ID.eq (shown made))) }
+        ensures ordered { IfOk result (λ made. IsInOrder ID.eq P.cmp V.part_of QS.has_quorum (shown made)) }
+        ensures counts { IfOk result (λ made. CountsGoOn (length (shown self.now).walk) (shown made).voter_count (shown self.now).stat (shown made).stat) }
     {
-        let alloc = *self.entries.allocator();
+        let alloc = self.allocator();
         let mut made = VecProgress::new(alloc, quorum_set, learners, default)?;
-        made.keep_counts(&self.stat);
+        made.go_on_from(
+            self.stat.update_count,
+            self.stat.move_count,
+            self.stat.is_quorum_count,
+        );
         for entry in &self.entries {
             let value = entry.1.clone()?;
             made.take_over(&entry.0, value);
@@ -123,49 +135,134 @@ impl<
     }
 
     /// Goes on with the counts of another progress.
-    fn keep_counts(&mut self, stat: &Stat)
-        ensures same { IsKeptButCounts self.old self.new }
-        ensures stat { self.new.stat ≡ stat.now }
+    fn go_on_from(&mut self, update_count: u64, move_count: u64, is_quorum_count: u64)
+        ensures same { shown self.new ≡ record (shown self.old) { stat = record { update_count = update_count; move_count = move_count; is_quorum_count = is_quorum_count } } }
+        ensures counts { CountsGoOn 0 (shown self.new).voter_count (record { update_count = update_count; move_count = move_count; is_quorum_count = is_quorum_count }) (shown self.new).stat }
     {
-        self.stat.update_count = stat.update_count;
-        self.stat.move_count = stat.move_count;
-        self.stat.is_quorum_count = stat.is_quorum_count;
+        self.stat.update_count = update_count;
+        self.stat.move_count = move_count;
+        self.stat.is_quorum_count = is_quorum_count;
     }
 
     /// Writes the value of an id, where it is known.
     fn take_over(&mut self, id: &ID, value: V)
-        requires ordered { IsInOrder ID.eq P.cmp V.part_of QS.has_quorum self.old }
-        requires not_lower { (v : V) → (state ID.eq self.old).value id.now ≡ Some v → AtMost P.cmp (V.part_of v) (V.part_of value) }
-        ensures updated { IsUpdated ID.eq P.cmp V.part_of (λ v w. w ≡ value) self.old id.now self.new }
-        ensures ordered { IsInOrder ID.eq P.cmp V.part_of QS.has_quorum self.new }
+        requires ordered { IsInOrder ID.eq P.cmp V.part_of QS.has_quorum (shown self.old) }
+        requires not_lower { (v : V) → (state ID.eq (shown self.old)).value id.now ≡ Some v → AtMost P.cmp (V.part_of v) (V.part_of value) }
+        ensures updated { IsUpdated ID.eq P.cmp V.part_of (λ v w. w ≡ value) (shown self.old) id.now (shown self.new) }
+        ensures ordered { IsInOrder ID.eq P.cmp V.part_of QS.has_quorum (shown self.new) }
     {
         self.apply(id, |current| *current = value);
     }
 
+    /// The allocator of its entries.
+    pub(crate) fn allocator(&self) -> Global {
+        *self.entries.allocator()
+    }
+
+    /// Whether no value that an upgrade would take over is below the new default.
+    pub fn can_upgrade(
+        &self,
+        quorum_set: &QS,
+        learners: &[ID],
+        default: &V,
+    ) -> Result<bool, AllocError>
+        ensures { IfOk result (λ can. IsTrue can ↔ CanUpgrade ID.eq P.cmp V.part_of (QS.is_voter quorum_set.now) learners.now default.now ((state ID.eq (shown self.now)).value)) }
+    {
+        let least = self.least_below(quorum_set, learners, default)?;
+        Ok(least.is_none())
+    }
+
+    /// The least id whose value an upgrade would take over and that is below the new default.
+    pub(crate) fn least_below(
+        &self,
+        quorum_set: &QS,
+        learners: &[ID],
+        default: &V,
+    ) -> Result<Option<ID>, AllocError>
+        ensures none { IfOk result (λ least. least ≡ None → CanUpgrade ID.eq P.cmp V.part_of (QS.is_voter quorum_set.now) learners.now default.now ((state ID.eq (shown self.now)).value)) }
+        ensures some { IfOk result (λ least. (id : ID) → least ≡ Some id → IsLeastBelow ID.eq ID.cmp P.cmp V.part_of (QS.is_voter quorum_set.now) learners.now default.now ((state ID.eq (shown self.now)).value) id) }
+    {
+        let alloc = self.allocator();
+        let voters = quorum_set.ids(alloc)?;
+        Ok(self.least_of(&voters, learners, default.part()))
+    }
+
+    /// The least id among the voters and the learners whose value is below a part.
+    fn least_of(&self, voters: &[ID], learners: &[ID], part: P) -> Option<ID>
+        ensures { IsLeastPassing ID.cmp (λ x. among ID.eq voters.now learners.now x && is_value_below P.cmp V.part_of part ((state ID.eq (shown self.now)).value x)) (shown self.now).walk result }
+    {
+        let mut least = None;
+        for entry in &self.entries {
+            if self.is_below(voters, learners, part, &entry.0) && is_before(entry.0, least) {
+                least = Some(entry.0);
+            }
+        }
+        least
+    }
+
+    /// Whether an id is one of the voters or learners, and its value is below a part.
+    fn is_below(&self, voters: &[ID], learners: &[ID], part: P, id: &ID) -> bool
+        ensures { result ≡ (among ID.eq voters.now learners.now id.now && is_value_below P.cmp V.part_of part ((state ID.eq (shown self.now)).value id.now)) }
+    {
+        is_among(voters, learners, id) && self.is_value_below(part, id)
+    }
+
+    /// Whether an id has a value that is below a part.
+    fn is_value_below(&self, part: P, id: &ID) -> bool
+        ensures { result ≡ is_value_below P.cmp V.part_of part ((state ID.eq (shown self.now)).value id.now) }
+    {
+        match self.try_get(id) {
+            Some(value) => value.part().cmp(&part).is_lt(),
+            None => false,
+        }
+    }
+
+    /// Whether the progress is in order: the condition of the updates and of an upgrade.
+    ///
+    /// It can be lost only by a write through `get_mut` or `iter_mut` that changes an id or a
+    /// voter's part. The test changes nothing and takes no memory.
+    pub fn is_in_order(&mut self) -> bool
+        ensures answer { IsTrue result ↔ IsInOrder ID.eq P.cmp V.part_of QS.has_quorum (shown self.old) }
+        ensures same { shown self.new ≡ shown self.old }
+    {
+        if !has_distinct_ids(&self.entries) {
+            return false;
+        }
+        let voters = &self.entries[..self.voter_count];
+        if !is_falling(voters, self.granted) {
+            return false;
+        }
+        if !is_at_least(voters, self.default_part) {
+            return false;
+        }
+        let counted = count(&self.quorum_set, voters, self.default_part, &mut self.room);
+        counted.cmp(&self.granted).is_eq()
+    }
+
     /// The granted value.
     pub fn granted(&self) -> &P
-        ensures { result.now ≡ granted_of self.now }
+        ensures { result.now ≡ (shown self.now).granted }
     {
         &self.granted
     }
 
     /// The part of the default.
     pub fn default_part(&self) -> &P
-        ensures { result.now ≡ default_part_of self.now }
+        ensures { result.now ≡ (shown self.now).default_part }
     {
         &self.default_part
     }
 
     /// The place of an id in the walk.
     pub fn index(&self, id: &ID) -> Option<usize>
-        ensures { result ≡ position (λ e. ID.eq id.now e.0) (walk self.now) }
+        ensures { result ≡ position (λ e. ID.eq id.now e.0) ((shown self.now).walk) }
     {
         self.entries.iter().position(|entry| *id == entry.0)
     }
 
     /// The value of an id.
     pub fn try_get(&self, id: &ID) -> Option<&V>
-        ensures { option_copied result ≡ (state ID.eq self.now).value id.now }
+        ensures { option_copied result ≡ (state ID.eq (shown self.now)).value id.now }
     {
         match self.index(id) {
             Some(place) => Some(&self.entries[place].1),
@@ -175,8 +272,8 @@ impl<
 
     /// The value of an id that is there.
     pub fn get(&self, id: &ID) -> &V
-        requires { IsSome ((state ID.eq self.now).value id.now) }
-        ensures { (state ID.eq self.now).value id.now ≡ Some result.now }
+        requires { IsSome ((state ID.eq (shown self.now)).value id.now) }
+        ensures { (state ID.eq (shown self.now)).value id.now ≡ Some result.now }
     {
         match self.try_get(id) {
             Some(value) => value,
@@ -186,8 +283,7 @@ impl<
 
     /// Whether an id is a voter, if it is there.
     pub fn is_voter(&self, id: &ID) -> Option<bool>
-        ensures unknown { result ≡ None → (state ID.eq self.now).value id.now ≡ None }
-        ensures known { (b : Bool) → result ≡ Some b → IsSome ((state ID.eq self.now).value id.now) × ((state ID.eq self.now).is_voter id.now ≡ b) }
+        ensures { result ≡ voter_of (state ID.eq (shown self.now)) id.now }
     {
         match self.index(id) {
             Some(place) => Some(place < self.voter_count),
@@ -197,29 +293,29 @@ impl<
 
     /// The ids and their values: the voters, then the learners.
     pub fn iter(&self) -> std::slice::Iter<(ID, V)>
-        ensures { iter_rest result ≡ walk self.now }
+        ensures { iter_rest result ≡ (shown self.now).walk }
     {
         self.entries.iter()
     }
 
     /// The quorum set.
     pub fn quorum_set(&self) -> &QS
-        ensures { result.now ≡ (state ID.eq self.now).quorum_set }
+        ensures { result.now ≡ (state ID.eq (shown self.now)).quorum_set }
     {
         &self.quorum_set
     }
 
     /// How it runs.
     pub fn stat(&self) -> &Stat
-        ensures { result.now ≡ stat_of self.now }
+        ensures { result.now ≡ (shown self.now).stat }
     {
         &self.stat
     }
 
     /// The value of an id, to be written.
     pub fn get_mut(&mut self, id: &ID) -> Option<&mut V>
-        ensures* writes_back { sem 𝓛 (LendsSo (the_row ID.row V.row P.row QS.row ID.Ord.own ID.PartialEq ID.PartialOrd.own) V.row self.entry result (λ n w. OnSome result (Lent ID.eq self.old id.now w n)) (λ n. IsKept self.old n)) }
-        ensures value { option_copied_mut result ≡ (state ID.eq self.old).value id.now }
+        ensures* writes_back { sem 𝓛 (LendsSo (the_row ID.row V.row P.row QS.row ID.Ord.own ID.PartialEq ID.PartialOrd.own) V.row self.entry result (λ n w. OnSome result (shown n ≡ with_value ID.eq (shown self.old) id.now w)) (λ n. shown n ≡ shown self.old)) }
+        ensures value { option_copied_mut result ≡ (state ID.eq (shown self.old)).value id.now }
     {
         match self.index(id) {
             Some(place) => {
@@ -232,17 +328,17 @@ impl<
 
     /// The entries, to be written.
     pub fn iter_mut(&mut self) -> std::slice::IterMut<(ID, V)>
-        ensures { iter_mut_rest result ≡ walk self.old }
+        ensures { iter_mut_rest result ≡ (shown self.old).walk }
     {
         self.entries.iter_mut()
     }
 
     /// Changes the value of an id by `f`, and answers granted: as an error where the id is unknown.
     pub fn update_with<F: FnOnce(&mut V)>(&mut self, id: &ID, f: F) -> Result<&P, &P>
-        requires ordered { IsInOrder ID.eq P.cmp V.part_of QS.has_quorum self.old }
-        requires callable { (v : V) → (state ID.eq self.old).value id.now ≡ Some v → FnOnceTakesAtMut F.FnOnce f v }
-        requires not_lower { (v w : V) → (state ID.eq self.old).value id.now ≡ Some v → FnOnceReturnsAtMut F.FnOnce f v tt w → AtMost P.cmp (V.part_of v) (V.part_of w) }
-        ensures* after { sem 𝓛 (follows_so (the_row ID.row V.row P.row QS.row ID.Ord.own ID.PartialEq ID.PartialOrd.own) (the_row ID.row V.row P.row QS.row ID.Ord.own ID.PartialEq ID.PartialOrd.own) self.entry.ghost_name none (λ _ _. ⊤) (λ new. IsUpdated ID.eq P.cmp V.part_of (λ v w. FnOnceReturnsAtMut F.FnOnce f v tt w) self.old id.now new × IsInOrder ID.eq P.cmp V.part_of QS.has_quorum new × Answers ID.eq self.old id.now result (λ r. r.now) (λ r. r.now) new)) }
+        requires ordered { IsInOrder ID.eq P.cmp V.part_of QS.has_quorum (shown self.old) }
+        requires callable { (v : V) → (state ID.eq (shown self.old)).value id.now ≡ Some v → FnOnceTakesAtMut F.FnOnce f v }
+        requires not_lower { (v w : V) → (state ID.eq (shown self.old)).value id.now ≡ Some v → FnOnceReturnsAtMut F.FnOnce f v tt w → AtMost P.cmp (V.part_of v) (V.part_of w) }
+        ensures* after { sem 𝓛 (follows_so (the_row ID.row V.row P.row QS.row ID.Ord.own ID.PartialEq ID.PartialOrd.own) (the_row ID.row V.row P.row QS.row ID.Ord.own ID.PartialEq ID.PartialOrd.own) self.entry.ghost_name none (λ _ _. ⊤) (λ new. IsUpdated ID.eq P.cmp V.part_of (λ v w. FnOnceReturnsAtMut F.FnOnce f v tt w) (shown self.old) id.now (shown new) × IsInOrder ID.eq P.cmp V.part_of QS.has_quorum (shown new) × Answers ID.eq (shown self.old) id.now result (λ r. r.now) (λ r. r.now) (shown new))) }
     {
         if self.apply(id, f) {
             Ok(&self.granted)
@@ -253,9 +349,9 @@ impl<
 
     /// Writes the value of an id, and answers granted: as an error where the id is unknown.
     pub fn update(&mut self, id: &ID, value: V) -> Result<&P, &P>
-        requires ordered { IsInOrder ID.eq P.cmp V.part_of QS.has_quorum self.old }
-        requires not_lower { (v : V) → (state ID.eq self.old).value id.now ≡ Some v → AtMost P.cmp (V.part_of v) (V.part_of value) }
-        ensures* after { sem 𝓛 (follows_so (the_row ID.row V.row P.row QS.row ID.Ord.own ID.PartialEq ID.PartialOrd.own) (the_row ID.row V.row P.row QS.row ID.Ord.own ID.PartialEq ID.PartialOrd.own) self.entry.ghost_name none (λ _ _. ⊤) (λ new. IsUpdated ID.eq P.cmp V.part_of (λ v w. w ≡ value) self.old id.now new × IsInOrder ID.eq P.cmp V.part_of QS.has_quorum new × Answers ID.eq self.old id.now result (λ r. r.now) (λ r. r.now) new)) }
+        requires ordered { IsInOrder ID.eq P.cmp V.part_of QS.has_quorum (shown self.old) }
+        requires not_lower { (v : V) → (state ID.eq (shown self.old)).value id.now ≡ Some v → AtMost P.cmp (V.part_of v) (V.part_of value) }
+        ensures* after { sem 𝓛 (follows_so (the_row ID.row V.row P.row QS.row ID.Ord.own ID.PartialEq ID.PartialOrd.own) (the_row ID.row V.row P.row QS.row ID.Ord.own ID.PartialEq ID.PartialOrd.own) self.entry.ghost_name none (λ _ _. ⊤) (λ new. IsUpdated ID.eq P.cmp V.part_of (λ v w. w ≡ value) (shown self.old) id.now (shown new) × IsInOrder ID.eq P.cmp V.part_of QS.has_quorum (shown new) × Answers ID.eq (shown self.old) id.now result (λ r. r.now) (λ r. r.now) (shown new))) }
     {
         self.update_with(id, |current| *current = value)
     }
@@ -264,9 +360,9 @@ impl<
     pub fn increase_to(&mut self, id: &ID, value: V) -> Result<&P, &P>
     where
         V: PartialOrd,
-        requires ordered { IsInOrder ID.eq P.cmp V.part_of QS.has_quorum self.old }
-        requires not_lower { (v : V) → (state ID.eq self.old).value id.now ≡ Some v → partial_gt V.partial_cmp value v ≡ true → AtMost P.cmp (V.part_of v) (V.part_of value) }
-        ensures* after { sem 𝓛 (follows_so (the_row ID.row V.row P.row QS.row ID.Ord.own ID.PartialEq ID.PartialOrd.own) (the_row ID.row V.row P.row QS.row ID.Ord.own ID.PartialEq ID.PartialOrd.own) self.entry.ghost_name none (λ _ _. ⊤) (λ new. IsUpdated ID.eq P.cmp V.part_of (λ v w. w ≡ (if partial_gt V.partial_cmp value v then value else v)) self.old id.now new × IsInOrder ID.eq P.cmp V.part_of QS.has_quorum new × Answers ID.eq self.old id.now result (λ r. r.now) (λ r. r.now) new)) }
+        requires ordered { IsInOrder ID.eq P.cmp V.part_of QS.has_quorum (shown self.old) }
+        requires not_lower { (v : V) → (state ID.eq (shown self.old)).value id.now ≡ Some v → partial_gt V.partial_cmp value v ≡ true → AtMost P.cmp (V.part_of v) (V.part_of value) }
+        ensures* after { sem 𝓛 (follows_so (the_row ID.row V.row P.row QS.row ID.Ord.own ID.PartialEq ID.PartialOrd.own) (the_row ID.row V.row P.row QS.row ID.Ord.own ID.PartialEq ID.PartialOrd.own) self.entry.ghost_name none (λ _ _. ⊤) (λ new. IsUpdated ID.eq P.cmp V.part_of (λ v w. w ≡ (if partial_gt V.partial_cmp value v then value else v)) (shown self.old) id.now (shown new) × IsInOrder ID.eq P.cmp V.part_of QS.has_quorum (shown new) × Answers ID.eq (shown self.old) id.now result (λ r. r.now) (λ r. r.now) (shown new))) }
     {
         self.update_with(id, |current| {
             if value > *current {
@@ -277,12 +373,12 @@ impl<
 
     /// Changes the value of an id by `f`, recounts granted, and answers whether the id is known.
     fn apply<F: FnOnce(&mut V)>(&mut self, id: &ID, f: F) -> bool
-        requires ordered { IsInOrder ID.eq P.cmp V.part_of QS.has_quorum self.old }
-        requires callable { (v : V) → (state ID.eq self.old).value id.now ≡ Some v → FnOnceTakesAtMut F.FnOnce f v }
-        requires not_lower { (v w : V) → (state ID.eq self.old).value id.now ≡ Some v → FnOnceReturnsAtMut F.FnOnce f v tt w → AtMost P.cmp (V.part_of v) (V.part_of w) }
-        ensures updated { IsUpdated ID.eq P.cmp V.part_of (λ v w. FnOnceReturnsAtMut F.FnOnce f v tt w) self.old id.now self.new }
-        ensures ordered { IsInOrder ID.eq P.cmp V.part_of QS.has_quorum self.new }
-        ensures known { result ≡ is_some ((state ID.eq self.old).value id.now) }
+        requires ordered { IsInOrder ID.eq P.cmp V.part_of QS.has_quorum (shown self.old) }
+        requires callable { (v : V) → (state ID.eq (shown self.old)).value id.now ≡ Some v → FnOnceTakesAtMut F.FnOnce f v }
+        requires not_lower { (v w : V) → (state ID.eq (shown self.old)).value id.now ≡ Some v → FnOnceReturnsAtMut F.FnOnce f v tt w → AtMost P.cmp (V.part_of v) (V.part_of w) }
+        ensures updated { IsUpdated ID.eq P.cmp V.part_of (λ v w. FnOnceReturnsAtMut F.FnOnce f v tt w) (shown self.old) id.now (shown self.new) }
+        ensures ordered { IsInOrder ID.eq P.cmp V.part_of QS.has_quorum (shown self.new) }
+        ensures known { result ≡ is_some ((state ID.eq (shown self.old)).value id.now) }
     {
         let _counts = (self.stat.move_count, self.stat.is_quorum_count);
         self.stat.update_count = self.stat.update_count.saturating_add(1);
@@ -299,9 +395,9 @@ impl<
 
     /// Puts the progress in order again, after the value at a place went from a part `before`.
     fn settle(&mut self, place: usize, before: P)
-        requires within { place < length self.old.entries.items }
-        requires distinct { IsDistinct ID.eq (keys_of self.old.entries.items) }
-        ensures { IsPutInOrder ID.eq P.cmp V.part_of QS.has_quorum self.old place before self.new }
+        requires within { place < length (shown self.old).walk }
+        requires distinct { IsDistinct ID.eq (keys_of (shown self.old).walk) }
+        ensures { IsPutInOrder ID.eq P.cmp V.part_of QS.has_quorum (shown self.old) place before (shown self.new) }
     {
         let after = self.entries[place].1.part();
         let granted = self.granted;
@@ -312,9 +408,9 @@ impl<
 
     /// Moves the voter at a place up, and where `counts` looks for the greatest part that a quorum has reached.
     fn raise(&mut self, place: usize, counts: bool)
-        requires within { place < self.old.voter_count }
-        requires distinct { IsDistinct ID.eq (keys_of self.old.entries.items) }
-        ensures { IsRaised ID.eq P.cmp V.part_of QS.has_quorum self.old place counts self.new }
+        requires within { place < (shown self.old).voter_count }
+        requires distinct { IsDistinct ID.eq (keys_of (shown self.old).walk) }
+        ensures { IsRaised ID.eq P.cmp V.part_of QS.has_quorum (shown self.old) place counts (shown self.new) }
     {
         self.stat.move_count = self.stat.move_count.saturating_add(1);
         let to = move_up(&mut self.entries, place);
@@ -325,8 +421,8 @@ impl<
 
     /// Looks for the least front past a place that is a quorum, while its parts exceed granted.
     fn scan(&mut self, place: usize)
-        requires distinct { IsDistinct ID.eq (keys_of self.old.entries.items) }
-        ensures { IsScanned ID.eq P.cmp V.part_of QS.has_quorum self.old place self.new }
+        requires distinct { IsDistinct ID.eq (keys_of (shown self.old).walk) }
+        ensures { IsScanned ID.eq P.cmp V.part_of QS.has_quorum (shown self.old) place (shown self.new) }
     {
         let voters = &self.entries[..self.voter_count];
         let high = leading(voters, self.granted);
@@ -335,5 +431,142 @@ impl<
         if let Some(front) = found.front {
             self.granted = self.entries[front - 1].1.part();
         }
+    }
+}
+
+impl<ID: Copy + Ord, V: PartialEq, P: Copy + Ord, QS: PartialEq> PartialEq
+    for VecProgress<ID, V, P, QS> {
+    ghost use Rattle.std.specs.Cmp.{and_per, nat_eq_equiv, on_per, partial_equiv_from_equiv};
+    ghost use Rattle.std.specs.Cmp.Lexicographic.{lists_per};
+    ghost use Rattle.raft_progress.specs.Equal.{equal};
+    ghost use Rattle.raft_progress.specs.VecProgress.{shown};
+
+    ghost eq = { λ a b. equal ID.eq V.eq P.eq QS.eq (shown a) (shown b) };
+
+    ghost laws = { and_per (and_per (and_per (and_per (and_per (on_per (λ a. a.quorum_set) QS.PartialEq.laws) (on_per (λ a. a.granted) P.PartialEq.laws)) (on_per (λ a. a.voter_count) (partial_equiv_from_equiv nat_eq_equiv))) (on_per (λ a. a.entries.items) (lists_per (and_per (on_per (λ e. e.0) ID.PartialEq.laws) (on_per (λ e. e.1) V.PartialEq.laws))))) (on_per (λ a. a.default_part) P.PartialEq.laws)) (on_per (λ a. a.stat) (and_per (and_per (on_per (λ t. t.update_count) (partial_equiv_from_equiv nat_eq_equiv)) (on_per (λ t. t.move_count) (partial_equiv_from_equiv nat_eq_equiv))) (on_per (λ t. t.is_quorum_count) (partial_equiv_from_equiv nat_eq_equiv)))) };
+
+    fn eq(&self, other: &Self) -> bool {
+        self.quorum_set == other.quorum_set
+            && self.granted == other.granted
+            && self.voter_count == other.voter_count
+            && self.entries == other.entries
+            && self.default_part == other.default_part
+            && self.stat == other.stat
+    }
+}
+
+impl<ID: Copy + Ord, V: Eq, P: Copy + Ord, QS: Eq> Eq for VecProgress<ID, V, P, QS> {
+    ghost use Rattle.std.specs.Cmp.{and_equiv, nat_eq_equiv, on_equiv};
+    ghost use Rattle.std.specs.Cmp.Lexicographic.{lists_equiv};
+
+    ghost laws = { and_equiv (and_equiv (and_equiv (and_equiv (and_equiv (on_equiv (λ a. a.quorum_set) QS.Eq.laws) (on_equiv (λ a. a.granted) P.Eq.laws)) (on_equiv (λ a. a.voter_count) nat_eq_equiv)) (on_equiv (λ a. a.entries.items) (lists_equiv (and_equiv (on_equiv (λ e. e.0) ID.Eq.laws) (on_equiv (λ e. e.1) V.Eq.laws))))) (on_equiv (λ a. a.default_part) P.Eq.laws)) (on_equiv (λ a. a.stat) (and_equiv (and_equiv (on_equiv (λ t. t.update_count) nat_eq_equiv) (on_equiv (λ t. t.move_count) nat_eq_equiv)) (on_equiv (λ t. t.is_quorum_count) nat_eq_equiv))) };
+}
+
+/// A clone reserves the room that `new` does.
+impl<ID: Copy + Ord, V: Clone, P: Copy + Ord, QS: Clone> Clone for VecProgress<ID, V, P, QS> {
+    ghost use Rattle.raft_progress.specs.Equal.{IsCloned};
+    ghost use Rattle.raft_progress.specs.VecProgress.{shown};
+
+    ghost is_clone = { λ old new. IsCloned V.is_clone QS.is_clone (shown old) (shown new) };
+
+    fn clone(&self) -> Result<Self, AllocError> {
+        let alloc = *self.entries.allocator();
+        Ok(VecProgress {
+            quorum_set: self.quorum_set.clone()?,
+            granted: self.granted,
+            default_part: self.default_part,
+            voter_count: self.voter_count,
+            entries: clone_entries(alloc, &self.entries)?,
+            room: copy_ids(alloc, &self.room)?,
+            stat: self.stat.clone()?,
+        })
+    }
+}
+
+impl<ID: Copy + Ord, V: Clone + PartialEq, P: Copy + Ord, QS: Clone + PartialEq> VecProgress<
+    ID,
+    V,
+    P,
+    QS,
+> {
+    ghost use Rattle.std.specs.Prelude.{IfOk, IsTrue};
+    ghost use Rattle.std.specs.Set.{ClonesAreEqual};
+    ghost use Rattle.raft_progress.specs.Equal.{IsCloned, equal};
+    ghost use Rattle.raft_progress.specs.VecProgress.{shown};
+
+    /// An equal progress, where clones of values and of quorum sets equal their sources.
+    pub fn try_clone(&self) -> Result<Self, AllocError>
+        requires values { ClonesAreEqual V.eq V.is_clone }
+        requires quorum_sets { ClonesAreEqual QS.eq QS.is_clone }
+        ensures equal { IfOk result (λ made. IsTrue (equal ID.eq V.eq P.eq QS.eq (shown self.now) (shown made))) }
+        ensures cloned { IfOk result (λ made. IsCloned V.is_clone QS.is_clone (shown self.now) (shown made)) }
+    {
+        self.clone()
+    }
+}
+
+impl<ID: Copy + Ord, V: ProgressPart<P> + Drop, P: Copy + Ord, QS: QuorumSet<ID> + Drop> Progress<
+    ID,
+    V,
+    P,
+    QS,
+> for VecProgress<ID, V, P, QS> {
+    ghost use Rattle.raft_progress.specs.VecProgress.{shown};
+
+    ghost shows = { shown };
+
+    fn granted(&self) -> &P {
+        VecProgress::granted(self)
+    }
+
+    fn try_get(&self, id: &ID) -> Option<&V> {
+        VecProgress::try_get(self, id)
+    }
+
+    fn get(&self, id: &ID) -> &V {
+        VecProgress::get(self, id)
+    }
+
+    fn quorum_set(&self) -> &QS {
+        VecProgress::quorum_set(self)
+    }
+
+    fn iter(&self) -> std::slice::Iter<(ID, V)> {
+        VecProgress::iter(self)
+    }
+
+    fn get_mut(&mut self, id: &ID) -> Option<&mut V> {
+        VecProgress::get_mut(self, id)
+    }
+
+    fn is_voter(&self, id: &ID) -> Option<bool> {
+        VecProgress::is_voter(self, id)
+    }
+
+    fn update_with<F: FnOnce(&mut V)>(&mut self, id: &ID, f: F) -> Result<&P, &P> {
+        VecProgress::update_with(self, id, f)
+    }
+
+    fn update(&mut self, id: &ID, value: V) -> Result<&P, &P> {
+        VecProgress::update(self, id, value)
+    }
+
+    fn increase_to(&mut self, id: &ID, value: V) -> Result<&P, &P>
+    where
+        V: PartialOrd,
+    {
+        VecProgress::increase_to(self, id, value)
+    }
+
+    fn upgrade_quorum_set(
+        &self,
+        quorum_set: QS,
+        learners: &[ID],
+        default: V,
+    ) -> Result<Self, AllocError>
+    where
+        V: Clone,
+    {
+        VecProgress::upgrade_quorum_set(self, quorum_set, learners, default)
     }
 }

@@ -2,10 +2,11 @@ use Rattle.std.proofs.Common.{arith, sym, ap, ◌∙◌, refl, subst, ◌≡◌,
 use Rattle.std.specs.Option.{is_some}
 use Rattle.std.specs.List.{IsDistinct}
 use Rattle.std.proofs.lemmas.Option.{get_or_from_slice_get}
-use Rattle.raft_progress.proofs.Walks.{lookup_absent, no_value}
-use Rattle.raft_progress.proofs.Updates.{was, wrote, same_keys}
-use Rattle.raft_progress.proofs.Outcomes.{outcome}
-use Rattle.raft_progress.specs.Shown.{IsSettled}
+use Rattle.raft_progress.proofs.WalkLemmas.{lookup_absent, no_value}
+use Rattle.raft_progress.proofs.UpdateLemmas.{was, wrote, same_keys}
+use Rattle.raft_progress.proofs.OutcomeLemmas.{outcome}
+use Rattle.raft_progress.specs.Updated.{IsSettled}
+use Rattle.raft_progress.specs.VecProgress.{shown}
 use Rattle.raft_progress.proofs.progress.vec_progress.VecProgress.apply.Goals as goal
 
 pub write_at-requires-clause-callable : goal.write_at-requires-clause-callable
@@ -27,15 +28,16 @@ returns-in-Some-clause-updated g c =
     let here : h.0 ≡ get_or c.args.self.now.entries.items c.in-Some.place h.0 = sym (get_or_from_slice_get c.args.self.now.entries.items c.in-Some.place h.0 h.0 h.2) in
     let read : c.index-in-Some.result.now ≡ h.0 = c.index-in-Some.ensures ∙ get_or_from_slice_get c.args.self.now.entries.items c.in-Some.place h.0 c.index-in-Some.result.now h.2 in
     let fits : c.args.self.now.stat.is_quorum_count < 2 ^ 64 = omega arith in
-    let oc = outcome g.met.ID.Eq.laws g.met.P.Ord.total g.V.ProgressPart.part_of g.QS.QuorumSet.has_quorum g.met.QS.QuorumSet.superset _ c.settle.new.self c.args.self.now.entries.items c.requires.ordered c.args.id.now c.in-Some.place h.0 (sym c.in-Some.ensures) here h.1 (c.requires.not_lower h.0.1 h.1 before h.3) h.4 before (h.4 ∙ is) c.part-before.result (c.part-before.ensures ∙ ap (λ (e : g.row.ID.Denot × g.row.V.Denot). g.V.ProgressPart.part_of e.1) read) fits c.settle.ensures in
+    let oc = outcome g.met.ID.Eq.laws g.met.P.Ord.total g.V.ProgressPart.part_of g.QS.QuorumSet.has_quorum g.met.QS.QuorumSet.superset _ (shown c.settle.new.self) c.args.self.now.entries.items c.requires.ordered c.args.id.now c.in-Some.place h.0 (sym c.in-Some.ensures) here h.1 (c.requires.not_lower h.0.1 h.1 before h.3) h.4 before (h.4 ∙ is) c.part-before.result (c.part-before.ensures ∙ ap (λ (e : g.row.ID.Denot × g.row.V.Denot). g.V.ProgressPart.part_of e.1) read) fits c.settle.ensures in
     record {
       counts = oc.updates ∙ c.saturating_add-self.ensures;
+      same_voter_count = oc.voter_count;
       known = λ v e.
           let same : h.0.1 ≡ v = cc in (
             h.1,
             rw (← same) h.3,
             oc.written,
-            subst (λ (v : g.row.V.Denot). IsSettled g.ID.PartialEq.eq g.P.Ord.cmp g.V.ProgressPart.part_of c.args.self.now c.args.id.now v h.1 c.settle.new.self) same
+            subst (λ (v : g.row.V.Denot). IsSettled g.ID.PartialEq.eq g.P.Ord.cmp g.V.ProgressPart.part_of (shown c.args.self.now) c.args.id.now v h.1 (shown c.settle.new.self)) same
                 record { rises = oc.rises; stays = oc.stays; tests = oc.tests; counts_tests = oc.counts_tests; at_most_voters = oc.at_most_voters; tested_to_rise = oc.tested_to_rise; not_tested = oc.not_tested },
           );
       unknown = λ e. absurd (no_value _ _ e before);
@@ -49,7 +51,7 @@ returns-in-Some-clause-ordered g c =
     let here : h.0 ≡ get_or c.args.self.now.entries.items c.in-Some.place h.0 = sym (get_or_from_slice_get c.args.self.now.entries.items c.in-Some.place h.0 h.0 h.2) in
     let read : c.index-in-Some.result.now ≡ h.0 = c.index-in-Some.ensures ∙ get_or_from_slice_get c.args.self.now.entries.items c.in-Some.place h.0 c.index-in-Some.result.now h.2 in
     let fits : c.args.self.now.stat.is_quorum_count < 2 ^ 64 = omega arith in
-    let oc = outcome g.met.ID.Eq.laws g.met.P.Ord.total g.V.ProgressPart.part_of g.QS.QuorumSet.has_quorum g.met.QS.QuorumSet.superset _ c.settle.new.self c.args.self.now.entries.items c.requires.ordered c.args.id.now c.in-Some.place h.0 (sym c.in-Some.ensures) here h.1 (c.requires.not_lower h.0.1 h.1 before h.3) h.4 before (h.4 ∙ is) c.part-before.result (c.part-before.ensures ∙ ap (λ (e : g.row.ID.Denot × g.row.V.Denot). g.V.ProgressPart.part_of e.1) read) fits c.settle.ensures in
+    let oc = outcome g.met.ID.Eq.laws g.met.P.Ord.total g.V.ProgressPart.part_of g.QS.QuorumSet.has_quorum g.met.QS.QuorumSet.superset _ (shown c.settle.new.self) c.args.self.now.entries.items c.requires.ordered c.args.id.now c.in-Some.place h.0 (sym c.in-Some.ensures) here h.1 (c.requires.not_lower h.0.1 h.1 before h.3) h.4 before (h.4 ∙ is) c.part-before.result (c.part-before.ensures ∙ ap (λ (e : g.row.ID.Denot × g.row.V.Denot). g.V.ProgressPart.part_of e.1) read) fits c.settle.ensures in
     oc.ordered
 
 pub returns-in-Some-clause-known : goal.returns-in-Some-clause-known
@@ -62,6 +64,7 @@ returns-in-None-clause-updated g c =
     let gone = lookup_absent (g.ID.PartialEq.eq c.args.id.now) c.args.self.now.entries.items (sym c.in-None.ensures) in
     record {
       counts = c.saturating_add-self.ensures;
+      same_voter_count = refl;
       known = λ v e. absurd (no_value _ _ gone e);
       unknown = λ e. (record { quorum_set = refl; is_voter = λ x. refl; value = λ x. refl; default_part = refl }, refl, refl, refl, refl);
     }

@@ -1,5 +1,6 @@
-use Rattle.std.proofs.Common.{sym, ap, ◌∙◌, refl, Some, set}
-use Rattle.raft_progress.proofs.Walks.{lookup_found, lookup_absent, set_found}
+use Rattle.std.proofs.Common.{sym, ap, ◌∙◌, refl, Some, set, List}
+use Rattle.raft_progress.proofs.WalkLemmas.{lookup_found, lookup_absent, set_found}
+use Rattle.raft_progress.specs.VecProgress.{shown}
 use Rattle.raft_progress.proofs.progress.vec_progress.VecProgress.get_mut.Goals as goal
 
 pub returns-in-Some : goal.returns-in-Some
@@ -8,15 +9,9 @@ returns-in-Some g c =
     let at = sym c.in-Some.ensures in (
       (
         refl,
-        (λ w. record {
-          quorum_set = refl;
-          walk = ap (λ (e : g.row.ID.Denot × g.row.V.Denot). set c.args.self.now.entries.items c.in-Some.place (e.0, w)) is ∙ set_found (g.ID.PartialEq.eq c.args.id.now) c.args.self.now.entries.items c.in-Some.place c.index_mut-entry.result.now w at;
-          voter_count = refl;
-          default_part = refl;
-          granted = refl;
-          stat = refl;
-        }),
-        record { quorum_set = refl; walk = refl; voter_count = refl; default_part = refl; granted = refl; stat = refl },
+        (λ w. ap (λ (es : List (g.row.ID.Denot × g.row.V.Denot)). record (shown c.args.self.now) { walk = es })
+            (ap (λ (e : g.row.ID.Denot × g.row.V.Denot). set c.args.self.now.entries.items c.in-Some.place (e.0, w)) is ∙ set_found (g.ID.PartialEq.eq c.args.id.now) c.args.self.now.entries.items c.in-Some.place c.index_mut-entry.result.now w at)),
+        refl,
       ),
       record {
         writes_back = tt;
@@ -26,6 +21,6 @@ returns-in-Some g c =
 
 pub returns-in-None : goal.returns-in-None
 returns-in-None g c = (
-  (refl, (λ w. tt), record { quorum_set = refl; walk = refl; voter_count = refl; default_part = refl; granted = refl; stat = refl }),
+  (refl, (λ w. tt), refl),
   record { writes_back = tt; value = sym (lookup_absent (g.ID.PartialEq.eq c.args.id.now) c.args.self.now.entries.items (sym c.in-None.ensures)) },
 )

@@ -1,10 +1,10 @@
 use Rattle.std.proofs.Common.{arith, refl, sym, ap, ◌≡◌, get_or, List, [], ◌∷◌, zero, suc, ◌∙◌, subst, ◌≤◌, ◌-◌, length, take, ℕ}
 use Rattle.std.proofs.lemmas.List.{length-take}
 use Rattle.std.proofs.lemmas.List.Sums.{prefix_len-le-length}
-use Rattle.raft_progress.specs.Greatest.{exceeds}
-use Rattle.raft_progress.specs.Rises.{IsLeastFront}
-use Rattle.raft_progress.proofs.Updates.{IsDistinct-voters}
-use Rattle.raft_progress.proofs.Settles.{get_take}
+use Rattle.raft_progress.specs.Inner.Counts.{exceeds}
+use Rattle.raft_progress.specs.Inner.Rises.{IsLeastFront}
+use Rattle.raft_progress.proofs.UpdateLemmas.{IsDistinct-voters}
+use Rattle.raft_progress.proofs.SettledLemmas.{get_take}
 use Rattle.raft_progress.proofs.progress.vec_progress.VecProgress.scan.Goals as goal
 
 length_take_le : {X : Type 0} (xs : List X) (n : ℕ) → length (take n xs) ≤ n

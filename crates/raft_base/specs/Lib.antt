@@ -1,0 +1,7 @@
+pub mod LeaderId
+pub mod LeaderIdLaws
+pub mod LeaderOrder
+pub mod LogId
+pub mod LogIdLaws
+pub mod Vote
+pub mod VoteLaws

@@ -1,0 +1,212 @@
+//! The kinds of leader ids that a Raft log may use.
+//!
+//! Votes, and all that holds a vote, are generic over the kind. A leader type says by
+//! `LeaderIdentity` what votes have to know of it, and a kind names the leader type that goes with
+//! a type of node ids.
+ghost use Rattle.std.specs.Prelude.{◌≡◌, ◌≢◌, ℕ, Some, IsTrue, false, refl};
+ghost use Rattle.std.specs.declared.option.Option.{Option};
+ghost use Rattle.std.specs.declared.cmp.Ordering.{Ordering};
+ghost use Rattle.std.specs.Cmp.{IsPartialOrder};
+ghost use Rattle.std.specs.Ordering.{nat_cmp, is_gt, partial_le};
+ghost use Rattle.raft_base.specs.LeaderOrder.{IncomparableAlike};
+
+use crate::leader_id::{CommittedLeaderId, LeaderId};
+use crate::node::NodeId;
+use std::cmp::Ordering;
+use std::fmt::{Debug, Display};
+
+/// A leader id, as far as votes have to know it.
+///
+/// Leaders are ordered, partly or wholly, and equal where the order says so. Where leaders do not
+/// compare, no more than one of them can be granted.
+pub trait LeaderIdentity: Eq + Copy + Default + Debug + Display + 'static {
+    /// The id of a node.
+    type Id: NodeId;
+    /// What is kept of a leader once a quorum has granted it.
+    type Committed: Ord + Copy + Default + Debug + Display + 'static;
+
+    /// How two leaders compare, if they do.
+    ghost order: { Self → Self → Option Ordering };
+
+    /// The term of a leader.
+    ghost term_of: { Self → ℕ };
+
+    /// The node that the vote for a leader is for, if there is one.
+    ghost voted: { Self → Option Self.Id };
+
+    /// What is kept of a leader once it is granted.
+    ghost committed: { Self → Self.Committed };
+
+    /// The leader that a node is in a term.
+    ghost leader_of: { ℕ → Self.Id → Self };
+
+    /// How two leaders compare, if they do.
+    fn compare(a: &Self, b: &Self) -> Option<Ordering>
+        ensures { result ≡ order a.now b.now };
+
+    /// The leader that a node is in a term.
+    fn new_leader(term: u64, id: Self::Id) -> Self
+        ensures { result ≡ leader_of term id };
+
+    /// What is kept of that leader once it is granted.
+    fn new_committed(term: u64, id: Self::Id) -> Self::Committed
+        ensures { result ≡ committed (leader_of term id) };
+
+    /// The leader's term.
+    fn term(leader: &Self) -> u64
+        ensures { result ≡ term_of leader.now };
+
+    /// The node that the vote is for, if there is one.
+    fn voted_for(leader: &Self) -> Option<Self::Id>
+        ensures { result ≡ voted leader.now };
+
+    /// What is kept of the leader once it is granted.
+    fn to_committed(leader: &Self) -> Self::Committed
+        ensures { result ≡ committed leader.now };
+
+    /// Whether the leader is the granted one.
+    fn is_same_as_committed(leader: &Self, other: &Self::Committed) -> bool
+        ensures { result ≡ Self.Committed.eq (committed leader.now) other.now };
+
+    /// Leaders are partly ordered, and tied exactly where they are equal.
+    ghost partial: { IsPartialOrder Self.eq order };
+
+    /// Leaders of different terms compare as their terms.
+    ghost by_term: { (a b : Self) → term_of a ≢ term_of b
+        → order a b ≡ Some (nat_cmp (term_of a) (term_of b)) };
+
+    /// What is kept of a leader is not above what is kept of a leader that is no lesser one.
+    ghost rises: { (a b : Self) → IsTrue (partial_le order a b)
+        → is_gt (Self.Committed.cmp (committed a) (committed b)) ≡ false };
+
+    /// The leader that a node is in a term has that term and is that node's.
+    ghost made: { (t : ℕ) (n : Self.Id)
+        → (term_of (leader_of t n) ≡ t) × (voted (leader_of t n) ≡ Some n) };
+
+    /// Leaders that do not compare stand on the same side of each third one.
+    ghost incomparable: { IncomparableAlike order };
+}
+
+/// A kind of leader ids: its leaders over each type of node ids.
+pub trait LeaderKind<NID: NodeId>: 'static {
+    /// The leader ids of votes.
+    type Leader: LeaderIdentity<Id = NID, Committed = Self::Committed>;
+    /// The leader ids of log ids.
+    type Committed: Ord + Copy + Default + Debug + Display + 'static;
+
+    /// How two leaders compare, if they do.
+    final fn compare(a: &Self::Leader, b: &Self::Leader) -> Option<Ordering>
+        ensures { result ≡ Self.Leader.order a.now b.now }
+    {
+        <Self::Leader as LeaderIdentity>::compare(a, b)
+    }
+
+    /// The leader that a node is in a term.
+    final fn new_leader(term: u64, id: NID) -> Self::Leader
+        ensures { result ≡ Self.Leader.leader_of term id }
+    {
+        <Self::Leader as LeaderIdentity>::new_leader(term, id)
+    }
+
+    /// What is kept of that leader once it is granted.
+    final fn new_committed(term: u64, id: NID) -> Self::Committed
+        ensures { result ≡ Self.Leader.committed (Self.Leader.leader_of term id) }
+    {
+        <Self::Leader as LeaderIdentity>::new_committed(term, id)
+    }
+
+    /// The leader's term.
+    final fn term(leader: &Self::Leader) -> u64
+        ensures { result ≡ Self.Leader.term_of leader.now }
+    {
+        <Self::Leader as LeaderIdentity>::term(leader)
+    }
+
+    /// The node that the vote is for, if there is one.
+    final fn voted_for(leader: &Self::Leader) -> Option<NID>
+        ensures { result ≡ Self.Leader.voted leader.now }
+    {
+        <Self::Leader as LeaderIdentity>::voted_for(leader)
+    }
+
+    /// What is kept of the leader once it is granted.
+    final fn to_committed(leader: &Self::Leader) -> Self::Committed
+        ensures { result ≡ Self.Leader.committed leader.now }
+    {
+        <Self::Leader as LeaderIdentity>::to_committed(leader)
+    }
+
+    /// Whether the leader is the granted one.
+    final fn is_same_as_committed(leader: &Self::Leader, other: &Self::Committed) -> bool
+        ensures { result ≡ Self.Committed.eq (Self.Leader.committed leader.now) other.now }
+    {
+        <Self::Leader as LeaderIdentity>::is_same_as_committed(leader, other)
+    }
+}
+
+/// Leader ids in which any two compare: a term may have several leaders, one after the other.
+#[derive(Debug, Clone, Copy, Default, PartialEq, Eq)]
+pub struct LeaderAdv;
+
+impl<NID: NodeId> LeaderKind<NID> for LeaderAdv {
+    type Leader = LeaderId<NID>;
+
+    type Committed = CommittedLeaderId<NID>;
+}
+
+impl<NID: NodeId> LeaderIdentity for LeaderId<NID> {
+    type Id = NID;
+
+    type Committed = CommittedLeaderId<NID>;
+
+    ghost use Rattle.raft_base.specs.LeaderId.{leader_id_cmp};
+    ghost use Rattle.raft_base.specs.LeaderIdLaws.{term_then_node-partial, first_decides, apart, le_not_gt, never_none};
+
+    ghost order = { λ a b. Some (leader_id_cmp NID.cmp a b) };
+
+    ghost term_of = { λ a. a.term };
+
+    ghost voted = { λ a. Some a.node_id };
+
+    ghost committed = { λ a. a };
+
+    ghost leader_of = { λ t n. record { term = t; node_id = n } };
+
+    fn compare(a: &Self, b: &Self) -> Option<Ordering> {
+        a.partial_cmp(b)
+    }
+
+    fn new_leader(term: u64, id: NID) -> Self {
+        Self::new(term, id)
+    }
+
+    fn new_committed(term: u64, id: NID) -> CommittedLeaderId<NID> {
+        CommittedLeaderId::new(term, id)
+    }
+
+    fn term(leader: &Self) -> u64 {
+        leader.get_term()
+    }
+
+    fn voted_for(leader: &Self) -> Option<NID> {
+        leader.voted_for()
+    }
+
+    fn to_committed(leader: &Self) -> CommittedLeaderId<NID> {
+        leader.to_committed()
+    }
+
+    fn is_same_as_committed(leader: &Self, other: &CommittedLeaderId<NID>) -> bool {
+        leader.is_same_as_committed(other)
+    }
+
+    ghost partial = { term_then_node-partial NID.Ord.total NID.Ord.matches_eq (λ a. a.term) (λ a. a.node_id) };
+
+    ghost by_term = { λ a b h. first_decides (nat_cmp a.term b.term) _ (apart a.term b.term h) };
+
+    ghost rises = { λ a b h. le_not_gt _ h };
+
+    ghost made = { λ t n. (refl, refl) };
+
+    ghost incomparable = { λ a b c h. never_none _ h };
+}

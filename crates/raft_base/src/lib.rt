@@ -1,0 +1,17 @@
+//! The names that a Raft cluster agrees on: node ids, leader ids, votes and log ids.
+#![tactic(auto)]
+
+pub mod kind;
+pub mod leader_id;
+pub mod log_id;
+pub mod node;
+pub mod order;
+#[cfg(test)]
+mod tests;
+pub mod vote;
+
+pub use kind::{LeaderAdv, LeaderIdentity, LeaderKind};
+pub use leader_id::{CommittedLeaderId, LeaderId};
+pub use log_id::{LogId, LogIdOf, RaftLogId, RaftLogIdOf};
+pub use node::{EmptyNode, Node, NodeDefault, NodeEssential, NodeId, NodeIdEssential};
+pub use vote::{Vote, VoteIn, VoteOf};

@@ -1,0 +1,56 @@
+//! What identifies a log entry.
+ghost use Rattle.std.specs.Prelude.{◌≡◌};
+
+mod raft_log_id;
+
+use crate::leader_id::CommittedLeaderId;
+pub use raft_log_id::{RaftLogId, RaftLogIdOf};
+use std::fmt;
+
+/// Identifies a log entry in the whole cluster: the leader that proposed it, and its index.
+///
+/// Compared by leader, then by index. The leader is one that a quorum has granted, and what is kept
+/// of such a leader is up to the kind of leader ids, so it is a parameter.
+#[derive(Clone, Copy, Default, PartialEq, Eq, PartialOrd, Ord)]
+pub struct LogIdOf<C> {
+    /// The leader that proposed the entry.
+    pub leader_id: C,
+    /// Where the entry stands in the log. Indexes are consecutive.
+    pub index: u64,
+}
+
+/// Log ids with the default leader ids.
+pub type LogId<NID> = LogIdOf<CommittedLeaderId<NID>>;
+
+impl<C: Copy> LogIdOf<C> {
+    /// The id of the entry that a leader proposed at an index.
+    pub fn new(leader_id: C, index: u64) -> Self
+        ensures { result ≡ record { leader_id = leader_id; index = index } }
+    {
+        LogIdOf { leader_id, index }
+    }
+
+    /// The leader that proposed the entry.
+    pub fn committed_leader_id(&self) -> &C
+        ensures { result.now ≡ self.now.leader_id }
+    {
+        &self.leader_id
+    }
+}
+
+// By hand, for the name that the type goes by.
+impl<C: fmt::Debug> fmt::Debug for LogIdOf<C> {
+    fn fmt<W: fmt::Write>(&self, f: &mut fmt::Formatter<W>) -> fmt::Result {
+        f.debug_struct("LogId")
+            .field("leader_id", &self.leader_id)
+            .field("index", &self.index)
+            .finish()
+    }
+}
+
+impl<C: fmt::Display> fmt::Display for LogIdOf<C> {
+    fn fmt<W: fmt::Write>(&self, f: &mut fmt::Formatter<W>) -> fmt::Result {
+        let LogIdOf { leader_id, index } = self;
+        write!(f, "{leader_id}-{index}")
+    }
+}

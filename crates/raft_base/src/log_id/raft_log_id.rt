@@ -1,0 +1,62 @@
+//! Values that stand in a log.
+ghost use Rattle.std.specs.Prelude.{◌≡◌, refl};
+
+use super::LogIdOf;
+use crate::leader_id::CommittedLeaderId;
+use crate::node::NodeId;
+
+/// A value that a log id identifies, as a log entry or the log id itself.
+///
+/// The parameter is the committed leader id of the log ids. A type implements this trait, and has
+/// `RaftLogId<NID>` with it where its log ids are `LogId<NID>`.
+pub trait RaftLogIdOf<C> {
+    ghost use Rattle.raft_base.specs.declared.log_id.LogIdOf.{LogIdOf};
+
+    /// The log id of a value.
+    ghost id_of: { Self → LogIdOf C };
+
+    /// The value under another log id.
+    ghost with_id: { Self → LogIdOf C → Self };
+
+    /// The log id.
+    fn get_log_id(&self) -> &LogIdOf<C>
+        ensures { result.now ≡ id_of self.now };
+
+    /// Gives the value another log id, and changes nothing else.
+    fn set_log_id(&mut self, log_id: &LogIdOf<C>)
+        ensures { self.new ≡ with_id self.old log_id.now };
+
+    /// A value under a log id has that log id.
+    ghost has_id: { (a : Self) (id : LogIdOf C) → id_of (with_id a id) ≡ id };
+
+    /// Under its own log id a value is as it was.
+    ghost own_id: { (a : Self) → with_id a (id_of a) ≡ a };
+
+    /// Of two log ids that are given in turn only the last one counts.
+    ghost last_id: { (a : Self) (id next : LogIdOf C) → with_id (with_id a id) next ≡ with_id a next };
+}
+
+/// A value that a `LogId<NID>` identifies.
+pub trait RaftLogId<NID: NodeId>: RaftLogIdOf<CommittedLeaderId<NID>> {}
+
+impl<NID: NodeId, T: RaftLogIdOf<CommittedLeaderId<NID>>> RaftLogId<NID> for T {}
+
+impl<C: Copy> RaftLogIdOf<C> for LogIdOf<C> {
+    ghost id_of = { λ a. a };
+
+    ghost with_id = { λ a id. id };
+
+    fn get_log_id(&self) -> &LogIdOf<C> {
+        self
+    }
+
+    fn set_log_id(&mut self, log_id: &LogIdOf<C>) {
+        *self = *log_id;
+    }
+
+    ghost has_id = { λ a id. refl };
+
+    ghost own_id = { λ a. refl };
+
+    ghost last_id = { λ a id next. refl };
+}

@@ -1,0 +1,91 @@
+//! What identifies a node, and what is known of it.
+ghost use Rattle.std.specs.Prelude.{◌≡◌, true, IfOk, refl};
+
+use std::alloc::{AllocError, Global};
+use std::fmt;
+use std::fmt::{Debug, Display};
+use std::hash::Hash;
+
+/// What a node id needs.
+pub trait NodeIdEssential: Eq + Ord + Debug + Display + Hash + Copy + Default + 'static {}
+
+impl<T: Eq + Ord + Debug + Display + Hash + Copy + Default + 'static> NodeIdEssential for T {}
+
+/// The id of a node: unique in its cluster. Every fitting type is one.
+pub trait NodeId: NodeIdEssential {}
+
+impl<T: NodeIdEssential> NodeId for T {}
+
+/// A node to stand in where none is given.
+///
+/// In place of `Default`, since a node that holds a text needs an allocator.
+pub trait NodeDefault: Eq {
+    /// Whether a node is the type's default one.
+    ghost is_default_node: { Self → Type 0 };
+
+    /// The type's default node.
+    fn default_node(alloc: Global) -> Result<Self, AllocError>
+        ensures { IfOk result is_default_node };
+
+    /// There is one default node: any two are equal.
+    ghost one_default: { (a b : Self) → is_default_node a → is_default_node b → Self.eq a b ≡ true };
+}
+
+/// What a node needs.
+pub trait NodeEssential: Eq + Debug + Clone + NodeDefault + Drop + 'static {}
+
+impl<T: Eq + Debug + Clone + NodeDefault + Drop + 'static> NodeEssential for T {}
+
+/// What a cluster knows of a node beside its id, as its address. Every fitting type is one.
+pub trait Node: NodeEssential {}
+
+impl<T: NodeEssential> Node for T {}
+
+impl NodeDefault for () {
+    ghost is_default_node = { λ n. n ≡ tt };
+
+    fn default_node(_alloc: Global) -> Result<(), AllocError> {
+        Ok(())
+    }
+
+    ghost one_default = { λ a b h k. refl };
+}
+
+impl NodeDefault for u64 {
+    ghost is_default_node = { λ n. n ≡ 0 };
+
+    fn default_node(_alloc: Global) -> Result<u64, AllocError> {
+        Ok(0)
+    }
+
+    ghost one_default = { λ a b h k. rw (h, k) refl };
+}
+
+/// A node of which nothing is known but its id.
+#[derive(Debug, Clone, Default, PartialEq, Eq, Drop)]
+pub struct EmptyNode {}
+
+impl EmptyNode {
+    /// The empty node.
+    pub fn new() -> Self
+        ensures { result ≡ record {} }
+    {
+        EmptyNode {}
+    }
+}
+
+impl NodeDefault for EmptyNode {
+    ghost is_default_node = { λ n. n ≡ record {} };
+
+    fn default_node(_alloc: Global) -> Result<EmptyNode, AllocError> {
+        Ok(EmptyNode::new())
+    }
+
+    ghost one_default = { λ a b h k. refl };
+}
+
+impl Display for EmptyNode {
+    fn fmt<W: fmt::Write>(&self, f: &mut fmt::Formatter<W>) -> fmt::Result {
+        f.write_str("{}")
+    }
+}

@@ -1,0 +1,66 @@
+//! The orders of ids, each as a call whose contract says it.
+//!
+//! `<`, `max`, sorting and maps follow the same orders. A caller's proof takes them from here.
+ghost use Rattle.std.specs.Prelude.{◌≡◌, ◌↔◌, Some, IsTrue};
+ghost use Rattle.std.specs.declared.cmp.Ordering.TheVariants.{Equal};
+ghost use Rattle.std.specs.Ordering.{is_eq};
+ghost use Rattle.std.specs.Option.{option_cmp};
+ghost use Rattle.raft_base.specs.LeaderId.{leader_id_cmp};
+ghost use Rattle.raft_base.specs.LogId.{log_id_cmp};
+ghost use Rattle.raft_base.specs.Vote.{vote_cmp, default_vote_cmp};
+
+use crate::kind::LeaderIdentity;
+use crate::leader_id::LeaderId;
+use crate::log_id::LogIdOf;
+use crate::node::NodeId;
+use crate::vote::{Vote, VoteIn};
+use std::cmp::Ordering;
+
+/// How two leader ids compare: by term, then by node id.
+pub fn compare_leader_ids<NID: NodeId>(a: &LeaderId<NID>, b: &LeaderId<NID>) -> Ordering
+    ensures { result ≡ leader_id_cmp NID.cmp a.now b.now }
+{
+    a.cmp(b)
+}
+
+/// How two log ids compare: by leader, then by index.
+pub fn compare_log_ids<C: Ord>(a: &LogIdOf<C>, b: &LogIdOf<C>) -> Ordering
+    ensures { result ≡ log_id_cmp C.cmp a.now b.now }
+{
+    a.cmp(b)
+}
+
+/// Whether two log ids are the same: exactly where neither is below the other.
+pub fn same_log_ids<C: Ord>(a: &LogIdOf<C>, b: &LogIdOf<C>) -> bool
+    ensures { result ≡ is_eq (log_id_cmp C.cmp a.now b.now) }
+{
+    a == b
+}
+
+/// How two optional log ids compare: an absent one is below each that is there.
+pub fn compare_optional_log_ids<C: Ord>(a: &Option<LogIdOf<C>>, b: &Option<LogIdOf<C>>) -> Ordering
+    ensures { result ≡ option_cmp (log_id_cmp C.cmp) a.now b.now }
+{
+    a.cmp(b)
+}
+
+/// How two votes compare, over any kind of leader ids: by leader, then by being committed.
+pub fn compare_votes<L: LeaderIdentity>(a: &VoteIn<L>, b: &VoteIn<L>) -> Option<Ordering>
+    ensures { result ≡ vote_cmp L.order a.now b.now }
+{
+    a.partial_cmp(b)
+}
+
+/// How two votes over the default leader ids compare. Any two do.
+pub fn compare_default_votes<NID: NodeId>(a: &Vote<NID>, b: &Vote<NID>) -> Option<Ordering>
+    ensures { result ≡ Some (default_vote_cmp NID.cmp a.now b.now) }
+{
+    a.partial_cmp(b)
+}
+
+/// Whether two votes are equal: exactly where they compare as equal.
+pub fn same_votes<L: LeaderIdentity>(a: &VoteIn<L>, b: &VoteIn<L>) -> bool
+    ensures { IsTrue result ↔ (vote_cmp L.order a.now b.now ≡ Some Equal) }
+{
+    a == b
+}

@@ -1,0 +1,4 @@
+//! Worked values and texts, and code as a caller writes it.
+
+mod calls;
+mod values;

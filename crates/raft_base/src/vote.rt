@@ -1,0 +1,137 @@
+//! What a node has promised: its vote for a leader.
+ghost use Rattle.std.specs.Prelude.{◌≡◌, ◌==◌, ◌||◌, Some, None, true, false, if◌then◌else◌, IsTrue};
+ghost use Rattle.std.specs.Ordering.{partial_le};
+
+use crate::kind::{LeaderAdv, LeaderIdentity, LeaderKind};
+use std::cmp::Ordering;
+use std::fmt;
+
+/// A node's vote: the leader that it is for, and whether a quorum has granted that leader.
+///
+/// Compared by leader, then with an uncommitted vote below a committed one. Where the leaders do
+/// not compare, a vote that alone is committed is the greater, since no quorum grants the other.
+#[derive(Clone, Copy, Default, PartialEq, Eq)]
+pub struct VoteIn<L> {
+    /// The leader that the vote is for.
+    pub leader_id: L,
+    /// Whether a quorum has granted the leader.
+    pub committed: bool,
+}
+
+/// Votes over a kind of leader ids.
+pub type VoteOf<NID, K> = VoteIn<<K as LeaderKind<NID>>::Leader>;
+
+/// Votes over the default leader ids.
+pub type Vote<NID> = VoteOf<NID, LeaderAdv>;
+
+impl<L: LeaderIdentity> PartialOrd for VoteIn<L> {
+    ghost use Rattle.raft_base.specs.Vote.{vote_cmp};
+    ghost use Rattle.raft_base.specs.VoteLaws.{vote_cmp-partial};
+
+    ghost partial_cmp = { vote_cmp L.order };
+
+    ghost laws = { vote_cmp-partial L.partial L.incomparable (λ a. a.leader_id) (λ a. a.committed) };
+
+    fn partial_cmp(&self, other: &Self) -> Option<Ordering> {
+        match L::compare(&self.leader_id, &other.leader_id) {
+            Some(Ordering::Equal) => self.committed.partial_cmp(&other.committed),
+            // Of leaders that do not compare only one can be granted.
+            None => match (self.committed, other.committed) {
+                (true, false) => Some(Ordering::Greater),
+                (false, true) => Some(Ordering::Less),
+                _ => None,
+            },
+            decided => decided,
+        }
+    }
+}
+
+impl<L: LeaderIdentity> VoteIn<L> {
+    ghost use Rattle.raft_base.specs.Vote.{vote_cmp};
+
+    /// A vote for a node in a term, not committed.
+    pub fn new(term: u64, node_id: L::Id) -> Self
+        ensures { result ≡ record { leader_id = L.leader_of term node_id; committed = false } }
+    {
+        VoteIn {
+            leader_id: L::new_leader(term, node_id),
+            committed: false,
+        }
+    }
+
+    /// The vote that a quorum has granted to a node in a term.
+    pub fn new_committed(term: u64, node_id: L::Id) -> Self
+        ensures { result ≡ record { leader_id = L.leader_of term node_id; committed = true } }
+    {
+        VoteIn {
+            leader_id: L::new_leader(term, node_id),
+            committed: true,
+        }
+    }
+
+    /// Marks the vote's leader as granted by a quorum. This never lowers the vote.
+    pub fn commit(&mut self)
+        ensures committed { self.new ≡ record self.old { committed = true } }
+        ensures not_lowered { IsTrue (partial_le (vote_cmp L.order) self.old self.new) }
+    {
+        self.committed = true;
+    }
+
+    /// Whether a quorum has granted the leader.
+    pub fn is_committed(&self) -> bool
+        ensures { result ≡ self.now.committed }
+    {
+        self.committed
+    }
+
+    /// The leader that the vote is for, granted or not.
+    pub fn leader_id(&self) -> &L
+        ensures { result.now ≡ self.now.leader_id }
+    {
+        &self.leader_id
+    }
+
+    /// The leader under which log entries may be written: the vote's, once it is granted.
+    ///
+    /// In term 0 it need not be granted. There the first entry of a new cluster is written, before
+    /// anyone could vote.
+    pub fn committed_leader_id(&self) -> Option<L::Committed>
+        ensures { result ≡ (if self.now.committed || (L.term_of self.now.leader_id == 0)
+            then Some (L.committed self.now.leader_id) else None) }
+    {
+        if self.is_committed() || L::term(self.leader_id()) == 0 {
+            Some(L::to_committed(self.leader_id()))
+        } else {
+            None
+        }
+    }
+
+    /// Whether the vote is for the granted leader.
+    pub fn is_same_leader(&self, leader_id: &L::Committed) -> bool
+        ensures { result ≡ L.Committed.eq (L.committed self.now.leader_id) leader_id.now }
+    {
+        L::is_same_as_committed(self.leader_id(), leader_id)
+    }
+}
+
+// By hand, for the name that the type goes by.
+impl<L: fmt::Debug> fmt::Debug for VoteIn<L> {
+    fn fmt<W: fmt::Write>(&self, f: &mut fmt::Formatter<W>) -> fmt::Result {
+        f.debug_struct("Vote")
+            .field("leader_id", &self.leader_id)
+            .field("committed", &self.committed)
+            .finish()
+    }
+}
+
+impl<L: fmt::Display> fmt::Display for VoteIn<L> {
+    fn fmt<W: fmt::Write>(&self, f: &mut fmt::Formatter<W>) -> fmt::Result {
+        let leader_id = &self.leader_id;
+        let state = if self.committed {
+            "committed"
+        } else {
+            "uncommitted"
+        };
+        write!(f, "{leader_id}:{state}")
+    }
+}

@@ -1,0 +1,6 @@
+-- What the private functions do, one step at a time. No public contract cites these words.
+pub mod Counts
+pub mod Placed
+pub mod Rises
+pub mod Settled
+pub mod Tests

@@ -1,0 +1,11 @@
+-- Entries that a default has been put into.
+use Rattle.std.specs.Prelude.{◌≡◌, List, ◌++◌}
+use Rattle.std.specs.List.{AllByRecursion}
+use Rattle.std.specs.Map.{keys_of}
+
+-- the new entries are the old ones and then the ids, each with a clone of the default
+pub record IsPlaced {ID V : Type 0} (IsClone : V → V → Type 0) (default : V) (ids : List ID) (old new : List (ID × V)) : Type 0 where
+  pub added : List (ID × V)
+  pub is : new ≡ old ++ added
+  pub keys : keys_of added ≡ ids
+  pub clones : AllByRecursion (λ e. IsClone default e.1) added

@@ -1,0 +1,48 @@
+-- What the private steps of an update do.
+use Rattle.std.specs.Prelude.{◌≡◌, ℕ, ◌-◌, Bool, true, false, Option, Some, None, take, ◌&&◌, nat_lt}
+use Rattle.std.specs.declared.cmp.Ordering.{Ordering}
+use Rattle.std.specs.Ordering.{is_le, is_lt}
+use Rattle.std.specs.List.{prefix_len}
+use Rattle.std.proofs.Common.{get_or}
+use Rattle.raft_progress.specs.Inner.Counts.{exceeds}
+use Rattle.raft_progress.specs.Inner.Rises.{IsLeastFront, RisesTo}
+use Rattle.raft_progress.specs.Shown.{Shown}
+use Rattle.raft_progress.specs.Statistics.{counted_up}
+
+-- the parts that no step changes
+pub record IsSameGroup {ID V P QS : Type 0} (old new : Shown ID V P QS) : Type 0 where
+  pub quorum_set : new.quorum_set ≡ old.quorum_set
+  pub voter_count : new.voter_count ≡ old.voter_count
+  pub default_part : new.default_part ≡ old.default_part
+  pub updates : new.stat.update_count ≡ old.stat.update_count
+
+-- granted goes to the last part of the least front that was found
+pub record IsScanned {ID V P QS : Type 0} (eq : ID → ID → Bool) (cmp : P → P → Ordering) (part : V → P) (has_quorum : QS → (ID → Bool) → Bool) (old : Shown ID V P QS) (place : ℕ) (new : Shown ID V P QS) : Type 0 where
+  pub group : IsSameGroup old new
+  pub same_walk : new.walk ≡ old.walk
+  pub moves : new.stat.move_count ≡ old.stat.move_count
+  pub found : Option ℕ
+  pub tests : ℕ
+  pub scanned : IsLeastFront eq (has_quorum old.quorum_set) (take old.voter_count old.walk) place (prefix_len (exceeds cmp part old.granted) (take old.voter_count old.walk)) found tests
+  pub counts : new.stat.is_quorum_count ≡ counted_up old.stat.is_quorum_count tests
+  pub stays : found ≡ None → new.granted ≡ old.granted
+  pub rises : (k : ℕ) → found ≡ Some k → (f : ID × V) × (f ≡ get_or (take old.voter_count old.walk) (k - 1) f) × (new.granted ≡ part f.1)
+
+-- the voter has risen to a place, and the fronts past it were tested where they had to be
+pub record IsRaised {ID V P QS : Type 0} (eq : ID → ID → Bool) (cmp : P → P → Ordering) (part : V → P) (has_quorum : QS → (ID → Bool) → Bool) (old : Shown ID V P QS) (place : ℕ) (looks : Bool) (new : Shown ID V P QS) : Type 0 where
+  pub middle : Shown ID V P QS
+  pub group : IsSameGroup old middle
+  pub granted : middle.granted ≡ old.granted
+  pub tests : middle.stat.is_quorum_count ≡ old.stat.is_quorum_count
+  pub moves : middle.stat.move_count ≡ counted_up old.stat.move_count 1
+  pub to : ℕ
+  pub rises : RisesTo cmp part old.walk place middle.walk to
+  pub looked : looks ≡ true → IsScanned eq cmp part has_quorum middle to new
+  pub kept : looks ≡ false → new ≡ middle
+
+-- the value at the place went from a part before
+pub record IsPutInOrder {ID V P QS : Type 0} (eq : ID → ID → Bool) (cmp : P → P → Ordering) (part : V → P) (has_quorum : QS → (ID → Bool) → Bool) (old : Shown ID V P QS) (place : ℕ) (before : P) (new : Shown ID V P QS) : Type 0 where
+  pub entry : ID × V
+  pub at : entry ≡ get_or old.walk place entry
+  pub raised : (nat_lt place old.voter_count && (is_lt (cmp before (part entry.1)) && is_lt (cmp old.granted (part entry.1)))) ≡ true → IsRaised eq cmp part has_quorum old place (is_le (cmp before old.granted)) new
+  pub kept : (nat_lt place old.voter_count && (is_lt (cmp before (part entry.1)) && is_lt (cmp old.granted (part entry.1)))) ≡ false → new ≡ old

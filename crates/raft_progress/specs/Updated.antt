@@ -1,0 +1,41 @@
+-- What an update does to a progress, and what it answers.
+use Rattle.std.specs.Prelude.{◌≡◌, ℕ, ◌≤◌, Bool, ◌&&◌, Some, None, IsOk, IsErr, Result, MatchResult, true, false, []}
+use Rattle.std.specs.declared.cmp.Ordering.{Ordering}
+use Rattle.std.specs.Ordering.{is_le, is_lt}
+use Rattle.std.specs.Map.{set_value}
+use Rattle.raft_progress.specs.ProgressState.{Writes, IsSame}
+use Rattle.raft_progress.specs.Statistics.{counted_up}
+use Rattle.raft_progress.specs.Walk.{risen}
+use Rattle.raft_progress.specs.Shown.{Shown, state}
+
+module _ {ID V P QS : Type 0} (eq : ID → ID → Bool) (cmp : P → P → Ordering) (part : V → P) where
+  -- whether the id is a voter whose part has risen to one that exceeds what was granted
+  abbrev pub climbs : Shown ID V P QS → ID → V → V → Bool
+  climbs old id v w = (state eq old).is_voter id && (is_lt (cmp (part v) (part w)) && is_lt (cmp old.granted (part w)))
+
+  -- whether the id is a voter whose part was at most what was granted, and now exceeds it
+  abbrev pub passes_granted : Shown ID V P QS → ID → V → V → Bool
+  passes_granted old id v w = (state eq old).is_voter id && (is_le (cmp (part v) old.granted) && is_lt (cmp old.granted (part w)))
+
+  -- the walk, granted and the counts after the value of a known id went from v to w: a voter that climbs is risen in the walk, and quorums are tested only where granted may rise, at most one test a voter
+  pub record IsSettled (old : Shown ID V P QS) (id : ID) (v w : V) (new : Shown ID V P QS) : Type 0 where
+    pub rises : climbs old id v w ≡ true → (new.walk ≡ risen cmp part (eq id) [] (set_value (eq id) old.walk w)) × (new.stat.move_count ≡ counted_up old.stat.move_count 1)
+    pub stays : climbs old id v w ≡ false → (new.walk ≡ set_value (eq id) old.walk w) × (new.stat.move_count ≡ old.stat.move_count)
+    pub tests : ℕ
+    pub counts_tests : new.stat.is_quorum_count ≡ counted_up old.stat.is_quorum_count tests
+    pub at_most_voters : tests ≤ old.voter_count
+    pub tested_to_rise : is_lt (cmp old.granted new.granted) ≡ true → 1 ≤ tests
+    pub not_tested : passes_granted old id v w ≡ false → (tests ≡ 0) × (new.granted ≡ old.granted)
+
+  -- after an update of an id, whose value went to another by Left; of an unknown id only the update is counted
+  pub record IsUpdated (Left : V → V → Type 0) (old : Shown ID V P QS) (id : ID) (new : Shown ID V P QS) : Type 0 where
+    pub counts : new.stat.update_count ≡ counted_up old.stat.update_count 1
+    pub same_voter_count : new.voter_count ≡ old.voter_count
+    pub known : (v : V) → (state eq old).value id ≡ Some v → (w : V) × Left v w × Writes eq (state eq old) id w (state eq new) × IsSettled old id v w new
+    pub unknown : (state eq old).value id ≡ None → IsSame (state eq old) (state eq new) × (new.walk ≡ old.walk) × (new.granted ≡ old.granted) × (new.stat.move_count ≡ old.stat.move_count) × (new.stat.is_quorum_count ≡ old.stat.is_quorum_count)
+
+-- what an update answers: granted, as Ok for a known id and as Err for an unknown one
+pub record Answers {ID V P QS : Type 0} (eq : ID → ID → Bool) (old : Shown ID V P QS) (id : ID) {A B : Type 0} (result : Result A B) (now : A → P) (now' : B → P) (new : Shown ID V P QS) : Type 0 where
+  pub granted : MatchResult result (λ r. now r ≡ new.granted) (λ r. now' r ≡ new.granted)
+  pub known : (v : V) → (state eq old).value id ≡ Some v → IsOk result
+  pub unknown : (state eq old).value id ≡ None → IsErr result

@@ -1,0 +1,37 @@
+-- A walk: the ids of a progress with their values, the voters first. When its parts fall, and how a voter rises in it.
+use Rattle.std.specs.Prelude.{◌≡◌, ℕ, Bool, true, List, [], ◌∷◌, ◌++◌, take, if◌then◌else◌, ⊤}
+use Rattle.std.specs.declared.cmp.Ordering.{Ordering}
+use Rattle.std.specs.Ordering.{is_le, is_lt}
+use Rattle.std.specs.List.{AllByRecursion, list_any}
+use Rattle.std.specs.Set.{is_member}
+use Rattle.std.specs.Map.{keys_of, lookup}
+use Rattle.raft_progress.specs.ProgressState.{State}
+use Rattle.raft_progress.specs.CountedValue.{AtMost}
+
+-- the progress that is kept as a walk, whose first entries are the voters
+abbrev pub state_of : {ID V P QS : Type 0} → (ID → ID → Bool) → QS → List (ID × V) → ℕ → P → State ID V P QS
+state_of eq quorum_set walk voter_count default_part =
+    record {
+      quorum_set = quorum_set;
+      is_voter = is_member eq (take voter_count (keys_of walk));
+      value = λ x. lookup (eq x) walk;
+      default_part = default_part;
+    }
+
+module _ {ID V P : Type 0} (cmp : P → P → Ordering) (part : V → P) where
+  -- the entries whose part exceeds g come first, and their parts never rise: none stands behind a lesser one
+  abbrev pub IsFalling : P → List (ID × V) → Type 0
+  IsFalling g [] = ⊤
+  IsFalling g (e ∷ es) = AllByRecursion (λ f. is_lt (cmp g (part f.1)) ≡ true → AtMost cmp (part f.1) (part e.1)) es × IsFalling g es
+
+  -- an entry, put directly after the last of the others whose part is at least its own, or to the front
+  abbrev pub put_after_last : ID × V → List (ID × V) → List (ID × V)
+  put_after_last e [] = e ∷ []
+  put_after_last e (f ∷ fs) =
+      if list_any (λ h. is_le (cmp (part e.1) (part h.1))) (f ∷ fs) then f ∷ put_after_last e fs else e ∷ f ∷ fs
+
+  -- the walk, before and then the rest, with the entry of an id put directly after the last one before it with a part at least its own, or to the front
+  abbrev pub risen : (ID → Bool) → List (ID × V) → List (ID × V) → List (ID × V)
+  risen is_id before [] = before
+  risen is_id before (e ∷ es) =
+      if is_id e.0 then put_after_last e before ++ es else risen is_id (before ++ e ∷ []) es

@@ -1,0 +1,56 @@
+//! The entries of a progress: made, and written one at a time.
+ghost use Rattle.std.specs.Prelude.{◌≡◌, ◌<◌, length, slice_set, slice_get, OnOk, IfOk};
+ghost use Rattle.std.specs.List.{AllZip};
+ghost use Rattle.std.specs.Fn.{FnOnceReturnsAtMut, FnOnceTakesAtMut};
+ghost use Rattle.raft_progress.specs.Inner.Placed.{IsPlaced};
+
+use std::alloc::{AllocError, Global};
+
+/// Puts the ids at the end, each with a clone of the default.
+pub(crate) fn place_all<ID: Copy, V: Clone>(
+    entries: &mut Vec<(ID, V)>,
+    ids: &[ID],
+    default: &V,
+) -> Result<(), AllocError>
+    ensures { OnOk result (IsPlaced V.is_clone default.now ids.now entries.old.items entries.new.items) }
+{
+    for id in ids {
+        entries.push((*id, default.clone()?))?;
+    }
+    Ok(())
+}
+
+/// Runs `f` on the value at a place.
+pub(crate) fn write_at<ID: Copy, V, F: FnOnce(&mut V)>(
+    entries: &mut Vec<(ID, V)>,
+    place: usize,
+    f: F,
+)
+    requires within { place < length entries.old.items }
+    requires callable { (e : ID × V) → slice_get entries.old.items place ≡ Some e → FnOnceTakesAtMut F.FnOnce f e.1 }
+    ensures { (e : ID × V) × (w : V) × (slice_get entries.old.items place ≡ Some e) × FnOnceReturnsAtMut F.FnOnce f e.1 tt w × (entries.new.items ≡ slice_set entries.old.items place (e.0, w)) }
+{
+    let entry = &mut entries[place];
+    f(&mut entry.1);
+}
+
+/// A clone of each entry.
+pub(crate) fn clone_entries<ID: Copy, V: Clone>(
+    alloc: Global,
+    entries: &[(ID, V)],
+) -> Result<Vec<(ID, V)>, AllocError>
+    ensures { IfOk result (λ made. AllZip (λ d e. (e.0 ≡ d.0) × V.is_clone d.1 e.1) entries.now made.items) }
+{
+    let mut made = Vec::new(alloc);
+    for entry in entries {
+        made.push((entry.0, entry.1.clone()?))?;
+    }
+    Ok(made)
+}
+
+/// The ids, as they stand.
+pub(crate) fn copy_ids<ID: Copy>(alloc: Global, ids: &[ID]) -> Result<Vec<ID>, AllocError>
+    ensures { IfOk result (λ made. made.items ≡ ids.now) }
+{
+    ids.iter().copied().collect(alloc)
+}

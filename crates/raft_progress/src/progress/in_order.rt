@@ -1,0 +1,55 @@
+//! The parts of the test for a progress in order.
+ghost use Rattle.std.specs.Prelude.{◌≡◌, ◌<◌, ◌≤◌, ◌+◌, length};
+ghost use Rattle.std.specs.List.{list_all, list_any};
+ghost use Rattle.raft_progress.specs.Inner.Counts.{at_least};
+ghost use Rattle.raft_progress.specs.Inner.Tests.{ids_differ, never_rises};
+
+use super::part::ProgressPart;
+
+/// Whether an entry has the id.
+fn has_id<ID: Copy + Ord, V>(entries: &[(ID, V)], id: ID) -> bool
+    ensures { result ≡ list_any (λ e. ID.eq e.0 id) entries.now }
+{
+    entries.iter().any(|entry| entry.0 == id)
+}
+
+/// Whether no id stands twice.
+pub(crate) fn has_distinct_ids<ID: Copy + Ord, V>(entries: &[(ID, V)]) -> bool
+    ensures { result ≡ ids_differ ID.eq entries.now }
+{
+    for place in 0..entries.len() {
+        if has_id(&entries[place + 1..], entries[place].0) {
+            return false;
+        }
+    }
+    true
+}
+
+/// Whether no voter whose part exceeds `granted` stands directly behind a lesser one.
+pub(crate) fn is_falling<ID: Copy, V: ProgressPart<P>, P: Copy + Ord>(
+    voters: &[(ID, V)],
+    granted: P,
+) -> bool
+    ensures { result ≡ never_rises P.cmp V.part_of granted voters.now }
+{
+    for place in 1..voters.len() {
+        let part = voters[place].1.part();
+        let before = voters[place - 1].1.part();
+        if granted.cmp(&part).is_lt() && before.cmp(&part).is_lt() {
+            return false;
+        }
+    }
+    true
+}
+
+/// Whether each voter's part is at least the least that is allowed.
+pub(crate) fn is_at_least<ID: Copy, V: ProgressPart<P>, P: Copy + Ord>(
+    voters: &[(ID, V)],
+    least: P,
+) -> bool
+    ensures { result ≡ list_all (at_least P.cmp V.part_of least) voters.now }
+{
+    voters
+        .iter()
+        .all(|entry| least.cmp(&entry.1.part()).is_le())
+}

@@ -1,0 +1,48 @@
+//! How a voter moves up in the walk.
+ghost use Rattle.std.specs.Prelude.{◌≡◌, ◌<◌, ◌+◌, length, ◌&&◌};
+ghost use Rattle.std.specs.Ordering.{is_lt};
+ghost use Rattle.std.proofs.Common.{get_or};
+ghost use Rattle.raft_progress.specs.Inner.Rises.{RisesTo};
+
+use super::part::ProgressPart;
+
+/// Whether an entry's part is less than that of the next.
+fn is_below_next<ID: Copy, V: ProgressPart<P>, P: Copy + Ord>(
+    entries: &[(ID, V)],
+    place: usize,
+) -> bool
+    requires { place + 1 < length entries.now }
+    ensures { (d : ID × V) → result ≡ is_lt (P.cmp (V.part_of (get_or entries.now place d).1) (V.part_of (get_or entries.now (place + 1) d).1)) }
+{
+    entries[place]
+        .1
+        .part()
+        .cmp(&entries[place + 1].1.part())
+        .is_lt()
+}
+
+/// Whether a part has risen to one that exceeds granted.
+pub(crate) fn is_raised<P: Copy + Ord>(before: P, after: P, granted: P) -> bool
+    ensures { result ≡ (is_lt (P.cmp before after) && is_lt (P.cmp granted after)) }
+{
+    before.cmp(&after).is_lt() && granted.cmp(&after).is_lt()
+}
+
+/// Moves an entry up past the entries directly before it whose part is less, and answers its place.
+pub(crate) fn move_up<ID: Copy, V: ProgressPart<P>, P: Copy + Ord>(
+    entries: &mut Vec<(ID, V)>,
+    place: usize,
+) -> usize
+    requires { place < length entries.old.items }
+    ensures { RisesTo P.cmp V.part_of entries.old.items place entries.new.items result }
+{
+    let mut at = place;
+    while at > 0 {
+        if !is_below_next(entries, at - 1) {
+            return at;
+        }
+        entries.swap(at - 1, at);
+        at -= 1;
+    }
+    at
+}
