@@ -1,5 +1,5 @@
 -- Sets of ids, by the two ways to compare them.
-use Rattle.std.specs.Prelude.{◌≡◌, ◌&&◌, ◌||◌, ℕ, Bool, true, false, List, Some, None, if◌then◌else◌, nat_eq, not}
+use Rattle.std.specs.Prelude.{◌≡◌, ◌&&◌, ◌||◌, ℕ, Bool, true, false, List, Option, Some, None, if◌then◌else◌, nat_eq, not}
 use Rattle.std.specs.Ordering.{nat_cmp, eq_by_cmp}
 use Rattle.std.specs.Cmp.{unsigned_ties}
 use Rattle.std.specs.List.{IsDistinct}
@@ -7,8 +7,8 @@ use Rattle.std.specs.List.Sorted.{IsStrictlySortedBy}
 use Rattle.std.specs.Set.{is_member, IsDifference}
 use Rattle.std.proofs.Common.{Vec, Global, subst, sym, ap, ◌∙◌, refl}
 use Rattle.std.proofs.lemmas.Map.Keys.{IsDistinct-from_sorted}
-use Rattle.raft_progress.specs.Shown as shown
-use Rattle.raft_progress.specs.Shown.{LearnersFit}
+use Rattle.raft_progress.specs.NewProgress as new_progress
+use Rattle.raft_progress.specs.NewProgress.{HasClone, LearnersFit}
 use Rattle.raft_script.specs.Engine.{Progress, IsNew, part}
 
 -- ids are equal where neither is below the other
@@ -27,6 +27,15 @@ in_either true l = refl
 in_either false true = refl
 in_either false false = refl
 
+-- a clone of a number is that number
+clone_is : (n : ℕ) (value : Option ℕ) → HasClone (λ v w. w ≡ v) n value → value ≡ Some n
+clone_is n value (clone, is, same) = is ∙ ap Some same
+
+-- a value in one case and none in the other
+value_where : (b : Bool) (n : ℕ) (value : Option ℕ) → (b ≡ true → value ≡ Some n) → (b ≡ false → value ≡ None) → value ≡ (if b then Some n else None)
+value_where true n value some none = some refl
+value_where false n value some none = none refl
+
 module _ (learners voters found : List ℕ) (members : IsDifference (eq_by_cmp nat_cmp) learners voters found) where
   difference : IsDifference nat_eq learners voters found
   difference = subst (λ (eq : ℕ → ℕ → Bool). IsDifference eq learners voters found) same_ids members
@@ -37,9 +46,9 @@ module _ (learners voters found : List ℕ) (members : IsDifference (eq_by_cmp n
     distinct = subst (λ (eq : ℕ → ℕ → Bool). IsDistinct eq found) same_ids (IsDistinct-from_sorted nat_cmp found sorted);
     no_voters = λ id h. ap (λ xs. is_member nat_eq xs id) same ∙ not_in_other (is_member nat_eq learners id) _ (sym (difference id) ∙ h);
   }
+      -- a progress made of the voters and of those learners has both at the default
 
-  -- a progress made of the voters and of those learners has both at the default
-  pub is_new : (ids : Vec ℕ Global) (given : List ℕ) (default : ℕ) (made : Progress) → ids.items ≡ voters → given ≡ found → shown.IsNew nat_eq part (is_member nat_eq ids.items) ids given default made → IsNew voters learners default made
+  pub is_new : (ids : Vec ℕ Global) (given : List ℕ) (default : ℕ) (made : Progress) → ids.items ≡ voters → given ≡ found → new_progress.IsNew nat_eq (λ v w. w ≡ v) part (is_member nat_eq ids.items) ids given default made → IsNew voters learners default made
   is_new ids given default made same passed new =
       let alike : (id : ℕ) → is_member nat_eq ids.items id ≡ is_member nat_eq voters id = λ id. ap (λ xs. is_member nat_eq xs id) same in
       let either : (id : ℕ) → (is_member nat_eq ids.items id || is_member nat_eq given id) ≡ (is_member nat_eq voters id || is_member nat_eq learners id) = λ id.
@@ -48,8 +57,8 @@ module _ (learners voters found : List ℕ) (members : IsDifference (eq_by_cmp n
       ∙ ap (λ b. is_member nat_eq voters id || b) (difference id)
       ∙ in_either (is_member nat_eq voters id) (is_member nat_eq learners id) in
       record {
-        quorum_set = ap (λ (v : Vec ℕ Global). v.items) new.quorum_set ∙ same;
+        quorum_set = ap (λ (v : Vec ℕ Global). v.items) new.same_quorum_set ∙ same;
         is_voter = λ id. new.voters id ∙ alike id;
-        value = λ id. new.value id ∙ ap (λ (b : Bool). if b then Some default else None) (either id);
+        value = λ id. value_where _ default _ (λ h. clone_is default _ (new.value id (either id ∙ h))) (λ h. new.others id (either id ∙ h));
         default_part = new.default_part;
       }

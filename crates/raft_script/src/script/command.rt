@@ -1,5 +1,5 @@
 //! What a line says.
-ghost use Rattle.std.specs.Prelude.{◌<◌, ◌^◌, SomeIff};
+ghost use Rattle.std.specs.Prelude.{◌≡◌, ◌<◌, ◌^◌, SomeIff};
 ghost use Rattle.std.specs.Str.Parse.{IsNumeral, digits_value};
 
 use super::engine::Step;
@@ -26,6 +26,10 @@ pub enum LineError {
 }
 
 impl From<AllocError> for LineError {
+    ghost use Rattle.raft_script.specs.declared.script.command.LineError.{LineError};
+
+    ghost from_gives = { λ error e. e ≡ LineError.OutOfMemory error };
+
     fn from(error: AllocError) -> LineError {
         LineError::OutOfMemory(error)
     }

@@ -19,7 +19,7 @@ pub struct Engine {
 
 impl Engine {
     ghost use Rattle.std.specs.Prelude.{Some, OnOk, IsNone, IsSomeAnd};
-    ghost use Rattle.raft_script.specs.Engine.{IsReady, IsNew, Answers, progress_of};
+    ghost use Rattle.raft_script.specs.Engine.{IsReady, IsNew, Answers, progress_of, shown_of};
 
     /// An engine before any `init`.
     pub fn new() -> Engine
@@ -58,7 +58,7 @@ impl Engine {
         requires { IsReady self.old }
         ensures ready { IsReady self.new }
         ensures ok { IfOk result (λ reply. Answers (progress_of self.old) step reply (progress_of self.new)) }
-        ensures err { OnErr result (self.new ≡ self.old) }
+        ensures err { OnErr result (shown_of self.new ≡ shown_of self.old) }
     {
         let Some(progress) = &mut self.progress else {
             return Ok(None);

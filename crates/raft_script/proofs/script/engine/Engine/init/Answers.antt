@@ -1,7 +1,7 @@
 use Rattle.std.specs.Prelude.{ℕ, List, nat_eq}
 use Rattle.std.specs.Set.{is_member}
 use Rattle.std.proofs.Common.{subst, sym}
-use Rattle.raft_progress.specs.Shown.{LearnersFit}
+use Rattle.raft_progress.specs.NewProgress.{LearnersFit}
 use Rattle.raft_script.proofs.Ids.{learners_fit, is_new}
 use Rattle.raft_script.proofs.script.engine.Engine.init.Goals as goal
 
