@@ -1,6 +1,7 @@
 //! What a line says.
-ghost use Rattle.std.specs.Prelude.{◌≡◌, ◌<◌, ◌^◌, SomeIff};
-ghost use Rattle.std.specs.Str.Parse.{IsNumeral, digits_value};
+ghost use Rattle.std.specs.Prelude.{◌≡◌, [], IfOk, IsErrOf, SomeIff};
+ghost use Rattle.std.specs.Str.Parse.{digits_value};
+ghost use Rattle.raft_script.specs.Line.{IsList, IsNumber, parts, with_numbers};
 
 use super::engine::Step;
 use std::alloc::{AllocError, Global};
@@ -94,7 +95,10 @@ impl<'a> Words<'a> {
 }
 
 /// The numbers of a list, ascending and each once: `-` has none, and others are joined by commas.
-fn list(alloc: Global, word: &[u8]) -> Result<BTreeSet<u64>, LineError> {
+fn list(alloc: Global, word: &[u8]) -> Result<BTreeSet<u64>, LineError>
+    ensures list { IfOk result (λ numbers. IsList word.now × (numbers.keys ≡ with_numbers [] (parts word.now))) }
+    ensures bad_line { IsErrOf result LineError.BadLine → ¬ IsList word.now }
+{
     let mut numbers = BTreeSet::new(alloc);
     if word == b"-".as_slice() {
         return Ok(numbers);
@@ -108,7 +112,7 @@ fn list(alloc: Global, word: &[u8]) -> Result<BTreeSet<u64>, LineError> {
 
 /// The value of decimal digits, where there are any and it fits.
 fn number(word: &[u8]) -> Option<u64>
-    ensures { SomeIff result (IsNumeral 10 word.now × (digits_value 10 word.now < 2 ^ 64)) (digits_value 10 word.now) }
+    ensures { SomeIff result (IsNumber word.now) (digits_value 10 word.now) }
 {
     if word.is_empty() {
         return None;
