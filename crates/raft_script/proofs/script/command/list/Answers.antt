@@ -1,0 +1,39 @@
+use Rattle.std.proofs.Common.{◌≡◌, None, nat_eq, ◌==◌, [], ◌∷◌, rules, tests, arith, All, Bor, List, ℕ, sym, ap, subst, ◌∙◌, map}
+use Rattle.std.proofs.lemmas.Iterator.Consumers.{YieldsList-turn, YieldsList-end}
+use Rattle.std.proofs.lemmas.Iterator.Splits.{YieldsList-from_slice_split}
+use Rattle.std.specs.Cmp.Lexicographic.{pointwise}
+use Rattle.std.specs.BTreeSet.{insert_key}
+use Rattle.std.specs.Ordering.{nat_cmp}
+use Rattle.std.specs.Str.Parse.{digits_value}
+use Rattle.std.proofs.lemmas.List.{map-append}
+use Rattle.std.proofs.lemmas.List.Elements.{All-nil, All-push}
+use Rattle.raft_script.specs.Line.{IsNumber, with_numbers}
+use Rattle.raft_script.proofs.Lists.{with_more, parts_of_other, not_a_list, number_of, where_ok}
+use Rattle.raft_script.proofs.script.command.list.Goals as goal
+
+pub loop-part-init : goal.loop-part-init
+loop-part-init c = record { numbers = All-nil IsNumber; keys = c.new-numbers.ensures.empty }
+
+pub returns-in_err-number-clause-bad_line : goal.returns-in_err-number-clause-bad_line
+returns-in_err-number-clause-bad_line c bad list =
+    let none : c.number.result ≡ None = grind arith in
+    let chain = YieldsList-from_slice_split _ (λ byte. byte == 44) c.args.word.now (cc) (cc) (cc) (λ x r q k. search (rules, tests)) in
+    let turn = YieldsList-turn chain c.loop-part.yielded _ c.loop-part.yielded_by _ _ c.in-Some.part c.in-Some.is c.next.ensures.steps in
+    not_a_list _ _ c.in-Some.part.now c.number.result turn.0 turn.1 c.number.ensures none (subst (All IsNumber) (parts_of_other c.args.word.now (c.if-eq.ensures ∙ ap (pointwise nat_eq c.args.word.now) c.as_slice.ensures)) list)
+
+pub loop-part-preserved : goal.loop-part-preserved
+loop-part-preserved c =
+    let words = map (λ (part : Bor (List ℕ)). part.now) c.loop-part.yielded in
+    let now = map-append (λ (part : Bor (List ℕ)). part.now) c.loop-part.yielded (c.in-Some.part ∷ []) in
+    let number = number_of c.in-Some.part.now c.number.result c.in_ok-number.number c.number.ensures (grind arith) in
+    record {
+      numbers = subst (All IsNumber) (sym now) (All-push IsNumber words c.in-Some.part.now c.loop-part.invariant.numbers number.0);
+      keys = where_ok c.insert.result c.map_err.result c.in_ok-map_err.field-0 _ c.map_err.ensures.variant c.in_ok-map_err.was c.insert.ensures.keys ∙ ap (insert_key nat_cmp c.loop-part.numbers.keys) number.1 ∙ ap (λ keys. insert_key nat_cmp keys (digits_value 10 c.in-Some.part.now)) c.loop-part.invariant.keys ∙ sym (ap (with_numbers []) now ∙ with_more [] words c.in-Some.part.now);
+    }
+
+pub returns-clause-list : goal.returns-clause-list
+returns-clause-list c =
+    let chain = YieldsList-from_slice_split _ (λ byte. byte == 44) c.args.word.now (cc) (cc) (cc) (λ x r q k. search (rules, tests)) in
+    let end = YieldsList-end chain c.loop-part.yielded _ c.loop-part.yielded_by _ _ c.in-None.is c.next.ensures.steps in
+    let all = end.0 ∙ sym (parts_of_other c.args.word.now (c.if-eq.ensures ∙ ap (pointwise nat_eq c.args.word.now) c.as_slice.ensures)) in
+    (subst (All IsNumber) all c.loop-part.invariant.numbers, c.loop-part.invariant.keys ∙ ap (with_numbers []) all)
