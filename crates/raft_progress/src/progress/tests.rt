@@ -2,9 +2,11 @@ ghost use Rattle.std.specs.Prelude.{◌≡◌, IfOk};
 ghost use Rattle.raft_progress.specs.InOrder.{IsInOrder};
 ghost use Rattle.raft_progress.specs.VecProgress.{shown};
 
+mod callers;
 mod calls;
 mod counting;
 mod rows;
+mod tracked;
 
 use super::replay_any_steps::would_fall;
 use super::{AnyStep, ProgressPart, Reply, VecProgress, replay_any};

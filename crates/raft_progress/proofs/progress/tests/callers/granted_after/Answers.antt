@@ -1,0 +1,11 @@
+use Rattle.std.proofs.Common.{subst, sym}
+use Rattle.raft_progress.specs.CountedValue.{IsCounted}
+use Rattle.raft_progress.specs.Shown.{state}
+use Rattle.raft_progress.specs.VecProgress.{shown}
+use Rattle.raft_progress.proofs.progress.tests.callers.granted_after.Goals as goal
+
+pub returns : goal.returns
+returns g c = (
+  state g.ID.PartialEq.eq (shown c.replay_any.new.progress),
+  subst (IsCounted g.P.Ord.cmp g.V.ProgressPart.part_of g.QS.QuorumSet.has_quorum (state g.ID.PartialEq.eq (shown c.replay_any.new.progress))) (sym c.granted.ensures) c.replay_any.ensures.granted,
+)
