@@ -16,7 +16,7 @@ use Rattle.raft_progress.proofs.UpdateLemmas.{lookup_alike}
 
 module _ {ID V P QS : Type 0} where
   -- what is the same everywhere is the same
-  same_is_equal : (old new : State ID V P QS) → IsSame old new → new ≡ old
+  pub same_is_equal : (old new : State ID V P QS) → IsSame old new → new ≡ old
   same_is_equal old new s = λ i. record { quorum_set = s.quorum_set i; is_voter = λ x. s.is_voter x i; value = λ x. s.value x i; default_part = s.default_part i }
 
   -- writing the value that is there changes nothing
