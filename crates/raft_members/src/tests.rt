@@ -1,6 +1,5 @@
 mod callers;
 mod changes;
-mod compared;
 mod effective;
 mod memberships;
 mod quorums;
