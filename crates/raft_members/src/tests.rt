@@ -1,5 +1,6 @@
 mod callers;
 mod changes;
+mod compared;
 mod effective;
 mod memberships;
 mod quorums;
