@@ -1,4 +1,4 @@
-pub mod Ids
 pub mod Lists
+pub mod NewPairs
 pub mod Numbers
 pub mod Replies

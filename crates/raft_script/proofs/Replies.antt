@@ -1,25 +1,26 @@
 -- One step has one reply.
 use Rattle.std.specs.Prelude.{◌≡◌, ◌<◌, ◌-◌, ℕ, List, [], ◌∷◌, Option, Some, length, slice_index_or, nat_eq}
 use Rattle.std.specs.Ordering.{nat_cmp, as_partial_cmp}
-use Rattle.std.proofs.Common.{Vec, Global, arith, refl, sym, subst, ap, ◌∙◌}
-use Rattle.raft_progress.specs.Steps.{IsRun}
-use Rattle.raft_progress.specs.declared.progress.steps.AnyStep.{AnyStep}
+use Rattle.std.proofs.Common.{arith, refl, sym, subst, ap, ◌∙◌}
+use Rattle.raft_base.specs.declared.node.EmptyNode.{EmptyNode}
+use Rattle.raft_progress.specs.TrackedSteps.{IsTrackedRun}
 use Rattle.raft_progress.specs.declared.progress.steps.Reply.{Reply}
-use Rattle.raft_script.specs.Engine.{Progress, IsStep, Answers, part, has_quorum, is_voter}
+use Rattle.raft_progress.specs.declared.progress.steps.Step.{Step}
+use Rattle.raft_script.specs.Engine.{Pair, IsStep, Answers, part, same_node}
 
-abbrev IsReplay : Progress → List (AnyStep ℕ ℕ (Vec ℕ Global)) → List (Reply ℕ ℕ) → Progress → Type 0
-IsReplay = IsRun nat_eq nat_cmp nat_cmp (as_partial_cmp nat_cmp) part (λ v w. w ≡ v) has_quorum is_voter
+abbrev IsReplay : Pair → List (Step ℕ EmptyNode ℕ) → List (Reply ℕ ℕ) → Pair → Type 0
+IsReplay = IsTrackedRun nat_eq nat_cmp same_node nat_cmp (as_partial_cmp nat_cmp) part (λ v w. w ≡ v)
 
-one_reply : (old : Progress) (step : AnyStep ℕ ℕ (Vec ℕ Global)) (replies : List (Reply ℕ ℕ)) (new : Progress) → IsReplay old (step ∷ []) replies new → (reply : Reply ℕ ℕ) × (replies ≡ reply ∷ []) × IsStep old step reply new
+one_reply : (old : Pair) (step : Step ℕ EmptyNode ℕ) (replies : List (Reply ℕ ℕ)) (new : Pair) → IsReplay old (step ∷ []) replies new → (reply : Reply ℕ ℕ) × (replies ≡ reply ∷ []) × IsStep old step reply new
 one_reply old step (reply ∷ []) new run = (reply, refl, run)
 one_reply old step [] new run = absurd run
 one_reply old step (reply ∷ other ∷ others) new (middle, made, run) = absurd run
 
 -- the last reply to a list of one step is that step's
-pub answered : (first : Option Progress) (old : Progress) (step : AnyStep ℕ ℕ (Vec ℕ Global)) (steps : List (AnyStep ℕ ℕ (Vec ℕ Global))) (replies : List (Reply ℕ ℕ)) (last : Option (Reply ℕ ℕ)) (new : Progress) (n : ℕ) → first ≡ Some old → steps ≡ step ∷ [] → IsReplay old steps replies new → n ≡ length replies → ((other : Reply ℕ ℕ) → 0 < n → last ≡ Some (slice_index_or replies (n - 1) other)) → Answers first step last (Some new)
+pub answered : (first : Option Pair) (old : Pair) (step : Step ℕ EmptyNode ℕ) (steps : List (Step ℕ EmptyNode ℕ)) (replies : List (Reply ℕ ℕ)) (last : Option (Reply ℕ ℕ)) (new : Pair) (n : ℕ) → first ≡ Some old → steps ≡ step ∷ [] → IsReplay old steps replies new → n ≡ length replies → ((other : Reply ℕ ℕ) → 0 < n → last ≡ Some (slice_index_or replies (n - 1) other)) → Answers first step last (Some new)
 answered first old step steps replies last new n is one run many ends =
-    let found = one_reply old step replies new (subst (λ (s : List (AnyStep ℕ ℕ (Vec ℕ Global))). IsReplay old s replies new) one run) in
+    let found = one_reply old step replies new (subst (λ (s : List (Step ℕ EmptyNode ℕ)). IsReplay old s replies new) one run) in
     let single : n ≡ 1 = many ∙ ap length found.1 in
     let first_reply : last ≡ Some found.0 =
     ends found.0 (omega arith) ∙ ap (λ k. Some (slice_index_or replies (k - 1) found.0)) single ∙ ap (λ rs. Some (slice_index_or rs 0 found.0)) found.1 in
-    subst (λ (f : Option Progress). Answers f step last (Some new)) (sym is) (subst (λ (l : Option (Reply ℕ ℕ)). Answers (Some old) step l (Some new)) (sym first_reply) (new, refl, found.2))
+    subst (λ (f : Option Pair). Answers f step last (Some new)) (sym is) (subst (λ (l : Option (Reply ℕ ℕ)). Answers (Some old) step l (Some new)) (sym first_reply) (new, refl, found.2))

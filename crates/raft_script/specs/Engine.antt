@@ -1,61 +1,69 @@
 -- What an engine holds, and what a step does to it.
-use Rattle.std.specs.Prelude.{◌≡◌, ◌||◌, ℕ, Bool, List, [], ◌∷◌, Option, Some, None, IfSome, if◌then◌else◌, nat_eq}
+use Rattle.std.specs.Prelude.{◌≡◌, ◌||◌, ℕ, Bool, List, [], ◌∷◌, Option, Some, None, IfSome, if◌then◌else◌, is_some, nat_eq, true}
 use Rattle.std.specs.Ordering.{nat_cmp, as_partial_cmp}
 use Rattle.std.specs.Option.{option_map}
 use Rattle.std.specs.Set.{is_member}
-use Rattle.std.proofs.Common.{Vec, Global}
-use Rattle.raft_members.specs.Majority.{is_majority}
-use Rattle.raft_progress.specs.InOrder.{IsInOrder}
-use Rattle.raft_progress.specs.ProgressState.{State}
-use Rattle.raft_progress.specs.Shown.{Shown, state}
-use Rattle.raft_progress.specs.Steps.{IsRun}
-use Rattle.raft_progress.specs.VecProgress.{shown}
-use Rattle.raft_progress.specs.declared.progress.steps.AnyStep.{AnyStep}
+use Rattle.raft_base.specs.declared.node.EmptyNode.{EmptyNode}
+use Rattle.raft_members.specs.Majority.{is_voter_of}
+use Rattle.raft_members.specs.Members.{node_at}
+use Rattle.raft_progress.specs.CountedValue.{IsCounted}
+use Rattle.raft_progress.specs.Headline.{ChangedQuorumsKnowGranted, QuorumsKnowGranted}
+use Rattle.raft_progress.specs.Shown.{state}
+use Rattle.raft_progress.specs.Tracked.{tracked}
+use Rattle.raft_progress.specs.TrackedState as tracked_state
+use Rattle.raft_progress.specs.TrackedState.{TrackedShown, TrackedState, has_quorum}
+use Rattle.raft_progress.specs.TrackedSteps.{IsTrackedRun}
 use Rattle.raft_progress.specs.declared.progress.steps.Reply.{Reply}
+use Rattle.raft_progress.specs.declared.progress.steps.Step.{Step}
 use Rattle.raft_script.specs.declared.script.engine.Engine.{Engine}
 
 -- an id's value is the part that is compared
 abbrev pub part : ℕ → ℕ
 part value = value
 
--- more than half of the voters
-abbrev pub has_quorum : Vec ℕ Global → (ℕ → Bool) → Bool
-has_quorum voters = is_majority nat_eq voters.items
+-- empty nodes are equal
+abbrev pub same_node : EmptyNode → EmptyNode → Bool
+same_node n m = true
 
--- one of the voters
-abbrev pub is_voter : Vec ℕ Global → ℕ → Bool
-is_voter voters = is_member nat_eq voters.items
+-- what a membership and its progress show
+abbrev pub Shown : Type 0
+Shown = TrackedShown ℕ EmptyNode ℕ ℕ
 
--- the progress of the last init, apart from how it is kept
-abbrev pub Progress : Type 0
-Progress = State ℕ ℕ ℕ (Vec ℕ Global)
+-- a membership and its progress, apart from how they are kept
+abbrev pub Pair : Type 0
+Pair = TrackedState ℕ EmptyNode ℕ ℕ
 
--- all that this progress shows
-abbrev pub shown_of : Engine → Option (Shown ℕ ℕ ℕ (Vec ℕ Global))
-shown_of engine = option_map shown engine.progress
+abbrev pub shown_of : Engine → Option Shown
+shown_of engine = option_map tracked engine.tracked
 
-abbrev pub progress_of : Engine → Option Progress
-progress_of engine = option_map (λ p. state nat_eq (shown p)) engine.progress
+abbrev pub pair_of : Engine → Option Pair
+pair_of engine = option_map (λ t. tracked_state.tracked_state nat_eq (tracked t)) engine.tracked
 
--- the progress, where there is one, is in order
+-- the progress, where there is one, is in order and counts by the membership
 abbrev pub IsReady : Engine → Type 0
-IsReady engine = IfSome engine.progress (λ p. IsInOrder nat_eq nat_cmp part has_quorum (shown p))
+IsReady engine = IfSome engine.tracked (λ t. tracked_state.IsReady nat_eq nat_cmp nat_cmp part (tracked t))
 
--- a majority of the voters is a quorum, and each voter and learner has the default
-pub record IsNew (voters learners : List ℕ) (default : ℕ) (made : Progress) : Type 0 where
-  pub quorum_set : made.quorum_set.items ≡ voters
-  pub is_voter : (id : ℕ) → made.is_voter id ≡ is_member nat_eq voters id
-  pub value : (id : ℕ) → made.value id ≡ (if is_member nat_eq voters id || is_member nat_eq learners id then Some default else None)
-  pub default_part : made.default_part ≡ default
+-- the membership has the configs, and a node for each voter and learner, which all have the default
+pub record IsNew (configs : List (List ℕ)) (learners : List ℕ) (default : ℕ) (made : Pair) : Type 0 where
+  pub same_configs : made.membership.configs ≡ configs
+  pub nodes : (id : ℕ) → is_some (node_at nat_cmp made.membership.nodes id) ≡ (is_voter_of nat_eq configs id || is_member nat_eq learners id)
+  pub values : (id : ℕ) → made.progress.value id ≡ (if is_voter_of nat_eq configs id || is_member nat_eq learners id then Some default else None)
+  pub default_part : made.progress.default_part ≡ default
 
--- the step may be answered so, from one progress to another
-abbrev pub IsStep : Progress → AnyStep ℕ ℕ (Vec ℕ Global) → Reply ℕ ℕ → Progress → Type 0
+-- the step may be answered so, from one pair to another
+abbrev pub IsStep : Pair → Step ℕ EmptyNode ℕ → Reply ℕ ℕ → Pair → Type 0
 IsStep old step reply new =
-    IsRun nat_eq nat_cmp nat_cmp (as_partial_cmp nat_cmp) part (λ v w. w ≡ v) has_quorum is_voter old (step ∷ []) (reply ∷ []) new
+    IsTrackedRun nat_eq nat_cmp same_node nat_cmp (as_partial_cmp nat_cmp) part (λ v w. w ≡ v) old (step ∷ []) (reply ∷ []) new
 
--- a progress answers each step, and without one there is no reply
-abbrev pub Answers : Option Progress → AnyStep ℕ ℕ (Vec ℕ Global) → Option (Reply ℕ ℕ) → Option Progress → Type 0
+-- a pair answers each step, and without one there is no reply
+abbrev pub Answers : Option Pair → Step ℕ EmptyNode ℕ → Option (Reply ℕ ℕ) → Option Pair → Type 0
 Answers None step None new = new ≡ None
 Answers None step (Some reply) new = ⊥
 Answers (Some old) step None new = ⊥
-Answers (Some old) step (Some reply) new = (next : Progress) × (new ≡ Some next) × IsStep old step reply next
+Answers (Some old) step (Some reply) new = (next : Pair) × (new ≡ Some next) × IsStep old step reply next
+
+-- granted is counted afresh, and each quorum, now and after one change of the membership, has a voter with at least that value
+abbrev pub GrantedIsKnown : Shown → Type 0
+GrantedIsKnown t =
+    IsCounted nat_cmp part (has_quorum nat_eq) (state nat_eq t.progress) t.progress.granted
+    × QuorumsKnowGranted nat_eq nat_cmp part t × ChangedQuorumsKnowGranted nat_eq nat_cmp nat_cmp part t

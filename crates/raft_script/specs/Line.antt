@@ -1,5 +1,5 @@
 -- What the bytes of a word say.
-use Rattle.std.specs.Prelude.{◌==◌, ◌<◌, ◌^◌, ℕ, List, [], ◌∷◌, if◌then◌else◌, codes, nat_eq}
+use Rattle.std.specs.Prelude.{◌==◌, ◌<◌, ◌^◌, ℕ, List, [], ◌∷◌, if◌then◌else◌, codes, map, nat_eq}
 use Rattle.std.specs.BTreeSet.{insert_key}
 use Rattle.std.specs.List.{All, slice_split}
 use Rattle.std.specs.Ordering.{nat_cmp}
@@ -22,3 +22,19 @@ IsList word = All IsNumber (parts word)
 abbrev pub with_numbers : List ℕ → List (List ℕ) → List ℕ
 with_numbers keys [] = keys
 with_numbers keys (word ∷ words) = with_numbers (insert_key nat_cmp keys (digits_value 10 word)) words
+
+-- the numbers of a list, ascending and each once
+abbrev pub ids_of : List ℕ → List ℕ
+ids_of word = with_numbers [] (parts word)
+
+-- the lists of configs: none of `none`, and of any other word those between its slashes
+abbrev pub lists : List ℕ → List (List ℕ)
+lists word = if pointwise nat_eq word (codes "none") then [] else slice_split (λ byte. byte == 47) word
+
+-- each part between the slashes is a list
+abbrev pub IsConfigs : List ℕ → Type 0
+IsConfigs word = All IsList (lists word)
+
+-- the configs, each as its numbers
+abbrev pub configs_of : List ℕ → List (List ℕ)
+configs_of word = map ids_of (lists word)

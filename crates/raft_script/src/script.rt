@@ -72,10 +72,10 @@ fn run_line<W: Write>(
     match command {
         Command::Init {
             default,
-            voters,
+            configs,
             learners,
         } => {
-            if engine.init(alloc, default, &voters, &learners).is_err() {
+            if engine.init(default, configs, learners).is_err() {
                 replies.write_all(b"no-memory\n")?;
             }
         }

@@ -6,9 +6,10 @@ use std::io::{self, Read, Write};
 use std::test::Fail;
 
 const SCRIPT: &[u8] =
-    b"init 0 1,2,3 4\n\nupdate 1 4\nupdate 2 6\nupdate 2 5\nincrease 2 3\nupdate 7 1\nupdate 4 9";
+    b"init 0 1,2 3\nupdate 1 5\nupdate 2 3\nchange add-ids 3 retain 0\nupdate 3 4\nchange add-ids 4 retain 0\nupdate 9 1\nupdate 3 2\nchange remove 1,2,3 drop 0\nchange replace 2,3 retain 4\nincrease 2 7\nupdate 1";
 
-const REPLIES: &[u8] = b"granted 0\ngranted 4\nwould-fall\ngranted 4\nunknown 4\ngranted 4\n";
+const REPLIES: &[u8] =
+    b"granted 0\ngranted 3\ngranted 3\ngranted 3\nrefused no-node 4\nunknown 3\nwould-fall\nrefused empty\nbelow-default 2\ngranted 5\nbad line 12\n";
 
 #[test]
 fn answers_scripts(rt: HostRuntime) -> Result<(), Fail> {
@@ -71,6 +72,45 @@ fn answers_scripts(rt: HostRuntime) -> Result<(), Fail> {
 }
 
 #[test]
+fn changes_the_membership(rt: HostRuntime) -> Result<(), Fail> {
+    for (script, replies) in [
+        // Voters come and go, and what each has stays with it.
+        (
+            "init 0 1,2,3 -\nupdate 1 5\nupdate 2 5\nchange add-nodes 4 retain 0\nchange add-ids 4 retain 0\nupdate 4 6\nchange add-ids 4 retain 0\nchange replace 4 drop 0\nchange replace 4 drop 0\nupdate 1 9\ninit 0 none 1\nupdate 1 3\nchange add-ids 1 retain 0\n",
+            "granted 0\ngranted 5\ngranted 5\ngranted 0\ngranted 5\ngranted 5\ngranted 5\ngranted 6\nunknown 6\ngranted 0\ngranted 3\n",
+        ),
+        // An empty config has no quorum, and no change leads to one.
+        (
+            "init 0 - 1\nupdate 1 4\nchange add-nodes 2 retain 0\nchange add-ids 1 retain 0\nchange replace - retain 0\n",
+            "granted 0\nrefused empty\nrefused empty\nrefused empty\n",
+        ),
+        (
+            "init 0 1,2,3/- -\nupdate 1 5\nupdate 2 5\nupdate 3 5\n",
+            "granted 0\ngranted 0\ngranted 0\n",
+        ),
+        // A joint grants what each of its configs has reached.
+        (
+            "init 0 1,2,3/4,5 6\nupdate 1 7\nupdate 2 6\nupdate 4 9\nupdate 6 9\nupdate 5 3\nupdate 5 8\n",
+            "granted 0\ngranted 0\ngranted 0\ngranted 0\ngranted 3\ngranted 6\n",
+        ),
+        // Each kind of a change of nodes: learners come, stay and go.
+        (
+            "init 2 1 3\nupdate 3 4\nchange add 5 retain 2\nupdate 5 6\nchange set-nodes 3,6 drop 0\nincrease 6 9\nchange remove-nodes 3,6 retain 0\nupdate 3 9\nchange replace-nodes 1,5,7 drop 1\nupdate 7 1\nupdate 1 5\nchange remove 1 drop 5\nupdate 1 8\n",
+            "granted 2\ngranted 2\ngranted 2\ngranted 2\ngranted 2\ngranted 2\nunknown 2\ngranted 2\ngranted 2\ngranted 5\nbelow-default 7\ngranted 6\n",
+        ),
+    ] {
+        let mut out = Vec::new(rt.alloc());
+        let status = run(rt.alloc(), script.as_bytes(), &mut out);
+        assert_eq!(rt; out.as_slice(), replies.as_bytes(), "of {script:?}");
+        assert_eq!(rt; status, 0, "of {script:?}");
+    }
+    let mut out = Vec::new(rt.alloc());
+    assert_eq!(rt; run(rt.alloc(), SCRIPT, &mut out), 2);
+    assert_eq!(rt; out.as_slice(), REPLIES);
+    Ok(())
+}
+
+#[test]
 fn names_bad_lines(rt: HostRuntime) -> Result<(), Fail> {
     for line in [
         b"x".as_slice(),
@@ -84,8 +124,16 @@ fn names_bad_lines(rt: HostRuntime) -> Result<(), Fail> {
         b"init 0 , -",
         b"init 0 -- -",
         b"init 0 1 x",
-        b"init 0 none -",
-        b"init 0 1/2 -",
+        b"init none 1 -",
+        b"init 0 None -",
+        b"init 0 none,1 -",
+        b"init 0 1/none -",
+        b"init 0 / -",
+        b"init 0 1/ -",
+        b"init 0 /1 -",
+        b"init 0 1//2 -",
+        b"init 0 1 1/2",
+        b"init 0 1 none",
         b"update",
         b"update 1",
         b"update 1 2 3",
@@ -109,7 +157,19 @@ fn names_bad_lines(rt: HostRuntime) -> Result<(), Fail> {
         b"updates 1 5",
         b"increase 1",
         b"increase 1 2 3",
-        b"change add-ids 4 retain 0",
+        b"change",
+        b"change add-ids",
+        b"change add-ids 4",
+        b"change add-ids 4 retain",
+        b"change add-ids 4 retain 0 0",
+        b"change add-ids 4 keep 0",
+        b"change add-ids retain 4 0",
+        b"change add-ids 4,,5 retain 0",
+        b"change add-ids none retain 0",
+        b"change add-ids 4/5 retain 0",
+        b"change add-ids 4 retain -",
+        b"change add-voters 4 retain 0",
+        b"change Add 4 retain 0",
     ] {
         for ending in [b"".as_slice(), b"\n", b"\nupdate 1 9\n"] {
             let mut script = b"init 0 1 -\nupdate 1 2\n\n".as_slice().to_vec(rt.alloc())?;
@@ -268,7 +328,7 @@ fn tells_of_a_failing_reader(rt: HostRuntime) -> Result<(), Fail> {
         };
         let status = run(rt.alloc(), &mut reader, &mut out);
         if reader.reads < bad {
-            assert_eq!(rt; status, 0, "at {bad}");
+            assert_eq!(rt; status, 2, "at {bad}");
             assert_eq!(rt; out.as_slice(), REPLIES, "at {bad}");
         } else {
             failed = bad;
@@ -286,10 +346,10 @@ fn tells_of_a_failing_reader(rt: HostRuntime) -> Result<(), Fail> {
     Ok(())
 }
 
-/// The replies to the first lines of the script.
+/// The replies to the first lines of the script: the first line has none.
 fn replies_to(lines: usize) -> &'static [u8] {
     let mut end = 0;
-    let mut left = lines.saturating_sub(2);
+    let mut left = lines.saturating_sub(1);
     for i in 0..REPLIES.len() {
         if left > 0 && REPLIES[i] == b'\n' {
             end = i + 1;
@@ -314,7 +374,7 @@ fn tells_of_a_failing_writer(rt: HostRuntime) -> Result<(), Fail> {
         };
         let status = run(rt.alloc(), SCRIPT, &mut writer);
         if writer.writes < bad {
-            assert_eq!(rt; status, 0, "at {bad}");
+            assert_eq!(rt; status, 2, "at {bad}");
             assert_eq!(rt; writer.text.as_slice(), REPLIES, "at {bad}");
         } else {
             failed = bad;

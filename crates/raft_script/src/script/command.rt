@@ -1,9 +1,13 @@
 //! What a line says.
-ghost use Rattle.std.specs.Prelude.{◌≡◌, [], IfOk, IsErrOf, SomeIff};
+ghost use Rattle.std.specs.Prelude.{◌≡◌, IfOk, IsErrOf, SomeIff, map};
 ghost use Rattle.std.specs.Str.Parse.{digits_value};
-ghost use Rattle.raft_script.specs.Line.{IsList, IsNumber, parts, with_numbers};
+ghost use Rattle.raft_script.specs.Line.{IsConfigs, IsList, IsNumber, configs_of, ids_of};
 
-use super::engine::Step;
+use super::engine::ScriptStep;
+use raft_base::EmptyNode;
+use raft_members::change_members::ChangeMembers;
+use raft_members::membership::IntoNodes;
+use raft_progress::progress::Step;
 use std::alloc::{AllocError, Global};
 use std::collections::BTreeSet;
 
@@ -12,10 +16,10 @@ use std::collections::BTreeSet;
 pub enum Command {
     Init {
         default: u64,
-        voters: BTreeSet<u64>,
+        configs: Vec<BTreeSet<u64>>,
         learners: BTreeSet<u64>,
     },
-    Step(Step),
+    Step(ScriptStep),
 }
 
 /// Why a line can't be run.
@@ -45,11 +49,16 @@ pub fn parse(alloc: Global, line: &[u8]) -> Result<Option<Command>, LineError> {
     let command = match name {
         b"init" => Command::Init {
             default: words.number()?,
-            voters: words.list(alloc)?,
+            configs: words.configs(alloc)?,
             learners: words.list(alloc)?,
         },
         b"update" => Command::Step(Step::Update(words.number()?, words.number()?)),
         b"increase" => Command::Step(Step::IncreaseTo(words.number()?, words.number()?)),
+        b"change" => Command::Step(Step::Change {
+            change: words.change(alloc)?,
+            retain: words.retain()?,
+            default: words.number()?,
+        }),
         _ => return Err(LineError::BadLine),
     };
     match words.next() {
@@ -85,18 +94,68 @@ impl<'a> Words<'a> {
         }
     }
 
-    /// The numbers of the list that the next word says, ascending and each once.
+    /// The numbers of the list that the next word says.
     fn list(&mut self, alloc: Global) -> Result<BTreeSet<u64>, LineError> {
         match self.next() {
             Some(word) => list(alloc, word),
             None => Err(LineError::BadLine),
         }
     }
+
+    /// The configs that the next word says.
+    fn configs(&mut self, alloc: Global) -> Result<Vec<BTreeSet<u64>>, LineError> {
+        match self.next() {
+            Some(word) => configs(alloc, word),
+            None => Err(LineError::BadLine),
+        }
+    }
+
+    /// The change that the next two words say: its kind, and the ids that it speaks of.
+    fn change(&mut self, alloc: Global) -> Result<ChangeMembers<u64, EmptyNode>, LineError> {
+        let kind = self.next().ok_or(LineError::BadLine)?;
+        let ids = self.list(alloc)?;
+        match kind {
+            b"add-ids" => Ok(ChangeMembers::AddVoterIds(ids)),
+            b"add" => Ok(ChangeMembers::AddVoters(ids.into_nodes(alloc)?)),
+            b"remove" => Ok(ChangeMembers::RemoveVoters(ids)),
+            b"replace" => Ok(ChangeMembers::ReplaceAllVoters(ids)),
+            b"add-nodes" => Ok(ChangeMembers::AddNodes(ids.into_nodes(alloc)?)),
+            b"set-nodes" => Ok(ChangeMembers::SetNodes(ids.into_nodes(alloc)?)),
+            b"remove-nodes" => Ok(ChangeMembers::RemoveNodes(ids)),
+            b"replace-nodes" => Ok(ChangeMembers::ReplaceAllNodes(ids.into_nodes(alloc)?)),
+            _ => Err(LineError::BadLine),
+        }
+    }
+
+    /// Whether the next word says that voters which go stay as learners.
+    fn retain(&mut self) -> Result<bool, LineError> {
+        match self.next() {
+            Some(b"retain") => Ok(true),
+            Some(b"drop") => Ok(false),
+            _ => Err(LineError::BadLine),
+        }
+    }
+}
+
+/// The configs of a word: `none` has none, and others are lists joined by slashes.
+fn configs(alloc: Global, word: &[u8]) -> Result<Vec<BTreeSet<u64>>, LineError>
+    ensures configs { IfOk result (λ configs. IsConfigs word.now × (map (λ c. c.keys) configs.items ≡ configs_of word.now)) }
+    ensures bad_line { IsErrOf result LineError.BadLine → ¬ IsConfigs word.now }
+{
+    let mut configs = Vec::new(alloc);
+    if word == b"none".as_slice() {
+        return Ok(configs);
+    }
+    for part in word.split(|byte| *byte == b'/') {
+        let config = list(alloc, part)?;
+        configs.push(config).map_err(AllocError::from)?;
+    }
+    Ok(configs)
 }
 
 /// The numbers of a list, ascending and each once: `-` has none, and others are joined by commas.
 fn list(alloc: Global, word: &[u8]) -> Result<BTreeSet<u64>, LineError>
-    ensures list { IfOk result (λ numbers. IsList word.now × (numbers.keys ≡ with_numbers [] (parts word.now))) }
+    ensures list { IfOk result (λ numbers. IsList word.now × (numbers.keys ≡ ids_of word.now)) }
     ensures bad_line { IsErrOf result LineError.BadLine → ¬ IsList word.now }
 {
     let mut numbers = BTreeSet::new(alloc);

@@ -8,7 +8,7 @@ use Rattle.std.specs.Str.Parse.{digits_value}
 use Rattle.std.proofs.lemmas.List.{map-append}
 use Rattle.std.proofs.lemmas.List.Elements.{All-nil, All-push}
 use Rattle.raft_script.specs.Line.{IsNumber, with_numbers}
-use Rattle.raft_script.proofs.Lists.{with_more, parts_of_other, not_a_list, number_of, where_ok}
+use Rattle.raft_script.proofs.Lists.{with_more, parts_of_other, no_number, not_all, number_of, where_ok}
 use Rattle.raft_script.proofs.script.command.list.Goals as goal
 
 pub loop-part-init : goal.loop-part-init
@@ -19,7 +19,7 @@ returns-in_err-number-clause-bad_line c bad list =
     let none : c.number.result ≡ None = grind arith in
     let chain = YieldsList-from_slice_split _ (λ byte. byte == 44) c.args.word.now (cc) (cc) (cc) (λ x r q k. search (rules, tests)) in
     let turn = YieldsList-turn chain c.loop-part.yielded _ c.loop-part.yielded_by _ _ c.in-Some.part c.in-Some.is c.next.ensures.steps in
-    not_a_list _ _ c.in-Some.part.now c.number.result turn.0 turn.1 c.number.ensures none (subst (All IsNumber) (parts_of_other c.args.word.now (c.if-eq.ensures ∙ ap (pointwise nat_eq c.args.word.now) c.as_slice.ensures)) list)
+    not_all IsNumber _ _ c.in-Some.part.now turn.0 turn.1 (no_number _ _ c.number.ensures none) (subst (All IsNumber) (parts_of_other c.args.word.now (c.if-eq.ensures ∙ ap (pointwise nat_eq c.args.word.now) c.as_slice.ensures)) list)
 
 pub loop-part-preserved : goal.loop-part-preserved
 loop-part-preserved c =

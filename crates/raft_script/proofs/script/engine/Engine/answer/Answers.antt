@@ -2,15 +2,15 @@ use Rattle.std.specs.Prelude.{⊤, nat_eq}
 use Rattle.std.specs.Option.{option_map}
 use Rattle.std.proofs.Common.{Some, ap, sym, ◌∙◌}
 use Rattle.std.proofs.lemmas.Result.{MatchResult-from_err}
-use Rattle.raft_progress.specs.Shown.{state}
-use Rattle.raft_progress.specs.VecProgress.{shown}
+use Rattle.raft_progress.specs.Tracked.{tracked}
+use Rattle.raft_progress.specs.TrackedState.{tracked_state}
 use Rattle.raft_script.proofs.Replies.{answered}
 use Rattle.raft_script.proofs.script.engine.Engine.answer.Goals as goal
 
 pub returns-clause-ok : goal.returns-clause-ok
 returns-clause-ok c =
-    answered _ (state nat_eq (shown c.in-Some.progress)) c.args.step c.in_ok-steps.steps.items c.in_ok-replies.replies.items c.pop.result (state nat_eq (shown c.replay_any.new.progress)) _ (ap (option_map (λ p. state nat_eq (shown p))) c.in-Some.is) c.in_ok-steps.ensures.items c.in_ok-replies.ensures.run c.in_ok-replies.replies.ok.0 c.pop.ensures.value
+    answered _ (tracked_state nat_eq (tracked c.in-Some.tracked)) c.args.step c.in_ok-steps.steps.items c.in_ok-replies.replies.items c.pop.result (tracked_state nat_eq (tracked c.replay.new.pair)) _ (ap (option_map (λ t. tracked_state nat_eq (tracked t))) c.in-Some.is) c.in_ok-steps.ensures.items c.in_ok-replies.ensures.run c.in_ok-replies.replies.ok.0 c.pop.ensures.value
 
 pub returns-in_err-replies-clause-err : goal.returns-in_err-replies-clause-err
 returns-in_err-replies-clause-err c =
-    MatchResult-from_err c.from_residual-in_err-replies.result (λ _. ⊤) _ c.from_residual-in_err-replies.ensures.0 (λ _. ap Some c.in_err-replies.ensures.err ∙ sym (ap (option_map shown) c.in-Some.is))
+    MatchResult-from_err c.from_residual-in_err-replies.result (λ _. ⊤) _ c.from_residual-in_err-replies.ensures.0 (λ _. ap Some c.in_err-replies.ensures.err ∙ sym (ap (option_map tracked) c.in-Some.is))
