@@ -86,33 +86,29 @@ impl<'a> Words<'a> {
         Some(&from[..end])
     }
 
+    /// The next word, where the line goes on.
+    fn word(&mut self) -> Result<&'a [u8], LineError> {
+        self.next().ok_or(LineError::BadLine)
+    }
+
     /// The number that the next word says.
     fn number(&mut self) -> Result<u64, LineError> {
-        match self.next() {
-            Some(word) => number(word).ok_or(LineError::BadLine),
-            None => Err(LineError::BadLine),
-        }
+        number(self.word()?).ok_or(LineError::BadLine)
     }
 
     /// The numbers of the list that the next word says.
     fn list(&mut self, alloc: Global) -> Result<BTreeSet<u64>, LineError> {
-        match self.next() {
-            Some(word) => list(alloc, word),
-            None => Err(LineError::BadLine),
-        }
+        list(alloc, self.word()?)
     }
 
     /// The configs that the next word says.
     fn configs(&mut self, alloc: Global) -> Result<Vec<BTreeSet<u64>>, LineError> {
-        match self.next() {
-            Some(word) => configs(alloc, word),
-            None => Err(LineError::BadLine),
-        }
+        configs(alloc, self.word()?)
     }
 
     /// The change that the next two words say: its kind, and the ids that it speaks of.
     fn change(&mut self, alloc: Global) -> Result<ChangeMembers<u64, EmptyNode>, LineError> {
-        let kind = self.next().ok_or(LineError::BadLine)?;
+        let kind = self.word()?;
         let ids = self.list(alloc)?;
         match kind {
             b"add-ids" => Ok(ChangeMembers::AddVoterIds(ids)),
@@ -129,9 +125,9 @@ impl<'a> Words<'a> {
 
     /// Whether the next word says that voters which go stay as learners.
     fn retain(&mut self) -> Result<bool, LineError> {
-        match self.next() {
-            Some(b"retain") => Ok(true),
-            Some(b"drop") => Ok(false),
+        match self.word()? {
+            b"retain" => Ok(true),
+            b"drop" => Ok(false),
             _ => Err(LineError::BadLine),
         }
     }
