@@ -1,24 +1,40 @@
 -- Lists of numbers that are read part by part.
-use Rattle.std.specs.Prelude.{◌≡◌, ◌==◌, ◌<◌, ℕ, Bool, false, List, [], ◌∷◌, ◌++◌, Option, Some, None, SomeIff, Result, Ok, Err, OnOk, is_ok, if◌then◌else◌, length, codes, map, nat_eq}
-use Rattle.std.specs.BTreeSet.{insert_key}
+use Rattle.std.specs.Prelude.{◌≡◌, ◌==◌, ◌<◌, ◌||◌, ℕ, Bool, true, false, cond, List, [], ◌∷◌, ◌++◌, Option, Some, None, SomeIff, Result, Ok, Err, OnOk, is_ok, if◌then◌else◌, length, codes, nat_eq}
+use Rattle.std.specs.Cmp.{unsigned_tied}
 use Rattle.std.specs.Cmp.Lexicographic.{pointwise}
-use Rattle.std.specs.List.{All, slice_split}
-use Rattle.std.specs.Ordering.{nat_cmp}
+use Rattle.std.specs.List.{All, AllZip, list_any, slice_split}
+use Rattle.std.specs.Ordering.{eq_by_cmp, nat_cmp}
 use Rattle.std.specs.Str.Parse.{digits_value}
 use Rattle.std.proofs.Common.{refl, sym, ap, ◌∙◌, subst, get_or}
 use Rattle.std.proofs.lemmas.Bool.{true≢false}
-use Rattle.std.proofs.lemmas.List.{map-append}
-use Rattle.raft_script.specs.Line.{IsNumber, lists, parts, with_numbers}
+use Rattle.std.proofs.lemmas.List.Folds.{list_any-append}
+use Rattle.raft_script.specs.Line.{IsNumber, lists, parts}
 
--- one more number
-pub with_more : (keys : List ℕ) (words : List (List ℕ)) (word : List ℕ) → with_numbers keys (words ++ word ∷ []) ≡ insert_key nat_cmp (with_numbers keys words) (digits_value 10 word)
-with_more keys [] word = refl
-with_more keys (first ∷ words) word = with_more (insert_key nat_cmp keys (digits_value 10 first)) words word
+either_way : (a b : Bool) → cond a true b ≡ (b || (a || false))
+either_way true true = refl
+either_way true false = refl
+either_way false true = refl
+either_way false false = refl
 
--- one more word, and what was read from it
-pub map_more : {A : Type 0} (keys : A → List ℕ) (ids : List ℕ → List ℕ) (old new : List A) (last : A) (words : List (List ℕ)) (word : List ℕ) → new ≡ old ++ last ∷ [] → map keys old ≡ map ids words → keys last ≡ ids word → map keys new ≡ map ids (words ++ word ∷ [])
-map_more keys ids old new last words word pushed read is =
-    ap (map keys) pushed ∙ map-append keys old (last ∷ []) ∙ (λ i. read i ++ is i ∷ []) ∙ sym (map-append ids words (word ∷ []))
+-- one more number in a set, and one more word
+pub one_more_number : (added n : ℕ) (was now : Bool) (words : List (List ℕ)) (word : List ℕ) → now ≡ cond (eq_by_cmp nat_cmp added n) true was → was ≡ list_any (λ part. digits_value 10 part == n) words → added ≡ digits_value 10 word → now ≡ list_any (λ part. digits_value 10 part == n) (words ++ word ∷ [])
+one_more_number added n was now words word updated before is =
+    updated
+    ∙ (λ i. cond ((unsigned_tied added n ∙ ap (λ m. m == n) is) i) true (before i))
+    ∙ either_way (digits_value 10 word == n) (list_any (λ part. digits_value 10 part == n) words)
+    ∙ sym (list_any-append (λ part. digits_value 10 part == n) words (word ∷ []))
+
+-- one more pair
+zip_more : {A B : Type 0} (R : A → B → Type 0) (xs : List A) (ys : List B) (x : A) (y : B) → AllZip R xs ys → R x y → AllZip R (xs ++ x ∷ []) (ys ++ y ∷ [])
+zip_more R [] [] x y all last = (last, tt)
+zip_more R (v ∷ vs) (w ∷ ws) x y all last = (all.0, zip_more R vs ws x y all.1 last)
+zip_more R [] (w ∷ ws) x y all last = absurd all
+zip_more R (v ∷ vs) [] x y all last = absurd all
+
+-- one more pair, where both lists are known by equations
+pub zip_pushed : {A B : Type 0} (R : A → B → Type 0) (xs new : List A) (ys more : List B) (x : A) (y : B) → new ≡ xs ++ x ∷ [] → more ≡ ys ++ y ∷ [] → AllZip R xs ys → R x y → AllZip R new more
+zip_pushed {A} R xs new ys more x y pushed read all last =
+    subst (λ (l : List A). AllZip R l more) (sym pushed) (subst (AllZip R (xs ++ x ∷ [])) (sym read) (zip_more R xs ys x y all last))
 
 -- of a word that isn't a dash
 pub parts_of_other : (word : List ℕ) → false ≡ pointwise nat_eq word (codes "-") → parts word ≡ slice_split (λ byte. byte == 44) word

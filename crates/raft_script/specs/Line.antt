@@ -1,7 +1,7 @@
 -- What the bytes of a word say.
-use Rattle.std.specs.Prelude.{◌==◌, ◌<◌, ◌^◌, ℕ, List, [], ◌∷◌, if◌then◌else◌, codes, map, nat_eq}
-use Rattle.std.specs.BTreeSet.{insert_key}
-use Rattle.std.specs.List.{All, slice_split}
+use Rattle.std.specs.Prelude.{◌≡◌, ◌==◌, ◌<◌, ◌^◌, ℕ, Bool, List, [], if◌then◌else◌, codes, nat_eq}
+use Rattle.std.specs.BTreeSet.{BTreeSet, contains}
+use Rattle.std.specs.List.{All, AllZip, list_any, slice_split}
 use Rattle.std.specs.Ordering.{nat_cmp}
 use Rattle.std.specs.Str.Parse.{IsNumeral, digits_value}
 use Rattle.std.specs.Cmp.Lexicographic.{pointwise}
@@ -18,14 +18,13 @@ parts word = if pointwise nat_eq word (codes "-") then [] else slice_split (λ b
 abbrev pub IsList : List ℕ → Type 0
 IsList word = All IsNumber (parts word)
 
--- some keys, with each number that isn't there put at its place in their order
-abbrev pub with_numbers : List ℕ → List (List ℕ) → List ℕ
-with_numbers keys [] = keys
-with_numbers keys (word ∷ words) = with_numbers (insert_key nat_cmp keys (digits_value 10 word)) words
+-- whether a number stands in a list
+abbrev pub stands_in : List ℕ → ℕ → Bool
+stands_in word n = list_any (λ part. digits_value 10 part == n) (parts word)
 
--- the numbers of a list, ascending and each once
-abbrev pub ids_of : List ℕ → List ℕ
-ids_of word = with_numbers [] (parts word)
+-- a set has exactly the numbers that stand in a list
+abbrev pub HasNumbersOf : BTreeSet ℕ → List ℕ → Type 0
+HasNumbersOf set word = (n : ℕ) → contains nat_cmp set n ≡ stands_in word n
 
 -- the lists of configs: none of `none`, and of any other word those between its slashes
 abbrev pub lists : List ℕ → List (List ℕ)
@@ -35,6 +34,6 @@ lists word = if pointwise nat_eq word (codes "none") then [] else slice_split (�
 abbrev pub IsConfigs : List ℕ → Type 0
 IsConfigs word = All IsList (lists word)
 
--- the configs, each as its numbers
-abbrev pub configs_of : List ℕ → List (List ℕ)
-configs_of word = map ids_of (lists word)
+-- the sets are the configs of a word, list by list
+abbrev pub HasConfigsOf : List (BTreeSet ℕ) → List ℕ → Type 0
+HasConfigsOf sets word = AllZip HasNumbersOf sets (lists word)

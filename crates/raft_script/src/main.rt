@@ -1,4 +1,4 @@
-//! Reads a script of a cluster's progress from standard input and answers each of its steps.
+//! Reads a script of a membership and its progress from standard input and answers each step.
 #![tactic(auto)]
 
 mod script;

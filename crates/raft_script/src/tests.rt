@@ -49,7 +49,7 @@ fn answers_scripts(rt: HostRuntime) -> Result<(), Fail> {
         ),
         // Repeated voters count once, and a voter is no learner.
         (
-            "init 0 1,1,1,2 -\nupdate 1 5\nupdate 2 3\ninit 0 2,1 3,2,3\nupdate 2 5\nupdate 1 4\nupdate 3 1\n",
+            "init 0 1,1,2 3,3,2\nupdate 1 5\nupdate 2 3\ninit 0 2,1 3,2,3\nupdate 2 5\nupdate 1 4\nupdate 3 1\n",
             "granted 0\ngranted 3\ngranted 0\ngranted 4\ngranted 4\n",
         ),
         // Spaces, leading zeros, the greatest number and a last line without a line feed.

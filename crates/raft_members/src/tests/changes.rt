@@ -7,7 +7,7 @@ use std::alloc::{AllocError, Global};
 use std::collections::BTreeMap;
 use std::test::Fail;
 
-/// Changes of two voters and a learner, with their answers; each kind is accepted at least once.
+/// Changes of two voters and a learner, with their answers.
 const ROWS: &str = "
 1,2 1=1,2=2,3=3 add-ids 4 retain err LearnerNotFound 4
 1,2 1=1,2=2,3=3 add-ids 4,5 retain err LearnerNotFound 4
@@ -36,7 +36,32 @@ const ROWS: &str = "
 #[test]
 fn changes_have_their_worked_answers(rt: HostRuntime) -> Result<(), Fail> {
     for line in ROWS.trim().lines() {
-        assert!(rt; change_is_right(rt.alloc(), line)?);
+        assert!(rt; change_is_right(rt.alloc(), line)?, "at {line}");
+    }
+    Ok(())
+}
+
+// A change that always lacks memory fails here: each kind is accepted in ample memory.
+#[test]
+fn always_out_of_memory(rt: HostRuntime) -> Result<(), Fail> {
+    for kind in [
+        " add-ids ",
+        " add ",
+        " remove ",
+        " replace ",
+        " add-nodes ",
+        " set-nodes ",
+        " remove-nodes ",
+        " replace-nodes ",
+    ] {
+        let mut accepted = 0u64;
+        for line in ROWS.trim().lines() {
+            if line.contains(kind) && line.contains(" ok ") {
+                assert!(rt; change_is_right(rt.alloc(), line)?, "at {line}");
+                accepted = accepted.saturating_add(1);
+            }
+        }
+        assert!(rt; accepted > 0, "of {kind}");
     }
     Ok(())
 }

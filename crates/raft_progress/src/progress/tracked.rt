@@ -1,13 +1,12 @@
 //! A membership and the progress that counts by it.
 ghost use Rattle.std.specs.Prelude.{◌≡◌, IfOk};
-ghost use Rattle.raft_members.specs.Learners.{learners_ahead};
 ghost use Rattle.raft_members.specs.Members.{members_of};
 ghost use Rattle.raft_progress.specs.TrackedState.{AreLearners};
 
 use super::part::ProgressPart;
 use super::vec_progress::VecProgress;
 use raft_base::{Node, NodeId};
-use raft_members::membership::{LearnerIds, Membership};
+use raft_members::membership::Membership;
 use raft_members::quorum::Joint;
 use std::alloc::{AllocError, Global};
 
@@ -81,20 +80,5 @@ pub(super) fn learners_of<NID: NodeId, N: Node>(
 ) -> Result<Vec<NID>, AllocError>
     ensures { IfOk result (λ ids. AreLearners NID.eq (members_of NID.cmp membership.now) ids.items) }
 {
-    let ids = listed(alloc, membership.learner_ids())?;
-    Ok(ids)
-}
-
-/// The learners that an iterator gives, in a list.
-fn listed<NID: NodeId, N: Node>(
-    alloc: Global,
-    learners: LearnerIds<'_, NID, N>,
-) -> Result<Vec<NID>, AllocError>
-    ensures { IfOk result (λ ids. ids.items ≡ learners_ahead NID.eq learners.entry) }
-{
-    let mut ids = Vec::new(alloc);
-    for id in learners {
-        ids.push(id)?;
-    }
-    Ok(ids)
+    membership.learner_ids().collect(alloc)
 }

@@ -1,7 +1,7 @@
 //! What a line says.
-ghost use Rattle.std.specs.Prelude.{◌≡◌, IfOk, IsErrOf, SomeIff, map};
+ghost use Rattle.std.specs.Prelude.{◌≡◌, IfOk, IsErrOf, SomeIff};
 ghost use Rattle.std.specs.Str.Parse.{digits_value};
-ghost use Rattle.raft_script.specs.Line.{IsConfigs, IsList, IsNumber, configs_of, ids_of};
+ghost use Rattle.raft_script.specs.Line.{HasConfigsOf, HasNumbersOf, IsConfigs, IsList, IsNumber};
 
 use super::engine::ScriptStep;
 use raft_base::EmptyNode;
@@ -135,7 +135,7 @@ impl<'a> Words<'a> {
 
 /// The configs of a word: `none` has none, and others are lists joined by slashes.
 fn configs(alloc: Global, word: &[u8]) -> Result<Vec<BTreeSet<u64>>, LineError>
-    ensures configs { IfOk result (λ configs. IsConfigs word.now × (map (λ c. c.keys) configs.items ≡ configs_of word.now)) }
+    ensures configs { IfOk result (λ configs. IsConfigs word.now × HasConfigsOf configs.items word.now) }
     ensures bad_line { IsErrOf result LineError.BadLine → ¬ IsConfigs word.now }
 {
     let mut configs = Vec::new(alloc);
@@ -151,7 +151,7 @@ fn configs(alloc: Global, word: &[u8]) -> Result<Vec<BTreeSet<u64>>, LineError>
 
 /// The numbers of a list, ascending and each once: `-` has none, and others are joined by commas.
 fn list(alloc: Global, word: &[u8]) -> Result<BTreeSet<u64>, LineError>
-    ensures list { IfOk result (λ numbers. IsList word.now × (numbers.keys ≡ ids_of word.now)) }
+    ensures list { IfOk result (λ numbers. IsList word.now × HasNumbersOf numbers word.now) }
     ensures bad_line { IsErrOf result LineError.BadLine → ¬ IsList word.now }
 {
     let mut numbers = BTreeSet::new(alloc);

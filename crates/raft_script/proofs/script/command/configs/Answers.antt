@@ -2,12 +2,13 @@ use Rattle.std.proofs.Common.{nat_eq, ◌==◌, [], ◌∷◌, rules, tests, All
 use Rattle.std.specs.Prelude.{Bool, ◌++◌, IsErrOf, if◌then◌else◌, is_ok}
 use Rattle.std.proofs.lemmas.Iterator.Consumers.{YieldsList-turn, YieldsList-end}
 use Rattle.std.proofs.lemmas.Iterator.Splits.{YieldsList-from_slice_split}
+use Rattle.std.specs.List.{AllZip}
 use Rattle.std.specs.Cmp.Lexicographic.{pointwise}
 use Rattle.std.proofs.lemmas.List.{map-append}
 use Rattle.std.proofs.lemmas.List.Elements.{All-push}
-use Rattle.raft_script.specs.Line.{IsList, ids_of}
+use Rattle.raft_script.specs.Line.{HasNumbersOf, IsList}
 use Rattle.raft_script.specs.declared.script.command.LineError.TheVariants.{BadLine}
-use Rattle.raft_script.proofs.Lists.{lists_of_other, map_more, not_all}
+use Rattle.raft_script.proofs.Lists.{lists_of_other, not_all, zip_pushed}
 use Rattle.raft_script.proofs.script.command.configs.Goals as goal
 
 pub returns-in_err-config-clause-bad_line : goal.returns-in_err-config-clause-bad_line
@@ -24,7 +25,7 @@ loop-part-preserved c =
     let pushed = c.push.ensures.items ∙ ap (λ (b : Bool). if b then c.loop-part.configs.items ++ c.in_ok-config.config ∷ [] else c.loop-part.configs.items) (sym c.map_err.ensures.variant ∙ ap is_ok c.in_ok-map_err.was) in
     record {
       lists = subst (All IsList) (sym now) (All-push IsList words c.in-Some.part.now c.loop-part.invariant.lists c.in_ok-config.ensures.list.0);
-      configs = map_more _ ids_of c.loop-part.configs.items _ c.in_ok-config.config words c.in-Some.part.now pushed c.loop-part.invariant.configs c.in_ok-config.ensures.list.1 ∙ sym (ap (map ids_of) now);
+      configs = zip_pushed HasNumbersOf c.loop-part.configs.items _ words _ c.in_ok-config.config c.in-Some.part.now pushed now c.loop-part.invariant.configs c.in_ok-config.ensures.list.1;
     }
 
 pub returns-clause-configs : goal.returns-clause-configs
@@ -32,4 +33,4 @@ returns-clause-configs c =
     let chain = YieldsList-from_slice_split _ (λ byte. byte == 47) c.args.word.now (cc) (cc) (cc) (λ x r q k. search (rules, tests)) in
     let end = YieldsList-end chain c.loop-part.yielded _ c.loop-part.yielded_by _ _ c.in-None.is c.next.ensures.steps in
     let all = end.0 ∙ sym (lists_of_other c.args.word.now (c.if-eq.ensures ∙ ap (pointwise nat_eq c.args.word.now) c.as_slice.ensures)) in
-    (subst (All IsList) all c.loop-part.invariant.lists, c.loop-part.invariant.configs ∙ ap (map ids_of) all)
+    (subst (All IsList) all c.loop-part.invariant.lists, subst (AllZip HasNumbersOf c.loop-part.configs.items) all c.loop-part.invariant.configs)
