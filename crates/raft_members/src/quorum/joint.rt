@@ -83,14 +83,18 @@ impl<'a, ID, QS> Joint<ID, QS, &'a [QS]> {
 
 /// A list of quorum sets as their joint, without a copy.
 pub trait AsJoint<'a, ID, QS, D> {
+    /// Whether these children are the listed quorum sets.
+    ghost lists: { Self → D → Type 0 };
+
     /// The joint of the listed quorum sets.
-    fn as_joint(&'a self) -> Joint<ID, QS, D>;
+    fn as_joint(&'a self) -> Joint<ID, QS, D>
+        ensures { lists self.now result };
 }
 
 impl<'a, ID: Copy + Ord, QS: QuorumSet<ID>> AsJoint<'a, ID, QS, &'a [QS]> for Vec<QS> {
-    fn as_joint(&'a self) -> Joint<ID, QS, &'a [QS]>
-        ensures { result.now ≡ self.now.items }
-    {
+    ghost lists = { λ listed children. children.now ≡ listed.items };
+
+    fn as_joint(&'a self) -> Joint<ID, QS, &'a [QS]> {
         Joint::new(self)
     }
 }
