@@ -1,4 +1,4 @@
--- Which learners an iterator over them still gives.
+-- Which learners an iterator over them still gives. This file and no other reads its private fields.
 use Rattle.std.specs.Prelude.{Bool, List, map, not}
 use Rattle.std.specs.List.{filter}
 use Rattle.raft_members.specs.Majority.{is_voter_of}

@@ -1,9 +1,17 @@
--- When two stored memberships are equal.
-use Rattle.std.specs.Prelude.{◌&&◌, Bool, nat_eq}
+-- What a stored membership says, and when two are equal. This file and no other reads its private fields.
+use Rattle.std.specs.Prelude.{◌&&◌, Bool, Option, nat_eq}
 use Rattle.std.specs.Option.{option_eq}
 use Rattle.raft_base.specs.declared.log_id.LogIdOf.{LogIdOf}
-use Rattle.raft_members.specs.Members.{same_members}
+use Rattle.raft_members.specs.Members.{MemberList, same_members}
 use Rattle.raft_members.specs.declared.membership.stored.StoredMembershipOf.{StoredMembershipOf}
+
+-- the id of the log entry, where there is one
+abbrev pub log_id_of : {C K N : Type 0} → StoredMembershipOf C K N → Option (LogIdOf C)
+log_id_of stored = stored.log_id
+
+-- the membership
+abbrev pub membership_of : {C K N : Type 0} → StoredMembershipOf C K N → MemberList K N
+membership_of stored = stored.membership
 
 -- equal log ids: equal leaders and the same index
 abbrev pub same_log_ids : {C : Type 0} → (C → C → Bool) → LogIdOf C → LogIdOf C → Bool
@@ -11,4 +19,4 @@ same_log_ids leader a b = leader a.leader_id b.leader_id && nat_eq a.index b.ind
 
 -- two stored memberships are equal: equal log ids, or none, and equal memberships
 abbrev pub same_stored : {C K N : Type 0} → (C → C → Bool) → (K → K → Bool) → (N → N → Bool) → StoredMembershipOf C K N → StoredMembershipOf C K N → Bool
-same_stored leader eq same a b = option_eq (same_log_ids leader) a.log_id b.log_id && same_members eq same a.membership b.membership
+same_stored leader eq same a b = option_eq (same_log_ids leader) (log_id_of a) (log_id_of b) && same_members eq same (membership_of a) (membership_of b)

@@ -3,6 +3,7 @@ ghost use Rattle.std.specs.Prelude.{◌≡◌};
 
 use raft_base::{CommittedLeaderId, LogIdOf, NodeId};
 use std::alloc::AllocError;
+use std::fmt;
 use std::fmt::Debug;
 use thiserror::Error;
 
@@ -27,7 +28,7 @@ pub enum ChangeMembershipErrorOf<C: Ord + Copy + Default + Debug, NID: NodeId> {
 pub type ChangeMembershipError<NID> = ChangeMembershipErrorOf<CommittedLeaderId<NID>, NID>;
 
 /// An earlier change of the membership is not committed yet.
-#[derive(Debug, Clone, PartialEq, Eq, Drop, Error)]
+#[derive(Clone, PartialEq, Eq, Drop, Error)]
 #[error("the cluster is already undergoing a configuration change at log {membership_log_id:?}, last committed membership log id: {committed:?}")]
 pub struct InProgressOf<C: Ord + Copy + Default + Debug> {
     /// The log id of the last committed membership.
@@ -38,6 +39,15 @@ pub struct InProgressOf<C: Ord + Copy + Default + Debug> {
 
 /// An earlier change is not committed yet, with the default leader ids.
 pub type InProgress<NID> = InProgressOf<CommittedLeaderId<NID>>;
+
+impl<C: Ord + Copy + Default + Debug> Debug for InProgressOf<C> {
+    fn fmt<W: fmt::Write>(&self, f: &mut fmt::Formatter<W>) -> fmt::Result {
+        f.debug_struct("InProgress")
+            .field("committed", &self.committed)
+            .field("membership_log_id", &self.membership_log_id)
+            .finish()
+    }
+}
 
 /// A config would have no voters.
 #[derive(Debug, Clone, PartialEq, Eq, Drop, Error)]

@@ -21,9 +21,9 @@ impl<NID: NodeId, N: Node> Membership<NID, N> {
     /// The membership that stands next on the way to the voters `goal`.
     ///
     /// Its configs are the goal alone where it is a config already or there are none, else the last
-    /// config and the goal: so it shares a config with this one, and a second step ends at the goal
-    /// alone. Without `retain` a voter that is in no new config loses its node too; with it, such a
-    /// voter becomes a learner.
+    /// config and the goal: so it shares a config with this one, where this one has any, and a second
+    /// step ends at the goal alone. Without `retain` a voter that is in no new config loses its node
+    /// too; with it, such a voter becomes a learner.
     pub fn next_coherent(&self, goal: BTreeSet<NID>, retain: bool) -> Result<Self, AllocError>
         requires { ClonesAreEqual N.eq N.is_clone }
         ensures { IfOk result (λ m. Says N.eq NID.cmp m (next_members NID.eq (members_of NID.cmp self.now) goal.keys retain)) }

@@ -11,6 +11,7 @@ ghost use Rattle.raft_members.specs.Majority.{is_voter_of, is_joint_majority};
 ghost use Rattle.raft_members.specs.MajorityLaws.{is_joint_majority-superset};
 ghost use Rattle.raft_members.specs.Learners.{learners_among, learners_ahead};
 ghost use Rattle.raft_members.specs.Members.{node_at};
+ghost use Rattle.raft_members.specs.Stored.{log_id_of, membership_of};
 
 use super::ids::set_of;
 use super::learner_ids::LearnerIds;
@@ -44,13 +45,14 @@ impl<C, NID: NodeId, N: Node> Model for EffectiveMembershipOf<C, NID, N> {
     ghost use Rattle.std.specs.List.Sorted.{IsStrictlySortedBy};
     ghost use Rattle.std.specs.Set.{is_member};
     ghost use Rattle.raft_members.specs.Majority.{is_voter_of};
+    ghost use Rattle.raft_members.specs.Stored.{membership_of};
     ghost use Rattle.raft_members.specs.declared.membership.stored.StoredMembershipOf.{StoredMembershipOf};
 
     ghost Value = { StoredMembershipOf C NID N };
 
     ghost view = { λ a. a.stored_membership.value };
 
-    ghost invariant = { λ a. (map (λ c. c.items) a.quorum_set.items ≡ a.stored_membership.value.membership.configs) × IsStrictlySortedBy NID.cmp a.voter_ids.keys × ((id : NID) → is_member NID.eq a.voter_ids.keys id ≡ is_voter_of NID.eq a.stored_membership.value.membership.configs id) };
+    ghost invariant = { λ a. (map (λ c. c.items) a.quorum_set.items ≡ (membership_of a.stored_membership.value).configs) × IsStrictlySortedBy NID.cmp a.voter_ids.keys × ((id : NID) → is_member NID.eq a.voter_ids.keys id ≡ is_voter_of NID.eq (membership_of a.stored_membership.value).configs id) };
 }
 
 impl<C: Copy + Drop, NID: NodeId, N: Node> EffectiveMembershipOf<C, NID, N> {
@@ -59,7 +61,8 @@ impl<C: Copy + Drop, NID: NodeId, N: Node> EffectiveMembershipOf<C, NID, N> {
         log_id: Option<LogIdOf<C>>,
         membership: Membership<NID, N>,
     ) -> Result<Self, AllocError>
-        ensures { IfOk result (λ e. e ≡ record { log_id = log_id; membership = membership }) }
+        ensures log_id { IfOk result (λ e. log_id_of e ≡ log_id) }
+        ensures membership { IfOk result (λ e. membership_of e ≡ membership) }
     {
         let alloc = *membership.get_joint_config().allocator();
         let stored = Rc::new(alloc, StoredMembershipOf::new(log_id, membership))?;
@@ -87,7 +90,8 @@ impl<C: Copy + Drop, NID: NodeId, N: Node> EffectiveMembershipOf<C, NID, N> {
         log_id: Option<LogIdOf<C>>,
         membership: Membership<NID, N>,
     ) -> Result<Rc<Self>, AllocError>
-        ensures { IfOk result (λ e. e.value ≡ record { log_id = log_id; membership = membership }) }
+        ensures log_id { IfOk result (λ e. log_id_of e.value ≡ log_id) }
+        ensures membership { IfOk result (λ e. membership_of e.value ≡ membership) }
     {
         let alloc = *membership.get_joint_config().allocator();
         let effective = EffectiveMembershipOf::new(log_id, membership)?;
@@ -99,7 +103,8 @@ impl<C: Copy + Drop, NID: NodeId, N: Node> EffectiveMembershipOf<C, NID, N> {
         log: &LID,
         membership: Membership<NID, N>,
     ) -> Result<Self, AllocError>
-        ensures { IfOk result (λ e. e ≡ record { log_id = Some (LID.id_of log.now); membership = membership }) }
+        ensures log_id { IfOk result (λ e. log_id_of e ≡ Some (LID.id_of log.now)) }
+        ensures membership { IfOk result (λ e. membership_of e ≡ membership) }
     {
         let log_id = *log.get_log_id();
         EffectiveMembershipOf::new(Some(log_id), membership)
@@ -119,7 +124,8 @@ impl<C: Copy + Drop, NID: NodeId, N: Node> EffectiveMembershipOf<C, NID, N> {
     /// The membership without configs and nodes under no log id, in place of a `Default`, which has
     /// no allocator.
     pub fn try_default(alloc: Global) -> Result<Self, AllocError>
-        ensures { IfOk result (λ e. e ≡ record { log_id = None; membership = record { configs = []; nodes = [] } }) }
+        ensures log_id { IfOk result (λ e. log_id_of e ≡ None) }
+        ensures membership { IfOk result (λ e. membership_of e ≡ record { configs = []; nodes = [] }) }
     {
         let stored = StoredMembershipOf::try_default(alloc)?;
         EffectiveMembershipOf::new_from_stored_membership(stored)
@@ -142,21 +148,21 @@ impl<C: Copy + Drop, NID: NodeId, N: Node> EffectiveMembershipOf<C, NID, N> {
 
     /// The id of the log entry that stored the membership.
     pub fn log_id(&self) -> &Option<LogIdOf<C>>
-        ensures { result.now ≡ self.now.log_id }
+        ensures { result.now ≡ log_id_of self.now }
     {
         self.stored_membership.log_id()
     }
 
     /// The membership.
     pub fn membership(&self) -> &Membership<NID, N>
-        ensures { result.now ≡ self.now.membership }
+        ensures { result.now ≡ membership_of self.now }
     {
         self.stored_membership.membership()
     }
 
     /// Whether the id is in a config.
     pub fn is_voter(&self, id: &NID) -> bool
-        ensures { result ≡ is_voter_of NID.eq self.now.membership.configs id.now }
+        ensures { result ≡ is_voter_of NID.eq (membership_of self.now).configs id.now }
     {
         self.membership().is_voter(id)
     }
@@ -164,30 +170,30 @@ impl<C: Copy + Drop, NID: NodeId, N: Node> EffectiveMembershipOf<C, NID, N> {
     /// The voters of all configs, each once, ascending.
     pub fn voter_ids(&self) -> btree_set::Iter<'_, NID>
         ensures ascending { IsStrictlySortedBy NID.cmp result }
-        ensures voters { (id : NID) → is_member NID.eq result id ≡ is_voter_of NID.eq self.now.membership.configs id }
+        ensures voters { (id : NID) → is_member NID.eq result id ≡ is_voter_of NID.eq (membership_of self.now).configs id }
     {
         self.voter_ids.iter()
     }
 
     /// The learners, each once, ascending: the nodes that are in no config.
     pub fn learner_ids(&self) -> LearnerIds<'_, NID, N>
-        ensures rest { learners_ahead NID.eq result ≡ learners_among NID.eq self.now.membership.configs (keys_of self.now.membership.nodes) }
+        ensures rest { learners_ahead NID.eq result ≡ learners_among NID.eq (membership_of self.now).configs (keys_of (membership_of self.now).nodes) }
         ensures ascending { IsStrictlySortedBy NID.cmp (learners_ahead NID.eq result) }
-        ensures learners { (id : NID) → is_member NID.eq (learners_ahead NID.eq result) id ≡ (is_some (node_at NID.cmp self.now.membership.nodes id) && not (is_voter_of NID.eq self.now.membership.configs id)) }
+        ensures learners { (id : NID) → is_member NID.eq (learners_ahead NID.eq result) id ≡ (is_some (node_at NID.cmp (membership_of self.now).nodes id) && not (is_voter_of NID.eq (membership_of self.now).configs id)) }
     {
         self.membership().learner_ids()
     }
 
     /// The node at an id.
     pub fn get_node(&self, id: &NID) -> Option<&N>
-        ensures { option_copied result ≡ node_at NID.cmp self.now.membership.nodes id.now }
+        ensures { option_copied result ≡ node_at NID.cmp (membership_of self.now).nodes id.now }
     {
         self.membership().get_node(id)
     }
 
     /// The nodes, in the order of their ids.
     pub fn nodes(&self) -> btree_map::Iter<'_, NID, N>
-        ensures rest { result ≡ self.now.membership.nodes }
+        ensures rest { result ≡ (membership_of self.now).nodes }
         ensures ascending { IsStrictlySortedBy NID.cmp (keys_of result) }
     {
         self.membership().nodes()
@@ -195,14 +201,14 @@ impl<C: Copy + Drop, NID: NodeId, N: Node> EffectiveMembershipOf<C, NID, N> {
 
     /// The configs, each as the list of its ids in order.
     pub fn get_joint_config(&self) -> &Vec<Vec<NID>>
-        ensures { map (λ c. c.items) result.now.items ≡ self.now.membership.configs }
+        ensures { map (λ c. c.items) result.now.items ≡ (membership_of self.now).configs }
     {
         self.quorum_set.children()
     }
 
     /// Whether the ids are a quorum of each config.
     fn has_quorum(&self, ids: &[NID]) -> bool
-        ensures { IsDistinct NID.eq ids.now → result ≡ is_joint_majority NID.eq self.now.membership.configs (is_member NID.eq ids.now) }
+        ensures { IsDistinct NID.eq ids.now → result ≡ is_joint_majority NID.eq (membership_of self.now).configs (is_member NID.eq ids.now) }
     {
         self.quorum_set.is_quorum(ids)
     }
@@ -210,11 +216,11 @@ impl<C: Copy + Drop, NID: NodeId, N: Node> EffectiveMembershipOf<C, NID, N> {
 
 /// A quorum has a majority of each config of the membership.
 impl<C: Copy + Drop, NID: NodeId, N: Node> QuorumSet<NID> for EffectiveMembershipOf<C, NID, N> {
-    ghost has_quorum = { λ e s. is_joint_majority NID.eq e.membership.configs s };
+    ghost has_quorum = { λ e s. is_joint_majority NID.eq (membership_of e).configs s };
 
-    ghost is_voter = { λ e id. is_voter_of NID.eq e.membership.configs id };
+    ghost is_voter = { λ e id. is_voter_of NID.eq (membership_of e).configs id };
 
-    ghost superset = { λ e. is_joint_majority-superset NID.eq e.membership.configs };
+    ghost superset = { λ e. is_joint_majority-superset NID.eq (membership_of e).configs };
 
     fn is_quorum(&self, ids: &[NID]) -> bool {
         self.has_quorum(ids)
@@ -252,8 +258,8 @@ impl<C: Copy + Eq + Drop, NID: NodeId, N: Node> Eq for EffectiveMembershipOf<C, 
 impl<C: fmt::Debug, NID: NodeId, N: Node> fmt::Debug for EffectiveMembershipOf<C, NID, N> {
     fn fmt<W: fmt::Write>(&self, f: &mut fmt::Formatter<W>) -> fmt::Result {
         f.debug_struct("EffectiveMembership")
-            .field("stored_membership", &*self.stored_membership)
-            .field("quorum_set", &self.quorum_set)
+            .field("log_id", &self.stored_membership.log_id)
+            .field("membership", &self.stored_membership.membership)
             .field("voter_ids", &self.voter_ids)
             .finish()
     }

@@ -1,8 +1,6 @@
 //! The learners of a membership.
-ghost use Rattle.std.specs.Prelude.{◌≡◌, map, not};
-ghost use Rattle.std.specs.List.{filter};
 ghost use Rattle.std.specs.Iterator.{YieldsFirst, item_count};
-ghost use Rattle.raft_members.specs.Majority.{is_voter_of};
+ghost use Rattle.raft_members.specs.Learners.{learners_ahead};
 
 use super::configs::has_id;
 use raft_base::{Node, NodeId};
@@ -19,9 +17,9 @@ pub struct LearnerIds<'a, NID: NodeId, N: Node> {
 impl<'a, NID: NodeId, N: Node> Iterator for LearnerIds<'a, NID, N> {
     type Item = NID;
 
-    ghost next_gives = { YieldsFirst (λ s. filter (λ id. not (is_voter_of NID.eq (map (λ c. c.keys) s.configs.now) id)) s.nodes) };
+    ghost next_gives = { YieldsFirst (learners_ahead NID.eq) };
 
-    ghost remaining = { item_count (λ s. filter (λ id. not (is_voter_of NID.eq (map (λ c. c.keys) s.configs.now) id)) s.nodes) };
+    ghost remaining = { item_count (learners_ahead NID.eq) };
 
     fn next(&mut self) -> Option<NID> {
         while let Some(id) = self.nodes.next() {

@@ -5,15 +5,17 @@ ghost use Rattle.std.specs.List.Sorted.{IsStrictlySortedBy};
 ghost use Rattle.std.specs.Set.{ClonesAreEqual, is_member};
 ghost use Rattle.raft_members.specs.Majority.{is_voter_of};
 ghost use Rattle.raft_members.specs.Members.{same_members};
+ghost use Rattle.raft_members.specs.Stored.{log_id_of, membership_of};
 
 use super::Membership;
 use raft_base::{CommittedLeaderId, LogIdOf, Node, NodeId};
 use std::alloc::{AllocError, Global};
 use std::collections::btree_map::Iter;
+use std::fmt;
 
 /// A membership, and the id of the log entry that stored it. The first membership of a node that
 /// has no log yet has none.
-#[derive(Debug, Clone, PartialEq, Eq, Drop)]
+#[derive(Clone, PartialEq, Eq, Drop)]
 pub struct StoredMembershipOf<C, NID: NodeId, N: Node> {
     pub(super) log_id: Option<LogIdOf<C>>,
     pub(super) membership: Membership<NID, N>,
@@ -25,7 +27,8 @@ pub type StoredMembership<NID, N> = StoredMembershipOf<CommittedLeaderId<NID>, N
 impl<C: Copy, NID: NodeId, N: Node> StoredMembershipOf<C, NID, N> {
     /// A membership under a log id.
     pub fn new(log_id: Option<LogIdOf<C>>, membership: Membership<NID, N>) -> Self
-        ensures { result ≡ record { log_id = log_id; membership = membership } }
+        ensures log_id { log_id_of result ≡ log_id }
+        ensures membership { membership_of result ≡ membership }
     {
         StoredMembershipOf { log_id, membership }
     }
@@ -33,7 +36,8 @@ impl<C: Copy, NID: NodeId, N: Node> StoredMembershipOf<C, NID, N> {
     /// The membership without configs and nodes under no log id, in place of a `Default`, which has
     /// no allocator.
     pub fn try_default(alloc: Global) -> Result<Self, AllocError>
-        ensures { IfOk result (λ stored. stored ≡ record { log_id = None; membership = record { configs = []; nodes = [] } }) }
+        ensures log_id { IfOk result (λ stored. log_id_of stored ≡ None) }
+        ensures membership { IfOk result (λ stored. membership_of stored ≡ record { configs = []; nodes = [] }) }
     {
         let membership = Membership::try_default(alloc)?;
         Ok(StoredMembershipOf::new(None, membership))
@@ -42,8 +46,8 @@ impl<C: Copy, NID: NodeId, N: Node> StoredMembershipOf<C, NID, N> {
     /// An equal stored membership, with clones of the nodes.
     pub fn try_clone(&self) -> Result<Self, AllocError>
         requires { ClonesAreEqual N.eq N.is_clone }
-        ensures log_id { IfOk result (λ stored. stored.log_id ≡ self.now.log_id) }
-        ensures membership { IfOk result (λ stored. IsTrue (same_members NID.eq N.eq self.now.membership stored.membership)) }
+        ensures log_id { IfOk result (λ stored. log_id_of stored ≡ log_id_of self.now) }
+        ensures membership { IfOk result (λ stored. IsTrue (same_members NID.eq N.eq (membership_of self.now) (membership_of stored))) }
     {
         let membership = self.membership.try_clone()?;
         Ok(StoredMembershipOf::new(self.log_id, membership))
@@ -51,14 +55,14 @@ impl<C: Copy, NID: NodeId, N: Node> StoredMembershipOf<C, NID, N> {
 
     /// The id of the log entry.
     pub fn log_id(&self) -> &Option<LogIdOf<C>>
-        ensures { result.now ≡ self.now.log_id }
+        ensures { result.now ≡ log_id_of self.now }
     {
         &self.log_id
     }
 
     /// The membership.
     pub fn membership(&self) -> &Membership<NID, N>
-        ensures { result.now ≡ self.now.membership }
+        ensures { result.now ≡ membership_of self.now }
     {
         &self.membership
     }
@@ -66,16 +70,25 @@ impl<C: Copy, NID: NodeId, N: Node> StoredMembershipOf<C, NID, N> {
     /// The voters of all configs, each once, ascending.
     pub fn voter_ids(&self) -> Result<Vec<NID>, AllocError>
         ensures ascending { IfOk result (λ ids. IsStrictlySortedBy NID.cmp ids.items) }
-        ensures voters { IfOk result (λ ids. (id : NID) → is_member NID.eq ids.items id ≡ is_voter_of NID.eq self.now.membership.configs id) }
+        ensures voters { IfOk result (λ ids. (id : NID) → is_member NID.eq ids.items id ≡ is_voter_of NID.eq (membership_of self.now).configs id) }
     {
         self.membership.voter_ids()
     }
 
     /// The nodes, in the order of their ids.
     pub fn nodes(&self) -> Iter<'_, NID, N>
-        ensures rest { result ≡ self.now.membership.nodes }
+        ensures rest { result ≡ (membership_of self.now).nodes }
         ensures ascending { IsStrictlySortedBy NID.cmp (keys_of result) }
     {
         self.membership.nodes()
+    }
+}
+
+impl<C: fmt::Debug, NID: NodeId, N: Node> fmt::Debug for StoredMembershipOf<C, NID, N> {
+    fn fmt<W: fmt::Write>(&self, f: &mut fmt::Formatter<W>) -> fmt::Result {
+        f.debug_struct("StoredMembership")
+            .field("log_id", &self.log_id)
+            .field("membership", &self.membership)
+            .finish()
     }
 }

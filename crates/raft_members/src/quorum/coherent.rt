@@ -25,8 +25,8 @@ pub trait FindCoherent<ID, Other>: Sized {
     /// What stands next on the way to the goal.
     ghost is_next: { Self → Other → Self → Type 0 };
 
-    /// The quorum set that stands next on the way to the goal: it is coherent with this one and with
-    /// the goal.
+    /// The quorum set that stands next on the way to the goal: it shares a child with this one, where
+    /// that has one, and has the goal as a child.
     ///
     /// The goal alone where it is a child or there are no children, else the last child and the
     /// goal. Asked twice for the same goal, it answers the goal alone the second time.

@@ -58,7 +58,26 @@ fn clones_of_a_stored_membership_are_equal(rt: HostRuntime) -> Result<(), Fail> 
     let stored = stored(rt.alloc())?;
     assert!(rt; stored.try_clone()? == stored);
     assert!(rt; stored.clone()? == stored);
-    assert!(rt; Stored::try_default(rt.alloc())? != stored);
+    let none = Stored::new(None, Membership::try_default(rt.alloc())?);
+    assert!(rt; none != stored);
+    assert!(rt; Stored::try_default(rt.alloc())? == none);
+    Ok(())
+}
+
+#[test]
+fn stored_and_effective_memberships_print(rt: HostRuntime) -> Result<(), Fail> {
+    let alloc = rt.alloc();
+    let membership = Membership::try_default(alloc)?;
+    let stored = Stored::new(None, membership);
+    assert_eq!(rt;
+        format!(in alloc; "{stored:?}")?.as_str(),
+        "StoredMembership { log_id: None, membership: Membership { configs: [], nodes: {} } }"
+    );
+    let effective = Effective::new_from_stored_membership(stored)?;
+    assert_eq!(rt;
+        format!(in alloc; "{effective:?}")?.as_str(),
+        "EffectiveMembership { log_id: None, membership: Membership { configs: [], nodes: {} }, voter_ids: {} }"
+    );
     Ok(())
 }
 
@@ -100,6 +119,8 @@ fn effective_memberships_differ_by_their_log_ids(rt: HostRuntime) -> Result<(), 
     let membership = stored(rt.alloc())?.membership().try_clone()?;
     let made = Effective::new(None, membership)?;
     assert!(rt; made != effective(rt.alloc())?);
-    assert!(rt; Effective::try_default(rt.alloc())? != made);
+    let none = Effective::new(None, Membership::try_default(rt.alloc())?)?;
+    assert!(rt; none != made);
+    assert!(rt; Effective::try_default(rt.alloc())? == none);
     Ok(())
 }
