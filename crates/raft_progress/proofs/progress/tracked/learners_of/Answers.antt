@@ -1,4 +1,4 @@
-use Rattle.std.proofs.Common.{List, ◌≡◌, subst, sym, ap, ◌∙◌}
+use Rattle.std.proofs.Common.{subst, sym, ap, ◌∙◌}
 use Rattle.std.specs.List.{IsDistinct}
 use Rattle.std.specs.Set.{is_member}
 use Rattle.raft_progress.proofs.NewProgressLemmas.{IsDistinct-from_cmp}
