@@ -7,8 +7,7 @@ use Rattle.std.specs.Cmp.{IsEquivalence, IsTotalOrder, first_so, second_so}
 use Rattle.std.specs.Map.{keys_of, lookup}
 use Rattle.std.specs.Set.{is_member}
 use Rattle.std.specs.List.{AllByRecursion, list_any}
-use Rattle.std.proofs.Common.{sym, ap, refl, ◌∙◌, true≢false, subst}
-use Rattle.raft_progress.specs.CountedValue.{AtMost}
+use Rattle.std.proofs.Common.{sym, ap, refl, ◌∙◌, true≢false}
 use Rattle.raft_progress.specs.Upgrade.{CanUpgrade, IsBelow, IsLeastBelow}
 use Rattle.raft_progress.specs.Inner.Tests.{IsLeastPassing, among, comes_before, is_value_below}
 use Rattle.raft_progress.proofs.FallingLemmas.{all_both, all_weaker}

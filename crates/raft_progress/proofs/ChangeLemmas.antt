@@ -1,5 +1,5 @@
 -- What a change of the membership comes to.
-use Rattle.std.specs.Prelude.{◌≡◌, Bool, List}
+use Rattle.std.specs.Prelude.{Bool}
 use Rattle.std.specs.declared.cmp.Ordering.{Ordering}
 use Rattle.std.proofs.Common.{subst, sym}
 use Rattle.raft_members.specs.Change.{changed}

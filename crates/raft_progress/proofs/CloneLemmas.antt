@@ -1,5 +1,5 @@
 -- Clones of entries, one after another.
-use Rattle.std.specs.Prelude.{◌≡◌, ℕ, ◌+◌, ◌<◌, Bool, true, ◌&&◌, List, [], ◌∷◌, ◌++◌, length, take, refl, IsTrue, nat_eq, Result, Ok, Err, MatchResult, IfOk}
+use Rattle.std.specs.Prelude.{◌≡◌, ℕ, ◌+◌, ◌<◌, Bool, true, ◌&&◌, List, [], ◌∷◌, ◌++◌, length, take, refl, nat_eq, Result, Ok, Err, MatchResult, IfOk}
 use Rattle.std.specs.List.{AllZip}
 use Rattle.std.specs.Set.{ClonesAreEqual}
 use Rattle.std.specs.Cmp.{IsEquivalence, nat_eq_equiv}

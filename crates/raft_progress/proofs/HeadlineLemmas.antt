@@ -2,14 +2,14 @@
 use Rattle.std.specs.Prelude.{◌≡◌, ◌<◌, ◌⊎◌, ℕ, Bool, true, false, ◌&&◌, ◌||◌, cond, List, [], ◌∷◌, Option, Some, None, length, map, take, refl}
 use Rattle.std.specs.declared.cmp.Ordering.{Ordering}
 use Rattle.std.specs.declared.cmp.Ordering.TheVariants.{Equal}
-use Rattle.std.specs.Ordering.{is_le, is_lt}
+use Rattle.std.specs.Ordering.{is_lt}
 use Rattle.std.specs.Cmp.{IsEquivalence, IsTotalOrder, first_so, second_so}
 use Rattle.std.specs.List.{list_all}
 use Rattle.std.specs.Map.{keys_of, lookup}
 use Rattle.std.specs.Set.{is_member}
-use Rattle.std.proofs.Common.{ap, inl, inr, sym, subst, ◌∙◌, true≢false, suc, zero}
+use Rattle.std.proofs.Common.{ap, inl, inr, sym, ◌∙◌, true≢false, suc, zero}
 use Rattle.raft_members.specs.Change.{changed}
-use Rattle.raft_members.specs.Majority.{is_joint_majority, is_majority, is_voter_of}
+use Rattle.raft_members.specs.Majority.{is_joint_majority, is_majority}
 use Rattle.raft_members.specs.MajorityLaws.{is_majority-superset, list_all-weaker}
 use Rattle.raft_members.specs.Meeting.{RespectsEquality}
 use Rattle.raft_members.specs.Members.{members_of}

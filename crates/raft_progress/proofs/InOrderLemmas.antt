@@ -7,14 +7,14 @@ use Rattle.std.specs.Cmp.{IsEquivalence, IsTotalOrder, first_so, second_so}
 use Rattle.std.specs.Map.{keys_of, lookup}
 use Rattle.std.specs.Set.{is_member}
 use Rattle.std.specs.List.{IsDistinct, AllByRecursion, list_any, list_all}
-use Rattle.std.proofs.Common.{arith, sym, ap, refl, ◌∙◌, true≢false, inl, inr, subst, suc, zero}
+use Rattle.std.proofs.Common.{arith, sym, ap, refl, ◌∙◌, true≢false, inl, inr, suc, zero}
 use Rattle.std.proofs.lemmas.List.Elements.{All-take, recursion_from_All}
 use Rattle.raft_progress.specs.CountedValue.{AtMost, IsCounted, IsReached}
 use Rattle.raft_progress.specs.ProgressState.{State}
 use Rattle.raft_progress.specs.Walk.{IsFalling}
 use Rattle.raft_progress.specs.Inner.Counts.{at_least}
 use Rattle.raft_progress.specs.Inner.Tests.{ids_differ, never_rises}
-use Rattle.raft_progress.proofs.RecountLemmas.{AtMost-refl, AtMost-trans, AtMost-from_lt, AtMost-from_not_lt}
+use Rattle.raft_progress.proofs.RecountLemmas.{AtMost-trans, AtMost-from_not_lt}
 use Rattle.raft_progress.proofs.CountedValueLemmas.{not_both}
 use Rattle.raft_progress.proofs.FallingLemmas.{lt_le}
 use Rattle.raft_progress.proofs.CountedAfreshLemmas.{found, members, voter_value}

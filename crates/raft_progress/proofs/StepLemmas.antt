@@ -1,9 +1,9 @@
 -- What a step comes to.
-use Rattle.std.specs.Prelude.{◌≡◌, Bool, true, false, ◌&&◌, Option, Some, None, not, if◌then◌else◌, cond, refl, Result, Ok, IsErr, MatchBool}
+use Rattle.std.specs.Prelude.{◌≡◌, Bool, true, false, Option, Some, not, if◌then◌else◌, cond, refl, MatchBool}
 use Rattle.std.specs.declared.cmp.Ordering.{Ordering}
-use Rattle.std.specs.Ordering.{is_lt, partial_gt}
+use Rattle.std.specs.Ordering.{partial_gt}
 use Rattle.std.specs.Cmp.{IsEquivalence}
-use Rattle.std.proofs.Common.{ap, sym, subst, ◌∙◌, true≢false}
+use Rattle.std.proofs.Common.{ap, sym, subst, ◌∙◌}
 use Rattle.raft_progress.specs.CountedValue.{IsCounted}
 use Rattle.raft_progress.specs.InOrder.{IsInOrder}
 use Rattle.raft_progress.specs.ProgressState.{IsSame, State, Writes}

@@ -1,7 +1,6 @@
 -- A membership and the progress that counts by it.
-use Rattle.std.specs.Prelude.{◌≡◌, Bool, true, false, ◌&&◌, ◌||◌, cond, not, List, Option, Some, None, is_some, map, refl, MatchBool, IsTrue}
+use Rattle.std.specs.Prelude.{◌≡◌, Bool, true, false, ◌&&◌, ◌||◌, cond, not, List, Option, Some, None, is_some, refl, MatchBool, IsTrue}
 use Rattle.std.specs.declared.cmp.Ordering.{Ordering}
-use Rattle.std.specs.Cmp.{IsEquivalence}
 use Rattle.std.specs.Option.{option_eq}
 use Rattle.std.specs.Set.{is_member}
 use Rattle.std.proofs.Common.{ap, sym, subst, ◌∙◌, true≢false}
@@ -10,7 +9,7 @@ use Rattle.raft_members.specs.Members.{MemberList, Members, Says, members_of, no
 use Rattle.raft_progress.specs.NewProgress.{HasClone, LearnersFit}
 use Rattle.raft_progress.specs.ProgressState.{IsSame, State, Writes}
 use Rattle.raft_progress.specs.Steps.{IsIncreased, IsWritten, stays}
-use Rattle.raft_progress.specs.TrackedState.{AreLearners, Configs, CountsBy, HasConfigs, TrackedState, is_voter}
+use Rattle.raft_progress.specs.TrackedState.{AreLearners, Configs, CountsBy, HasConfigs, is_voter}
 use Rattle.raft_progress.specs.Upgrade.{Inherits, IsUpgraded}
 use Rattle.raft_progress.specs.declared.progress.steps.Reply.{Reply}
 use Rattle.raft_progress.specs.declared.progress.steps.Reply.TheVariants.{Granted, Unknown, WouldFall, Refused, BelowDefault, BadLearners, OutOfMemory}

@@ -1,5 +1,5 @@
 -- When two progresses are equal, and when one is a clone of the other.
-use Rattle.std.specs.Prelude.{◌≡◌, ◌==◌, ℕ, Bool, ◌&&◌}
+use Rattle.std.specs.Prelude.{◌≡◌, ◌==◌, Bool, ◌&&◌}
 use Rattle.std.specs.List.{AllZip}
 use Rattle.std.specs.Cmp.Lexicographic.{pointwise}
 use Rattle.raft_progress.specs.Shown.{Shown}

@@ -1,5 +1,8 @@
--- What a `VecProgress` shows. This file and no other reads its private fields.
+-- What a `VecProgress` shows, and what is left of one whose entries have been lent. This file and no other reads its private fields.
 use Rattle.raft_progress.specs.Shown.{Shown}
+use Rattle.std.specs.Prelude.{List, ◌≤◌}
+use Rattle.std.specs.Vec.{with_items}
+use Rattle.std.proofs.Common.{sym, ◌∙◌, subst}
 use Rattle.std.specs.declared.cmp.Ord as order_ghosts
 use Rattle.std.specs.declared.cmp.PartialEq as eq_ghosts
 use Rattle.std.specs.declared.cmp.PartialOrd as partial_ghosts
@@ -15,4 +18,12 @@ shown p =
       default_part = p.default_part;
       granted = p.granted;
       stat = p.stat;
+    }
+
+-- the progress with other entries in its walk, as many as before
+abbrev pub with_entries : {ID V P QS : Type 0} {o : order_ghosts.Ghosts ID} {e : eq_ghosts.Ghosts ID} {q : partial_ghosts.Ghosts ID} → VecProgress ID V P QS o e q → List (ID × V) → VecProgress ID V P QS o e q
+with_entries p entries =
+    record p {
+      entries = with_items p.entries entries;
+      voters_fit = subst (λ n. p.voter_count ≤ n) (sym p.entries.ok.0 ∙ (with_items p.entries entries).ok.0) p.voters_fit;
     }

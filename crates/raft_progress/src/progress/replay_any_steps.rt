@@ -4,6 +4,7 @@ ghost use Rattle.raft_progress.specs.CountedValue.{IsCounted};
 ghost use Rattle.raft_progress.specs.InOrder.{IsInOrder};
 ghost use Rattle.raft_progress.specs.Shown.{state};
 ghost use Rattle.raft_progress.specs.VecProgress.{shown};
+ghost use Rattle.raft_progress.specs.StepCounts.{CountsRun, CountsStep, CountsUpgrade, CountsWrite};
 ghost use Rattle.raft_progress.specs.Steps.{IsAnsweredUpgrade, IsIncreased, IsRun, IsStep, IsWritten, falls, stays};
 
 use super::part::ProgressPart;
@@ -22,6 +23,7 @@ fn answer<
     requires ordered { IsInOrder ID.eq P.cmp V.part_of QS.has_quorum (shown progress.old) }
     requires clones_have_the_part { (v w : V) → V.is_clone v w → V.part_of w ≡ V.part_of v }
     ensures step { IsStep ID.eq ID.cmp P.cmp V.partial_cmp V.part_of V.is_clone QS.has_quorum QS.is_voter (state ID.eq (shown progress.old)) step result (state ID.eq (shown progress.new)) }
+    ensures counts { CountsStep (shown progress.old) step result (shown progress.new) }
     ensures ordered { IsInOrder ID.eq P.cmp V.part_of QS.has_quorum (shown progress.new) }
 {
     match step {
@@ -50,6 +52,7 @@ fn upgrade<
     requires ordered { IsInOrder ID.eq P.cmp V.part_of QS.has_quorum (shown progress.old) }
     requires clones_have_the_part { (v w : V) → V.is_clone v w → V.part_of w ≡ V.part_of v }
     ensures step { IsAnsweredUpgrade ID.eq ID.cmp P.cmp V.part_of V.is_clone QS.has_quorum QS.is_voter (state ID.eq (shown progress.old)) quorum_set learners.now default result (state ID.eq (shown progress.new)) }
+    ensures counts { CountsUpgrade (shown progress.old) result (shown progress.new) }
     ensures ordered { IsInOrder ID.eq P.cmp V.part_of QS.has_quorum (shown progress.new) }
 {
     match try_upgrade(progress, quorum_set, learners, default) {
@@ -73,6 +76,7 @@ fn try_upgrade<
     requires ordered { IsInOrder ID.eq P.cmp V.part_of QS.has_quorum (shown progress.old) }
     requires clones_have_the_part { (v w : V) → V.is_clone v w → V.part_of w ≡ V.part_of v }
     ensures step { IfOk result (λ reply. IsAnsweredUpgrade ID.eq ID.cmp P.cmp V.part_of V.is_clone QS.has_quorum QS.is_voter (state ID.eq (shown progress.old)) quorum_set learners.now default reply (state ID.eq (shown progress.new))) }
+    ensures counts { IfOk result (λ reply. CountsUpgrade (shown progress.old) reply (shown progress.new)) }
     ensures err { OnErr result (shown progress.new ≡ shown progress.old) }
     ensures ordered { IsInOrder ID.eq P.cmp V.part_of QS.has_quorum (shown progress.new) }
 {
@@ -100,6 +104,7 @@ pub(super) fn write<
 >(progress: &mut VecProgress<ID, V, P, QS>, id: &ID, value: V) -> Reply<ID, P>
     requires { IsInOrder ID.eq P.cmp V.part_of QS.has_quorum (shown progress.old) }
     ensures step { IsWritten ID.eq P.cmp V.part_of QS.has_quorum (state ID.eq (shown progress.old)) id.now value result (state ID.eq (shown progress.new)) }
+    ensures counts { CountsWrite (shown progress.old) result (shown progress.new) }
     ensures ordered { IsInOrder ID.eq P.cmp V.part_of QS.has_quorum (shown progress.new) }
 {
     if would_fall(progress, id, &value) {
@@ -120,6 +125,7 @@ pub(super) fn increase<
 >(progress: &mut VecProgress<ID, V, P, QS>, id: &ID, value: V) -> Reply<ID, P>
     requires { IsInOrder ID.eq P.cmp V.part_of QS.has_quorum (shown progress.old) }
     ensures step { IsIncreased ID.eq P.cmp V.partial_cmp V.part_of QS.has_quorum (state ID.eq (shown progress.old)) id.now value result (state ID.eq (shown progress.new)) }
+    ensures counts { CountsWrite (shown progress.old) result (shown progress.new) }
     ensures ordered { IsInOrder ID.eq P.cmp V.part_of QS.has_quorum (shown progress.new) }
 {
     if !is_not_greater(progress, id, &value) && would_fall(progress, id, &value) {
@@ -175,6 +181,7 @@ pub fn replay_any<
     requires ordered { IsInOrder ID.eq P.cmp V.part_of QS.has_quorum (shown progress.old) }
     requires clones_have_the_part { (v w : V) → V.is_clone v w → V.part_of w ≡ V.part_of v }
     ensures run { IfOk result (λ replies. IsRun ID.eq ID.cmp P.cmp V.partial_cmp V.part_of V.is_clone QS.has_quorum QS.is_voter (state ID.eq (shown progress.old)) steps.items replies.items (state ID.eq (shown progress.new))) }
+    ensures counts { IfOk result (λ replies. CountsRun (shown progress.old) steps.items replies.items (shown progress.new)) }
     ensures ordered { IsInOrder ID.eq P.cmp V.part_of QS.has_quorum (shown progress.new) }
     ensures granted { IsCounted P.cmp V.part_of QS.has_quorum (state ID.eq (shown progress.new)) (shown progress.new).granted }
     ensures err { OnErr result (shown progress.new ≡ shown progress.old) }

@@ -4,6 +4,7 @@ ghost use Rattle.std.specs.Set.{ClonesAreEqual};
 ghost use Rattle.raft_progress.specs.CountedValue.{IsCounted};
 ghost use Rattle.raft_progress.specs.Headline.{ChangedQuorumsKnowGranted, QuorumsKnowGranted};
 ghost use Rattle.raft_progress.specs.Shown.{state};
+ghost use Rattle.raft_progress.specs.StepCounts.{CountsTrackedRun, CountsTrackedStep, CountsUpgrade};
 ghost use Rattle.raft_progress.specs.Tracked.{tracked};
 ghost use Rattle.raft_progress.specs.TrackedState.{IsReady, has_quorum, tracked_state};
 ghost use Rattle.raft_progress.specs.Inner.TakenOver.{TakesOver};
@@ -28,6 +29,7 @@ fn answer<NID: NodeId, N: Node, V: ProgressPart<P> + PartialOrd + Clone + Drop, 
     requires clones_have_the_part { (v w : V) → V.is_clone v w → V.part_of w ≡ V.part_of v }
     requires clones_of_nodes_are_equal { ClonesAreEqual N.eq N.is_clone }
     ensures step { IsTrackedStep NID.eq NID.cmp N.eq P.cmp V.partial_cmp V.part_of V.is_clone (tracked_state NID.eq (tracked pair.old)) step result (tracked_state NID.eq (tracked pair.new)) }
+    ensures counts { CountsTrackedStep (tracked pair.old).progress step result (tracked pair.new).progress }
     ensures ready { IsReady NID.eq NID.cmp P.cmp V.part_of (tracked pair.new) }
 {
     match step {
@@ -52,6 +54,7 @@ fn change_members<NID: NodeId, N: Node, V: ProgressPart<P> + Clone + Drop, P: Co
     requires clones_have_the_part { (v w : V) → V.is_clone v w → V.part_of w ≡ V.part_of v }
     requires clones_of_nodes_are_equal { ClonesAreEqual N.eq N.is_clone }
     ensures step { IsChanged NID.eq NID.cmp N.eq P.cmp V.part_of V.is_clone (tracked_state NID.eq (tracked pair.old)) change retain default result (tracked_state NID.eq (tracked pair.new)) }
+    ensures counts { CountsUpgrade (tracked pair.old).progress result (tracked pair.new).progress }
     ensures ready { IsReady NID.eq NID.cmp P.cmp V.part_of (tracked pair.new) }
 {
     match pair.membership.change(change, retain) {
@@ -79,6 +82,7 @@ fn take_over<NID: NodeId, N: Node, V: ProgressPart<P> + Clone + Drop, P: Copy + 
     requires ready { IsReady NID.eq NID.cmp P.cmp V.part_of (tracked pair.old) }
     requires clones_have_the_part { (v w : V) → V.is_clone v w → V.part_of w ≡ V.part_of v }
     ensures step { IfOk result (λ reply. TakesOver NID.eq NID.cmp P.cmp V.part_of V.is_clone (tracked_state NID.eq (tracked pair.old)) next default reply (tracked_state NID.eq (tracked pair.new))) }
+    ensures counts { IfOk result (λ reply. CountsUpgrade (tracked pair.old).progress reply (tracked pair.new).progress) }
     ensures err { OnErr result (tracked pair.new ≡ tracked pair.old) }
     ensures ready { IsReady NID.eq NID.cmp P.cmp V.part_of (tracked pair.new) }
 {
@@ -115,6 +119,7 @@ pub fn replay<NID: NodeId, N: Node, V: ProgressPart<P> + PartialOrd + Clone + Dr
     requires clones_have_the_part { (v w : V) → V.is_clone v w → V.part_of w ≡ V.part_of v }
     requires clones_of_nodes_are_equal { ClonesAreEqual N.eq N.is_clone }
     ensures run { IfOk result (λ replies. IsTrackedRun NID.eq NID.cmp N.eq P.cmp V.partial_cmp V.part_of V.is_clone (tracked_state NID.eq (tracked pair.old)) steps.items replies.items (tracked_state NID.eq (tracked pair.new))) }
+    ensures counts { IfOk result (λ replies. CountsTrackedRun (tracked pair.old).progress steps.items replies.items (tracked pair.new).progress) }
     ensures ready { IsReady NID.eq NID.cmp P.cmp V.part_of (tracked pair.new) }
     ensures granted { IsCounted P.cmp V.part_of (has_quorum NID.eq) (state NID.eq (tracked pair.new).progress) (tracked pair.new).progress.granted }
     ensures quorums { QuorumsKnowGranted NID.eq P.cmp V.part_of (tracked pair.new) }

@@ -40,16 +40,17 @@ impl<
     P: Copy + Ord,
     QS: QuorumSet<ID> + Drop,
 > VecProgress<ID, V, P, QS> {
-    ghost use Rattle.std.specs.Prelude.{◌≡◌, ◌≤◌, ◌<◌, ◌↔◌, IsTrue, IfOk, IfErr, List, vec_len, ⊤, position, is_some, OnSome, IsSome, Bool, true, if◌then◌else◌, length, ◌&&◌};
-    ghost use Rattle.std.specs.Borrow.{sem, LendsSo};
-    ghost use Rattle.std.specs.Slice.Iter.{iter_mut_rest, iter_rest};
+    ghost use Rattle.std.specs.Prelude.{◌≡◌, ◌≤◌, ◌<◌, ◌↔◌, IsTrue, IfOk, IfErr, List, vec_len, ⊤, position, is_some, OnSome, IsSome, Bool, true, if◌then◌else◌, length, ◌&&◌, [], ◌∷◌};
+    ghost use Rattle.std.specs.Borrow.{sem, Array, LendsSo};
+    ghost use Rattle.std.specs.Slice.Iter.{iter_mut_name, iter_mut_rest, iter_rest};
+    ghost use denote.Struct.Tuple.{Tuple};
     ghost use Rattle.std.specs.Ordering.{partial_gt};
     ghost use Rattle.std.specs.Fn.{FnOnceReturnsAtMut, FnOnceTakesAtMut};
     ghost use Rattle.std.specs.Option.{option_copied, option_copied_mut};
     ghost use Rattle.std.specs.Map.{keys_of};
     ghost use Rattle.std.specs.List.{IsDistinct};
     ghost use Rattle.raft_progress.specs.contracts.progress.vec_progress.VecProgress.{the_row};
-    ghost use denote.Follow.{follows_so};
+    ghost use denote.Follow.{follows, follows_so};
     ghost use mathlib.Core.Option.{none};
     ghost use Rattle.raft_progress.specs.CountedValue.{AtMost};
     ghost use Rattle.raft_progress.specs.InOrder.{IsInOrder};
@@ -62,7 +63,7 @@ impl<
     ghost use Rattle.raft_progress.specs.Inner.Tests.{IsLeastPassing, among, is_value_below};
     ghost use Rattle.raft_progress.specs.Statistics.{CountsGoOn};
     ghost use Rattle.raft_progress.specs.Kept.{with_value};
-    ghost use Rattle.raft_progress.specs.VecProgress.{shown};
+    ghost use Rattle.raft_progress.specs.VecProgress.{shown, with_entries};
 
     /// Whether the learners fit a quorum set: none stands twice, and none is a voter.
     ///
@@ -350,10 +351,13 @@ impl<
         }
     }
 
-    /// The ids and their values, to be written. Ids and voters' parts should stay as they are:
-    /// `is_in_order` tells whether updates may go on.
+    /// The ids and their values, to be written.
+    ///
+    /// Nothing is counted and nothing moves. Where an id or the part of a voter changes, the progress
+    /// may be out of order afterwards: `is_in_order` tells.
     pub fn iter_mut(&mut self) -> std::slice::IterMut<(ID, V)>
-        ensures { iter_mut_rest result ≡ (shown self.old).walk }
+        ensures* writes_back { sem 𝓛 (follows (the_row ID.row V.row P.row QS.row ID.Ord.own ID.PartialEq ID.PartialOrd.own) (Array (Tuple (ID.row ∷ V.row ∷ [])) 0) self.entry.ghost_name (iter_mut_name result) (with_entries self.old)) }
+        ensures rest { iter_mut_rest result ≡ (shown self.old).walk }
     {
         self.entries.iter_mut()
     }

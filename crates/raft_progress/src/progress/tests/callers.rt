@@ -1,10 +1,11 @@
-//! A whole caller, as on the page for callers.
-ghost use Rattle.std.specs.Prelude.{◌≡◌, IfOk, IfSome};
+//! Whole callers, the first as on the page for callers.
+ghost use Rattle.std.specs.Prelude.{◌≡◌, IfOk, IfSome, length};
 ghost use Rattle.raft_progress.specs.CountedValue.{IsCounted};
 ghost use Rattle.raft_progress.specs.ProgressState.{State};
+ghost use Rattle.raft_progress.specs.VecProgress.{shown};
 
 use super::super::{AnyStep, ProgressPart, VecProgress, replay_any};
-use super::first_ids;
+use super::{first_ids, made};
 use raft_members::quorum::QuorumSet;
 use std::alloc::{AllocError, Global};
 use std::test::Fail;
@@ -48,5 +49,28 @@ fn a_caller_grants(rt: HostRuntime) -> Result<(), Fail> {
         granted_after(alloc, first_ids(alloc, 3)?, &[2], 0u64, Vec::new(alloc))?,
         None
     );
+    Ok(())
+}
+
+/// Writes a value at each id. Only the walk changes, and it stays as long as it was.
+fn fill(progress: &mut VecProgress<u64, u64, u64, Vec<u64>>, value: u64)
+    ensures all_else { shown progress.new ≡ record (shown progress.old) { walk = (shown progress.new).walk } }
+    ensures as_long { length (shown progress.new).walk ≡ length (shown progress.old).walk }
+{
+    for entry in progress.iter_mut() {
+        entry.1 = value;
+    }
+}
+
+#[test]
+fn a_caller_fills(rt: HostRuntime) -> Result<(), Fail> {
+    let alloc = rt.alloc();
+    let mut progress = made(&rt, alloc, first_ids(alloc, 2)?, &[5], 0)?;
+    fill(&mut progress, 3);
+    for id in [0, 1, 5] {
+        assert_eq!(rt; progress.try_get(&id), Some(&3));
+    }
+    assert_eq!(rt; *progress.granted(), 0);
+    assert!(rt; !progress.is_in_order());
     Ok(())
 }

@@ -1,4 +1,4 @@
-use Rattle.std.proofs.Common.{◌≡◌, Option, None, Some, Result, Ok, refl, ap, sym, ◌∙◌, true≢false, Bool, true, false, subst}
+use Rattle.std.proofs.Common.{◌≡◌, Option, None, Some, refl, sym, ◌∙◌, true≢false, false, subst}
 use Rattle.std.specs.Prelude.{IsErr, MatchResult}
 use Rattle.raft_progress.specs.Shown.{state}
 use Rattle.raft_progress.specs.Steps.{IsIncreased, falls, stays}

@@ -2,7 +2,8 @@ use Rattle.std.proofs.Common.{◌≤◌, ◌+◌, ◌++◌, List, reverse, vec_l
 use Rattle.std.specs.Vec.{vec_capacity}
 use Rattle.raft_progress.specs.InOrder.{IsInOrder}
 use Rattle.raft_progress.specs.ProgressState.{State}
-use Rattle.raft_progress.specs.Shown.{state}
+use Rattle.raft_progress.specs.Shown.{Shown, state}
+use Rattle.raft_progress.specs.StepCounts.{CountsRun}
 use Rattle.raft_progress.specs.Steps.{IsRun}
 use Rattle.raft_progress.specs.declared.progress.steps.Reply.{Reply}
 use Rattle.raft_progress.specs.VecProgress.{shown}
@@ -16,6 +17,7 @@ invariant-loop-step g l =
       ordered : IsInOrder g.ID.PartialEq.eq g.P.Ord.cmp g.V.ProgressPart.part_of g.QS.QuorumSet.has_quorum (shown l.progress);
       room : vec_len l.replies + vec_len l.rest ≤ vec_capacity l.replies;
       run : (more : List (Reply g.row.ID.Denot g.row.P.Denot)) (last : State g.row.ID.Denot g.row.V.Denot g.row.P.Denot g.row.QS.Denot) → run (state g.ID.PartialEq.eq (shown l.progress)) (reverse l.rest.items) more last → run (state g.ID.PartialEq.eq (shown l.fn.progress)) l.fn.steps.items (l.replies.items ++ more) last;
+      counts : (more : List (Reply g.row.ID.Denot g.row.P.Denot)) (last : Shown g.row.ID.Denot g.row.V.Denot g.row.P.Denot g.row.QS.Denot) → CountsRun (shown l.progress) (reverse l.rest.items) more last → CountsRun (shown l.fn.progress) l.fn.steps.items (l.replies.items ++ more) last;
     }
 
 abbrev pub decreases-loop-step : goal.decreases-loop-step

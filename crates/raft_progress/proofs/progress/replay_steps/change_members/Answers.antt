@@ -1,8 +1,4 @@
-use Rattle.std.proofs.Common.{◌≡◌, subst, sym}
-use Rattle.raft_members.specs.Change.{changed}
-use Rattle.raft_members.specs.Members.{members_of}
 use Rattle.raft_progress.proofs.ChangeLemmas.{changed_step}
-use Rattle.raft_progress.specs.Shown.{state}
 use Rattle.raft_progress.specs.Tracked.{tracked}
 use Rattle.raft_progress.specs.TrackedState.{tracked_state}
 use Rattle.raft_progress.proofs.progress.replay_steps.change_members.Goals as goal

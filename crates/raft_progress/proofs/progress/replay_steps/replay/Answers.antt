@@ -1,5 +1,6 @@
-use Rattle.std.proofs.Common.{arith, refl, sym, ◌∙◌}
+use Rattle.std.proofs.Common.{◌≡◌, arith, refl, sym, ◌∙◌}
 use Rattle.std.proofs.lemmas.List.{nil_from_length}
+use Rattle.raft_progress.specs.StepCounts.{CountsTrackedStep}
 use Rattle.raft_progress.specs.Tracked.{tracked}
 use Rattle.raft_progress.specs.TrackedState.{tracked_state}
 use Rattle.raft_progress.specs.TrackedSteps.{IsSamePair, IsTrackedStep}
@@ -18,6 +19,7 @@ loop-step-preserved g c = record {
   ready = c.answer-reply.ensures.ready;
   room = omega (arith, c.push_reserved.ensures.len, c.push_reserved.ensures.capacity, c.in-Some.ensures.len, c.loop-step.invariant.room);
   run = run_more (IsTrackedStep g.NID.PartialEq.eq g.NID.Ord.cmp g.N.PartialEq.eq g.P.Ord.cmp g.V.PartialOrd.partial_cmp g.V.ProgressPart.part_of g.V.Clone.is_clone) IsSamePair (tracked_state g.NID.PartialEq.eq (tracked c.args.pair.now)) (tracked_state g.NID.PartialEq.eq (tracked c.loop-step.pair)) c.args.steps.items c.loop-step.rest.items c.loop-step.replies.items c.loop-step.invariant.run (tracked_state g.NID.PartialEq.eq (tracked c.answer-reply.new.pair)) c.in-Some.step c.answer-reply.result c.pop.new.self.items c.push_reserved.new.self.items c.in-Some.ensures.items c.push_reserved.ensures.items c.answer-reply.ensures.step;
+  counts = run_more CountsTrackedStep (λ a b. b.stat ≡ a.stat) (tracked c.args.pair.now).progress (tracked c.loop-step.pair).progress c.args.steps.items c.loop-step.rest.items c.loop-step.replies.items c.loop-step.invariant.counts (tracked c.answer-reply.new.pair).progress c.in-Some.step c.answer-reply.result c.pop.new.self.items c.push_reserved.new.self.items c.in-Some.ensures.items c.push_reserved.ensures.items c.answer-reply.ensures.counts;
 }
 
 pub returns-clause-run : goal.returns-clause-run
@@ -29,3 +31,6 @@ returns-clause-quorums g c = λ some. (each_quorum_knows g.met.NID.Eq.laws g.NID
 
 pub returns-clause-changed_quorums : goal.returns-clause-changed_quorums
 returns-clause-changed_quorums g c = λ some. (each_quorum_knows g.met.NID.Eq.laws g.NID.Ord.cmp g.met.P.Ord.total g.V.ProgressPart.part_of (tracked c.loop-step.pair) c.loop-step.invariant.ready some).1
+
+pub returns-clause-counts : goal.returns-clause-counts
+returns-clause-counts g c = run_all CountsTrackedStep (λ a b. b.stat ≡ a.stat) (tracked c.args.pair.now).progress (tracked c.loop-step.pair).progress c.args.steps.items c.loop-step.rest.items c.loop-step.replies.items c.loop-step.invariant.counts refl (nil_from_length _ (sym c.loop-step.rest.ok.0 ∙ c.in_default.ensures.cases.0))

@@ -1,4 +1,4 @@
-use Rattle.std.proofs.Common.{List, ◌≡◌, refl, subst, sym}
+use Rattle.std.proofs.Common.{List, refl, subst, sym}
 use Rattle.raft_members.specs.Members.{members_of}
 use Rattle.raft_progress.specs.CountedValue.{IsCounted}
 use Rattle.raft_progress.specs.NewProgress.{LearnersFit}

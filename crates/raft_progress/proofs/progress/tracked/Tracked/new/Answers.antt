@@ -1,8 +1,8 @@
-use Rattle.std.proofs.Common.{List, ◌≡◌, subst, sym, refl, None}
+use Rattle.std.proofs.Common.{List, subst, sym, None}
 use Rattle.raft_members.specs.Members.{members_of}
 use Rattle.raft_progress.specs.NewProgress.{IsNew, LearnersFit}
 use Rattle.raft_progress.specs.Shown.{state}
-use Rattle.raft_progress.specs.TrackedState.{AreLearners, is_voter}
+use Rattle.raft_progress.specs.TrackedState.{is_voter}
 use Rattle.raft_progress.specs.VecProgress.{shown}
 use Rattle.raft_progress.proofs.TrackedLemmas.{counts_upgraded, learners_of_fit}
 use Rattle.raft_progress.proofs.UpgradeLemmas.{upgraded_none}

@@ -1,4 +1,4 @@
-use Rattle.std.proofs.Common.{sym, ap, ◌∙◌, ◌≡◌, Bool, true, false, not, Option, Some, None, refl}
+use Rattle.std.proofs.Common.{◌≡◌, Bool, true, false, not, Option, Some, None, refl}
 use Rattle.std.specs.Option.{is_some}
 use Rattle.raft_progress.specs.Shown.{state}
 use Rattle.raft_progress.specs.VecProgress.{shown}

@@ -1,4 +1,4 @@
-use Rattle.std.proofs.Common.{sym, ap, ◌∙◌, true≢false, is_eq, ◌≡◌, take, List, subst, Bool}
+use Rattle.std.proofs.Common.{sym, ap, ◌∙◌, true≢false, is_eq, take, List, subst}
 use Rattle.std.specs.List.{IsDistinct, list_all}
 use Rattle.std.specs.Map.{keys_of}
 use Rattle.raft_progress.specs.Inner.Counts.{IsGreatest, at_least}

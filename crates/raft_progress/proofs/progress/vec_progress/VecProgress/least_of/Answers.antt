@@ -1,4 +1,4 @@
-use Rattle.std.proofs.Common.{arith, sym, ap, ◌∙◌, subst, ◌≡◌, ◌<◌, ◌+◌, ◌++◌, ◌∷◌, [], get_or, take, length, List, Option, Some, ◌&&◌, Bool}
+use Rattle.std.proofs.Common.{arith, sym, ap, ◌∙◌, subst, ◌≡◌, ◌<◌, ◌+◌, ◌++◌, ◌∷◌, [], get_or, take, length, List, Option, ◌&&◌}
 use Rattle.std.specs.Map.{lookup}
 use Rattle.std.proofs.lemmas.List.{take_more}
 use Rattle.raft_progress.specs.Inner.Tests.{IsLeastPassing, among, is_value_below}
