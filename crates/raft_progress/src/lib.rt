@@ -1,4 +1,5 @@
-//! What each follower of a Raft leader has, and what a quorum of them has reached.
+//! What each follower of a Raft leader has, what a quorum of them has reached, and how both go on
+//! where the membership changes.
 #![tactic(auto)]
 
 pub mod progress;

@@ -1,5 +1,5 @@
 //! The progress of a cluster: a value for each voter and learner, and the greatest part that a
-//! quorum of the voters has reached.
+//! quorum of the voters has reached; and a membership together with its progress.
 
 mod entries;
 mod fit;

@@ -107,9 +107,9 @@ fn take_over<NID: NodeId, N: Node, V: ProgressPart<P> + Clone + Drop, P: Copy + 
 /// Room for the replies is taken first: where it is refused nothing has changed. A step that is
 /// refused changes nothing either, and the next one is made.
 ///
-/// What a voter of the progress has at the end, and what is granted, is counted afresh over the
-/// membership as it then stands; and every quorum of that membership, and of each that one change
-/// makes of it, has a voter whose part is at least granted.
+/// What is granted at the end is counted afresh over the values and the membership as they then
+/// stand. Where that membership has a config, every quorum of it, and of each that one change makes of
+/// it, has a voter whose part is at least granted.
 pub fn replay<NID: NodeId, N: Node, V: ProgressPart<P> + PartialOrd + Clone + Drop, P: Copy + Ord>(
     alloc: Global,
     pair: &mut Tracked<NID, N, V, P>,

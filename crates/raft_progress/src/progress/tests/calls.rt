@@ -3,6 +3,7 @@
 use super::super::{AnyStep, Progress, ProgressPart, Reply, VecProgress, replay_any};
 use super::{first_ids, made, replied, updated};
 use std::alloc::AllocError;
+use std::process::Abort;
 use std::test::Fail;
 
 type Numbers = VecProgress<u64, u64, u64, Vec<u64>>;
@@ -59,6 +60,15 @@ fn values_hold_a_text(rt: HostRuntime) -> Result<(), Fail> {
     Ok(())
 }
 
+/// The value of an id that is there, by both calls.
+fn value_of(rt: &impl Abort, progress: &Numbers, id: u64) -> u64 {
+    let is_known = progress.try_get(&id).is_some();
+    assert!(rt; is_known);
+    let value = progress.get(&id);
+    assert_eq!(rt; progress.try_get(&id), Some(value));
+    *value
+}
+
 #[test]
 fn reads(rt: HostRuntime) -> Result<(), Fail> {
     let alloc = rt.alloc();
@@ -71,12 +81,12 @@ fn reads(rt: HostRuntime) -> Result<(), Fail> {
     assert_eq!(rt; *progress.granted(), 0);
     assert_eq!(rt; *progress.default_part(), 0);
     assert_eq!(rt; updated(&rt, &mut progress, 6, 5), Ok(0));
-    assert_eq!(rt; progress.try_get(&6), Some(&5));
+    assert_eq!(rt; value_of(&rt, &progress, 6), 5);
     assert_eq!(rt; progress.try_get(&9), None);
     if let Some(value) = progress.get_mut(&6) {
         *value = 10;
     }
-    assert_eq!(rt; progress.try_get(&6), Some(&10));
+    assert_eq!(rt; value_of(&rt, &progress, 6), 10);
     assert!(rt; progress.get_mut(&9).is_none());
     Ok(())
 }
@@ -209,6 +219,8 @@ fn replay_always_alloc_error(rt: HostRuntime) -> Result<(), Fail> {
         Reply::Unknown(4),
     ];
     assert_eq!(rt; replies.as_slice(), want.as_slice());
+    // The update that would have lowered a value is no update.
+    assert_eq!(rt; progress.stat().update_count, 3);
     let none = replay_any(alloc, &mut progress, Vec::new(alloc))?;
     assert!(rt; none.is_empty());
     Ok(())

@@ -8,8 +8,8 @@ ghost use Rattle.std.specs.Ordering.{nat_cmp};
 ghost use Rattle.std.specs.Prelude.{nat_eq};
 ghost use Rattle.std.specs.Set.{is_member};
 
-use super::super::{AnyStep, VecProgress, replay_any};
-use super::{first_ids, made, would_fall};
+use super::super::{AnyStep, Reply, VecProgress, replay_any};
+use super::{first_ids, made, replied, would_fall};
 use raft_members::quorum::QuorumSet;
 use std::alloc::{AllocError, Global};
 use std::cell::Cell;
@@ -47,18 +47,25 @@ fn make_asked(alloc: Global, n: u64) -> Result<Asked, AllocError> {
     })
 }
 
+/// Updates, each with what it answers: granted, as an error where the id is unknown.
+type Updates<'a> = &'a [(u64, u64, Result<u64, u64>)];
+
 /// Makes the updates, and compares the counts with the calls after each.
 fn compare_counts(
     rt: &impl Abort,
     progress: &mut VecProgress<u64, u64, u64, Asked>,
-    updates: &[(u64, u64)],
+    updates: Updates<'_>,
 )
     requires { IsInOrder nat_eq nat_cmp (λ x. x) (λ a s. is_majority nat_eq a.voters.items s) (shown progress.old) }
 {
-    for (id, value) in updates {
+    for (id, value, want) in updates {
         let falls = would_fall(progress, id, value);
         assert!(rt; !falls);
-        let _ = progress.update(id, *value);
+        let answer = match progress.update(id, *value) {
+            Ok(granted) => Ok(*granted),
+            Err(granted) => Err(*granted),
+        };
+        assert_eq!(rt; answer, *want);
         assert_eq!(rt;
             progress.stat().is_quorum_count,
             progress.quorum_set().calls.get()
@@ -71,14 +78,19 @@ fn compare_counts_of_replay(
     rt: &impl Abort,
     alloc: Global,
     progress: &mut VecProgress<u64, u64, u64, Asked>,
-    updates: &[(u64, u64)],
+    updates: Updates<'_>,
 ) -> Result<(), AllocError>
     requires { IsInOrder nat_eq nat_cmp (λ x. x) (λ a s. is_majority nat_eq a.voters.items s) (shown progress.old) }
 {
-    for (id, value) in updates {
+    for (id, value, want) in updates {
         let mut steps = Vec::new(alloc);
         steps.push(AnyStep::Update(*id, *value))?;
-        let _ = replay_any(alloc, progress, steps)?;
+        let mut replies = replay_any(alloc, progress, steps)?;
+        let reply = match *want {
+            Ok(granted) => Reply::Granted(granted),
+            Err(granted) => Reply::Unknown(granted),
+        };
+        assert_eq!(rt; replies.pop(), Some(reply));
         assert_eq!(rt;
             progress.stat().is_quorum_count,
             progress.quorum_set().calls.get()
@@ -90,29 +102,50 @@ fn compare_counts_of_replay(
 #[test]
 fn counts_are_calls(rt: HostRuntime) -> Result<(), Fail> {
     let alloc = rt.alloc();
-    let mut risen = [(0, 0); 51];
+    let mut risen = [(0, 0, Ok(0)); 51];
     for i in 0..51u64 {
-        risen[i as usize] = (i, i + 1);
+        risen[i as usize] = (i, i + 1, Ok(i / 50));
     }
-    let rows: [(u64, &[u64], &[(u64, u64)]); 4] = [
+    let rows: [(u64, &[u64], Updates<'_>); 5] = [
         (
             5,
             &[6],
             &[
-                (6, 9),
-                (1, 2),
-                (2, 3),
-                (3, 1),
-                (4, 5),
-                (0, 4),
-                (3, 2),
-                (3, 3),
-                (1, 4),
-                (9, 1),
+                (6, 9, Ok(0)),
+                (1, 2, Ok(0)),
+                (2, 3, Ok(0)),
+                (3, 1, Ok(1)),
+                (4, 5, Ok(2)),
+                (0, 4, Ok(3)),
+                (3, 2, Ok(3)),
+                (3, 3, Ok(3)),
+                (1, 4, Ok(4)),
+                (9, 1, Err(4)),
             ],
         ),
-        (5, &[6], &[(0, 5), (1, 3), (2, 4), (2, 10), (3, 6)]),
-        (5, &[6], &[(1, 2), (2, 3), (1, 3), (4, 8), (0, 5)]),
+        (
+            5,
+            &[],
+            &[
+                (0, 5, Ok(0)),
+                (1, 3, Ok(0)),
+                (2, 4, Ok(3)),
+                (2, 10, Ok(3)),
+                (3, 6, Ok(5)),
+            ],
+        ),
+        (
+            5,
+            &[],
+            &[
+                (1, 2, Ok(0)),
+                (2, 3, Ok(0)),
+                (1, 3, Ok(0)),
+                (4, 8, Ok(3)),
+                (0, 5, Ok(3)),
+            ],
+        ),
+        (3, &[], &[(0, 5, Ok(0)), (1, 6, Ok(5))]),
         (100, &[], &risen),
     ];
     for (voters, learners, updates) in rows {
@@ -122,5 +155,31 @@ fn counts_are_calls(rt: HostRuntime) -> Result<(), Fail> {
         compare_counts_of_replay(&rt, alloc, &mut replayed, updates)?;
         assert_eq!(rt; *updated.stat(), *replayed.stat());
     }
+    Ok(())
+}
+
+#[test]
+fn an_upgrade_counts_its_calls(rt: HostRuntime) -> Result<(), Fail> {
+    let alloc = rt.alloc();
+    let mut progress = made(&rt, alloc, make_asked(alloc, 3)?, &[], 0)?;
+    compare_counts(&rt, &mut progress, &[(0, 5, Ok(0)), (1, 6, Ok(5))]);
+    let before = progress.stat().is_quorum_count;
+    let upgrade = AnyStep::Upgrade {
+        quorum_set: Asked {
+            voters: vec![in alloc; 2, 3, 4]?,
+            calls: Cell::new(0),
+        },
+        learners: vec![in alloc; 1]?,
+        default: 0,
+    };
+    assert_eq!(rt;
+        replied(&rt, alloc, &mut progress, upgrade)?,
+        Some(Reply::Granted(0))
+    );
+    let calls = progress.quorum_set().calls.get();
+    assert_eq!(rt;
+        progress.stat().is_quorum_count,
+        before.saturating_add(calls)
+    );
     Ok(())
 }
