@@ -1,13 +1,23 @@
 //! Whole callers, the first as on the page for callers.
-ghost use Rattle.std.specs.Prelude.{◌≡◌, IfOk, IfSome, length};
+ghost use Rattle.std.specs.Ordering.{as_partial_cmp, nat_cmp};
+ghost use Rattle.std.specs.Prelude.{◌≡◌, IfOk, IfSome, List, length, ℕ};
+ghost use Rattle.std.specs.Set.{ClonesAreEqual};
 ghost use Rattle.raft_progress.specs.CountedValue.{IsCounted};
+ghost use Rattle.raft_progress.specs.Headline.{QuorumsKnowGranted};
+ghost use Rattle.raft_progress.specs.NewProgress.{IsNew};
 ghost use Rattle.raft_progress.specs.ProgressState.{State};
+ghost use Rattle.raft_progress.specs.Steps.{IsRun};
+ghost use Rattle.raft_progress.specs.TrackedState.{TrackedShown, tracked_state};
+ghost use Rattle.raft_progress.specs.TrackedSteps.{IsTrackedRun};
 ghost use Rattle.raft_progress.specs.VecProgress.{shown};
 
-use super::super::{AnyStep, ProgressPart, VecProgress, replay_any};
+use super::super::{AnyStep, ProgressPart, Reply, Step, Tracked, VecProgress, replay, replay_any};
 use super::{first_ids, made};
+use raft_base::{EmptyNode, Node, NodeId};
+use raft_members::membership::Membership;
 use raft_members::quorum::QuorumSet;
 use std::alloc::{AllocError, Global};
+use std::collections::BTreeMap;
 use std::test::Fail;
 
 /// What is granted after some steps from a new progress, or nothing where the learners don't fit.
@@ -24,7 +34,7 @@ pub fn granted_after<
     steps: Vec<AnyStep<ID, V, QS>>,
 ) -> Result<Option<P>, AllocError>
     requires { (v w : V) → V.is_clone v w → V.part_of w ≡ V.part_of v }
-    ensures { IfOk result (λ answer. IfSome answer (λ granted. (end : State ID V P QS) × IsCounted P.cmp V.part_of QS.has_quorum end granted)) }
+    ensures { IfOk result (λ answer. IfSome answer (λ granted. (first last : State ID V P QS) × (replies : List (Reply ID P)) × IsNew ID.eq V.is_clone V.part_of (QS.is_voter quorum_set) quorum_set learners.now default first × IsRun ID.eq ID.cmp P.cmp V.partial_cmp V.part_of V.is_clone QS.has_quorum QS.is_voter first steps.items replies last × IsCounted P.cmp V.part_of QS.has_quorum last granted)) }
 {
     if !VecProgress::<ID, V, P, QS>::learners_fit(alloc, &quorum_set, learners)? {
         return Ok(None);
@@ -32,6 +42,21 @@ pub fn granted_after<
     let mut progress = VecProgress::new(alloc, quorum_set, learners, default)?;
     let _replies = replay_any(alloc, &mut progress, steps)?;
     Ok(Some(*progress.granted()))
+}
+
+/// What is granted after some steps of a membership and its progress: each quorum of the membership
+/// that they end with has a voter with at least that value.
+pub fn granted_of<NID: NodeId, N: Node>(
+    alloc: Global,
+    membership: Membership<NID, N>,
+    steps: Vec<Step<NID, N, u64>>,
+) -> Result<u64, AllocError>
+    requires { ClonesAreEqual N.eq N.is_clone }
+    ensures { IfOk result (λ granted. (first last : TrackedShown NID N ℕ ℕ) × (replies : List (Reply NID ℕ)) × (first.membership ≡ membership) × IsTrackedRun NID.eq NID.cmp N.eq nat_cmp (as_partial_cmp nat_cmp) (λ v. v) (λ v w. w ≡ v) (tracked_state NID.eq first) steps.items replies (tracked_state NID.eq last) × QuorumsKnowGranted NID.eq nat_cmp (λ v. v) last × (granted ≡ last.progress.granted)) }
+{
+    let mut pair = Tracked::new(membership, 0u64)?;
+    let _replies = replay(alloc, &mut pair, steps)?;
+    Ok(*pair.progress().granted())
 }
 
 #[test]
@@ -49,6 +74,23 @@ fn a_caller_grants(rt: HostRuntime) -> Result<(), Fail> {
         granted_after(alloc, first_ids(alloc, 3)?, &[2], 0u64, Vec::new(alloc))?,
         None
     );
+    Ok(())
+}
+
+#[test]
+fn a_caller_of_a_membership_grants(rt: HostRuntime) -> Result<(), Fail> {
+    let alloc = rt.alloc();
+    let mut nodes = BTreeMap::new(alloc);
+    for id in 1..4u64 {
+        nodes.insert(id, EmptyNode::new())?;
+    }
+    let membership = Membership::from_nodes(alloc, nodes)?;
+    let steps = vec![in alloc;
+        Step::Update(1, 4),
+        Step::Update(2, 6),
+        Step::IncreaseTo(7, 1),
+    ]?;
+    assert_eq!(rt; granted_of(alloc, membership, steps)?, 4);
     Ok(())
 }
 

@@ -6,6 +6,10 @@ use Rattle.raft_progress.proofs.progress.tests.callers.granted_after.Goals as go
 
 pub returns : goal.returns
 returns g c = (
+  state g.ID.PartialEq.eq (shown c.in_ok-progress.progress),
   state g.ID.PartialEq.eq (shown c.replay_any.new.progress),
+  c.in_ok-_replies._replies.items,
+  c.in_ok-progress.ensures.made,
+  c.in_ok-_replies.ensures.run,
   subst (IsCounted g.P.Ord.cmp g.V.ProgressPart.part_of g.QS.QuorumSet.has_quorum (state g.ID.PartialEq.eq (shown c.replay_any.new.progress))) (sym c.granted.ensures) c.replay_any.ensures.granted,
 )
