@@ -78,11 +78,11 @@ module _ {K N : Type 0} (same : N → N → Bool) where
   kept_front p [] e b h = ap (λ c. cond c (e ∷ []) []) h
   kept_front p (x ∷ xs) e b h = front_step (p x) x (filter p xs) (filter p (xs ++ e ∷ [])) (cond b (e ∷ []) []) (kept_front p xs e b h)
 
-  pub kept_in : {cmp : K → K → Ordering} → IsTotalOrder cmp → (p : K × N → Bool) (xs rest kept : List (K × N)) (k : K) (v w : N) → IsStrictlySortedBy cmp (keys_of (xs ++ (k, v) ∷ rest)) → p (k, v) ≡ true → same w v ≡ true → SameEntries kept (filter p xs) → SameEntries (insert_entry cmp kept k w) (filter p (xs ++ (k, v) ∷ []))
-  kept_in {cmp} o p xs rest kept k v w s h e t = rw (kept_front p xs (k, v) true h) (same_insert o kept (filter p xs) k w v t (below_filter cmp k p xs (below_from_sorted cmp xs rest (k, v) s)) e)
+  pub kept_in : {cmp : K → K → Ordering} → IsTotalOrder cmp → (p : K × N → Bool) (xs rest kept : List (K × N)) (k : K) (v w : N) → IsStrictlySortedBy cmp (keys_of (xs ++ (k, v) ∷ rest)) → true ≡ p (k, v) → same w v ≡ true → SameEntries kept (filter p xs) → SameEntries (insert_entry cmp kept k w) (filter p (xs ++ (k, v) ∷ []))
+  kept_in {cmp} o p xs rest kept k v w s h e t = rw (kept_front p xs (k, v) true (sym h)) (same_insert o kept (filter p xs) k w v t (below_filter cmp k p xs (below_from_sorted cmp xs rest (k, v) s)) e)
 
-  pub kept_out : (p : K × N → Bool) (xs kept : List (K × N)) (e : K × N) → p e ≡ false → SameEntries kept (filter p xs) → SameEntries kept (filter p (xs ++ e ∷ []))
-  kept_out p xs kept e h t = rw (kept_front p xs e false h, append-nil) t
+  pub kept_out : (p : K × N → Bool) (xs kept : List (K × N)) (e : K × N) → false ≡ p e → SameEntries kept (filter p xs) → SameEntries kept (filter p (xs ++ e ∷ []))
+  kept_out p xs kept e h t = rw (kept_front p xs e false (sym h), append-nil) t
 
 -- ids that are equal stay alike
 pub voter_alike : {K : Type 0} {e : K → K → Bool} → IsEquivalence e → (cs : List (List K)) (x y : K) → e x y ≡ true → is_voter_of e cs x ≡ is_voter_of e cs y

@@ -34,7 +34,8 @@ loop-id-preserved g c =
     let i = c.loop-id.invariant in
     let x : g.row.NID.Denot × g.row.N.Denot = (c.in-Some.id.now, c.in-Some.node.now) in
     let rest : c.args.nodes.now.entries ≡ (i.0 ++ x ∷ []) ++ c.next.new.self = moved_on i.0 x c.next.new.self c.args.nodes.now.entries (i.1 ∙ ap (λ l. i.0 ++ l) c.in-Some.ensures.steps) in
-    (i.0 ++ x ∷ [], rest, kept_out g.N.PartialEq.eq _ i.0 c.loop-id.kept.entries x (sym c.if-is_kept.ensures) i.2)
+    let p : g.row.NID.Denot × g.row.N.Denot → Bool = λ n. stays g.NID.PartialEq.eq (map (λ s. s.keys) c.args.old.now) (map (λ s. s.keys) c.args.new.now) c.args.retain n.0 in
+    (i.0 ++ x ∷ [], rest, kept_out g.N.PartialEq.eq p i.0 c.loop-id.kept.entries x c.if-is_kept.ensures i.2)
 
 pub loop-id-preserved-in-Continue-1 : goal.loop-id-preserved-in-Continue-1
 loop-id-preserved-in-Continue-1 g c =
@@ -44,4 +45,5 @@ loop-id-preserved-in-Continue-1 g c =
     let rest : c.args.nodes.now.entries ≡ (i.0 ++ x ∷ []) ++ c.next.new.self = moved_on i.0 x c.next.new.self c.args.nodes.now.entries front in
     let w = c.in_ok-put_copy.ensures in
     let P : List (g.row.NID.Denot × g.row.N.Denot) → Type 0 = λ es. IsStrictlySortedBy g.NID.Ord.cmp (keys_of es) in
-    (i.0 ++ x ∷ [], rest, rw w.2 (kept_in g.N.PartialEq.eq g.met.NID.Ord.total _ i.0 c.next.new.self c.loop-id.kept.entries x.0 x.1 w.0 (subst P front c.iter-id-items.ensures.ordered) (sym c.if-is_kept.ensures) (g.met.N.PartialEq.laws.symm w.0 x.1 ∙ w.1) i.2))
+    let p : g.row.NID.Denot × g.row.N.Denot → Bool = λ n. stays g.NID.PartialEq.eq (map (λ s. s.keys) c.args.old.now) (map (λ s. s.keys) c.args.new.now) c.args.retain n.0 in
+    (i.0 ++ x ∷ [], rest, rw w.2 (kept_in g.N.PartialEq.eq g.met.NID.Ord.total p i.0 c.next.new.self c.loop-id.kept.entries x.0 x.1 w.0 (subst P front c.iter-id-items.ensures.ordered) c.if-is_kept.ensures (g.met.N.PartialEq.laws.symm w.0 x.1 ∙ w.1) i.2))
