@@ -417,6 +417,7 @@ impl<
         ensures ordered { IsInOrder ID.eq P.cmp V.part_of QS.has_quorum (shown self.new) }
         ensures known { result ≡ is_some ((state ID.eq (shown self.old)).value id.now) }
     {
+        // The proof knows that a count fits a u64 once it has been read.
         let _counts = (self.stat.move_count, self.stat.is_quorum_count);
         self.stat.update_count = self.stat.update_count.saturating_add(1);
         match self.index(id) {
