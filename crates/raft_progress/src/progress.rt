@@ -30,9 +30,10 @@ pub use vec_progress::VecProgress;
 
 /// The values of voters and learners over a quorum set, and what a quorum of the voters has reached.
 pub trait Progress<ID: Copy + Ord, V: ProgressPart<P>, P: Copy + Ord, QS: QuorumSet<ID>>: Drop {
-    ghost use Rattle.std.specs.Prelude.{◌≡◌, IfOk, IsSome, OnSome, Some, if◌then◌else◌, length, true, ⊤};
+    ghost use Rattle.std.specs.Prelude.{◌≡◌, IfOk, IsSome, OnSome, Some, if◌then◌else◌, length, drop, true, ⊤};
     ghost use Rattle.std.specs.Borrow.{LendsSo, sem};
     ghost use Rattle.std.specs.Fn.{FnOnceReturnsAtMut, FnOnceTakesAtMut};
+    ghost use Rattle.std.specs.Map.{keys_of};
     ghost use Rattle.std.specs.Option.{option_copied, option_copied_mut};
     ghost use Rattle.std.specs.Ordering.{partial_gt};
     ghost use Rattle.std.specs.Slice.Iter.{iter_rest};
@@ -119,5 +120,6 @@ pub trait Progress<ID: Copy + Ord, V: ProgressPart<P>, P: Copy + Ord, QS: Quorum
         requires can_upgrade { CanUpgrade ID.eq P.cmp V.part_of (QS.is_voter quorum_set) learners.now default ((state ID.eq (shows self.now)).value) }
         ensures made { IfOk result (λ made. IsUpgraded ID.eq V.is_clone V.part_of (QS.is_voter quorum_set) quorum_set learners.now default ((state ID.eq (shows self.now)).value) (state ID.eq (shows made))) }
         ensures ordered { IfOk result (λ made. IsInOrder ID.eq P.cmp V.part_of QS.has_quorum (shows made)) }
+        ensures learners { IfOk result (λ made. drop (shows made).voter_count (keys_of (shows made).walk) ≡ learners.now) }
         ensures counts { IfOk result (λ made. CountsGoOn (length (shows self.now).walk) (shows made).voter_count (shows self.now).stat (shows made).stat) };
 }

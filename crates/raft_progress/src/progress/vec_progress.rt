@@ -40,7 +40,7 @@ impl<
     P: Copy + Ord,
     QS: QuorumSet<ID> + Drop,
 > VecProgress<ID, V, P, QS> {
-    ghost use Rattle.std.specs.Prelude.{◌≡◌, ◌≤◌, ◌<◌, ◌↔◌, IsTrue, IfOk, IfErr, List, vec_len, ⊤, position, is_some, OnSome, IsSome, Bool, true, if◌then◌else◌, length, ◌&&◌, [], ◌∷◌};
+    ghost use Rattle.std.specs.Prelude.{◌≡◌, ◌≤◌, ◌<◌, ◌↔◌, IsTrue, IfOk, IfErr, List, vec_len, ⊤, position, is_some, OnSome, IsSome, Bool, true, if◌then◌else◌, length, drop, ◌&&◌, [], ◌∷◌};
     ghost use Rattle.std.specs.Borrow.{sem, Array, LendsSo};
     ghost use Rattle.std.specs.Slice.Iter.{iter_mut_name, iter_mut_rest, iter_rest};
     ghost use denote.Struct.Tuple.{Tuple};
@@ -120,8 +120,9 @@ impl<
     /// A progress over another quorum set that takes over the values of the ids that it has too.
     ///
     /// Granted is counted afresh over the new quorum set, so it may be less than before: the new
-    /// voters may have reached less. The counts go on from the present ones; each present id counts
-    /// an update, also one that is gone. `self` stays as it is, also where a growth is refused.
+    /// voters may have reached less. The learners stand as they are given. The counts go on from the
+    /// present ones; each present id counts an update, also one that is gone. `self` stays as it is,
+    /// also where a growth is refused.
     pub fn upgrade_quorum_set(
         &self,
         quorum_set: QS,
@@ -136,6 +137,7 @@ impl<
         requires can_upgrade { CanUpgrade ID.eq P.cmp V.part_of (QS.is_voter quorum_set) learners.now default ((state ID.eq (shown self.now)).value) }
         ensures made { IfOk result (λ made. IsUpgraded ID.eq V.is_clone V.part_of (QS.is_voter quorum_set) quorum_set learners.now default ((state ID.eq (shown self.now)).value) (state ID.eq (shown made))) }
         ensures ordered { IfOk result (λ made. IsInOrder ID.eq P.cmp V.part_of QS.has_quorum (shown made)) }
+        ensures learners { IfOk result (λ made. drop (shown made).voter_count (keys_of (shown made).walk) ≡ learners.now) }
         ensures counts { IfOk result (λ made. CountsGoOn (length (shown self.now).walk) (shown made).voter_count (shown self.now).stat (shown made).stat) }
     {
         let alloc = self.allocator();
@@ -415,6 +417,7 @@ impl<
         ensures ordered { IsInOrder ID.eq P.cmp V.part_of QS.has_quorum (shown self.new) }
         ensures known { result ≡ is_some ((state ID.eq (shown self.old)).value id.now) }
     {
+        // The proof knows that a count fits a u64 once it has been read.
         let _counts = (self.stat.move_count, self.stat.is_quorum_count);
         self.stat.update_count = self.stat.update_count.saturating_add(1);
         match self.index(id) {

@@ -1,4 +1,4 @@
-use Rattle.std.proofs.Common.{List, ◌≡◌, refl, subst, sym, ap, ◌∙◌}
+use Rattle.std.proofs.Common.{refl, subst, sym, ap, ◌∙◌}
 use Rattle.std.specs.List.{IsDistinct}
 use Rattle.std.specs.Set.{is_member}
 use Rattle.std.proofs.lemmas.Iterator.{items_from_collect}

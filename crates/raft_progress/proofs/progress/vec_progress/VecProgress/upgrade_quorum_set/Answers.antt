@@ -1,9 +1,11 @@
 use Rattle.std.proofs.Common.{arith, sym, ap, ◌∙◌, subst, ◌≡◌, ◌<◌, ◌≤◌, ◌+◌, ◌++◌, ◌∷◌, [], get_or, take, length, List, Some, None, ℕ}
-use Rattle.std.specs.Map.{lookup}
+use Rattle.std.specs.Prelude.{drop}
+use Rattle.std.specs.Map.{keys_of, lookup}
 use Rattle.std.proofs.lemmas.List.{take_more, take_all}
 use Rattle.raft_progress.specs.Shown.{Shown, state}
 use Rattle.raft_progress.specs.Upgrade.{IsUpgraded}
 use Rattle.raft_progress.proofs.UpdateLemmas.{lookup_alike}
+use Rattle.raft_progress.proofs.LearnersPlaceLemmas.{learners_first, learners_stay}
 use Rattle.raft_progress.proofs.StatisticsLemmas.{counts_more}
 use Rattle.raft_progress.specs.InOrder.{IsInOrder}
 use Rattle.raft_progress.specs.Statistics.{CountsGoOn}
@@ -19,6 +21,9 @@ loop-entry-init g c =
       made =
           subst (λ (p : Shown g.row.ID.Denot g.row.V.Denot g.row.P.Denot g.row.QS.Denot). IsUpgraded g.ID.PartialEq.eq g.V.Clone.is_clone g.V.ProgressPart.part_of (g.QS.QuorumSet.is_voter c.args.quorum_set) c.args.quorum_set c.args.learners.now c.args.default (λ x. None) (state g.ID.PartialEq.eq p)) (sym same)
           (upgraded_none g.ID.PartialEq.eq g.V.Clone.is_clone g.V.ProgressPart.part_of (g.QS.QuorumSet.is_voter c.args.quorum_set) c.args.quorum_set c.args.learners.now c.args.default (state g.ID.PartialEq.eq (shown c.in_ok-made.made)) c.in_ok-made.ensures.made);
+      learners =
+          subst (λ (p : Shown g.row.ID.Denot g.row.V.Denot g.row.P.Denot g.row.QS.Denot). drop p.voter_count (keys_of p.walk) ≡ c.args.learners.now) (sym same)
+          (learners_first g.ID.Ord.cmp c.args.learners.now (shown c.in_ok-made.made) c.in_ok-made.ensures.walk);
       counts = c.go_on_from.ensures.counts;
     }
 
@@ -44,6 +49,7 @@ loop-entry-preserved g c =
           (step g.met.ID.Eq.laws g.V.Clone.is_clone g.V.ProgressPart.part_of (g.QS.QuorumSet.is_voter c.args.quorum_set) c.args.quorum_set c.args.learners.now c.args.default (take c.loop-entry.entry-index c.args.self.now.entries.items) (state g.ID.PartialEq.eq (shown c.loop-entry.made)) (state g.ID.PartialEq.eq (shown c.take_over.new.self)) c.loop-entry.invariant.made (λ x y h. lookup_alike g.met.ID.Eq.laws x y h c.loop-entry.made.entries.items) c.entry-item.result fresh c.in_ok-value.value c.in_ok-value.ensures.cases
           (λ v h. let k = c.take_over.ensures.updated.known v h in (k.0, k.1, k.2))
           (λ h. (c.take_over.ensures.updated.unknown h).0));
+      learners = learners_stay g.ID.PartialEq.eq g.P.Ord.cmp g.V.ProgressPart.part_of _ (shown c.loop-entry.made) c.entry-item.result.0 (shown c.take_over.new.self) c.take_over.ensures.updated ∙ c.loop-entry.invariant.learners;
       counts = counts_more g.ID.PartialEq.eq g.P.Ord.cmp g.V.ProgressPart.part_of _ c.loop-entry.entry-index c.args.self.now.stat (shown c.loop-entry.made) c.entry-item.result.0 (shown c.take_over.new.self) c.take_over.ensures.updated c.loop-entry.invariant.counts;
     }
 
