@@ -31,8 +31,8 @@ loop-part-preserved c =
     record {
       numbers = subst (All IsNumber) (sym now) (All-push IsNumber words c.in-Some.part.now c.loop-part.invariant.numbers number.0);
       has = λ n.
-      one_more_number c.in_ok-number.number n _ _ words c.in-Some.part.now (updated.0 n) (c.loop-part.invariant.has n) number.1
-      ∙ sym (ap (list_any (λ part. digits_value 10 part == n)) now);
+          one_more_number c.in_ok-number.number n _ _ words c.in-Some.part.now (updated.0 n) (c.loop-part.invariant.has n) number.1
+          ∙ sym (ap (list_any (λ part. digits_value 10 part == n)) now);
     }
 
 pub returns-clause-list : goal.returns-clause-list
