@@ -10,7 +10,7 @@ use Rattle.std.proofs.Common.{arith, sym, ap, refl, ◌∙◌, true≢false, suc
 use Rattle.std.proofs.lemmas.Map.{keys-set_value}
 use Rattle.raft_progress.specs.NewProgress.{IsFirstWalk}
 use Rattle.raft_progress.specs.Shown.{Shown, state}
-use Rattle.raft_progress.specs.Updated.{IsSettled, IsUpdated, climbs}
+use Rattle.raft_progress.specs.Updated.{IsSettled, IsUpdated, rises_past_granted}
 use Rattle.raft_progress.specs.Walk.{put_after_last, risen}
 
 -- what stands behind some entries and as many more
@@ -44,12 +44,12 @@ module _ {ID V P : Type 0} (cmp : P → P → Ordering) (part : V → P) where
 
 module _ {ID V P QS : Type 0} (eq : ID → ID → Bool) (cmp : P → P → Ordering) (part : V → P) (Left : V → V → Type 0) (old : Shown ID V P QS) (id : ID) (new : Shown ID V P QS) where
   settled_stay : (v w : V) → IsSettled eq cmp part old id v w new → drop old.voter_count (keys_of new.walk) ≡ drop old.voter_count (keys_of old.walk)
-  settled_stay v w s = by (climbs eq cmp part old id v w) refl
+  settled_stay v w s = by (rises_past_granted eq cmp part old id v w) refl
     where
       keys : keys_of (set_value (eq id) old.walk w) ≡ keys_of old.walk
       keys = keys-set_value (eq id) old.walk w
 
-      by : (b : Bool) → climbs eq cmp part old id v w ≡ b → drop old.voter_count (keys_of new.walk) ≡ drop old.voter_count (keys_of old.walk)
+      by : (b : Bool) → rises_past_granted eq cmp part old id v w ≡ b → drop old.voter_count (keys_of new.walk) ≡ drop old.voter_count (keys_of old.walk)
       by true c =
           let voter : is_member eq (take old.voter_count (keys_of (set_value (eq id) old.walk w))) id ≡ true = ap (λ ks. is_member eq (take old.voter_count ks) id) keys ∙ first_so _ _ c in
           ap (λ (es : List (ID × V)). drop old.voter_count (keys_of es)) (s.rises c).0 ∙ risen_keys cmp part eq id [] (set_value (eq id) old.walk w) old.voter_count old.voter_count (omega arith) voter ∙ ap (drop old.voter_count) keys

@@ -4,7 +4,7 @@ use Rattle.std.specs.declared.cmp.Ordering.{Ordering}
 use Rattle.std.proofs.Common.{arith, ◌∙◌, refl, ap}
 use Rattle.raft_progress.specs.Shown.{Shown, state}
 use Rattle.raft_progress.specs.Statistics.{CountsGoOn, counted_up}
-use Rattle.raft_progress.specs.Updated.{IsSettled, IsUpdated, climbs}
+use Rattle.raft_progress.specs.Updated.{IsSettled, IsUpdated, rises_past_granted}
 use Rattle.raft_progress.specs.declared.progress.stat.Stat.{Stat}
 
 -- counting twice is counting the sum
@@ -43,7 +43,7 @@ module _ {ID V P QS : Type 0} (eq : ID → ID → Bool) (cmp : P → P → Order
   counts_known : (v w : V) → IsSettled eq cmp part old id v w new → CountsGoOn (n + 1) new.voter_count s new.stat
   counts_known v w t = record {
     updated = updated_once;
-    moved = by (climbs eq cmp part old id v w) refl;
+    moved = by (rises_past_granted eq cmp part old id v w) refl;
     tested =
         let x = c.tested in
         let l = x.1 in
@@ -52,7 +52,7 @@ module _ {ID V P QS : Type 0} (eq : ID → ID → Bool) (cmp : P → P → Order
         (x.0 + t.tests, rw (same, e) (omega arith), t.counts_tests ∙ ap (λ y. counted_up y t.tests) x.2 ∙ counted_twice s.is_quorum_count x.0 t.tests);
   }
     where
-      by : (b : Bool) → climbs eq cmp part old id v w ≡ b → (k : ℕ) × (k ≤ n + 1) × (new.stat.move_count ≡ counted_up s.move_count k)
+      by : (b : Bool) → rises_past_granted eq cmp part old id v w ≡ b → (k : ℕ) × (k ≤ n + 1) × (new.stat.move_count ≡ counted_up s.move_count k)
       by true h = let x = c.moved in let l = x.1 in (x.0 + 1, omega arith, (t.rises h).1 ∙ ap (λ y. counted_up y 1) x.2 ∙ counted_twice s.move_count x.0 1)
       by false h = let x = c.moved in let l = x.1 in (x.0, omega arith, (t.stays h).1 ∙ x.2)
 

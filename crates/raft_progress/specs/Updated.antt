@@ -10,17 +10,17 @@ use Rattle.raft_progress.specs.Shown.{Shown, state}
 
 module _ {ID V P QS : Type 0} (eq : ID → ID → Bool) (cmp : P → P → Ordering) (part : V → P) where
   -- whether the id is a voter whose part has risen to one that exceeds what was granted
-  abbrev pub climbs : Shown ID V P QS → ID → V → V → Bool
-  climbs old id v w = (state eq old).is_voter id && (is_lt (cmp (part v) (part w)) && is_lt (cmp old.granted (part w)))
+  abbrev pub rises_past_granted : Shown ID V P QS → ID → V → V → Bool
+  rises_past_granted old id v w = (state eq old).is_voter id && (is_lt (cmp (part v) (part w)) && is_lt (cmp old.granted (part w)))
 
   -- whether the id is a voter whose part was at most what was granted, and now exceeds it
   abbrev pub passes_granted : Shown ID V P QS → ID → V → V → Bool
   passes_granted old id v w = (state eq old).is_voter id && (is_le (cmp (part v) old.granted) && is_lt (cmp old.granted (part w)))
 
-  -- the walk, granted and the counts after the value of a known id went from v to w: a voter that climbs is risen in the walk, and quorums are tested only where granted may rise, at most one test a voter
+  -- the walk, granted and the counts after the value of a known id went from v to w: a voter that rises past what was granted is risen in the walk, and quorums are tested only where granted may rise, at most one test a voter
   pub record IsSettled (old : Shown ID V P QS) (id : ID) (v w : V) (new : Shown ID V P QS) : Type 0 where
-    pub rises : climbs old id v w ≡ true → (new.walk ≡ risen cmp part (eq id) [] (set_value (eq id) old.walk w)) × (new.stat.move_count ≡ counted_up old.stat.move_count 1)
-    pub stays : climbs old id v w ≡ false → (new.walk ≡ set_value (eq id) old.walk w) × (new.stat.move_count ≡ old.stat.move_count)
+    pub rises : rises_past_granted old id v w ≡ true → (new.walk ≡ risen cmp part (eq id) [] (set_value (eq id) old.walk w)) × (new.stat.move_count ≡ counted_up old.stat.move_count 1)
+    pub stays : rises_past_granted old id v w ≡ false → (new.walk ≡ set_value (eq id) old.walk w) × (new.stat.move_count ≡ old.stat.move_count)
     pub tests : ℕ
     pub counts_tests : new.stat.is_quorum_count ≡ counted_up old.stat.is_quorum_count tests
     pub at_most_voters : tests ≤ old.voter_count
