@@ -4,7 +4,7 @@ use Rattle.std.specs.List.{AllZip}
 use Rattle.std.specs.Set.{ClonesAreEqual}
 use Rattle.std.specs.Cmp.{IsEquivalence, nat_eq_equiv}
 use Rattle.std.specs.Cmp.Lexicographic.{pointwise}
-use Rattle.std.proofs.Common.{ap, subst, sym, ◌∙◌, get_or}
+use Rattle.std.proofs.Common.{ap, subst, suc, sym, ◌∙◌, get_or}
 use Rattle.std.proofs.lemmas.List.{take_more}
 use Rattle.raft_progress.specs.Equal.{IsCloned, equal}
 use Rattle.raft_progress.specs.Shown.{Shown}
@@ -20,6 +20,12 @@ pub zip_step : {A B : Type 0} (R : A → B → Type 0) (xs : List A) (i : ℕ) (
 zip_step {A} {B} R xs i x ys zs y l is a made r =
     let more : take (i + 1) xs ≡ take i xs ++ x ∷ [] = take_more xs i x l ∙ ap (λ e. take i xs ++ e ∷ []) (sym is) in
     subst (λ (es : List A). AllZip R es zs) (sym more) (subst (λ (es : List B). AllZip R (take i xs ++ x ∷ []) es) (sym made) (zip_more R (take i xs) ys x y a r))
+
+pub same_length : {A B : Type 0} (R : A → B → Type 0) (xs : List A) (ys : List B) → AllZip R xs ys → length ys ≡ length xs
+same_length R [] [] a = refl
+same_length R [] (y ∷ ys) a = absurd a
+same_length R (x ∷ xs) [] a = absurd a
+same_length R (x ∷ xs) (y ∷ ys) a = ap suc (same_length R xs ys a.1)
 
 both_so : (a b : Bool) → a ≡ true → b ≡ true → (a && b) ≡ true
 both_so a b h k = λ i. h i && k i

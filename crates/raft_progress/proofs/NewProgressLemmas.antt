@@ -1,5 +1,5 @@
 -- A progress whose values are all clones of the default.
-use Rattle.std.specs.Prelude.{◌≡◌, ℕ, Bool, true, false, cond, ◌||◌, List, [], ◌∷◌, ◌++◌, length, take, Some, None}
+use Rattle.std.specs.Prelude.{◌≡◌, ℕ, ◌≤◌, Bool, true, false, cond, ◌||◌, List, [], ◌∷◌, ◌++◌, length, take, Some, None}
 use Rattle.std.specs.Ordering.{is_lt, eq_by_cmp}
 use Rattle.std.specs.declared.cmp.Ordering.{Ordering}
 use Rattle.std.specs.Cmp.{IsEquivalence, IsTotalOrder}
@@ -7,7 +7,7 @@ use Rattle.std.specs.Map.{keys_of, lookup}
 use Rattle.std.specs.Set.{is_member}
 use Rattle.std.specs.List.{IsDistinct, AllByRecursion}
 use Rattle.std.specs.List.Sorted.{IsStrictlySortedBy}
-use Rattle.std.proofs.Common.{sym, ap, refl, ◌∙◌, true≢false, inl, subst, suc, zero}
+use Rattle.std.proofs.Common.{arith, sym, ap, refl, ◌∙◌, true≢false, inl, subst, suc, zero, length-append}
 use Rattle.std.proofs.lemmas.Cmp.{tied_itself}
 use Rattle.std.proofs.lemmas.Map.Keys.{IsDistinct-from_sorted}
 use Rattle.raft_progress.specs.CountedValue.{AtMost}
@@ -41,6 +41,15 @@ all_append P (x ∷ xs) ys a b = (a.0, all_append P xs ys a.1 b)
 keys_append : {ID V : Type 0} (es fs : List (ID × V)) → keys_of (es ++ fs) ≡ keys_of es ++ keys_of fs
 keys_append [] fs = refl
 keys_append (e ∷ es) fs = ap (λ ks. e.0 ∷ ks) (keys_append es fs)
+
+length_keys : {ID V : Type 0} (es : List (ID × V)) → length (keys_of es) ≡ length es
+length_keys [] = refl
+length_keys (e ∷ es) = ap suc (length_keys es)
+
+-- the voters are among the entries
+pub voters_within : {ID V : Type 0} (es : List (ID × V)) (ids learners : List ID) (n : ℕ) → keys_of es ≡ ids ++ learners → n ≡ length ids → n ≤ length es
+voters_within es ids learners n k c =
+    omega (arith, length_keys es, ap length k, length-append ids learners, c)
 
 -- two lists of ids, put one after the other into what was empty
 module _ {ID V : Type 0} {IsClone : V → V → Type 0} {default : V} (ids learners : List ID) (none first last : List (ID × V)) where

@@ -1,5 +1,5 @@
-use Rattle.std.proofs.Common.{ap, ◌∙◌, ◌++◌}
-use Rattle.raft_progress.proofs.NewProgressLemmas.{IsDistinct-from_cmp, all_placed, fresh_is_new, fresh_in_order, keys_placed}
+use Rattle.std.proofs.Common.{ap, sym, ◌∙◌, ◌++◌}
+use Rattle.raft_progress.proofs.NewProgressLemmas.{IsDistinct-from_cmp, all_placed, fresh_is_new, fresh_in_order, keys_placed, voters_within}
 use Rattle.raft_progress.proofs.progress.vec_progress.VecProgress.new.Goals as goal
 
 pub returns-clause-made : goal.returns-clause-made
@@ -30,4 +30,10 @@ returns-clause-walk g c = record {
   ascending = c.in_ok-room.ensures.ascending;
   ids = keys_placed _ _ _ _ _ c.new-entries.ensures.items c.in_ok-place_all.ensures c.in_ok-place_all-2.ensures ∙ ap (λ ids. ids ++ c.args.learners.now) c.deref.ensures.value;
   first = c.len-voter_count.ensures ∙ c.in_ok-room.room.ok.0;
+}
+
+pub invariant_of-result : goal.invariant_of-result
+invariant_of-result g c = record {
+  voters_fit = voters_within _ c.in_ok-room.room.items c.args.learners.now _ (keys_placed _ _ _ _ _ c.new-entries.ensures.items c.in_ok-place_all.ensures c.in_ok-place_all-2.ensures ∙ ap (λ ids. ids ++ c.args.learners.now) c.deref.ensures.value) (c.len-voter_count.ensures ∙ c.in_ok-room.room.ok.0);
+  room_fits = sym (c.len-voter_count.ensures ∙ c.in_ok-room.room.ok.0);
 }

@@ -1,5 +1,6 @@
-use Rattle.std.proofs.Common.{List, ◌≡◌, refl, rules, subst}
+use Rattle.std.proofs.Common.{List, ◌≡◌, ◌≤◌, ◌∙◌, ap, length, refl, rules, subst, sym}
 use Rattle.std.specs.List.{AllZip}
+use Rattle.raft_progress.proofs.CloneLemmas.{same_length}
 use Rattle.raft_progress.proofs.progress.vec_progress.VecProgressClone.clone.Goals as goal
 
 pub returns : goal.returns
@@ -12,4 +13,10 @@ returns g c = record {
     granted = refl;
     stat = search rules;
   };
+}
+
+pub invariant_of-result : goal.invariant_of-result
+invariant_of-result g c = record {
+  voters_fit = subst (λ n. c.args.self.now.voter_count ≤ n) (sym (same_length (λ (d e : g.row.ID.Denot × g.row.V.Denot). (e.0 ≡ d.0) × g.V.Clone.is_clone d.1 e.1) c.deref.result.now c.in_ok-clone_entries.field-0.items c.in_ok-clone_entries.ensures ∙ ap length c.deref.ensures.value)) c.args.self.now.voters_fit;
+  room_fits = ap length (c.in_ok-copy_ids.ensures ∙ c.deref-2.ensures.value) ∙ c.args.self.now.room_fits;
 }
