@@ -6,8 +6,6 @@ pub mod leader_id;
 pub mod log_id;
 pub mod node;
 pub mod order;
-#[cfg(test)]
-mod tests;
 pub mod vote;
 
 pub use kind::{LeaderAdv, LeaderIdentity, LeaderKind};

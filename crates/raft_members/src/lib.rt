@@ -6,8 +6,6 @@ pub mod change_members;
 pub mod error;
 pub mod membership;
 pub mod quorum;
-#[cfg(test)]
-mod tests;
 
 pub use change_members::ChangeMembers;
 pub use error::{

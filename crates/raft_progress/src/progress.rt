@@ -12,8 +12,6 @@ mod rise;
 mod scan;
 mod stat;
 mod steps;
-#[cfg(test)]
-mod tests;
 mod tracked;
 mod upgrade;
 mod vec_progress;

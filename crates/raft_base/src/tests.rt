@@ -1,4 +1,0 @@
-//! Worked values and texts, and code as a caller writes it.
-
-mod calls;
-mod values;

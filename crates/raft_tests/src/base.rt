@@ -1,0 +1,4 @@
+//! `raft_base`: leader ids, votes, log ids and nodes.
+
+mod calls;
+mod values;

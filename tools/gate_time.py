@@ -1,0 +1,116 @@
+#!/usr/bin/env python3
+"""Runs the gate and prints what each of its phases took: tools/gate_time.py [COMMAND ..].
+
+The command is `rt ci` where none is given. Its output passes through, and its status is this
+program's. A phase is the proof of a crate, of its tests, the trying of its edits, or what is left.
+The wall time of a phase goes from its first process to its last, and its processor time is that of
+all its processes, read from /proc until each has ended.
+"""
+import os
+import re
+import subprocess
+import sys
+import threading
+import time
+
+PERIOD = 0.25
+TICK = os.sysconf("SC_CLK_TCK")
+
+
+def processes():
+    """Each process by its number: its parent, its processor time, its start and its words."""
+    found = {}
+    for name in os.listdir("/proc"):
+        if not name.isdigit():
+            continue
+        try:
+            with open(f"/proc/{name}/stat", encoding="utf-8", errors="replace") as file:
+                fields = file.read().rpartition(")")[2].split()
+            with open(f"/proc/{name}/cmdline", encoding="utf-8", errors="replace") as file:
+                words = file.read().split("\0")
+            where = os.readlink(f"/proc/{name}/cwd")
+        except OSError:
+            continue
+        # The time of children that have ended is a parent's, once it has waited for them.
+        spent = sum(int(fields[at]) for at in (11, 12, 13, 14)) / TICK
+        found[int(name)] = int(fields[1]), spent, words, where
+    return found
+
+
+def phase_of(words, where):
+    """The phase that a process works for, if its words tell."""
+    if "--crate-name" not in words:
+        return None
+    crate = words[words.index("--crate-name") + 1]
+    if "/rt-edit-" in where:
+        return crate, "edits"
+    return crate, "tests" if "--test" in words else "proof"
+
+
+class Times:
+    """What each phase has taken so far."""
+
+    def __init__(self, root):
+        self.root, self.began = root, time.time()
+        self.spent, self.first, self.last = {}, {}, {}
+
+    def look(self):
+        """Reads the processes below the root once."""
+        now, found = time.time(), processes()
+        below = {self.root}
+        for _ in range(6):
+            below |= {it for it, (parent, *_) in found.items() if parent in below}
+        for number in below - {self.root}:
+            if number not in found:
+                continue
+            parent, spent, words, where = found[number]
+            phase = phase_of(words, where)
+            if not phase:
+                continue
+            is_part = parent in found and phase_of(*found[parent][2:]) == phase
+            if is_part:
+                # A forked copy: its time comes to its parent when it ends.
+                self.spent[phase, number, "copy"] = spent, parent
+            else:
+                self.spent[phase, number, "whole"] = spent, None
+            self.first.setdefault(phase, now)
+            self.last[phase] = now
+
+    def of(self, phase):
+        """The processor time of a phase: what its processes had when they were last seen."""
+        return sum(spent for (its, _, kind), (spent, _) in self.spent.items() if its == phase and kind == "whole")
+
+    def table(self):
+        """The phases in their order, with wall and processor time in seconds."""
+        rows = [f"{'phase':28} {'from':>6} {'wall':>6} {'processor':>10}"]
+        for phase in sorted(self.first, key=self.first.get):
+            from_, wall = self.first[phase] - self.began, self.last[phase] - self.first[phase]
+            rows.append(f"{' '.join(phase):28} {from_:6.0f} {wall:6.0f} {self.of(phase):10.0f}")
+        whole = sum(self.of(phase) for phase in self.first)
+        rows.append(f"{'all':28} {0:6.0f} {time.time() - self.began:6.0f} {whole:10.0f}")
+        return "\n".join(rows)
+
+
+def main(command):
+    """Runs the command, looks at its processes as they run, and prints the table behind its output."""
+    gate = subprocess.Popen(command or ["rt", "ci"])
+    times = Times(gate.pid)
+    ended = threading.Event()
+
+    def watch():
+        while not ended.wait(PERIOD):
+            times.look()
+
+    watching = threading.Thread(target=watch)
+    watching.start()
+    try:
+        status = gate.wait()
+    finally:
+        ended.set()
+        watching.join()
+    print(times.table(), file=sys.stderr)
+    return status
+
+
+if __name__ == "__main__":
+    sys.exit(main(sys.argv[1:]))
