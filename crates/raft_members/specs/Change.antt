@@ -25,14 +25,14 @@ abbrev pub without : {K : Type 0} → (K → K → Bool) → List K → List K �
 without eq xs ys = filter (λ id. not (is_member eq ys id)) xs
 
 -- the node at an id stays, unless a voter of the old configs is none of the new ones and nodes are not retained
-abbrev pub stays : {K : Type 0} → (K → K → Bool) → List (List K) → List (List K) → Bool → K → Bool
-stays eq old new retain id = retain || (not (is_voter_of eq old id) || is_voter_of eq new id)
+abbrev pub keeps_node : {K : Type 0} → (K → K → Bool) → List (List K) → List (List K) → Bool → K → Bool
+keeps_node eq old new retain id = retain || (not (is_voter_of eq old id) || is_voter_of eq new id)
 
 -- one step of the voters towards the goal
 abbrev pub next_members : {K N : Type 0} → (K → K → Bool) → Members K N → List K → Bool → Members K N
 next_members eq m goal retain = let next = next_configs eq m.configs goal in record {
   configs = next;
-  node = λ id. cond (stays eq m.configs next retain id) (m.node id) None;
+  node = λ id. cond (keeps_node eq m.configs next retain id) (m.node id) None;
 }
 
 -- the same configs with other nodes

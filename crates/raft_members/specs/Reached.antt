@@ -8,14 +8,26 @@ use Rattle.raft_members.specs.Change.{changed}
 use Rattle.raft_members.specs.declared.change_members.ChangeMembers.{ChangeMembers}
 
 module _ {K : Type 0} (eq : K → K → Bool) where
-  -- the value has been reached by a quorum of the configs that are voters, or by all voters
-  abbrev pub IsReached : List (List K) → (K → Bool) → (K → Bool) → Type 0
-  IsReached configs voter reached = (is_joint_majority eq configs (λ id. voter id && reached id) ≡ true) ⊎ ((id : K) → voter id ≡ true → reached id ≡ true)
+  -- the voters have reached a value: a quorum of the configs that are voters has, or all voters have
+  abbrev pub VotersReached : List (List K) → (K → Bool) → (K → Bool) → Type 0
+  VotersReached configs voter reached = (is_joint_majority eq configs (λ id. voter id && reached id) ≡ true) ⊎ ((id : K) → voter id ≡ true → reached id ≡ true)
 
   -- every quorum of the configs contains a voter that has reached the value
   abbrev pub EachQuorumKnows : List (List K) → (K → Bool) → (K → Bool) → Type 0
   EachQuorumKnows configs voter reached = (set : K → Bool) → is_joint_majority eq configs set ≡ true → (id : K) × (set id ≡ true) × (voter id ≡ true) × (reached id ≡ true)
 
--- Where a membership has a config, its voters are voters, and a value has been reached, each of its quorums knows of the value, and so does each quorum of what one change makes of it.
+  -- a value is granted in some configs, one at least: the voters have reached it, who is in a config is a voter, and of two equal ids both are voters that have reached it or neither is
+  pub record IsGranted (configs : List (List K)) (voter reached : K → Bool) : Type 0 where
+    pub has_config : 0 < length configs
+    pub are_voters : (id : K) → is_voter_of eq configs id ≡ true → voter id ≡ true
+    pub respects_equality : RespectsEquality eq (λ id. voter id && reached id)
+    pub voters_reached : VotersReached configs voter reached
+
+-- each quorum of a membership knows of the value, and so does each quorum of what one change makes of it
+pub record StaysKnown {K N : Type 0} (eq : K → K → Bool) (cmp : K → K → Ordering) (m : Members K N) (voter reached : K → Bool) : Type 0 where
+  pub quorums : EachQuorumKnows eq m.configs voter reached
+  pub changed_quorums : (change : ChangeMembers K N) (retain : Bool) → EachQuorumKnows eq (changed eq cmp m change retain).configs voter reached
+
+-- what is granted in a membership's configs stays known through one change of it
 abbrev pub ChangeKeepsReached : (K N : Type 0) → (K → K → Bool) → (K → K → Ordering) → Type 0
-ChangeKeepsReached K N eq cmp = (m : Members K N) (voter reached : K → Bool) → 0 < length m.configs → RespectsEquality eq (λ id. voter id && reached id) → ((id : K) → is_voter_of eq m.configs id ≡ true → voter id ≡ true) → IsReached eq m.configs voter reached → EachQuorumKnows eq m.configs voter reached × ((change : ChangeMembers K N) (retain : Bool) → EachQuorumKnows eq (changed eq cmp m change retain).configs voter reached)
+ChangeKeepsReached K N eq cmp = (m : Members K N) (voter reached : K → Bool) → IsGranted eq m.configs voter reached → StaysKnown eq cmp m voter reached

@@ -30,24 +30,18 @@ module _ {K N : Type 0} where
   -- the ids that a change of ids names, in order
   abbrev pub ids_in : ChangeMembers K N → List K
   ids_in (AddVoterIds ids) = ids.keys
-  ids_in (AddVoters _) = []
   ids_in (RemoveVoters ids) = ids.keys
   ids_in (ReplaceAllVoters ids) = ids.keys
-  ids_in (AddNodes _) = []
-  ids_in (SetNodes _) = []
   ids_in (RemoveNodes ids) = ids.keys
-  ids_in (ReplaceAllNodes _) = []
+  ids_in _ = []
 
   -- the nodes that a change of nodes names, in the order of their ids
   abbrev pub nodes_in : ChangeMembers K N → List (K × N)
-  nodes_in (AddVoterIds _) = []
   nodes_in (AddVoters nodes) = nodes.entries
-  nodes_in (RemoveVoters _) = []
-  nodes_in (ReplaceAllVoters _) = []
   nodes_in (AddNodes nodes) = nodes.entries
   nodes_in (SetNodes nodes) = nodes.entries
-  nodes_in (RemoveNodes _) = []
   nodes_in (ReplaceAllNodes nodes) = nodes.entries
+  nodes_in _ = []
 
 -- two changes are the same
 abbrev pub IsSameChange : {K N : Type 0} → (K → K → Bool) → (N → N → Bool) → ChangeMembers K N → ChangeMembers K N → Type 0

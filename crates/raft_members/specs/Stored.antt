@@ -14,9 +14,9 @@ abbrev pub membership_of : {C K N : Type 0} → StoredMembershipOf C K N → Mem
 membership_of stored = stored.membership
 
 -- equal log ids: equal leaders and the same index
-abbrev pub same_log_ids : {C : Type 0} → (C → C → Bool) → LogIdOf C → LogIdOf C → Bool
-same_log_ids leader a b = leader a.leader_id b.leader_id && nat_eq a.index b.index
+abbrev pub log_id_eq : {C : Type 0} → (C → C → Bool) → LogIdOf C → LogIdOf C → Bool
+log_id_eq leader a b = leader a.leader_id b.leader_id && nat_eq a.index b.index
 
 -- two stored memberships are equal: equal log ids, or none, and equal memberships
 abbrev pub same_stored : {C K N : Type 0} → (C → C → Bool) → (K → K → Bool) → (N → N → Bool) → StoredMembershipOf C K N → StoredMembershipOf C K N → Bool
-same_stored leader eq same a b = option_eq (same_log_ids leader) (log_id_of a) (log_id_of b) && same_members eq same (membership_of a) (membership_of b)
+same_stored leader eq same a b = option_eq (log_id_eq leader) (log_id_of a) (log_id_of b) && same_members eq same (membership_of a) (membership_of b)

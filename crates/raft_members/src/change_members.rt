@@ -3,7 +3,6 @@ ghost use Rattle.std.specs.Prelude.{IfOk};
 ghost use Rattle.std.specs.Set.{ClonesAreEqual};
 
 use crate::membership::{ids, nodes};
-use crate::quorum::sorted_ids;
 use raft_base::{Node, NodeId};
 use std::alloc::{AllocError, Global};
 use std::collections::{BTreeMap, BTreeSet};
@@ -39,8 +38,7 @@ impl<NID: NodeId, N: Node> ChangeMembers<NID, N> {
     pub fn replace_all(alloc: Global, voters: &[NID]) -> Result<Self, AllocError>
         ensures { IfOk result (λ change. ReplacesAllBy NID.eq voters.now change) }
     {
-        let voters = sorted_ids(alloc, voters)?;
-        let ids = ids::set_of(alloc, &voters)?;
+        let ids = voters.iter().copied().collect(alloc)?;
         Ok(ChangeMembers::ReplaceAllVoters(ids))
     }
 

@@ -12,13 +12,13 @@ use thiserror::Error;
 pub enum ChangeMembershipErrorOf<C: Ord + Copy + Default + Debug, NID: NodeId> {
     /// An earlier change is not committed yet.
     #[error(transparent)]
-    InProgress(#[from] InProgressOf<C>),
+    InProgress(InProgressOf<C>),
     /// A config would be empty.
     #[error(transparent)]
-    EmptyMembership(#[from] EmptyMembership),
+    EmptyMembership(EmptyMembership),
     /// A voter would have no node.
     #[error(transparent)]
-    LearnerNotFound(#[from] LearnerNotFound<NID>),
+    LearnerNotFound(LearnerNotFound<NID>),
     /// A growth was refused.
     #[error("out of memory")]
     OutOfMemory,
@@ -60,6 +60,39 @@ pub struct EmptyMembership {}
 pub struct LearnerNotFound<NID: NodeId> {
     /// The least such voter.
     pub node_id: NID,
+}
+
+impl<C: Ord + Copy + Default + Debug, NID: NodeId> From<InProgressOf<C>>
+    for ChangeMembershipErrorOf<C, NID> {
+    ghost use Rattle.raft_members.specs.declared.error.ChangeMembershipErrorOf.TheVariants.{InProgress};
+
+    ghost from_gives = { λ refused e. e ≡ InProgress refused };
+
+    fn from(refused: InProgressOf<C>) -> Self {
+        ChangeMembershipErrorOf::InProgress(refused)
+    }
+}
+
+impl<C: Ord + Copy + Default + Debug, NID: NodeId> From<EmptyMembership>
+    for ChangeMembershipErrorOf<C, NID> {
+    ghost use Rattle.raft_members.specs.declared.error.ChangeMembershipErrorOf.TheVariants.{EmptyMembership};
+
+    ghost from_gives = { λ refused e. e ≡ EmptyMembership refused };
+
+    fn from(refused: EmptyMembership) -> Self {
+        ChangeMembershipErrorOf::EmptyMembership(refused)
+    }
+}
+
+impl<C: Ord + Copy + Default + Debug, NID: NodeId> From<LearnerNotFound<NID>>
+    for ChangeMembershipErrorOf<C, NID> {
+    ghost use Rattle.raft_members.specs.declared.error.ChangeMembershipErrorOf.TheVariants.{LearnerNotFound};
+
+    ghost from_gives = { λ refused e. e ≡ LearnerNotFound refused };
+
+    fn from(refused: LearnerNotFound<NID>) -> Self {
+        ChangeMembershipErrorOf::LearnerNotFound(refused)
+    }
 }
 
 impl<C: Ord + Copy + Default + Debug, NID: NodeId> From<AllocError>

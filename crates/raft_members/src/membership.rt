@@ -1,5 +1,5 @@
 //! Memberships: which nodes vote, in one config or in several, and which nodes are known.
-ghost use Rattle.std.specs.Prelude.{◌≡◌, Bool, List, [], ◌∷◌, IfOk, IfErr, IsTrue, true, false, map, None, not, is_some, is_err, ◌&&◌, nat_lt, length};
+ghost use Rattle.std.specs.Prelude.{◌≡◌, Bool, List, [], ◌∷◌, IfOk, IfErr, IsOk, IsOkAnd, IsTrue, true, false, map, None, not, is_some, is_err, ◌&&◌, nat_lt, length};
 ghost use Rattle.std.specs.Option.{option_copied, option_eq, option_or};
 ghost use Rattle.std.specs.List.{list_any, list_all};
 ghost use Rattle.std.specs.List.Sorted.{IsStrictlySortedBy};
@@ -85,6 +85,7 @@ impl<NID: NodeId, N: Node> Membership<NID, N> {
     ) -> Result<Self, AllocError>
         ensures configs { IfOk result (λ m. m.configs ≡ map (λ c. c.keys) configs.items) }
         ensures nodes { IfOk result (λ m. T.gives nodes m.nodes) }
+        ensures made { T.takes_no_memory nodes → IsOk result }
     {
         let alloc = *configs.allocator();
         let nodes = nodes.into_nodes(alloc)?;
@@ -100,9 +101,10 @@ impl<NID: NodeId, N: Node> Membership<NID, N> {
         Ok(Membership { configs, nodes })
     }
 
-    /// The membership without configs and nodes, in place of a `Default`, which has no allocator.
+    /// The membership without configs and nodes, in place of a `Default`, which has no allocator. No
+    /// memory is taken.
     pub fn try_default(alloc: Global) -> Result<Self, AllocError>
-        ensures { IfOk result (λ m. m ≡ record { configs = []; nodes = [] }) }
+        ensures { IsOkAnd result (λ m. m ≡ record { configs = []; nodes = [] }) }
     {
         Ok(Membership {
             configs: Vec::new(alloc),
@@ -237,15 +239,10 @@ impl<NID: NodeId, N: Node> Membership<NID, N> {
         ensures refused { IfErr result (λ e. IsRefusal NID.eq NID.cmp (members_of NID.cmp self.now) e) }
         ensures no_memory { IfErr result (λ e. e ≡ OutOfMemory → ⊥) }
     {
-        if let Err(refused) = self.ensure_non_empty_config() {
-            return Err(ChangeMembershipError::EmptyMembership(refused));
-        }
-        match self.ensure_voter_nodes() {
-            Err(node_id) => Err(ChangeMembershipError::LearnerNotFound(LearnerNotFound {
-                node_id,
-            })),
-            Ok(()) => Ok(()),
-        }
+        self.ensure_non_empty_config()?;
+        self.ensure_voter_nodes()
+            .map_err(|node_id| LearnerNotFound { node_id })?;
+        Ok(())
     }
 }
 
@@ -255,25 +252,7 @@ impl<NID: NodeId, N: Node> PartialEq for Membership<NID, N> {
     ghost laws = { partial_equiv_from_equiv (same_members-equiv NID.Eq.laws N.Eq.laws) };
 
     fn eq(&self, other: &Self) -> bool {
-        let configs = self.has_configs_of(other);
-        let nodes = self.has_nodes_of(other);
-        configs && nodes
-    }
-}
-
-impl<NID: NodeId, N: Node> Membership<NID, N> {
-    /// Whether the configs are equal.
-    fn has_configs_of(&self, other: &Self) -> bool
-        ensures { result ≡ pointwise (pointwise NID.eq) self.now.configs other.now.configs }
-    {
-        self.configs == other.configs
-    }
-
-    /// Whether the nodes are equal.
-    fn has_nodes_of(&self, other: &Self) -> bool
-        ensures { result ≡ same_nodes NID.eq N.eq self.now.nodes other.now.nodes }
-    {
-        self.nodes == other.nodes
+        self.configs == other.configs && self.nodes == other.nodes
     }
 }
 

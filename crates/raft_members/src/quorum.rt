@@ -12,4 +12,3 @@ pub use coherent::{Coherent, FindCoherent};
 pub use joint::{AsJoint, Joint};
 pub(crate) use joint_impl::ids_of_each;
 pub use quorum_set::QuorumSet;
-pub(crate) use quorum_set_impl::sorted_ids;

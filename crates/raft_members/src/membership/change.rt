@@ -8,7 +8,8 @@ ghost use Rattle.raft_members.specs.Coherence.{is_coherent};
 ghost use Rattle.raft_members.specs.Members.{node_at, members_of, Says};
 ghost use Rattle.raft_members.specs.Valid.{IsValid};
 ghost use Rattle.raft_members.specs.Change.{next_members, with_nodes, changed};
-ghost use Rattle.raft_members.specs.Refusal.{IsRefusal, OnlyMemory, TwoChanges};
+ghost use Rattle.raft_members.specs.Refusal.{IsRefusal};
+ghost use Rattle.raft_members.specs.ReplaceAll.{OnlyMemory, TwoChanges};
 
 use super::{Membership, configs, ids, nodes};
 use crate::change_members::ChangeMembers;
@@ -47,6 +48,7 @@ impl<NID: NodeId, N: Node> Membership<NID, N> {
     ) -> Result<Self, ChangeMembershipError<NID>>
         requires { ClonesAreEqual N.eq N.is_clone }
         ensures valid { IfOk result (λ m. IsValid NID.eq (changed NID.eq NID.cmp (members_of NID.cmp self.now) change retain)) }
+        ensures valid_itself { IfOk result (λ m. IsValid NID.eq (members_of NID.cmp m)) }
         ensures changed { IfOk result (λ m. Says N.eq NID.cmp m (changed NID.eq NID.cmp (members_of NID.cmp self.now) change retain)) }
         ensures refused { IfErr result (λ e. IsRefusal NID.eq NID.cmp (changed NID.eq NID.cmp (members_of NID.cmp self.now) change retain) e) }
         ensures coherent { IfOk result (λ m. 0 < length self.now.configs → is_coherent NID.eq self.now.configs m.configs ≡ true) }
@@ -54,10 +56,8 @@ impl<NID: NodeId, N: Node> Membership<NID, N> {
         ensures two_changes { IfOk result (λ m. TwoChanges NID.eq NID.cmp (members_of NID.cmp self.now) change m) }
     {
         let next = self.changed(change, retain)?;
-        match next.ensure_valid() {
-            Ok(()) => Ok(next),
-            Err(refused) => Err(refused),
-        }
+        next.ensure_valid()?;
+        Ok(next)
     }
 
     /// What a change makes of this membership, before it is tested.
@@ -68,39 +68,48 @@ impl<NID: NodeId, N: Node> Membership<NID, N> {
         let alloc = *self.configs.allocator();
         match change {
             ChangeMembers::AddVoterIds(ids) => {
-                let last = configs::last(alloc, &self.configs)?;
-                let goal = configs::union(alloc, &last, &ids)?;
-                Ok(self.next_coherent(goal, retain)?)
+                let goal = configs::last_with(alloc, &self.configs, ids)?;
+                self.next_coherent(goal, retain)
             }
             ChangeMembers::AddVoters(nodes) => {
                 let ids = ids::key_set(alloc, &nodes)?;
-                let last = configs::last(alloc, &self.configs)?;
-                let goal = configs::union(alloc, &last, &ids)?;
-                let widened = self.with_added(&nodes)?;
-                Ok(widened.next_coherent(goal, retain)?)
+                let goal = configs::last_with(alloc, &self.configs, ids)?;
+                let next = self.next_coherent(goal, retain)?;
+                next.with_more(nodes)
             }
             ChangeMembers::RemoveVoters(ids) => {
-                let last = configs::last(alloc, &self.configs)?;
-                let goal = configs::difference(alloc, &last, &ids)?;
-                Ok(self.next_coherent(goal, retain)?)
+                let goal = configs::last_without(alloc, &self.configs, &ids)?;
+                self.next_coherent(goal, retain)
             }
-            ChangeMembers::ReplaceAllVoters(ids) => Ok(self.next_coherent(ids, retain)?),
-            ChangeMembers::AddNodes(nodes) => Ok(self.with_added(&nodes)?),
-            ChangeMembers::SetNodes(nodes) => Ok(self.with_set(nodes)?),
-            ChangeMembers::RemoveNodes(ids) => Ok(self.without_nodes(&ids)?),
-            ChangeMembers::ReplaceAllNodes(nodes) => Ok(self.with_only(nodes)?),
+            ChangeMembers::ReplaceAllVoters(ids) => self.next_coherent(ids, retain),
+            ChangeMembers::AddNodes(nodes) => self.with_added(nodes),
+            ChangeMembers::SetNodes(nodes) => self.with_set(nodes),
+            ChangeMembers::RemoveNodes(ids) => self.without_nodes(&ids),
+            ChangeMembers::ReplaceAllNodes(nodes) => self.with_only(nodes),
         }
     }
 
-    /// The same configs, and among the nodes those of `more` whose ids have none.
-    fn with_added(&self, more: &BTreeMap<NID, N>) -> Result<Self, AllocError>
+    /// The same configs, and also those of these nodes whose ids have none. No node is cloned.
+    fn with_more(self, more: BTreeMap<NID, N>) -> Result<Self, AllocError>
+        ensures configs { IfOk result (λ m. m.configs ≡ self.configs) }
+        ensures nodes { IfOk result (λ m. (id : NID) →
+            node_at NID.cmp m.nodes id ≡ option_or (node_at NID.cmp self.nodes id) (get NID.cmp more id)) }
+    {
+        let Membership { configs, nodes } = self;
+        let nodes = nodes::merged(nodes, more)?;
+        Ok(Membership { configs, nodes })
+    }
+
+    /// The same configs, and also those of these nodes whose ids have none.
+    fn with_added(&self, more: BTreeMap<NID, N>) -> Result<Self, AllocError>
         requires { ClonesAreEqual N.eq N.is_clone }
-        ensures { IfOk result (λ m. Says N.eq NID.cmp m (with_nodes (members_of NID.cmp self.now) (λ id. option_or (node_at NID.cmp self.now.nodes id) (get NID.cmp more.now id)))) }
+        ensures { IfOk result (λ m. Says N.eq NID.cmp m (with_nodes (members_of NID.cmp self.now)
+            (λ id. option_or (node_at NID.cmp self.now.nodes id) (get NID.cmp more id)))) }
     {
         let alloc = *self.configs.allocator();
         let configs = configs::copy(alloc, &self.configs)?;
         let copies = nodes::copy(alloc, &self.nodes)?;
-        let nodes = nodes::added(copies, more)?;
+        let nodes = nodes::merged(copies, more)?;
         Ok(Membership { configs, nodes })
     }
 

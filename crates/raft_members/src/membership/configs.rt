@@ -3,7 +3,6 @@ ghost use Rattle.std.specs.Prelude.{◌≡◌, IfOk, map};
 ghost use Rattle.std.specs.List.{list_any};
 ghost use Rattle.std.specs.List.Sorted.{IsStrictlySortedBy};
 ghost use Rattle.std.specs.Set.{is_member};
-ghost use Rattle.std.specs.Ordering.{eq_by_cmp};
 ghost use Rattle.std.specs.Cmp.Lexicographic.{pointwise};
 ghost use Rattle.std.specs.BTreeSet.{contains};
 ghost use Rattle.raft_members.specs.Majority.{is_voter_of};
@@ -51,16 +50,33 @@ fn any_empty<ID: Copy + Ord>(configs: &[BTreeSet<ID>]) -> bool
     configs.iter().any(|config| config.is_empty())
 }
 
-/// The last config, and the empty one where there is none.
-pub fn last<ID: Copy + Ord>(
+/// The ids of the last config, where there is one, and the given ones.
+pub fn last_with<ID: Copy + Ord>(
     alloc: Global,
     configs: &[BTreeSet<ID>],
+    ids: BTreeSet<ID>,
 ) -> Result<BTreeSet<ID>, AllocError>
-    ensures { IfOk result (λ set. set.keys ≡ last_config (map (λ c. c.keys) configs.now)) }
+    ensures { IfOk result (λ set.
+        set.keys ≡ united ID.cmp (last_config (map (λ c. c.keys) configs.now)) ids.keys) }
+{
+    match configs.last() {
+        None => Ok(ids),
+        Some(last) => union(alloc, last, &ids),
+    }
+}
+
+/// The ids of the last config, where there is one, without the given ones.
+pub fn last_without<ID: Copy + Ord>(
+    alloc: Global,
+    configs: &[BTreeSet<ID>],
+    ids: &BTreeSet<ID>,
+) -> Result<BTreeSet<ID>, AllocError>
+    ensures { IfOk result (λ set.
+        set.keys ≡ without ID.eq (last_config (map (λ c. c.keys) configs.now)) ids.now.keys) }
 {
     match configs.last() {
         None => Ok(BTreeSet::new(alloc)),
-        Some(last) => ids::copy(alloc, last),
+        Some(last) => difference(alloc, last, ids),
     }
 }
 
@@ -70,59 +86,47 @@ pub fn next<ID: Copy + Ord>(
     configs: &[BTreeSet<ID>],
     goal: BTreeSet<ID>,
 ) -> Result<Vec<BTreeSet<ID>>, AllocError>
-    ensures { IfOk result (λ next. map (λ c. c.keys) next.items ≡ next_configs ID.eq (map (λ c. c.keys) configs.now) goal.keys) }
+    ensures { IfOk result (λ next.
+        map (λ c. c.keys) next.items ≡ next_configs ID.eq (map (λ c. c.keys) configs.now) goal.keys) }
 {
     let mut next = Vec::with_capacity(alloc, 2)?;
-    if has_config(configs, &goal) {
-        next.push(goal)?;
-        return Ok(next);
-    }
-    match configs.last() {
-        None => {
-            next.push(goal)?;
-            Ok(next)
-        }
-        Some(last) => {
+    if !has_config(configs, &goal) {
+        if let Some(last) = configs.last() {
             next.push(ids::copy(alloc, last)?)?;
-            next.push(goal)?;
-            Ok(next)
         }
     }
+    next.push(goal)?;
+    Ok(next)
 }
 
 /// The ids of either set.
-pub fn union<ID: Copy + Ord>(
+fn union<ID: Copy + Ord>(
     alloc: Global,
     these: &BTreeSet<ID>,
     others: &BTreeSet<ID>,
 ) -> Result<BTreeSet<ID>, AllocError>
     ensures { IfOk result (λ set. set.keys ≡ united ID.cmp these.now.keys others.now.keys) }
 {
-    let list: Vec<ID> = these.union(others).copied().collect(alloc)?;
-    ids::set_of(alloc, &list)
+    let mut set = BTreeSet::new(alloc);
+    for id in these.union(others) {
+        set.insert(*id)?;
+    }
+    Ok(set)
 }
 
 /// The ids of the first set that the second lacks.
-pub fn difference<ID: Copy + Ord>(
+fn difference<ID: Copy + Ord>(
     alloc: Global,
     these: &BTreeSet<ID>,
     others: &BTreeSet<ID>,
 ) -> Result<BTreeSet<ID>, AllocError>
     ensures { IfOk result (λ set. set.keys ≡ without ID.eq these.now.keys others.now.keys) }
 {
-    ordered_difference(alloc, these, others)
-}
-
-/// The same, of ids that are compared by their order.
-fn ordered_difference<ID: Copy + Ord>(
-    alloc: Global,
-    these: &BTreeSet<ID>,
-    others: &BTreeSet<ID>,
-) -> Result<BTreeSet<ID>, AllocError>
-    ensures { IfOk result (λ set. set.keys ≡ without (eq_by_cmp ID.cmp) these.now.keys others.now.keys) }
-{
-    let list: Vec<ID> = these.difference(others).copied().collect(alloc)?;
-    ids::set_of(alloc, &list)
+    let mut set = BTreeSet::new(alloc);
+    for id in these.difference(others) {
+        set.insert(*id)?;
+    }
+    Ok(set)
 }
 
 /// The same configs.

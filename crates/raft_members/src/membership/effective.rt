@@ -13,7 +13,6 @@ ghost use Rattle.raft_members.specs.Learners.{learners_among, learners_ahead};
 ghost use Rattle.raft_members.specs.Members.{node_at};
 ghost use Rattle.raft_members.specs.Stored.{log_id_of, membership_of};
 
-use super::ids::set_of;
 use super::learner_ids::LearnerIds;
 use super::stored::StoredMembershipOf;
 use super::{Membership, configs};
@@ -76,8 +75,7 @@ impl<C: Copy + Drop, NID: NodeId, N: Node> EffectiveMembershipOf<C, NID, N> {
         let membership = stored.membership();
         let alloc = *membership.get_joint_config().allocator();
         let quorum_set = membership.to_quorum_set()?;
-        let voters = membership.voter_ids()?;
-        let voter_ids = set_of(alloc, &voters)?;
+        let voter_ids = membership.voter_ids()?.into_iter().collect(alloc)?;
         Ok(EffectiveMembershipOf {
             stored_membership: stored,
             quorum_set,

@@ -1,5 +1,5 @@
 //! What gives the nodes of a membership.
-ghost use Rattle.std.specs.Prelude.{◌≡◌, List, IfOk, None, MatchOption};
+ghost use Rattle.std.specs.Prelude.{◌≡◌, List, IfOk, IsOk, IsNone, None, MatchOption};
 ghost use Rattle.std.specs.Set.{is_member};
 ghost use Rattle.raft_members.specs.Members.{node_at};
 ghost use Rattle.raft_members.specs.Defaults.{WithDefault};
@@ -15,14 +15,20 @@ pub trait IntoNodes<NID: NodeId, N: Node>: Sized {
     /// Whether these are the nodes, as entries in the order of their ids.
     ghost gives: { Self → List (NID × N) → Type 0 };
 
+    /// Where no memory is taken, so that nothing can be refused.
+    ghost takes_no_memory: { Self → Type 0 };
+
     /// The nodes.
     fn into_nodes(self, alloc: Global) -> Result<BTreeMap<NID, N>, AllocError>
-        ensures { IfOk result (λ nodes. gives self nodes.entries) };
+        ensures nodes { IfOk result (λ nodes. gives self nodes.entries) }
+        ensures made { takes_no_memory self → IsOk result };
 }
 
 /// No nodes.
 impl<NID: NodeId, N: Node> IntoNodes<NID, N> for () {
     ghost gives = { λ _ nodes. (id : NID) → node_at NID.cmp nodes id ≡ None };
+
+    ghost takes_no_memory = { λ _. Unit {0} };
 
     fn into_nodes(self, alloc: Global) -> Result<BTreeMap<NID, N>, AllocError> {
         Ok(BTreeMap::new(alloc))
@@ -33,6 +39,8 @@ impl<NID: NodeId, N: Node> IntoNodes<NID, N> for () {
 impl<NID: NodeId, N: Node> IntoNodes<NID, N> for BTreeSet<NID> {
     ghost gives = { λ ids nodes. (id : NID) → WithDefault N.is_default_node None (is_member NID.eq ids.keys id) (node_at NID.cmp nodes id) };
 
+    ghost takes_no_memory = { λ _. ⊥ };
+
     fn into_nodes(self, alloc: Global) -> Result<BTreeMap<NID, N>, AllocError> {
         let ids = list_of(alloc, &self)?;
         with_defaults(BTreeMap::new(alloc), alloc, &ids)
@@ -42,6 +50,8 @@ impl<NID: NodeId, N: Node> IntoNodes<NID, N> for BTreeSet<NID> {
 /// A default node at each id, where there is a set.
 impl<NID: NodeId, N: Node> IntoNodes<NID, N> for Option<BTreeSet<NID>> {
     ghost gives = { λ given nodes. MatchOption given ((id : NID) → node_at NID.cmp nodes id ≡ None) (λ ids. (id : NID) → WithDefault N.is_default_node None (is_member NID.eq ids.keys id) (node_at NID.cmp nodes id)) };
+
+    ghost takes_no_memory = { λ given. IsNone given };
 
     fn into_nodes(self, alloc: Global) -> Result<BTreeMap<NID, N>, AllocError> {
         match self {
@@ -54,6 +64,8 @@ impl<NID: NodeId, N: Node> IntoNodes<NID, N> for Option<BTreeSet<NID>> {
 /// The nodes themselves.
 impl<NID: NodeId, N: Node> IntoNodes<NID, N> for BTreeMap<NID, N> {
     ghost gives = { λ given nodes. nodes ≡ given.entries };
+
+    ghost takes_no_memory = { λ _. Unit {0} };
 
     fn into_nodes(self, _alloc: Global) -> Result<BTreeMap<NID, N>, AllocError> {
         Ok(self)

@@ -8,7 +8,7 @@ ghost use Rattle.std.specs.Set.{ClonesAreEqual, is_member};
 ghost use Rattle.std.specs.BTreeMap.{get, insert_entry, is_at};
 ghost use Rattle.std.specs.BTreeSet.{contains};
 ghost use Rattle.raft_members.specs.Valid.{lesser, FirstWithoutNode};
-ghost use Rattle.raft_members.specs.Change.{stays};
+ghost use Rattle.raft_members.specs.Change.{keeps_node};
 
 use super::configs::has_id;
 use raft_base::{Node, NodeId};
@@ -24,8 +24,8 @@ pub fn kept<NID: NodeId, N: Node>(
     retain: bool,
 ) -> Result<BTreeMap<NID, N>, AllocError>
     requires { ClonesAreEqual N.eq N.is_clone }
-    ensures nodes { IfOk result (λ n. (q : NID) → IsTrue (option_eq N.eq (get NID.cmp n q) (cond (stays NID.eq (map (λ s. s.keys) old.now) (map (λ s. s.keys) new.now) retain q) (get NID.cmp nodes.now q) None))) }
-    ensures entries { IfOk result (λ n. IsTrue (same_nodes NID.eq N.eq (filter (λ e. stays NID.eq (map (λ s. s.keys) old.now) (map (λ s. s.keys) new.now) retain e.0) nodes.now.entries) n.entries)) }
+    ensures nodes { IfOk result (λ n. (q : NID) → IsTrue (option_eq N.eq (get NID.cmp n q) (cond (keeps_node NID.eq (map (λ s. s.keys) old.now) (map (λ s. s.keys) new.now) retain q) (get NID.cmp nodes.now q) None))) }
+    ensures entries { IfOk result (λ n. IsTrue (same_nodes NID.eq N.eq (filter (λ e. keeps_node NID.eq (map (λ s. s.keys) old.now) (map (λ s. s.keys) new.now) retain e.0) nodes.now.entries) n.entries)) }
 {
     let mut kept = BTreeMap::new(alloc);
     for (id, node) in nodes.iter() {
@@ -43,7 +43,7 @@ fn is_kept<NID: NodeId>(
     retain: bool,
     id: &NID,
 ) -> bool
-    ensures { result ≡ stays NID.eq (map (λ s. s.keys) old.now) (map (λ s. s.keys) new.now) retain id.now }
+    ensures { result ≡ keeps_node NID.eq (map (λ s. s.keys) old.now) (map (λ s. s.keys) new.now) retain id.now }
 {
     let was = has_id(old, id);
     let is = has_id(new, id);
@@ -94,20 +94,26 @@ pub fn added<NID: NodeId, N: Node>(
     Ok(added)
 }
 
-/// Takes the nodes at the ids away.
-pub fn remove_all<NID: NodeId, N: Node>(nodes: &mut BTreeMap<NID, N>, ids: &BTreeSet<NID>)
-    ensures { (q : NID) → get NID.cmp nodes.new q ≡ cond (contains NID.cmp ids.now q) None (get NID.cmp nodes.old q) }
+/// The nodes of the first map, and those of the second whose ids have none there. None is cloned.
+pub fn merged<NID: NodeId, N: Node>(
+    mut first: BTreeMap<NID, N>,
+    mut second: BTreeMap<NID, N>,
+) -> Result<BTreeMap<NID, N>, AllocError>
+    ensures { IfOk result (λ nodes.
+        (id : NID) → get NID.cmp nodes id ≡ option_or (get NID.cmp first id) (get NID.cmp second id)) }
 {
-    for id in ids.iter() {
-        remove_one(nodes, id);
-    }
+    second.append(&mut first)?;
+    Ok(second)
 }
 
-/// Takes the node at the id away.
-fn remove_one<NID: NodeId, N: Node>(nodes: &mut BTreeMap<NID, N>, id: &NID)
-    ensures { (q : NID) → get NID.cmp nodes.new q ≡ cond (is_at (NID.cmp id.now) q) None (get NID.cmp nodes.old q) }
+/// Takes the nodes at the ids away.
+pub fn remove_all<NID: NodeId, N: Node>(nodes: &mut BTreeMap<NID, N>, ids: &BTreeSet<NID>)
+    ensures { (q : NID) →
+        get NID.cmp nodes.new q ≡ cond (contains NID.cmp ids.now q) None (get NID.cmp nodes.old q) }
 {
-    let _gone = nodes.remove(id);
+    for id in ids.iter() {
+        let _gone = nodes.remove(id);
+    }
 }
 
 /// The lesser of two ids, where there are two.

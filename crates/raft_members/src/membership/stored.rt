@@ -1,5 +1,5 @@
 //! A membership that a log entry stored.
-ghost use Rattle.std.specs.Prelude.{◌≡◌, None, [], IfOk, IsTrue};
+ghost use Rattle.std.specs.Prelude.{◌≡◌, None, [], IfOk, IsOkAnd, IsTrue};
 ghost use Rattle.std.specs.Map.{keys_of};
 ghost use Rattle.std.specs.List.Sorted.{IsStrictlySortedBy};
 ghost use Rattle.std.specs.Set.{ClonesAreEqual, is_member};
@@ -34,10 +34,11 @@ impl<C: Copy, NID: NodeId, N: Node> StoredMembershipOf<C, NID, N> {
     }
 
     /// The membership without configs and nodes under no log id, in place of a `Default`, which has
-    /// no allocator.
+    /// no allocator. No memory is taken.
     pub fn try_default(alloc: Global) -> Result<Self, AllocError>
-        ensures log_id { IfOk result (λ stored. log_id_of stored ≡ None) }
-        ensures membership { IfOk result (λ stored. membership_of stored ≡ record { configs = []; nodes = [] }) }
+        ensures log_id { IsOkAnd result (λ stored. log_id_of stored ≡ None) }
+        ensures membership { IsOkAnd result (λ stored.
+            membership_of stored ≡ record { configs = []; nodes = [] }) }
     {
         let membership = Membership::try_default(alloc)?;
         Ok(StoredMembershipOf::new(None, membership))

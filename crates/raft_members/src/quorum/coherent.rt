@@ -5,9 +5,8 @@ use std::alloc::{AllocError, Global};
 
 /// Quorum sets that share a child.
 ///
-/// Where they are majorities, every quorum of the one then shares a voter with every quorum of the
-/// other. A cluster may go from one to another only if they are coherent, so that nothing which the
-/// one decided is lost on the other.
+/// Where the children are configs, every quorum of the one then shares a voter with every quorum of
+/// the other (`laws::coherent_quorums_meet`), so that a cluster may go from the one to the other.
 pub trait Coherent<ID, Other> {
     /// Whether two share a child, by its own `==`.
     ghost is_coherent: { Self → Other → Bool };
@@ -17,7 +16,7 @@ pub trait Coherent<ID, Other> {
         ensures { result ≡ is_coherent self.now other.now };
 }
 
-/// A quorum set from which another one can be reached by coherent steps.
+/// A quorum set from which another one can be reached by steps.
 pub trait FindCoherent<ID, Other>: Sized {
     /// What has to hold of the clones that are made.
     ghost clones_are_equal: { Type 0 };
@@ -25,11 +24,7 @@ pub trait FindCoherent<ID, Other>: Sized {
     /// What stands next on the way to the goal.
     ghost is_next: { Self → Other → Self → Type 0 };
 
-    /// The quorum set that stands next on the way to the goal: it shares a child with this one, where
-    /// that has one, and has the goal as a child.
-    ///
-    /// The goal alone where it is a child or there are no children, else the last child and the
-    /// goal. Asked twice for the same goal, it answers the goal alone the second time.
+    /// The quorum set that stands next on the way to the goal.
     fn find_coherent(&self, alloc: Global, goal: Other) -> Result<Self, AllocError>
         requires { clones_are_equal }
         ensures { IfOk result (is_next self.now goal) };

@@ -1,8 +1,7 @@
 //! Joints that share a child, and the way from one joint to another.
-ghost use Rattle.std.specs.Prelude.{◌≡◌, IfOk, IsTrue};
+ghost use Rattle.std.specs.Prelude.{◌≡◌, IfOk};
 ghost use Rattle.std.specs.Set.{ClonesAreEqual};
-ghost use Rattle.std.specs.Cmp.Lexicographic.{pointwise};
-ghost use Rattle.raft_members.specs.Coherence.{has_child, share_child, next_children};
+ghost use Rattle.raft_members.specs.Coherence.{has_child, share_child, next_children, IsNext};
 
 use super::coherent::{Coherent, FindCoherent};
 use super::joint::Joint;
@@ -38,11 +37,14 @@ impl<ID: Copy + Ord, QS: QuorumSet<ID> + Eq> Coherent<ID, QS> for Joint<ID, QS, 
     }
 }
 
+/// The goal alone stands next where it is a child or there are no children, else the last child and
+/// the goal. So the next joint shares a child with this one, where that has one, and has the goal as
+/// a child; and from it the goal alone stands next.
 impl<ID: Copy + Ord, QS: QuorumSet<ID> + Clone + Eq + Drop> FindCoherent<ID, QS>
     for Joint<ID, QS, Vec<QS>> {
     ghost clones_are_equal = { ClonesAreEqual QS.eq QS.is_clone };
 
-    ghost is_next = { λ a goal b. IsTrue (pointwise QS.eq (next_children QS.eq a.items goal) b.items) };
+    ghost is_next = { λ a goal b. IsNext QS.eq a.items goal b.items };
 
     fn find_coherent(&self, alloc: Global, goal: QS) -> Result<Self, AllocError> {
         let children = next_children(alloc, self.children(), goal)?;
@@ -71,7 +73,7 @@ fn next_children<QS: Clone + Eq + Drop>(
     goal: QS,
 ) -> Result<Vec<QS>, AllocError>
     requires { ClonesAreEqual QS.eq QS.is_clone }
-    ensures { IfOk result (λ next. IsTrue (pointwise QS.eq (next_children QS.eq children.now goal) next.items)) }
+    ensures { IfOk result (λ next. IsNext QS.eq children.now goal next.items) }
 {
     let mut next = Vec::with_capacity(alloc, 2)?;
     if !has_child(children, &goal) {

@@ -1,5 +1,5 @@
 //! Several quorum sets as one.
-ghost use Rattle.std.specs.Prelude.{◌≡◌, [], IfOk, IsTrue};
+ghost use Rattle.std.specs.Prelude.{◌≡◌, [], IfOk, IsOkAnd, IsTrue};
 ghost use Rattle.std.specs.Set.{ClonesAreEqual};
 ghost use Rattle.std.specs.Cmp.Lexicographic.{pointwise};
 
@@ -53,9 +53,10 @@ impl<ID, QS> Joint<ID, QS, Vec<QS>> {
         Joint::new(children)
     }
 
-    /// The joint without children, in place of a `Default`, which has no allocator.
+    /// The joint without children, in place of a `Default`, which has no allocator. No memory is
+    /// taken.
     pub fn try_default(alloc: Global) -> Result<Self, AllocError>
-        ensures { IfOk result (λ joint. joint.items ≡ []) }
+        ensures { IsOkAnd result (λ joint. joint.items ≡ []) }
     {
         Ok(Joint::new(Vec::new(alloc)))
     }
@@ -75,7 +76,7 @@ impl<ID, QS: Clone + Eq + Drop> Joint<ID, QS, Vec<QS>> {
 impl<'a, ID, QS> Joint<ID, QS, &'a [QS]> {
     /// The joint of the same slice. No memory is taken.
     pub fn try_clone(&self) -> Result<Self, AllocError>
-        ensures { IfOk result (λ joint. joint ≡ self.now) }
+        ensures { IsOkAnd result (λ joint. joint ≡ self.now) }
     {
         Ok(Joint::new(self.children))
     }

@@ -7,7 +7,7 @@ ghost use Rattle.raft_members.specs.MajorityLaws.{list_all-weaker};
 
 use super::joint::Joint;
 use super::quorum_set::QuorumSet;
-use super::quorum_set_impl::sorted_ids;
+use super::quorum_set_impl::sorted;
 use std::alloc::{AllocError, Global};
 
 /// A quorum in every child; without children every set is a quorum.
@@ -69,5 +69,5 @@ pub(crate) fn ids_of_each<ID: Copy + Ord, QS: QuorumSet<ID>>(
         let mut ids = child.ids(alloc)?;
         all.append(&mut ids)?;
     }
-    sorted_ids(alloc, &all)
+    Ok(sorted(all))
 }

@@ -1,6 +1,6 @@
 //! Lists and sets of voters as quorum sets: a quorum has more than half of the voters. Shared quorum
 //! sets.
-ghost use Rattle.std.specs.Prelude.{◌≡◌, IfOk, count_by};
+ghost use Rattle.std.specs.Prelude.{◌≡◌, IfOk, count_by, nat_lt};
 ghost use Rattle.std.specs.List.{IsDistinct, list_any};
 ghost use Rattle.std.specs.Set.{is_member};
 ghost use Rattle.std.specs.BTreeSet.{contains_by};
@@ -26,7 +26,7 @@ impl<ID: Copy + Ord> QuorumSet<ID> for Vec<ID> {
     }
 
     fn ids(&self, alloc: Global) -> Result<Vec<ID>, AllocError> {
-        sorted_ids(alloc, self)
+        sorted_copies(alloc, self)
     }
 }
 
@@ -43,7 +43,7 @@ impl<'a, ID: Copy + Ord> QuorumSet<ID> for &'a [ID] {
     }
 
     fn ids(&self, alloc: Global) -> Result<Vec<ID>, AllocError> {
-        sorted_ids(alloc, self)
+        sorted_copies(alloc, self)
     }
 }
 
@@ -56,7 +56,7 @@ impl<ID: Copy + Ord> QuorumSet<ID> for BTreeSet<ID> {
     ghost superset = { λ c. is_majority-superset ID.eq c.keys };
 
     fn is_quorum(&self, ids: &[ID]) -> bool {
-        count_in_set(self, ids) > self.len() / 2
+        exceeds_in_set(self, ids, self.len() / 2)
     }
 
     fn ids(&self, alloc: Global) -> Result<Vec<ID>, AllocError> {
@@ -84,39 +84,61 @@ impl<ID: Copy + Ord, T: QuorumSet<ID> + Drop> QuorumSet<ID> for Rc<T> {
 /// Whether more than half of the voters are among the ids.
 // Half of the length, and not twice the count: the count could not be doubled at every length.
 fn has_majority<ID: Copy + Ord>(voters: &[ID], ids: &[ID]) -> bool
-    ensures { IsDistinct ID.eq ids.now → result ≡ is_majority ID.eq voters.now (is_member ID.eq ids.now) }
+    ensures { IsDistinct ID.eq ids.now →
+        result ≡ is_majority ID.eq voters.now (is_member ID.eq ids.now) }
 {
-    count_voters(voters, ids) > voters.len() / 2
+    exceeds_in_list(voters, ids, voters.len() / 2)
 }
 
-/// How many of the ids are voters, repeated ones each time.
-fn count_voters<ID: Copy + Ord>(voters: &[ID], ids: &[ID]) -> usize
-    ensures { result ≡ count_by (λ x. list_any (λ y. ID.eq y x) voters.now) ids.now }
+/// Whether more than `limit` of the ids are among the voters, repeated ones each time. It stops at
+/// the first id that is one too many.
+fn exceeds_in_list<ID: Copy + Ord>(voters: &[ID], ids: &[ID], limit: usize) -> bool
+    ensures { result ≡ nat_lt limit (count_by (λ x. list_any (λ y. ID.eq y x) voters.now) ids.now) }
 {
-    ids.iter().filter(|id| voters.contains(id)).count()
+    let mut found = 0;
+    for id in ids {
+        if voters.contains(id) {
+            if found == limit {
+                return true;
+            }
+            found += 1;
+        }
+    }
+    false
 }
 
-/// How many of the ids are in the set, repeated ones each time.
-fn count_in_set<ID: Copy + Ord>(set: &BTreeSet<ID>, ids: &[ID]) -> usize
-    ensures { result ≡ count_by (λ x. contains_by (ID.cmp x) set.now) ids.now }
+/// The same, where the voters are a set.
+fn exceeds_in_set<ID: Copy + Ord>(voters: &BTreeSet<ID>, ids: &[ID], limit: usize) -> bool
+    ensures { result ≡ nat_lt limit (count_by (λ x. contains_by (ID.cmp x) voters.now) ids.now) }
 {
-    ids.iter().filter(|id| set.contains(*id)).count()
-}
-
-/// The ids, as they stand.
-fn copied<ID: Copy>(alloc: Global, ids: &[ID]) -> Result<Vec<ID>, AllocError>
-    ensures { IfOk result (λ found. found.items ≡ ids.now) }
-{
-    ids.iter().copied().collect(alloc)
+    let mut found = 0;
+    for id in ids {
+        if voters.contains(id) {
+            if found == limit {
+                return true;
+            }
+            found += 1;
+        }
+    }
+    false
 }
 
 /// The ids in order, each once.
-pub(crate) fn sorted_ids<ID: Copy + Ord>(alloc: Global, ids: &[ID]) -> Result<Vec<ID>, AllocError>
-    ensures ascending { IfOk result (λ found. IsStrictlySortedBy ID.cmp found.items) }
-    ensures members { IfOk result (λ found. (x : ID) → is_member ID.eq found.items x ≡ is_member ID.eq ids.now x) }
+pub(crate) fn sorted<ID: Copy + Ord>(mut ids: Vec<ID>) -> Vec<ID>
+    ensures ascending { IsStrictlySortedBy ID.cmp result.items }
+    ensures members { (x : ID) → is_member ID.eq result.items x ≡ is_member ID.eq ids.items x }
 {
-    let mut found = copied(alloc, ids)?;
-    found.sort_unstable();
-    found.dedup();
-    Ok(found)
+    ids.sort_unstable();
+    ids.dedup();
+    ids
+}
+
+/// Copies of the ids, in order, each once.
+fn sorted_copies<ID: Copy + Ord>(alloc: Global, ids: &[ID]) -> Result<Vec<ID>, AllocError>
+    ensures ascending { IfOk result (λ found. IsStrictlySortedBy ID.cmp found.items) }
+    ensures members { IfOk result (λ found.
+        (x : ID) → is_member ID.eq found.items x ≡ is_member ID.eq ids.now x) }
+{
+    let copies: Vec<ID> = ids.iter().copied().collect(alloc)?;
+    Ok(sorted(copies))
 }

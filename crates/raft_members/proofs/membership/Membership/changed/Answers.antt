@@ -1,26 +1,26 @@
 use Rattle.std.proofs.Common.{◌≡◌, ◌∙◌, ap, map}
 use Rattle.std.specs.Option.{option_or}
 use Rattle.std.specs.BTreeMap.{get, keys}
-use Rattle.raft_members.specs.Change.{united, without, with_nodes, last_config}
-use Rattle.raft_members.specs.Members.{members_of, node_at}
-use Rattle.raft_members.proofs.Said.{next_shown}
+use Rattle.raft_members.specs.Change.{united, without, last_config, next_members}
+use Rattle.raft_members.specs.Members.{members_of, node_at, Says}
+use Rattle.raft_members.proofs.SaysLemmas.{more_says, in_both}
 use Rattle.raft_members.proofs.membership.Membership.changed.Goals as goal
 
-pub returns-in_ok-next_coherent-in-AddVoterIds : goal.returns-in_ok-next_coherent-in-AddVoterIds
-returns-in_ok-next_coherent-in-AddVoterIds g c =
-    let l = ap (λ xs. last_config (map (λ s. s.keys) xs)) c.deref.ensures.value ∙ ap (λ m. last_config m.configs) c.self.view_is in
-    let e : c.in_ok-goal-in-AddVoterIds.goal.keys ≡ united g.NID.Ord.cmp (last_config c.args.self.now.configs) c.in-AddVoterIds.ids.keys = c.in_ok-goal-in-AddVoterIds.ensures ∙ ap (λ l. united g.NID.Ord.cmp l c.in-AddVoterIds.ids.keys) (c.in_ok-last-in-AddVoterIds.ensures ∙ l) in
-    rw (c.in-AddVoterIds.is, ← e) c.in_ok-next_coherent-in-AddVoterIds.ensures
+pub returns-in_ok-next-in-AddVoters : goal.returns-in_ok-next-in-AddVoters
+returns-in_ok-next-in-AddVoters g c =
+    let m = members_of g.NID.Ord.cmp c.args.self.now in
+    let nodes = c.in-AddVoters.nodes in
+    let next = c.in_ok-next-in-AddVoters.next in
+    let last = ap (λ xs. last_config (map (λ s. s.keys) xs)) c.deref-in-AddVoters.ensures.value ∙ ap (λ l. last_config l.configs) c.self.view_is in
+    let goal_is : c.in_ok-goal-in-AddVoters.goal.keys ≡ united g.NID.Ord.cmp (last_config m.configs) (keys nodes) = c.in_ok-goal-in-AddVoters.ensures ∙ (λ i. united g.NID.Ord.cmp (last i) (c.in_ok-ids-in-AddVoters.ensures i)) in
+    let stands : Says g.N.PartialEq.eq g.NID.Ord.cmp next (next_members g.NID.PartialEq.eq m (united g.NID.Ord.cmp (last_config m.configs) (keys nodes)) c.args.retain) = rw goal_is at c.in_ok-next-in-AddVoters.ensures in
+    rw c.in-AddVoters.is (in_both c.with_more.result (λ r. r.configs ≡ next.configs)
+    (λ r. (id : g.row.NID.Denot) → node_at g.NID.Ord.cmp r.nodes id ≡ option_or (node_at g.NID.Ord.cmp next.nodes id) (get g.NID.Ord.cmp nodes id)) _
+    (λ r configs each. more_says g.met.NID.Eq.laws g.NID.Ord.cmp g.met.NID.Ord.matches_eq g.met.N.Eq.laws m nodes c.args.retain next r stands configs each)
+    c.with_more.ensures.configs c.with_more.ensures.nodes)
 
-pub returns-in_ok-next_coherent-in-AddVoters : goal.returns-in_ok-next_coherent-in-AddVoters
-returns-in_ok-next_coherent-in-AddVoters g c =
-    let w = with_nodes (members_of g.NID.Ord.cmp c.args.self.now) (λ q. option_or (node_at g.NID.Ord.cmp c.args.self.now.nodes q) (get g.NID.Ord.cmp c.in-AddVoters.nodes q)) in
-    let l = ap (λ xs. last_config (map (λ s. s.keys) xs)) c.deref-in-AddVoters.ensures.value ∙ ap (λ m. last_config m.configs) c.self.view_is in
-    let e : c.in_ok-goal-in-AddVoters.goal.keys ≡ united g.NID.Ord.cmp (last_config c.args.self.now.configs) (keys c.in-AddVoters.nodes) = c.in_ok-goal-in-AddVoters.ensures ∙ (λ i. united g.NID.Ord.cmp ((c.in_ok-last-in-AddVoters.ensures ∙ l) i) (c.in_ok-ids-in-AddVoters.ensures i)) in
-    rw (c.in-AddVoters.is, ← e) (next_shown g.met.N.Eq.laws g.NID.PartialEq.eq g.NID.Ord.cmp c.in_ok-widened-in-AddVoters.widened c.in_ok-next_coherent-in-AddVoters.field-0 w c.in_ok-goal-in-AddVoters.goal.keys c.args.retain c.in_ok-widened-in-AddVoters.ensures c.in_ok-next_coherent-in-AddVoters.ensures)
-
-pub returns-in_ok-next_coherent-in-RemoveVoters : goal.returns-in_ok-next_coherent-in-RemoveVoters
-returns-in_ok-next_coherent-in-RemoveVoters g c =
-    let l = ap (λ xs. last_config (map (λ s. s.keys) xs)) c.deref-in-RemoveVoters.ensures.value ∙ ap (λ m. last_config m.configs) c.self.view_is in
-    let e : c.in_ok-goal-in-RemoveVoters.goal.keys ≡ without g.NID.PartialEq.eq (last_config c.args.self.now.configs) c.in-RemoveVoters.ids.keys = c.in_ok-goal-in-RemoveVoters.ensures ∙ ap (λ l. without g.NID.PartialEq.eq l c.in-RemoveVoters.ids.keys) (c.in_ok-last-in-RemoveVoters.ensures ∙ l) in
-    rw (c.in-RemoveVoters.is, ← e) c.in_ok-next_coherent-in-RemoveVoters.ensures
+pub returns-in_ok-goal-in-RemoveVoters : goal.returns-in_ok-goal-in-RemoveVoters
+returns-in_ok-goal-in-RemoveVoters g c =
+    let last = ap (λ xs. last_config (map (λ s. s.keys) xs)) c.deref-in-RemoveVoters.ensures.value ∙ ap (λ m. last_config m.configs) c.self.view_is in
+    let goal_is : c.in_ok-goal-in-RemoveVoters.goal.keys ≡ without g.NID.PartialEq.eq (last_config c.args.self.now.configs) c.in-RemoveVoters.ids.keys = c.in_ok-goal-in-RemoveVoters.ensures ∙ ap (λ l. without g.NID.PartialEq.eq l c.in-RemoveVoters.ids.keys) last in
+    rw (c.in-RemoveVoters.is, ← goal_is) c.next_coherent-in-RemoveVoters.ensures

@@ -1,7 +1,7 @@
 use Rattle.std.proofs.Common.{List, IsTrue, subst}
 use Rattle.std.specs.Prelude.{IfOk}
 use Rattle.raft_members.specs.Members.{same_nodes}
-use Rattle.raft_members.proofs.Kept.{filter-true}
+use Rattle.raft_members.proofs.KeptLemmas.{filter-true}
 use Rattle.raft_members.proofs.membership.nodes.copy.Goals as goal
 
 pub returns-clause-entries : goal.returns-clause-entries

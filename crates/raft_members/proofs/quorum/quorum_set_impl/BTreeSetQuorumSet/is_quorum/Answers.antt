@@ -1,13 +1,13 @@
 use Rattle.std.proofs.Common.{ltb, ap, ◌∙◌, ◌/◌}
 use Rattle.std.specs.List.{count_by}
 use Rattle.std.specs.BTreeSet.{contains_by}
-use Rattle.raft_members.proofs.MajorityCounts.{set_majority}
+use Rattle.raft_members.proofs.MajorityLemmas.{set_majority}
 use Rattle.raft_members.proofs.quorum.quorum_set_impl.BTreeSetQuorumSet.is_quorum.Goals as goal
 
 pub returns : goal.returns
 returns g c = record {
   quorum = λ d.
-      ap (λ n. ltb (c.len.result / 2) n) c.count_in_set.ensures
+      c.exceeds_in_set.ensures
       ∙ ap (λ n. ltb (n / 2) (count_by (λ x. contains_by (g.ID.Ord.cmp x) c.args.self.now) c.args.ids.now)) c.len.ensures.len
       ∙ set_majority g.met.ID.Eq.laws g.ID.Ord.cmp g.met.ID.Ord.matches_eq c.args.ids.now c.args.self.now.keys d;
 }

@@ -6,7 +6,7 @@ use Rattle.std.specs.Cmp.{IsTotalOrder}
 use Rattle.std.specs.Map.{lookup}
 use Rattle.std.specs.BTreeMap.{is_at}
 use Rattle.std.proofs.lemmas.Cmp.{eq_by_cmp_equiv}
-use Rattle.raft_members.proofs.Added.{alike_at}
+use Rattle.raft_members.proofs.AddedLemmas.{alike_at}
 use Rattle.raft_members.specs.Defaults.{WithDefault}
 
 module _ {N : Type 0} (is_default : N → Type 0) where

@@ -3,8 +3,8 @@ use Rattle.std.specs.Set.{is_member}
 use Rattle.std.proofs.lemmas.List.Filters.{dedup_is}
 use Rattle.std.proofs.lemmas.List.Kept.{IsStrictlySortedBy-dedup}
 use Rattle.std.proofs.lemmas.List.Sorted.{list_any-IsPermutation}
-use Rattle.raft_members.proofs.MajorityCounts.{is_member-dedup}
-use Rattle.raft_members.proofs.quorum.quorum_set_impl.sorted_ids.Goals as goal
+use Rattle.raft_members.proofs.MajorityLemmas.{is_member-dedup}
+use Rattle.raft_members.proofs.quorum.quorum_set_impl.sorted.Goals as goal
 
 pub returns-clause-ascending : goal.returns-clause-ascending
 returns-clause-ascending g c =
@@ -15,4 +15,3 @@ returns-clause-members g c = λ x.
     ap (λ ks. is_member g.ID.PartialEq.eq ks x) (dedup_is _ _ _ c.dedup.ensures.filtered)
     ∙ is_member-dedup g.met.ID.Eq.laws _ x
     ∙ sym (list_any-IsPermutation (g.ID.PartialEq.eq x) _ _ c.sort_unstable.ensures.permutation)
-    ∙ ap (λ ks. is_member g.ID.PartialEq.eq ks x) c.in_ok-found.ensures

@@ -10,14 +10,8 @@ use Rattle.std.proofs.lemmas.List.Sums.{length-filter}
 use Rattle.raft_members.specs.Majority.{is_majority, is_joint_majority, is_voter_of}
 use Rattle.raft_members.specs.Coherence.{has_config, is_coherent}
 use Rattle.raft_members.specs.Meeting.{ShareMember, MajorityHasVoter, QuorumsMeet, CoherentQuorumsMeet}
-use Rattle.raft_members.proofs.MajorityCounts.{is_member-alike, is_member-unique_keys}
-
-pub left_true : (a b : Bool) → a ≡ true → (a || b) ≡ true
-left_true a b h = rw h refl
-
-pub right_true : (a b : Bool) → b ≡ true → (a || b) ≡ true
-right_true true b h = refl
-right_true false b h = h
+use Rattle.raft_members.proofs.MajorityLemmas.{is_member-alike, is_member-unique_keys}
+use Rattle.raft_members.proofs.NextLemmas.{left_true, right_true, equal_right}
 
 share : (n a b m : ℕ) → n < 2 * a → n < 2 * b → m ≤ n → m < a + b
 share n a b m h k l = omega arith
@@ -54,14 +48,11 @@ module _ {K : Type 0} {e : K → K → Bool} (laws : IsEquivalence e) where
 
   -- ---- a config that equals another
 
-  right : (q x y : K) → e x y ≡ true → e q x ≡ e q y
-  right q x y h = laws.symm q x ∙ laws.congr x y q h ∙ laws.symm y q
-
   pub same_members : (c d : List K) (q : K) → pointwise e c d ≡ true → is_member e c q ≡ is_member e d q
   same_members [] [] q h = refl
   same_members [] (y ∷ ys) q h = cc
   same_members (x ∷ xs) [] q h = cc
-  same_members (x ∷ xs) (y ∷ ys) q h = λ i. right q x y (first_so _ _ h) i || same_members xs ys q (second_so _ _ h) i
+  same_members (x ∷ xs) (y ∷ ys) q h = λ i. equal_right laws q x y (first_so _ _ h) i || same_members xs ys q (second_so _ _ h) i
 
   module _ (s : K → Bool) (r : (x y : K) → e x y ≡ true → s x ≡ s y) where
     add : (b d : Bool) (x y : K) (f g : List K) → b ≡ d → length f ≡ length g → length (cond b (x ∷ f) f) ≡ length (cond d (y ∷ g) g)

@@ -5,6 +5,7 @@ use Rattle.std.specs.Cmp.{IsEquivalence}
 use Rattle.std.specs.Ordering.{eq_by_cmp}
 use Rattle.std.specs.declared.cmp.Ordering.{Ordering}
 use Rattle.std.specs.BTreeMap.{is_at}
+use Rattle.std.specs.BTreeSet.{BTreeSet, IsFromIterResult}
 use Rattle.std.specs.List.{IsDistinct, AllByRecursion, list_any, dedup, dedup_from}
 use Rattle.std.proofs.Common.{arith, sym, ap, refl, ◌∙◌, true≢false, ltb, ltb-true, lt-ltb, ◌/◌}
 use Rattle.std.proofs.lemmas.Bool.{ltb_from_iff}
@@ -110,3 +111,7 @@ module _ {K : Type 0} {eq : K → K → Bool} (laws : IsEquivalence eq) where
     where
       count_same : (zs : List K) → count_by (λ x. list_any (is_at (cmp x)) voters) zs ≡ count_by (λ x. is_member eq voters x) zs
       count_same zs = ap (λ (f : K → Bool). count_by f zs) (λ i x. in_set cmp ties x voters i)
+
+  -- a set that a list was collected into has its members
+  pub is_member-collected : (cmp : K → K → Ordering) (ties : (x y : K) → eq x y ≡ eq_by_cmp cmp x y) (xs : List K) (set : BTreeSet K) → IsFromIterResult cmp xs set → (x : K) → is_member eq set.keys x ≡ is_member eq xs x
+  is_member-collected cmp ties xs set made x = sym (in_set cmp ties x set.keys) ∙ made.0 x ∙ in_set cmp ties x xs

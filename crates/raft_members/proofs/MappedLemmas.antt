@@ -1,5 +1,5 @@
 -- Configs that are seen by their keys.
-use Rattle.std.specs.Prelude.{◌≡◌, ℕ, Bool, true, false, cond, ◌||◌, List, [], ◌∷◌, map, length, ◌-◌, Some, None, refl}
+use Rattle.std.specs.Prelude.{◌≡◌, ℕ, Bool, true, false, ◌||◌, List, [], ◌∷◌, map, length, ◌-◌, Some, None, refl}
 use Rattle.std.proofs.Common.{sym, ◌∙◌, ap}
 use Rattle.std.specs.Prelude.{◌+◌, ◌<◌, take}
 use Rattle.std.proofs.Common.{get_or}
@@ -9,7 +9,6 @@ use Rattle.std.specs.List.{list_any, list_all, slice_get}
 use Rattle.std.specs.Option.{option_map}
 use Rattle.std.proofs.lemmas.Option.{slice_get-map}
 use Rattle.std.proofs.lemmas.List.{length-map}
-use Rattle.raft_members.specs.Coherence.{next_children}
 use Rattle.std.specs.Prelude.{◌&&◌}
 use Rattle.std.specs.Cmp.Lexicographic.{pointwise}
 use Rattle.std.specs.Set.{is_member}
@@ -27,19 +26,8 @@ module _ {X Y : Type 0} (f : X → Y) where
   pub last-map : (xs : List X) (x : X) → Some x ≡ slice_get xs (length xs - 1) → slice_get (map f xs) (length (map f xs) - 1) ≡ Some (f x)
   last-map xs x h = ap (λ n. slice_get (map f xs) (n - 1)) (length-map xs f) ∙ slice_get-map f xs (length xs - 1) ∙ ap (option_map f) (sym h)
 
-module _ {Q : Type 0} (eq : Q → Q → Bool) (cs : List Q) (goal : Q) where
-  pub next_if_has : list_any (λ c. eq c goal) cs ≡ true → next_children eq cs goal ≡ goal ∷ []
-  next_if_has h = rw h refl
-
-  pub next_if_lacks : (c : Q) → list_any (λ c. eq c goal) cs ≡ false → slice_get cs (length cs - 1) ≡ Some c → next_children eq cs goal ≡ c ∷ goal ∷ []
-  next_if_lacks c h e = rw (h, e) refl
-
-  pub next_if_none : slice_get cs (length cs - 1) ≡ None → next_children eq cs goal ≡ goal ∷ []
-  next_if_none e = rw e (either (list_any (λ c. eq c goal) cs))
-    where
-      either : (b : Bool) → cond b (goal ∷ []) (goal ∷ []) ≡ goal ∷ []
-      either true = refl
-      either false = refl
+  pub last_none-map : (xs : List X) → None ≡ slice_get xs (length xs - 1) → slice_get (map f xs) (length (map f xs) - 1) ≡ None
+  last_none-map xs h = ap (λ n. slice_get (map f xs) (n - 1)) (length-map xs f) ∙ slice_get-map f xs (length xs - 1) ∙ ap (option_map f) (sym h)
 
 pub pointwise-map : {X Y : Type 0} (f : X → Y) (e : Y → Y → Bool) (xs ys : List X) → pointwise (λ x y. e (f x) (f y)) xs ys ≡ pointwise e (map f xs) (map f ys)
 pointwise-map f e [] [] = refl

@@ -11,8 +11,8 @@ use Rattle.std.proofs.lemmas.Map.Made.{is_member-filter, is_some-lookup}
 use Rattle.raft_members.specs.Majority.{is_voter_of}
 use Rattle.raft_members.specs.Members.{node_at}
 use Rattle.raft_members.specs.Learners.{learners_among}
-use Rattle.raft_members.proofs.MajorityCounts.{in_set}
-use Rattle.raft_members.proofs.Kept.{voter_alike}
+use Rattle.raft_members.proofs.MajorityLemmas.{in_set}
+use Rattle.raft_members.proofs.KeptLemmas.{voter_alike}
 
 module _ {K : Type 0} {eq : K → K → Bool} (laws : IsEquivalence eq) where
   -- the learners among some ids are those that are no voters

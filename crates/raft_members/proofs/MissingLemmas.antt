@@ -3,10 +3,10 @@ use Rattle.std.specs.Prelude.{◌≡◌, ℕ, Bool, true, false, cond, not, ◌|
 use Rattle.std.specs.Prelude.{◌+◌, ◌<◌, length, map, take}
 use Rattle.std.proofs.Common.{sym, ◌∙◌, ap, subst, get_or}
 use Rattle.raft_members.specs.Majority.{is_voter_of}
-use Rattle.raft_members.proofs.Mapped.{list_any-map, any_more}
+use Rattle.raft_members.proofs.MappedLemmas.{list_any-map, any_more}
 use Rattle.raft_members.specs.Valid.{lesser}
 use Rattle.raft_members.specs.Valid.{FirstUnknown, IsFirstUnknown}
-use Rattle.raft_members.proofs.Meeting.{left_true, right_true}
+use Rattle.raft_members.proofs.NextLemmas.{left_true, right_true}
 use Rattle.std.specs.declared.cmp.Ordering.{Ordering}
 use Rattle.std.specs.declared.cmp.Ordering.TheVariants.{Less, Equal, Greater}
 use Rattle.std.specs.Cmp.{IsTotalOrder, IsEquivalence}

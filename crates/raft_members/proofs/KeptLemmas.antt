@@ -14,9 +14,9 @@ use Rattle.std.specs.Map.{lookup, keys_of}
 use Rattle.std.specs.BTreeMap.{insert_entry}
 use Rattle.std.specs.Option.{option_eq}
 use Rattle.raft_members.specs.Majority.{is_voter_of}
-use Rattle.raft_members.specs.Change.{stays}
+use Rattle.raft_members.specs.Change.{keeps_node}
 use Rattle.raft_members.specs.Members.{MemberList, same_nodes, same_members}
-use Rattle.raft_members.proofs.MajorityCounts.{is_member-alike}
+use Rattle.raft_members.proofs.MajorityLemmas.{is_member-alike}
 
 module _ {K N : Type 0} (same : N → N → Bool) where
   -- the same keys, with equal values
@@ -89,7 +89,7 @@ pub voter_alike : {K : Type 0} {e : K → K → Bool} → IsEquivalence e → (c
 voter_alike laws [] x y h = refl
 voter_alike laws (c ∷ cs) x y h = λ i. is_member-alike laws x y h c i || voter_alike laws cs x y h i
 
-pub same_stays : {K : Type 0} {e : K → K → Bool} → IsEquivalence e → (old new : List (List K)) (retain : Bool) (x y : K) → e x y ≡ true → stays e old new retain x ≡ stays e old new retain y
+pub same_stays : {K : Type 0} {e : K → K → Bool} → IsEquivalence e → (old new : List (List K)) (retain : Bool) (x y : K) → e x y ≡ true → keeps_node e old new retain x ≡ keeps_node e old new retain y
 same_stays laws old new retain x y h = λ i. retain || (not (voter_alike laws old x y h i) || voter_alike laws new x y h i)
 
 -- the same keys with equal values are equal nodes

@@ -4,13 +4,21 @@ use Rattle.std.proofs.Common.{◌∙◌, ap}
 use Rattle.std.specs.declared.cmp.Ordering.{Ordering}
 use Rattle.std.specs.declared.cmp.Ordering.TheVariants.{Less, Equal, Greater}
 use Rattle.std.specs.Cmp.{IsTotalOrder, IsEquivalence}
+use Rattle.std.specs.Cmp.Lexicographic.{options_equiv}
 use Rattle.std.specs.Ordering.{is_eq}
 use Rattle.std.proofs.lemmas.Cmp.{eq_by_cmp_equiv}
 use Rattle.std.specs.List.{list_any}
 use Rattle.std.specs.Map.{lookup}
 use Rattle.std.specs.BTreeMap.{is_at}
 use Rattle.std.specs.Option.{option_eq, option_or}
-use Rattle.raft_members.proofs.Said.{option_alike}
+
+pub option_alike : {N : Type 0} {same : N → N → Bool} → IsEquivalence same → (x : Option N) → IsTrue (option_eq same x x)
+option_alike laws None = refl
+option_alike laws (Some x) = laws.refl x
+
+-- what equals an equal value equals the value
+pub option_trans : {N : Type 0} {same : N → N → Bool} → IsEquivalence same → (x y z : Option N) → IsTrue (option_eq same x y) → IsTrue (option_eq same y z) → IsTrue (option_eq same x z)
+option_trans laws x y z h k = (options_equiv laws).congr x y z h ∙ k
 
 is_equal : (c : Ordering) → is_eq c ≡ true → c ≡ Equal
 is_equal Less h = cc

@@ -1,0 +1,34 @@
+-- Keys that are inserted in ascending order.
+use Rattle.std.specs.Prelude.{◌≡◌, List, [], ◌∷◌, ◌++◌, refl}
+use Rattle.std.proofs.Common.{sym, ◌∙◌, ap, append_assoc, append-nil}
+use Rattle.std.specs.Cmp.{IsTotalOrder}
+use Rattle.std.specs.Ordering.{ordering_reverse}
+use Rattle.std.specs.declared.cmp.Ordering.{Ordering}
+use Rattle.std.specs.declared.cmp.Ordering.TheVariants.{Less, Greater}
+use Rattle.std.specs.List.{AllByRecursion}
+use Rattle.std.specs.List.Sorted.{IsStrictlySortedBy}
+use Rattle.std.proofs.lemmas.Map.Keys.{sorted_head, sorted_tail}
+use Rattle.std.specs.BTreeSet.{insert_key}
+
+module _ {K : Type 0} {cmp : K → K → Ordering} (o : IsTotalOrder cmp) where
+  middle : (P : K → Type 0) (xs rest : List K) (k : K) → AllByRecursion P (xs ++ k ∷ rest) → P k
+  middle P [] rest k h = h.0
+  middle P (x ∷ xs) rest k h = middle P xs rest k h.1
+
+  -- a key above all others goes to the end
+  insert_last : (ks rest : List K) (k : K) → IsStrictlySortedBy cmp (ks ++ k ∷ rest) → insert_key cmp ks k ≡ ks ++ k ∷ []
+  insert_last [] rest k s = refl
+  insert_last (x ∷ xs) rest k s =
+      let g : cmp k x ≡ Greater = o.antisymm k x ∙ ap ordering_reverse (middle (λ y. cmp x y ≡ Less) xs rest k (sorted_head cmp x (xs ++ k ∷ rest) s)) in
+      rw g (ap (λ ys. x ∷ ys) (insert_last xs rest k (sorted_tail cmp x (xs ++ k ∷ rest) s)))
+
+  -- one more key of a sorted list is inserted
+  pub insert_ahead : (all ks ahead rest : List K) (k : K) → IsStrictlySortedBy cmp all → all ≡ ks ++ ahead → ahead ≡ k ∷ rest → all ≡ insert_key cmp ks k ++ rest
+  insert_ahead all ks ahead rest k s e f =
+      let whole : all ≡ ks ++ k ∷ rest = e ∙ ap (λ ys. ks ++ ys) f in
+      let P : List K → Type 0 = IsStrictlySortedBy cmp in
+      whole ∙ sym (append_assoc ks (k ∷ []) rest) ∙ ap (λ ys. ys ++ rest) (sym (insert_last ks rest k (rw whole at s)))
+
+-- nothing is left ahead
+pub none_ahead : {K : Type 0} (all ks ahead : List K) → all ≡ ks ++ ahead → ahead ≡ [] → ks ≡ all
+none_ahead all ks ahead e f = sym (e ∙ ap (λ ys. ks ++ ys) f ∙ append-nil ks)

@@ -1,0 +1,6 @@
+use Rattle.std.proofs.Common.{◌≡◌, ◌++◌}
+use Rattle.raft_members.specs.Change.{without}
+use Rattle.raft_members.proofs.membership.configs.difference.Given as goal
+
+abbrev pub invariant-loop-id : goal.invariant-loop-id
+invariant-loop-id g l = without g.ID.PartialEq.eq l.these.keys l.others.keys ≡ l.set.keys ++ l.id-iterator
