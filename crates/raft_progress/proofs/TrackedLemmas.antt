@@ -7,7 +7,7 @@ use Rattle.std.proofs.Common.{ap, sym, subst, ◌∙◌, true≢false}
 use Rattle.raft_members.specs.Majority.{is_voter_of}
 use Rattle.raft_members.specs.Members.{MemberList, Members, Says, members_of, node_at}
 use Rattle.raft_progress.specs.NewProgress.{HasClone, LearnersFit}
-use Rattle.raft_progress.specs.ProgressState.{IsSame, State, Writes}
+use Rattle.raft_progress.specs.ProgressState.{IsSame, ProgressState, Writes}
 use Rattle.raft_progress.specs.Steps.{IsIncreased, IsWritten, stays}
 use Rattle.raft_progress.specs.TrackedState.{AreLearners, Configs, CountsBy, HasConfigs, is_voter}
 use Rattle.raft_progress.specs.Upgrade.{Inherits, IsUpgraded}
@@ -40,7 +40,7 @@ module _ {K N : Type 0} (eq : K → K → Bool) (m : Members K N) (configs : Con
   inherited_there IsClone default None new h = clone_there IsClone default new h
   inherited_there IsClone default (Some v) new h = clone_there IsClone v new h
 
-  module _ {V P : Type 0} (IsClone : V → V → Type 0) (part : V → P) (default : V) (old : K → Option V) (new : State K V P (Configs K)) (u : IsUpgraded eq IsClone part (is_voter eq configs) configs learners default old new) where
+  module _ {V P : Type 0} (IsClone : V → V → Type 0) (part : V → P) (default : V) (old : K → Option V) (new : ProgressState K V P (Configs K)) (u : IsUpgraded eq IsClone part (is_voter eq configs) configs learners default old new) where
     -- an id has a value exactly if it is a voter or has a node
     pub upgraded_known : (id : K) → is_some (new.value id) ≡ (is_voter_of eq m.configs id || is_some (m.node id))
     upgraded_known id = by (is_voter eq configs id || is_member eq learners id) refl ∙ is_in id
@@ -50,7 +50,7 @@ module _ {K N : Type 0} (eq : K → K → Bool) (m : Members K N) (configs : Con
         by false t = ap is_some (u.others id t) ∙ sym t
 
 -- an upgraded progress counts by the membership whose configs and learners it went over to
-pub counts_upgraded : {K N V P : Type 0} (eq : K → K → Bool) (id_cmp : K → K → Ordering) (list : MemberList K N) (configs : Configs K) (learners : List K) → ((id : K) → is_voter eq configs id ≡ is_voter_of eq list.configs id) → HasConfigs (members_of id_cmp list) configs → AreLearners eq (members_of id_cmp list) learners → (IsClone : V → V → Type 0) (part : V → P) (default : V) (old : K → Option V) (new : State K V P (Configs K)) → IsUpgraded eq IsClone part (is_voter eq configs) configs learners default old new → CountsBy eq id_cmp (record { membership = list; progress = new })
+pub counts_upgraded : {K N V P : Type 0} (eq : K → K → Bool) (id_cmp : K → K → Ordering) (list : MemberList K N) (configs : Configs K) (learners : List K) → ((id : K) → is_voter eq configs id ≡ is_voter_of eq list.configs id) → HasConfigs (members_of id_cmp list) configs → AreLearners eq (members_of id_cmp list) learners → (IsClone : V → V → Type 0) (part : V → P) (default : V) (old : K → Option V) (new : ProgressState K V P (Configs K)) → IsUpgraded eq IsClone part (is_voter eq configs) configs learners default old new → CountsBy eq id_cmp (record { membership = list; progress = new })
 counts_upgraded {K} eq id_cmp list configs learners voters h l IsClone part default old new u = record {
   configs = subst (λ (c : Configs K). HasConfigs (members_of id_cmp list) c) (sym u.same_quorum_set) h;
   voters = λ id. u.voters id ∙ voters id;
@@ -59,7 +59,7 @@ counts_upgraded {K} eq id_cmp list configs learners voters h l IsClone part defa
 
 -- ---- steps that keep the membership
 
-module _ {K N V P : Type 0} (eq : K → K → Bool) (id_cmp : K → K → Ordering) (list list' : MemberList K N) (old new : State K V P (Configs K)) (kept : list' ≡ list) (c : CountsBy eq id_cmp (record { membership = list; progress = old })) where
+module _ {K N V P : Type 0} (eq : K → K → Bool) (id_cmp : K → K → Ordering) (list list' : MemberList K N) (old new : ProgressState K V P (Configs K)) (kept : list' ≡ list) (c : CountsBy eq id_cmp (record { membership = list; progress = old })) where
   pub counts_same : IsSame old new → CountsBy eq id_cmp (record { membership = list'; progress = new })
   counts_same s =
       subst (λ (l : MemberList K N). CountsBy eq id_cmp (record { membership = l; progress = new })) (sym kept)

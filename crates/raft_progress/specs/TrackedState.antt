@@ -7,7 +7,7 @@ use Rattle.std.proofs.Common.{Global, Vec}
 use Rattle.raft_members.specs.Majority.{is_majority, is_voter_of}
 use Rattle.raft_members.specs.Members.{MemberList, Members, members_of, node_at}
 use Rattle.raft_progress.specs.InOrder.{IsInOrder}
-use Rattle.raft_progress.specs.ProgressState.{State}
+use Rattle.raft_progress.specs.ProgressState.{ProgressState}
 use Rattle.raft_progress.specs.Shown.{Shown, state}
 
 -- the configs of a membership as one quorum set: a joint of lists of voters
@@ -31,7 +31,7 @@ pub record TrackedShown (K N V P : Type 0) : Type 0 where
 -- a membership, and voters, learners and values apart from how they are kept
 pub record TrackedState (K N V P : Type 0) : Type 0 where
   pub membership : MemberList K N
-  pub progress : State K V P (Configs K)
+  pub progress : ProgressState K V P (Configs K)
 
 abbrev pub tracked_state : {K N V P : Type 0} → (K → K → Bool) → TrackedShown K N V P → TrackedState K N V P
 tracked_state eq t = record { membership = t.membership; progress = state eq t.progress }

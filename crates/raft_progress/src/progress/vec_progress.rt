@@ -2,7 +2,6 @@
 ghost use Rattle.std.specs.Prelude.{◌≡◌, ◌≤◌, ◌<◌, length};
 
 use super::Progress;
-use super::entries::{clone_entries, copy_ids, place_all, write_at};
 use super::fit::are_apart;
 use super::in_order::{has_distinct_ids, is_at_least, is_falling};
 use super::part::ProgressPart;
@@ -11,6 +10,7 @@ use super::rise::{is_raised, move_up};
 use super::scan::{leading, least_front};
 use super::stat::Stat;
 use super::upgrade::{is_among, is_before};
+use super::walk::{clone_walk, copy_ids, place_all, write_at};
 use raft_members::quorum::QuorumSet;
 use std::alloc::{AllocError, Global};
 
@@ -27,10 +27,10 @@ pub struct VecProgress<ID: Copy + Ord, V, P, QS> {
     granted: P,
     default_part: P,
     voter_count: usize,
-    entries: Vec<(ID, V)>,
+    walk: Vec<(ID, V)>,
     room: Vec<ID>,
     stat: Stat,
-    ghost voters_fit: { voter_count ≤ length entries.items },
+    ghost voters_fit: { voter_count ≤ length walk.items },
     ghost room_fits: { length room.items ≡ voter_count },
 }
 
@@ -40,30 +40,28 @@ impl<
     P: Copy + Ord,
     QS: QuorumSet<ID> + Drop,
 > VecProgress<ID, V, P, QS> {
-    ghost use Rattle.std.specs.Prelude.{◌≡◌, ◌≤◌, ◌<◌, ◌↔◌, IsTrue, IfOk, IfErr, List, vec_len, ⊤, position, is_some, OnSome, IsSome, Bool, true, if◌then◌else◌, length, drop, ◌&&◌, [], ◌∷◌};
-    ghost use Rattle.std.specs.Borrow.{sem, Array, LendsSo};
+    ghost use Rattle.std.specs.Prelude.{◌≡◌, ◌≤◌, ◌<◌, ◌↔◌, ℕ, IsTrue, IfOk, position, is_some, IsSome, Bool, true, if◌then◌else◌, length, drop, ◌&&◌};
+    ghost use Rattle.std.specs.Borrow.{sem};
     ghost use Rattle.std.specs.Slice.Iter.{iter_mut_name, iter_mut_rest, iter_rest};
-    ghost use denote.Struct.Tuple.{Tuple};
     ghost use Rattle.std.specs.Ordering.{partial_gt};
     ghost use Rattle.std.specs.Fn.{FnOnceReturnsAtMut, FnOnceTakesAtMut};
     ghost use Rattle.std.specs.Option.{option_copied, option_copied_mut};
     ghost use Rattle.std.specs.Map.{keys_of};
     ghost use Rattle.std.specs.List.{IsDistinct};
-    ghost use Rattle.raft_progress.specs.contracts.progress.vec_progress.VecProgress.{the_row};
-    ghost use denote.Follow.{follows, follows_so};
-    ghost use mathlib.Core.Option.{none};
     ghost use Rattle.raft_progress.specs.CountedValue.{AtMost};
     ghost use Rattle.raft_progress.specs.InOrder.{IsInOrder};
     ghost use Rattle.raft_progress.specs.Inner.Settled.{IsPutInOrder, IsRaised, IsScanned};
+    ghost use Rattle.raft_progress.specs.contracts.progress.vec_progress.VecProgress.{the_row};
+    ghost use Rattle.raft_progress.specs.Lends.{IsAnsweredUpdate, Leaves, LendsGranted, LendsValue, LendsWalk};
     ghost use Rattle.raft_progress.specs.NewProgress.{IsFirstWalk, IsNew, LearnersFit};
     ghost use Rattle.raft_progress.specs.ProgressState.{voter_of};
     ghost use Rattle.raft_progress.specs.Shown.{state};
-    ghost use Rattle.raft_progress.specs.Updated.{Answers, IsUpdated};
+    ghost use Rattle.raft_progress.specs.Updated.{IsUpdated};
     ghost use Rattle.raft_progress.specs.Upgrade.{CanUpgrade, IsLeastBelow, IsUpgraded};
+    ghost use Rattle.raft_progress.specs.UpgradeFold.{IsUpgradeFold};
     ghost use Rattle.raft_progress.specs.Inner.Tests.{IsLeastPassing, among, is_value_below};
     ghost use Rattle.raft_progress.specs.Statistics.{CountsGoOn};
-    ghost use Rattle.raft_progress.specs.Kept.{with_value};
-    ghost use Rattle.raft_progress.specs.VecProgress.{shown, with_entries};
+    ghost use Rattle.raft_progress.specs.VecProgress.{shown};
 
     /// Whether the learners fit a quorum set: none stands twice, and none is a voter.
     ///
@@ -98,16 +96,16 @@ impl<
     {
         let room = quorum_set.ids(alloc)?;
         let voter_count = room.len();
-        let mut entries = Vec::new(alloc);
-        place_all(&mut entries, &room, &default)?;
-        place_all(&mut entries, learners, &default)?;
+        let mut walk = Vec::new(alloc);
+        place_all(&mut walk, &room, &default)?;
+        place_all(&mut walk, learners, &default)?;
         let part = default.part();
         Ok(VecProgress {
             quorum_set,
             granted: part,
             default_part: part,
             voter_count,
-            entries,
+            walk,
             room,
             stat: Stat {
                 update_count: 0,
@@ -135,19 +133,18 @@ impl<
         requires clones_have_the_part { (v w : V) → V.is_clone v w → V.part_of w ≡ V.part_of v }
         requires learners_fit { LearnersFit ID.eq (QS.is_voter quorum_set) learners.now }
         requires can_upgrade { CanUpgrade ID.eq P.cmp V.part_of (QS.is_voter quorum_set) learners.now default ((state ID.eq (shown self.now)).value) }
-        ensures made { IfOk result (λ made. IsUpgraded ID.eq V.is_clone V.part_of (QS.is_voter quorum_set) quorum_set learners.now default ((state ID.eq (shown self.now)).value) (state ID.eq (shown made))) }
+        ensures made { IfOk result (λ made. IsUpgraded ID.eq V.is_clone V.part_of (QS.is_voter quorum_set)
+            quorum_set learners.now default (state ID.eq (shown self.now)).value (state ID.eq (shown made))) }
         ensures ordered { IfOk result (λ made. IsInOrder ID.eq P.cmp V.part_of QS.has_quorum (shown made)) }
+        ensures fold { IfOk result (λ made. IsUpgradeFold ID.eq ID.cmp P.cmp V.part_of V.is_clone QS.is_voter
+            (shown self.now) quorum_set learners.now default (shown made)) }
         ensures learners { IfOk result (λ made. drop (shown made).voter_count (keys_of (shown made).walk) ≡ learners.now) }
         ensures counts { IfOk result (λ made. CountsGoOn (length (shown self.now).walk) (shown made).voter_count (shown self.now).stat (shown made).stat) }
     {
         let alloc = self.allocator();
         let mut made = VecProgress::new(alloc, quorum_set, learners, default)?;
-        made.go_on_from(
-            self.stat.update_count,
-            self.stat.move_count,
-            self.stat.is_quorum_count,
-        );
-        for entry in &self.entries {
+        made.go_on_from(&self.stat);
+        for entry in &self.walk {
             let value = entry.1.clone()?;
             made.take_over(&entry.0, value);
         }
@@ -155,13 +152,20 @@ impl<
     }
 
     /// Goes on with the counts of another progress.
-    fn go_on_from(&mut self, update_count: u64, move_count: u64, is_quorum_count: u64)
-        ensures same { shown self.new ≡ record (shown self.old) { stat = record { update_count = update_count; move_count = move_count; is_quorum_count = is_quorum_count } } }
-        ensures counts { CountsGoOn 0 (shown self.new).voter_count (record { update_count = update_count; move_count = move_count; is_quorum_count = is_quorum_count }) (shown self.new).stat }
+    fn go_on_from(&mut self, stat: &Stat)
+        ensures same { shown self.new ≡ record (shown self.old) { stat = stat.now } }
+        ensures counts { (voters : ℕ) → CountsGoOn 0 voters stat.now stat.now }
     {
-        self.stat.update_count = update_count;
-        self.stat.move_count = move_count;
-        self.stat.is_quorum_count = is_quorum_count;
+        let (update_count, move_count, is_quorum_count) = (
+            stat.update_count,
+            stat.move_count,
+            stat.is_quorum_count,
+        );
+        self.stat = Stat {
+            update_count,
+            move_count,
+            is_quorum_count,
+        };
     }
 
     /// Writes the value of an id, where it is known.
@@ -176,7 +180,7 @@ impl<
 
     /// The allocator of its entries.
     pub(crate) fn allocator(&self) -> Global {
-        *self.entries.allocator()
+        *self.walk.allocator()
     }
 
     /// Whether no value that an upgrade would take over is below the new default.
@@ -215,7 +219,7 @@ impl<
         ensures { IsLeastPassing ID.cmp (λ x. among ID.eq voters.now learners.now x && is_value_below P.cmp V.part_of part ((state ID.eq (shown self.now)).value x)) (shown self.now).walk result }
     {
         let mut least = None;
-        for entry in &self.entries {
+        for entry in &self.walk {
             if self.is_below(voters, learners, part, &entry.0) && is_before(entry.0, least) {
                 least = Some(entry.0);
             }
@@ -248,10 +252,10 @@ impl<
         ensures answer { IsTrue result ↔ IsInOrder ID.eq P.cmp V.part_of QS.has_quorum (shown self.old) }
         ensures same { shown self.new ≡ shown self.old }
     {
-        if !has_distinct_ids(&self.entries) {
+        if !has_distinct_ids(&self.walk) {
             return false;
         }
-        let voters = &self.entries[..self.voter_count];
+        let voters = &self.walk[..self.voter_count];
         if !is_falling(voters, self.granted) {
             return false;
         }
@@ -281,7 +285,7 @@ impl<
     pub fn index(&self, id: &ID) -> Option<usize>
         ensures { result ≡ position (λ e. ID.eq id.now e.0) ((shown self.now).walk) }
     {
-        self.entries.iter().position(|entry| *id == entry.0)
+        self.walk.iter().position(|entry| *id == entry.0)
     }
 
     /// The value of an id.
@@ -289,7 +293,7 @@ impl<
         ensures { option_copied result ≡ (state ID.eq (shown self.now)).value id.now }
     {
         match self.index(id) {
-            Some(place) => Some(&self.entries[place].1),
+            Some(place) => Some(&self.walk[place].1),
             None => None,
         }
     }
@@ -319,7 +323,7 @@ impl<
     pub fn iter(&self) -> std::slice::Iter<(ID, V)>
         ensures { iter_rest result ≡ (shown self.now).walk }
     {
-        self.entries.iter()
+        self.walk.iter()
     }
 
     /// The quorum set.
@@ -341,12 +345,14 @@ impl<
     /// Nothing is counted and nothing moves. Where the part of a voter changes, the progress may be
     /// out of order afterwards: `is_in_order` tells.
     pub fn get_mut(&mut self, id: &ID) -> Option<&mut V>
-        ensures* writes_back { sem 𝓛 (LendsSo (the_row ID.row V.row P.row QS.row ID.Ord.own ID.PartialEq ID.PartialOrd.own) V.row self.entry result (λ n w. OnSome result (shown n ≡ with_value ID.eq (shown self.old) id.now w)) (λ n. shown n ≡ shown self.old)) }
+        ensures* writes_back { sem 𝓛 (LendsValue
+            (the_row ID.row V.row P.row QS.row ID.Ord.own ID.PartialEq ID.PartialOrd.own) V.row shown ID.eq
+            self.entry id.now result) }
         ensures value { option_copied_mut result ≡ (state ID.eq (shown self.old)).value id.now }
     {
         match self.index(id) {
             Some(place) => {
-                let entry = &mut self.entries[place];
+                let entry = &mut self.walk[place];
                 Some(&mut entry.1)
             }
             None => None,
@@ -358,10 +364,11 @@ impl<
     /// Nothing is counted and nothing moves. Where an id or the part of a voter changes, the progress
     /// may be out of order afterwards: `is_in_order` tells.
     pub fn iter_mut(&mut self) -> std::slice::IterMut<(ID, V)>
-        ensures* writes_back { sem 𝓛 (follows (the_row ID.row V.row P.row QS.row ID.Ord.own ID.PartialEq ID.PartialOrd.own) (Array (Tuple (ID.row ∷ V.row ∷ [])) 0) self.entry.ghost_name (iter_mut_name result) (with_entries self.old)) }
+        ensures* writes_back { sem 𝓛 (LendsWalk ID.row V.row P.row QS.row ID.Ord.own ID.PartialEq ID.PartialOrd.own
+            self.entry (iter_mut_name result)) }
         ensures rest { iter_mut_rest result ≡ (shown self.old).walk }
     {
-        self.entries.iter_mut()
+        self.walk.iter_mut()
     }
 
     /// Changes the value of an id by `f`, and answers granted: as an error where the id is unknown.
@@ -374,7 +381,9 @@ impl<
         requires ordered { IsInOrder ID.eq P.cmp V.part_of QS.has_quorum (shown self.old) }
         requires callable { (v : V) → (state ID.eq (shown self.old)).value id.now ≡ Some v → FnOnceTakesAtMut F.FnOnce f v }
         requires not_lower { (v w : V) → (state ID.eq (shown self.old)).value id.now ≡ Some v → FnOnceReturnsAtMut F.FnOnce f v tt w → AtMost P.cmp (V.part_of v) (V.part_of w) }
-        ensures* after { sem 𝓛 (follows_so (the_row ID.row V.row P.row QS.row ID.Ord.own ID.PartialEq ID.PartialOrd.own) (the_row ID.row V.row P.row QS.row ID.Ord.own ID.PartialEq ID.PartialOrd.own) self.entry.ghost_name none (λ _ _. ⊤) (λ new. IsUpdated ID.eq P.cmp V.part_of (λ v w. FnOnceReturnsAtMut F.FnOnce f v tt w) (shown self.old) id.now (shown new) × IsInOrder ID.eq P.cmp V.part_of QS.has_quorum (shown new) × Answers ID.eq (shown self.old) id.now result (λ r. r.now) (λ r. r.now) (shown new))) }
+        ensures* after { sem 𝓛 (LendsGranted
+            (the_row ID.row V.row P.row QS.row ID.Ord.own ID.PartialEq ID.PartialOrd.own) shown self.entry
+            (IsAnsweredUpdate ID.eq P.cmp V.part_of QS.has_quorum (Leaves F.FnOnce f) id.now result)) }
     {
         if self.apply(id, f) {
             Ok(&self.granted)
@@ -387,7 +396,9 @@ impl<
     pub fn update(&mut self, id: &ID, value: V) -> Result<&P, &P>
         requires ordered { IsInOrder ID.eq P.cmp V.part_of QS.has_quorum (shown self.old) }
         requires not_lower { (v : V) → (state ID.eq (shown self.old)).value id.now ≡ Some v → AtMost P.cmp (V.part_of v) (V.part_of value) }
-        ensures* after { sem 𝓛 (follows_so (the_row ID.row V.row P.row QS.row ID.Ord.own ID.PartialEq ID.PartialOrd.own) (the_row ID.row V.row P.row QS.row ID.Ord.own ID.PartialEq ID.PartialOrd.own) self.entry.ghost_name none (λ _ _. ⊤) (λ new. IsUpdated ID.eq P.cmp V.part_of (λ v w. w ≡ value) (shown self.old) id.now (shown new) × IsInOrder ID.eq P.cmp V.part_of QS.has_quorum (shown new) × Answers ID.eq (shown self.old) id.now result (λ r. r.now) (λ r. r.now) (shown new))) }
+        ensures* after { sem 𝓛 (LendsGranted
+            (the_row ID.row V.row P.row QS.row ID.Ord.own ID.PartialEq ID.PartialOrd.own) shown self.entry
+            (IsAnsweredUpdate ID.eq P.cmp V.part_of QS.has_quorum (λ v w. w ≡ value) id.now result)) }
     {
         self.update_with(id, |current| *current = value)
     }
@@ -399,7 +410,9 @@ impl<
         V: PartialOrd,
         requires ordered { IsInOrder ID.eq P.cmp V.part_of QS.has_quorum (shown self.old) }
         requires not_lower { (v : V) → (state ID.eq (shown self.old)).value id.now ≡ Some v → partial_gt V.partial_cmp value v ≡ true → AtMost P.cmp (V.part_of v) (V.part_of value) }
-        ensures* after { sem 𝓛 (follows_so (the_row ID.row V.row P.row QS.row ID.Ord.own ID.PartialEq ID.PartialOrd.own) (the_row ID.row V.row P.row QS.row ID.Ord.own ID.PartialEq ID.PartialOrd.own) self.entry.ghost_name none (λ _ _. ⊤) (λ new. IsUpdated ID.eq P.cmp V.part_of (λ v w. w ≡ (if partial_gt V.partial_cmp value v then value else v)) (shown self.old) id.now (shown new) × IsInOrder ID.eq P.cmp V.part_of QS.has_quorum (shown new) × Answers ID.eq (shown self.old) id.now result (λ r. r.now) (λ r. r.now) (shown new))) }
+        ensures* after { sem 𝓛 (LendsGranted
+            (the_row ID.row V.row P.row QS.row ID.Ord.own ID.PartialEq ID.PartialOrd.own) shown self.entry
+            (IsAnsweredUpdate ID.eq P.cmp V.part_of QS.has_quorum (λ v w. w ≡ (if partial_gt V.partial_cmp value v then value else v)) id.now result)) }
     {
         self.update_with(id, |current| {
             if value > *current {
@@ -422,8 +435,8 @@ impl<
         self.stat.update_count = self.stat.update_count.saturating_add(1);
         match self.index(id) {
             Some(place) => {
-                let before = self.entries[place].1.part();
-                write_at(&mut self.entries, place, f);
+                let before = self.walk[place].1.part();
+                write_at(&mut self.walk, place, f);
                 self.settle(place, before);
                 true
             }
@@ -437,7 +450,7 @@ impl<
         requires distinct { IsDistinct ID.eq (keys_of (shown self.old).walk) }
         ensures { IsPutInOrder ID.eq P.cmp V.part_of QS.has_quorum (shown self.old) place before (shown self.new) }
     {
-        let after = self.entries[place].1.part();
+        let after = self.walk[place].1.part();
         let granted = self.granted;
         if place < self.voter_count && is_raised(before, after, granted) {
             self.raise(place, before.cmp(&granted).is_le());
@@ -451,7 +464,7 @@ impl<
         ensures { IsRaised ID.eq P.cmp V.part_of QS.has_quorum (shown self.old) place counts (shown self.new) }
     {
         self.stat.move_count = self.stat.move_count.saturating_add(1);
-        let to = move_up(&mut self.entries, place);
+        let to = move_up(&mut self.walk, place);
         if counts {
             self.scan(to);
         }
@@ -462,12 +475,12 @@ impl<
         requires distinct { IsDistinct ID.eq (keys_of (shown self.old).walk) }
         ensures { IsScanned ID.eq P.cmp V.part_of QS.has_quorum (shown self.old) place (shown self.new) }
     {
-        let voters = &self.entries[..self.voter_count];
+        let voters = &self.walk[..self.voter_count];
         let high = leading(voters, self.granted);
         let found = least_front(&self.quorum_set, voters, place, high, &mut self.room);
         self.stat.is_quorum_count = self.stat.is_quorum_count.saturating_add(found.tests);
         if let Some(front) = found.front {
-            self.granted = self.entries[front - 1].1.part();
+            self.granted = self.walk[front - 1].1.part();
         }
     }
 }
@@ -481,13 +494,13 @@ impl<ID: Copy + Ord, V: PartialEq, P: Copy + Ord, QS: PartialEq> PartialEq
 
     ghost eq = { λ a b. equal ID.eq V.eq P.eq QS.eq (shown a) (shown b) };
 
-    ghost laws = { and_per (and_per (and_per (and_per (and_per (on_per (λ a. a.quorum_set) QS.PartialEq.laws) (on_per (λ a. a.granted) P.PartialEq.laws)) (on_per (λ a. a.voter_count) (partial_equiv_from_equiv nat_eq_equiv))) (on_per (λ a. a.entries.items) (lists_per (and_per (on_per (λ e. e.0) ID.PartialEq.laws) (on_per (λ e. e.1) V.PartialEq.laws))))) (on_per (λ a. a.default_part) P.PartialEq.laws)) (on_per (λ a. a.stat) (and_per (and_per (on_per (λ t. t.update_count) (partial_equiv_from_equiv nat_eq_equiv)) (on_per (λ t. t.move_count) (partial_equiv_from_equiv nat_eq_equiv))) (on_per (λ t. t.is_quorum_count) (partial_equiv_from_equiv nat_eq_equiv)))) };
+    ghost laws = { and_per (and_per (and_per (and_per (and_per (on_per (λ a. a.quorum_set) QS.PartialEq.laws) (on_per (λ a. a.granted) P.PartialEq.laws)) (on_per (λ a. a.voter_count) (partial_equiv_from_equiv nat_eq_equiv))) (on_per (λ a. a.walk.items) (lists_per (and_per (on_per (λ e. e.0) ID.PartialEq.laws) (on_per (λ e. e.1) V.PartialEq.laws))))) (on_per (λ a. a.default_part) P.PartialEq.laws)) (on_per (λ a. a.stat) (and_per (and_per (on_per (λ t. t.update_count) (partial_equiv_from_equiv nat_eq_equiv)) (on_per (λ t. t.move_count) (partial_equiv_from_equiv nat_eq_equiv))) (on_per (λ t. t.is_quorum_count) (partial_equiv_from_equiv nat_eq_equiv)))) };
 
     fn eq(&self, other: &Self) -> bool {
         self.quorum_set == other.quorum_set
             && self.granted == other.granted
             && self.voter_count == other.voter_count
-            && self.entries == other.entries
+            && self.walk == other.walk
             && self.default_part == other.default_part
             && self.stat == other.stat
     }
@@ -497,7 +510,7 @@ impl<ID: Copy + Ord, V: Eq, P: Copy + Ord, QS: Eq> Eq for VecProgress<ID, V, P, 
     ghost use Rattle.std.specs.Cmp.{and_equiv, nat_eq_equiv, on_equiv};
     ghost use Rattle.std.specs.Cmp.Lexicographic.{lists_equiv};
 
-    ghost laws = { and_equiv (and_equiv (and_equiv (and_equiv (and_equiv (on_equiv (λ a. a.quorum_set) QS.Eq.laws) (on_equiv (λ a. a.granted) P.Eq.laws)) (on_equiv (λ a. a.voter_count) nat_eq_equiv)) (on_equiv (λ a. a.entries.items) (lists_equiv (and_equiv (on_equiv (λ e. e.0) ID.Eq.laws) (on_equiv (λ e. e.1) V.Eq.laws))))) (on_equiv (λ a. a.default_part) P.Eq.laws)) (on_equiv (λ a. a.stat) (and_equiv (and_equiv (on_equiv (λ t. t.update_count) nat_eq_equiv) (on_equiv (λ t. t.move_count) nat_eq_equiv)) (on_equiv (λ t. t.is_quorum_count) nat_eq_equiv))) };
+    ghost laws = { and_equiv (and_equiv (and_equiv (and_equiv (and_equiv (on_equiv (λ a. a.quorum_set) QS.Eq.laws) (on_equiv (λ a. a.granted) P.Eq.laws)) (on_equiv (λ a. a.voter_count) nat_eq_equiv)) (on_equiv (λ a. a.walk.items) (lists_equiv (and_equiv (on_equiv (λ e. e.0) ID.Eq.laws) (on_equiv (λ e. e.1) V.Eq.laws))))) (on_equiv (λ a. a.default_part) P.Eq.laws)) (on_equiv (λ a. a.stat) (and_equiv (and_equiv (on_equiv (λ t. t.update_count) nat_eq_equiv) (on_equiv (λ t. t.move_count) nat_eq_equiv)) (on_equiv (λ t. t.is_quorum_count) nat_eq_equiv))) };
 }
 
 /// A clone reserves the room that `new` does.
@@ -508,13 +521,13 @@ impl<ID: Copy + Ord, V: Clone, P: Copy + Ord, QS: Clone> Clone for VecProgress<I
     ghost is_clone = { λ old new. IsCloned V.is_clone QS.is_clone (shown old) (shown new) };
 
     fn clone(&self) -> Result<Self, AllocError> {
-        let alloc = *self.entries.allocator();
+        let alloc = *self.walk.allocator();
         Ok(VecProgress {
             quorum_set: self.quorum_set.clone()?,
             granted: self.granted,
             default_part: self.default_part,
             voter_count: self.voter_count,
-            entries: clone_entries(alloc, &self.entries)?,
+            walk: clone_walk(alloc, &self.walk)?,
             room: copy_ids(alloc, &self.room)?,
             stat: self.stat.clone()?,
         })
@@ -565,8 +578,25 @@ impl<ID: Copy + Ord, V: ProgressPart<P> + Drop, P: Copy + Ord, QS: QuorumSet<ID>
         VecProgress::get(self, id)
     }
 
+    fn is_in_order(&mut self) -> bool {
+        VecProgress::is_in_order(self)
+    }
+
     fn quorum_set(&self) -> &QS {
         VecProgress::quorum_set(self)
+    }
+
+    fn learners_fit(alloc: Global, quorum_set: &QS, learners: &[ID]) -> Result<bool, AllocError> {
+        VecProgress::<ID, V, P, QS>::learners_fit(alloc, quorum_set, learners)
+    }
+
+    fn can_upgrade(
+        &self,
+        quorum_set: &QS,
+        learners: &[ID],
+        default: &V,
+    ) -> Result<bool, AllocError> {
+        VecProgress::can_upgrade(self, quorum_set, learners, default)
     }
 
     fn iter(&self) -> std::slice::Iter<(ID, V)> {

@@ -7,7 +7,7 @@ pub returns : goal.returns
 returns g c = record {
   cases = record {
     quorum_set = c.in_ok-clone.ensures.cases;
-    walk = subst (λ (es : List (g.row.ID.Denot × g.row.V.Denot)). AllZip (λ d e. (e.0 ≡ d.0) × g.V.Clone.is_clone d.1 e.1) es c.in_ok-clone_entries.field-0.items) c.deref.ensures.value c.in_ok-clone_entries.ensures;
+    walk = subst (λ (es : List (g.row.ID.Denot × g.row.V.Denot)). AllZip (λ d e. (e.0 ≡ d.0) × g.V.Clone.is_clone d.1 e.1) es c.in_ok-clone_walk.field-0.items) c.deref.ensures.value c.in_ok-clone_walk.ensures;
     voter_count = refl;
     default_part = refl;
     granted = refl;
@@ -17,6 +17,6 @@ returns g c = record {
 
 pub invariant_of-result : goal.invariant_of-result
 invariant_of-result g c = record {
-  voters_fit = subst (λ n. c.args.self.now.voter_count ≤ n) (sym (same_length (λ (d e : g.row.ID.Denot × g.row.V.Denot). (e.0 ≡ d.0) × g.V.Clone.is_clone d.1 e.1) c.deref.result.now c.in_ok-clone_entries.field-0.items c.in_ok-clone_entries.ensures ∙ ap length c.deref.ensures.value)) c.args.self.now.voters_fit;
+  voters_fit = subst (λ n. c.args.self.now.voter_count ≤ n) (sym (same_length (λ (d e : g.row.ID.Denot × g.row.V.Denot). (e.0 ≡ d.0) × g.V.Clone.is_clone d.1 e.1) c.deref.result.now c.in_ok-clone_walk.field-0.items c.in_ok-clone_walk.ensures ∙ ap length c.deref.ensures.value)) c.args.self.now.voters_fit;
   room_fits = ap length (c.in_ok-copy_ids.ensures ∙ c.deref-2.ensures.value) ∙ c.args.self.now.room_fits;
 }

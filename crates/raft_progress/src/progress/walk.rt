@@ -8,41 +8,37 @@ use std::alloc::{AllocError, Global};
 
 /// Puts the ids at the end, each with a clone of the default.
 pub(crate) fn place_all<ID: Copy, V: Clone>(
-    entries: &mut Vec<(ID, V)>,
+    walk: &mut Vec<(ID, V)>,
     ids: &[ID],
     default: &V,
 ) -> Result<(), AllocError>
-    ensures { OnOk result (IsPlaced V.is_clone default.now ids.now entries.old.items entries.new.items) }
+    ensures { OnOk result (IsPlaced V.is_clone default.now ids.now walk.old.items walk.new.items) }
 {
     for id in ids {
-        entries.push((*id, default.clone()?))?;
+        walk.push((*id, default.clone()?))?;
     }
     Ok(())
 }
 
 /// Runs `f` on the value at a place.
-pub(crate) fn write_at<ID: Copy, V, F: FnOnce(&mut V)>(
-    entries: &mut Vec<(ID, V)>,
-    place: usize,
-    f: F,
-)
-    requires within { place < length entries.old.items }
-    requires callable { (e : ID × V) → slice_get entries.old.items place ≡ Some e → FnOnceTakesAtMut F.FnOnce f e.1 }
-    ensures { (e : ID × V) × (w : V) × (slice_get entries.old.items place ≡ Some e) × FnOnceReturnsAtMut F.FnOnce f e.1 tt w × (entries.new.items ≡ slice_set entries.old.items place (e.0, w)) }
+pub(crate) fn write_at<ID: Copy, V, F: FnOnce(&mut V)>(walk: &mut Vec<(ID, V)>, place: usize, f: F)
+    requires within { place < length walk.old.items }
+    requires callable { (e : ID × V) → slice_get walk.old.items place ≡ Some e → FnOnceTakesAtMut F.FnOnce f e.1 }
+    ensures { (e : ID × V) × (w : V) × (slice_get walk.old.items place ≡ Some e) × FnOnceReturnsAtMut F.FnOnce f e.1 tt w × (walk.new.items ≡ slice_set walk.old.items place (e.0, w)) }
 {
-    let entry = &mut entries[place];
+    let entry = &mut walk[place];
     f(&mut entry.1);
 }
 
 /// A clone of each entry.
-pub(crate) fn clone_entries<ID: Copy, V: Clone>(
+pub(crate) fn clone_walk<ID: Copy, V: Clone>(
     alloc: Global,
-    entries: &[(ID, V)],
+    walk: &[(ID, V)],
 ) -> Result<Vec<(ID, V)>, AllocError>
-    ensures { IfOk result (λ made. AllZip (λ d e. (e.0 ≡ d.0) × V.is_clone d.1 e.1) entries.now made.items) }
+    ensures { IfOk result (λ made. AllZip (λ d e. (e.0 ≡ d.0) × V.is_clone d.1 e.1) walk.now made.items) }
 {
     let mut made = Vec::new(alloc);
-    for entry in entries {
+    for entry in walk {
         made.push((entry.0, entry.1.clone()?))?;
     }
     Ok(made)
