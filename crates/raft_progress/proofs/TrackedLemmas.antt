@@ -6,10 +6,12 @@ use Rattle.std.specs.Set.{is_member}
 use Rattle.std.proofs.Common.{ap, sym, subst, ◌∙◌, true≢false}
 use Rattle.raft_members.specs.Majority.{is_voter_of}
 use Rattle.raft_members.specs.Members.{MemberList, Members, Says, members_of, node_at}
+use Rattle.raft_progress.specs.InOrder.{IsInOrder}
 use Rattle.raft_progress.specs.NewProgress.{HasClone, LearnersFit}
+use Rattle.raft_progress.specs.Shown.{Shown, state}
 use Rattle.raft_progress.specs.ProgressState.{IsSame, ProgressState, Writes}
 use Rattle.raft_progress.specs.Steps.{IsIncreased, IsWritten, stays}
-use Rattle.raft_progress.specs.TrackedState.{AreLearners, Configs, CountsBy, HasConfigs, is_voter}
+use Rattle.raft_progress.specs.TrackedState.{AreLearners, Configs, CountsBy, HasConfigs, IsReady, has_quorum, is_voter}
 use Rattle.raft_progress.specs.Upgrade.{Inherits, IsUpgraded}
 use Rattle.raft_progress.specs.declared.progress.steps.Reply.{Reply}
 use Rattle.raft_progress.specs.declared.progress.steps.Reply.TheVariants.{Granted, Unknown, WouldFall, Refused, BelowDefault, BadLearners, OutOfMemory}
@@ -55,6 +57,13 @@ counts_upgraded {K} eq id_cmp list configs learners voters h l IsClone part defa
   configs = subst (λ (c : Configs K). HasConfigs (members_of id_cmp list) c) (sym u.same_quorum_set) h;
   voters = λ id. u.voters id ∙ voters id;
   known = upgraded_known eq (members_of id_cmp list) configs learners voters l IsClone part default old new u;
+}
+
+-- and it is ready
+pub ready_upgraded : {K N V P : Type 0} (eq : K → K → Bool) (id_cmp : K → K → Ordering) (cmp : P → P → Ordering) (part : V → P) (list : MemberList K N) (configs : Configs K) (learners : List K) → ((id : K) → is_voter eq configs id ≡ is_voter_of eq list.configs id) → HasConfigs (members_of id_cmp list) configs → AreLearners eq (members_of id_cmp list) learners → (IsClone : V → V → Type 0) (default : V) (old : K → Option V) (p : Shown K V P (Configs K)) → IsInOrder eq cmp part (has_quorum eq) p → IsUpgraded eq IsClone part (is_voter eq configs) configs learners default old (state eq p) → IsReady eq id_cmp cmp part (record { membership = list; progress = p })
+ready_upgraded eq id_cmp cmp part list configs learners voters h l IsClone default old p r u = record {
+  ordered = r;
+  counts_by = counts_upgraded eq id_cmp list configs learners voters h l IsClone part default old (state eq p) u;
 }
 
 -- ---- steps that keep the membership

@@ -60,7 +60,7 @@ impl<
     ghost use Rattle.raft_progress.specs.Upgrade.{CanUpgrade, IsLeastBelow, IsUpgraded};
     ghost use Rattle.raft_progress.specs.UpgradeFold.{IsUpgradeFold};
     ghost use Rattle.raft_progress.specs.Inner.Tests.{IsLeastPassing, among, is_value_below};
-    ghost use Rattle.raft_progress.specs.Statistics.{CountsGoOn};
+    ghost use Rattle.raft_progress.specs.Statistics.{CountsGoOn, no_counts};
     ghost use Rattle.raft_progress.specs.VecProgress.{shown};
 
     /// Whether the learners fit a quorum set: none stands twice, and none is a voter.
@@ -92,7 +92,7 @@ impl<
         ensures walk { IfOk result (λ made. IsFirstWalk ID.cmp learners.now (shown made)) }
         ensures granted { IfOk result (λ made. (shown made).granted ≡ V.part_of default) }
         ensures ordered { IfOk result (λ made. IsInOrder ID.eq P.cmp V.part_of QS.has_quorum (shown made)) }
-        ensures no_counts { IfOk result (λ made. (shown made).stat ≡ record { update_count = 0; move_count = 0; is_quorum_count = 0 }) }
+        ensures no_counts { IfOk result (λ made. (shown made).stat ≡ no_counts) }
     {
         let room = quorum_set.ids(alloc)?;
         let voter_count = room.len();
