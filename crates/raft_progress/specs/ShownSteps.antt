@@ -1,13 +1,12 @@
 -- What a step does to all that a progress shows: to its walk, to what is granted and to the counts too.
-use Rattle.std.specs.Prelude.{◌≡◌, Bool, List, Option, if◌then◌else◌}
-use Rattle.std.specs.Ordering.{partial_gt}
+use Rattle.std.specs.Prelude.{◌≡◌, Bool, List, Option}
 use Rattle.std.specs.declared.cmp.Ordering.{Ordering}
 use Rattle.raft_progress.specs.Answered.{IsAnswered}
 use Rattle.raft_progress.specs.Comparisons.{Comparisons}
 use Rattle.raft_progress.specs.Run.{Runs}
 use Rattle.raft_progress.specs.Shown.{Shown, state}
 use Rattle.raft_progress.specs.Steps.{IsStep}
-use Rattle.raft_progress.specs.Updated.{IsUpdated}
+use Rattle.raft_progress.specs.Updated.{IsGreaterOf, IsUpdated}
 use Rattle.raft_progress.specs.UpgradeFold.{IsUpgradeFold}
 use Rattle.raft_progress.specs.declared.progress.steps.AnyStep.{AnyStep}
 use Rattle.raft_progress.specs.declared.progress.steps.AnyStep.TheVariants.{Update, IncreaseTo, Upgrade}
@@ -20,7 +19,7 @@ module _ {ID V P QS : Type 0} (eq : ID → ID → Bool) (cmp : P → P → Order
 
   -- the value of an id is updated to this one where this one is greater, and else to itself
   abbrev pub IsIncreasedTo : (V → V → Option Ordering) → Shown ID V P QS → ID → V → Shown ID V P QS → Type 0
-  IsIncreasedTo partial_cmp old id value new = IsUpdated eq cmp part (λ v w. w ≡ (if partial_gt partial_cmp value v then value else v)) old id new
+  IsIncreasedTo partial_cmp old id value new = IsUpdated eq cmp part (IsGreaterOf partial_cmp value) old id new
 
 module _ {ID V P QS : Type 0} (by : Comparisons ID V P) (has_quorum : QS → (ID → Bool) → Bool) (is_voter : QS → ID → Bool) where
   -- a step that is not refused is an update, an increase or an upgrade

@@ -40,6 +40,10 @@ tracked_state eq t = record { membership = t.membership; progress = state eq t.p
 abbrev pub HasConfigs : {K N : Type 0} → Members K N → Configs K → Type 0
 HasConfigs m configs = map (λ c. c.items) configs.items ≡ m.configs
 
+-- the two quorum sets have the same configs
+abbrev pub HasSameConfigs : {K : Type 0} → Configs K → Configs K → Type 0
+HasSameConfigs old new = map (λ c. c.items) new.items ≡ map (λ c. c.items) old.items
+
 -- the learners of a membership, each once: the ids that have a node and are in no config
 pub record AreLearners {K N : Type 0} (eq : K → K → Bool) (m : Members K N) (learners : List K) : Type 0 where
   pub distinct : IsDistinct eq learners

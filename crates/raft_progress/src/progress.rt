@@ -30,21 +30,19 @@ pub use vec_progress::VecProgress;
 
 /// The values of voters and learners over a quorum set, and what a quorum of the voters has reached.
 pub trait Progress<ID: Copy + Ord, V: ProgressPart<P>, P: Copy + Ord, QS: QuorumSet<ID>>: Drop {
-    ghost use Rattle.std.specs.Prelude.{◌≡◌, ◌↔◌, IfOk, IsSome, IsTrue, Some, if◌then◌else◌, length, drop, true};
+    ghost use Rattle.std.specs.Prelude.{◌≡◌, ◌↔◌, IfOk, IsSome, IsTrue, Some, length};
     ghost use Rattle.std.specs.Borrow.{sem};
-    ghost use Rattle.std.specs.Fn.{FnOnceReturnsAtMut, FnOnceTakesAtMut};
-    ghost use Rattle.std.specs.Map.{keys_of};
-    ghost use Rattle.std.specs.Option.{option_copied, option_copied_mut};
-    ghost use Rattle.std.specs.Ordering.{partial_gt};
+    ghost use Rattle.std.specs.Fn.{FnOnceTakesAtMut};
+    ghost use Rattle.std.specs.Option.{ForSome, option_copied, option_copied_mut};
     ghost use Rattle.std.specs.Slice.Iter.{iter_rest};
-    ghost use Rattle.raft_progress.specs.CountedValue.{AtMost};
     ghost use Rattle.raft_progress.specs.InOrder.{IsInOrder};
     ghost use Rattle.raft_progress.specs.Lends.{IsAnsweredUpdate, Leaves, LendsGranted, LendsValue};
     ghost use Rattle.raft_progress.specs.NewProgress.{LearnersFit};
-    ghost use Rattle.raft_progress.specs.Shown.{Shown, state};
+    ghost use Rattle.raft_progress.specs.Shown.{Shown, learner_ids, state};
     ghost use Rattle.raft_progress.specs.ProgressState.{voter_of};
     ghost use Rattle.raft_progress.specs.Statistics.{CountsGoOn};
     ghost use Rattle.raft_progress.specs.Upgrade.{CanUpgrade, IsUpgraded};
+    ghost use Rattle.raft_progress.specs.Updated.{IsGreaterOf, IsNotLower, IsNotLowerIfGreater, NeverFalls};
     ghost use Rattle.raft_progress.specs.UpgradeFold.{IsUpgradeFold};
 
     /// What it shows.
@@ -89,15 +87,15 @@ pub trait Progress<ID: Copy + Ord, V: ProgressPart<P>, P: Copy + Ord, QS: Quorum
     /// Changes the value of an id by `f` and answers granted: as an error where the id is unknown.
     fn update_with<F: FnOnce(&mut V)>(&mut self, id: &ID, f: F) -> Result<&P, &P>
         requires ordered { IsInOrder ID.eq P.cmp V.part_of QS.has_quorum (shows self.old) }
-        requires callable { (v : V) → (state ID.eq (shows self.old)).value id.now ≡ Some v → FnOnceTakesAtMut F.FnOnce f v }
-        requires not_lower { (v w : V) → (state ID.eq (shows self.old)).value id.now ≡ Some v → FnOnceReturnsAtMut F.FnOnce f v tt w → AtMost P.cmp (V.part_of v) (V.part_of w) }
+        requires callable { ForSome ((state ID.eq (shows self.old)).value id.now) (FnOnceTakesAtMut F.FnOnce f) }
+        requires not_lower { NeverFalls ID.eq P.cmp V.part_of (Leaves F.FnOnce f) (shows self.old) id.now }
         ensures* after { sem 𝓛 (LendsGranted Self.row shows self.entry
             (IsAnsweredUpdate ID.eq P.cmp V.part_of QS.has_quorum (Leaves F.FnOnce f) id.now result)) };
 
     /// Writes the value of an id and answers granted: as an error where the id is unknown.
     fn update(&mut self, id: &ID, value: V) -> Result<&P, &P>
         requires ordered { IsInOrder ID.eq P.cmp V.part_of QS.has_quorum (shows self.old) }
-        requires not_lower { (v : V) → (state ID.eq (shows self.old)).value id.now ≡ Some v → AtMost P.cmp (V.part_of v) (V.part_of value) }
+        requires not_lower { IsNotLower ID.eq P.cmp V.part_of (shows self.old) id.now value }
         ensures* after { sem 𝓛 (LendsGranted Self.row shows self.entry
             (IsAnsweredUpdate ID.eq P.cmp V.part_of QS.has_quorum (λ v w. w ≡ value) id.now result)) };
 
@@ -107,9 +105,9 @@ pub trait Progress<ID: Copy + Ord, V: ProgressPart<P>, P: Copy + Ord, QS: Quorum
     where
         V: PartialOrd,
         requires ordered { IsInOrder ID.eq P.cmp V.part_of QS.has_quorum (shows self.old) }
-        requires not_lower { (v : V) → (state ID.eq (shows self.old)).value id.now ≡ Some v → partial_gt V.partial_cmp value v ≡ true → AtMost P.cmp (V.part_of v) (V.part_of value) }
+        requires not_lower { IsNotLowerIfGreater ID.eq P.cmp V.part_of V.partial_cmp (shows self.old) id.now value }
         ensures* after { sem 𝓛 (LendsGranted Self.row shows self.entry
-            (IsAnsweredUpdate ID.eq P.cmp V.part_of QS.has_quorum (λ v w. w ≡ (if partial_gt V.partial_cmp value v then value else v)) id.now result)) };
+            (IsAnsweredUpdate ID.eq P.cmp V.part_of QS.has_quorum (IsGreaterOf V.partial_cmp value) id.now result)) };
 
     /// Whether the learners fit a quorum set: none stands twice, and none is a voter.
     fn learners_fit(alloc: Global, quorum_set: &QS, learners: &[ID]) -> Result<bool, AllocError>
@@ -132,12 +130,14 @@ pub trait Progress<ID: Copy + Ord, V: ProgressPart<P>, P: Copy + Ord, QS: Quorum
         requires ordered { IsInOrder ID.eq P.cmp V.part_of QS.has_quorum (shows self.now) }
         requires clones_have_the_part { (v w : V) → V.is_clone v w → V.part_of w ≡ V.part_of v }
         requires learners_fit { LearnersFit ID.eq (QS.is_voter quorum_set) learners.now }
-        requires can_upgrade { CanUpgrade ID.eq P.cmp V.part_of (QS.is_voter quorum_set) learners.now default ((state ID.eq (shows self.now)).value) }
+        requires can_upgrade { CanUpgrade ID.eq P.cmp V.part_of (QS.is_voter quorum_set)
+            learners.now default (state ID.eq (shows self.now)).value }
         ensures made { IfOk result (λ made. IsUpgraded ID.eq V.is_clone V.part_of (QS.is_voter quorum_set)
             quorum_set learners.now default (state ID.eq (shows self.now)).value (state ID.eq (shows made))) }
         ensures ordered { IfOk result (λ made. IsInOrder ID.eq P.cmp V.part_of QS.has_quorum (shows made)) }
         ensures fold { IfOk result (λ made. IsUpgradeFold ID.eq ID.cmp P.cmp V.part_of V.is_clone QS.is_voter
             (shows self.now) quorum_set learners.now default (shows made)) }
-        ensures learners { IfOk result (λ made. drop (shows made).voter_count (keys_of (shows made).walk) ≡ learners.now) }
-        ensures counts { IfOk result (λ made. CountsGoOn (length (shows self.now).walk) (shows made).voter_count (shows self.now).stat (shows made).stat) };
+        ensures learners { IfOk result (λ made. learner_ids (shows made) ≡ learners.now) }
+        ensures counts { IfOk result (λ made. CountsGoOn (length (shows self.now).walk) (shows made).voter_count
+            (shows self.now).stat (shows made).stat) };
 }

@@ -24,7 +24,7 @@ pub type MembershipProgress<NID, V, P> = VecProgress<
 /// A quorum of the progress is a quorum of the membership, and its learners are the membership's.
 /// Both change only together, by `replay`. So the progress is always in order, and counts by the
 /// membership.
-#[derive(Debug, Drop)]
+#[derive(Debug, PartialEq, Eq, Drop)]
 pub struct Tracked<NID: NodeId, N: Node, V: ProgressPart<P>, P: Copy + Ord> {
     pub(super) membership: Membership<NID, N>,
     pub(super) progress: MembershipProgress<NID, V, P>,
@@ -71,6 +71,33 @@ impl<NID: NodeId, N: Node, V: ProgressPart<P> + Drop, P: Copy + Ord> Tracked<NID
         ensures { shown result.now ≡ (tracked self.now).progress }
     {
         &self.progress
+    }
+}
+
+impl<NID: NodeId, N: Node, V: ProgressPart<P> + Clone + Drop, P: Copy + Ord> Tracked<NID, N, V, P> {
+    ghost use Rattle.std.specs.Prelude.{◌≡◌, IfOk, IsTrue};
+    ghost use Rattle.std.specs.Set.{ClonesAreEqual};
+    ghost use Rattle.raft_members.specs.Members.{same_members};
+    ghost use Rattle.raft_progress.specs.Equal.{IsCloned};
+    ghost use Rattle.raft_progress.specs.Tracked.{tracked};
+    ghost use Rattle.raft_progress.specs.TrackedState.{HasSameConfigs};
+
+    /// An equal membership, with a progress that has a clone of each value and all else the same.
+    pub fn try_clone(&self) -> Result<Self, AllocError>
+        requires clones_have_the_part { (v w : V) → V.is_clone v w → V.part_of w ≡ V.part_of v }
+        requires clones_of_nodes_are_equal { ClonesAreEqual N.eq N.is_clone }
+        ensures membership { IfOk result (λ made. IsTrue (same_members NID.eq N.eq
+            (tracked self.now).membership (tracked made).membership)) }
+        ensures progress { IfOk result (λ made. IsCloned V.is_clone HasSameConfigs
+            (tracked self.now).progress (tracked made).progress) }
+    {
+        let membership = self.membership.try_clone()?;
+        let configs = membership.to_quorum_set()?;
+        let progress = self.progress.clone_over(configs)?;
+        Ok(Tracked {
+            membership,
+            progress,
+        })
     }
 }
 

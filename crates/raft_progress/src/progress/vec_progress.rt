@@ -40,23 +40,21 @@ impl<
     P: Copy + Ord,
     QS: QuorumSet<ID> + Drop,
 > VecProgress<ID, V, P, QS> {
-    ghost use Rattle.std.specs.Prelude.{◌≡◌, ◌≤◌, ◌<◌, ◌↔◌, ℕ, IsTrue, IfOk, position, is_some, IsSome, Bool, true, if◌then◌else◌, length, drop, ◌&&◌};
+    ghost use Rattle.std.specs.Prelude.{◌≡◌, ◌≤◌, ◌<◌, ◌↔◌, ℕ, IsTrue, IfOk, position, is_some, IsSome, length, ◌&&◌};
     ghost use Rattle.std.specs.Borrow.{sem};
     ghost use Rattle.std.specs.Slice.Iter.{iter_mut_name, iter_mut_rest, iter_rest};
-    ghost use Rattle.std.specs.Ordering.{partial_gt};
-    ghost use Rattle.std.specs.Fn.{FnOnceReturnsAtMut, FnOnceTakesAtMut};
-    ghost use Rattle.std.specs.Option.{option_copied, option_copied_mut};
+    ghost use Rattle.std.specs.Fn.{FnOnceTakesAtMut};
+    ghost use Rattle.std.specs.Option.{ForSome, option_copied, option_copied_mut};
     ghost use Rattle.std.specs.Map.{keys_of};
     ghost use Rattle.std.specs.List.{IsDistinct};
-    ghost use Rattle.raft_progress.specs.CountedValue.{AtMost};
     ghost use Rattle.raft_progress.specs.InOrder.{IsInOrder};
     ghost use Rattle.raft_progress.specs.Inner.Settled.{IsPutInOrder, IsRaised, IsScanned};
     ghost use Rattle.raft_progress.specs.contracts.progress.vec_progress.VecProgress.{the_row};
     ghost use Rattle.raft_progress.specs.Lends.{IsAnsweredUpdate, Leaves, LendsGranted, LendsValue, LendsWalk};
     ghost use Rattle.raft_progress.specs.NewProgress.{IsFirstWalk, IsNew, LearnersFit};
     ghost use Rattle.raft_progress.specs.ProgressState.{voter_of};
-    ghost use Rattle.raft_progress.specs.Shown.{state};
-    ghost use Rattle.raft_progress.specs.Updated.{IsUpdated};
+    ghost use Rattle.raft_progress.specs.Shown.{learner_ids, state};
+    ghost use Rattle.raft_progress.specs.Updated.{IsGreaterOf, IsNotLower, IsNotLowerIfGreater, IsUpdated, NeverFalls};
     ghost use Rattle.raft_progress.specs.Upgrade.{CanUpgrade, IsLeastBelow, IsUpgraded};
     ghost use Rattle.raft_progress.specs.UpgradeFold.{IsUpgradeFold};
     ghost use Rattle.raft_progress.specs.Inner.Tests.{IsLeastPassing, among, is_value_below};
@@ -88,7 +86,8 @@ impl<
         V: Clone,
         requires clones_have_the_part { (w : V) → V.is_clone default w → V.part_of w ≡ V.part_of default }
         requires learners_fit { LearnersFit ID.eq (QS.is_voter quorum_set) learners.now }
-        ensures made { IfOk result (λ made. IsNew ID.eq V.is_clone V.part_of (QS.is_voter quorum_set) quorum_set learners.now default (state ID.eq (shown made))) }
+        ensures made { IfOk result (λ made. IsNew ID.eq V.is_clone V.part_of (QS.is_voter quorum_set)
+            quorum_set learners.now default (state ID.eq (shown made))) }
         ensures walk { IfOk result (λ made. IsFirstWalk ID.cmp learners.now (shown made)) }
         ensures granted { IfOk result (λ made. (shown made).granted ≡ V.part_of default) }
         ensures ordered { IfOk result (λ made. IsInOrder ID.eq P.cmp V.part_of QS.has_quorum (shown made)) }
@@ -132,14 +131,16 @@ impl<
         requires ordered { IsInOrder ID.eq P.cmp V.part_of QS.has_quorum (shown self.now) }
         requires clones_have_the_part { (v w : V) → V.is_clone v w → V.part_of w ≡ V.part_of v }
         requires learners_fit { LearnersFit ID.eq (QS.is_voter quorum_set) learners.now }
-        requires can_upgrade { CanUpgrade ID.eq P.cmp V.part_of (QS.is_voter quorum_set) learners.now default ((state ID.eq (shown self.now)).value) }
+        requires can_upgrade { CanUpgrade ID.eq P.cmp V.part_of (QS.is_voter quorum_set)
+            learners.now default (state ID.eq (shown self.now)).value }
         ensures made { IfOk result (λ made. IsUpgraded ID.eq V.is_clone V.part_of (QS.is_voter quorum_set)
             quorum_set learners.now default (state ID.eq (shown self.now)).value (state ID.eq (shown made))) }
         ensures ordered { IfOk result (λ made. IsInOrder ID.eq P.cmp V.part_of QS.has_quorum (shown made)) }
         ensures fold { IfOk result (λ made. IsUpgradeFold ID.eq ID.cmp P.cmp V.part_of V.is_clone QS.is_voter
             (shown self.now) quorum_set learners.now default (shown made)) }
-        ensures learners { IfOk result (λ made. drop (shown made).voter_count (keys_of (shown made).walk) ≡ learners.now) }
-        ensures counts { IfOk result (λ made. CountsGoOn (length (shown self.now).walk) (shown made).voter_count (shown self.now).stat (shown made).stat) }
+        ensures learners { IfOk result (λ made. learner_ids (shown made) ≡ learners.now) }
+        ensures counts { IfOk result (λ made. CountsGoOn (length (shown self.now).walk) (shown made).voter_count
+            (shown self.now).stat (shown made).stat) }
     {
         let alloc = self.allocator();
         let mut made = VecProgress::new(alloc, quorum_set, learners, default)?;
@@ -171,7 +172,7 @@ impl<
     /// Writes the value of an id, where it is known.
     fn take_over(&mut self, id: &ID, value: V)
         requires ordered { IsInOrder ID.eq P.cmp V.part_of QS.has_quorum (shown self.old) }
-        requires not_lower { (v : V) → (state ID.eq (shown self.old)).value id.now ≡ Some v → AtMost P.cmp (V.part_of v) (V.part_of value) }
+        requires not_lower { IsNotLower ID.eq P.cmp V.part_of (shown self.old) id.now value }
         ensures updated { IsUpdated ID.eq P.cmp V.part_of (λ v w. w ≡ value) (shown self.old) id.now (shown self.new) }
         ensures ordered { IsInOrder ID.eq P.cmp V.part_of QS.has_quorum (shown self.new) }
     {
@@ -193,7 +194,8 @@ impl<
         learners: &[ID],
         default: &V,
     ) -> Result<bool, AllocError>
-        ensures { IfOk result (λ can. IsTrue can ↔ CanUpgrade ID.eq P.cmp V.part_of (QS.is_voter quorum_set.now) learners.now default.now ((state ID.eq (shown self.now)).value)) }
+        ensures { IfOk result (λ can. IsTrue can ↔ CanUpgrade ID.eq P.cmp V.part_of
+            (QS.is_voter quorum_set.now) learners.now default.now (state ID.eq (shown self.now)).value) }
     {
         let least = self.least_below(quorum_set, learners, default)?;
         Ok(least.is_none())
@@ -206,8 +208,10 @@ impl<
         learners: &[ID],
         default: &V,
     ) -> Result<Option<ID>, AllocError>
-        ensures none { IfOk result (λ least. least ≡ None → CanUpgrade ID.eq P.cmp V.part_of (QS.is_voter quorum_set.now) learners.now default.now ((state ID.eq (shown self.now)).value)) }
-        ensures some { IfOk result (λ least. (id : ID) → least ≡ Some id → IsLeastBelow ID.eq ID.cmp P.cmp V.part_of (QS.is_voter quorum_set.now) learners.now default.now ((state ID.eq (shown self.now)).value) id) }
+        ensures none { IfOk result (λ least. least ≡ None → CanUpgrade ID.eq P.cmp V.part_of
+            (QS.is_voter quorum_set.now) learners.now default.now (state ID.eq (shown self.now)).value) }
+        ensures some { IfOk result (λ least. ForSome least (IsLeastBelow ID.eq ID.cmp P.cmp V.part_of
+            (QS.is_voter quorum_set.now) learners.now default.now (state ID.eq (shown self.now)).value)) }
     {
         let alloc = self.allocator();
         let voters = quorum_set.ids(alloc)?;
@@ -216,7 +220,9 @@ impl<
 
     /// The least id among the voters and the learners whose value is below a part.
     fn least_of(&self, voters: &[ID], learners: &[ID], part: P) -> Option<ID>
-        ensures { IsLeastPassing ID.cmp (λ x. among ID.eq voters.now learners.now x && is_value_below P.cmp V.part_of part ((state ID.eq (shown self.now)).value x)) (shown self.now).walk result }
+        ensures { IsLeastPassing ID.cmp (λ x. among ID.eq voters.now learners.now x
+            && is_value_below P.cmp V.part_of part ((state ID.eq (shown self.now)).value x))
+            (shown self.now).walk result }
     {
         let mut least = None;
         for entry in &self.walk {
@@ -229,7 +235,8 @@ impl<
 
     /// Whether an id is one of the voters or learners, and its value is below a part.
     fn is_below(&self, voters: &[ID], learners: &[ID], part: P, id: &ID) -> bool
-        ensures { result ≡ (among ID.eq voters.now learners.now id.now && is_value_below P.cmp V.part_of part ((state ID.eq (shown self.now)).value id.now)) }
+        ensures { result ≡ (among ID.eq voters.now learners.now id.now
+            && is_value_below P.cmp V.part_of part ((state ID.eq (shown self.now)).value id.now)) }
     {
         is_among(voters, learners, id) && self.is_value_below(part, id)
     }
@@ -379,8 +386,8 @@ impl<
     /// learner grants nothing. No memory is taken.
     pub fn update_with<F: FnOnce(&mut V)>(&mut self, id: &ID, f: F) -> Result<&P, &P>
         requires ordered { IsInOrder ID.eq P.cmp V.part_of QS.has_quorum (shown self.old) }
-        requires callable { (v : V) → (state ID.eq (shown self.old)).value id.now ≡ Some v → FnOnceTakesAtMut F.FnOnce f v }
-        requires not_lower { (v w : V) → (state ID.eq (shown self.old)).value id.now ≡ Some v → FnOnceReturnsAtMut F.FnOnce f v tt w → AtMost P.cmp (V.part_of v) (V.part_of w) }
+        requires callable { ForSome ((state ID.eq (shown self.old)).value id.now) (FnOnceTakesAtMut F.FnOnce f) }
+        requires not_lower { NeverFalls ID.eq P.cmp V.part_of (Leaves F.FnOnce f) (shown self.old) id.now }
         ensures* after { sem 𝓛 (LendsGranted
             (the_row ID.row V.row P.row QS.row ID.Ord.own ID.PartialEq ID.PartialOrd.own) shown self.entry
             (IsAnsweredUpdate ID.eq P.cmp V.part_of QS.has_quorum (Leaves F.FnOnce f) id.now result)) }
@@ -395,7 +402,7 @@ impl<
     /// Writes the value of an id, and answers granted: as an error where the id is unknown.
     pub fn update(&mut self, id: &ID, value: V) -> Result<&P, &P>
         requires ordered { IsInOrder ID.eq P.cmp V.part_of QS.has_quorum (shown self.old) }
-        requires not_lower { (v : V) → (state ID.eq (shown self.old)).value id.now ≡ Some v → AtMost P.cmp (V.part_of v) (V.part_of value) }
+        requires not_lower { IsNotLower ID.eq P.cmp V.part_of (shown self.old) id.now value }
         ensures* after { sem 𝓛 (LendsGranted
             (the_row ID.row V.row P.row QS.row ID.Ord.own ID.PartialEq ID.PartialOrd.own) shown self.entry
             (IsAnsweredUpdate ID.eq P.cmp V.part_of QS.has_quorum (λ v w. w ≡ value) id.now result)) }
@@ -409,10 +416,10 @@ impl<
     where
         V: PartialOrd,
         requires ordered { IsInOrder ID.eq P.cmp V.part_of QS.has_quorum (shown self.old) }
-        requires not_lower { (v : V) → (state ID.eq (shown self.old)).value id.now ≡ Some v → partial_gt V.partial_cmp value v ≡ true → AtMost P.cmp (V.part_of v) (V.part_of value) }
+        requires not_lower { IsNotLowerIfGreater ID.eq P.cmp V.part_of V.partial_cmp (shown self.old) id.now value }
         ensures* after { sem 𝓛 (LendsGranted
             (the_row ID.row V.row P.row QS.row ID.Ord.own ID.PartialEq ID.PartialOrd.own) shown self.entry
-            (IsAnsweredUpdate ID.eq P.cmp V.part_of QS.has_quorum (λ v w. w ≡ (if partial_gt V.partial_cmp value v then value else v)) id.now result)) }
+            (IsAnsweredUpdate ID.eq P.cmp V.part_of QS.has_quorum (IsGreaterOf V.partial_cmp value) id.now result)) }
     {
         self.update_with(id, |current| {
             if value > *current {
@@ -424,9 +431,9 @@ impl<
     /// Changes the value of an id by `f`, recounts granted, and answers whether the id is known.
     fn apply<F: FnOnce(&mut V)>(&mut self, id: &ID, f: F) -> bool
         requires ordered { IsInOrder ID.eq P.cmp V.part_of QS.has_quorum (shown self.old) }
-        requires callable { (v : V) → (state ID.eq (shown self.old)).value id.now ≡ Some v → FnOnceTakesAtMut F.FnOnce f v }
-        requires not_lower { (v w : V) → (state ID.eq (shown self.old)).value id.now ≡ Some v → FnOnceReturnsAtMut F.FnOnce f v tt w → AtMost P.cmp (V.part_of v) (V.part_of w) }
-        ensures updated { IsUpdated ID.eq P.cmp V.part_of (λ v w. FnOnceReturnsAtMut F.FnOnce f v tt w) (shown self.old) id.now (shown self.new) }
+        requires callable { ForSome ((state ID.eq (shown self.old)).value id.now) (FnOnceTakesAtMut F.FnOnce f) }
+        requires not_lower { NeverFalls ID.eq P.cmp V.part_of (Leaves F.FnOnce f) (shown self.old) id.now }
+        ensures updated { IsUpdated ID.eq P.cmp V.part_of (Leaves F.FnOnce f) (shown self.old) id.now (shown self.new) }
         ensures ordered { IsInOrder ID.eq P.cmp V.part_of QS.has_quorum (shown self.new) }
         ensures known { result ≡ is_some ((state ID.eq (shown self.old)).value id.now) }
     {
@@ -487,14 +494,14 @@ impl<
 
 impl<ID: Copy + Ord, V: PartialEq, P: Copy + Ord, QS: PartialEq> PartialEq
     for VecProgress<ID, V, P, QS> {
-    ghost use Rattle.std.specs.Cmp.{and_per, nat_eq_equiv, on_per, partial_equiv_from_equiv};
-    ghost use Rattle.std.specs.Cmp.Lexicographic.{lists_per};
+    ghost use Rattle.std.specs.Cmp.{on_per};
     ghost use Rattle.raft_progress.specs.Equal.{equal};
+    ghost use Rattle.raft_progress.specs.EqualLaws.{equal-per};
     ghost use Rattle.raft_progress.specs.VecProgress.{shown};
 
     ghost eq = { λ a b. equal ID.eq V.eq P.eq QS.eq (shown a) (shown b) };
 
-    ghost laws = { and_per (and_per (and_per (and_per (and_per (on_per (λ a. a.quorum_set) QS.PartialEq.laws) (on_per (λ a. a.granted) P.PartialEq.laws)) (on_per (λ a. a.voter_count) (partial_equiv_from_equiv nat_eq_equiv))) (on_per (λ a. a.walk.items) (lists_per (and_per (on_per (λ e. e.0) ID.PartialEq.laws) (on_per (λ e. e.1) V.PartialEq.laws))))) (on_per (λ a. a.default_part) P.PartialEq.laws)) (on_per (λ a. a.stat) (and_per (and_per (on_per (λ t. t.update_count) (partial_equiv_from_equiv nat_eq_equiv)) (on_per (λ t. t.move_count) (partial_equiv_from_equiv nat_eq_equiv))) (on_per (λ t. t.is_quorum_count) (partial_equiv_from_equiv nat_eq_equiv)))) };
+    ghost laws = { on_per shown (equal-per ID.PartialEq.laws V.PartialEq.laws P.PartialEq.laws QS.PartialEq.laws) };
 
     fn eq(&self, other: &Self) -> bool {
         self.quorum_set == other.quorum_set
@@ -507,10 +514,33 @@ impl<ID: Copy + Ord, V: PartialEq, P: Copy + Ord, QS: PartialEq> PartialEq
 }
 
 impl<ID: Copy + Ord, V: Eq, P: Copy + Ord, QS: Eq> Eq for VecProgress<ID, V, P, QS> {
-    ghost use Rattle.std.specs.Cmp.{and_equiv, nat_eq_equiv, on_equiv};
-    ghost use Rattle.std.specs.Cmp.Lexicographic.{lists_equiv};
+    ghost use Rattle.std.specs.Cmp.{on_equiv};
+    ghost use Rattle.raft_progress.specs.EqualLaws.{equal-equiv};
+    ghost use Rattle.raft_progress.specs.VecProgress.{shown};
 
-    ghost laws = { and_equiv (and_equiv (and_equiv (and_equiv (and_equiv (on_equiv (λ a. a.quorum_set) QS.Eq.laws) (on_equiv (λ a. a.granted) P.Eq.laws)) (on_equiv (λ a. a.voter_count) nat_eq_equiv)) (on_equiv (λ a. a.walk.items) (lists_equiv (and_equiv (on_equiv (λ e. e.0) ID.Eq.laws) (on_equiv (λ e. e.1) V.Eq.laws))))) (on_equiv (λ a. a.default_part) P.Eq.laws)) (on_equiv (λ a. a.stat) (and_equiv (and_equiv (on_equiv (λ t. t.update_count) nat_eq_equiv) (on_equiv (λ t. t.move_count) nat_eq_equiv)) (on_equiv (λ t. t.is_quorum_count) nat_eq_equiv))) };
+    ghost laws = { on_equiv shown (equal-equiv ID.Eq.laws V.Eq.laws P.Eq.laws QS.Eq.laws) };
+}
+
+impl<ID: Copy + Ord, V: Clone + Drop, P: Copy + Ord, QS: Drop> VecProgress<ID, V, P, QS> {
+    ghost use Rattle.std.specs.Prelude.{◌≡◌, IfOk};
+    ghost use Rattle.raft_progress.specs.Equal.{IsCloned};
+    ghost use Rattle.raft_progress.specs.VecProgress.{shown};
+
+    /// A clone of the values over a quorum set, which reserves the room that `new` does.
+    pub(super) fn clone_over(&self, quorum_set: QS) -> Result<Self, AllocError>
+        ensures { IfOk result (λ made. IsCloned V.is_clone (λ old new. new ≡ quorum_set) (shown self.now) (shown made)) }
+    {
+        let alloc = *self.walk.allocator();
+        Ok(VecProgress {
+            quorum_set,
+            granted: self.granted,
+            default_part: self.default_part,
+            voter_count: self.voter_count,
+            walk: clone_walk(alloc, &self.walk)?,
+            room: copy_ids(alloc, &self.room)?,
+            stat: self.stat.clone()?,
+        })
+    }
 }
 
 /// A clone reserves the room that `new` does.

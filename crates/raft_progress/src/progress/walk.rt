@@ -1,8 +1,10 @@
-//! The entries of a progress: made, and written one at a time.
-ghost use Rattle.std.specs.Prelude.{◌≡◌, ◌<◌, length, slice_set, slice_get, OnOk, IfOk};
+//! The walk of a progress: its entries are made, and written one at a time.
+ghost use Rattle.std.specs.Prelude.{◌≡◌, ◌<◌, length, slice_get, OnOk, IfOk};
 ghost use Rattle.std.specs.List.{AllZip};
-ghost use Rattle.std.specs.Fn.{FnOnceReturnsAtMut, FnOnceTakesAtMut};
-ghost use Rattle.raft_progress.specs.Inner.Placed.{IsPlaced};
+ghost use Rattle.std.specs.Fn.{FnOnceTakesAtMut};
+ghost use Rattle.std.specs.Option.{ForSome};
+ghost use Rattle.raft_progress.specs.Inner.Placed.{IsPlaced, IsWrittenAt};
+ghost use Rattle.raft_progress.specs.Lends.{Leaves};
 
 use std::alloc::{AllocError, Global};
 
@@ -23,8 +25,8 @@ pub(crate) fn place_all<ID: Copy, V: Clone>(
 /// Runs `f` on the value at a place.
 pub(crate) fn write_at<ID: Copy, V, F: FnOnce(&mut V)>(walk: &mut Vec<(ID, V)>, place: usize, f: F)
     requires within { place < length walk.old.items }
-    requires callable { (e : ID × V) → slice_get walk.old.items place ≡ Some e → FnOnceTakesAtMut F.FnOnce f e.1 }
-    ensures { (e : ID × V) × (w : V) × (slice_get walk.old.items place ≡ Some e) × FnOnceReturnsAtMut F.FnOnce f e.1 tt w × (walk.new.items ≡ slice_set walk.old.items place (e.0, w)) }
+    requires callable { ForSome (slice_get walk.old.items place) (λ e. FnOnceTakesAtMut F.FnOnce f e.1) }
+    ensures { IsWrittenAt (Leaves F.FnOnce f) place walk.old.items walk.new.items }
 {
     let entry = &mut walk[place];
     f(&mut entry.1);
