@@ -54,6 +54,18 @@ nodes_there {K} {N} {eq} laws id_cmp ties same (x ∷ xs) (y ∷ ys) h id =
     by true r = refl
     by false r = r
 
+-- a clone over a quorum set of the same configs
+pub same_configs : {K V P : Type 0} (old new : Shown K V P (Configs K)) (configs : Configs K) (IsClone : V → V → Type 0) → IsCloned IsClone (λ a b. b ≡ configs) old new → HasSameConfigs old.quorum_set configs → IsCloned IsClone HasSameConfigs old new
+same_configs {K} old new configs IsClone c same = record {
+  quorum_set = ap (λ (q : Configs K). map (λ x. x.items) q.items) c.quorum_set ∙ same;
+  walk = c.walk;
+  voter_count = c.voter_count;
+  default_part = c.default_part;
+  granted = c.granted;
+  stat = c.stat;
+}
+
+-- and it is ready
 pub ready_cloned : {K N V P : Type 0} {eq : K → K → Bool} (laws : IsEquivalence eq) (id_cmp : K → K → Ordering) → ((x y : K) → eq x y ≡ eq_by_cmp id_cmp x y) → (same : N → N → Bool) (cmp : P → P → Ordering) (part : V → P) (IsClone : V → V → Type 0) → ((v w : V) → IsClone v w → part w ≡ part v) → (old new : TrackedShown K N V P) → new.membership.configs ≡ old.membership.configs → same_members eq same old.membership new.membership ≡ true → IsCloned IsClone HasSameConfigs old.progress new.progress → IsReady eq id_cmp cmp part old → IsReady eq id_cmp cmp part new
 ready_cloned {K} {N} {V} {P} {eq} laws id_cmp ties same cmp part IsClone clones old new configs nodes c r =
     let ids = zip_keys IsClone old.progress.walk new.progress.walk c.walk in
