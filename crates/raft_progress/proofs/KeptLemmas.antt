@@ -118,7 +118,7 @@ module _ {ID V P : Type 0} (part : V → P) where
       by here true i r = ap Some here
       by here false i r = r i
 
-  written_parts : (test : ID → Bool) (v w : V) → part w ≡ part v → (n : ℕ) (xs : List (ID × V)) → lookup test xs ≡ Some v → map (λ e. part e.1) (take n (set_value test xs w)) ≡ map (λ e. part e.1) (take n xs)
+  pub written_parts : (test : ID → Bool) (v w : V) → part w ≡ part v → (n : ℕ) (xs : List (ID × V)) → lookup test xs ≡ Some v → map (λ e. part e.1) (take n (set_value test xs w)) ≡ map (λ e. part e.1) (take n xs)
   written_parts test v w same zero xs e = refl
   written_parts test v w same (suc n) [] e = refl
   written_parts test v w same (suc n) (x ∷ xs) e = by (test x.0) e (written_parts test v w same n xs)

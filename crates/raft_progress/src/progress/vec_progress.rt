@@ -521,7 +521,7 @@ impl<ID: Copy + Ord, V: Eq, P: Copy + Ord, QS: Eq> Eq for VecProgress<ID, V, P, 
     ghost laws = { on_equiv shown (equal-equiv ID.Eq.laws V.Eq.laws P.Eq.laws QS.Eq.laws) };
 }
 
-impl<ID: Copy + Ord, V: Clone + Drop, P: Copy + Ord, QS: Drop> VecProgress<ID, V, P, QS> {
+impl<ID: Copy + Ord, V: Clone, P: Copy + Ord, QS: Drop> VecProgress<ID, V, P, QS> {
     ghost use Rattle.std.specs.Prelude.{◌≡◌, IfOk};
     ghost use Rattle.raft_progress.specs.Equal.{IsCloned};
     ghost use Rattle.raft_progress.specs.VecProgress.{shown};
@@ -551,16 +551,8 @@ impl<ID: Copy + Ord, V: Clone, P: Copy + Ord, QS: Clone> Clone for VecProgress<I
     ghost is_clone = { λ old new. IsCloned V.is_clone QS.is_clone (shown old) (shown new) };
 
     fn clone(&self) -> Result<Self, AllocError> {
-        let alloc = *self.walk.allocator();
-        Ok(VecProgress {
-            quorum_set: self.quorum_set.clone()?,
-            granted: self.granted,
-            default_part: self.default_part,
-            voter_count: self.voter_count,
-            walk: clone_walk(alloc, &self.walk)?,
-            room: copy_ids(alloc, &self.room)?,
-            stat: self.stat.clone()?,
-        })
+        let quorum_set = self.quorum_set.clone()?;
+        self.clone_over(quorum_set)
     }
 }
 
