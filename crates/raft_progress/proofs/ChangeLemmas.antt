@@ -7,7 +7,7 @@ use Rattle.raft_members.specs.Members.{MemberList, Members, Says, members_of}
 use Rattle.raft_members.specs.Valid.{IsValid}
 use Rattle.raft_members.specs.declared.change_members.ChangeMembers.{ChangeMembers}
 use Rattle.raft_progress.specs.Inner.TakenOver.{TakesOver}
-use Rattle.raft_progress.specs.ProgressState.{State}
+use Rattle.raft_progress.specs.ProgressState.{ProgressState}
 use Rattle.raft_progress.specs.TrackedState.{Configs, TrackedState}
 use Rattle.raft_progress.specs.TrackedSteps.{GoesOver, IsChanged}
 use Rattle.raft_progress.specs.declared.progress.steps.Reply.{Reply}
@@ -16,7 +16,7 @@ use Rattle.raft_progress.proofs.TrackedLemmas.{says_configs, says_learners}
 
 module _ {K N V P : Type 0} (eq : K → K → Bool) (id_cmp : K → K → Ordering) (same : N → N → Bool) (cmp : P → P → Ordering) (part : V → P) (IsClone : V → V → Type 0) where
   -- going over to what says the same
-  goes_over : (old new : State K V P (Configs K)) (list : MemberList K N) (w : Members K N) → Says same id_cmp list w → (default : V) (reply : Reply K P) → GoesOver eq id_cmp cmp part IsClone old (members_of id_cmp list) default reply new → GoesOver eq id_cmp cmp part IsClone old w default reply new
+  goes_over : (old new : ProgressState K V P (Configs K)) (list : MemberList K N) (w : Members K N) → Says same id_cmp list w → (default : V) (reply : Reply K P) → GoesOver eq id_cmp cmp part IsClone old (members_of id_cmp list) default reply new → GoesOver eq id_cmp cmp part IsClone old w default reply new
   goes_over old new list w says default reply g = (g.0, g.1, says_configs eq id_cmp same list w says g.0 g.2, says_learners eq id_cmp same list w says g.1 g.3, g.4)
 
   -- an accepted change: the pair goes over to the changed membership

@@ -31,12 +31,12 @@ both_so : (a b : Bool) → a ≡ true → b ≡ true → (a && b) ≡ true
 both_so a b h k = λ i. h i && k i
 
 -- where a value equals its clone, entries equal theirs
-entries_equal : {ID V : Type 0} {eq : ID → ID → Bool} (laws : IsEquivalence eq) (value_eq : V → V → Bool) (IsClone : V → V → Type 0) → ClonesAreEqual value_eq IsClone → (es fs : List (ID × V)) → AllZip (λ d e. (e.0 ≡ d.0) × IsClone d.1 e.1) es fs → pointwise (λ d e. eq d.0 e.0 && value_eq d.1 e.1) es fs ≡ true
-entries_equal laws value_eq IsClone c [] [] a = refl
-entries_equal laws value_eq IsClone c [] (f ∷ fs) a = absurd a
-entries_equal laws value_eq IsClone c (e ∷ es) [] a = absurd a
-entries_equal {ID} {V} {eq} laws value_eq IsClone c (e ∷ es) (f ∷ fs) a =
-    both_so _ _ (both_so _ _ (subst (λ (x : ID). eq e.0 x ≡ true) (sym a.0.0) (laws.refl e.0)) (c e.1 f.1 a.0.1)) (entries_equal laws value_eq IsClone c es fs a.1)
+walks_equal : {ID V : Type 0} {eq : ID → ID → Bool} (laws : IsEquivalence eq) (value_eq : V → V → Bool) (IsClone : V → V → Type 0) → ClonesAreEqual value_eq IsClone → (es fs : List (ID × V)) → AllZip (λ d e. (e.0 ≡ d.0) × IsClone d.1 e.1) es fs → pointwise (λ d e. eq d.0 e.0 && value_eq d.1 e.1) es fs ≡ true
+walks_equal laws value_eq IsClone c [] [] a = refl
+walks_equal laws value_eq IsClone c [] (f ∷ fs) a = absurd a
+walks_equal laws value_eq IsClone c (e ∷ es) [] a = absurd a
+walks_equal {ID} {V} {eq} laws value_eq IsClone c (e ∷ es) (f ∷ fs) a =
+    both_so _ _ (both_so _ _ (subst (λ (x : ID). eq e.0 x ≡ true) (sym a.0.0) (laws.refl e.0)) (c e.1 f.1 a.0.1)) (walks_equal laws value_eq IsClone c es fs a.1)
 
 -- a clone is equal
 pub clone_is_equal : {ID V P QS : Type 0} {id_eq : ID → ID → Bool} (laws : IsEquivalence id_eq) (value_eq : V → V → Bool) {part_eq : P → P → Bool} (part_laws : IsEquivalence part_eq) (set_eq : QS → QS → Bool) (IsClone : V → V → Type 0) (IsSetClone : QS → QS → Type 0) → ClonesAreEqual value_eq IsClone → ClonesAreEqual set_eq IsSetClone → (old new : Shown ID V P QS) → IsCloned IsClone IsSetClone old new → equal id_eq value_eq part_eq set_eq old new ≡ true
@@ -47,7 +47,7 @@ clone_is_equal {ID} {V} {P} {QS} {id_eq} laws value_eq {part_eq} part_laws set_e
     (both_so _ _
     (both_so _ _ (sets old.quorum_set new.quorum_set c.quorum_set) (subst (λ (p : P). part_eq old.granted p ≡ true) (sym c.granted) (part_laws.refl old.granted)))
     (subst (λ (n : ℕ). nat_eq old.voter_count n ≡ true) (sym c.voter_count) (nat_eq_equiv.refl old.voter_count)))
-    (entries_equal laws value_eq IsClone values old.walk new.walk c.walk))
+    (walks_equal laws value_eq IsClone values old.walk new.walk c.walk))
     (subst (λ (p : P). part_eq old.default_part p ≡ true) (sym c.default_part) (part_laws.refl old.default_part)))
     (both_so _ _
     (both_so _ _

@@ -13,7 +13,7 @@ use Rattle.std.proofs.lemmas.List.Elements.{All-take, recursion_from_All}
 use Rattle.std.proofs.lemmas.List.Sums.{prefix_len_passes, prefix_len-le-length}
 use Rattle.raft_progress.specs.CountedValue.{AtMost, IsCounted, IsReached, has_part, reached}
 use Rattle.raft_progress.specs.Inner.Counts.{at_least, exceeds, front_test, reaches}
-use Rattle.raft_progress.specs.ProgressState.{State}
+use Rattle.raft_progress.specs.ProgressState.{ProgressState}
 use Rattle.raft_progress.specs.Walk.{IsFalling, state_of}
 use Rattle.raft_progress.proofs.RecountLemmas.{AtMost-refl, AtMost-trans, AtMost-from_lt, AtMost-from_not_lt}
 use Rattle.raft_progress.proofs.CountedAfreshLemmas.{absent, members, found, same_test, voter_value}
@@ -60,7 +60,7 @@ module _ {ID V : Type 0} {eq : ID → ID → Bool} (laws : IsEquivalence eq) whe
       by false false a u h = h
 
 module _ {ID V P QS : Type 0} {eq : ID → ID → Bool} (laws : IsEquivalence eq) {cmp : P → P → Ordering} (o : IsTotalOrder cmp) (part : V → P) (has_quorum : QS → (ID → Bool) → Bool) (qs : QS) (superset : (s t : ID → Bool) → ((x : ID) → s x ≡ true → t x ≡ true) → has_quorum qs s ≡ true → has_quorum qs t ≡ true) (d0 : P) (n : ℕ) where
-  abbrev St : List (ID × V) → State ID V P QS
+  abbrev St : List (ID × V) → ProgressState ID V P QS
   St walk = state_of eq qs walk n d0
 
   -- the voters whose part exceeds g

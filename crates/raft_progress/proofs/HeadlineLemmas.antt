@@ -67,7 +67,7 @@ module _ {K V P QS : Type 0} {eq : K → K → Bool} (laws : IsEquivalence eq) {
           let at = has_value eq p.voter_count p.walk id v in
           ap (has_part cmp part p.granted) at.1 ∙ AtMost-trans o p.granted p.default_part (part at.0) (back p.default_part p.granted e) (r.not_below id at.0 v at.1)
 
-list_all-mapped : {X Y : Type 0} (f : X → Y) (t : Y → Bool) (xs : List X) → list_all t (map f xs) ≡ list_all (λ x. t (f x)) xs
+pub list_all-mapped : {X Y : Type 0} (f : X → Y) (t : Y → Bool) (xs : List X) → list_all t (map f xs) ≡ list_all (λ x. t (f x)) xs
 list_all-mapped f t [] = refl
 list_all-mapped f t (x ∷ xs) = ap (λ b. t (f x) && b) (list_all-mapped f t xs)
 

@@ -10,7 +10,7 @@ use Rattle.std.specs.List.{IsDistinct, AllByRecursion, list_any, list_all}
 use Rattle.std.proofs.Common.{arith, sym, ap, refl, ◌∙◌, true≢false, inl, inr, suc, zero}
 use Rattle.std.proofs.lemmas.List.Elements.{All-take, recursion_from_All}
 use Rattle.raft_progress.specs.CountedValue.{AtMost, IsCounted, IsReached}
-use Rattle.raft_progress.specs.ProgressState.{State}
+use Rattle.raft_progress.specs.ProgressState.{ProgressState}
 use Rattle.raft_progress.specs.Walk.{IsFalling}
 use Rattle.raft_progress.specs.Inner.Counts.{at_least}
 use Rattle.raft_progress.specs.Inner.Tests.{ids_differ, never_rises}
@@ -110,7 +110,7 @@ module _ {P : Type 0} {cmp : P → P → Ordering} (o : IsTotalOrder cmp) where
   tied_with : (a g h : P) → cmp a g ≡ Equal → cmp g h ≡ Equal → cmp a h ≡ Equal
   tied_with a g h t e = tie a h (AtMost-trans o a g h (ap is_le t) (ap is_le e)) (AtMost-trans o h g a (back g h e) (back a g t))
 
-module _ {ID V P QS : Type 0} {cmp : P → P → Ordering} (o : IsTotalOrder cmp) (part : V → P) (has_quorum : QS → (ID → Bool) → Bool) (s : State ID V P QS) where
+module _ {ID V P QS : Type 0} {cmp : P → P → Ordering} (o : IsTotalOrder cmp) (part : V → P) (has_quorum : QS → (ID → Bool) → Bool) (s : ProgressState ID V P QS) where
   counted_at_most : (g h : P) → IsCounted cmp part has_quorum s g → IsCounted cmp part has_quorum s h → AtMost cmp g h
   counted_at_most g h c d =
       elim c.is_one as (λ _. AtMost cmp g h) [

@@ -6,7 +6,7 @@ use Rattle.std.specs.Cmp.{IsEquivalence}
 use Rattle.std.proofs.Common.{ap, sym, subst, ◌∙◌}
 use Rattle.raft_progress.specs.CountedValue.{IsCounted}
 use Rattle.raft_progress.specs.InOrder.{IsInOrder}
-use Rattle.raft_progress.specs.ProgressState.{IsSame, State, Writes}
+use Rattle.raft_progress.specs.ProgressState.{IsSame, ProgressState, Writes}
 use Rattle.raft_progress.specs.Shown.{Shown, state}
 use Rattle.raft_progress.specs.Steps.{IsIncreased, IsWritten, falls, stays}
 use Rattle.raft_progress.specs.Updated.{IsUpdated}
@@ -16,11 +16,11 @@ use Rattle.raft_progress.proofs.UpdateLemmas.{lookup_alike}
 
 module _ {ID V P QS : Type 0} where
   -- what is the same everywhere is the same
-  pub same_is_equal : (old new : State ID V P QS) → IsSame old new → new ≡ old
+  pub same_is_equal : (old new : ProgressState ID V P QS) → IsSame old new → new ≡ old
   same_is_equal old new s = λ i. record { quorum_set = s.quorum_set i; is_voter = λ x. s.is_voter x i; value = λ x. s.value x i; default_part = s.default_part i }
 
   -- writing the value that is there changes nothing
-  written_same : (eq : ID → ID → Bool) (old new : State ID V P QS) (id : ID) (v : V) → ((x y : ID) → eq x y ≡ true → old.value x ≡ old.value y) → old.value id ≡ Some v → Writes eq old id v new → IsSame old new
+  written_same : (eq : ID → ID → Bool) (old new : ProgressState ID V P QS) (id : ID) (v : V) → ((x y : ID) → eq x y ≡ true → old.value x ≡ old.value y) → old.value id ≡ Some v → Writes eq old id v new → IsSame old new
   written_same eq old new id v alike e w = record {
     quorum_set = w.quorum_set;
     is_voter = w.is_voter;
@@ -52,4 +52,4 @@ module _ {ID V P QS : Type 0} {eq : ID → ID → Bool} (laws : IsEquivalence eq
       by false t =
           let is : k.0 ≡ v = k.1 ∙ ap (λ b. cond b value v) t in
           let same = written_same eq (state eq old) (state eq new) id v (λ x y h. lookup_alike laws x y h old.walk) e (subst (λ (w : V). Writes eq (state eq old) id w (state eq new)) is k.2) in
-          (granted, refl, subst (λ (s : State ID V P QS). IsCounted cmp part has_quorum s granted) (same_is_equal (state eq old) (state eq new) same) counted, same)
+          (granted, refl, subst (λ (s : ProgressState ID V P QS). IsCounted cmp part has_quorum s granted) (same_is_equal (state eq old) (state eq new) same) counted, same)

@@ -6,10 +6,12 @@ use Rattle.std.specs.Set.{is_member}
 use Rattle.std.proofs.Common.{ap, sym, subst, ◌∙◌, true≢false}
 use Rattle.raft_members.specs.Majority.{is_voter_of}
 use Rattle.raft_members.specs.Members.{MemberList, Members, Says, members_of, node_at}
+use Rattle.raft_progress.specs.InOrder.{IsInOrder}
 use Rattle.raft_progress.specs.NewProgress.{HasClone, LearnersFit}
-use Rattle.raft_progress.specs.ProgressState.{IsSame, State, Writes}
+use Rattle.raft_progress.specs.Shown.{Shown, state}
+use Rattle.raft_progress.specs.ProgressState.{IsSame, ProgressState, Writes}
 use Rattle.raft_progress.specs.Steps.{IsIncreased, IsWritten, stays}
-use Rattle.raft_progress.specs.TrackedState.{AreLearners, Configs, CountsBy, HasConfigs, is_voter}
+use Rattle.raft_progress.specs.TrackedState.{AreLearners, Configs, CountsBy, HasConfigs, IsReady, has_quorum, is_voter}
 use Rattle.raft_progress.specs.Upgrade.{Inherits, IsUpgraded}
 use Rattle.raft_progress.specs.declared.progress.steps.Reply.{Reply}
 use Rattle.raft_progress.specs.declared.progress.steps.Reply.TheVariants.{Granted, Unknown, WouldFall, Refused, BelowDefault, BadLearners, OutOfMemory}
@@ -40,7 +42,7 @@ module _ {K N : Type 0} (eq : K → K → Bool) (m : Members K N) (configs : Con
   inherited_there IsClone default None new h = clone_there IsClone default new h
   inherited_there IsClone default (Some v) new h = clone_there IsClone v new h
 
-  module _ {V P : Type 0} (IsClone : V → V → Type 0) (part : V → P) (default : V) (old : K → Option V) (new : State K V P (Configs K)) (u : IsUpgraded eq IsClone part (is_voter eq configs) configs learners default old new) where
+  module _ {V P : Type 0} (IsClone : V → V → Type 0) (part : V → P) (default : V) (old : K → Option V) (new : ProgressState K V P (Configs K)) (u : IsUpgraded eq IsClone part (is_voter eq configs) configs learners default old new) where
     -- an id has a value exactly if it is a voter or has a node
     pub upgraded_known : (id : K) → is_some (new.value id) ≡ (is_voter_of eq m.configs id || is_some (m.node id))
     upgraded_known id = by (is_voter eq configs id || is_member eq learners id) refl ∙ is_in id
@@ -50,16 +52,23 @@ module _ {K N : Type 0} (eq : K → K → Bool) (m : Members K N) (configs : Con
         by false t = ap is_some (u.others id t) ∙ sym t
 
 -- an upgraded progress counts by the membership whose configs and learners it went over to
-pub counts_upgraded : {K N V P : Type 0} (eq : K → K → Bool) (id_cmp : K → K → Ordering) (list : MemberList K N) (configs : Configs K) (learners : List K) → ((id : K) → is_voter eq configs id ≡ is_voter_of eq list.configs id) → HasConfigs (members_of id_cmp list) configs → AreLearners eq (members_of id_cmp list) learners → (IsClone : V → V → Type 0) (part : V → P) (default : V) (old : K → Option V) (new : State K V P (Configs K)) → IsUpgraded eq IsClone part (is_voter eq configs) configs learners default old new → CountsBy eq id_cmp (record { membership = list; progress = new })
+pub counts_upgraded : {K N V P : Type 0} (eq : K → K → Bool) (id_cmp : K → K → Ordering) (list : MemberList K N) (configs : Configs K) (learners : List K) → ((id : K) → is_voter eq configs id ≡ is_voter_of eq list.configs id) → HasConfigs (members_of id_cmp list) configs → AreLearners eq (members_of id_cmp list) learners → (IsClone : V → V → Type 0) (part : V → P) (default : V) (old : K → Option V) (new : ProgressState K V P (Configs K)) → IsUpgraded eq IsClone part (is_voter eq configs) configs learners default old new → CountsBy eq id_cmp (record { membership = list; progress = new })
 counts_upgraded {K} eq id_cmp list configs learners voters h l IsClone part default old new u = record {
   configs = subst (λ (c : Configs K). HasConfigs (members_of id_cmp list) c) (sym u.same_quorum_set) h;
   voters = λ id. u.voters id ∙ voters id;
   known = upgraded_known eq (members_of id_cmp list) configs learners voters l IsClone part default old new u;
 }
 
+-- and it is ready
+pub ready_upgraded : {K N V P : Type 0} (eq : K → K → Bool) (id_cmp : K → K → Ordering) (cmp : P → P → Ordering) (part : V → P) (list : MemberList K N) (configs : Configs K) (learners : List K) → ((id : K) → is_voter eq configs id ≡ is_voter_of eq list.configs id) → HasConfigs (members_of id_cmp list) configs → AreLearners eq (members_of id_cmp list) learners → (IsClone : V → V → Type 0) (default : V) (old : K → Option V) (p : Shown K V P (Configs K)) → IsInOrder eq cmp part (has_quorum eq) p → IsUpgraded eq IsClone part (is_voter eq configs) configs learners default old (state eq p) → IsReady eq id_cmp cmp part (record { membership = list; progress = p })
+ready_upgraded eq id_cmp cmp part list configs learners voters h l IsClone default old p r u = record {
+  ordered = r;
+  counts_by = counts_upgraded eq id_cmp list configs learners voters h l IsClone part default old (state eq p) u;
+}
+
 -- ---- steps that keep the membership
 
-module _ {K N V P : Type 0} (eq : K → K → Bool) (id_cmp : K → K → Ordering) (list list' : MemberList K N) (old new : State K V P (Configs K)) (kept : list' ≡ list) (c : CountsBy eq id_cmp (record { membership = list; progress = old })) where
+module _ {K N V P : Type 0} (eq : K → K → Bool) (id_cmp : K → K → Ordering) (list list' : MemberList K N) (old new : ProgressState K V P (Configs K)) (kept : list' ≡ list) (c : CountsBy eq id_cmp (record { membership = list; progress = old })) where
   pub counts_same : IsSame old new → CountsBy eq id_cmp (record { membership = list'; progress = new })
   counts_same s =
       subst (λ (l : MemberList K N). CountsBy eq id_cmp (record { membership = l; progress = new })) (sym kept)

@@ -6,7 +6,7 @@ use Rattle.std.specs.Set.{is_member}
 use Rattle.std.specs.List.{IsDistinct, AllByRecursion}
 use Rattle.std.proofs.Common.{arith, sym, ap, refl, ◌∙◌, get_or, subst, suc, zero}
 use Rattle.raft_progress.specs.NewProgress.{HasClone, IsNew}
-use Rattle.raft_progress.specs.ProgressState.{IsSame, State, Writes}
+use Rattle.raft_progress.specs.ProgressState.{IsSame, ProgressState, Writes}
 use Rattle.raft_progress.specs.Upgrade.{Inherits, IsUpgraded}
 use Rattle.raft_progress.proofs.WalkLemmas.{no_value}
 use Rattle.std.proofs.lemmas.Option.{slice_get-get_or}
@@ -37,7 +37,7 @@ lookup_this {ID} {V} test (x ∷ xs) e h n = by (test x.0) n (lookup_this test x
     by true m r = absurd (no_value _ _ m refl)
     by false m r = r m
 
-module _ {ID V P QS : Type 0} {eq : ID → ID → Bool} (laws : IsEquivalence eq) (IsClone : V → V → Type 0) (part : V → P) (is_voter : ID → Bool) (qs : QS) (learners : List ID) (default : V) (seen : List (ID × V)) (s s' : State ID V P QS) (u : IsUpgraded eq IsClone part is_voter qs learners default (λ x. lookup (eq x) seen) s) (alike : (x y : ID) → eq x y ≡ true → s.value x ≡ s.value y) (e : ID × V) (new_key : lookup (eq e.0) seen ≡ None) where
+module _ {ID V P QS : Type 0} {eq : ID → ID → Bool} (laws : IsEquivalence eq) (IsClone : V → V → Type 0) (part : V → P) (is_voter : ID → Bool) (qs : QS) (learners : List ID) (default : V) (seen : List (ID × V)) (s s' : ProgressState ID V P QS) (u : IsUpgraded eq IsClone part is_voter qs learners default (λ x. lookup (eq x) seen) s) (alike : (x y : ID) → eq x y ≡ true → s.value x ≡ s.value y) (e : ID × V) (new_key : lookup (eq e.0) seen ≡ None) where
   abbrev is_in : ID → Bool
   is_in x = is_voter x || is_member eq learners x
 
@@ -104,7 +104,7 @@ pub own_value : {ID V : Type 0} {eq : ID → ID → Bool} (laws : IsEquivalence 
 own_value laws es k d l h = lookup_from_place laws es k (get_or es k d).0 (get_or es k d).1 h (slice_get-get_or es k d l)
 
 -- nothing has been taken over yet
-pub upgraded_none : {ID V P QS : Type 0} (eq : ID → ID → Bool) (IsClone : V → V → Type 0) (part : V → P) (is_voter : ID → Bool) (qs : QS) (learners : List ID) (default : V) (s : State ID V P QS) → IsNew eq IsClone part is_voter qs learners default s → IsUpgraded eq IsClone part is_voter qs learners default (λ x. None) s
+pub upgraded_none : {ID V P QS : Type 0} (eq : ID → ID → Bool) (IsClone : V → V → Type 0) (part : V → P) (is_voter : ID → Bool) (qs : QS) (learners : List ID) (default : V) (s : ProgressState ID V P QS) → IsNew eq IsClone part is_voter qs learners default s → IsUpgraded eq IsClone part is_voter qs learners default (λ x. None) s
 upgraded_none eq IsClone part is_voter qs learners default s n = record {
   same_quorum_set = n.same_quorum_set;
   voters = n.voters;

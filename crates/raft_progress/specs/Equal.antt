@@ -14,7 +14,7 @@ equal id_eq value_eq part_eq set_eq a b =
     && part_eq a.default_part b.default_part
     && (a.stat.update_count == b.stat.update_count && a.stat.move_count == b.stat.move_count && a.stat.is_quorum_count == b.stat.is_quorum_count)
 
--- clones of the quorum set and of each value, and all else the same
+-- a clone of each value, a quorum set that IsSetClone says, and all else the same
 pub record IsCloned {ID V P QS : Type 0} (IsClone : V → V → Type 0) (IsSetClone : QS → QS → Type 0) (old new : Shown ID V P QS) : Type 0 where
   pub quorum_set : IsSetClone old.quorum_set new.quorum_set
   pub walk : AllZip (λ d e. (e.0 ≡ d.0) × IsClone d.1 e.1) old.walk new.walk

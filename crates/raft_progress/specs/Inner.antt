@@ -3,5 +3,6 @@ pub mod Counts
 pub mod Placed
 pub mod Rises
 pub mod Settled
+pub mod ShownAnswers
 pub mod TakenOver
 pub mod Tests

@@ -5,7 +5,7 @@ use Rattle.std.specs.List.Sorted.{IsStrictlySortedBy}
 use Rattle.std.specs.Map.{keys_of}
 use Rattle.std.specs.Set.{is_member}
 use Rattle.std.specs.declared.cmp.Ordering.{Ordering}
-use Rattle.raft_progress.specs.ProgressState.{State}
+use Rattle.raft_progress.specs.ProgressState.{ProgressState}
 use Rattle.raft_progress.specs.Shown.{Shown}
 
 -- no learner stands twice, and none is a voter
@@ -18,7 +18,7 @@ abbrev pub HasClone : {V : Type 0} → (V → V → Type 0) → V → Option V �
 HasClone {V} IsClone v value = (w : V) × (value ≡ Some w) × IsClone v w
 
 -- each voter and each learner has a clone of the default, and no other id has a value
-pub record IsNew {ID V P QS : Type 0} (eq : ID → ID → Bool) (IsClone : V → V → Type 0) (part : V → P) (is_voter : ID → Bool) (quorum_set : QS) (learners : List ID) (default : V) (new : State ID V P QS) : Type 0 where
+pub record IsNew {ID V P QS : Type 0} (eq : ID → ID → Bool) (IsClone : V → V → Type 0) (part : V → P) (is_voter : ID → Bool) (quorum_set : QS) (learners : List ID) (default : V) (new : ProgressState ID V P QS) : Type 0 where
   pub same_quorum_set : new.quorum_set ≡ quorum_set
   pub voters : (x : ID) → new.is_voter x ≡ is_voter x
   pub value : (x : ID) → (is_voter x || is_member eq learners x) ≡ true → HasClone IsClone default (new.value x)

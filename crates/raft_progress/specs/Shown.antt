@@ -1,6 +1,7 @@
 -- What a `VecProgress` shows to contracts.
-use Rattle.std.specs.Prelude.{ℕ, Bool, List}
-use Rattle.raft_progress.specs.ProgressState.{State}
+use Rattle.std.specs.Prelude.{ℕ, Bool, List, drop}
+use Rattle.std.specs.Map.{keys_of}
+use Rattle.raft_progress.specs.ProgressState.{ProgressState}
 use Rattle.raft_progress.specs.Walk.{state_of}
 use Rattle.raft_progress.specs.declared.progress.stat.Stat.{Stat}
 
@@ -14,5 +15,9 @@ pub record Shown (ID V P QS : Type 0) : Type 0 where
   pub stat : Stat
 
 -- voters, learners and values, apart from the walk
-abbrev pub state : {ID V P QS : Type 0} → (ID → ID → Bool) → Shown ID V P QS → State ID V P QS
+abbrev pub state : {ID V P QS : Type 0} → (ID → ID → Bool) → Shown ID V P QS → ProgressState ID V P QS
 state eq p = state_of eq p.quorum_set p.walk p.voter_count p.default_part
+
+-- the ids of the learners, which stand behind the voters
+abbrev pub learner_ids : {ID V P QS : Type 0} → Shown ID V P QS → List ID
+learner_ids p = drop p.voter_count (keys_of p.walk)

@@ -2,6 +2,10 @@
 use Rattle.std.specs.Prelude.{◌≡◌, ℕ, ◌≤◌, ◌+◌, ◌-◌, ◌*◌, ◌^◌, min}
 use Rattle.raft_progress.specs.declared.progress.stat.Stat.{Stat}
 
+-- nothing has been counted yet
+abbrev pub no_counts : Stat
+no_counts = record { update_count = 0; move_count = 0; is_quorum_count = 0 }
+
 -- a count that stays at the greatest u64
 abbrev pub counted_up : ℕ → ℕ → ℕ
 counted_up old more = min (old + more) (2 ^ 64 - 1)

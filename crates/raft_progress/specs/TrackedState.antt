@@ -7,7 +7,7 @@ use Rattle.std.proofs.Common.{Global, Vec}
 use Rattle.raft_members.specs.Majority.{is_majority, is_voter_of}
 use Rattle.raft_members.specs.Members.{MemberList, Members, members_of, node_at}
 use Rattle.raft_progress.specs.InOrder.{IsInOrder}
-use Rattle.raft_progress.specs.ProgressState.{State}
+use Rattle.raft_progress.specs.ProgressState.{ProgressState}
 use Rattle.raft_progress.specs.Shown.{Shown, state}
 
 -- the configs of a membership as one quorum set: a joint of lists of voters
@@ -31,7 +31,7 @@ pub record TrackedShown (K N V P : Type 0) : Type 0 where
 -- a membership, and voters, learners and values apart from how they are kept
 pub record TrackedState (K N V P : Type 0) : Type 0 where
   pub membership : MemberList K N
-  pub progress : State K V P (Configs K)
+  pub progress : ProgressState K V P (Configs K)
 
 abbrev pub tracked_state : {K N V P : Type 0} → (K → K → Bool) → TrackedShown K N V P → TrackedState K N V P
 tracked_state eq t = record { membership = t.membership; progress = state eq t.progress }
@@ -39,6 +39,10 @@ tracked_state eq t = record { membership = t.membership; progress = state eq t.p
 -- the quorum set has the configs of the membership
 abbrev pub HasConfigs : {K N : Type 0} → Members K N → Configs K → Type 0
 HasConfigs m configs = map (λ c. c.items) configs.items ≡ m.configs
+
+-- the two quorum sets have the same configs
+abbrev pub HasSameConfigs : {K : Type 0} → Configs K → Configs K → Type 0
+HasSameConfigs old new = map (λ c. c.items) new.items ≡ map (λ c. c.items) old.items
 
 -- the learners of a membership, each once: the ids that have a node and are in no config
 pub record AreLearners {K N : Type 0} (eq : K → K → Bool) (m : Members K N) (learners : List K) : Type 0 where

@@ -3,7 +3,7 @@ use Rattle.std.specs.Prelude.{◌≡◌, Bool, true, false, ◌||◌, List, Opti
 use Rattle.std.specs.Set.{is_member}
 use Rattle.std.specs.declared.cmp.Ordering.{Ordering}
 use Rattle.std.specs.Ordering.{is_lt, is_le}
-use Rattle.raft_progress.specs.ProgressState.{State}
+use Rattle.raft_progress.specs.ProgressState.{ProgressState}
 use Rattle.raft_progress.specs.CountedValue.{AtMost}
 use Rattle.raft_progress.specs.NewProgress.{HasClone}
 
@@ -13,7 +13,7 @@ Inherits IsClone default None new = HasClone IsClone default new
 Inherits IsClone default (Some v) new = HasClone IsClone v new
 
 -- the new set's voters and the learners, each with a clone of its old value or of the default, and no other id with a value
-pub record IsUpgraded {ID V P QS : Type 0} (eq : ID → ID → Bool) (IsClone : V → V → Type 0) (part : V → P) (is_voter : ID → Bool) (quorum_set : QS) (learners : List ID) (default : V) (old : ID → Option V) (new : State ID V P QS) : Type 0 where
+pub record IsUpgraded {ID V P QS : Type 0} (eq : ID → ID → Bool) (IsClone : V → V → Type 0) (part : V → P) (is_voter : ID → Bool) (quorum_set : QS) (learners : List ID) (default : V) (old : ID → Option V) (new : ProgressState ID V P QS) : Type 0 where
   pub same_quorum_set : new.quorum_set ≡ quorum_set
   pub voters : (x : ID) → new.is_voter x ≡ is_voter x
   pub value : (x : ID) → (is_voter x || is_member eq learners x) ≡ true → Inherits IsClone default (old x) (new.value x)

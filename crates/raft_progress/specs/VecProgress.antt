@@ -13,7 +13,7 @@ abbrev pub shown : {ID V P QS : Type 0} {o : order_ghosts.Ghosts ID} {e : eq_gho
 shown p =
     record {
       quorum_set = p.quorum_set;
-      walk = p.entries.items;
+      walk = p.walk.items;
       voter_count = p.voter_count;
       default_part = p.default_part;
       granted = p.granted;
@@ -21,9 +21,9 @@ shown p =
     }
 
 -- the progress with other entries in its walk, as many as before
-abbrev pub with_entries : {ID V P QS : Type 0} {o : order_ghosts.Ghosts ID} {e : eq_ghosts.Ghosts ID} {q : partial_ghosts.Ghosts ID} → VecProgress ID V P QS o e q → List (ID × V) → VecProgress ID V P QS o e q
-with_entries p entries =
+abbrev pub with_walk : {ID V P QS : Type 0} {o : order_ghosts.Ghosts ID} {e : eq_ghosts.Ghosts ID} {q : partial_ghosts.Ghosts ID} → VecProgress ID V P QS o e q → List (ID × V) → VecProgress ID V P QS o e q
+with_walk p walk =
     record p {
-      entries = with_items p.entries entries;
-      voters_fit = subst (λ n. p.voter_count ≤ n) (sym p.entries.ok.0 ∙ (with_items p.entries entries).ok.0) p.voters_fit;
+      walk = with_items p.walk walk;
+      voters_fit = subst (λ n. p.voter_count ≤ n) (sym p.walk.ok.0 ∙ (with_items p.walk walk).ok.0) p.voters_fit;
     }

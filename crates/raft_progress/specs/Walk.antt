@@ -5,11 +5,11 @@ use Rattle.std.specs.Ordering.{is_le, is_lt}
 use Rattle.std.specs.List.{AllByRecursion, list_any}
 use Rattle.std.specs.Set.{is_member}
 use Rattle.std.specs.Map.{keys_of, lookup}
-use Rattle.raft_progress.specs.ProgressState.{State}
+use Rattle.raft_progress.specs.ProgressState.{ProgressState}
 use Rattle.raft_progress.specs.CountedValue.{AtMost}
 
 -- the progress that is kept as a walk, whose first entries are the voters
-abbrev pub state_of : {ID V P QS : Type 0} → (ID → ID → Bool) → QS → List (ID × V) → ℕ → P → State ID V P QS
+abbrev pub state_of : {ID V P QS : Type 0} → (ID → ID → Bool) → QS → List (ID × V) → ℕ → P → ProgressState ID V P QS
 state_of eq quorum_set walk voter_count default_part =
     record {
       quorum_set = quorum_set;

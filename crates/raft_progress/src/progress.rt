@@ -1,7 +1,6 @@
 //! The progress of a cluster: a value for each voter and learner, and the greatest part that a
 //! quorum of the voters has reached; and a membership together with its progress.
 
-mod entries;
 mod fit;
 mod in_order;
 mod part;
@@ -15,37 +14,34 @@ mod steps;
 mod tracked;
 mod upgrade;
 mod vec_progress;
+mod walk;
 
 pub use part::ProgressPart;
 use raft_members::quorum::QuorumSet;
 pub use replay_any_steps::replay_any;
 pub use replay_steps::replay;
 pub use stat::Stat;
-use std::alloc::AllocError;
+use std::alloc::{AllocError, Global};
 pub use steps::{AnyStep, Reply, Step};
 pub use tracked::{MembershipProgress, Tracked};
 pub use vec_progress::VecProgress;
 
 /// The values of voters and learners over a quorum set, and what a quorum of the voters has reached.
 pub trait Progress<ID: Copy + Ord, V: ProgressPart<P>, P: Copy + Ord, QS: QuorumSet<ID>>: Drop {
-    ghost use Rattle.std.specs.Prelude.{◌≡◌, IfOk, IsSome, OnSome, Some, if◌then◌else◌, length, drop, true, ⊤};
-    ghost use Rattle.std.specs.Borrow.{LendsSo, sem};
-    ghost use Rattle.std.specs.Fn.{FnOnceReturnsAtMut, FnOnceTakesAtMut};
-    ghost use Rattle.std.specs.Map.{keys_of};
-    ghost use Rattle.std.specs.Option.{option_copied, option_copied_mut};
-    ghost use Rattle.std.specs.Ordering.{partial_gt};
+    ghost use Rattle.std.specs.Prelude.{◌≡◌, ◌↔◌, IfOk, IsSome, IsTrue, Some, length};
+    ghost use Rattle.std.specs.Borrow.{sem};
+    ghost use Rattle.std.specs.Fn.{FnOnceTakesAtMut};
+    ghost use Rattle.std.specs.Option.{ForSome, option_copied, option_copied_mut};
     ghost use Rattle.std.specs.Slice.Iter.{iter_rest};
-    ghost use denote.Follow.{follows_so};
-    ghost use mathlib.Core.Option.{none};
-    ghost use Rattle.raft_progress.specs.CountedValue.{AtMost};
     ghost use Rattle.raft_progress.specs.InOrder.{IsInOrder};
-    ghost use Rattle.raft_progress.specs.Kept.{with_value};
+    ghost use Rattle.raft_progress.specs.Lends.{IsAnsweredUpdate, Leaves, LendsGranted, LendsValue};
     ghost use Rattle.raft_progress.specs.NewProgress.{LearnersFit};
-    ghost use Rattle.raft_progress.specs.Shown.{Shown, state};
+    ghost use Rattle.raft_progress.specs.Shown.{Shown, learner_ids, state};
     ghost use Rattle.raft_progress.specs.ProgressState.{voter_of};
     ghost use Rattle.raft_progress.specs.Statistics.{CountsGoOn};
     ghost use Rattle.raft_progress.specs.Upgrade.{CanUpgrade, IsUpgraded};
-    ghost use Rattle.raft_progress.specs.Updated.{Answers, IsUpdated};
+    ghost use Rattle.raft_progress.specs.Updated.{IsGreaterOf, IsNotLower, IsNotLowerIfGreater, NeverFalls};
+    ghost use Rattle.raft_progress.specs.UpgradeFold.{IsUpgradeFold};
 
     /// What it shows.
     ghost shows: { Self → Shown ID V P QS };
@@ -66,12 +62,17 @@ pub trait Progress<ID: Copy + Ord, V: ProgressPart<P>, P: Copy + Ord, QS: Quorum
     /// The value of an id, to be written. The progress is in order afterwards if the part of a voter
     /// stays as it was; `is_in_order` tells.
     fn get_mut(&mut self, id: &ID) -> Option<&mut V>
-        ensures* writes_back { sem 𝓛 (LendsSo Self.row V.row self.entry result (λ n w. OnSome result (shows n ≡ with_value ID.eq (shows self.old) id.now w)) (λ n. shows n ≡ shows self.old)) }
+        ensures* writes_back { sem 𝓛 (LendsValue Self.row V.row shows ID.eq self.entry id.now result) }
         ensures value { option_copied_mut result ≡ (state ID.eq (shows self.old)).value id.now };
 
     /// Whether an id is a voter: `None` for an unknown one.
     fn is_voter(&self, id: &ID) -> Option<bool>
         ensures { result ≡ voter_of (state ID.eq (shows self.now)) id.now };
+
+    /// Whether the progress is in order: the condition of the updates and of an upgrade.
+    fn is_in_order(&mut self) -> bool
+        ensures answer { IsTrue result ↔ IsInOrder ID.eq P.cmp V.part_of QS.has_quorum (shows self.old) }
+        ensures same { shows self.new ≡ shows self.old };
 
     /// The quorum set.
     fn quorum_set(&self) -> &QS
@@ -84,15 +85,17 @@ pub trait Progress<ID: Copy + Ord, V: ProgressPart<P>, P: Copy + Ord, QS: Quorum
     /// Changes the value of an id by `f` and answers granted: as an error where the id is unknown.
     fn update_with<F: FnOnce(&mut V)>(&mut self, id: &ID, f: F) -> Result<&P, &P>
         requires ordered { IsInOrder ID.eq P.cmp V.part_of QS.has_quorum (shows self.old) }
-        requires callable { (v : V) → (state ID.eq (shows self.old)).value id.now ≡ Some v → FnOnceTakesAtMut F.FnOnce f v }
-        requires not_lower { (v w : V) → (state ID.eq (shows self.old)).value id.now ≡ Some v → FnOnceReturnsAtMut F.FnOnce f v tt w → AtMost P.cmp (V.part_of v) (V.part_of w) }
-        ensures* after { sem 𝓛 (follows_so Self.row Self.row self.entry.ghost_name none (λ _ _. ⊤) (λ new. IsUpdated ID.eq P.cmp V.part_of (λ v w. FnOnceReturnsAtMut F.FnOnce f v tt w) (shows self.old) id.now (shows new) × IsInOrder ID.eq P.cmp V.part_of QS.has_quorum (shows new) × Answers ID.eq (shows self.old) id.now result (λ r. r.now) (λ r. r.now) (shows new))) };
+        requires callable { ForSome ((state ID.eq (shows self.old)).value id.now) (FnOnceTakesAtMut F.FnOnce f) }
+        requires not_lower { NeverFalls ID.eq P.cmp V.part_of (Leaves F.FnOnce f) (shows self.old) id.now }
+        ensures* after { sem 𝓛 (LendsGranted Self.row shows self.entry
+            (IsAnsweredUpdate ID.eq P.cmp V.part_of QS.has_quorum (Leaves F.FnOnce f) id.now result)) };
 
     /// Writes the value of an id and answers granted: as an error where the id is unknown.
     fn update(&mut self, id: &ID, value: V) -> Result<&P, &P>
         requires ordered { IsInOrder ID.eq P.cmp V.part_of QS.has_quorum (shows self.old) }
-        requires not_lower { (v : V) → (state ID.eq (shows self.old)).value id.now ≡ Some v → AtMost P.cmp (V.part_of v) (V.part_of value) }
-        ensures* after { sem 𝓛 (follows_so Self.row Self.row self.entry.ghost_name none (λ _ _. ⊤) (λ new. IsUpdated ID.eq P.cmp V.part_of (λ v w. w ≡ value) (shows self.old) id.now (shows new) × IsInOrder ID.eq P.cmp V.part_of QS.has_quorum (shows new) × Answers ID.eq (shows self.old) id.now result (λ r. r.now) (λ r. r.now) (shows new))) };
+        requires not_lower { IsNotLower ID.eq P.cmp V.part_of (shows self.old) id.now value }
+        ensures* after { sem 𝓛 (LendsGranted Self.row shows self.entry
+            (IsAnsweredUpdate ID.eq P.cmp V.part_of QS.has_quorum (λ v w. w ≡ value) id.now result)) };
 
     /// Writes the value of an id where it is greater than the present one, and counts an update
     /// either way.
@@ -100,8 +103,18 @@ pub trait Progress<ID: Copy + Ord, V: ProgressPart<P>, P: Copy + Ord, QS: Quorum
     where
         V: PartialOrd,
         requires ordered { IsInOrder ID.eq P.cmp V.part_of QS.has_quorum (shows self.old) }
-        requires not_lower { (v : V) → (state ID.eq (shows self.old)).value id.now ≡ Some v → partial_gt V.partial_cmp value v ≡ true → AtMost P.cmp (V.part_of v) (V.part_of value) }
-        ensures* after { sem 𝓛 (follows_so Self.row Self.row self.entry.ghost_name none (λ _ _. ⊤) (λ new. IsUpdated ID.eq P.cmp V.part_of (λ v w. w ≡ (if partial_gt V.partial_cmp value v then value else v)) (shows self.old) id.now (shows new) × IsInOrder ID.eq P.cmp V.part_of QS.has_quorum (shows new) × Answers ID.eq (shows self.old) id.now result (λ r. r.now) (λ r. r.now) (shows new))) };
+        requires not_lower { IsNotLowerIfGreater ID.eq P.cmp V.part_of V.partial_cmp (shows self.old) id.now value }
+        ensures* after { sem 𝓛 (LendsGranted Self.row shows self.entry
+            (IsAnsweredUpdate ID.eq P.cmp V.part_of QS.has_quorum (IsGreaterOf V.partial_cmp value) id.now result)) };
+
+    /// Whether the learners fit a quorum set: none stands twice, and none is a voter.
+    fn learners_fit(alloc: Global, quorum_set: &QS, learners: &[ID]) -> Result<bool, AllocError>
+        ensures { IfOk result (λ fits. IsTrue fits ↔ LearnersFit ID.eq (QS.is_voter quorum_set.now) learners.now) };
+
+    /// Whether no value that an upgrade would take over is below the new default.
+    fn can_upgrade(&self, quorum_set: &QS, learners: &[ID], default: &V) -> Result<bool, AllocError>
+        ensures { IfOk result (λ can. IsTrue can ↔ CanUpgrade ID.eq P.cmp V.part_of
+            (QS.is_voter quorum_set.now) learners.now default.now (state ID.eq (shows self.now)).value) };
 
     /// A progress over another quorum set that takes over the values and the counts.
     fn upgrade_quorum_set(
@@ -115,9 +128,14 @@ pub trait Progress<ID: Copy + Ord, V: ProgressPart<P>, P: Copy + Ord, QS: Quorum
         requires ordered { IsInOrder ID.eq P.cmp V.part_of QS.has_quorum (shows self.now) }
         requires clones_have_the_part { (v w : V) → V.is_clone v w → V.part_of w ≡ V.part_of v }
         requires learners_fit { LearnersFit ID.eq (QS.is_voter quorum_set) learners.now }
-        requires can_upgrade { CanUpgrade ID.eq P.cmp V.part_of (QS.is_voter quorum_set) learners.now default ((state ID.eq (shows self.now)).value) }
-        ensures made { IfOk result (λ made. IsUpgraded ID.eq V.is_clone V.part_of (QS.is_voter quorum_set) quorum_set learners.now default ((state ID.eq (shows self.now)).value) (state ID.eq (shows made))) }
+        requires can_upgrade { CanUpgrade ID.eq P.cmp V.part_of (QS.is_voter quorum_set)
+            learners.now default (state ID.eq (shows self.now)).value }
+        ensures made { IfOk result (λ made. IsUpgraded ID.eq V.is_clone V.part_of (QS.is_voter quorum_set)
+            quorum_set learners.now default (state ID.eq (shows self.now)).value (state ID.eq (shows made))) }
         ensures ordered { IfOk result (λ made. IsInOrder ID.eq P.cmp V.part_of QS.has_quorum (shows made)) }
-        ensures learners { IfOk result (λ made. drop (shows made).voter_count (keys_of (shows made).walk) ≡ learners.now) }
-        ensures counts { IfOk result (λ made. CountsGoOn (length (shows self.now).walk) (shows made).voter_count (shows self.now).stat (shows made).stat) };
+        ensures fold { IfOk result (λ made. IsUpgradeFold ID.eq ID.cmp P.cmp V.part_of V.is_clone QS.is_voter
+            (shows self.now) quorum_set learners.now default (shows made)) }
+        ensures learners { IfOk result (λ made. learner_ids (shows made) ≡ learners.now) }
+        ensures counts { IfOk result (λ made. CountsGoOn (length (shows self.now).walk) (shows made).voter_count
+            (shows self.now).stat (shows made).stat) };
 }

@@ -1,15 +1,14 @@
 -- One step has one reply.
-use Rattle.std.specs.Prelude.{◌≡◌, ◌<◌, ◌-◌, ℕ, List, [], ◌∷◌, Option, Some, length, slice_index_or, nat_eq}
-use Rattle.std.specs.Ordering.{nat_cmp, as_partial_cmp}
+use Rattle.std.specs.Prelude.{◌≡◌, ◌<◌, ◌-◌, ℕ, List, [], ◌∷◌, Option, Some, length, slice_index_or}
 use Rattle.std.proofs.Common.{arith, refl, sym, subst, ap, ◌∙◌}
 use Rattle.raft_base.specs.declared.node.EmptyNode.{EmptyNode}
 use Rattle.raft_progress.specs.TrackedSteps.{IsTrackedRun}
 use Rattle.raft_progress.specs.declared.progress.steps.Reply.{Reply}
 use Rattle.raft_progress.specs.declared.progress.steps.Step.{Step}
-use Rattle.raft_script.specs.Engine.{Pair, IsStep, Answers, part, same_node}
+use Rattle.raft_script.specs.Engine.{Pair, IsStep, Answers, by_number, same_node}
 
 abbrev IsReplay : Pair → List (Step ℕ EmptyNode ℕ) → List (Reply ℕ ℕ) → Pair → Type 0
-IsReplay = IsTrackedRun nat_eq nat_cmp same_node nat_cmp (as_partial_cmp nat_cmp) part (λ v w. w ≡ v)
+IsReplay = IsTrackedRun by_number same_node
 
 one_reply : (old : Pair) (step : Step ℕ EmptyNode ℕ) (replies : List (Reply ℕ ℕ)) (new : Pair) → IsReplay old (step ∷ []) replies new → (reply : Reply ℕ ℕ) × (replies ≡ reply ∷ []) × IsStep old step reply new
 one_reply old step (reply ∷ []) new run = (reply, refl, run)

@@ -1,11 +1,12 @@
 -- What an engine holds, and what a step does to it.
-use Rattle.std.specs.Prelude.{◌≡◌, ◌||◌, ℕ, Bool, List, [], ◌∷◌, Option, Some, None, IfSome, if◌then◌else◌, is_some, nat_eq, true}
+use Rattle.std.specs.Prelude.{◌≡◌, ◌||◌, ℕ, Bool, List, [], ◌∷◌, Option, Some, None, if◌then◌else◌, is_some, nat_eq, true}
 use Rattle.std.specs.Ordering.{nat_cmp, as_partial_cmp}
 use Rattle.std.specs.Option.{option_map}
 use Rattle.std.specs.Set.{is_member}
 use Rattle.raft_base.specs.declared.node.EmptyNode.{EmptyNode}
 use Rattle.raft_members.specs.Majority.{is_voter_of}
 use Rattle.raft_members.specs.Members.{node_at}
+use Rattle.raft_progress.specs.Comparisons.{Comparisons}
 use Rattle.raft_progress.specs.CountedValue.{IsCounted}
 use Rattle.raft_progress.specs.Headline.{ChangedQuorumsKnowGranted, QuorumsKnowGranted}
 use Rattle.raft_progress.specs.Shown.{state}
@@ -25,6 +26,18 @@ part value = value
 abbrev pub same_node : EmptyNode → EmptyNode → Bool
 same_node n m = true
 
+-- ids, parts and values are numbers: they compare as numbers, and a clone is the same number
+abbrev pub by_number : Comparisons ℕ ℕ ℕ
+by_number =
+    record {
+      eq = nat_eq;
+      id_cmp = nat_cmp;
+      cmp = nat_cmp;
+      partial_cmp = as_partial_cmp nat_cmp;
+      part = part;
+      IsClone = λ v w. w ≡ v;
+    }
+
 -- what a membership and its progress show
 abbrev pub Shown : Type 0
 Shown = TrackedShown ℕ EmptyNode ℕ ℕ
@@ -39,10 +52,6 @@ shown_of engine = option_map tracked engine.tracked
 abbrev pub pair_of : Engine → Option Pair
 pair_of engine = option_map (λ t. tracked_state.tracked_state nat_eq (tracked t)) engine.tracked
 
--- the progress, where there is one, is in order and counts by the membership
-abbrev pub IsReady : Engine → Type 0
-IsReady engine = IfSome engine.tracked (λ t. tracked_state.IsReady nat_eq nat_cmp nat_cmp part (tracked t))
-
 -- the membership has the configs, and a node for each voter and learner, which all have the default
 pub record IsNew (configs : List (List ℕ)) (learners : List ℕ) (default : ℕ) (made : Pair) : Type 0 where
   pub same_configs : made.membership.configs ≡ configs
@@ -52,8 +61,7 @@ pub record IsNew (configs : List (List ℕ)) (learners : List ℕ) (default : �
 
 -- the step may be answered so, from one pair to another
 abbrev pub IsStep : Pair → Step ℕ EmptyNode ℕ → Reply ℕ ℕ → Pair → Type 0
-IsStep old step reply new =
-    IsTrackedRun nat_eq nat_cmp same_node nat_cmp (as_partial_cmp nat_cmp) part (λ v w. w ≡ v) old (step ∷ []) (reply ∷ []) new
+IsStep old step reply new = IsTrackedRun by_number same_node old (step ∷ []) (reply ∷ []) new
 
 -- a pair answers each step, and without one there is no reply
 abbrev pub Answers : Option Pair → Step ℕ EmptyNode ℕ → Option (Reply ℕ ℕ) → Option Pair → Type 0

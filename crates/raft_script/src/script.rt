@@ -5,7 +5,6 @@ mod dialogue;
 mod engine;
 pub(crate) mod reply;
 
-ghost use Rattle.raft_script.specs.Engine.{IsReady};
 
 use command::{Command, LineError};
 use dialogue::Dialogue;
@@ -60,8 +59,6 @@ fn run_line<W: Write>(
     line: &[u8],
     replies: &mut W,
 ) -> io::Result<bool>
-    requires { IsReady engine.old }
-    ensures { IsReady engine.new }
 {
     let command = match command::parse(alloc, line) {
         Ok(Some(command)) => command,

@@ -1,5 +1,5 @@
 -- Entries that a default has been put into.
-use Rattle.std.specs.Prelude.{◌≡◌, List, ◌++◌}
+use Rattle.std.specs.Prelude.{◌≡◌, ℕ, List, ◌++◌, Some, slice_get, slice_set}
 use Rattle.std.specs.List.{AllByRecursion}
 use Rattle.std.specs.Map.{keys_of}
 
@@ -9,3 +9,7 @@ pub record IsPlaced {ID V : Type 0} (IsClone : V → V → Type 0) (default : V)
   pub is : new ≡ old ++ added
   pub keys : keys_of added ≡ ids
   pub clones : AllByRecursion (λ e. IsClone default e.1) added
+
+-- the value at a place went to another by Left, and nothing else has changed
+abbrev pub IsWrittenAt : {ID V : Type 0} → (V → V → Type 0) → ℕ → List (ID × V) → List (ID × V) → Type 0
+IsWrittenAt {ID} {V} Left place old new = (e : ID × V) × (w : V) × (slice_get old place ≡ Some e) × Left e.1 w × (new ≡ slice_set old place (e.0, w))

@@ -7,18 +7,18 @@ ghost use Rattle.raft_progress.specs.Inner.Tests.{ids_differ, never_rises};
 use super::part::ProgressPart;
 
 /// Whether an entry has the id.
-fn has_id<ID: Copy + Ord, V>(entries: &[(ID, V)], id: ID) -> bool
-    ensures { result ≡ list_any (λ e. ID.eq e.0 id) entries.now }
+fn has_id<ID: Copy + Ord, V>(walk: &[(ID, V)], id: ID) -> bool
+    ensures { result ≡ list_any (λ e. ID.eq e.0 id) walk.now }
 {
-    entries.iter().any(|entry| entry.0 == id)
+    walk.iter().any(|entry| entry.0 == id)
 }
 
 /// Whether no id stands twice.
-pub(crate) fn has_distinct_ids<ID: Copy + Ord, V>(entries: &[(ID, V)]) -> bool
-    ensures { result ≡ ids_differ ID.eq entries.now }
+pub(crate) fn has_distinct_ids<ID: Copy + Ord, V>(walk: &[(ID, V)]) -> bool
+    ensures { result ≡ ids_differ ID.eq walk.now }
 {
-    for place in 0..entries.len() {
-        if has_id(&entries[place + 1..], entries[place].0) {
+    for place in 0..walk.len() {
+        if has_id(&walk[place + 1..], walk[place].0) {
             return false;
         }
     }

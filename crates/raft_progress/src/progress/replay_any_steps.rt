@@ -1,11 +1,13 @@
 //! Steps of a progress, and their replies.
 ghost use Rattle.std.specs.Prelude.{◌≡◌, IfOk, OnErr};
+ghost use Rattle.raft_progress.specs.Comparisons.{comparisons};
 ghost use Rattle.raft_progress.specs.CountedValue.{IsCounted};
 ghost use Rattle.raft_progress.specs.InOrder.{IsInOrder};
+ghost use Rattle.raft_progress.specs.Inner.ShownAnswers.{IsShownIncrease, IsShownUpgrade, IsShownWrite};
 ghost use Rattle.raft_progress.specs.Shown.{state};
+ghost use Rattle.raft_progress.specs.ShownSteps.{IsShownRun, IsShownStep};
 ghost use Rattle.raft_progress.specs.VecProgress.{shown};
-ghost use Rattle.raft_progress.specs.StepCounts.{CountsRun, CountsStep, CountsUpgrade, CountsWrite};
-ghost use Rattle.raft_progress.specs.Steps.{IsAnsweredUpgrade, IsIncreased, IsRun, IsStep, IsWritten, falls, stays};
+ghost use Rattle.raft_progress.specs.Steps.{IsRun, falls, stays};
 
 use super::part::ProgressPart;
 use super::steps::{AnyStep, Reply};
@@ -22,8 +24,8 @@ fn answer<
 >(progress: &mut VecProgress<ID, V, P, QS>, step: AnyStep<ID, V, QS>) -> Reply<ID, P>
     requires ordered { IsInOrder ID.eq P.cmp V.part_of QS.has_quorum (shown progress.old) }
     requires clones_have_the_part { (v w : V) → V.is_clone v w → V.part_of w ≡ V.part_of v }
-    ensures step { IsStep ID.eq ID.cmp P.cmp V.partial_cmp V.part_of V.is_clone QS.has_quorum QS.is_voter (state ID.eq (shown progress.old)) step result (state ID.eq (shown progress.new)) }
-    ensures counts { CountsStep (shown progress.old) step result (shown progress.new) }
+    ensures step { let by = comparisons ID.Ord P.Ord V.PartialOrd V.ProgressPart V.Clone in
+        IsShownStep by QS.has_quorum QS.is_voter (shown progress.old) step result (shown progress.new) }
     ensures ordered { IsInOrder ID.eq P.cmp V.part_of QS.has_quorum (shown progress.new) }
 {
     match step {
@@ -51,8 +53,8 @@ fn upgrade<
 ) -> Reply<ID, P>
     requires ordered { IsInOrder ID.eq P.cmp V.part_of QS.has_quorum (shown progress.old) }
     requires clones_have_the_part { (v w : V) → V.is_clone v w → V.part_of w ≡ V.part_of v }
-    ensures step { IsAnsweredUpgrade ID.eq ID.cmp P.cmp V.part_of V.is_clone QS.has_quorum QS.is_voter (state ID.eq (shown progress.old)) quorum_set learners.now default result (state ID.eq (shown progress.new)) }
-    ensures counts { CountsUpgrade (shown progress.old) result (shown progress.new) }
+    ensures step { IsShownUpgrade ID.eq ID.cmp P.cmp V.part_of V.is_clone QS.has_quorum QS.is_voter
+        (shown progress.old) quorum_set learners.now default result (shown progress.new) }
     ensures ordered { IsInOrder ID.eq P.cmp V.part_of QS.has_quorum (shown progress.new) }
 {
     match try_upgrade(progress, quorum_set, learners, default) {
@@ -75,8 +77,8 @@ fn try_upgrade<
 ) -> Result<Reply<ID, P>, AllocError>
     requires ordered { IsInOrder ID.eq P.cmp V.part_of QS.has_quorum (shown progress.old) }
     requires clones_have_the_part { (v w : V) → V.is_clone v w → V.part_of w ≡ V.part_of v }
-    ensures step { IfOk result (λ reply. IsAnsweredUpgrade ID.eq ID.cmp P.cmp V.part_of V.is_clone QS.has_quorum QS.is_voter (state ID.eq (shown progress.old)) quorum_set learners.now default reply (state ID.eq (shown progress.new))) }
-    ensures counts { IfOk result (λ reply. CountsUpgrade (shown progress.old) reply (shown progress.new)) }
+    ensures step { IfOk result (λ reply. IsShownUpgrade ID.eq ID.cmp P.cmp V.part_of V.is_clone QS.has_quorum QS.is_voter
+        (shown progress.old) quorum_set learners.now default reply (shown progress.new)) }
     ensures err { OnErr result (shown progress.new ≡ shown progress.old) }
     ensures ordered { IsInOrder ID.eq P.cmp V.part_of QS.has_quorum (shown progress.new) }
 {
@@ -103,8 +105,7 @@ pub(super) fn write<
     QS: QuorumSet<ID> + Drop,
 >(progress: &mut VecProgress<ID, V, P, QS>, id: &ID, value: V) -> Reply<ID, P>
     requires { IsInOrder ID.eq P.cmp V.part_of QS.has_quorum (shown progress.old) }
-    ensures step { IsWritten ID.eq P.cmp V.part_of QS.has_quorum (state ID.eq (shown progress.old)) id.now value result (state ID.eq (shown progress.new)) }
-    ensures counts { CountsWrite (shown progress.old) result (shown progress.new) }
+    ensures step { IsShownWrite ID.eq P.cmp V.part_of QS.has_quorum (shown progress.old) id.now value result (shown progress.new) }
     ensures ordered { IsInOrder ID.eq P.cmp V.part_of QS.has_quorum (shown progress.new) }
 {
     if would_fall(progress, id, &value) {
@@ -124,8 +125,7 @@ pub(super) fn increase<
     QS: QuorumSet<ID> + Drop,
 >(progress: &mut VecProgress<ID, V, P, QS>, id: &ID, value: V) -> Reply<ID, P>
     requires { IsInOrder ID.eq P.cmp V.part_of QS.has_quorum (shown progress.old) }
-    ensures step { IsIncreased ID.eq P.cmp V.partial_cmp V.part_of QS.has_quorum (state ID.eq (shown progress.old)) id.now value result (state ID.eq (shown progress.new)) }
-    ensures counts { CountsWrite (shown progress.old) result (shown progress.new) }
+    ensures step { IsShownIncrease ID.eq P.cmp V.partial_cmp V.part_of QS.has_quorum (shown progress.old) id.now value result (shown progress.new) }
     ensures ordered { IsInOrder ID.eq P.cmp V.part_of QS.has_quorum (shown progress.new) }
 {
     if !is_not_greater(progress, id, &value) && would_fall(progress, id, &value) {
@@ -180,16 +180,18 @@ pub fn replay_any<
 ) -> Result<Vec<Reply<ID, P>>, AllocError>
     requires ordered { IsInOrder ID.eq P.cmp V.part_of QS.has_quorum (shown progress.old) }
     requires clones_have_the_part { (v w : V) → V.is_clone v w → V.part_of w ≡ V.part_of v }
-    ensures run { IfOk result (λ replies. IsRun ID.eq ID.cmp P.cmp V.partial_cmp V.part_of V.is_clone QS.has_quorum QS.is_voter (state ID.eq (shown progress.old)) steps.items replies.items (state ID.eq (shown progress.new))) }
-    ensures counts { IfOk result (λ replies. CountsRun (shown progress.old) steps.items replies.items (shown progress.new)) }
+    ensures run { let by = comparisons ID.Ord P.Ord V.PartialOrd V.ProgressPart V.Clone in
+        IfOk result (λ replies. IsRun by QS.has_quorum QS.is_voter
+        (state ID.eq (shown progress.old)) steps.items replies.items (state ID.eq (shown progress.new))) }
+    ensures shown_run { let by = comparisons ID.Ord P.Ord V.PartialOrd V.ProgressPart V.Clone in
+        IfOk result (λ replies. IsShownRun by QS.has_quorum QS.is_voter
+        (shown progress.old) steps.items replies.items (shown progress.new)) }
     ensures ordered { IsInOrder ID.eq P.cmp V.part_of QS.has_quorum (shown progress.new) }
     ensures granted { IsCounted P.cmp V.part_of QS.has_quorum (state ID.eq (shown progress.new)) (shown progress.new).granted }
     ensures err { OnErr result (shown progress.new ≡ shown progress.old) }
 {
     let mut replies = Vec::with_capacity(alloc, steps.len())?;
-    let mut rest = steps;
-    rest.reverse();
-    while let Some(step) = rest.pop() {
+    for step in steps {
         let reply = answer(progress, step);
         replies.push_reserved(reply);
     }

@@ -1,14 +1,15 @@
 //! A replay of steps on a membership and its progress.
 ghost use Rattle.std.specs.Prelude.{◌≡◌, IfOk, OnErr};
 ghost use Rattle.std.specs.Set.{ClonesAreEqual};
+ghost use Rattle.raft_progress.specs.Comparisons.{comparisons};
 ghost use Rattle.raft_progress.specs.CountedValue.{IsCounted};
 ghost use Rattle.raft_progress.specs.Headline.{ChangedQuorumsKnowGranted, QuorumsKnowGranted};
+ghost use Rattle.raft_progress.specs.Inner.ShownAnswers.{IsShownChange, IsShownTakeOver};
 ghost use Rattle.raft_progress.specs.Shown.{state};
-ghost use Rattle.raft_progress.specs.StepCounts.{CountsTrackedRun, CountsTrackedStep, CountsUpgrade};
 ghost use Rattle.raft_progress.specs.Tracked.{tracked};
+ghost use Rattle.raft_progress.specs.TrackedShownSteps.{IsTrackedShownRun, IsTrackedShownStep};
 ghost use Rattle.raft_progress.specs.TrackedState.{IsReady, has_quorum, tracked_state};
-ghost use Rattle.raft_progress.specs.Inner.TakenOver.{TakesOver};
-ghost use Rattle.raft_progress.specs.TrackedSteps.{IsChanged, IsTrackedRun, IsTrackedStep};
+ghost use Rattle.raft_progress.specs.TrackedSteps.{IsTrackedRun};
 
 use super::part::ProgressPart;
 use super::replay_any_steps::{increase, write};
@@ -25,12 +26,10 @@ fn answer<NID: NodeId, N: Node, V: ProgressPart<P> + PartialOrd + Clone + Drop, 
     pair: &mut Tracked<NID, N, V, P>,
     step: Step<NID, N, V>,
 ) -> Reply<NID, P>
-    requires ready { IsReady NID.eq NID.cmp P.cmp V.part_of (tracked pair.old) }
     requires clones_have_the_part { (v w : V) → V.is_clone v w → V.part_of w ≡ V.part_of v }
     requires clones_of_nodes_are_equal { ClonesAreEqual N.eq N.is_clone }
-    ensures step { IsTrackedStep NID.eq NID.cmp N.eq P.cmp V.partial_cmp V.part_of V.is_clone (tracked_state NID.eq (tracked pair.old)) step result (tracked_state NID.eq (tracked pair.new)) }
-    ensures counts { CountsTrackedStep (tracked pair.old).progress step result (tracked pair.new).progress }
-    ensures ready { IsReady NID.eq NID.cmp P.cmp V.part_of (tracked pair.new) }
+    ensures { let by = comparisons NID.Ord P.Ord V.PartialOrd V.ProgressPart V.Clone in
+        IsTrackedShownStep by N.eq (tracked pair.old) step result (tracked pair.new) }
 {
     match step {
         Step::Update(id, value) => write(&mut pair.progress, &id, value),
@@ -50,12 +49,10 @@ fn change_members<NID: NodeId, N: Node, V: ProgressPart<P> + Clone + Drop, P: Co
     retain: bool,
     default: V,
 ) -> Reply<NID, P>
-    requires ready { IsReady NID.eq NID.cmp P.cmp V.part_of (tracked pair.old) }
     requires clones_have_the_part { (v w : V) → V.is_clone v w → V.part_of w ≡ V.part_of v }
     requires clones_of_nodes_are_equal { ClonesAreEqual N.eq N.is_clone }
-    ensures step { IsChanged NID.eq NID.cmp N.eq P.cmp V.part_of V.is_clone (tracked_state NID.eq (tracked pair.old)) change retain default result (tracked_state NID.eq (tracked pair.new)) }
-    ensures counts { CountsUpgrade (tracked pair.old).progress result (tracked pair.new).progress }
-    ensures ready { IsReady NID.eq NID.cmp P.cmp V.part_of (tracked pair.new) }
+    ensures { IsShownChange NID.eq NID.cmp N.eq P.cmp V.part_of V.is_clone
+        (tracked pair.old) change retain default result (tracked pair.new) }
 {
     match pair.membership.change(change, retain) {
         Ok(next) => match take_over(pair, next, default) {
@@ -79,12 +76,10 @@ fn take_over<NID: NodeId, N: Node, V: ProgressPart<P> + Clone + Drop, P: Copy + 
     next: Membership<NID, N>,
     default: V,
 ) -> Result<Reply<NID, P>, AllocError>
-    requires ready { IsReady NID.eq NID.cmp P.cmp V.part_of (tracked pair.old) }
     requires clones_have_the_part { (v w : V) → V.is_clone v w → V.part_of w ≡ V.part_of v }
-    ensures step { IfOk result (λ reply. TakesOver NID.eq NID.cmp P.cmp V.part_of V.is_clone (tracked_state NID.eq (tracked pair.old)) next default reply (tracked_state NID.eq (tracked pair.new))) }
-    ensures counts { IfOk result (λ reply. CountsUpgrade (tracked pair.old).progress reply (tracked pair.new).progress) }
+    ensures step { IfOk result (λ reply. IsShownTakeOver NID.eq NID.cmp P.cmp V.part_of V.is_clone
+        (tracked pair.old) next default reply (tracked pair.new)) }
     ensures err { OnErr result (tracked pair.new ≡ tracked pair.old) }
-    ensures ready { IsReady NID.eq NID.cmp P.cmp V.part_of (tracked pair.new) }
 {
     let alloc = *next.get_joint_config().allocator();
     let configs = next.to_quorum_set()?;
@@ -115,11 +110,13 @@ pub fn replay<NID: NodeId, N: Node, V: ProgressPart<P> + PartialOrd + Clone + Dr
     pair: &mut Tracked<NID, N, V, P>,
     steps: Vec<Step<NID, N, V>>,
 ) -> Result<Vec<Reply<NID, P>>, AllocError>
-    requires ready { IsReady NID.eq NID.cmp P.cmp V.part_of (tracked pair.old) }
     requires clones_have_the_part { (v w : V) → V.is_clone v w → V.part_of w ≡ V.part_of v }
     requires clones_of_nodes_are_equal { ClonesAreEqual N.eq N.is_clone }
-    ensures run { IfOk result (λ replies. IsTrackedRun NID.eq NID.cmp N.eq P.cmp V.partial_cmp V.part_of V.is_clone (tracked_state NID.eq (tracked pair.old)) steps.items replies.items (tracked_state NID.eq (tracked pair.new))) }
-    ensures counts { IfOk result (λ replies. CountsTrackedRun (tracked pair.old).progress steps.items replies.items (tracked pair.new).progress) }
+    ensures run { let by = comparisons NID.Ord P.Ord V.PartialOrd V.ProgressPart V.Clone in
+        IfOk result (λ replies. IsTrackedRun by N.eq
+        (tracked_state NID.eq (tracked pair.old)) steps.items replies.items (tracked_state NID.eq (tracked pair.new))) }
+    ensures shown_run { let by = comparisons NID.Ord P.Ord V.PartialOrd V.ProgressPart V.Clone in
+        IfOk result (λ replies. IsTrackedShownRun by N.eq (tracked pair.old) steps.items replies.items (tracked pair.new)) }
     ensures ready { IsReady NID.eq NID.cmp P.cmp V.part_of (tracked pair.new) }
     ensures granted { IsCounted P.cmp V.part_of (has_quorum NID.eq) (state NID.eq (tracked pair.new).progress) (tracked pair.new).progress.granted }
     ensures quorums { QuorumsKnowGranted NID.eq P.cmp V.part_of (tracked pair.new) }
@@ -127,9 +124,7 @@ pub fn replay<NID: NodeId, N: Node, V: ProgressPart<P> + PartialOrd + Clone + Dr
     ensures err { OnErr result (tracked pair.new ≡ tracked pair.old) }
 {
     let mut replies = Vec::with_capacity(alloc, steps.len())?;
-    let mut rest = steps;
-    rest.reverse();
-    while let Some(step) = rest.pop() {
+    for step in steps {
         let reply = answer(pair, step);
         replies.push_reserved(reply);
     }

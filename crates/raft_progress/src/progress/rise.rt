@@ -8,17 +8,13 @@ use super::part::ProgressPart;
 
 /// Whether an entry's part is less than that of the next.
 fn is_below_next<ID: Copy, V: ProgressPart<P>, P: Copy + Ord>(
-    entries: &[(ID, V)],
+    walk: &[(ID, V)],
     place: usize,
 ) -> bool
-    requires { place + 1 < length entries.now }
-    ensures { (d : ID × V) → result ≡ is_lt (P.cmp (V.part_of (get_or entries.now place d).1) (V.part_of (get_or entries.now (place + 1) d).1)) }
+    requires { place + 1 < length walk.now }
+    ensures { (d : ID × V) → result ≡ is_lt (P.cmp (V.part_of (get_or walk.now place d).1) (V.part_of (get_or walk.now (place + 1) d).1)) }
 {
-    entries[place]
-        .1
-        .part()
-        .cmp(&entries[place + 1].1.part())
-        .is_lt()
+    walk[place].1.part().cmp(&walk[place + 1].1.part()).is_lt()
 }
 
 /// Whether a part has risen to one that exceeds granted.
@@ -30,18 +26,18 @@ pub(crate) fn is_raised<P: Copy + Ord>(before: P, after: P, granted: P) -> bool
 
 /// Moves an entry up past the entries directly before it whose part is less, and answers its place.
 pub(crate) fn move_up<ID: Copy, V: ProgressPart<P>, P: Copy + Ord>(
-    entries: &mut Vec<(ID, V)>,
+    walk: &mut Vec<(ID, V)>,
     place: usize,
 ) -> usize
-    requires { place < length entries.old.items }
-    ensures { RisesTo P.cmp V.part_of entries.old.items place entries.new.items result }
+    requires { place < length walk.old.items }
+    ensures { RisesTo P.cmp V.part_of walk.old.items place walk.new.items result }
 {
     let mut at = place;
     while at > 0 {
-        if !is_below_next(entries, at - 1) {
+        if !is_below_next(walk, at - 1) {
             return at;
         }
-        entries.swap(at - 1, at);
+        walk.swap(at - 1, at);
         at -= 1;
     }
     at

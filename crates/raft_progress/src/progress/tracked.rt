@@ -1,7 +1,8 @@
 //! A membership and the progress that counts by it.
 ghost use Rattle.std.specs.Prelude.{◌≡◌, IfOk};
 ghost use Rattle.raft_members.specs.Members.{members_of};
-ghost use Rattle.raft_progress.specs.TrackedState.{AreLearners};
+ghost use Rattle.raft_progress.specs.TrackedState.{AreLearners, IsReady};
+ghost use Rattle.raft_progress.specs.VecProgress.{shown};
 
 use super::part::ProgressPart;
 use super::vec_progress::VecProgress;
@@ -21,20 +22,20 @@ pub type MembershipProgress<NID, V, P> = VecProgress<
 /// A membership, and the progress of its voters and learners.
 ///
 /// A quorum of the progress is a quorum of the membership, and its learners are the membership's.
-/// Both change only together, by `replay`.
-#[derive(Debug, Drop)]
-pub struct Tracked<NID: NodeId, N: Node, V, P: Copy + Ord> {
+/// Both change only together, by `replay`. So the progress is always in order, and counts by the
+/// membership.
+#[derive(Debug, PartialEq, Eq, Drop)]
+pub struct Tracked<NID: NodeId, N: Node, V: ProgressPart<P>, P: Copy + Ord> {
     pub(super) membership: Membership<NID, N>,
     pub(super) progress: MembershipProgress<NID, V, P>,
+    pub ghost ready: { ∥ IsReady NID.eq NID.cmp P.cmp V.part_of (record { membership = membership; progress = shown progress }) ∥₁ },
 }
 
 impl<NID: NodeId, N: Node, V: ProgressPart<P> + Drop, P: Copy + Ord> Tracked<NID, N, V, P> {
-    ghost use Rattle.std.specs.Prelude.{◌≡◌, IfOk, List};
-    ghost use Rattle.raft_members.specs.Members.{members_of};
-    ghost use Rattle.raft_progress.specs.NewProgress.{IsNew};
-    ghost use Rattle.raft_progress.specs.Shown.{state};
+    ghost use Rattle.std.specs.Prelude.{◌≡◌, IfOk};
     ghost use Rattle.raft_progress.specs.Tracked.{tracked};
-    ghost use Rattle.raft_progress.specs.TrackedState.{AreLearners, Configs, HasConfigs, IsReady, is_voter};
+    ghost use Rattle.raft_progress.specs.TrackedNew.{BeginsOver};
+    ghost use Rattle.raft_progress.specs.TrackedState.{IsReady};
     ghost use Rattle.raft_progress.specs.VecProgress.{shown};
 
     /// The membership, with a progress in which each voter and each learner has a clone of the
@@ -44,7 +45,7 @@ impl<NID: NodeId, N: Node, V: ProgressPart<P> + Drop, P: Copy + Ord> Tracked<NID
         V: Clone,
         requires clones_have_the_part { (w : V) → V.is_clone default w → V.part_of w ≡ V.part_of default }
         ensures membership { IfOk result (λ made. (tracked made).membership ≡ membership) }
-        ensures progress { IfOk result (λ made. (configs : Configs NID) × (learners : List NID) × HasConfigs (members_of NID.cmp membership) configs × AreLearners NID.eq (members_of NID.cmp membership) learners × IsNew NID.eq V.is_clone V.part_of (is_voter NID.eq configs) configs learners default (state NID.eq (tracked made).progress)) }
+        ensures progress { IfOk result (λ made. BeginsOver NID.eq NID.cmp P.cmp V.part_of V.is_clone default (tracked made)) }
         ensures granted { IfOk result (λ made. (tracked made).progress.granted ≡ V.part_of default) }
         ensures ready { IfOk result (λ made. IsReady NID.eq NID.cmp P.cmp V.part_of (tracked made)) }
     {
@@ -70,6 +71,33 @@ impl<NID: NodeId, N: Node, V: ProgressPart<P> + Drop, P: Copy + Ord> Tracked<NID
         ensures { shown result.now ≡ (tracked self.now).progress }
     {
         &self.progress
+    }
+}
+
+impl<NID: NodeId, N: Node, V: ProgressPart<P> + Clone + Drop, P: Copy + Ord> Tracked<NID, N, V, P> {
+    ghost use Rattle.std.specs.Prelude.{◌≡◌, IfOk, IsTrue};
+    ghost use Rattle.std.specs.Set.{ClonesAreEqual};
+    ghost use Rattle.raft_members.specs.Members.{same_members};
+    ghost use Rattle.raft_progress.specs.Equal.{IsCloned};
+    ghost use Rattle.raft_progress.specs.Tracked.{tracked};
+    ghost use Rattle.raft_progress.specs.TrackedState.{HasSameConfigs};
+
+    /// An equal membership, with a progress that has a clone of each value and all else the same.
+    pub fn try_clone(&self) -> Result<Self, AllocError>
+        requires clones_have_the_part { (v w : V) → V.is_clone v w → V.part_of w ≡ V.part_of v }
+        requires clones_of_nodes_are_equal { ClonesAreEqual N.eq N.is_clone }
+        ensures membership { IfOk result (λ made. IsTrue (same_members NID.eq N.eq
+            (tracked self.now).membership (tracked made).membership)) }
+        ensures progress { IfOk result (λ made. IsCloned V.is_clone HasSameConfigs
+            (tracked self.now).progress (tracked made).progress) }
+    {
+        let membership = self.membership.try_clone()?;
+        let configs = membership.to_quorum_set()?;
+        let progress = self.progress.clone_over(configs)?;
+        Ok(Tracked {
+            membership,
+            progress,
+        })
     }
 }
 

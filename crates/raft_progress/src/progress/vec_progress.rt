@@ -2,7 +2,6 @@
 ghost use Rattle.std.specs.Prelude.{◌≡◌, ◌≤◌, ◌<◌, length};
 
 use super::Progress;
-use super::entries::{clone_entries, copy_ids, place_all, write_at};
 use super::fit::are_apart;
 use super::in_order::{has_distinct_ids, is_at_least, is_falling};
 use super::part::ProgressPart;
@@ -11,6 +10,7 @@ use super::rise::{is_raised, move_up};
 use super::scan::{leading, least_front};
 use super::stat::Stat;
 use super::upgrade::{is_among, is_before};
+use super::walk::{clone_walk, copy_ids, place_all, write_at};
 use raft_members::quorum::QuorumSet;
 use std::alloc::{AllocError, Global};
 
@@ -27,10 +27,10 @@ pub struct VecProgress<ID: Copy + Ord, V, P, QS> {
     granted: P,
     default_part: P,
     voter_count: usize,
-    entries: Vec<(ID, V)>,
+    walk: Vec<(ID, V)>,
     room: Vec<ID>,
     stat: Stat,
-    ghost voters_fit: { voter_count ≤ length entries.items },
+    ghost voters_fit: { voter_count ≤ length walk.items },
     ghost room_fits: { length room.items ≡ voter_count },
 }
 
@@ -40,30 +40,26 @@ impl<
     P: Copy + Ord,
     QS: QuorumSet<ID> + Drop,
 > VecProgress<ID, V, P, QS> {
-    ghost use Rattle.std.specs.Prelude.{◌≡◌, ◌≤◌, ◌<◌, ◌↔◌, IsTrue, IfOk, IfErr, List, vec_len, ⊤, position, is_some, OnSome, IsSome, Bool, true, if◌then◌else◌, length, drop, ◌&&◌, [], ◌∷◌};
-    ghost use Rattle.std.specs.Borrow.{sem, Array, LendsSo};
+    ghost use Rattle.std.specs.Prelude.{◌≡◌, ◌≤◌, ◌<◌, ◌↔◌, ℕ, IsTrue, IfOk, position, is_some, IsSome, length, ◌&&◌};
+    ghost use Rattle.std.specs.Borrow.{sem};
     ghost use Rattle.std.specs.Slice.Iter.{iter_mut_name, iter_mut_rest, iter_rest};
-    ghost use denote.Struct.Tuple.{Tuple};
-    ghost use Rattle.std.specs.Ordering.{partial_gt};
-    ghost use Rattle.std.specs.Fn.{FnOnceReturnsAtMut, FnOnceTakesAtMut};
-    ghost use Rattle.std.specs.Option.{option_copied, option_copied_mut};
+    ghost use Rattle.std.specs.Fn.{FnOnceTakesAtMut};
+    ghost use Rattle.std.specs.Option.{ForSome, option_copied, option_copied_mut};
     ghost use Rattle.std.specs.Map.{keys_of};
     ghost use Rattle.std.specs.List.{IsDistinct};
-    ghost use Rattle.raft_progress.specs.contracts.progress.vec_progress.VecProgress.{the_row};
-    ghost use denote.Follow.{follows, follows_so};
-    ghost use mathlib.Core.Option.{none};
-    ghost use Rattle.raft_progress.specs.CountedValue.{AtMost};
     ghost use Rattle.raft_progress.specs.InOrder.{IsInOrder};
     ghost use Rattle.raft_progress.specs.Inner.Settled.{IsPutInOrder, IsRaised, IsScanned};
+    ghost use Rattle.raft_progress.specs.contracts.progress.vec_progress.VecProgress.{the_row};
+    ghost use Rattle.raft_progress.specs.Lends.{IsAnsweredUpdate, Leaves, LendsGranted, LendsValue, LendsWalk};
     ghost use Rattle.raft_progress.specs.NewProgress.{IsFirstWalk, IsNew, LearnersFit};
     ghost use Rattle.raft_progress.specs.ProgressState.{voter_of};
-    ghost use Rattle.raft_progress.specs.Shown.{state};
-    ghost use Rattle.raft_progress.specs.Updated.{Answers, IsUpdated};
+    ghost use Rattle.raft_progress.specs.Shown.{learner_ids, state};
+    ghost use Rattle.raft_progress.specs.Updated.{IsGreaterOf, IsNotLower, IsNotLowerIfGreater, IsUpdated, NeverFalls};
     ghost use Rattle.raft_progress.specs.Upgrade.{CanUpgrade, IsLeastBelow, IsUpgraded};
+    ghost use Rattle.raft_progress.specs.UpgradeFold.{IsUpgradeFold};
     ghost use Rattle.raft_progress.specs.Inner.Tests.{IsLeastPassing, among, is_value_below};
-    ghost use Rattle.raft_progress.specs.Statistics.{CountsGoOn};
-    ghost use Rattle.raft_progress.specs.Kept.{with_value};
-    ghost use Rattle.raft_progress.specs.VecProgress.{shown, with_entries};
+    ghost use Rattle.raft_progress.specs.Statistics.{CountsGoOn, no_counts};
+    ghost use Rattle.raft_progress.specs.VecProgress.{shown};
 
     /// Whether the learners fit a quorum set: none stands twice, and none is a voter.
     ///
@@ -90,24 +86,25 @@ impl<
         V: Clone,
         requires clones_have_the_part { (w : V) → V.is_clone default w → V.part_of w ≡ V.part_of default }
         requires learners_fit { LearnersFit ID.eq (QS.is_voter quorum_set) learners.now }
-        ensures made { IfOk result (λ made. IsNew ID.eq V.is_clone V.part_of (QS.is_voter quorum_set) quorum_set learners.now default (state ID.eq (shown made))) }
+        ensures made { IfOk result (λ made. IsNew ID.eq V.is_clone V.part_of (QS.is_voter quorum_set)
+            quorum_set learners.now default (state ID.eq (shown made))) }
         ensures walk { IfOk result (λ made. IsFirstWalk ID.cmp learners.now (shown made)) }
         ensures granted { IfOk result (λ made. (shown made).granted ≡ V.part_of default) }
         ensures ordered { IfOk result (λ made. IsInOrder ID.eq P.cmp V.part_of QS.has_quorum (shown made)) }
-        ensures no_counts { IfOk result (λ made. (shown made).stat ≡ record { update_count = 0; move_count = 0; is_quorum_count = 0 }) }
+        ensures no_counts { IfOk result (λ made. (shown made).stat ≡ no_counts) }
     {
         let room = quorum_set.ids(alloc)?;
         let voter_count = room.len();
-        let mut entries = Vec::new(alloc);
-        place_all(&mut entries, &room, &default)?;
-        place_all(&mut entries, learners, &default)?;
+        let mut walk = Vec::new(alloc);
+        place_all(&mut walk, &room, &default)?;
+        place_all(&mut walk, learners, &default)?;
         let part = default.part();
         Ok(VecProgress {
             quorum_set,
             granted: part,
             default_part: part,
             voter_count,
-            entries,
+            walk,
             room,
             stat: Stat {
                 update_count: 0,
@@ -134,20 +131,21 @@ impl<
         requires ordered { IsInOrder ID.eq P.cmp V.part_of QS.has_quorum (shown self.now) }
         requires clones_have_the_part { (v w : V) → V.is_clone v w → V.part_of w ≡ V.part_of v }
         requires learners_fit { LearnersFit ID.eq (QS.is_voter quorum_set) learners.now }
-        requires can_upgrade { CanUpgrade ID.eq P.cmp V.part_of (QS.is_voter quorum_set) learners.now default ((state ID.eq (shown self.now)).value) }
-        ensures made { IfOk result (λ made. IsUpgraded ID.eq V.is_clone V.part_of (QS.is_voter quorum_set) quorum_set learners.now default ((state ID.eq (shown self.now)).value) (state ID.eq (shown made))) }
+        requires can_upgrade { CanUpgrade ID.eq P.cmp V.part_of (QS.is_voter quorum_set)
+            learners.now default (state ID.eq (shown self.now)).value }
+        ensures made { IfOk result (λ made. IsUpgraded ID.eq V.is_clone V.part_of (QS.is_voter quorum_set)
+            quorum_set learners.now default (state ID.eq (shown self.now)).value (state ID.eq (shown made))) }
         ensures ordered { IfOk result (λ made. IsInOrder ID.eq P.cmp V.part_of QS.has_quorum (shown made)) }
-        ensures learners { IfOk result (λ made. drop (shown made).voter_count (keys_of (shown made).walk) ≡ learners.now) }
-        ensures counts { IfOk result (λ made. CountsGoOn (length (shown self.now).walk) (shown made).voter_count (shown self.now).stat (shown made).stat) }
+        ensures fold { IfOk result (λ made. IsUpgradeFold ID.eq ID.cmp P.cmp V.part_of V.is_clone QS.is_voter
+            (shown self.now) quorum_set learners.now default (shown made)) }
+        ensures learners { IfOk result (λ made. learner_ids (shown made) ≡ learners.now) }
+        ensures counts { IfOk result (λ made. CountsGoOn (length (shown self.now).walk) (shown made).voter_count
+            (shown self.now).stat (shown made).stat) }
     {
         let alloc = self.allocator();
         let mut made = VecProgress::new(alloc, quorum_set, learners, default)?;
-        made.go_on_from(
-            self.stat.update_count,
-            self.stat.move_count,
-            self.stat.is_quorum_count,
-        );
-        for entry in &self.entries {
+        made.go_on_from(&self.stat);
+        for entry in &self.walk {
             let value = entry.1.clone()?;
             made.take_over(&entry.0, value);
         }
@@ -155,19 +153,26 @@ impl<
     }
 
     /// Goes on with the counts of another progress.
-    fn go_on_from(&mut self, update_count: u64, move_count: u64, is_quorum_count: u64)
-        ensures same { shown self.new ≡ record (shown self.old) { stat = record { update_count = update_count; move_count = move_count; is_quorum_count = is_quorum_count } } }
-        ensures counts { CountsGoOn 0 (shown self.new).voter_count (record { update_count = update_count; move_count = move_count; is_quorum_count = is_quorum_count }) (shown self.new).stat }
+    fn go_on_from(&mut self, stat: &Stat)
+        ensures same { shown self.new ≡ record (shown self.old) { stat = stat.now } }
+        ensures counts { (voters : ℕ) → CountsGoOn 0 voters stat.now stat.now }
     {
-        self.stat.update_count = update_count;
-        self.stat.move_count = move_count;
-        self.stat.is_quorum_count = is_quorum_count;
+        let (update_count, move_count, is_quorum_count) = (
+            stat.update_count,
+            stat.move_count,
+            stat.is_quorum_count,
+        );
+        self.stat = Stat {
+            update_count,
+            move_count,
+            is_quorum_count,
+        };
     }
 
     /// Writes the value of an id, where it is known.
     fn take_over(&mut self, id: &ID, value: V)
         requires ordered { IsInOrder ID.eq P.cmp V.part_of QS.has_quorum (shown self.old) }
-        requires not_lower { (v : V) → (state ID.eq (shown self.old)).value id.now ≡ Some v → AtMost P.cmp (V.part_of v) (V.part_of value) }
+        requires not_lower { IsNotLower ID.eq P.cmp V.part_of (shown self.old) id.now value }
         ensures updated { IsUpdated ID.eq P.cmp V.part_of (λ v w. w ≡ value) (shown self.old) id.now (shown self.new) }
         ensures ordered { IsInOrder ID.eq P.cmp V.part_of QS.has_quorum (shown self.new) }
     {
@@ -176,7 +181,7 @@ impl<
 
     /// The allocator of its entries.
     pub(crate) fn allocator(&self) -> Global {
-        *self.entries.allocator()
+        *self.walk.allocator()
     }
 
     /// Whether no value that an upgrade would take over is below the new default.
@@ -189,7 +194,8 @@ impl<
         learners: &[ID],
         default: &V,
     ) -> Result<bool, AllocError>
-        ensures { IfOk result (λ can. IsTrue can ↔ CanUpgrade ID.eq P.cmp V.part_of (QS.is_voter quorum_set.now) learners.now default.now ((state ID.eq (shown self.now)).value)) }
+        ensures { IfOk result (λ can. IsTrue can ↔ CanUpgrade ID.eq P.cmp V.part_of
+            (QS.is_voter quorum_set.now) learners.now default.now (state ID.eq (shown self.now)).value) }
     {
         let least = self.least_below(quorum_set, learners, default)?;
         Ok(least.is_none())
@@ -202,8 +208,10 @@ impl<
         learners: &[ID],
         default: &V,
     ) -> Result<Option<ID>, AllocError>
-        ensures none { IfOk result (λ least. least ≡ None → CanUpgrade ID.eq P.cmp V.part_of (QS.is_voter quorum_set.now) learners.now default.now ((state ID.eq (shown self.now)).value)) }
-        ensures some { IfOk result (λ least. (id : ID) → least ≡ Some id → IsLeastBelow ID.eq ID.cmp P.cmp V.part_of (QS.is_voter quorum_set.now) learners.now default.now ((state ID.eq (shown self.now)).value) id) }
+        ensures none { IfOk result (λ least. least ≡ None → CanUpgrade ID.eq P.cmp V.part_of
+            (QS.is_voter quorum_set.now) learners.now default.now (state ID.eq (shown self.now)).value) }
+        ensures some { IfOk result (λ least. ForSome least (IsLeastBelow ID.eq ID.cmp P.cmp V.part_of
+            (QS.is_voter quorum_set.now) learners.now default.now (state ID.eq (shown self.now)).value)) }
     {
         let alloc = self.allocator();
         let voters = quorum_set.ids(alloc)?;
@@ -212,10 +220,12 @@ impl<
 
     /// The least id among the voters and the learners whose value is below a part.
     fn least_of(&self, voters: &[ID], learners: &[ID], part: P) -> Option<ID>
-        ensures { IsLeastPassing ID.cmp (λ x. among ID.eq voters.now learners.now x && is_value_below P.cmp V.part_of part ((state ID.eq (shown self.now)).value x)) (shown self.now).walk result }
+        ensures { IsLeastPassing ID.cmp (λ x. among ID.eq voters.now learners.now x
+            && is_value_below P.cmp V.part_of part ((state ID.eq (shown self.now)).value x))
+            (shown self.now).walk result }
     {
         let mut least = None;
-        for entry in &self.entries {
+        for entry in &self.walk {
             if self.is_below(voters, learners, part, &entry.0) && is_before(entry.0, least) {
                 least = Some(entry.0);
             }
@@ -225,7 +235,8 @@ impl<
 
     /// Whether an id is one of the voters or learners, and its value is below a part.
     fn is_below(&self, voters: &[ID], learners: &[ID], part: P, id: &ID) -> bool
-        ensures { result ≡ (among ID.eq voters.now learners.now id.now && is_value_below P.cmp V.part_of part ((state ID.eq (shown self.now)).value id.now)) }
+        ensures { result ≡ (among ID.eq voters.now learners.now id.now
+            && is_value_below P.cmp V.part_of part ((state ID.eq (shown self.now)).value id.now)) }
     {
         is_among(voters, learners, id) && self.is_value_below(part, id)
     }
@@ -248,10 +259,10 @@ impl<
         ensures answer { IsTrue result ↔ IsInOrder ID.eq P.cmp V.part_of QS.has_quorum (shown self.old) }
         ensures same { shown self.new ≡ shown self.old }
     {
-        if !has_distinct_ids(&self.entries) {
+        if !has_distinct_ids(&self.walk) {
             return false;
         }
-        let voters = &self.entries[..self.voter_count];
+        let voters = &self.walk[..self.voter_count];
         if !is_falling(voters, self.granted) {
             return false;
         }
@@ -281,7 +292,7 @@ impl<
     pub fn index(&self, id: &ID) -> Option<usize>
         ensures { result ≡ position (λ e. ID.eq id.now e.0) ((shown self.now).walk) }
     {
-        self.entries.iter().position(|entry| *id == entry.0)
+        self.walk.iter().position(|entry| *id == entry.0)
     }
 
     /// The value of an id.
@@ -289,7 +300,7 @@ impl<
         ensures { option_copied result ≡ (state ID.eq (shown self.now)).value id.now }
     {
         match self.index(id) {
-            Some(place) => Some(&self.entries[place].1),
+            Some(place) => Some(&self.walk[place].1),
             None => None,
         }
     }
@@ -319,7 +330,7 @@ impl<
     pub fn iter(&self) -> std::slice::Iter<(ID, V)>
         ensures { iter_rest result ≡ (shown self.now).walk }
     {
-        self.entries.iter()
+        self.walk.iter()
     }
 
     /// The quorum set.
@@ -341,12 +352,14 @@ impl<
     /// Nothing is counted and nothing moves. Where the part of a voter changes, the progress may be
     /// out of order afterwards: `is_in_order` tells.
     pub fn get_mut(&mut self, id: &ID) -> Option<&mut V>
-        ensures* writes_back { sem 𝓛 (LendsSo (the_row ID.row V.row P.row QS.row ID.Ord.own ID.PartialEq ID.PartialOrd.own) V.row self.entry result (λ n w. OnSome result (shown n ≡ with_value ID.eq (shown self.old) id.now w)) (λ n. shown n ≡ shown self.old)) }
+        ensures* writes_back { sem 𝓛 (LendsValue
+            (the_row ID.row V.row P.row QS.row ID.Ord.own ID.PartialEq ID.PartialOrd.own) V.row shown ID.eq
+            self.entry id.now result) }
         ensures value { option_copied_mut result ≡ (state ID.eq (shown self.old)).value id.now }
     {
         match self.index(id) {
             Some(place) => {
-                let entry = &mut self.entries[place];
+                let entry = &mut self.walk[place];
                 Some(&mut entry.1)
             }
             None => None,
@@ -358,10 +371,11 @@ impl<
     /// Nothing is counted and nothing moves. Where an id or the part of a voter changes, the progress
     /// may be out of order afterwards: `is_in_order` tells.
     pub fn iter_mut(&mut self) -> std::slice::IterMut<(ID, V)>
-        ensures* writes_back { sem 𝓛 (follows (the_row ID.row V.row P.row QS.row ID.Ord.own ID.PartialEq ID.PartialOrd.own) (Array (Tuple (ID.row ∷ V.row ∷ [])) 0) self.entry.ghost_name (iter_mut_name result) (with_entries self.old)) }
+        ensures* writes_back { sem 𝓛 (LendsWalk ID.row V.row P.row QS.row ID.Ord.own ID.PartialEq ID.PartialOrd.own
+            self.entry (iter_mut_name result)) }
         ensures rest { iter_mut_rest result ≡ (shown self.old).walk }
     {
-        self.entries.iter_mut()
+        self.walk.iter_mut()
     }
 
     /// Changes the value of an id by `f`, and answers granted: as an error where the id is unknown.
@@ -372,9 +386,11 @@ impl<
     /// learner grants nothing. No memory is taken.
     pub fn update_with<F: FnOnce(&mut V)>(&mut self, id: &ID, f: F) -> Result<&P, &P>
         requires ordered { IsInOrder ID.eq P.cmp V.part_of QS.has_quorum (shown self.old) }
-        requires callable { (v : V) → (state ID.eq (shown self.old)).value id.now ≡ Some v → FnOnceTakesAtMut F.FnOnce f v }
-        requires not_lower { (v w : V) → (state ID.eq (shown self.old)).value id.now ≡ Some v → FnOnceReturnsAtMut F.FnOnce f v tt w → AtMost P.cmp (V.part_of v) (V.part_of w) }
-        ensures* after { sem 𝓛 (follows_so (the_row ID.row V.row P.row QS.row ID.Ord.own ID.PartialEq ID.PartialOrd.own) (the_row ID.row V.row P.row QS.row ID.Ord.own ID.PartialEq ID.PartialOrd.own) self.entry.ghost_name none (λ _ _. ⊤) (λ new. IsUpdated ID.eq P.cmp V.part_of (λ v w. FnOnceReturnsAtMut F.FnOnce f v tt w) (shown self.old) id.now (shown new) × IsInOrder ID.eq P.cmp V.part_of QS.has_quorum (shown new) × Answers ID.eq (shown self.old) id.now result (λ r. r.now) (λ r. r.now) (shown new))) }
+        requires callable { ForSome ((state ID.eq (shown self.old)).value id.now) (FnOnceTakesAtMut F.FnOnce f) }
+        requires not_lower { NeverFalls ID.eq P.cmp V.part_of (Leaves F.FnOnce f) (shown self.old) id.now }
+        ensures* after { sem 𝓛 (LendsGranted
+            (the_row ID.row V.row P.row QS.row ID.Ord.own ID.PartialEq ID.PartialOrd.own) shown self.entry
+            (IsAnsweredUpdate ID.eq P.cmp V.part_of QS.has_quorum (Leaves F.FnOnce f) id.now result)) }
     {
         if self.apply(id, f) {
             Ok(&self.granted)
@@ -386,8 +402,10 @@ impl<
     /// Writes the value of an id, and answers granted: as an error where the id is unknown.
     pub fn update(&mut self, id: &ID, value: V) -> Result<&P, &P>
         requires ordered { IsInOrder ID.eq P.cmp V.part_of QS.has_quorum (shown self.old) }
-        requires not_lower { (v : V) → (state ID.eq (shown self.old)).value id.now ≡ Some v → AtMost P.cmp (V.part_of v) (V.part_of value) }
-        ensures* after { sem 𝓛 (follows_so (the_row ID.row V.row P.row QS.row ID.Ord.own ID.PartialEq ID.PartialOrd.own) (the_row ID.row V.row P.row QS.row ID.Ord.own ID.PartialEq ID.PartialOrd.own) self.entry.ghost_name none (λ _ _. ⊤) (λ new. IsUpdated ID.eq P.cmp V.part_of (λ v w. w ≡ value) (shown self.old) id.now (shown new) × IsInOrder ID.eq P.cmp V.part_of QS.has_quorum (shown new) × Answers ID.eq (shown self.old) id.now result (λ r. r.now) (λ r. r.now) (shown new))) }
+        requires not_lower { IsNotLower ID.eq P.cmp V.part_of (shown self.old) id.now value }
+        ensures* after { sem 𝓛 (LendsGranted
+            (the_row ID.row V.row P.row QS.row ID.Ord.own ID.PartialEq ID.PartialOrd.own) shown self.entry
+            (IsAnsweredUpdate ID.eq P.cmp V.part_of QS.has_quorum (λ v w. w ≡ value) id.now result)) }
     {
         self.update_with(id, |current| *current = value)
     }
@@ -398,8 +416,10 @@ impl<
     where
         V: PartialOrd,
         requires ordered { IsInOrder ID.eq P.cmp V.part_of QS.has_quorum (shown self.old) }
-        requires not_lower { (v : V) → (state ID.eq (shown self.old)).value id.now ≡ Some v → partial_gt V.partial_cmp value v ≡ true → AtMost P.cmp (V.part_of v) (V.part_of value) }
-        ensures* after { sem 𝓛 (follows_so (the_row ID.row V.row P.row QS.row ID.Ord.own ID.PartialEq ID.PartialOrd.own) (the_row ID.row V.row P.row QS.row ID.Ord.own ID.PartialEq ID.PartialOrd.own) self.entry.ghost_name none (λ _ _. ⊤) (λ new. IsUpdated ID.eq P.cmp V.part_of (λ v w. w ≡ (if partial_gt V.partial_cmp value v then value else v)) (shown self.old) id.now (shown new) × IsInOrder ID.eq P.cmp V.part_of QS.has_quorum (shown new) × Answers ID.eq (shown self.old) id.now result (λ r. r.now) (λ r. r.now) (shown new))) }
+        requires not_lower { IsNotLowerIfGreater ID.eq P.cmp V.part_of V.partial_cmp (shown self.old) id.now value }
+        ensures* after { sem 𝓛 (LendsGranted
+            (the_row ID.row V.row P.row QS.row ID.Ord.own ID.PartialEq ID.PartialOrd.own) shown self.entry
+            (IsAnsweredUpdate ID.eq P.cmp V.part_of QS.has_quorum (IsGreaterOf V.partial_cmp value) id.now result)) }
     {
         self.update_with(id, |current| {
             if value > *current {
@@ -411,9 +431,9 @@ impl<
     /// Changes the value of an id by `f`, recounts granted, and answers whether the id is known.
     fn apply<F: FnOnce(&mut V)>(&mut self, id: &ID, f: F) -> bool
         requires ordered { IsInOrder ID.eq P.cmp V.part_of QS.has_quorum (shown self.old) }
-        requires callable { (v : V) → (state ID.eq (shown self.old)).value id.now ≡ Some v → FnOnceTakesAtMut F.FnOnce f v }
-        requires not_lower { (v w : V) → (state ID.eq (shown self.old)).value id.now ≡ Some v → FnOnceReturnsAtMut F.FnOnce f v tt w → AtMost P.cmp (V.part_of v) (V.part_of w) }
-        ensures updated { IsUpdated ID.eq P.cmp V.part_of (λ v w. FnOnceReturnsAtMut F.FnOnce f v tt w) (shown self.old) id.now (shown self.new) }
+        requires callable { ForSome ((state ID.eq (shown self.old)).value id.now) (FnOnceTakesAtMut F.FnOnce f) }
+        requires not_lower { NeverFalls ID.eq P.cmp V.part_of (Leaves F.FnOnce f) (shown self.old) id.now }
+        ensures updated { IsUpdated ID.eq P.cmp V.part_of (Leaves F.FnOnce f) (shown self.old) id.now (shown self.new) }
         ensures ordered { IsInOrder ID.eq P.cmp V.part_of QS.has_quorum (shown self.new) }
         ensures known { result ≡ is_some ((state ID.eq (shown self.old)).value id.now) }
     {
@@ -422,8 +442,8 @@ impl<
         self.stat.update_count = self.stat.update_count.saturating_add(1);
         match self.index(id) {
             Some(place) => {
-                let before = self.entries[place].1.part();
-                write_at(&mut self.entries, place, f);
+                let before = self.walk[place].1.part();
+                write_at(&mut self.walk, place, f);
                 self.settle(place, before);
                 true
             }
@@ -437,7 +457,7 @@ impl<
         requires distinct { IsDistinct ID.eq (keys_of (shown self.old).walk) }
         ensures { IsPutInOrder ID.eq P.cmp V.part_of QS.has_quorum (shown self.old) place before (shown self.new) }
     {
-        let after = self.entries[place].1.part();
+        let after = self.walk[place].1.part();
         let granted = self.granted;
         if place < self.voter_count && is_raised(before, after, granted) {
             self.raise(place, before.cmp(&granted).is_le());
@@ -451,7 +471,7 @@ impl<
         ensures { IsRaised ID.eq P.cmp V.part_of QS.has_quorum (shown self.old) place counts (shown self.new) }
     {
         self.stat.move_count = self.stat.move_count.saturating_add(1);
-        let to = move_up(&mut self.entries, place);
+        let to = move_up(&mut self.walk, place);
         if counts {
             self.scan(to);
         }
@@ -462,42 +482,65 @@ impl<
         requires distinct { IsDistinct ID.eq (keys_of (shown self.old).walk) }
         ensures { IsScanned ID.eq P.cmp V.part_of QS.has_quorum (shown self.old) place (shown self.new) }
     {
-        let voters = &self.entries[..self.voter_count];
+        let voters = &self.walk[..self.voter_count];
         let high = leading(voters, self.granted);
         let found = least_front(&self.quorum_set, voters, place, high, &mut self.room);
         self.stat.is_quorum_count = self.stat.is_quorum_count.saturating_add(found.tests);
         if let Some(front) = found.front {
-            self.granted = self.entries[front - 1].1.part();
+            self.granted = self.walk[front - 1].1.part();
         }
     }
 }
 
 impl<ID: Copy + Ord, V: PartialEq, P: Copy + Ord, QS: PartialEq> PartialEq
     for VecProgress<ID, V, P, QS> {
-    ghost use Rattle.std.specs.Cmp.{and_per, nat_eq_equiv, on_per, partial_equiv_from_equiv};
-    ghost use Rattle.std.specs.Cmp.Lexicographic.{lists_per};
+    ghost use Rattle.std.specs.Cmp.{on_per};
     ghost use Rattle.raft_progress.specs.Equal.{equal};
+    ghost use Rattle.raft_progress.specs.EqualLaws.{equal-per};
     ghost use Rattle.raft_progress.specs.VecProgress.{shown};
 
     ghost eq = { λ a b. equal ID.eq V.eq P.eq QS.eq (shown a) (shown b) };
 
-    ghost laws = { and_per (and_per (and_per (and_per (and_per (on_per (λ a. a.quorum_set) QS.PartialEq.laws) (on_per (λ a. a.granted) P.PartialEq.laws)) (on_per (λ a. a.voter_count) (partial_equiv_from_equiv nat_eq_equiv))) (on_per (λ a. a.entries.items) (lists_per (and_per (on_per (λ e. e.0) ID.PartialEq.laws) (on_per (λ e. e.1) V.PartialEq.laws))))) (on_per (λ a. a.default_part) P.PartialEq.laws)) (on_per (λ a. a.stat) (and_per (and_per (on_per (λ t. t.update_count) (partial_equiv_from_equiv nat_eq_equiv)) (on_per (λ t. t.move_count) (partial_equiv_from_equiv nat_eq_equiv))) (on_per (λ t. t.is_quorum_count) (partial_equiv_from_equiv nat_eq_equiv)))) };
+    ghost laws = { on_per shown (equal-per ID.PartialEq.laws V.PartialEq.laws P.PartialEq.laws QS.PartialEq.laws) };
 
     fn eq(&self, other: &Self) -> bool {
         self.quorum_set == other.quorum_set
             && self.granted == other.granted
             && self.voter_count == other.voter_count
-            && self.entries == other.entries
+            && self.walk == other.walk
             && self.default_part == other.default_part
             && self.stat == other.stat
     }
 }
 
 impl<ID: Copy + Ord, V: Eq, P: Copy + Ord, QS: Eq> Eq for VecProgress<ID, V, P, QS> {
-    ghost use Rattle.std.specs.Cmp.{and_equiv, nat_eq_equiv, on_equiv};
-    ghost use Rattle.std.specs.Cmp.Lexicographic.{lists_equiv};
+    ghost use Rattle.std.specs.Cmp.{on_equiv};
+    ghost use Rattle.raft_progress.specs.EqualLaws.{equal-equiv};
+    ghost use Rattle.raft_progress.specs.VecProgress.{shown};
 
-    ghost laws = { and_equiv (and_equiv (and_equiv (and_equiv (and_equiv (on_equiv (λ a. a.quorum_set) QS.Eq.laws) (on_equiv (λ a. a.granted) P.Eq.laws)) (on_equiv (λ a. a.voter_count) nat_eq_equiv)) (on_equiv (λ a. a.entries.items) (lists_equiv (and_equiv (on_equiv (λ e. e.0) ID.Eq.laws) (on_equiv (λ e. e.1) V.Eq.laws))))) (on_equiv (λ a. a.default_part) P.Eq.laws)) (on_equiv (λ a. a.stat) (and_equiv (and_equiv (on_equiv (λ t. t.update_count) nat_eq_equiv) (on_equiv (λ t. t.move_count) nat_eq_equiv)) (on_equiv (λ t. t.is_quorum_count) nat_eq_equiv))) };
+    ghost laws = { on_equiv shown (equal-equiv ID.Eq.laws V.Eq.laws P.Eq.laws QS.Eq.laws) };
+}
+
+impl<ID: Copy + Ord, V: Clone, P: Copy + Ord, QS: Drop> VecProgress<ID, V, P, QS> {
+    ghost use Rattle.std.specs.Prelude.{◌≡◌, IfOk};
+    ghost use Rattle.raft_progress.specs.Equal.{IsCloned};
+    ghost use Rattle.raft_progress.specs.VecProgress.{shown};
+
+    /// A clone of the values over a quorum set, which reserves the room that `new` does.
+    pub(super) fn clone_over(&self, quorum_set: QS) -> Result<Self, AllocError>
+        ensures { IfOk result (λ made. IsCloned V.is_clone (λ old new. new ≡ quorum_set) (shown self.now) (shown made)) }
+    {
+        let alloc = *self.walk.allocator();
+        Ok(VecProgress {
+            quorum_set,
+            granted: self.granted,
+            default_part: self.default_part,
+            voter_count: self.voter_count,
+            walk: clone_walk(alloc, &self.walk)?,
+            room: copy_ids(alloc, &self.room)?,
+            stat: self.stat.clone()?,
+        })
+    }
 }
 
 /// A clone reserves the room that `new` does.
@@ -508,16 +551,8 @@ impl<ID: Copy + Ord, V: Clone, P: Copy + Ord, QS: Clone> Clone for VecProgress<I
     ghost is_clone = { λ old new. IsCloned V.is_clone QS.is_clone (shown old) (shown new) };
 
     fn clone(&self) -> Result<Self, AllocError> {
-        let alloc = *self.entries.allocator();
-        Ok(VecProgress {
-            quorum_set: self.quorum_set.clone()?,
-            granted: self.granted,
-            default_part: self.default_part,
-            voter_count: self.voter_count,
-            entries: clone_entries(alloc, &self.entries)?,
-            room: copy_ids(alloc, &self.room)?,
-            stat: self.stat.clone()?,
-        })
+        let quorum_set = self.quorum_set.clone()?;
+        self.clone_over(quorum_set)
     }
 }
 
@@ -565,8 +600,25 @@ impl<ID: Copy + Ord, V: ProgressPart<P> + Drop, P: Copy + Ord, QS: QuorumSet<ID>
         VecProgress::get(self, id)
     }
 
+    fn is_in_order(&mut self) -> bool {
+        VecProgress::is_in_order(self)
+    }
+
     fn quorum_set(&self) -> &QS {
         VecProgress::quorum_set(self)
+    }
+
+    fn learners_fit(alloc: Global, quorum_set: &QS, learners: &[ID]) -> Result<bool, AllocError> {
+        VecProgress::<ID, V, P, QS>::learners_fit(alloc, quorum_set, learners)
+    }
+
+    fn can_upgrade(
+        &self,
+        quorum_set: &QS,
+        learners: &[ID],
+        default: &V,
+    ) -> Result<bool, AllocError> {
+        VecProgress::can_upgrade(self, quorum_set, learners, default)
     }
 
     fn iter(&self) -> std::slice::Iter<(ID, V)> {

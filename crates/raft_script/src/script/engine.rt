@@ -18,12 +18,11 @@ pub struct Engine {
 
 impl Engine {
     ghost use Rattle.std.specs.Prelude.{Some, IfOk, OnErr, OnOk, IfSome, IsNone, IsSomeAnd, map};
-    ghost use Rattle.raft_script.specs.Engine.{Answers, GrantedIsKnown, IsNew, IsReady, pair_of, shown_of};
+    ghost use Rattle.raft_script.specs.Engine.{Answers, GrantedIsKnown, IsNew, pair_of, shown_of};
 
     /// An engine before any `init`.
     pub fn new() -> Engine
-        ensures ready { IsReady result }
-        ensures empty { IsNone (pair_of result) }
+        ensures { IsNone (pair_of result) }
     {
         Engine { tracked: None }
     }
@@ -36,8 +35,6 @@ impl Engine {
         configs: Vec<BTreeSet<u64>>,
         learners: BTreeSet<u64>,
     ) -> Result<(), AllocError>
-        requires { IsReady self.old }
-        ensures ready { IsReady self.new }
         ensures ok { OnOk result (IsSomeAnd (pair_of self.new) (IsNew (map (λ c. c.keys) configs.items) learners.keys default)) }
         ensures err { OnErr result (self.new ≡ self.old) }
     {
@@ -53,8 +50,6 @@ impl Engine {
         alloc: Global,
         step: ScriptStep,
     ) -> Result<Option<Reply<u64, u64>>, AllocError>
-        requires { IsReady self.old }
-        ensures ready { IsReady self.new }
         ensures ok { IfOk result (λ reply. Answers (pair_of self.old) step reply (pair_of self.new)) }
         ensures err { OnErr result (shown_of self.new ≡ shown_of self.old) }
         ensures known { OnOk result (IfSome (shown_of self.new) GrantedIsKnown) }

@@ -4,4 +4,4 @@ use Rattle.raft_progress.proofs.progress.in_order.has_distinct_ids.Given as goal
 
 -- the answer is that of the entries from here on
 abbrev pub invariant-loop-place : goal.invariant-loop-place
-invariant-loop-place g l = ids_differ g.ID.PartialEq.eq l.entries ≡ ids_differ g.ID.PartialEq.eq (drop l.place l.entries)
+invariant-loop-place g l = ids_differ g.ID.PartialEq.eq l.walk ≡ ids_differ g.ID.PartialEq.eq (drop l.place l.walk)

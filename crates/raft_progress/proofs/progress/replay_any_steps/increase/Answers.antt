@@ -13,8 +13,7 @@ returns-in-Ok-clause-step g c =
     let h = c.increase_to.follows.holds-at-none in
     let old = shown c.args.progress.now in
     let new = shown c.increase_to.follows.lender-at-none in
-    let answers = h.2 in
-    let granted : c.in-Ok.granted.now ≡ new.granted = subst (λ r. MatchResult r (λ b. b.now ≡ new.granted) (λ b. b.now ≡ new.granted)) c.in-Ok.is answers.granted in
+    let granted : c.in-Ok.granted.now ≡ new.granted = subst (λ r. MatchResult r (λ b. b.now ≡ new.granted) (λ b. b.now ≡ new.granted)) c.in-Ok.is h.answers.granted in
     let up : stays g.V.PartialOrd.partial_cmp ((state g.ID.PartialEq.eq old).value c.args.id.now) c.args.value ≡ false → falls g.P.Ord.cmp g.V.ProgressPart.part_of ((state g.ID.PartialEq.eq old).value c.args.id.now) c.args.value ≡ false =
     elim c.else-not-is_not_greater.branch [
       | else-not-is_not_greater-via-then-not-is_not_greater+else-would_fall w ↦ λ s. sym w.would_fall.ensures ∙ w.if-would_fall.false
@@ -22,7 +21,10 @@ returns-in-Ok-clause-step g c =
     ] in
     let by : (o : Option g.row.V.Denot) → (state g.ID.PartialEq.eq old).value c.args.id.now ≡ o → IsIncreased g.ID.PartialEq.eq g.P.Ord.cmp g.V.PartialOrd.partial_cmp g.V.ProgressPart.part_of g.QS.QuorumSet.has_quorum (state g.ID.PartialEq.eq old) c.args.id.now c.args.value (Granted c.in-Ok.granted.now) (state g.ID.PartialEq.eq new) =
     elim [
-      | None ↦ λ e. absurd (true≢false (sym (subst IsErr c.in-Ok.is (answers.unknown e))))
-      | Some v ↦ λ e. increased g.met.ID.Eq.laws g.P.Ord.cmp g.V.PartialOrd.partial_cmp g.V.ProgressPart.part_of g.QS.QuorumSet.has_quorum old new c.args.id.now c.args.value c.in-Ok.granted.now granted h.0 h.1 v e up
+      | None ↦ λ e. absurd (true≢false (sym (subst IsErr c.in-Ok.is (h.answers.unknown e))))
+      | Some v ↦ λ e. increased g.met.ID.Eq.laws g.P.Ord.cmp g.V.PartialOrd.partial_cmp g.V.ProgressPart.part_of g.QS.QuorumSet.has_quorum old new c.args.id.now c.args.value c.in-Ok.granted.now granted h.updated h.ordered v e up
     ] in
-    by ((state g.ID.PartialEq.eq old).value c.args.id.now) refl
+    record {
+      values = by ((state g.ID.PartialEq.eq old).value c.args.id.now) refl;
+      answered = record { refused = λ r. absurd (true≢false (sym r)); done = λ r. h.updated; tells = granted };
+    }

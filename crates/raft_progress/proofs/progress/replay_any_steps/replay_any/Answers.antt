@@ -1,24 +1,37 @@
-use Rattle.std.proofs.Common.{◌≡◌, arith, refl, sym, ◌∙◌}
-use Rattle.std.proofs.lemmas.List.{nil_from_length}
+use Rattle.std.proofs.Common.{◌≡◌, ◌∷◌, [], ◌++◌, List, ap, append_assoc, arith, length, refl, subst, sym, ◌∙◌}
+use Rattle.std.specs.Vec.Iter.{into_iter_items}
 use Rattle.raft_progress.specs.ProgressState.{IsSame}
 use Rattle.raft_progress.specs.Shown.{state}
-use Rattle.raft_progress.specs.StepCounts.{CountsStep}
+use Rattle.raft_progress.specs.ShownSteps.{IsShownRun, IsShownStep}
 use Rattle.raft_progress.specs.Steps.{IsStep}
-use Rattle.raft_progress.proofs.RunLemmas.{run_more, run_all}
 use Rattle.raft_progress.specs.VecProgress.{shown}
+use Rattle.std.proofs.lemmas.List.{append-nil, nil_from_length}
+use Rattle.raft_progress.specs.declared.progress.steps.AnyStep.{AnyStep}
+use Rattle.raft_progress.specs.declared.progress.steps.Reply.{Reply}
+use Rattle.raft_progress.proofs.RunLemmas.{run_more, run_seen}
+use Rattle.raft_progress.proofs.Traits.{compared}
 use Rattle.raft_progress.proofs.progress.replay_any_steps.replay_any.Goals as goal
 
 pub loop-step-preserved : goal.loop-step-preserved
-loop-step-preserved g c = record {
-  ordered = c.answer-reply.ensures.ordered;
-  room = omega (arith, c.push_reserved.ensures.len, c.push_reserved.ensures.capacity, c.in-Some.ensures.len, c.loop-step.invariant.room);
-  run = run_more (IsStep g.ID.PartialEq.eq g.ID.Ord.cmp g.P.Ord.cmp g.V.PartialOrd.partial_cmp g.V.ProgressPart.part_of g.V.Clone.is_clone g.QS.QuorumSet.has_quorum g.QS.QuorumSet.is_voter) IsSame (state g.ID.PartialEq.eq (shown c.args.progress.now)) (state g.ID.PartialEq.eq (shown c.loop-step.progress)) c.args.steps.items c.loop-step.rest.items c.loop-step.replies.items c.loop-step.invariant.run (state g.ID.PartialEq.eq (shown c.answer-reply.new.progress)) c.in-Some.step c.answer-reply.result c.pop.new.self.items c.push_reserved.new.self.items c.in-Some.ensures.items c.push_reserved.ensures.items c.answer-reply.ensures.step;
-  counts = run_more CountsStep (λ a b. b.stat ≡ a.stat) (shown c.args.progress.now) (shown c.loop-step.progress) c.args.steps.items c.loop-step.rest.items c.loop-step.replies.items c.loop-step.invariant.counts (shown c.answer-reply.new.progress) c.in-Some.step c.answer-reply.result c.pop.new.self.items c.push_reserved.new.self.items c.in-Some.ensures.items c.push_reserved.ensures.items c.answer-reply.ensures.counts;
-}
+loop-step-preserved g c =
+    let by = compared g.ID.PartialEq.eq g.ID.Ord.cmp g.P.Ord.cmp g.V.PartialOrd.partial_cmp g.V.ProgressPart.part_of g.V.Clone.is_clone in
+    record {
+      ordered = c.answer-reply.ensures.ordered;
+      left = append_assoc c.loop-step.yielded (c.in-Some.step ∷ []) (into_iter_items c.next.new.self) ∙ ap (λ xs. c.loop-step.yielded ++ xs) (sym c.in-Some.ensures.steps.0) ∙ c.loop-step.invariant.left;
+      room = omega (arith, c.push_reserved.ensures.len, c.push_reserved.ensures.capacity, ap length c.in-Some.ensures.steps.0, c.loop-step.invariant.room);
+      run =
+          subst (λ (rs : List (Reply g.row.ID.Denot g.row.P.Denot)). IsShownRun by g.QS.QuorumSet.has_quorum g.QS.QuorumSet.is_voter (shown c.args.progress.now) (c.loop-step.yielded ++ c.in-Some.step ∷ []) rs (shown c.answer-reply.new.progress)) (sym c.push_reserved.ensures.items)
+          (run_more (IsShownStep by g.QS.QuorumSet.has_quorum g.QS.QuorumSet.is_voter) (shown c.args.progress.now) (shown c.loop-step.progress) (shown c.answer-reply.new.progress) c.in-Some.step c.answer-reply.result c.loop-step.yielded c.loop-step.replies.items c.loop-step.invariant.run c.answer-reply.ensures.step);
+    }
+
+pub returns-clause-shown_run : goal.returns-clause-shown_run
+returns-clause-shown_run g c =
+    let by = compared g.ID.PartialEq.eq g.ID.Ord.cmp g.P.Ord.cmp g.V.PartialOrd.partial_cmp g.V.ProgressPart.part_of g.V.Clone.is_clone in
+    let all : c.loop-step.yielded ≡ c.args.steps.items = sym (append-nil c.loop-step.yielded) ∙ ap (λ xs. c.loop-step.yielded ++ xs) (sym (nil_from_length (into_iter_items c.loop-step.step-iterator) (sym c.loop-step.step-iterator.rest.ok.0 ∙ c.in-None.ensures.steps.0))) ∙ c.loop-step.invariant.left in
+    subst (λ (xs : List (AnyStep g.row.ID.Denot g.row.V.Denot g.row.QS.Denot)). IsShownRun by g.QS.QuorumSet.has_quorum g.QS.QuorumSet.is_voter (shown c.args.progress.now) xs c.loop-step.replies.items (shown c.loop-step.progress)) all c.loop-step.invariant.run
 
 pub returns-clause-run : goal.returns-clause-run
 returns-clause-run g c =
-    run_all (IsStep g.ID.PartialEq.eq g.ID.Ord.cmp g.P.Ord.cmp g.V.PartialOrd.partial_cmp g.V.ProgressPart.part_of g.V.Clone.is_clone g.QS.QuorumSet.has_quorum g.QS.QuorumSet.is_voter) IsSame (state g.ID.PartialEq.eq (shown c.args.progress.now)) (state g.ID.PartialEq.eq (shown c.loop-step.progress)) c.args.steps.items c.loop-step.rest.items c.loop-step.replies.items c.loop-step.invariant.run record { quorum_set = refl; is_voter = λ x. refl; value = λ x. refl; default_part = refl } (nil_from_length _ (sym c.loop-step.rest.ok.0 ∙ c.in_default.ensures.cases.0))
-
-pub returns-clause-counts : goal.returns-clause-counts
-returns-clause-counts g c = run_all CountsStep (λ a b. b.stat ≡ a.stat) (shown c.args.progress.now) (shown c.loop-step.progress) c.args.steps.items c.loop-step.rest.items c.loop-step.replies.items c.loop-step.invariant.counts refl (nil_from_length _ (sym c.loop-step.rest.ok.0 ∙ c.in_default.ensures.cases.0))
+    let by = compared g.ID.PartialEq.eq g.ID.Ord.cmp g.P.Ord.cmp g.V.PartialOrd.partial_cmp g.V.ProgressPart.part_of g.V.Clone.is_clone in
+    run_seen (IsShownStep by g.QS.QuorumSet.has_quorum g.QS.QuorumSet.is_voter) (IsStep by g.QS.QuorumSet.has_quorum g.QS.QuorumSet.is_voter) IsSame (state g.ID.PartialEq.eq) (λ old step reply new s. s.values) (λ s. record { quorum_set = refl; is_voter = λ x. refl; value = λ x. refl; default_part = refl })
+    (shown c.args.progress.now) c.args.steps.items c.loop-step.replies.items (shown c.loop-step.progress) (returns-clause-shown_run g c)

@@ -1,24 +1,19 @@
-use Rattle.std.proofs.Common.{◌≤◌, ◌+◌, ◌++◌, List, reverse, vec_len}
+use Rattle.std.proofs.Common.{◌≡◌, ◌≤◌, ◌+◌, ◌++◌, length, vec_len}
 use Rattle.std.specs.Vec.{vec_capacity}
+use Rattle.std.specs.Vec.Iter.{into_iter_items}
 use Rattle.raft_progress.specs.InOrder.{IsInOrder}
-use Rattle.raft_progress.specs.ProgressState.{State}
-use Rattle.raft_progress.specs.Shown.{Shown, state}
-use Rattle.raft_progress.specs.StepCounts.{CountsRun}
-use Rattle.raft_progress.specs.Steps.{IsRun}
-use Rattle.raft_progress.specs.declared.progress.steps.Reply.{Reply}
+use Rattle.raft_progress.specs.ShownSteps.{IsShownRun}
 use Rattle.raft_progress.specs.VecProgress.{shown}
+use Rattle.raft_progress.proofs.Traits.{compared}
 use Rattle.raft_progress.proofs.progress.replay_any_steps.replay_any.Given as goal
 
--- whatever ends the steps that are left ends all of them, after the replies so far
+-- the steps so far have been made, and there is room for the replies to the others
 abbrev pub invariant-loop-step : goal.invariant-loop-step
 invariant-loop-step g l =
-    let run = IsRun g.ID.PartialEq.eq g.ID.Ord.cmp g.P.Ord.cmp g.V.PartialOrd.partial_cmp g.V.ProgressPart.part_of g.V.Clone.is_clone g.QS.QuorumSet.has_quorum g.QS.QuorumSet.is_voter in
+    let by = compared g.ID.PartialEq.eq g.ID.Ord.cmp g.P.Ord.cmp g.V.PartialOrd.partial_cmp g.V.ProgressPart.part_of g.V.Clone.is_clone in
     record {
-      ordered : IsInOrder g.ID.PartialEq.eq g.P.Ord.cmp g.V.ProgressPart.part_of g.QS.QuorumSet.has_quorum (shown l.progress);
-      room : vec_len l.replies + vec_len l.rest ≤ vec_capacity l.replies;
-      run : (more : List (Reply g.row.ID.Denot g.row.P.Denot)) (last : State g.row.ID.Denot g.row.V.Denot g.row.P.Denot g.row.QS.Denot) → run (state g.ID.PartialEq.eq (shown l.progress)) (reverse l.rest.items) more last → run (state g.ID.PartialEq.eq (shown l.fn.progress)) l.fn.steps.items (l.replies.items ++ more) last;
-      counts : (more : List (Reply g.row.ID.Denot g.row.P.Denot)) (last : Shown g.row.ID.Denot g.row.V.Denot g.row.P.Denot g.row.QS.Denot) → CountsRun (shown l.progress) (reverse l.rest.items) more last → CountsRun (shown l.fn.progress) l.fn.steps.items (l.replies.items ++ more) last;
+      ordered : IsInOrder by.eq by.cmp by.part g.QS.QuorumSet.has_quorum (shown l.progress);
+      left : l.yielded ++ into_iter_items l.step-iterator ≡ l.fn.steps.items;
+      room : vec_len l.replies + length (into_iter_items l.step-iterator) ≤ vec_capacity l.replies;
+      run : IsShownRun by g.QS.QuorumSet.has_quorum g.QS.QuorumSet.is_voter (shown l.fn.progress) l.yielded l.replies.items (shown l.progress);
     }
-
-abbrev pub decreases-loop-step : goal.decreases-loop-step
-decreases-loop-step g l = vec_len l.rest

@@ -1,21 +1,43 @@
+use Rattle.std.specs.Coded.{Coded-set, coded_list}
 use Rattle.std.proofs.Common.{refl}
-use Rattle.raft_progress.specs.Shown.{state}
-use Rattle.raft_progress.specs.TrackedState.{has_quorum}
+use Rattle.raft_progress.specs.ShownSteps.{IsIncreasedTo, IsUpdatedTo}
+use Rattle.raft_progress.specs.Tracked.{tracked}
 use Rattle.raft_progress.specs.VecProgress.{shown}
-use Rattle.raft_progress.proofs.TrackedLemmas.{counts_increased, counts_written}
-use Rattle.raft_progress.proofs.UpdateLemmas.{lookup_alike}
+use Rattle.raft_progress.proofs.ReadyLemmas.{answered_pair, ready_increased, ready_of, ready_written}
 use Rattle.raft_progress.proofs.progress.replay_steps.answer.Goals as goal
 
-pub returns-in-Update-clause-ready : goal.returns-in-Update-clause-ready
-returns-in-Update-clause-ready g c = record {
-  ordered = c.write.ensures.ordered;
-  counts_by = counts_written g.NID.PartialEq.eq g.NID.Ord.cmp c.args.pair.now.membership c.args.pair.now.membership (state g.NID.PartialEq.eq (shown c.args.pair.now.progress)) (state g.NID.PartialEq.eq (shown c.write.new.progress)) refl c.requires.ready.counts_by g.P.Ord.cmp g.V.ProgressPart.part_of (has_quorum g.NID.PartialEq.eq) c.in-Update.id c.in-Update.value c.write.result
-      (λ x y e. lookup_alike g.met.NID.Eq.laws x y e c.args.pair.now.progress.entries.items) c.write.ensures.step;
+pub write-requires : goal.write-requires
+write-requires g c = (ready_of g.met.NID.Eq.laws g.NID.Ord.cmp g.met.P.Ord.total g.V.ProgressPart.part_of (Coded-set (coded_list (coded_list g.row.NID.coded))) (tracked c.args.pair.now) c.args.pair.now.ready).ordered
+
+pub increase-requires : goal.increase-requires
+increase-requires g c = (ready_of g.met.NID.Eq.laws g.NID.Ord.cmp g.met.P.Ord.total g.V.ProgressPart.part_of (Coded-set (coded_list (coded_list g.row.NID.coded))) (tracked c.args.pair.now) c.args.pair.now.ready).ordered
+
+pub invariant_of-pair : goal.invariant_of-pair
+invariant_of-pair g c = record {
+  ready = ∣
+      ready_written g.met.NID.Eq.laws g.NID.Ord.cmp g.met.P.Ord.total g.V.ProgressPart.part_of (Coded-set (coded_list (coded_list g.row.NID.coded))) (tracked c.args.pair.now) (record { membership = c.args.pair.now.membership; progress = shown c.write.new.progress }) refl c.args.pair.now.ready c.write.ensures.ordered c.in-Update.id c.in-Update.value c.write.result c.write.ensures.step.values
+      ∣₁;
 }
 
-pub returns-in-IncreaseTo-clause-ready : goal.returns-in-IncreaseTo-clause-ready
-returns-in-IncreaseTo-clause-ready g c = record {
-  ordered = c.increase.ensures.ordered;
-  counts_by = counts_increased g.NID.PartialEq.eq g.NID.Ord.cmp c.args.pair.now.membership c.args.pair.now.membership (state g.NID.PartialEq.eq (shown c.args.pair.now.progress)) (state g.NID.PartialEq.eq (shown c.increase.new.progress)) refl c.requires.ready.counts_by g.P.Ord.cmp g.V.PartialOrd.partial_cmp g.V.ProgressPart.part_of (has_quorum g.NID.PartialEq.eq) c.in-IncreaseTo.id c.in-IncreaseTo.value c.increase.result
-      (λ x y e. lookup_alike g.met.NID.Eq.laws x y e c.args.pair.now.progress.entries.items) c.increase.ensures.step;
+pub invariant_of-pair-in-IncreaseTo : goal.invariant_of-pair-in-IncreaseTo
+invariant_of-pair-in-IncreaseTo g c = record {
+  ready = ∣
+      ready_increased g.met.NID.Eq.laws g.NID.Ord.cmp g.met.P.Ord.total g.V.ProgressPart.part_of (Coded-set (coded_list (coded_list g.row.NID.coded))) (tracked c.args.pair.now) (record { membership = c.args.pair.now.membership; progress = shown c.increase.new.progress }) refl c.args.pair.now.ready c.increase.ensures.ordered c.in-IncreaseTo.id c.in-IncreaseTo.value c.increase.result g.V.PartialOrd.partial_cmp c.increase.ensures.step.values
+      ∣₁;
 }
+
+pub returns-in-Update : goal.returns-in-Update
+returns-in-Update g c =
+    rw c.in-Update.is
+    record {
+      values = (refl, c.write.ensures.step.values);
+      answered = answered_pair (IsUpdatedTo g.NID.PartialEq.eq g.P.Ord.cmp g.V.ProgressPart.part_of (shown c.args.pair.now.progress) c.in-Update.id c.in-Update.value) (tracked c.args.pair.now) c.write.result (record { membership = c.args.pair.now.membership; progress = shown c.write.new.progress }) refl c.write.ensures.step.answered;
+    }
+
+pub returns-in-IncreaseTo : goal.returns-in-IncreaseTo
+returns-in-IncreaseTo g c =
+    rw c.in-IncreaseTo.is
+    record {
+      values = (refl, c.increase.ensures.step.values);
+      answered = answered_pair (IsIncreasedTo g.NID.PartialEq.eq g.P.Ord.cmp g.V.ProgressPart.part_of g.V.PartialOrd.partial_cmp (shown c.args.pair.now.progress) c.in-IncreaseTo.id c.in-IncreaseTo.value) (tracked c.args.pair.now) c.increase.result (record { membership = c.args.pair.now.membership; progress = shown c.increase.new.progress }) refl c.increase.ensures.step.answered;
+    }

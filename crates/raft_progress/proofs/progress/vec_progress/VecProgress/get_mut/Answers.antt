@@ -10,17 +10,17 @@ returns-in-Some g c =
       (
         refl,
         (λ w. ap (λ (es : List (g.row.ID.Denot × g.row.V.Denot)). record (shown c.args.self.now) { walk = es })
-            (ap (λ (e : g.row.ID.Denot × g.row.V.Denot). set c.args.self.now.entries.items c.in-Some.place (e.0, w)) is ∙ set_found (g.ID.PartialEq.eq c.args.id.now) c.args.self.now.entries.items c.in-Some.place c.index_mut-entry.result.now w at)),
+            (ap (λ (e : g.row.ID.Denot × g.row.V.Denot). set c.args.self.now.walk.items c.in-Some.place (e.0, w)) is ∙ set_found (g.ID.PartialEq.eq c.args.id.now) c.args.self.now.walk.items c.in-Some.place c.index_mut-entry.result.now w at)),
         refl,
       ),
       record {
         writes_back = tt;
-        value = ap (λ (e : g.row.ID.Denot × g.row.V.Denot). Some e.1) is ∙ sym (lookup_found (g.ID.PartialEq.eq c.args.id.now) c.args.self.now.entries.items c.in-Some.place c.index_mut-entry.result.now at);
+        value = ap (λ (e : g.row.ID.Denot × g.row.V.Denot). Some e.1) is ∙ sym (lookup_found (g.ID.PartialEq.eq c.args.id.now) c.args.self.now.walk.items c.in-Some.place c.index_mut-entry.result.now at);
       },
     )
 
 pub returns-in-None : goal.returns-in-None
 returns-in-None g c = (
   (refl, (λ w. tt), refl),
-  record { writes_back = tt; value = sym (lookup_absent (g.ID.PartialEq.eq c.args.id.now) c.args.self.now.entries.items (sym c.in-None.ensures)) },
+  record { writes_back = tt; value = sym (lookup_absent (g.ID.PartialEq.eq c.args.id.now) c.args.self.now.walk.items (sym c.in-None.ensures)) },
 )

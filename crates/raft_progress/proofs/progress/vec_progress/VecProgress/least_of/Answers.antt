@@ -8,11 +8,11 @@ use Rattle.raft_progress.proofs.progress.vec_progress.VecProgress.least_of.Goals
 
 pub loop-entry-preserved : goal.loop-entry-preserved
 loop-entry-preserved g c =
-    let test = λ (x : g.row.ID.Denot). among g.ID.PartialEq.eq c.args.voters.now c.args.learners.now x && is_value_below g.P.Ord.cmp g.V.ProgressPart.part_of c.args.part (lookup (g.ID.PartialEq.eq x) c.args.self.now.entries.items) in
-    let is : c.entry-item.result ≡ get_or c.args.self.now.entries.items c.loop-entry.entry-index c.entry-item.result = rw (← c.deref-entry-items.ensures.value) c.entry-item.is in
-    let l : c.loop-entry.entry-index < length c.args.self.now.entries.items = rw (← c.deref-entry-items.ensures.value) (omega arith) in
-    let more : take (c.loop-entry.entry-index + 1) c.args.self.now.entries.items ≡ take c.loop-entry.entry-index c.args.self.now.entries.items ++ c.entry-item.result ∷ [] = take_more c.args.self.now.entries.items c.loop-entry.entry-index c.entry-item.result l ∙ ap (λ e. take c.loop-entry.entry-index c.args.self.now.entries.items ++ e ∷ []) (sym is) in
-    let seen = take c.loop-entry.entry-index c.args.self.now.entries.items in
+    let test = λ (x : g.row.ID.Denot). among g.ID.PartialEq.eq c.args.voters.now c.args.learners.now x && is_value_below g.P.Ord.cmp g.V.ProgressPart.part_of c.args.part (lookup (g.ID.PartialEq.eq x) c.args.self.now.walk.items) in
+    let is : c.entry-item.result ≡ get_or c.args.self.now.walk.items c.loop-entry.entry-index c.entry-item.result = rw (← c.deref-entry-items.ensures.value) c.entry-item.is in
+    let l : c.loop-entry.entry-index < length c.args.self.now.walk.items = rw (← c.deref-entry-items.ensures.value) (omega arith) in
+    let more : take (c.loop-entry.entry-index + 1) c.args.self.now.walk.items ≡ take c.loop-entry.entry-index c.args.self.now.walk.items ++ c.entry-item.result ∷ [] = take_more c.args.self.now.walk.items c.loop-entry.entry-index c.entry-item.result l ∙ ap (λ e. take c.loop-entry.entry-index c.args.self.now.walk.items ++ e ∷ []) (sym is) in
+    let seen = take c.loop-entry.entry-index c.args.self.now.walk.items in
     subst (λ (es : List (g.row.ID.Denot × g.row.V.Denot)). IsLeastPassing g.ID.Ord.cmp test es c.if-is_below.least) (sym more)
     (elim c.if-is_below.branch [
       | then-is_below+then-is_before w ↦

@@ -18,7 +18,7 @@ least_front-found-requires-clause-within g c =
     rw c.leading-high.ensures h
 
 pub least_front-found-requires-clause-distinct : goal.least_front-found-requires-clause-distinct
-least_front-found-requires-clause-distinct g c = rw c.deref.ensures.value (IsDistinct-voters g.met.ID.Eq.laws c.args.self.now.voter_count c.args.self.now.entries.items c.requires.distinct)
+least_front-found-requires-clause-distinct g c = rw c.deref.ensures.value (IsDistinct-voters g.met.ID.Eq.laws c.args.self.now.voter_count c.args.self.now.walk.items c.requires.distinct)
 
 pub index-requires : goal.index-requires
 index-requires g c =
@@ -28,7 +28,7 @@ index-requires g c =
     let h = c.leading-high.ensures in
     let f = c.args.self.now.voters_fit in
     let t = length-take c.args.self.now.voter_count c.deref.result.now in
-    let q = c.args.self.now.entries.ok.0 in
+    let q = c.args.self.now.walk.ok.0 in
     let z = ap (length {A = g.row.ID.Denot × g.row.V.Denot}) c.deref.ensures.value in
     omega arith
 
@@ -50,7 +50,7 @@ returns-in-Some g c = record {
       let h = c.leading-high.ensures in
       let t = length_take_le c.deref.result.now c.args.self.now.voter_count in (
         c.index.result.now,
-        c.index.ensures ∙ ap (λ n. get_or c.args.self.now.entries.items (n - 1) c.index.result.now) is ∙ sym (get_take c.args.self.now.entries.items c.args.self.now.voter_count (k - 1) c.index.result.now (omega arith)),
+        c.index.ensures ∙ ap (λ n. get_or c.args.self.now.walk.items (n - 1) c.index.result.now) is ∙ sym (get_take c.args.self.now.walk.items c.args.self.now.voter_count (k - 1) c.index.result.now (omega arith)),
         c.part-self.ensures,
       );
 }

@@ -1,18 +1,16 @@
-use Rattle.std.proofs.Common.{◌≡◌, take}
-use Rattle.std.specs.Prelude.{drop}
-use Rattle.std.specs.Map.{keys_of, lookup}
+use Rattle.std.proofs.Common.{take}
+use Rattle.std.specs.Map.{lookup}
 use Rattle.raft_progress.specs.InOrder.{IsInOrder}
 use Rattle.raft_progress.specs.Shown.{state}
 use Rattle.raft_progress.specs.Upgrade.{IsUpgraded}
-use Rattle.raft_progress.specs.Statistics.{CountsGoOn}
+use Rattle.raft_progress.specs.UpgradeFold.{IsFold}
 use Rattle.raft_progress.specs.VecProgress.{shown}
 use Rattle.raft_progress.proofs.progress.vec_progress.VecProgress.upgrade_quorum_set.Given as goal
 
--- the values of the entries so far have been taken over, and the learners stand as they were given
+-- the entries so far have been taken over
 abbrev pub invariant-loop-entry : goal.invariant-loop-entry
 invariant-loop-entry g l = record {
   ordered : IsInOrder g.ID.PartialEq.eq g.P.Ord.cmp g.V.ProgressPart.part_of g.QS.QuorumSet.has_quorum (shown l.made);
-  made : IsUpgraded g.ID.PartialEq.eq g.V.Clone.is_clone g.V.ProgressPart.part_of (g.QS.QuorumSet.is_voter l.fn.quorum_set) l.fn.quorum_set l.learners l.fn.default (λ x. lookup (g.ID.PartialEq.eq x) (take l.entry-index l.self.entries.items)) (state g.ID.PartialEq.eq (shown l.made));
-  learners : drop l.made.voter_count (keys_of l.made.entries.items) ≡ l.learners;
-  counts : CountsGoOn l.entry-index l.made.voter_count l.self.stat l.made.stat;
+  made : IsUpgraded g.ID.PartialEq.eq g.V.Clone.is_clone g.V.ProgressPart.part_of (g.QS.QuorumSet.is_voter l.fn.quorum_set) l.fn.quorum_set l.learners l.fn.default (λ x. lookup (g.ID.PartialEq.eq x) (take l.entry-index l.self.walk.items)) (state g.ID.PartialEq.eq (shown l.made));
+  fold : IsFold g.ID.PartialEq.eq g.ID.Ord.cmp g.P.Ord.cmp g.V.ProgressPart.part_of g.V.Clone.is_clone g.QS.QuorumSet.is_voter (take l.entry-index l.self.walk.items) l.self.stat l.fn.quorum_set l.learners l.fn.default (shown l.made);
 }

@@ -1,0 +1,20 @@
+use Rattle.std.proofs.Common.{List, ◌≡◌, ◌≤◌, ◌∙◌, ap, length, refl, rules, subst, sym}
+use Rattle.std.specs.List.{AllZip}
+use Rattle.raft_progress.proofs.CloneLemmas.{same_length}
+use Rattle.raft_progress.proofs.progress.vec_progress.VecProgress.clone_over.Goals as goal
+
+pub returns : goal.returns
+returns g c = record {
+  quorum_set = refl;
+  walk = subst (λ (es : List (g.row.ID.Denot × g.row.V.Denot)). AllZip (λ d e. (e.0 ≡ d.0) × g.V.Clone.is_clone d.1 e.1) es c.in_ok-clone_walk.field-0.items) c.deref.ensures.value c.in_ok-clone_walk.ensures;
+  voter_count = refl;
+  default_part = refl;
+  granted = refl;
+  stat = search rules;
+}
+
+pub invariant_of-result : goal.invariant_of-result
+invariant_of-result g c = record {
+  voters_fit = subst (λ n. c.args.self.now.voter_count ≤ n) (sym (same_length (λ (d e : g.row.ID.Denot × g.row.V.Denot). (e.0 ≡ d.0) × g.V.Clone.is_clone d.1 e.1) c.deref.result.now c.in_ok-clone_walk.field-0.items c.in_ok-clone_walk.ensures ∙ ap length c.deref.ensures.value)) c.args.self.now.voters_fit;
+  room_fits = ap length (c.in_ok-copy_ids.ensures ∙ c.deref-2.ensures.value) ∙ c.args.self.now.room_fits;
+}
