@@ -200,7 +200,8 @@ impl<NID: NodeId> LeaderIdentity for LeaderId<NID> {
         leader.is_same_as_committed(other)
     }
 
-    ghost partial = { term_then_node-partial NID.Ord.total NID.Ord.matches_eq (λ a. a.term) (λ a. a.node_id) };
+    ghost partial = { term_then_node-partial NID.Ord.total NID.Ord.matches_eq
+        (λ a. a.term) (λ a. a.node_id) };
 
     ghost by_term = { λ a b h. first_decides (nat_cmp a.term b.term) _ (apart a.term b.term h) };
 

@@ -28,7 +28,8 @@ pub trait NodeDefault: Eq {
         ensures { IfOk result is_default_node };
 
     /// There is one default node: any two are equal.
-    ghost one_default: { (a b : Self) → is_default_node a → is_default_node b → Self.eq a b ≡ true };
+    ghost one_default: { (a b : Self) → is_default_node a → is_default_node b
+        → Self.eq a b ≡ true };
 }
 
 /// What a node needs.
@@ -44,7 +45,9 @@ impl<T: NodeEssential> Node for T {}
 impl NodeDefault for () {
     ghost is_default_node = { λ n. n ≡ tt };
 
-    fn default_node(_alloc: Global) -> Result<(), AllocError> {
+    fn default_node(_alloc: Global) -> Result<(), AllocError>
+        ensures { result ≡ Ok tt }
+    {
         Ok(())
     }
 
@@ -54,7 +57,9 @@ impl NodeDefault for () {
 impl NodeDefault for u64 {
     ghost is_default_node = { λ n. n ≡ 0 };
 
-    fn default_node(_alloc: Global) -> Result<u64, AllocError> {
+    fn default_node(_alloc: Global) -> Result<u64, AllocError>
+        ensures { result ≡ Ok 0 }
+    {
         Ok(0)
     }
 
@@ -77,7 +82,9 @@ impl EmptyNode {
 impl NodeDefault for EmptyNode {
     ghost is_default_node = { λ n. n ≡ record {} };
 
-    fn default_node(_alloc: Global) -> Result<EmptyNode, AllocError> {
+    fn default_node(_alloc: Global) -> Result<EmptyNode, AllocError>
+        ensures { result ≡ Ok (record {}) }
+    {
         Ok(EmptyNode::new())
     }
 

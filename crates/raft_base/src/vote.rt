@@ -30,7 +30,8 @@ impl<L: LeaderIdentity> PartialOrd for VoteIn<L> {
 
     ghost partial_cmp = { vote_cmp L.order };
 
-    ghost laws = { vote_cmp-partial L.partial L.incomparable (λ a. a.leader_id) (λ a. a.committed) };
+    ghost laws = { vote_cmp-partial L.partial L.incomparable
+        (λ a. a.leader_id) (λ a. a.committed) };
 
     fn partial_cmp(&self, other: &Self) -> Option<Ordering> {
         match L::compare(&self.leader_id, &other.leader_id) {

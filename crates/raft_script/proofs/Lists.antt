@@ -8,7 +8,7 @@ use Rattle.std.specs.Str.Parse.{digits_value}
 use Rattle.std.proofs.Common.{refl, sym, ap, ◌∙◌, subst, get_or}
 use Rattle.std.proofs.lemmas.Bool.{true≢false}
 use Rattle.std.proofs.lemmas.List.Folds.{list_any-append}
-use Rattle.raft_script.specs.Line.{IsNumber, lists, parts}
+use Rattle.raft_script.specs.Word.{IsNumber, lists, parts}
 
 either_way : (a b : Bool) → cond a true b ≡ (b || (a || false))
 either_way true true = refl

@@ -5,10 +5,15 @@ mod dialogue;
 mod engine;
 pub(crate) mod reply;
 
+ghost use Rattle.std.specs.Prelude.{◌≡◌, IfOk};
+ghost use Rattle.std.specs.Bool.{OnFalse, OnTrue};
+ghost use Rattle.raft_script.specs.Engine.{pair_of};
+ghost use Rattle.raft_script.specs.LineRun.{AnswersLine, IsStepTooEarly, Prints, RunsCommand};
 
 use command::{Command, LineError};
 use dialogue::Dialogue;
 use engine::Engine;
+use raft_progress::progress::Reply;
 use std::alloc::Global;
 use std::io::{self, BufRead, BufReader, BufWriter, Read, Write};
 
@@ -39,8 +44,7 @@ fn run_lines<R: Read + Drop, W: Write>(alloc: Global, reader: R, writer: &mut W)
         // Only the last line has no line feed. An empty one says nothing.
         let is_last = line.pop_if(|byte| *byte == b'\n').is_none();
         let replies = &mut lines.get_mut().replies;
-        if !run_line(alloc, &mut engine, &line, replies)? {
-            writeln!(replies, "bad line {}", passed + 1)?;
+        if !answer_line(alloc, &mut engine, passed + 1, &line, replies)? {
             replies.flush()?;
             return Ok(2);
         }
@@ -52,20 +56,48 @@ fn run_lines<R: Read + Drop, W: Write>(alloc: Global, reader: R, writer: &mut W)
     Ok(1)
 }
 
-/// Runs one line, and answers whether it has a form that can be run.
-fn run_line<W: Write>(
+/// Runs the line of a number, or names it where it can't be run. Answers whether it could.
+fn answer_line<W: Write>(
     alloc: Global,
     engine: &mut Engine,
+    number: u64,
     line: &[u8],
     replies: &mut W,
 ) -> io::Result<bool>
+    ensures { IfOk result (λ runs. Prints (W.contents replies.old) (W.contents replies.new)
+        (AnswersLine number (pair_of engine.old) line.now runs (pair_of engine.new))) }
 {
-    let command = match command::parse(alloc, line) {
-        Ok(Some(command)) => command,
-        Ok(None) => return Ok(true),
-        Err(LineError::BadLine) => return Ok(false),
-        Err(LineError::OutOfMemory(error)) => return Err(io::Error::from(error)),
-    };
+    match command::parse(alloc, line) {
+        Ok(None) => Ok(true),
+        Ok(Some(command)) => {
+            if run_command(alloc, engine, command, replies)? {
+                return Ok(true);
+            }
+            reply::write_bad_line(replies, number)?;
+            Ok(false)
+        }
+        Err(LineError::BadLine) => {
+            reply::write_bad_line(replies, number)?;
+            Ok(false)
+        }
+        Err(LineError::OutOfMemory(error)) => Err(io::Error::from(error)),
+    }
+}
+
+/// Runs a command, and answers whether it could: a step can't before any `init`.
+fn run_command<W: Write>(
+    alloc: Global,
+    engine: &mut Engine,
+    command: Command,
+    replies: &mut W,
+) -> io::Result<bool>
+    ensures runs { IfOk result (λ runs. OnTrue runs
+        (Prints (W.contents replies.old) (W.contents replies.new)
+        (RunsCommand (pair_of engine.old) command (pair_of engine.new)))) }
+    ensures too_early { IfOk result (λ runs. OnFalse runs
+        (IsStepTooEarly (pair_of engine.old) command)) }
+    ensures silent { IfOk result (λ runs. OnFalse runs (replies.new ≡ replies.old)) }
+{
     match command {
         Command::Init {
             default,
@@ -73,7 +105,7 @@ fn run_line<W: Write>(
             learners,
         } => {
             if engine.init(default, configs, learners).is_err() {
-                replies.write_all(b"no-memory\n")?;
+                reply::write(replies, &Reply::OutOfMemory)?;
             }
         }
         Command::Step(step) => {

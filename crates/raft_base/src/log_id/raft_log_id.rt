@@ -33,7 +33,8 @@ pub trait RaftLogIdOf<C> {
     ghost own_id: { (a : Self) → with_id a (id_of a) ≡ a };
 
     /// Of two log ids that are given in turn only the last one counts.
-    ghost last_id: { (a : Self) (id next : LogIdOf C) → with_id (with_id a id) next ≡ with_id a next };
+    ghost last_id: { (a : Self) (id next : LogIdOf C)
+        → with_id (with_id a id) next ≡ with_id a next };
 }
 
 /// A value that a `LogId<NID>` identifies.

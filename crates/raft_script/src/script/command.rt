@@ -1,7 +1,11 @@
 //! What a line says.
-ghost use Rattle.std.specs.Prelude.{◌≡◌, IfOk, IsErrOf, SomeIff};
+ghost use Rattle.std.specs.Prelude.{◌≡◌, ◌≢◌, ◌↔◌, IfOk, IfSome, IsErrOf, SomeIff};
+ghost use Rattle.std.specs.BTreeSet.{contains};
+ghost use Rattle.std.specs.Ordering.{nat_cmp};
 ghost use Rattle.std.specs.Str.Parse.{digits_value};
-ghost use Rattle.raft_script.specs.Line.{HasConfigsOf, HasNumbersOf, IsConfigs, IsList, IsNumber};
+ghost use Rattle.raft_script.specs.Inner.Taken.{AreNodesOf, IsChangeOf, IsNoKind};
+ghost use Rattle.raft_script.specs.Line.{Is, IsBadLine, SaysCommand, SaysNothing, Spells, SpellsNone, retain_word};
+ghost use Rattle.raft_script.specs.Word.{IsConfigs, IsConfigsOf, IsList, IsListOf, IsNumber, IsNumberOf};
 
 use super::engine::ScriptStep;
 use raft_base::EmptyNode;
@@ -9,7 +13,7 @@ use raft_members::change_members::ChangeMembers;
 use raft_members::membership::IntoNodes;
 use raft_progress::progress::Step;
 use std::alloc::{AllocError, Global};
-use std::collections::BTreeSet;
+use std::collections::{BTreeMap, BTreeSet};
 
 /// A line that is to be run.
 #[derive(Drop)]
@@ -41,29 +45,15 @@ impl From<AllocError> for LineError {
 }
 
 /// What a line says: nothing where it has no words.
-pub fn parse(alloc: Global, line: &[u8]) -> Result<Option<Command>, LineError> {
+pub fn parse(alloc: Global, line: &[u8]) -> Result<Option<Command>, LineError>
+    ensures nothing { (result ≡ Ok None) ↔ SaysNothing line.now }
+    ensures command { IfOk result (λ said. IfSome said (SaysCommand line.now)) }
+    ensures bad_line { IsErrOf result LineError.BadLine → IsBadLine line.now }
+{
     let mut words = Words { rest: line };
-    let Some(name) = words.next() else {
-        return Ok(None);
-    };
-    let command = match name {
-        b"init" => Command::Init {
-            default: words.number()?,
-            configs: words.configs(alloc)?,
-            learners: words.list(alloc)?,
-        },
-        b"update" => Command::Step(Step::Update(words.number()?, words.number()?)),
-        b"increase" => Command::Step(Step::IncreaseTo(words.number()?, words.number()?)),
-        b"change" => Command::Step(Step::Change {
-            change: words.change(alloc)?,
-            retain: words.retain()?,
-            default: words.number()?,
-        }),
-        _ => return Err(LineError::BadLine),
-    };
     match words.next() {
-        None => Ok(Some(command)),
-        Some(_) => Err(LineError::BadLine),
+        None => Ok(None),
+        Some(name) => Ok(Some(words.command(alloc, name)?)),
     }
 }
 
@@ -74,8 +64,14 @@ struct Words<'a> {
 }
 
 impl<'a> Words<'a> {
+    ghost use Rattle.std.specs.Prelude.{MatchOption, OnErr, OnOk, [], ◌∷◌, codes};
+    ghost use Rattle.raft_script.specs.Inner.Taken.{Lacks, LacksChange, LacksRetain, Takes, TakesChange, left_in};
+
     /// The next word.
-    fn next(&mut self) -> Option<&'a [u8]> {
+    fn next(&mut self) -> Option<&'a [u8]>
+        ensures { MatchOption result (left_in self.old ≡ [])
+            (λ word. left_in self.old ≡ word.now ∷ left_in self.new) }
+    {
         let start = self.rest.iter().position(|byte| *byte != b' ')?;
         let from = &self.rest[start..];
         let end = from
@@ -87,55 +83,182 @@ impl<'a> Words<'a> {
     }
 
     /// The next word, where the line goes on.
-    fn word(&mut self) -> Result<&'a [u8], LineError> {
+    fn word(&mut self) -> Result<&'a [u8], LineError>
+        ensures ok { IfOk result (λ word. left_in self.old ≡ word.now ∷ left_in self.new) }
+        ensures err { OnErr result (left_in self.old ≡ []) }
+    {
         self.next().ok_or(LineError::BadLine)
     }
 
+    /// The line ends.
+    fn end(mut self) -> Result<(), LineError>
+        ensures ok { OnOk result (left_in self.entry ≡ []) }
+        ensures err { OnErr result (left_in self.entry ≢ []) }
+    {
+        match self.next() {
+            None => Ok(()),
+            Some(_) => Err(LineError::BadLine),
+        }
+    }
+
     /// The number that the next word says.
-    fn number(&mut self) -> Result<u64, LineError> {
+    fn number(&mut self) -> Result<u64, LineError>
+        ensures ok { IfOk result (λ n. Takes (IsNumberOf n) self.old self.new) }
+        ensures err { OnErr result (Lacks IsNumber (left_in self.old)) }
+    {
         number(self.word()?).ok_or(LineError::BadLine)
     }
 
     /// The numbers of the list that the next word says.
-    fn list(&mut self, alloc: Global) -> Result<BTreeSet<u64>, LineError> {
+    fn list(&mut self, alloc: Global) -> Result<BTreeSet<u64>, LineError>
+        ensures ok { IfOk result (λ set. Takes (IsListOf (contains nat_cmp set)) self.old self.new) }
+        ensures bad_line { IsErrOf result LineError.BadLine → Lacks IsList (left_in self.old) }
+    {
         list(alloc, self.word()?)
     }
 
     /// The configs that the next word says.
-    fn configs(&mut self, alloc: Global) -> Result<Vec<BTreeSet<u64>>, LineError> {
+    fn configs(&mut self, alloc: Global) -> Result<Vec<BTreeSet<u64>>, LineError>
+        ensures ok { IfOk result (λ sets. Takes (IsConfigsOf sets.items) self.old self.new) }
+        ensures bad_line { IsErrOf result LineError.BadLine → Lacks IsConfigs (left_in self.old) }
+    {
         configs(alloc, self.word()?)
     }
 
     /// The change that the next two words say: its kind, and the ids that it speaks of.
-    fn change(&mut self, alloc: Global) -> Result<ChangeMembers<u64, EmptyNode>, LineError> {
+    fn members(&mut self, alloc: Global) -> Result<ChangeMembers<u64, EmptyNode>, LineError>
+        ensures ok { IfOk result (λ change. TakesChange change self.old self.new) }
+        ensures bad_line { IsErrOf result LineError.BadLine → LacksChange (left_in self.old) }
+    {
         let kind = self.word()?;
         let ids = self.list(alloc)?;
-        match kind {
-            b"add-ids" => Ok(ChangeMembers::AddVoterIds(ids)),
-            b"add" => Ok(ChangeMembers::AddVoters(ids.into_nodes(alloc)?)),
-            b"remove" => Ok(ChangeMembers::RemoveVoters(ids)),
-            b"replace" => Ok(ChangeMembers::ReplaceAllVoters(ids)),
-            b"add-nodes" => Ok(ChangeMembers::AddNodes(ids.into_nodes(alloc)?)),
-            b"set-nodes" => Ok(ChangeMembers::SetNodes(ids.into_nodes(alloc)?)),
-            b"remove-nodes" => Ok(ChangeMembers::RemoveNodes(ids)),
-            b"replace-nodes" => Ok(ChangeMembers::ReplaceAllNodes(ids.into_nodes(alloc)?)),
-            _ => Err(LineError::BadLine),
-        }
+        change_of(alloc, kind, ids)
     }
 
     /// Whether the next word says that voters which go stay as learners.
-    fn retain(&mut self) -> Result<bool, LineError> {
+    fn retain(&mut self) -> Result<bool, LineError>
+        ensures ok { IfOk result (λ retain. Takes (Is (retain_word retain)) self.old self.new) }
+        ensures err { OnErr result (LacksRetain (left_in self.old)) }
+    {
         match self.word()? {
             b"retain" => Ok(true),
             b"drop" => Ok(false),
             _ => Err(LineError::BadLine),
         }
     }
+
+    /// The command of this name that the words say.
+    fn command(self, alloc: Global, name: &[u8]) -> Result<Command, LineError>
+        ensures ok { IfOk result (λ said. Spells said (name.now ∷ left_in self.entry)) }
+        ensures bad_line { IsErrOf result LineError.BadLine
+            → SpellsNone (name.now ∷ left_in self.entry) }
+    {
+        match name {
+            b"init" => self.init(alloc),
+            b"update" => self.update(),
+            b"increase" => self.increase(),
+            b"change" => self.change(alloc),
+            _ => Err(LineError::BadLine),
+        }
+    }
+
+    /// The start of a membership and its progress.
+    fn init(mut self, alloc: Global) -> Result<Command, LineError>
+        ensures ok { IfOk result (λ said. Spells said (codes "init" ∷ left_in self.entry)) }
+        ensures bad_line { IsErrOf result LineError.BadLine
+            → SpellsNone (codes "init" ∷ left_in self.entry) }
+    {
+        let default = self.number()?;
+        let configs = self.configs(alloc)?;
+        let learners = self.list(alloc)?;
+        self.end()?;
+        Ok(Command::Init {
+            default,
+            configs,
+            learners,
+        })
+    }
+
+    /// An update.
+    fn update(mut self) -> Result<Command, LineError>
+        ensures ok { IfOk result (λ said. Spells said (codes "update" ∷ left_in self.entry)) }
+        ensures err { OnErr result (SpellsNone (codes "update" ∷ left_in self.entry)) }
+    {
+        let id = self.number()?;
+        let value = self.number()?;
+        self.end()?;
+        Ok(Command::Step(Step::Update(id, value)))
+    }
+
+    /// An update where the value is greater.
+    fn increase(mut self) -> Result<Command, LineError>
+        ensures ok { IfOk result (λ said. Spells said (codes "increase" ∷ left_in self.entry)) }
+        ensures err { OnErr result (SpellsNone (codes "increase" ∷ left_in self.entry)) }
+    {
+        let id = self.number()?;
+        let value = self.number()?;
+        self.end()?;
+        Ok(Command::Step(Step::IncreaseTo(id, value)))
+    }
+
+    /// A change of the membership.
+    fn change(mut self, alloc: Global) -> Result<Command, LineError>
+        ensures ok { IfOk result (λ said. Spells said (codes "change" ∷ left_in self.entry)) }
+        ensures bad_line { IsErrOf result LineError.BadLine
+            → SpellsNone (codes "change" ∷ left_in self.entry) }
+    {
+        let change = self.members(alloc)?;
+        let retain = self.retain()?;
+        let default = self.number()?;
+        self.end()?;
+        Ok(Command::Step(Step::Change {
+            change,
+            retain,
+            default,
+        }))
+    }
+}
+
+/// The change of a kind that speaks of these ids.
+fn change_of(
+    alloc: Global,
+    kind: &[u8],
+    ids: BTreeSet<u64>,
+) -> Result<ChangeMembers<u64, EmptyNode>, LineError>
+    ensures ok { IfOk result (IsChangeOf kind.now ids) }
+    ensures bad_line { IsErrOf result LineError.BadLine → IsNoKind kind.now }
+{
+    if kind == b"add-ids".as_slice() {
+        Ok(ChangeMembers::AddVoterIds(ids))
+    } else if kind == b"add".as_slice() {
+        Ok(ChangeMembers::AddVoters(nodes_of(alloc, ids)?))
+    } else if kind == b"remove".as_slice() {
+        Ok(ChangeMembers::RemoveVoters(ids))
+    } else if kind == b"replace".as_slice() {
+        Ok(ChangeMembers::ReplaceAllVoters(ids))
+    } else if kind == b"add-nodes".as_slice() {
+        Ok(ChangeMembers::AddNodes(nodes_of(alloc, ids)?))
+    } else if kind == b"set-nodes".as_slice() {
+        Ok(ChangeMembers::SetNodes(nodes_of(alloc, ids)?))
+    } else if kind == b"remove-nodes".as_slice() {
+        Ok(ChangeMembers::RemoveNodes(ids))
+    } else if kind == b"replace-nodes".as_slice() {
+        Ok(ChangeMembers::ReplaceAllNodes(nodes_of(alloc, ids)?))
+    } else {
+        Err(LineError::BadLine)
+    }
+}
+
+/// A node at each id.
+fn nodes_of(alloc: Global, ids: BTreeSet<u64>) -> Result<BTreeMap<u64, EmptyNode>, AllocError>
+    ensures { IfOk result (AreNodesOf ids) }
+{
+    ids.into_nodes(alloc)
 }
 
 /// The configs of a word: `none` has none, and others are lists joined by slashes.
 fn configs(alloc: Global, word: &[u8]) -> Result<Vec<BTreeSet<u64>>, LineError>
-    ensures configs { IfOk result (λ configs. IsConfigs word.now × HasConfigsOf configs.items word.now) }
+    ensures configs { IfOk result (λ configs. IsConfigsOf configs.items word.now) }
     ensures bad_line { IsErrOf result LineError.BadLine → ¬ IsConfigs word.now }
 {
     let mut configs = Vec::new(alloc);
@@ -151,7 +274,7 @@ fn configs(alloc: Global, word: &[u8]) -> Result<Vec<BTreeSet<u64>>, LineError>
 
 /// The numbers of a list, ascending and each once: `-` has none, and others are joined by commas.
 fn list(alloc: Global, word: &[u8]) -> Result<BTreeSet<u64>, LineError>
-    ensures list { IfOk result (λ numbers. IsList word.now × HasNumbersOf numbers word.now) }
+    ensures list { IfOk result (λ numbers. IsListOf (contains nat_cmp numbers) word.now) }
     ensures bad_line { IsErrOf result LineError.BadLine → ¬ IsList word.now }
 {
     let mut numbers = BTreeSet::new(alloc);

@@ -6,7 +6,7 @@ use Rattle.std.specs.List.{AllZip}
 use Rattle.std.specs.Cmp.Lexicographic.{pointwise}
 use Rattle.std.proofs.lemmas.List.{map-append}
 use Rattle.std.proofs.lemmas.List.Elements.{All-push}
-use Rattle.raft_script.specs.Line.{HasNumbersOf, IsList}
+use Rattle.raft_script.specs.Word.{HasNumbersOf, IsList}
 use Rattle.raft_script.specs.declared.script.command.LineError.TheVariants.{BadLine}
 use Rattle.raft_script.proofs.Lists.{lists_of_other, not_all, zip_pushed}
 use Rattle.raft_script.proofs.script.command.configs.Goals as goal

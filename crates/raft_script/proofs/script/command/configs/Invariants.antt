@@ -1,6 +1,6 @@
 use Rattle.std.proofs.Common.{List, ℕ, Bor, map}
 use Rattle.std.specs.List.{All, AllZip}
-use Rattle.raft_script.specs.Line.{HasNumbersOf, IsList}
+use Rattle.raft_script.specs.Word.{HasNumbersOf, IsList}
 use Rattle.raft_script.proofs.script.command.configs.Given as goal
 
 -- the parts so far are lists, and each has its config

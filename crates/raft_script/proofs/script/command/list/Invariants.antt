@@ -3,7 +3,7 @@ use Rattle.std.specs.BTreeSet.{contains}
 use Rattle.std.specs.List.{All, list_any}
 use Rattle.std.specs.Ordering.{nat_cmp}
 use Rattle.std.specs.Str.Parse.{digits_value}
-use Rattle.raft_script.specs.Line.{IsNumber}
+use Rattle.raft_script.specs.Word.{IsNumber}
 use Rattle.raft_script.proofs.script.command.list.Given as goal
 
 -- the parts so far are numbers, and the set has exactly these

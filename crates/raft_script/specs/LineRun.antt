@@ -1,0 +1,46 @@
+-- What a line does to what an engine holds, and what is written for it.
+use Rattle.std.specs.Prelude.{◌≡◌, ℕ, Bool, true, false, List, [], Option, Some, None, IsSomeAnd, ◌⊎◌, map}
+use Rattle.std.specs.BTreeSet.{keys}
+use Rattle.std.specs.Io.KnownBytes.{Appends}
+use Rattle.raft_progress.specs.declared.progress.steps.Reply.{Reply}
+use Rattle.raft_progress.specs.declared.progress.steps.Reply.TheVariants.{OutOfMemory}
+use Rattle.raft_script.specs.Engine.{Answers, IsNew, Pair}
+use Rattle.raft_script.specs.Line.{IsBadLine, SaysCommand, SaysNothing}
+use Rattle.raft_script.specs.ReplyText.{bad_line_text, reply_text}
+use Rattle.raft_script.specs.declared.script.command.Command.{Command}
+use Rattle.raft_script.specs.declared.script.command.Command.TheVariants.{Init}
+use Rattle.raft_script.specs.declared.script.command.Command.TheVariants as command
+
+-- an init starts anew and prints nothing, or is refused memory, changes nothing and says so;
+-- a step is answered, and its reply is printed
+abbrev pub RunsCommand : Option Pair → Command → Option Pair → List ℕ → Type 0
+RunsCommand old (Init default configs learners) new text =
+    (IsSomeAnd new (IsNew (map keys configs.items) learners.keys default) × (text ≡ []))
+    ⊎ ((new ≡ old) × (text ≡ reply_text OutOfMemory))
+RunsCommand old (command.Step step) new text =
+    (reply : Reply ℕ ℕ) × Answers old step (Some reply) new × (text ≡ reply_text reply)
+
+-- a line that says nothing changes nothing and prints nothing, and a command is run
+abbrev pub RunsLine : Option Pair → List ℕ → Option Pair → List ℕ → Type 0
+RunsLine old line new text =
+    (SaysNothing line × (new ≡ old) × (text ≡ []))
+    ⊎ ((said : Command) × SaysCommand line said × RunsCommand old said new text)
+
+-- a step before any init
+abbrev pub IsStepTooEarly : Option Pair → Command → Type 0
+IsStepTooEarly held (Init default configs learners) = ⊥
+IsStepTooEarly held (command.Step step) = held ≡ None
+
+-- a line can't be run: a bad one, and a step before any init
+abbrev pub CannotRun : Option Pair → List ℕ → Type 0
+CannotRun held line =
+    IsBadLine line ⊎ ((said : Command) × SaysCommand line said × IsStepTooEarly held said)
+
+-- a line is run, or it can't be run and its number is printed
+abbrev pub AnswersLine : ℕ → Option Pair → List ℕ → Bool → Option Pair → List ℕ → Type 0
+AnswersLine number old line true new text = RunsLine old line new text
+AnswersLine number old line false new text = CannotRun old line × (text ≡ bad_line_text number)
+
+-- a text that fits is written
+abbrev pub Prints : Option (List ℕ) → Option (List ℕ) → (List ℕ → Type 0) → Type 0
+Prints old new Fits = (text : List ℕ) × Appends old new text × Fits text
