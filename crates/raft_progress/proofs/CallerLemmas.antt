@@ -1,7 +1,6 @@
 -- What callers may need of a progress that they have written into.
 use Rattle.std.specs.Prelude.{◌≡◌, Bool, Some}
 use Rattle.std.specs.declared.cmp.Ordering.{Ordering}
-use Rattle.std.specs.Map.{lookup}
 use Rattle.std.proofs.Common.{ap, refl}
 use Rattle.std.proofs.lemmas.Map.{keys-set_value}
 use Rattle.raft_progress.specs.InOrder.{IsInOrder}

@@ -16,7 +16,7 @@ use Rattle.raft_progress.specs.Inner.Tests.{ids_differ, never_rises}
 use Rattle.raft_progress.specs.Shown.{Shown, state}
 use Rattle.raft_progress.specs.Answered.{IsAnswered}
 use Rattle.raft_progress.specs.Steps.{IsIncreased, IsWritten}
-use Rattle.raft_progress.specs.TrackedState.{Configs, CountsBy, IsReady, TrackedShown, has_quorum, tracked_state}
+use Rattle.raft_progress.specs.TrackedState.{Configs, IsReady, TrackedShown, has_quorum}
 use Rattle.raft_progress.specs.declared.progress.steps.Reply.{Reply}
 use Rattle.raft_progress.proofs.CountedAfreshLemmas.{IsCounted-from_greatest}
 use Rattle.raft_progress.proofs.InOrderLemmas.{counted_once, counted_tied, distinct_from_test, equal_from_test, falling_from_test, lowest_from_test, test_from_distinct, test_from_falling, test_from_lowest}

@@ -1,6 +1,6 @@
 -- A clone of a tracked progress is ready.
-use Rattle.std.specs.Prelude.{◌≡◌, ℕ, Bool, true, false, ◌&&◌, ◌||◌, cond, IsTrue, List, [], ◌∷◌, Some, is_some, map, take}
-use Rattle.std.specs.Cmp.{IsEquivalence, IsTotalOrder, first_so, second_so}
+use Rattle.std.specs.Prelude.{◌≡◌, ℕ, Bool, true, false, ◌&&◌, ◌||◌, cond, List, [], ◌∷◌, Some, is_some, map, take}
+use Rattle.std.specs.Cmp.{IsEquivalence, first_so, second_so}
 use Rattle.std.specs.Ordering.{eq_by_cmp}
 use Rattle.std.specs.declared.cmp.Ordering.{Ordering}
 use Rattle.std.specs.BTreeMap.{is_at}
@@ -10,7 +10,7 @@ use Rattle.std.proofs.Common.{ap, refl, suc, sym, zero, ◌∙◌, true≢false}
 use Rattle.raft_members.specs.Majority.{is_majority, is_voter_of}
 use Rattle.raft_members.specs.Members.{node_at, same_members, same_nodes}
 use Rattle.raft_progress.specs.Equal.{IsCloned}
-use Rattle.raft_progress.specs.Shown.{Shown, state}
+use Rattle.raft_progress.specs.Shown.{Shown}
 use Rattle.raft_progress.specs.TrackedState.{Configs, HasSameConfigs, IsReady, TrackedShown, has_quorum}
 use Rattle.raft_progress.proofs.HeadlineLemmas.{list_all-mapped}
 use Rattle.raft_progress.proofs.KeptLemmas.{order_alike, voters_alike}

@@ -13,7 +13,7 @@ use Rattle.raft_progress.specs.InOrder.{IsInOrder}
 use Rattle.raft_progress.specs.Kept.{with_value}
 use Rattle.raft_progress.specs.Shown.{Shown}
 use Rattle.raft_progress.specs.Updated.{Answers, IsUpdated}
-use Rattle.raft_progress.specs.VecProgress.{shown, with_walk}
+use Rattle.raft_progress.specs.VecProgress.{with_walk}
 use Rattle.raft_progress.specs.contracts.progress.vec_progress.VecProgress.{the_row}
 
 -- what a closure may leave of a value

@@ -1,5 +1,5 @@
 -- What a step does to a membership and its progress, and what it is answered.
-use Rattle.std.specs.Prelude.{◌≡◌, Bool, true, false, Option, Some, None, List}
+use Rattle.std.specs.Prelude.{◌≡◌, Bool, true, false, Some, None, List}
 use Rattle.std.specs.declared.cmp.Ordering.{Ordering}
 use Rattle.raft_members.specs.Change.{changed}
 use Rattle.raft_members.specs.Members.{Members, Says, members_of}

@@ -1,5 +1,5 @@
 -- What the private steps of a replay do to all that a progress shows.
-use Rattle.std.specs.Prelude.{◌≡◌, Bool, List, Option}
+use Rattle.std.specs.Prelude.{Bool, List, Option}
 use Rattle.std.specs.declared.cmp.Ordering.{Ordering}
 use Rattle.raft_members.specs.Members.{MemberList}
 use Rattle.raft_members.specs.declared.change_members.ChangeMembers.{ChangeMembers}

@@ -1,6 +1,5 @@
-use Rattle.std.proofs.Common.{arith, refl, sym, ap, ◌∙◌, subst, ◌≡◌, ◌<◌, ◌≤◌, ◌+◌, ◌++◌, ◌∷◌, [], get_or, take, length, List, Some, None, ℕ}
-use Rattle.std.specs.Prelude.{drop}
-use Rattle.std.specs.Map.{keys_of, lookup}
+use Rattle.std.proofs.Common.{arith, refl, sym, ap, ◌∙◌, subst, ◌≡◌, ◌<◌, ◌≤◌, ◌+◌, ◌++◌, ◌∷◌, [], get_or, take, length, List, Some, None}
+use Rattle.std.specs.Map.{lookup}
 use Rattle.std.proofs.lemmas.List.{take_more, take_all}
 use Rattle.raft_progress.specs.Shown.{Shown, state}
 use Rattle.raft_progress.specs.Upgrade.{IsUpgraded}
