@@ -7,7 +7,7 @@ pub(crate) mod reply;
 
 ghost use Rattle.std.specs.Prelude.{◌≡◌, IfOk};
 ghost use Rattle.std.specs.Bool.{OnFalse, OnTrue};
-ghost use Rattle.raft_script.specs.Engine.{IsReady, pair_of};
+ghost use Rattle.raft_script.specs.Engine.{IsEngineReady, pair_of};
 ghost use Rattle.raft_script.specs.LineRun.{AnswersLine, IsStepTooEarly, Prints, RunsCommand};
 
 use command::{Command, LineError};
@@ -56,7 +56,7 @@ fn run_lines<R: Read + Drop, W: Write>(alloc: Global, reader: R, writer: &mut W)
     Ok(1)
 }
 
-/// Runs the line of a number, or names it where it can't be run. Answers whether it could.
+/// Runs the line of a number, or names it where it can't be run. AnswersStep whether it could.
 fn answer_line<W: Write>(
     alloc: Global,
     engine: &mut Engine,
@@ -64,8 +64,8 @@ fn answer_line<W: Write>(
     line: &[u8],
     replies: &mut W,
 ) -> io::Result<bool>
-    requires { IsReady engine.old }
-    ensures ready { IsReady engine.new }
+    requires { IsEngineReady engine.old }
+    ensures ready { IsEngineReady engine.new }
     ensures line { IfOk result (λ runs. Prints (W.contents replies.old) (W.contents replies.new)
         (AnswersLine number (pair_of engine.old) line.now runs (pair_of engine.new))) }
 {
@@ -93,8 +93,8 @@ fn run_command<W: Write>(
     command: Command,
     replies: &mut W,
 ) -> io::Result<bool>
-    requires { IsReady engine.old }
-    ensures ready { IsReady engine.new }
+    requires { IsEngineReady engine.old }
+    ensures ready { IsEngineReady engine.new }
     ensures runs { IfOk result (λ runs. OnTrue runs
         (Prints (W.contents replies.old) (W.contents replies.new)
         (RunsCommand (pair_of engine.old) command (pair_of engine.new)))) }

@@ -18,11 +18,11 @@ pub struct Engine {
 
 impl Engine {
     ghost use Rattle.std.specs.Prelude.{Some, IfOk, OnErr, OnOk, IfSome, IsNone, IsSomeAnd, map};
-    ghost use Rattle.raft_script.specs.Engine.{Answers, GrantedIsKnown, IsNew, IsReady, pair_of, shown_of};
+    ghost use Rattle.raft_script.specs.Engine.{AnswersStep, GrantedIsKnown, IsStart, IsEngineReady, pair_of, shown_of};
 
     /// An engine before any `init`.
     pub fn new() -> Engine
-        ensures ready { IsReady result }
+        ensures ready { IsEngineReady result }
         ensures empty { IsNone (pair_of result) }
     {
         Engine { tracked: None }
@@ -36,9 +36,9 @@ impl Engine {
         configs: Vec<BTreeSet<u64>>,
         learners: BTreeSet<u64>,
     ) -> Result<(), AllocError>
-        requires { IsReady self.old }
-        ensures ready { IsReady self.new }
-        ensures ok { OnOk result (IsSomeAnd (pair_of self.new) (IsNew (map (λ c. c.keys) configs.items) learners.keys default)) }
+        requires { IsEngineReady self.old }
+        ensures ready { IsEngineReady self.new }
+        ensures ok { OnOk result (IsSomeAnd (pair_of self.new) (IsStart (map (λ c. c.keys) configs.items) learners.keys default)) }
         ensures err { OnErr result (self.new ≡ self.old) }
     {
         let membership = Membership::new(configs, learners)?;
@@ -53,9 +53,9 @@ impl Engine {
         alloc: Global,
         step: ScriptStep,
     ) -> Result<Option<Reply<u64, u64>>, AllocError>
-        requires { IsReady self.old }
-        ensures ready { IsReady self.new }
-        ensures ok { IfOk result (λ reply. Answers (pair_of self.old) step reply (pair_of self.new)) }
+        requires { IsEngineReady self.old }
+        ensures ready { IsEngineReady self.new }
+        ensures ok { IfOk result (λ reply. AnswersStep (pair_of self.old) step reply (pair_of self.new)) }
         ensures err { OnErr result (shown_of self.new ≡ shown_of self.old) }
         ensures known { OnOk result (IfSome (shown_of self.new) GrantedIsKnown) }
     {
