@@ -56,7 +56,7 @@ fn run_lines<R: Read + Drop, W: Write>(alloc: Global, reader: R, writer: &mut W)
     Ok(1)
 }
 
-/// Runs the line of a number, or names it where it can't be run. AnswersStep whether it could.
+/// Runs the line of a number, or names it where it can't be run. Answers whether it could.
 fn answer_line<W: Write>(
     alloc: Global,
     engine: &mut Engine,
