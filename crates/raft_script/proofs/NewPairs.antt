@@ -11,7 +11,7 @@ use Rattle.raft_progress.specs.NewProgress as new_progress
 use Rattle.raft_progress.specs.NewProgress.{HasClone}
 use Rattle.raft_progress.specs.Shown.{state}
 use Rattle.raft_progress.specs.TrackedState.{Configs, IsReady, TrackedShown, is_voter, tracked_state}
-use Rattle.raft_script.specs.Engine.{IsNew, part}
+use Rattle.raft_script.specs.Engine.{IsStart, part}
 
 or_true : (a : Bool) → (a || true) ≡ true
 or_true true = refl
@@ -48,7 +48,7 @@ module _ (configs : List (List ℕ)) (learners : List ℕ) (default : ℕ) (made
   made_configs = ap (λ (m : MemberList ℕ EmptyNode). m.configs) same ∙ same_configs
 
   -- a new pair of a membership and its progress has the configs, and voters and learners at the default
-  pub is_new : (joint : Configs ℕ) (ids : List ℕ) → new_progress.IsNew nat_eq (λ v w. w ≡ v) part (is_voter nat_eq joint) joint ids default (state nat_eq made.progress) → IsReady nat_eq nat_cmp nat_cmp part made → IsNew configs learners default (tracked_state nat_eq made)
+  pub is_new : (joint : Configs ℕ) (ids : List ℕ) → new_progress.IsNew nat_eq (λ v w. w ≡ v) part (is_voter nat_eq joint) joint ids default (state nat_eq made.progress) → IsReady nat_eq nat_cmp nat_cmp part made → IsStart configs learners default (tracked_state nat_eq made)
   is_new joint ids new ready =
       let known : (id : ℕ) → is_some ((state nat_eq made.progress).value id) ≡ (is_voter_of nat_eq configs id || is_member nat_eq learners id) = λ id.
       ready.counts_by.known id

@@ -5,21 +5,21 @@ use Rattle.raft_base.specs.declared.node.EmptyNode.{EmptyNode}
 use Rattle.raft_progress.specs.TrackedSteps.{IsTrackedRun}
 use Rattle.raft_progress.specs.declared.progress.steps.Reply.{Reply}
 use Rattle.raft_progress.specs.declared.progress.steps.Step.{Step}
-use Rattle.raft_script.specs.Engine.{Pair, IsStep, Answers, by_number, same_node}
+use Rattle.raft_script.specs.Engine.{EngineState, IsEngineStep, AnswersStep, by_number, same_node}
 
-abbrev IsReplay : Pair → List (Step ℕ EmptyNode ℕ) → List (Reply ℕ ℕ) → Pair → Type 0
+abbrev IsReplay : EngineState → List (Step ℕ EmptyNode ℕ) → List (Reply ℕ ℕ) → EngineState → Type 0
 IsReplay = IsTrackedRun by_number same_node
 
-one_reply : (old : Pair) (step : Step ℕ EmptyNode ℕ) (replies : List (Reply ℕ ℕ)) (new : Pair) → IsReplay old (step ∷ []) replies new → (reply : Reply ℕ ℕ) × (replies ≡ reply ∷ []) × IsStep old step reply new
+one_reply : (old : EngineState) (step : Step ℕ EmptyNode ℕ) (replies : List (Reply ℕ ℕ)) (new : EngineState) → IsReplay old (step ∷ []) replies new → (reply : Reply ℕ ℕ) × (replies ≡ reply ∷ []) × IsEngineStep old step reply new
 one_reply old step (reply ∷ []) new run = (reply, refl, run)
 one_reply old step [] new run = absurd run
 one_reply old step (reply ∷ other ∷ others) new (middle, made, run) = absurd run
 
 -- the last reply to a list of one step is that step's
-pub answered : (first : Option Pair) (old : Pair) (step : Step ℕ EmptyNode ℕ) (steps : List (Step ℕ EmptyNode ℕ)) (replies : List (Reply ℕ ℕ)) (last : Option (Reply ℕ ℕ)) (new : Pair) (n : ℕ) → first ≡ Some old → steps ≡ step ∷ [] → IsReplay old steps replies new → n ≡ length replies → ((other : Reply ℕ ℕ) → 0 < n → last ≡ Some (slice_index_or replies (n - 1) other)) → Answers first step last (Some new)
+pub answered : (first : Option EngineState) (old : EngineState) (step : Step ℕ EmptyNode ℕ) (steps : List (Step ℕ EmptyNode ℕ)) (replies : List (Reply ℕ ℕ)) (last : Option (Reply ℕ ℕ)) (new : EngineState) (n : ℕ) → first ≡ Some old → steps ≡ step ∷ [] → IsReplay old steps replies new → n ≡ length replies → ((other : Reply ℕ ℕ) → 0 < n → last ≡ Some (slice_index_or replies (n - 1) other)) → AnswersStep first step last (Some new)
 answered first old step steps replies last new n is one run many ends =
     let found = one_reply old step replies new (subst (λ (s : List (Step ℕ EmptyNode ℕ)). IsReplay old s replies new) one run) in
     let single : n ≡ 1 = many ∙ ap length found.1 in
     let first_reply : last ≡ Some found.0 =
     ends found.0 (omega arith) ∙ ap (λ k. Some (slice_index_or replies (k - 1) found.0)) single ∙ ap (λ rs. Some (slice_index_or rs 0 found.0)) found.1 in
-    subst (λ (f : Option Pair). Answers f step last (Some new)) (sym is) (subst (λ (l : Option (Reply ℕ ℕ)). Answers (Some old) step l (Some new)) (sym first_reply) (new, refl, found.2))
+    subst (λ (f : Option EngineState). AnswersStep f step last (Some new)) (sym is) (subst (λ (l : Option (Reply ℕ ℕ)). AnswersStep (Some old) step l (Some new)) (sym first_reply) (new, refl, found.2))

@@ -4,7 +4,7 @@ use Rattle.std.specs.BTreeSet.{keys}
 use Rattle.std.specs.Io.KnownBytes.{Appends}
 use Rattle.raft_progress.specs.declared.progress.steps.Reply.{Reply}
 use Rattle.raft_progress.specs.declared.progress.steps.Reply.TheVariants.{OutOfMemory}
-use Rattle.raft_script.specs.Engine.{Answers, IsNew, Pair}
+use Rattle.raft_script.specs.Engine.{AnswersStep, IsStart, EngineState}
 use Rattle.raft_script.specs.Line.{IsBadLine, SaysCommand, SaysNothing}
 use Rattle.raft_script.specs.ReplyText.{bad_line_text, reply_text}
 use Rattle.raft_script.specs.declared.script.command.Command.{Command}
@@ -13,31 +13,31 @@ use Rattle.raft_script.specs.declared.script.command.Command.TheVariants as comm
 
 -- an init starts anew and prints nothing, or is refused memory, changes nothing and says so;
 -- a step is answered, and its reply is printed
-abbrev pub RunsCommand : Option Pair → Command → Option Pair → List ℕ → Type 0
+abbrev pub RunsCommand : Option EngineState → Command → Option EngineState → List ℕ → Type 0
 RunsCommand old (Init default configs learners) new text =
-    (IsSomeAnd new (IsNew (map keys configs.items) learners.keys default) × (text ≡ []))
+    (IsSomeAnd new (IsStart (map keys configs.items) learners.keys default) × (text ≡ []))
     ⊎ ((new ≡ old) × (text ≡ reply_text OutOfMemory))
 RunsCommand old (command.Step step) new text =
-    (reply : Reply ℕ ℕ) × Answers old step (Some reply) new × (text ≡ reply_text reply)
+    (reply : Reply ℕ ℕ) × AnswersStep old step (Some reply) new × (text ≡ reply_text reply)
 
 -- a line that says nothing changes nothing and prints nothing, and a command is run
-abbrev pub RunsLine : Option Pair → List ℕ → Option Pair → List ℕ → Type 0
+abbrev pub RunsLine : Option EngineState → List ℕ → Option EngineState → List ℕ → Type 0
 RunsLine old line new text =
     (SaysNothing line × (new ≡ old) × (text ≡ []))
     ⊎ ((said : Command) × SaysCommand line said × RunsCommand old said new text)
 
 -- a step before any init
-abbrev pub IsStepTooEarly : Option Pair → Command → Type 0
+abbrev pub IsStepTooEarly : Option EngineState → Command → Type 0
 IsStepTooEarly held (Init default configs learners) = ⊥
 IsStepTooEarly held (command.Step step) = held ≡ None
 
 -- a line can't be run: a bad one, and a step before any init
-abbrev pub CannotRun : Option Pair → List ℕ → Type 0
+abbrev pub CannotRun : Option EngineState → List ℕ → Type 0
 CannotRun held line =
     IsBadLine line ⊎ ((said : Command) × SaysCommand line said × IsStepTooEarly held said)
 
 -- a line is run, or it can't be run and its number is printed
-abbrev pub AnswersLine : ℕ → Option Pair → List ℕ → Bool → Option Pair → List ℕ → Type 0
+abbrev pub AnswersLine : ℕ → Option EngineState → List ℕ → Bool → Option EngineState → List ℕ → Type 0
 AnswersLine number old line true new text = RunsLine old line new text
 AnswersLine number old line false new text = CannotRun old line × (text ≡ bad_line_text number)
 
