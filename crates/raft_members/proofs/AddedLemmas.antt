@@ -20,7 +20,7 @@ option_alike laws (Some x) = laws.refl x
 pub option_trans : {N : Type 0} {same : N → N → Bool} → IsEquivalence same → (x y z : Option N) → IsTrue (option_eq same x y) → IsTrue (option_eq same y z) → IsTrue (option_eq same x z)
 option_trans laws x y z h k = (options_equiv laws).congr x y z h ∙ k
 
-is_equal : (c : Ordering) → is_eq c ≡ true → c ≡ Equal
+pub is_equal : (c : Ordering) → is_eq c ≡ true → c ≡ Equal
 is_equal Less h = cc
 is_equal Equal h = refl
 is_equal Greater h = cc

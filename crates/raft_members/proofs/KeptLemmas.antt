@@ -1,5 +1,5 @@
 -- Entries that are copied one by one, in order.
-use Rattle.std.specs.Prelude.{◌≡◌, ◌&&◌, Bool, true, false, cond, Some, List, [], ◌∷◌, ◌++◌, IsTrue, refl, not, ◌||◌}
+use Rattle.std.specs.Prelude.{◌≡◌, Bool, true, false, cond, Some, List, [], ◌∷◌, ◌++◌, IsTrue, refl, not, ◌||◌}
 use Rattle.std.proofs.Common.{◌∙◌, ap, sym, append_assoc, append-nil}
 use Rattle.std.specs.declared.cmp.Ordering.{Ordering}
 use Rattle.std.specs.declared.cmp.Ordering.TheVariants.{Less, Greater}
@@ -14,6 +14,7 @@ use Rattle.std.specs.Map.{lookup, keys_of}
 use Rattle.std.specs.BTreeMap.{insert_entry}
 use Rattle.std.specs.Option.{option_eq}
 use Rattle.raft_members.specs.Majority.{is_voter_of}
+use Rattle.raft_members.specs.MajorityLaws.{both_so}
 use Rattle.raft_members.specs.Change.{keeps_node}
 use Rattle.raft_members.specs.Members.{MemberList, same_nodes, same_members}
 use Rattle.raft_members.proofs.MajorityLemmas.{is_member-alike}
@@ -93,9 +94,6 @@ pub same_stays : {K : Type 0} {e : K → K → Bool} → IsEquivalence e → (ol
 same_stays laws old new retain x y h = λ i. retain || (not (voter_alike laws old x y h i) || voter_alike laws new x y h i)
 
 -- the same keys with equal values are equal nodes
-both_so : (a b : Bool) → a ≡ true → b ≡ true → (a && b) ≡ true
-both_so a b h k = λ i. h i && k i
-
 module _ {K N : Type 0} {eq : K → K → Bool} {same : N → N → Bool} (e : IsEquivalence eq) (s : IsEquivalence same) where
   pub same_entries : (xs ys : List (K × N)) → SameEntries same xs ys → IsTrue (same_nodes eq same ys xs)
   same_entries [] [] h = refl

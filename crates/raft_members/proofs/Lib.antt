@@ -13,3 +13,4 @@ pub mod SaysLemmas
 pub mod KeptLemmas
 pub mod DefaultLemmas
 pub mod LearnerLemmas
+pub mod CallerLemmas

@@ -6,7 +6,8 @@ use Rattle.std.proofs.Common.{get_or}
 use Rattle.std.proofs.lemmas.List.{take_more}
 use Rattle.std.proofs.lemmas.List.Folds.{list_any-append}
 use Rattle.std.specs.List.{list_any, list_all, slice_get}
-use Rattle.std.specs.Option.{option_map}
+use Rattle.std.specs.Option.{option_map, unwrap_or}
+use Rattle.raft_members.specs.Change.{last_config}
 use Rattle.std.proofs.lemmas.Option.{slice_get-map}
 use Rattle.std.proofs.lemmas.List.{length-map}
 use Rattle.std.specs.Prelude.{◌&&◌}
@@ -43,6 +44,13 @@ any_more p xs i d h e =
     or_false : (b : Bool) → (b || false) ≡ b
     or_false true = refl
     or_false false = refl
+
+-- the last config of some sets
+pub last_config-some : {K X : Type 0} (f : X → List K) (xs : List X) (x : X) → Some x ≡ slice_get xs (length xs - 1) → last_config (map f xs) ≡ f x
+last_config-some f xs x h = ap (λ o. unwrap_or o []) (last-map f xs x h)
+
+pub last_config-none : {K X : Type 0} (f : X → List K) (xs : List X) → None ≡ slice_get xs (length xs - 1) → last_config (map f xs) ≡ []
+last_config-none f xs h = ap (λ o. unwrap_or o []) (last_none-map f xs h)
 
 -- a joint of lists has the quorums and the voters of its configs
 module _ {K X : Type 0} (f : X → List K) (eq : K → K → Bool) (xs : List X) (configs : List (List K)) (same : map f xs ≡ configs) where

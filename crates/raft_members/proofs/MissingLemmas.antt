@@ -4,9 +4,10 @@ use Rattle.std.specs.Prelude.{◌+◌, ◌<◌, length, map, take}
 use Rattle.std.proofs.Common.{sym, ◌∙◌, ap, subst, get_or}
 use Rattle.raft_members.specs.Majority.{is_voter_of}
 use Rattle.raft_members.proofs.MappedLemmas.{list_any-map, any_more}
-use Rattle.raft_members.specs.Valid.{lesser}
+use Rattle.raft_members.specs.Inner.Nodes.{lesser}
 use Rattle.raft_members.specs.Valid.{FirstUnknown, IsFirstUnknown}
 use Rattle.raft_members.proofs.NextLemmas.{left_true, right_true}
+use Rattle.raft_members.proofs.AddedLemmas.{is_equal}
 use Rattle.std.specs.declared.cmp.Ordering.{Ordering}
 use Rattle.std.specs.declared.cmp.Ordering.TheVariants.{Less, Equal, Greater}
 use Rattle.std.specs.Cmp.{IsTotalOrder, IsEquivalence}
@@ -24,11 +25,6 @@ module _ {K : Type 0} {eq : K → K → Bool} {cmp : K → K → Ordering} (laws
 
   greater_not_below : (k x : K) → cmp x k ≡ Less → is_lt (cmp k x) ≡ false
   greater_not_below k x h = let e : cmp k x ≡ Greater = o.antisymm k x ∙ ap ordering_reverse h in rw e refl
-
-  is_equal : (c : Ordering) → is_eq c ≡ true → c ≡ Equal
-  is_equal Less h = cc
-  is_equal Equal h = refl
-  is_equal Greater h = cc
 
   -- a member of a list that is above x is not below x
   above_step : (x y k : K) (ys : List K) (b : Bool) → eq k y ≡ b → cmp x y ≡ Less → (is_member eq ys k ≡ true → is_lt (cmp k x) ≡ false) → (b || is_member eq ys k) ≡ true → is_lt (cmp k x) ≡ false

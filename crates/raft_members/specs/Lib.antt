@@ -15,3 +15,4 @@ pub mod Defaults
 pub mod Learners
 pub mod Stored
 pub mod StoredLaws
+pub mod Inner

@@ -18,7 +18,8 @@ pub is_majority-superset : {K : Type 0} (eq : K → K → Bool) (config : List K
 is_majority-superset eq config s t h q =
     lt-ltb _ _ (omega (arith, ltb-true _ _ q, count_by-le-larger s t h (unique_keys eq config)))
 
-both_so : (a b : Bool) → a ≡ true → b ≡ true → (a && b) ≡ true
+-- two facts are both so
+pub both_so : (a b : Bool) → a ≡ true → b ≡ true → (a && b) ≡ true
 both_so a b h k = λ i. h i && k i
 
 -- what passes one test passes a weaker one

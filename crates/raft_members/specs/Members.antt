@@ -20,9 +20,13 @@ node_at cmp nodes id = lookup (is_at (cmp id)) nodes
 abbrev pub members_of : {K N : Type 0} → (K → K → Ordering) → MemberList K N → Members K N
 members_of cmp m = record { configs = m.configs; node = node_at cmp m.nodes }
 
+-- the nodes are, at each id, equal to what a function gives, or like it none
+abbrev pub HasNodes : {K N : Type 0} → (N → N → Bool) → (K → K → Ordering) → List (K × N) → (K → Option N) → Type 0
+HasNodes {K} same cmp nodes node = (id : K) → IsTrue (option_eq same (node_at cmp nodes id) (node id))
+
 -- the membership has exactly these configs, and at each id an equal node or, like them, none
 abbrev pub Says : {K N : Type 0} → (N → N → Bool) → (K → K → Ordering) → MemberList K N → Members K N → Type 0
-Says {K} same cmp m w = (m.configs ≡ w.configs) × ((id : K) → IsTrue (option_eq same (node_at cmp m.nodes id) (w.node id)))
+Says same cmp m w = (m.configs ≡ w.configs) × HasNodes same cmp m.nodes w.node
 
 -- two lists of nodes are equal: the same ids, with equal nodes
 abbrev pub same_nodes : {K N : Type 0} → (K → K → Bool) → (N → N → Bool) → List (K × N) → List (K × N) → Bool

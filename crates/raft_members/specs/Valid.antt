@@ -1,5 +1,5 @@
 -- When a membership is valid, and which voter is the first without a node.
-use Rattle.std.specs.Prelude.{◌≡◌, Bool, true, false, cond, Option, Some, None, List, [], ◌∷◌, is_some}
+use Rattle.std.specs.Prelude.{◌≡◌, Bool, true, false, Option, Some, None, List, [], ◌∷◌, is_some}
 use Rattle.std.specs.declared.cmp.Ordering.{Ordering}
 use Rattle.std.specs.List.{list_any}
 use Rattle.std.specs.Ordering.{is_lt}
@@ -33,9 +33,3 @@ FirstWithoutNode eq cmp m first = FirstUnknown cmp (is_voter_of eq m.configs) (�
 -- a membership is valid if no config is empty and each voter has a node
 abbrev pub IsValid : {K N : Type 0} → (K → K → Bool) → Members K N → Type 0
 IsValid {K} eq m = (has_empty_config m.configs ≡ false) × ((id : K) → is_voter_of eq m.configs id ≡ true → is_some (m.node id) ≡ true)
-
--- the lesser of two ids, where there are two
-abbrev pub lesser : {K : Type 0} → (K → K → Ordering) → Option K → Option K → Option K
-lesser cmp None b = b
-lesser cmp (Some x) None = Some x
-lesser cmp (Some x) (Some y) = cond (is_lt (cmp y x)) (Some y) (Some x)

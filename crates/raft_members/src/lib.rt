@@ -16,3 +16,4 @@ pub use membership::{
     EffectiveMembership, EffectiveMembershipOf, IntoNodes, LearnerIds, Membership,
     StoredMembership, StoredMembershipOf,
 };
+pub use quorum::{AsJoint, Coherent, FindCoherent, Joint, QuorumSet};

@@ -10,11 +10,11 @@ ghost use Rattle.std.specs.Cmp.{partial_equiv_from_equiv};
 ghost use Rattle.std.specs.Cmp.Lexicographic.{pointwise};
 ghost use Rattle.raft_members.specs.MembersLaws.{same_members-equiv};
 ghost use Rattle.raft_members.specs.Majority.{is_majority, is_joint_majority, is_voter_of};
-ghost use Rattle.raft_members.specs.Members.{MemberList, node_at, members_of, same_nodes, same_members};
+ghost use Rattle.raft_members.specs.Members.{MemberList, node_at, members_of, same_members, HasNodes};
 ghost use Rattle.raft_members.specs.Valid.{has_empty_config, FirstWithoutNode, IsValid};
 ghost use Rattle.raft_members.specs.Refusal.{err_of, IsRefusal};
-ghost use Rattle.raft_members.specs.Defaults.{WithDefault};
-ghost use Rattle.raft_members.specs.Learners.{learners_among, learners_ahead};
+ghost use Rattle.raft_members.specs.Defaults.{HasDefaults};
+ghost use Rattle.raft_members.specs.Learners.{learners_of, learners_ahead, is_learner};
 ghost use Rattle.raft_members.specs.declared.error.ChangeMembershipErrorOf.TheVariants.{OutOfMemory};
 
 mod change;
@@ -60,7 +60,8 @@ impl<NID: NodeId, N: Node> Model for Membership<NID, N> {
 
     ghost Value = { MemberList NID N };
 
-    ghost view = { λ a. record { configs = map (λ c. c.keys) a.configs.items; nodes = a.nodes.entries } };
+    ghost view = { λ a.
+        record { configs = map (λ c. c.keys) a.configs.items; nodes = a.nodes.entries } };
 }
 
 impl<NID: NodeId, N: Node> Membership<NID, N> {
@@ -70,7 +71,8 @@ impl<NID: NodeId, N: Node> Membership<NID, N> {
         nodes: T,
     ) -> Result<Self, AllocError>
         ensures configs { IfOk result (λ m. m.configs ≡ map (λ c. c.keys) configs.items) }
-        ensures nodes { IfOk result (λ m. (given : List (NID × N)) × T.gives nodes given × ((id : NID) → WithDefault N.is_default_node (node_at NID.cmp given id) (is_voter_of NID.eq (map (λ c. c.keys) configs.items) id) (node_at NID.cmp m.nodes id))) }
+        ensures nodes { IfOk result (λ m. (given : List (NID × N)) × T.gives nodes given ×
+            HasDefaults N.is_default_node NID.cmp given (is_voter_of NID.eq m.configs) m.nodes) }
     {
         let alloc = *configs.allocator();
         let given = nodes.into_nodes(alloc)?;
@@ -94,7 +96,8 @@ impl<NID: NodeId, N: Node> Membership<NID, N> {
 
     /// A membership of these nodes, all of them voters of its only config.
     pub fn from_nodes(alloc: Global, nodes: BTreeMap<NID, N>) -> Result<Self, AllocError>
-        ensures { IfOk result (λ m. m ≡ record { configs = keys nodes ∷ []; nodes = nodes.entries }) }
+        ensures { IfOk result (λ m.
+            m ≡ record { configs = keys nodes ∷ []; nodes = nodes.entries }) }
     {
         let mut configs = Vec::with_capacity(alloc, 1)?;
         configs.push(ids::key_set(alloc, &nodes)?)?;
@@ -130,7 +133,8 @@ impl<NID: NodeId, N: Node> Membership<NID, N> {
         new: &BTreeMap<NID, N>,
     ) -> Result<BTreeMap<NID, N>, AllocError>
         requires { ClonesAreEqual N.eq N.is_clone }
-        ensures { IfOk result (λ nodes. (id : NID) → IsTrue (option_eq N.eq (get NID.cmp nodes id) (option_or (get NID.cmp old id) (get NID.cmp new.now id)))) }
+        ensures { IfOk result (λ nodes. HasNodes N.eq NID.cmp nodes.entries
+            (λ id. option_or (get NID.cmp old id) (get NID.cmp new.now id))) }
     {
         nodes::added(old, new)
     }
@@ -181,7 +185,8 @@ impl<NID: NodeId, N: Node> Membership<NID, N> {
     /// The voters of all configs, each once, ascending.
     pub fn voter_ids(&self) -> Result<Vec<NID>, AllocError>
         ensures ascending { IfOk result (λ ids. IsStrictlySortedBy NID.cmp ids.items) }
-        ensures voters { IfOk result (λ ids. (id : NID) → is_member NID.eq ids.items id ≡ is_voter_of NID.eq self.now.configs id) }
+        ensures voters { IfOk result (λ ids. (id : NID) →
+            is_member NID.eq ids.items id ≡ is_voter_of NID.eq self.now.configs id) }
     {
         let alloc = *self.configs.allocator();
         configs::voters(alloc, &self.configs)
@@ -189,9 +194,10 @@ impl<NID: NodeId, N: Node> Membership<NID, N> {
 
     /// The learners, each once, ascending: the nodes that are in no config.
     pub fn learner_ids(&self) -> LearnerIds<'_, NID, N>
-        ensures rest { learners_ahead NID.eq result ≡ learners_among NID.eq self.now.configs (keys_of self.now.nodes) }
+        ensures rest { learners_ahead NID.eq result ≡ learners_of NID.eq self.now }
         ensures ascending { IsStrictlySortedBy NID.cmp (learners_ahead NID.eq result) }
-        ensures learners { (id : NID) → is_member NID.eq (learners_ahead NID.eq result) id ≡ (is_some (node_at NID.cmp self.now.nodes id) && not (is_voter_of NID.eq self.now.configs id)) }
+        ensures learners { (id : NID) →
+            is_member NID.eq (learners_ahead NID.eq result) id ≡ is_learner NID.eq NID.cmp self.now id }
     {
         LearnerIds {
             nodes: self.nodes.keys(),
@@ -201,9 +207,14 @@ impl<NID: NodeId, N: Node> Membership<NID, N> {
 
     /// The configs as one quorum set: a quorum has a majority of each.
     pub fn to_quorum_set(&self) -> Result<Joint<NID, Vec<NID>, Vec<Vec<NID>>>, AllocError>
-        ensures configs { IfOk result (λ joint. map (λ c. c.items) joint.items ≡ self.now.configs) }
-        ensures quorums { IfOk result (λ joint. (set : NID → Bool) → list_all (λ c. is_majority NID.eq c.items set) joint.items ≡ is_joint_majority NID.eq self.now.configs set) }
-        ensures voters { IfOk result (λ joint. (id : NID) → list_any (λ c. is_member NID.eq c.items id) joint.items ≡ is_voter_of NID.eq self.now.configs id) }
+        ensures configs { IfOk result (λ joint.
+            map (λ c. c.items) joint.items ≡ self.now.configs) }
+        ensures quorums { IfOk result (λ joint. (set : NID → Bool) →
+            list_all (λ c. is_majority NID.eq c.items set) joint.items
+            ≡ is_joint_majority NID.eq self.now.configs set) }
+        ensures voters { IfOk result (λ joint. (id : NID) →
+            list_any (λ c. is_member NID.eq c.items id) joint.items
+            ≡ is_voter_of NID.eq self.now.configs id) }
     {
         let alloc = *self.configs.allocator();
         let lists = configs::lists_of(alloc, &self.configs)?;
@@ -236,7 +247,7 @@ impl<NID: NodeId, N: Node> Membership<NID, N> {
     /// memory is taken.
     pub fn ensure_valid(&self) -> Result<(), ChangeMembershipError<NID>>
         ensures valid { IfOk result (λ _. IsValid NID.eq (members_of NID.cmp self.now)) }
-        ensures refused { IfErr result (λ e. IsRefusal NID.eq NID.cmp (members_of NID.cmp self.now) e) }
+        ensures refused { IfErr result (IsRefusal NID.eq NID.cmp (members_of NID.cmp self.now)) }
         ensures no_memory { IfErr result (λ e. e ≡ OutOfMemory → ⊥) }
     {
         self.ensure_non_empty_config()?;

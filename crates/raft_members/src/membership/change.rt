@@ -27,7 +27,8 @@ impl<NID: NodeId, N: Node> Membership<NID, N> {
     /// too; with it, such a voter becomes a learner.
     pub fn next_coherent(&self, goal: BTreeSet<NID>, retain: bool) -> Result<Self, AllocError>
         requires { ClonesAreEqual N.eq N.is_clone }
-        ensures { IfOk result (λ m. Says N.eq NID.cmp m (next_members NID.eq (members_of NID.cmp self.now) goal.keys retain)) }
+        ensures { IfOk result (λ m. Says N.eq NID.cmp m
+            (next_members NID.eq (members_of NID.cmp self.now) goal.keys retain)) }
     {
         let alloc = *self.configs.allocator();
         let configs = configs::next(alloc, &self.configs, goal)?;
@@ -47,13 +48,18 @@ impl<NID: NodeId, N: Node> Membership<NID, N> {
         retain: bool,
     ) -> Result<Self, ChangeMembershipError<NID>>
         requires { ClonesAreEqual N.eq N.is_clone }
-        ensures valid { IfOk result (λ m. IsValid NID.eq (changed NID.eq NID.cmp (members_of NID.cmp self.now) change retain)) }
+        ensures valid { IfOk result (λ _. IsValid NID.eq
+            (changed NID.eq NID.cmp (members_of NID.cmp self.now) change retain)) }
         ensures valid_itself { IfOk result (λ m. IsValid NID.eq (members_of NID.cmp m)) }
-        ensures changed { IfOk result (λ m. Says N.eq NID.cmp m (changed NID.eq NID.cmp (members_of NID.cmp self.now) change retain)) }
-        ensures refused { IfErr result (λ e. IsRefusal NID.eq NID.cmp (changed NID.eq NID.cmp (members_of NID.cmp self.now) change retain) e) }
-        ensures coherent { IfOk result (λ m. 0 < length self.now.configs → is_coherent NID.eq self.now.configs m.configs ≡ true) }
-        ensures only_memory { IfErr result (λ e. OnlyMemory NID.eq (members_of NID.cmp self.now) change e) }
-        ensures two_changes { IfOk result (λ m. TwoChanges NID.eq NID.cmp (members_of NID.cmp self.now) change m) }
+        ensures changed { IfOk result (λ m. Says N.eq NID.cmp m
+            (changed NID.eq NID.cmp (members_of NID.cmp self.now) change retain)) }
+        ensures refused { IfErr result (IsRefusal NID.eq NID.cmp
+            (changed NID.eq NID.cmp (members_of NID.cmp self.now) change retain)) }
+        ensures coherent { IfOk result (λ m. 0 < length self.now.configs →
+            is_coherent NID.eq self.now.configs m.configs ≡ true) }
+        ensures only_memory { IfErr result (OnlyMemory NID.eq (members_of NID.cmp self.now) change) }
+        ensures two_changes { IfOk result
+            (TwoChanges NID.eq NID.cmp (members_of NID.cmp self.now) change) }
     {
         let next = self.changed(change, retain)?;
         next.ensure_valid()?;
@@ -63,7 +69,8 @@ impl<NID: NodeId, N: Node> Membership<NID, N> {
     /// What a change makes of this membership, before it is tested.
     fn changed(&self, change: ChangeMembers<NID, N>, retain: bool) -> Result<Self, AllocError>
         requires { ClonesAreEqual N.eq N.is_clone }
-        ensures { IfOk result (λ m. Says N.eq NID.cmp m (changed NID.eq NID.cmp (members_of NID.cmp self.now) change retain)) }
+        ensures { IfOk result (λ m. Says N.eq NID.cmp m
+            (changed NID.eq NID.cmp (members_of NID.cmp self.now) change retain)) }
     {
         let alloc = *self.configs.allocator();
         match change {
@@ -72,8 +79,8 @@ impl<NID: NodeId, N: Node> Membership<NID, N> {
                 self.next_coherent(goal, retain)
             }
             ChangeMembers::AddVoters(nodes) => {
-                let ids = ids::key_set(alloc, &nodes)?;
-                let goal = configs::last_with(alloc, &self.configs, ids)?;
+                let added = ids::key_set(alloc, &nodes)?;
+                let goal = configs::last_with(alloc, &self.configs, added)?;
                 let next = self.next_coherent(goal, retain)?;
                 next.with_more(nodes)
             }
@@ -116,7 +123,8 @@ impl<NID: NodeId, N: Node> Membership<NID, N> {
     /// The same configs, and the nodes of `more` added or put in place.
     fn with_set(&self, more: BTreeMap<NID, N>) -> Result<Self, AllocError>
         requires { ClonesAreEqual N.eq N.is_clone }
-        ensures { IfOk result (λ m. Says N.eq NID.cmp m (with_nodes (members_of NID.cmp self.now) (λ id. option_or (get NID.cmp more id) (node_at NID.cmp self.now.nodes id)))) }
+        ensures { IfOk result (λ m. Says N.eq NID.cmp m (with_nodes (members_of NID.cmp self.now)
+            (λ id. option_or (get NID.cmp more id) (node_at NID.cmp self.now.nodes id)))) }
     {
         let alloc = *self.configs.allocator();
         let configs = configs::copy(alloc, &self.configs)?;
@@ -127,7 +135,8 @@ impl<NID: NodeId, N: Node> Membership<NID, N> {
     /// The same configs, without the nodes at the ids.
     fn without_nodes(&self, ids: &BTreeSet<NID>) -> Result<Self, AllocError>
         requires { ClonesAreEqual N.eq N.is_clone }
-        ensures { IfOk result (λ m. Says N.eq NID.cmp m (with_nodes (members_of NID.cmp self.now) (λ id. cond (contains NID.cmp ids.now id) None (node_at NID.cmp self.now.nodes id)))) }
+        ensures { IfOk result (λ m. Says N.eq NID.cmp m (with_nodes (members_of NID.cmp self.now)
+            (λ id. cond (contains NID.cmp ids.now id) None (node_at NID.cmp self.now.nodes id)))) }
     {
         let alloc = *self.configs.allocator();
         let configs = configs::copy(alloc, &self.configs)?;
@@ -138,7 +147,8 @@ impl<NID: NodeId, N: Node> Membership<NID, N> {
 
     /// The same configs with these nodes.
     fn with_only(&self, nodes: BTreeMap<NID, N>) -> Result<Self, AllocError>
-        ensures { IfOk result (λ m. Says N.eq NID.cmp m (with_nodes (members_of NID.cmp self.now) (get NID.cmp nodes))) }
+        ensures { IfOk result (λ m. Says N.eq NID.cmp m
+            (with_nodes (members_of NID.cmp self.now) (get NID.cmp nodes))) }
     {
         let alloc = *self.configs.allocator();
         let configs = configs::copy(alloc, &self.configs)?;

@@ -8,6 +8,7 @@ ghost use Rattle.std.specs.BTreeSet.{contains};
 ghost use Rattle.raft_members.specs.Majority.{is_voter_of};
 ghost use Rattle.raft_members.specs.Coherence.{next_configs};
 ghost use Rattle.raft_members.specs.Valid.{is_empty_config, has_empty_config};
+ghost use Rattle.raft_members.specs.Inner.Configs.{ids_of_configs};
 ghost use Rattle.raft_members.specs.Change.{last_config, united, without};
 
 use super::ids;
@@ -17,7 +18,7 @@ use std::collections::BTreeSet;
 
 /// Whether a config has the id.
 pub fn has_id<ID: Copy + Ord>(configs: &[BTreeSet<ID>], id: &ID) -> bool
-    ensures { result ≡ is_voter_of ID.eq (map (λ c. c.keys) configs.now) id.now }
+    ensures { result ≡ is_voter_of ID.eq (ids_of_configs configs.now) id.now }
 {
     any_contains(configs, id)
 }
@@ -38,7 +39,7 @@ fn has_config<ID: Copy + Ord>(configs: &[BTreeSet<ID>], goal: &BTreeSet<ID>) -> 
 
 /// Whether a config has no ids.
 pub fn has_empty<ID: Copy + Ord>(configs: &[BTreeSet<ID>]) -> bool
-    ensures { result ≡ has_empty_config (map (λ c. c.keys) configs.now) }
+    ensures { result ≡ has_empty_config (ids_of_configs configs.now) }
 {
     any_empty(configs)
 }
@@ -57,7 +58,7 @@ pub fn last_with<ID: Copy + Ord>(
     ids: BTreeSet<ID>,
 ) -> Result<BTreeSet<ID>, AllocError>
     ensures { IfOk result (λ set.
-        set.keys ≡ united ID.cmp (last_config (map (λ c. c.keys) configs.now)) ids.keys) }
+        set.keys ≡ united ID.cmp (last_config (ids_of_configs configs.now)) ids.keys) }
 {
     match configs.last() {
         None => Ok(ids),
@@ -72,7 +73,7 @@ pub fn last_without<ID: Copy + Ord>(
     ids: &BTreeSet<ID>,
 ) -> Result<BTreeSet<ID>, AllocError>
     ensures { IfOk result (λ set.
-        set.keys ≡ without ID.eq (last_config (map (λ c. c.keys) configs.now)) ids.now.keys) }
+        set.keys ≡ without ID.eq (last_config (ids_of_configs configs.now)) ids.now.keys) }
 {
     match configs.last() {
         None => Ok(BTreeSet::new(alloc)),
@@ -87,7 +88,7 @@ pub fn next<ID: Copy + Ord>(
     goal: BTreeSet<ID>,
 ) -> Result<Vec<BTreeSet<ID>>, AllocError>
     ensures { IfOk result (λ next.
-        map (λ c. c.keys) next.items ≡ next_configs ID.eq (map (λ c. c.keys) configs.now) goal.keys) }
+        ids_of_configs next.items ≡ next_configs ID.eq (ids_of_configs configs.now) goal.keys) }
 {
     let mut next = Vec::with_capacity(alloc, 2)?;
     if !has_config(configs, &goal) {
@@ -134,7 +135,7 @@ pub fn copy<ID: Copy + Ord>(
     alloc: Global,
     configs: &[BTreeSet<ID>],
 ) -> Result<Vec<BTreeSet<ID>>, AllocError>
-    ensures { IfOk result (λ copies. map (λ c. c.keys) copies.items ≡ map (λ c. c.keys) configs.now) }
+    ensures { IfOk result (λ copies. ids_of_configs copies.items ≡ ids_of_configs configs.now) }
 {
     let mut copies = Vec::with_capacity(alloc, configs.len())?;
     for config in configs {
@@ -149,7 +150,8 @@ pub fn voters<ID: Copy + Ord>(
     configs: &[BTreeSet<ID>],
 ) -> Result<Vec<ID>, AllocError>
     ensures ascending { IfOk result (λ ids. IsStrictlySortedBy ID.cmp ids.items) }
-    ensures voters { IfOk result (λ ids. (x : ID) → is_member ID.eq ids.items x ≡ is_voter_of ID.eq (map (λ c. c.keys) configs.now) x) }
+    ensures voters { IfOk result (λ ids. (x : ID) →
+        is_member ID.eq ids.items x ≡ is_voter_of ID.eq (ids_of_configs configs.now) x) }
 {
     ids_of_each(alloc, configs)
 }
@@ -159,7 +161,7 @@ pub fn lists_of<ID: Copy + Ord>(
     alloc: Global,
     configs: &[BTreeSet<ID>],
 ) -> Result<Vec<Vec<ID>>, AllocError>
-    ensures { IfOk result (λ lists. map (λ c. c.items) lists.items ≡ map (λ c. c.keys) configs.now) }
+    ensures { IfOk result (λ lists. map (λ c. c.items) lists.items ≡ ids_of_configs configs.now) }
 {
     let mut lists = Vec::with_capacity(alloc, configs.len())?;
     for config in configs {

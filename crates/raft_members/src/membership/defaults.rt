@@ -3,7 +3,8 @@ ghost use Rattle.std.specs.Prelude.{◌≡◌, IfOk, OnOk, cond, map, Some};
 ghost use Rattle.std.specs.BTreeMap.{get, is_at};
 ghost use Rattle.std.specs.Set.{is_member};
 ghost use Rattle.raft_members.specs.Majority.{is_voter_of};
-ghost use Rattle.raft_members.specs.Defaults.{WithDefault};
+ghost use Rattle.raft_members.specs.Inner.Configs.{ids_of_configs};
+ghost use Rattle.raft_members.specs.Defaults.{HasDefaults};
 
 use super::configs;
 use raft_base::{Node, NodeId};
@@ -16,7 +17,8 @@ pub fn with_voters<NID: NodeId, N: Node>(
     alloc: Global,
     configs: &[BTreeSet<NID>],
 ) -> Result<BTreeMap<NID, N>, AllocError>
-    ensures { IfOk result (λ full. (id : NID) → WithDefault N.is_default_node (get NID.cmp nodes id) (is_voter_of NID.eq (map (λ c. c.keys) configs.now) id) (get NID.cmp full id)) }
+    ensures { IfOk result (λ full. HasDefaults N.is_default_node NID.cmp nodes.entries
+        (is_voter_of NID.eq (ids_of_configs configs.now)) full.entries) }
 {
     let voters = configs::voters(alloc, configs)?;
     let full = with_defaults(nodes, alloc, &voters)?;
@@ -29,7 +31,8 @@ pub fn with_defaults<NID: NodeId, N: Node>(
     alloc: Global,
     ids: &[NID],
 ) -> Result<BTreeMap<NID, N>, AllocError>
-    ensures { IfOk result (λ full. (id : NID) → WithDefault N.is_default_node (get NID.cmp nodes id) (is_member NID.eq ids.now id) (get NID.cmp full id)) }
+    ensures { IfOk result (λ full. HasDefaults N.is_default_node NID.cmp nodes.entries
+        (is_member NID.eq ids.now) full.entries) }
 {
     let mut full = nodes;
     for id in ids {
@@ -47,7 +50,8 @@ fn put_default<NID: NodeId, N: Node>(
     alloc: Global,
     id: NID,
 ) -> Result<(), AllocError>
-    ensures { OnOk result ((made : N) × N.is_default_node made × ((q : NID) → get NID.cmp nodes.new q ≡ cond (is_at (NID.cmp id) q) (Some made) (get NID.cmp nodes.old q))) }
+    ensures { OnOk result ((made : N) × N.is_default_node made × ((q : NID) →
+        get NID.cmp nodes.new q ≡ cond (is_at (NID.cmp id) q) (Some made) (get NID.cmp nodes.old q))) }
 {
     let node = N::default_node(alloc)?;
     let _old = nodes.insert(id, node)?;

@@ -9,7 +9,7 @@ ghost use Rattle.std.specs.Cmp.{partial_equiv_from_equiv};
 ghost use Rattle.raft_members.specs.StoredLaws.{same_stored-equiv};
 ghost use Rattle.raft_members.specs.Majority.{is_voter_of, is_joint_majority};
 ghost use Rattle.raft_members.specs.MajorityLaws.{is_joint_majority-superset};
-ghost use Rattle.raft_members.specs.Learners.{learners_among, learners_ahead};
+ghost use Rattle.raft_members.specs.Learners.{learners_of, learners_ahead, is_learner};
 ghost use Rattle.raft_members.specs.Members.{node_at};
 ghost use Rattle.raft_members.specs.Stored.{log_id_of, membership_of};
 
@@ -40,10 +40,8 @@ pub struct EffectiveMembershipOf<C, NID: NodeId, N: Node> {
 pub type EffectiveMembership<NID, N> = EffectiveMembershipOf<CommittedLeaderId<NID>, NID, N>;
 
 impl<C, NID: NodeId, N: Node> Model for EffectiveMembershipOf<C, NID, N> {
-    ghost use Rattle.std.specs.Prelude.{◌≡◌, map};
-    ghost use Rattle.std.specs.List.Sorted.{IsStrictlySortedBy};
-    ghost use Rattle.std.specs.Set.{is_member};
-    ghost use Rattle.raft_members.specs.Majority.{is_voter_of};
+    ghost use Rattle.std.specs.Prelude.{map};
+    ghost use Rattle.raft_members.specs.Inner.Effective.{AgreesWith};
     ghost use Rattle.raft_members.specs.Stored.{membership_of};
     ghost use Rattle.raft_members.specs.declared.membership.stored.StoredMembershipOf.{StoredMembershipOf};
 
@@ -51,7 +49,9 @@ impl<C, NID: NodeId, N: Node> Model for EffectiveMembershipOf<C, NID, N> {
 
     ghost view = { λ a. a.stored_membership.value };
 
-    ghost invariant = { λ a. (map (λ c. c.items) a.quorum_set.items ≡ (membership_of a.stored_membership.value).configs) × IsStrictlySortedBy NID.cmp a.voter_ids.keys × ((id : NID) → is_member NID.eq a.voter_ids.keys id ≡ is_voter_of NID.eq (membership_of a.stored_membership.value).configs id) };
+    ghost invariant = { λ a.
+        AgreesWith NID.eq NID.cmp (membership_of a.stored_membership.value)
+        (map (λ c. c.items) a.quorum_set.items) a.voter_ids.keys };
 }
 
 impl<C: Copy + Drop, NID: NodeId, N: Node> EffectiveMembershipOf<C, NID, N> {
@@ -123,7 +123,8 @@ impl<C: Copy + Drop, NID: NodeId, N: Node> EffectiveMembershipOf<C, NID, N> {
     /// no allocator.
     pub fn try_default(alloc: Global) -> Result<Self, AllocError>
         ensures log_id { IfOk result (λ e. log_id_of e ≡ None) }
-        ensures membership { IfOk result (λ e. membership_of e ≡ record { configs = []; nodes = [] }) }
+        ensures membership { IfOk result (λ e.
+            membership_of e ≡ record { configs = []; nodes = [] }) }
     {
         let stored = StoredMembershipOf::try_default(alloc)?;
         EffectiveMembershipOf::new_from_stored_membership(stored)
@@ -168,16 +169,18 @@ impl<C: Copy + Drop, NID: NodeId, N: Node> EffectiveMembershipOf<C, NID, N> {
     /// The voters of all configs, each once, ascending.
     pub fn voter_ids(&self) -> btree_set::Iter<'_, NID>
         ensures ascending { IsStrictlySortedBy NID.cmp result }
-        ensures voters { (id : NID) → is_member NID.eq result id ≡ is_voter_of NID.eq (membership_of self.now).configs id }
+        ensures voters { (id : NID) →
+            is_member NID.eq result id ≡ is_voter_of NID.eq (membership_of self.now).configs id }
     {
         self.voter_ids.iter()
     }
 
     /// The learners, each once, ascending: the nodes that are in no config.
     pub fn learner_ids(&self) -> LearnerIds<'_, NID, N>
-        ensures rest { learners_ahead NID.eq result ≡ learners_among NID.eq (membership_of self.now).configs (keys_of (membership_of self.now).nodes) }
+        ensures rest { learners_ahead NID.eq result ≡ learners_of NID.eq (membership_of self.now) }
         ensures ascending { IsStrictlySortedBy NID.cmp (learners_ahead NID.eq result) }
-        ensures learners { (id : NID) → is_member NID.eq (learners_ahead NID.eq result) id ≡ (is_some (node_at NID.cmp (membership_of self.now).nodes id) && not (is_voter_of NID.eq (membership_of self.now).configs id)) }
+        ensures learners { (id : NID) → is_member NID.eq (learners_ahead NID.eq result) id
+            ≡ is_learner NID.eq NID.cmp (membership_of self.now) id }
     {
         self.membership().learner_ids()
     }
@@ -206,7 +209,8 @@ impl<C: Copy + Drop, NID: NodeId, N: Node> EffectiveMembershipOf<C, NID, N> {
 
     /// Whether the ids are a quorum of each config.
     fn has_quorum(&self, ids: &[NID]) -> bool
-        ensures { IsDistinct NID.eq ids.now → result ≡ is_joint_majority NID.eq (membership_of self.now).configs (is_member NID.eq ids.now) }
+        ensures { IsDistinct NID.eq ids.now → result
+            ≡ is_joint_majority NID.eq (membership_of self.now).configs (is_member NID.eq ids.now) }
     {
         self.quorum_set.is_quorum(ids)
     }

@@ -1,8 +1,7 @@
 //! What gives the nodes of a membership.
-ghost use Rattle.std.specs.Prelude.{◌≡◌, List, IfOk, IsOk, IsNone, None, MatchOption};
+ghost use Rattle.std.specs.Prelude.{◌≡◌, List, [], IfOk, IsOk, IsNone, MatchOption};
 ghost use Rattle.std.specs.Set.{is_member};
-ghost use Rattle.raft_members.specs.Members.{node_at};
-ghost use Rattle.raft_members.specs.Defaults.{WithDefault};
+ghost use Rattle.raft_members.specs.Defaults.{HasDefaults};
 
 use super::defaults::with_defaults;
 use super::ids::list_of;
@@ -26,7 +25,7 @@ pub trait IntoNodes<NID: NodeId, N: Node>: Sized {
 
 /// No nodes.
 impl<NID: NodeId, N: Node> IntoNodes<NID, N> for () {
-    ghost gives = { λ _ nodes. (id : NID) → node_at NID.cmp nodes id ≡ None };
+    ghost gives = { λ _ nodes. nodes ≡ [] };
 
     ghost takes_no_memory = { λ _. Unit {0} };
 
@@ -37,7 +36,8 @@ impl<NID: NodeId, N: Node> IntoNodes<NID, N> for () {
 
 /// A default node at each id.
 impl<NID: NodeId, N: Node> IntoNodes<NID, N> for BTreeSet<NID> {
-    ghost gives = { λ ids nodes. (id : NID) → WithDefault N.is_default_node None (is_member NID.eq ids.keys id) (node_at NID.cmp nodes id) };
+    ghost gives = { λ ids nodes.
+        HasDefaults N.is_default_node NID.cmp [] (is_member NID.eq ids.keys) nodes };
 
     ghost takes_no_memory = { λ _. ⊥ };
 
@@ -49,7 +49,8 @@ impl<NID: NodeId, N: Node> IntoNodes<NID, N> for BTreeSet<NID> {
 
 /// A default node at each id, where there is a set.
 impl<NID: NodeId, N: Node> IntoNodes<NID, N> for Option<BTreeSet<NID>> {
-    ghost gives = { λ given nodes. MatchOption given ((id : NID) → node_at NID.cmp nodes id ≡ None) (λ ids. (id : NID) → WithDefault N.is_default_node None (is_member NID.eq ids.keys id) (node_at NID.cmp nodes id)) };
+    ghost gives = { λ given nodes. MatchOption given (nodes ≡ [])
+        (λ ids. HasDefaults N.is_default_node NID.cmp [] (is_member NID.eq ids.keys) nodes) };
 
     ghost takes_no_memory = { λ given. IsNone given };
 

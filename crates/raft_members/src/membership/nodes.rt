@@ -2,12 +2,14 @@
 ghost use Rattle.std.specs.Prelude.{◌≡◌, Bool, IfOk, IsTrue, OnOk, true, false, map, cond, not, ◌&&◌, Some, None, is_some};
 ghost use Rattle.std.specs.Option.{option_eq, option_or};
 ghost use Rattle.std.specs.List.{find, filter};
-ghost use Rattle.raft_members.specs.Members.{same_nodes};
+ghost use Rattle.raft_members.specs.Members.{HasNodes, same_nodes};
+ghost use Rattle.raft_members.specs.Inner.Configs.{ids_of_configs};
+ghost use Rattle.raft_members.specs.Inner.Nodes.{PutsEqual, lesser};
 ghost use Rattle.std.specs.List.Sorted.{IsStrictlySortedBy};
 ghost use Rattle.std.specs.Set.{ClonesAreEqual, is_member};
 ghost use Rattle.std.specs.BTreeMap.{get, insert_entry, is_at};
 ghost use Rattle.std.specs.BTreeSet.{contains};
-ghost use Rattle.raft_members.specs.Valid.{lesser, FirstWithoutNode};
+ghost use Rattle.raft_members.specs.Valid.{FirstWithoutNode};
 ghost use Rattle.raft_members.specs.Change.{keeps_node};
 
 use super::configs::has_id;
@@ -24,8 +26,12 @@ pub fn kept<NID: NodeId, N: Node>(
     retain: bool,
 ) -> Result<BTreeMap<NID, N>, AllocError>
     requires { ClonesAreEqual N.eq N.is_clone }
-    ensures nodes { IfOk result (λ n. (q : NID) → IsTrue (option_eq N.eq (get NID.cmp n q) (cond (keeps_node NID.eq (map (λ s. s.keys) old.now) (map (λ s. s.keys) new.now) retain q) (get NID.cmp nodes.now q) None))) }
-    ensures entries { IfOk result (λ n. IsTrue (same_nodes NID.eq N.eq (filter (λ e. keeps_node NID.eq (map (λ s. s.keys) old.now) (map (λ s. s.keys) new.now) retain e.0) nodes.now.entries) n.entries)) }
+    ensures nodes { IfOk result (λ n. HasNodes N.eq NID.cmp n.entries (λ q.
+        cond (keeps_node NID.eq (ids_of_configs old.now) (ids_of_configs new.now) retain q)
+        (get NID.cmp nodes.now q) None)) }
+    ensures entries { IfOk result (λ n. IsTrue (same_nodes NID.eq N.eq
+        (filter (λ e. keeps_node NID.eq (ids_of_configs old.now) (ids_of_configs new.now) retain e.0)
+        nodes.now.entries) n.entries)) }
 {
     let mut kept = BTreeMap::new(alloc);
     for (id, node) in nodes.iter() {
@@ -43,7 +49,8 @@ fn is_kept<NID: NodeId>(
     retain: bool,
     id: &NID,
 ) -> bool
-    ensures { result ≡ keeps_node NID.eq (map (λ s. s.keys) old.now) (map (λ s. s.keys) new.now) retain id.now }
+    ensures { result ≡
+        keeps_node NID.eq (ids_of_configs old.now) (ids_of_configs new.now) retain id.now }
 {
     let was = has_id(old, id);
     let is = has_id(new, id);
@@ -57,7 +64,7 @@ fn put_copy<NID: NodeId, N: Node>(
     node: &N,
 ) -> Result<(), AllocError>
     requires { ClonesAreEqual N.eq N.is_clone }
-    ensures { OnOk result ((w : N) × IsTrue (N.eq node.now w) × (kept.new.entries ≡ insert_entry NID.cmp kept.old.entries id w) × ((q : NID) → get NID.cmp kept.new q ≡ cond (is_at (NID.cmp id) q) (Some w) (get NID.cmp kept.old q))) }
+    ensures { OnOk result (PutsEqual N.eq NID.cmp kept.old.entries kept.new.entries id node.now) }
 {
     let copy = node.clone()?;
     let _old = kept.insert(id, copy)?;
@@ -70,8 +77,9 @@ pub fn copy<NID: NodeId, N: Node>(
     nodes: &BTreeMap<NID, N>,
 ) -> Result<BTreeMap<NID, N>, AllocError>
     requires { ClonesAreEqual N.eq N.is_clone }
-    ensures nodes { IfOk result (λ n. (q : NID) → IsTrue (option_eq N.eq (get NID.cmp n q) (get NID.cmp nodes.now q))) }
-    ensures entries { IfOk result (λ n. IsTrue (same_nodes NID.eq N.eq nodes.now.entries n.entries)) }
+    ensures nodes { IfOk result (λ n. HasNodes N.eq NID.cmp n.entries (get NID.cmp nodes.now)) }
+    ensures entries { IfOk result (λ n.
+        IsTrue (same_nodes NID.eq N.eq nodes.now.entries n.entries)) }
 {
     let none: Vec<BTreeSet<NID>> = Vec::new(alloc);
     kept(alloc, nodes, &none, &none, true)
@@ -83,7 +91,8 @@ pub fn added<NID: NodeId, N: Node>(
     more: &BTreeMap<NID, N>,
 ) -> Result<BTreeMap<NID, N>, AllocError>
     requires { ClonesAreEqual N.eq N.is_clone }
-    ensures { IfOk result (λ n. (q : NID) → IsTrue (option_eq N.eq (get NID.cmp n q) (option_or (get NID.cmp nodes q) (get NID.cmp more.now q)))) }
+    ensures { IfOk result (λ n. HasNodes N.eq NID.cmp n.entries
+        (λ q. option_or (get NID.cmp nodes q) (get NID.cmp more.now q))) }
 {
     let mut added = nodes;
     for (id, node) in more.iter() {
@@ -132,7 +141,8 @@ fn first_missing<NID: NodeId, N: Node>(
     config: &BTreeSet<NID>,
     nodes: &BTreeMap<NID, N>,
 ) -> Option<NID>
-    ensures found { result ≡ find (λ q. not (is_some (get NID.cmp nodes.now q))) config.now.keys }
+    ensures found { result ≡
+        find (λ q. not (is_some (get NID.cmp nodes.now q))) config.now.keys }
     ensures ordered { IsStrictlySortedBy NID.cmp config.now.keys }
 {
     config.iter().copied().find(|id| !nodes.contains_key(id))
@@ -143,7 +153,8 @@ pub fn least_missing<NID: NodeId, N: Node>(
     configs: &[BTreeSet<NID>],
     nodes: &BTreeMap<NID, N>,
 ) -> Option<NID>
-    ensures { FirstWithoutNode NID.eq NID.cmp (record { configs = map (λ s. s.keys) configs.now; node = get NID.cmp nodes.now }) result }
+    ensures { FirstWithoutNode NID.eq NID.cmp
+        (record { configs = ids_of_configs configs.now; node = get NID.cmp nodes.now }) result }
 {
     let mut least = None;
     for c in configs {

@@ -48,7 +48,8 @@ impl<C: Copy, NID: NodeId, N: Node> StoredMembershipOf<C, NID, N> {
     pub fn try_clone(&self) -> Result<Self, AllocError>
         requires { ClonesAreEqual N.eq N.is_clone }
         ensures log_id { IfOk result (λ stored. log_id_of stored ≡ log_id_of self.now) }
-        ensures membership { IfOk result (λ stored. IsTrue (same_members NID.eq N.eq (membership_of self.now) (membership_of stored))) }
+        ensures membership { IfOk result (λ stored.
+            IsTrue (same_members NID.eq N.eq (membership_of self.now) (membership_of stored))) }
     {
         let membership = self.membership.try_clone()?;
         Ok(StoredMembershipOf::new(self.log_id, membership))
@@ -71,7 +72,8 @@ impl<C: Copy, NID: NodeId, N: Node> StoredMembershipOf<C, NID, N> {
     /// The voters of all configs, each once, ascending.
     pub fn voter_ids(&self) -> Result<Vec<NID>, AllocError>
         ensures ascending { IfOk result (λ ids. IsStrictlySortedBy NID.cmp ids.items) }
-        ensures voters { IfOk result (λ ids. (id : NID) → is_member NID.eq ids.items id ≡ is_voter_of NID.eq (membership_of self.now).configs id) }
+        ensures voters { IfOk result (λ ids. (id : NID) →
+            is_member NID.eq ids.items id ≡ is_voter_of NID.eq (membership_of self.now).configs id) }
     {
         self.membership.voter_ids()
     }

@@ -16,7 +16,9 @@ impl<ID: Copy + Ord, QS: QuorumSet<ID>> QuorumSet<ID> for Joint<ID, QS, Vec<QS>>
 
     ghost is_voter = { λ j x. list_any (λ c. QS.is_voter c x) j.items };
 
-    ghost superset = { λ j s t h. list_all-weaker (λ c. QS.has_quorum c s) (λ c. QS.has_quorum c t) (λ c. QS.superset c s t h) j.items };
+    ghost superset = { λ j s t h.
+        list_all-weaker (λ c. QS.has_quorum c s) (λ c. QS.has_quorum c t)
+        (λ c. QS.superset c s t h) j.items };
 
     fn is_quorum(&self, ids: &[ID]) -> bool {
         is_quorum_of_each(self.children(), ids)
@@ -33,7 +35,9 @@ impl<'a, ID: Copy + Ord, QS: QuorumSet<ID>> QuorumSet<ID> for Joint<ID, QS, &'a 
 
     ghost is_voter = { λ j x. list_any (λ c. QS.is_voter c x) j.now };
 
-    ghost superset = { λ j s t h. list_all-weaker (λ c. QS.has_quorum c s) (λ c. QS.has_quorum c t) (λ c. QS.superset c s t h) j.now };
+    ghost superset = { λ j s t h.
+        list_all-weaker (λ c. QS.has_quorum c s) (λ c. QS.has_quorum c t)
+        (λ c. QS.superset c s t h) j.now };
 
     fn is_quorum(&self, ids: &[ID]) -> bool {
         is_quorum_of_each(self.children(), ids)
@@ -46,7 +50,8 @@ impl<'a, ID: Copy + Ord, QS: QuorumSet<ID>> QuorumSet<ID> for Joint<ID, QS, &'a 
 
 /// Whether the ids are a quorum of each child.
 fn is_quorum_of_each<ID: Copy + Ord, QS: QuorumSet<ID>>(children: &[QS], ids: &[ID]) -> bool
-    ensures { IsDistinct ID.eq ids.now → result ≡ list_all (λ c. QS.has_quorum c (is_member ID.eq ids.now)) children.now }
+    ensures { IsDistinct ID.eq ids.now →
+        result ≡ list_all (λ c. QS.has_quorum c (is_member ID.eq ids.now)) children.now }
 {
     for child in children {
         if !child.is_quorum(ids) {
@@ -62,7 +67,8 @@ pub(crate) fn ids_of_each<ID: Copy + Ord, QS: QuorumSet<ID>>(
     children: &[QS],
 ) -> Result<Vec<ID>, AllocError>
     ensures ascending { IfOk result (λ ids. IsStrictlySortedBy ID.cmp ids.items) }
-    ensures voters { IfOk result (λ ids. (x : ID) → is_member ID.eq ids.items x ≡ list_any (λ c. QS.is_voter c x) children.now) }
+    ensures voters { IfOk result (λ ids. (x : ID) →
+        is_member ID.eq ids.items x ≡ list_any (λ c. QS.is_voter c x) children.now) }
 {
     let mut all: Vec<ID> = Vec::new(alloc);
     for child in children {

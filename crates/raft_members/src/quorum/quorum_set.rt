@@ -23,13 +23,16 @@ pub trait QuorumSet<ID: Copy + Ord> {
     /// The contract speaks of distinct ids. A repeated one is counted as often as it comes, as in
     /// the original. Nothing is allocated.
     fn is_quorum(&self, ids: &[ID]) -> bool
-        ensures quorum { IsDistinct ID.eq ids.now → result ≡ has_quorum self.now (is_member ID.eq ids.now) };
+        ensures quorum { IsDistinct ID.eq ids.now →
+            result ≡ has_quorum self.now (is_member ID.eq ids.now) };
 
     /// The voters, each once, ascending.
     fn ids(&self, alloc: Global) -> Result<Vec<ID>, AllocError>
         ensures ascending { IfOk result (λ ids. IsStrictlySortedBy ID.cmp ids.items) }
-        ensures voters { IfOk result (λ ids. (x : ID) → is_member ID.eq ids.items x ≡ is_voter self.now x) };
+        ensures voters { IfOk result (λ ids.
+            (x : ID) → is_member ID.eq ids.items x ≡ is_voter self.now x) };
 
     /// A superset of a quorum is a quorum.
-    ghost superset: { (c : Self) (s t : ID → Bool) → ((x : ID) → s x ≡ true → t x ≡ true) → has_quorum c s ≡ true → has_quorum c t ≡ true };
+    ghost superset: { (c : Self) (s t : ID → Bool) → ((x : ID) → s x ≡ true → t x ≡ true) →
+        has_quorum c s ≡ true → has_quorum c t ≡ true };
 }

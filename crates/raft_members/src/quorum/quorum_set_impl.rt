@@ -93,7 +93,8 @@ fn has_majority<ID: Copy + Ord>(voters: &[ID], ids: &[ID]) -> bool
 /// Whether more than `limit` of the ids are among the voters, repeated ones each time. It stops at
 /// the first id that is one too many.
 fn exceeds_in_list<ID: Copy + Ord>(voters: &[ID], ids: &[ID], limit: usize) -> bool
-    ensures { result ≡ nat_lt limit (count_by (λ x. list_any (λ y. ID.eq y x) voters.now) ids.now) }
+    ensures { result ≡
+        nat_lt limit (count_by (λ x. list_any (λ y. ID.eq y x) voters.now) ids.now) }
 {
     let mut found = 0;
     for id in ids {

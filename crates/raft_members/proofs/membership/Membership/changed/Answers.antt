@@ -12,7 +12,7 @@ returns-in_ok-next-in-AddVoters g c =
     let nodes = c.in-AddVoters.nodes in
     let next = c.in_ok-next-in-AddVoters.next in
     let last = ap (λ xs. last_config (map (λ s. s.keys) xs)) c.deref-in-AddVoters.ensures.value ∙ ap (λ l. last_config l.configs) c.self.view_is in
-    let goal_is : c.in_ok-goal-in-AddVoters.goal.keys ≡ united g.NID.Ord.cmp (last_config m.configs) (keys nodes) = c.in_ok-goal-in-AddVoters.ensures ∙ (λ i. united g.NID.Ord.cmp (last i) (c.in_ok-ids-in-AddVoters.ensures i)) in
+    let goal_is : c.in_ok-goal-in-AddVoters.goal.keys ≡ united g.NID.Ord.cmp (last_config m.configs) (keys nodes) = c.in_ok-goal-in-AddVoters.ensures ∙ (λ i. united g.NID.Ord.cmp (last i) (c.in_ok-added-in-AddVoters.ensures i)) in
     let stands : Says g.N.PartialEq.eq g.NID.Ord.cmp next (next_members g.NID.PartialEq.eq m (united g.NID.Ord.cmp (last_config m.configs) (keys nodes)) c.args.retain) = rw goal_is at c.in_ok-next-in-AddVoters.ensures in
     rw c.in-AddVoters.is (in_both c.with_more.result (λ r. r.configs ≡ next.configs)
     (λ r. (id : g.row.NID.Denot) → node_at g.NID.Ord.cmp r.nodes id ≡ option_or (node_at g.NID.Ord.cmp next.nodes id) (get g.NID.Ord.cmp nodes id)) _

@@ -33,5 +33,5 @@ loop-id-preserved-in-Continue-1 g c q =
     (option_or (get g.NID.Ord.cmp c.put_copy.new.kept q) (lookup (is_at (g.NID.Ord.cmp q)) c.next.new.self))
     (option_or (get g.NID.Ord.cmp c.loop-id.added q) (lookup (is_at (g.NID.Ord.cmp q)) (x ∷ c.next.new.self)))
     goal_node
-    (add_new g.met.NID.Ord.total g.met.N.Eq.laws c.loop-id.added.entries c.put_copy.new.kept.entries c.next.new.self x p.0 (g.met.N.PartialEq.laws.symm p.0 x.1 ∙ p.1) (sym c.contains_key.ensures ∙ c.if-not-contains_key.true) p.3 q)
+    (add_new g.met.NID.Ord.total g.met.N.Eq.laws c.loop-id.added.entries c.put_copy.new.kept.entries c.next.new.self x p.copy (g.met.N.PartialEq.laws.symm p.copy x.1 ∙ p.equal) (sym c.contains_key.ensures ∙ c.if-not-contains_key.true) p.nodes q)
     (subst (λ (es : List (g.row.NID.Denot × g.row.N.Denot)). IsTrue (option_eq g.N.PartialEq.eq (option_or (get g.NID.Ord.cmp c.loop-id.added q) (lookup (is_at (g.NID.Ord.cmp q)) es)) goal_node)) c.in-Some.ensures.steps (c.loop-id.invariant q))

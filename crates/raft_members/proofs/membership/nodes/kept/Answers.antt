@@ -46,4 +46,4 @@ loop-id-preserved-in-Continue-1 g c =
     let w = c.in_ok-put_copy.ensures in
     let P : List (g.row.NID.Denot × g.row.N.Denot) → Type 0 = λ es. IsStrictlySortedBy g.NID.Ord.cmp (keys_of es) in
     let p : g.row.NID.Denot × g.row.N.Denot → Bool = λ n. keeps_node g.NID.PartialEq.eq (map (λ s. s.keys) c.args.old.now) (map (λ s. s.keys) c.args.new.now) c.args.retain n.0 in
-    (i.0 ++ x ∷ [], rest, rw w.2 (kept_in g.N.PartialEq.eq g.met.NID.Ord.total p i.0 c.next.new.self c.loop-id.kept.entries x.0 x.1 w.0 (subst P front c.iter-id-items.ensures.ordered) c.if-is_kept.ensures (g.met.N.PartialEq.laws.symm w.0 x.1 ∙ w.1) i.2))
+    (i.0 ++ x ∷ [], rest, rw w.entries (kept_in g.N.PartialEq.eq g.met.NID.Ord.total p i.0 c.next.new.self c.loop-id.kept.entries x.0 x.1 w.copy (subst P front c.iter-id-items.ensures.ordered) c.if-is_kept.ensures (g.met.N.PartialEq.laws.symm w.copy x.1 ∙ w.equal) i.2))

@@ -2,7 +2,7 @@ use Rattle.std.proofs.Common.{◌≡◌, Option, map, take, is_some, true, Bool,
 use Rattle.std.proofs.lemmas.List.{take_all}
 use Rattle.std.specs.BTreeMap.{get}
 use Rattle.raft_members.specs.Valid.{FirstUnknown}
-use Rattle.raft_members.specs.Valid.{lesser}
+use Rattle.raft_members.specs.Inner.Nodes.{lesser}
 use Rattle.raft_members.specs.Majority.{is_voter_of}
 use Rattle.raft_members.proofs.MissingLemmas.{one_more_first}
 use Rattle.raft_members.proofs.AddedLemmas.{alike_at}

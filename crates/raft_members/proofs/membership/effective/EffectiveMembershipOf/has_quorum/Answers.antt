@@ -9,4 +9,4 @@ returns g c d =
     let s = is_member g.NID.PartialEq.eq c.args.ids.now in
     c.is_quorum.ensures.quorum d
     ∙ sym (list_all-map (λ v. v.items) (λ ks. is_majority g.NID.PartialEq.eq ks s) c.self.inside.quorum_set.items)
-    ∙ ap (λ cs. is_joint_majority g.NID.PartialEq.eq cs s) (c.self.invariant.0 ∙ ap (λ m. m.membership.configs) c.self.view_is)
+    ∙ ap (λ cs. is_joint_majority g.NID.PartialEq.eq cs s) (c.self.invariant.configs ∙ ap (λ m. m.membership.configs) c.self.view_is)

@@ -9,4 +9,8 @@ invariant_of-result g c =
     let voters = c.in_ok-voter_ids.field-0.items in
     let made : IfOk c.collect.result (IsFromIterResult g.NID.Ord.cmp voters) = search rules in
     let set = IfOk-at_ok (IsFromIterResult g.NID.Ord.cmp voters) c.in_ok-voter_ids-2.was made in
-    (search rules, set.1, λ id. is_member-collected g.met.NID.Eq.laws g.NID.Ord.cmp g.met.NID.Ord.matches_eq voters c.in_ok-voter_ids-2.voter_ids set id ∙ search rules)
+    record {
+      configs = search rules;
+      ascending = set.1;
+      voters = λ id. is_member-collected g.met.NID.Eq.laws g.NID.Ord.cmp g.met.NID.Ord.matches_eq voters c.in_ok-voter_ids-2.voter_ids set id ∙ search rules;
+    }
