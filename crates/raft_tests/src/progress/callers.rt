@@ -1,14 +1,15 @@
 //! Whole callers, the first as on the page for callers.
-ghost use Rattle.std.specs.Ordering.{as_partial_cmp, nat_cmp};
-ghost use Rattle.std.specs.Prelude.{◌≡◌, IfOk, IfSome, List, length, ℕ};
-ghost use Rattle.std.specs.Set.{ClonesAreEqual};
+ghost use Rattle.raft_progress.specs.Comparisons.{comparisons};
 ghost use Rattle.raft_progress.specs.CountedValue.{IsCounted};
 ghost use Rattle.raft_progress.specs.Headline.{QuorumsKnowGranted};
 ghost use Rattle.raft_progress.specs.NewProgress.{IsNew};
-ghost use Rattle.raft_progress.specs.ProgressState.{State};
+ghost use Rattle.raft_progress.specs.ProgressState.{ProgressState};
 ghost use Rattle.raft_progress.specs.Steps.{IsRun};
 ghost use Rattle.raft_progress.specs.TrackedState.{TrackedShown, tracked_state};
 ghost use Rattle.raft_progress.specs.TrackedSteps.{IsTrackedRun};
+ghost use Rattle.std.specs.Ordering.{nat_cmp};
+ghost use Rattle.std.specs.Prelude.{◌≡◌, IfOk, IfSome, List, ℕ, length};
+ghost use Rattle.std.specs.Set.{ClonesAreEqual};
 ghost use Rattle.raft_progress.specs.VecProgress.{shown};
 
 use super::{first_ids, made};
@@ -36,7 +37,12 @@ pub fn granted_after<
     steps: Vec<AnyStep<ID, V, QS>>,
 ) -> Result<Option<P>, AllocError>
     requires { (v w : V) → V.is_clone v w → V.part_of w ≡ V.part_of v }
-    ensures { IfOk result (λ answer. IfSome answer (λ granted. (first last : State ID V P QS) × (replies : List (Reply ID P)) × IsNew ID.eq V.is_clone V.part_of (QS.is_voter quorum_set) quorum_set learners.now default first × IsRun ID.eq ID.cmp P.cmp V.partial_cmp V.part_of V.is_clone QS.has_quorum QS.is_voter first steps.items replies last × IsCounted P.cmp V.part_of QS.has_quorum last granted)) }
+    ensures { let by = comparisons ID.Ord P.Ord V.PartialOrd V.ProgressPart V.Clone in
+        IfOk result (λ answer. IfSome answer (λ granted.
+        (first last : ProgressState ID V P QS) × (replies : List (Reply ID P))
+        × IsNew ID.eq V.is_clone V.part_of (QS.is_voter quorum_set) quorum_set learners.now default first
+        × IsRun by QS.has_quorum QS.is_voter first steps.items replies last
+        × IsCounted P.cmp V.part_of QS.has_quorum last granted)) }
 {
     if !VecProgress::<ID, V, P, QS>::learners_fit(alloc, &quorum_set, learners)? {
         return Ok(None);
@@ -54,7 +60,11 @@ pub fn granted_of<NID: NodeId, N: Node>(
     steps: Vec<Step<NID, N, u64>>,
 ) -> Result<u64, AllocError>
     requires { ClonesAreEqual N.eq N.is_clone }
-    ensures { IfOk result (λ granted. (first last : TrackedShown NID N ℕ ℕ) × (replies : List (Reply NID ℕ)) × (first.membership ≡ membership) × IsTrackedRun NID.eq NID.cmp N.eq nat_cmp (as_partial_cmp nat_cmp) (λ v. v) (λ v w. w ≡ v) (tracked_state NID.eq first) steps.items replies (tracked_state NID.eq last) × QuorumsKnowGranted NID.eq nat_cmp (λ v. v) last × (granted ≡ last.progress.granted)) }
+    ensures { let by = comparisons NID.Ord ⟦<u64 as Ord>⟧ ⟦<u64 as PartialOrd>⟧ ⟦<u64 as ProgressPart<u64>>⟧ ⟦<u64 as Clone>⟧ in
+        IfOk result (λ granted.
+        (first last : TrackedShown NID N ℕ ℕ) × (replies : List (Reply NID ℕ)) × (first.membership ≡ membership)
+        × IsTrackedRun by N.eq (tracked_state NID.eq first) steps.items replies (tracked_state NID.eq last)
+        × QuorumsKnowGranted NID.eq nat_cmp (λ v. v) last × (granted ≡ last.progress.granted)) }
 {
     let mut pair = Tracked::new(membership, 0u64)?;
     let _replies = replay(alloc, &mut pair, steps)?;
