@@ -5,7 +5,6 @@ mod dialogue;
 mod engine;
 pub(crate) mod reply;
 
-
 use command::{Command, LineError};
 use dialogue::Dialogue;
 use engine::Engine;
@@ -58,8 +57,7 @@ fn run_line<W: Write>(
     engine: &mut Engine,
     line: &[u8],
     replies: &mut W,
-) -> io::Result<bool>
-{
+) -> io::Result<bool> {
     let command = match command::parse(alloc, line) {
         Ok(Some(command)) => command,
         Ok(None) => return Ok(true),
