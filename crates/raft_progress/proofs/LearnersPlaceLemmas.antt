@@ -1,17 +1,16 @@
 -- Where the learners stand in a walk: no update moves them.
-use Rattle.std.specs.Prelude.{◌≡◌, ℕ, ◌+◌, Bool, true, false, cond, ◌||◌, Option, Some, None, List, [], ◌∷◌, ◌++◌, length, take, drop}
+use Rattle.std.specs.Prelude.{◌≡◌, ℕ, ◌+◌, ◌-◌, ◌<◌, Bool, true, false, ◌||◌, Option, Some, None, List, [], ◌∷◌, ◌++◌, length, take, drop}
 use Rattle.std.specs.declared.cmp.Ordering.{Ordering}
-use Rattle.std.specs.Ordering.{is_le}
 use Rattle.std.specs.Cmp.{first_so}
-use Rattle.std.specs.List.{list_any}
+use Rattle.std.specs.List.{AllByRecursion}
 use Rattle.std.specs.Map.{keys_of, set_value}
 use Rattle.std.specs.Set.{is_member}
-use Rattle.std.proofs.Common.{arith, sym, ap, refl, ◌∙◌, true≢false, suc, zero, length-append}
+use Rattle.std.proofs.Common.{arith, sym, ap, refl, ◌∙◌, true≢false, suc, zero, append_assoc, length-append}
 use Rattle.std.proofs.lemmas.Map.{keys-set_value}
 use Rattle.raft_progress.specs.NewProgress.{IsFirstWalk}
 use Rattle.raft_progress.specs.Shown.{Shown, state}
 use Rattle.raft_progress.specs.Updated.{IsSettled, IsUpdated, rises_past_granted}
-use Rattle.raft_progress.specs.Walk.{put_after_last, risen}
+use Rattle.raft_progress.specs.Walk.{IsRisen}
 
 -- what stands behind some entries and as many more
 drop_past : {ID V : Type 0} (xs ys : List (ID × V)) (n m : ℕ) → m ≡ length xs + n → drop m (keys_of (xs ++ ys)) ≡ drop n (keys_of ys)
@@ -23,24 +22,32 @@ drop_front : {K : Type 0} (ks ls : List K) → drop (length ks) (ks ++ ls) ≡ l
 drop_front [] ls = refl
 drop_front (k ∷ ks) ls = drop_front ks ls
 
-module _ {ID V P : Type 0} (cmp : P → P → Ordering) (part : V → P) where
-  length_put : (e : ID × V) (xs : List (ID × V)) → length (put_after_last cmp part e xs) ≡ length xs + 1
-  length_put e [] = refl
-  length_put e (f ∷ fs) = by (list_any (λ h. is_le (cmp (part e.1) (part h.1))) (f ∷ fs)) (length_put e fs)
-    where
-      by : (b : Bool) → length (put_after_last cmp part e fs) ≡ length fs + 1 → length (cond b (f ∷ put_after_last cmp part e fs) (e ∷ f ∷ fs)) ≡ length (f ∷ fs) + 1
-      by true r = omega (arith, r)
-      by false r = omega arith
+-- where the id is among the first keys, these are more than those before it
+first_keys : {ID V : Type 0} (eq : ID → ID → Bool) (id : ID) (n : ℕ) (xs ys : List (ID × V)) → AllByRecursion (λ f. eq id f.0 ≡ false) xs → is_member eq (take n (keys_of (xs ++ ys))) id ≡ true → length xs < n
+first_keys eq id zero xs ys a m = absurd (true≢false (sym m))
+first_keys eq id (suc n) [] ys a m = omega arith
+first_keys eq id (suc n) (x ∷ xs) ys a m =
+    let rest : is_member eq (take n (keys_of (xs ++ ys))) id ≡ true = ap (λ b. b || is_member eq (take n (keys_of (xs ++ ys))) id) (sym a.0) ∙ m in
+    let less = first_keys eq id n xs ys a.1 rest in
+    omega arith
 
-  -- a voter rises among the voters alone
-  risen_keys : (eq : ID → ID → Bool) (id : ID) (before es : List (ID × V)) (n m : ℕ) → m ≡ length before + n → is_member eq (take n (keys_of es)) id ≡ true → drop m (keys_of (risen cmp part (eq id) before es)) ≡ drop n (keys_of es)
-  risen_keys eq id before es zero m e h = absurd (true≢false (sym h))
-  risen_keys eq id before [] (suc n) m e h = absurd (true≢false (sym h))
-  risen_keys eq id before (f ∷ fs) (suc n) m e h = by (eq id f.0) h (risen_keys eq id (before ++ f ∷ []) fs n m (omega (arith, length-append before (f ∷ []))))
-    where
-      by : (b : Bool) → (b || is_member eq (take n (keys_of fs)) id) ≡ true → (is_member eq (take n (keys_of fs)) id ≡ true → drop m (keys_of (risen cmp part (eq id) (before ++ f ∷ []) fs)) ≡ drop n (keys_of fs)) → drop m (keys_of (cond b (put_after_last cmp part f before ++ fs) (risen cmp part (eq id) (before ++ f ∷ []) fs))) ≡ drop n (keys_of fs)
-      by true i r = drop_past (put_after_last cmp part f before) fs n m (omega (arith, length_put f before))
-      by false i r = r i
+-- a voter rises among the voters alone
+risen_keys : {ID V P : Type 0} (cmp : P → P → Ordering) (part : V → P) (eq : ID → ID → Bool) (id : ID) (n : ℕ) (old new : List (ID × V)) → IsRisen cmp part (eq id) old new → is_member eq (take n (keys_of old)) id ≡ true → drop n (keys_of new) ≡ drop n (keys_of old)
+risen_keys {ID} {V} cmp part eq id n old new r m =
+    let before = r.front ++ r.passed in
+    let was : old ≡ before ++ (r.entry ∷ r.rest) = r.was ∙ sym (append_assoc r.front r.passed (r.entry ∷ r.rest)) in
+    let stands : new ≡ (r.front ++ (r.entry ∷ r.passed)) ++ r.rest = r.stands ∙ sym (append_assoc r.front (r.entry ∷ r.passed) r.rest) in
+    let less : length before < n = first_keys eq id n before (r.entry ∷ r.rest) r.is_first (ap (λ (es : List (ID × V)). is_member eq (take n (keys_of es)) id) (sym was) ∙ m) in
+    let whole = length-append r.front r.passed in
+    let moved = length-append r.front (r.entry ∷ r.passed) in
+    ap (λ (es : List (ID × V)). drop n (keys_of es)) stands
+    ∙ drop_past (r.front ++ (r.entry ∷ r.passed)) r.rest (n - length (r.front ++ (r.entry ∷ r.passed))) n (omega arith)
+    ∙ ap (λ k. drop k (keys_of r.rest)) (later n (length before) (length (r.front ++ (r.entry ∷ r.passed))) less (omega arith))
+    ∙ sym (drop_past (before ++ (r.entry ∷ [])) r.rest (n - (length before + 1)) n (omega (arith, length-append before (r.entry ∷ []))))
+    ∙ ap (λ (es : List (ID × V)). drop n (keys_of es)) (append_assoc before (r.entry ∷ []) r.rest ∙ sym was)
+  where
+    later : (n a b : ℕ) → a < n → b ≡ a + 1 → n - b ≡ n - (a + 1)
+    later n a b l e = omega arith
 
 module _ {ID V P QS : Type 0} (eq : ID → ID → Bool) (cmp : P → P → Ordering) (part : V → P) (Left : V → V → Type 0) (old : Shown ID V P QS) (id : ID) (new : Shown ID V P QS) where
   settled_stay : (v w : V) → IsSettled eq cmp part old id v w new → drop old.voter_count (keys_of new.walk) ≡ drop old.voter_count (keys_of old.walk)
@@ -52,7 +59,7 @@ module _ {ID V P QS : Type 0} (eq : ID → ID → Bool) (cmp : P → P → Order
       by : (b : Bool) → rises_past_granted eq cmp part old id v w ≡ b → drop old.voter_count (keys_of new.walk) ≡ drop old.voter_count (keys_of old.walk)
       by true c =
           let voter : is_member eq (take old.voter_count (keys_of (set_value (eq id) old.walk w))) id ≡ true = ap (λ ks. is_member eq (take old.voter_count ks) id) keys ∙ first_so _ _ c in
-          ap (λ (es : List (ID × V)). drop old.voter_count (keys_of es)) (s.rises c).0 ∙ risen_keys cmp part eq id [] (set_value (eq id) old.walk w) old.voter_count old.voter_count (omega arith) voter ∙ ap (drop old.voter_count) keys
+          risen_keys cmp part eq id old.voter_count (set_value (eq id) old.walk w) new.walk (s.rises c).0 voter ∙ ap (drop old.voter_count) keys
       by false c = ap (λ (es : List (ID × V)). drop old.voter_count (keys_of es)) (s.stays c).0 ∙ ap (drop old.voter_count) keys
 
   -- an update moves no learner

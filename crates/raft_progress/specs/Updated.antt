@@ -1,5 +1,5 @@
 -- What an update does to a progress, and what it answers.
-use Rattle.std.specs.Prelude.{◌≡◌, ℕ, ◌≤◌, Bool, ◌&&◌, Option, Some, None, if◌then◌else◌, IsOk, IsErr, Result, MatchResult, true, false, []}
+use Rattle.std.specs.Prelude.{◌≡◌, ℕ, ◌≤◌, Bool, ◌&&◌, Option, Some, None, if◌then◌else◌, IsOk, IsErr, Result, MatchResult, true, false}
 use Rattle.std.specs.declared.cmp.Ordering.{Ordering}
 use Rattle.std.specs.Option.{ForSome}
 use Rattle.std.specs.Ordering.{is_le, is_lt, partial_gt}
@@ -7,7 +7,7 @@ use Rattle.std.specs.Map.{set_value}
 use Rattle.raft_progress.specs.CountedValue.{AtMost}
 use Rattle.raft_progress.specs.ProgressState.{Writes, IsSame}
 use Rattle.raft_progress.specs.Statistics.{counted_up}
-use Rattle.raft_progress.specs.Walk.{risen}
+use Rattle.raft_progress.specs.Walk.{IsRisen}
 use Rattle.raft_progress.specs.Shown.{Shown, state}
 
 module _ {ID V P QS : Type 0} (eq : ID → ID → Bool) (cmp : P → P → Ordering) (part : V → P) where
@@ -21,7 +21,7 @@ module _ {ID V P QS : Type 0} (eq : ID → ID → Bool) (cmp : P → P → Order
 
   -- the walk, granted and the counts after the value of a known id went from v to w: a voter that rises past what was granted is risen in the walk, and quorums are tested only where granted may rise, at most one test a voter
   pub record IsSettled (old : Shown ID V P QS) (id : ID) (v w : V) (new : Shown ID V P QS) : Type 0 where
-    pub rises : rises_past_granted old id v w ≡ true → (new.walk ≡ risen cmp part (eq id) [] (set_value (eq id) old.walk w)) × (new.stat.move_count ≡ counted_up old.stat.move_count 1)
+    pub rises : rises_past_granted old id v w ≡ true → IsRisen cmp part (eq id) (set_value (eq id) old.walk w) new.walk × (new.stat.move_count ≡ counted_up old.stat.move_count 1)
     pub stays : rises_past_granted old id v w ≡ false → (new.walk ≡ set_value (eq id) old.walk w) × (new.stat.move_count ≡ old.stat.move_count)
     pub tests : ℕ
     pub counts_tests : new.stat.is_quorum_count ≡ counted_up old.stat.is_quorum_count tests

@@ -3,3 +3,8 @@
 #![tactic(auto)]
 
 pub mod progress;
+
+pub use progress::{
+    AnyStep, MembershipProgress, ProgressPart, Reply, Stat, Step, Tracked, VecProgress, replay,
+    replay_any,
+};

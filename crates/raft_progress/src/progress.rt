@@ -1,8 +1,7 @@
 //! The progress of a cluster: a value for each voter and learner, and the greatest part that a
 //! quorum of the voters has reached; and a membership together with its progress.
 
-mod fit;
-mod in_order;
+mod conditions;
 mod part;
 mod recount;
 mod replay_any_steps;
@@ -12,7 +11,6 @@ mod scan;
 mod stat;
 mod steps;
 mod tracked;
-mod upgrade;
 mod vec_progress;
 mod walk;
 

@@ -2,14 +2,14 @@
 ghost use Rattle.std.specs.Prelude.{◌≡◌, ◌≤◌, ◌<◌, length};
 
 use super::Progress;
-use super::fit::are_apart;
-use super::in_order::{has_distinct_ids, is_at_least, is_falling};
+use super::conditions::{
+    are_apart, has_distinct_ids, is_among, is_at_least, is_before, is_falling,
+};
 use super::part::ProgressPart;
 use super::recount::count;
 use super::rise::{is_raised, move_up};
 use super::scan::{leading, least_front};
 use super::stat::Stat;
-use super::upgrade::{is_among, is_before};
 use super::walk::{clone_walk, copy_ids, place_all, write_at};
 use raft_members::quorum::QuorumSet;
 use std::alloc::{AllocError, Global};

@@ -1,6 +1,6 @@
 use Rattle.std.proofs.Common.{◌≡◌, drop}
 use Rattle.raft_progress.specs.Inner.Tests.{apart}
-use Rattle.raft_progress.proofs.progress.fit.are_apart.Given as goal
+use Rattle.raft_progress.proofs.progress.conditions.are_apart.Given as goal
 
 -- the learners are apart where those from here on are
 abbrev pub invariant-loop-i : goal.invariant-loop-i

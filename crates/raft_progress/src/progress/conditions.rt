@@ -1,10 +1,27 @@
-//! The parts of the test for a progress in order.
+//! The tests for the conditions of calls: that learners fit, that a progress is in order, and that
+//! no inherited value is below a default.
 ghost use Rattle.std.specs.Prelude.{◌≡◌, ◌<◌, ◌≤◌, ◌+◌, length};
 ghost use Rattle.std.specs.List.{list_all, list_any};
 ghost use Rattle.raft_progress.specs.Inner.Counts.{at_least};
-ghost use Rattle.raft_progress.specs.Inner.Tests.{ids_differ, never_rises};
+ghost use Rattle.raft_progress.specs.Inner.Tests.{among, apart, comes_before, ids_differ, never_rises};
 
 use super::part::ProgressPart;
+
+/// Whether no learner stands twice, and none is among the voters.
+pub(crate) fn are_apart<ID: Copy + Ord>(voters: &[ID], learners: &[ID]) -> bool
+    ensures { result ≡ apart ID.eq voters.now learners.now }
+{
+    for i in 0..learners.len() {
+        let id = learners[i];
+        if learners[i + 1..].contains(&id) {
+            return false;
+        }
+        if voters.contains(&id) {
+            return false;
+        }
+    }
+    true
+}
 
 /// Whether an entry has the id.
 fn has_id<ID: Copy + Ord, V>(walk: &[(ID, V)], id: ID) -> bool
@@ -52,4 +69,21 @@ pub(crate) fn is_at_least<ID: Copy, V: ProgressPart<P>, P: Copy + Ord>(
     voters
         .iter()
         .all(|entry| least.cmp(&entry.1.part()).is_le())
+}
+
+/// Whether an id is one of the voters or one of the learners.
+pub(crate) fn is_among<ID: Copy + Ord>(voters: &[ID], learners: &[ID], id: &ID) -> bool
+    ensures { result ≡ among ID.eq voters.now learners.now id.now }
+{
+    voters.contains(id) || learners.contains(id)
+}
+
+/// Whether an id comes before the least one so far.
+pub(crate) fn is_before<ID: Copy + Ord>(id: ID, least: Option<ID>) -> bool
+    ensures { result ≡ comes_before ID.cmp id least }
+{
+    match least {
+        Some(least) => id.cmp(&least).is_lt(),
+        None => true,
+    }
 }

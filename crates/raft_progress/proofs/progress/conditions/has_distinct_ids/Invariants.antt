@@ -1,6 +1,6 @@
 use Rattle.std.proofs.Common.{◌≡◌, drop}
 use Rattle.raft_progress.specs.Inner.Tests.{ids_differ}
-use Rattle.raft_progress.proofs.progress.in_order.has_distinct_ids.Given as goal
+use Rattle.raft_progress.proofs.progress.conditions.has_distinct_ids.Given as goal
 
 -- the answer is that of the entries from here on
 abbrev pub invariant-loop-place : goal.invariant-loop-place

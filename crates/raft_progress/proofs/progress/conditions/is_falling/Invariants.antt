@@ -1,6 +1,6 @@
 use Rattle.std.proofs.Common.{◌≡◌, ◌-◌, drop}
 use Rattle.raft_progress.specs.Inner.Tests.{never_rises}
-use Rattle.raft_progress.proofs.progress.in_order.is_falling.Given as goal
+use Rattle.raft_progress.proofs.progress.conditions.is_falling.Given as goal
 
 -- the answer is that of the voters from the one before on
 abbrev pub invariant-loop-place : goal.invariant-loop-place
