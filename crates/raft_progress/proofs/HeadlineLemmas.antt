@@ -13,9 +13,9 @@ use Rattle.raft_members.specs.Majority.{is_joint_majority, is_majority}
 use Rattle.raft_members.specs.MajorityLaws.{is_majority-superset, list_all-weaker}
 use Rattle.raft_members.specs.Meeting.{RespectsEquality}
 use Rattle.raft_members.specs.Members.{members_of}
-use Rattle.raft_members.specs.Reached.{EachQuorumKnows, IsReached}
+use Rattle.raft_members.specs.Reached.{EachQuorumKnows, IsGranted, VotersReached}
 use Rattle.raft_members.specs.declared.change_members.ChangeMembers.{ChangeMembers}
-use Rattle.raft_members.proofs.Said.{change_keeps_reached}
+use Rattle.raft_members.proofs.CallerLemmas.{change_keeps_reached}
 use Rattle.raft_progress.specs.CountedValue.{AtMost, has_part, reached}
 use Rattle.raft_progress.specs.InOrder.{IsInOrder}
 use Rattle.raft_progress.specs.Shown.{Shown, state}
@@ -77,11 +77,16 @@ pub each_quorum_knows : {K N V P : Type 0} {eq : K → K → Bool} (laws : IsEqu
     × ((change : ChangeMembers K N) (retain : Bool) → EachQuorumKnows eq (changed eq id_cmp (members_of id_cmp t.membership) change retain).configs (state eq t.progress).is_voter (λ id. has_part cmp part t.progress.granted ((state eq t.progress).value id)))
 each_quorum_knows {K} {N} {V} {P} {eq} laws id_cmp {cmp} o part t r some =
     let superset = λ (s u : K → Bool) (h : (x : K) → s x ≡ true → u x ≡ true). list_all-weaker (λ c. is_majority eq c.items s) (λ c. is_majority eq c.items u) (λ c. is_majority-superset eq c.items s u h) t.progress.quorum_set.items in
-    change_keeps_reached laws id_cmp (members_of id_cmp t.membership) (state eq t.progress).is_voter (λ id. has_part cmp part t.progress.granted ((state eq t.progress).value id)) some
-    (knows_alike laws o part (has_quorum eq) t.progress superset r.ordered)
-    (λ id v. r.counts_by.voters id ∙ v)
-    (by (granted_reached laws o part (has_quorum eq) t.progress superset r.ordered))
+    let knows = λ (id : K). has_part cmp part t.progress.granted ((state eq t.progress).value id) in
+    let granted : IsGranted eq t.membership.configs (state eq t.progress).is_voter knows = record {
+      has_config = some;
+      are_voters = λ id v. r.counts_by.voters id ∙ v;
+      respects_equality = knows_alike laws o part (has_quorum eq) t.progress superset r.ordered;
+      voters_reached = by (granted_reached laws o part (has_quorum eq) t.progress superset r.ordered);
+    } in
+    let known = change_keeps_reached laws id_cmp (members_of id_cmp t.membership) (state eq t.progress).is_voter knows granted in
+    (known.quorums, known.changed_quorums)
   where
-    by : (has_quorum eq t.progress.quorum_set (λ id. (state eq t.progress).is_voter id && has_part cmp part t.progress.granted ((state eq t.progress).value id)) ≡ true) ⊎ ((id : K) → (state eq t.progress).is_voter id ≡ true → has_part cmp part t.progress.granted ((state eq t.progress).value id) ≡ true) → IsReached eq t.membership.configs (state eq t.progress).is_voter (λ id. has_part cmp part t.progress.granted ((state eq t.progress).value id))
+    by : (has_quorum eq t.progress.quorum_set (λ id. (state eq t.progress).is_voter id && has_part cmp part t.progress.granted ((state eq t.progress).value id)) ≡ true) ⊎ ((id : K) → (state eq t.progress).is_voter id ≡ true → has_part cmp part t.progress.granted ((state eq t.progress).value id) ≡ true) → VotersReached eq t.membership.configs (state eq t.progress).is_voter (λ id. has_part cmp part t.progress.granted ((state eq t.progress).value id))
     by (inl q) = inl (ap (λ cs. is_joint_majority eq cs (λ id. (state eq t.progress).is_voter id && has_part cmp part t.progress.granted ((state eq t.progress).value id))) (sym r.counts_by.configs) ∙ list_all-mapped (λ c. c.items) (λ c. is_majority eq c (λ id. (state eq t.progress).is_voter id && has_part cmp part t.progress.granted ((state eq t.progress).value id))) t.progress.quorum_set.items ∙ q)
     by (inr all) = inr all
