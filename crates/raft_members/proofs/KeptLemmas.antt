@@ -14,7 +14,7 @@ use Rattle.std.specs.Map.{lookup, keys_of}
 use Rattle.std.specs.BTreeMap.{insert_entry}
 use Rattle.std.specs.Option.{option_eq}
 use Rattle.raft_members.specs.Majority.{is_voter_of}
-use Rattle.raft_members.specs.MajorityLaws.{both_so}
+use Rattle.std.specs.Cmp.Derive.{both_true}
 use Rattle.raft_members.specs.Change.{keeps_node}
 use Rattle.raft_members.specs.Members.{MemberList, same_nodes, same_members}
 use Rattle.raft_members.proofs.MajorityLemmas.{is_member-alike}
@@ -100,11 +100,11 @@ module _ {K N : Type 0} {eq : K → K → Bool} {same : N → N → Bool} (e : I
   same_entries [] (y ∷ ys) h = absurd h
   same_entries (x ∷ xs) [] h = absurd h
   same_entries (x ∷ xs) (y ∷ ys) h =
-      both_so _ _ (both_so _ _ (rw h.0 (e.refl y.0)) (s.symm y.1 x.1 ∙ h.1)) (same_entries xs ys h.2)
+      both_true (both_true (rw h.0 (e.refl y.0)) (s.symm y.1 x.1 ∙ h.1)) (same_entries xs ys h.2)
 
 -- the same configs and equal nodes make equal memberships
 pub equal_members : {K N : Type 0} {eq : K → K → Bool} (same : N → N → Bool) → IsEquivalence eq → (m w : MemberList K N) → w.configs ≡ m.configs → IsTrue (same_nodes eq same m.nodes w.nodes) → IsTrue (same_members eq same m w)
-equal_members same e m w c h = both_so _ _ (rw c ((lists_equiv (lists_equiv e)).refl m.configs)) h
+equal_members same e m w c h = both_true (rw c ((lists_equiv (lists_equiv e)).refl m.configs)) h
 
 -- an item goes from what is ahead to what is done
 pub moved_on : {X : Type 0} (done : List X) (x : X) (ahead all : List X) → all ≡ done ++ x ∷ ahead → all ≡ (done ++ x ∷ []) ++ ahead

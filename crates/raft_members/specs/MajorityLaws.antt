@@ -2,6 +2,7 @@
 use Rattle.std.specs.Prelude.{◌≡◌, ◌≤◌, Bool, true, false, cond, ◌&&◌, List, [], ◌∷◌, count_by, refl}
 use Rattle.std.specs.List.{list_all}
 use Rattle.std.specs.Cmp.{first_so, second_so}
+use Rattle.std.specs.Cmp.Derive.{both_true}
 use Rattle.std.specs.Set.{unique_keys}
 use Rattle.std.proofs.Common.{arith, ltb-true, lt-ltb}
 use Rattle.std.proofs.lemmas.List.Sums.{sum_by-cons}
@@ -18,14 +19,10 @@ pub is_majority-superset : {K : Type 0} (eq : K → K → Bool) (config : List K
 is_majority-superset eq config s t h q =
     lt-ltb _ _ (omega (arith, ltb-true _ _ q, count_by-le-larger s t h (unique_keys eq config)))
 
--- two facts are both so
-pub both_so : (a b : Bool) → a ≡ true → b ≡ true → (a && b) ≡ true
-both_so a b h k = λ i. h i && k i
-
 -- what passes one test passes a weaker one
 pub list_all-weaker : {Q : Type 0} (p r : Q → Bool) → ((q : Q) → p q ≡ true → r q ≡ true) → (qs : List Q) → list_all p qs ≡ true → list_all r qs ≡ true
 list_all-weaker p r f [] h = h
-list_all-weaker p r f (q ∷ qs) h = both_so (r q) (list_all r qs) (f q (first_so _ _ h)) (list_all-weaker p r f qs (second_so _ _ h))
+list_all-weaker p r f (q ∷ qs) h = both_true (f q (first_so _ _ h)) (list_all-weaker p r f qs (second_so _ _ h))
 
 pub is_joint_majority-superset : {K : Type 0} (eq : K → K → Bool) (configs : List (List K)) (s t : K → Bool) → ((x : K) → s x ≡ true → t x ≡ true) → is_joint_majority eq configs s ≡ true → is_joint_majority eq configs t ≡ true
 is_joint_majority-superset eq configs s t h = list_all-weaker (λ c. is_majority eq c s) (λ c. is_majority eq c t) (λ c. is_majority-superset eq c s t h) configs

@@ -72,7 +72,8 @@ impl<NID: NodeId, N: Node> Membership<NID, N> {
     ) -> Result<Self, AllocError>
         ensures configs { IfOk result (λ m. m.configs ≡ map (λ c. c.keys) configs.items) }
         ensures nodes { IfOk result (λ m. (given : List (NID × N)) × T.gives nodes given ×
-            HasDefaults N.is_default_node NID.cmp given (is_voter_of NID.eq m.configs) m.nodes) }
+            HasDefaults N.is_default_node NID.cmp given
+            (is_voter_of NID.eq (map (λ c. c.keys) configs.items)) m.nodes) }
     {
         let alloc = *configs.allocator();
         let given = nodes.into_nodes(alloc)?;
