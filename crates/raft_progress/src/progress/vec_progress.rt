@@ -384,6 +384,15 @@ impl<
     /// exceeds granted moves up past the voters directly before it that have less, and where it
     /// passes granted, the least front of the walk that is a quorum tells what is granted now. A
     /// learner grants nothing. No memory is taken.
+    ///
+    /// Voters 0 to 4 as `id:value`, granted 3, and voter 1 goes from 2 to 4:
+    ///
+    /// ```text
+    /// before    4:5  0:4  2:3  1:2  3:3    parts that exceed granted stand first
+    /// written   4:5  0:4  2:3  1:4  3:3
+    /// moved     4:5  0:4  1:4  2:3  3:3    past voter 2, and not past voter 0, which has as much
+    /// tested   [4:5  0:4  1:4] 2:3  3:3    the front up to its new place: three of five, so 4 is granted
+    /// ```
     pub fn update_with<F: FnOnce(&mut V)>(&mut self, id: &ID, f: F) -> Result<&P, &P>
         requires ordered { IsInOrder ID.eq P.cmp V.part_of QS.has_quorum (shown self.old) }
         requires callable { ForSome ((state ID.eq (shown self.old)).value id.now) (FnOnceTakesAtMut F.FnOnce f) }
