@@ -1,8 +1,8 @@
 //! Callers, with what they prove of the calls.
-ghost use Rattle.std.specs.Prelude.{◌≡◌, ◌<◌, Bool, true, IfOk, MatchOption, length};
+ghost use Rattle.std.specs.Prelude.{◌<◌, true, IfOk, IfSome, length};
 ghost use Rattle.std.specs.List.{IsDistinct};
 ghost use Rattle.std.specs.Set.{ClonesAreEqual, is_member};
-ghost use Rattle.raft_members.specs.Majority.{is_joint_majority};
+ghost use Rattle.raft_members.specs.Reached.{EachQuorumKnows};
 
 use super::words::{ids, members};
 use raft_base::{Node, NodeId};
@@ -20,7 +20,9 @@ fn change_once_held<NID: NodeId, N: Node>(
     retain: bool,
 ) -> Result<Option<Membership<NID, N>>, ChangeMembershipError<NID>>
     requires { ClonesAreEqual N.eq N.is_clone }
-    ensures { IsDistinct NID.eq holders.now → 0 < length from.now.configs → IfOk result (λ made. MatchOption made (Unit {0}) (λ to. (set : NID → Bool) → is_joint_majority NID.eq to.configs set ≡ true → (id : NID) × (set id ≡ true) × (is_member NID.eq holders.now id ≡ true))) }
+    ensures { IsDistinct NID.eq holders.now → 0 < length from.now.configs →
+        IfOk result (λ made. IfSome made (λ to.
+            EachQuorumKnows NID.eq to.configs (λ id. true) (is_member NID.eq holders.now))) }
 {
     let quorums = from.to_quorum_set()?;
     if !quorums.is_quorum(holders) {

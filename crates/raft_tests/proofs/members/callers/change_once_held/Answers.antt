@@ -19,5 +19,4 @@ returns g c distinct config set q =
       voters_reached = inl h;
     } in
     let known = c.change_keeps_reached.ensures (members_of g.NID.Ord.cmp c.args.from.now) (λ id. true) held granted in
-    let found = known.changed_quorums c.args.change c.args.retain set (ap (λ cs. is_joint_majority eq cs set) (sym c.in_ok-to.ensures.changed.0) ∙ q) in
-    (found.0, found.1, found.3)
+    known.changed_quorums c.args.change c.args.retain set (ap (λ cs. is_joint_majority eq cs set) (sym c.in_ok-to.ensures.changed.0) ∙ q)
