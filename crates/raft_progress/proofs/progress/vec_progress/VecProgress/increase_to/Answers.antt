@@ -1,0 +1,20 @@
+use Rattle.std.proofs.Common.{refl, rules}
+use Rattle.raft_progress.specs.Updated.{IsGreaterOf}
+use Rattle.raft_progress.specs.VecProgress.{shown}
+use Rattle.raft_progress.proofs.FoldLemmas.{updated_weaker}
+use Rattle.raft_progress.proofs.progress.vec_progress.VecProgress.increase_to.Goals as goal
+
+pub returns : goal.returns
+returns g c =
+    let h = c.update_with.follows.holds-at-none in (
+      (
+        refl,
+        (λ _. tt),
+        record {
+          updated = updated_weaker g.ID.PartialEq.eq g.P.Ord.cmp g.V.ProgressPart.part_of _ (IsGreaterOf g.V.PartialOrd.partial_cmp c.args.value) (λ v w left. search rules) (shown c.args.self.now) c.args.id.now (shown c.update_with.follows.lender-at-none) h.updated;
+          ordered = h.ordered;
+          answers = h.answers;
+        },
+      ),
+      record { after = tt },
+    )
