@@ -1,21 +1,20 @@
-use Rattle.std.proofs.Common.{rules, refl}
+use Rattle.std.proofs.Common.{refl, rules}
+use Rattle.raft_progress.specs.Updated.{IsGreaterOf}
+use Rattle.raft_progress.specs.VecProgress.{shown}
+use Rattle.raft_progress.proofs.FoldLemmas.{updated_weaker}
 use Rattle.raft_progress.proofs.progress.vec_progress.VecProgress.increase_to.Goals as goal
 
 pub returns : goal.returns
-returns g c = (
-  (
-    refl,
-    λ _. tt,
-    let h = c.update_with.follows in record {
-      updated = let k = h.holds-at-none.updated in record {
-        counts = k.counts;
-        same_voter_count = k.same_voter_count;
-        known = λ v e. let w = k.known v e in (w.0, search rules, w.2, w.3);
-        unknown = k.unknown;
-      };
-      ordered = h.holds-at-none.ordered;
-      answers = h.holds-at-none.answers;
-    },
-  ),
-  record { after = tt },
-)
+returns g c =
+    let h = c.update_with.follows.holds-at-none in (
+      (
+        refl,
+        (λ _. tt),
+        record {
+          updated = updated_weaker g.ID.PartialEq.eq g.P.Ord.cmp g.V.ProgressPart.part_of _ (IsGreaterOf g.V.PartialOrd.partial_cmp c.args.value) (λ v w left. search rules) (shown c.args.self.now) c.args.id.now (shown c.update_with.follows.lender-at-none) h.updated;
+          ordered = h.ordered;
+          answers = h.answers;
+        },
+      ),
+      record { after = tt },
+    )
