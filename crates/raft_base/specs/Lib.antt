@@ -1,5 +1,7 @@
 pub mod LeaderId
 pub mod LeaderIdLaws
+pub mod LeaderIdStd
+pub mod LeaderIdStdLaws
 pub mod LeaderOrder
 pub mod LogId
 pub mod LogIdLaws

@@ -3,6 +3,7 @@
 
 pub mod kind;
 pub mod leader_id;
+pub mod leader_id_std;
 pub mod log_id;
 pub mod node;
 pub mod order;
