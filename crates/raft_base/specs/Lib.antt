@@ -1,7 +1,10 @@
 pub mod LeaderId
 pub mod LeaderIdLaws
+pub mod LeaderIdStd
+pub mod LeaderIdStdLaws
 pub mod LeaderOrder
 pub mod LogId
 pub mod LogIdLaws
+pub mod LogIndex
 pub mod Vote
 pub mod VoteLaws

@@ -3,6 +3,7 @@
 
 pub mod kind;
 pub mod leader_id;
+pub mod leader_id_std;
 pub mod log_id;
 pub mod node;
 pub mod order;
@@ -10,6 +11,6 @@ pub mod vote;
 
 pub use kind::{LeaderAdv, LeaderIdentity, LeaderKind};
 pub use leader_id::{CommittedLeaderId, LeaderId};
-pub use log_id::{LogId, LogIdOf, RaftLogId, RaftLogIdOf};
+pub use log_id::{LogId, LogIdOf, LogIdOptionExt, LogIndexOptionExt, RaftLogId, RaftLogIdOf};
 pub use node::{EmptyNode, Node, NodeDefault, NodeEssential, NodeId, NodeIdEssential};
 pub use vote::{Vote, VoteIn, VoteOf};

@@ -1,9 +1,13 @@
 //! What identifies a log entry.
 ghost use Rattle.std.specs.Prelude.{◌≡◌};
 
+mod log_id_option_ext;
+mod log_index_option_ext;
 mod raft_log_id;
 
 use crate::leader_id::CommittedLeaderId;
+pub use log_id_option_ext::LogIdOptionExt;
+pub use log_index_option_ext::LogIndexOptionExt;
 pub use raft_log_id::{RaftLogId, RaftLogIdOf};
 use std::fmt;
 

@@ -1,0 +1,17 @@
+-- How leader ids of standard Raft compare.
+use Rattle.std.specs.Prelude.{Bool, Option, Some, None, if◌then◌else◌}
+use Rattle.std.specs.declared.cmp.Ordering.{Ordering}
+use Rattle.std.specs.declared.cmp.Ordering.TheVariants.{Less, Equal, Greater}
+use Rattle.std.specs.Ordering.{nat_cmp, partial_ordering_then}
+use Rattle.raft_base.specs.declared.leader_id_std.LeaderId.{LeaderId}
+
+-- in one term: no node is below each node, and two different nodes do not compare
+abbrev pub voted_cmp : {N : Type 0} → (N → N → Bool) → Option N → Option N → Option Ordering
+voted_cmp same None None = Some Equal
+voted_cmp same None (Some n) = Some Less
+voted_cmp same (Some m) None = Some Greater
+voted_cmp same (Some m) (Some n) = if same m n then Some Equal else None
+
+-- by term, and within a term by the node
+abbrev pub std_leader_cmp : {N : Type 0} → (N → N → Bool) → LeaderId N → LeaderId N → Option Ordering
+std_leader_cmp same a b = partial_ordering_then (Some (nat_cmp a.term b.term)) (voted_cmp same a.voted_for b.voted_for)

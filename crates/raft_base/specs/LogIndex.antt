@@ -1,0 +1,21 @@
+-- Indexes that may be absent.
+use Rattle.std.specs.Prelude.{ℕ, zero, suc, ◌+◌, Option, Some, None}
+
+-- the index after one that may be absent, and 0 after none
+abbrev pub next_index_of : Option ℕ → ℕ
+next_index_of (Some index) = index + 1
+next_index_of None = 0
+
+-- the last of so many indexes from 0 on, and none of no indexes
+abbrev pub last_of : ℕ → Option ℕ
+last_of zero = None
+last_of (suc index) = Some index
+
+-- the index before an index, and none before 0
+abbrev pub index_before : Option ℕ → Option ℕ
+index_before (Some index) = last_of index
+index_before None = None
+
+-- the index so many places on
+abbrev pub moved_on : Option ℕ → ℕ → Option ℕ
+moved_on index places = last_of (next_index_of index + places)

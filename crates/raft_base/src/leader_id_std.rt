@@ -1,0 +1,188 @@
+//! Who leads in standard Raft, where a node votes once in a term.
+ghost use Rattle.std.specs.Prelude.{◌≡◌, Some, nat_eq, refl};
+ghost use Rattle.std.specs.Ordering.{nat_cmp};
+ghost use Rattle.raft_base.specs.LeaderIdStd.{std_leader_cmp, voted_cmp};
+ghost use Rattle.raft_base.specs.LeaderIdStdLaws.{alike_above, alike_below, first_decides, term_not_above, term_then_voted-partial};
+ghost use Rattle.raft_base.specs.LeaderIdLaws.{apart};
+
+use crate::kind::{LeaderIdentity, LeaderKind};
+use crate::node::NodeId;
+use std::cmp::Ordering;
+use std::fmt;
+
+/// Identifies a leader: the term, and the node that the vote is for, if there is one.
+///
+/// Compared by term. In one term a vote for nobody is below each other one, and votes for two
+/// different nodes do not compare: a quorum grants no more than one of them.
+#[derive(Debug, Clone, Copy, Default, PartialEq, Eq)]
+pub struct LeaderId<NID: NodeId> {
+    /// The term in which the node leads or means to lead.
+    pub term: u64,
+    /// The node, if there is one.
+    pub voted_for: Option<NID>,
+}
+
+/// A leader that a quorum has granted. A term has no more than one, so the term is enough.
+#[derive(Debug, Clone, Copy, Default, PartialEq, Eq, PartialOrd, Ord)]
+pub struct CommittedLeaderId {
+    /// The term in which the leader was granted.
+    pub term: u64,
+}
+
+impl CommittedLeaderId {
+    /// What is kept of the leader that a node is in a term.
+    pub fn new<NID: NodeId>(term: u64, _node_id: NID) -> Self
+        ensures { result ≡ record { term = term } }
+    {
+        CommittedLeaderId { term }
+    }
+}
+
+impl fmt::Display for CommittedLeaderId {
+    fn fmt<W: fmt::Write>(&self, f: &mut fmt::Formatter<W>) -> fmt::Result {
+        write!(f, "T{}", self.term)
+    }
+}
+
+impl<NID: NodeId> LeaderId<NID> {
+    /// The leader id of a node in a term.
+    pub fn new(term: u64, node_id: NID) -> Self
+        ensures { result ≡ record { term = term; voted_for = Some node_id } }
+    {
+        LeaderId {
+            term,
+            voted_for: Some(node_id),
+        }
+    }
+
+    /// The term.
+    pub fn get_term(&self) -> u64
+        ensures { result ≡ self.now.term }
+    {
+        self.term
+    }
+
+    /// The node that the vote is for, if there is one.
+    pub fn voted_for(&self) -> Option<NID>
+        ensures { result ≡ self.now.voted_for }
+    {
+        self.voted_for
+    }
+
+    /// What is kept of the leader id once a quorum has granted it.
+    pub fn to_committed(&self) -> CommittedLeaderId
+        ensures { result ≡ record { term = self.now.term } }
+    {
+        CommittedLeaderId { term: self.term }
+    }
+
+    /// Whether the leader is the granted one: of one term there is only one.
+    pub fn is_same_as_committed(&self, other: &CommittedLeaderId) -> bool
+        ensures { result ≡ nat_eq self.now.term other.now.term }
+    {
+        self.term == other.term
+    }
+}
+
+impl<NID: NodeId> PartialOrd for LeaderId<NID> {
+    ghost partial_cmp = { std_leader_cmp NID.eq };
+
+    ghost laws = { term_then_voted-partial NID.Eq.laws (λ a. a.term) (λ a. a.voted_for) };
+
+    fn partial_cmp(&self, other: &Self) -> Option<Ordering> {
+        match self.term.cmp(&other.term) {
+            Ordering::Equal => compare_voted(self.voted_for, other.voted_for),
+            decided => Some(decided),
+        }
+    }
+}
+
+/// How votes of one term compare by the node that they are for.
+fn compare_voted<NID: NodeId>(a: Option<NID>, b: Option<NID>) -> Option<Ordering>
+    ensures { result ≡ voted_cmp NID.eq a b }
+{
+    match (a, b) {
+        (None, None) => Some(Ordering::Equal),
+        (None, Some(_)) => Some(Ordering::Less),
+        (Some(_), None) => Some(Ordering::Greater),
+        // A quorum can grant only one of two nodes.
+        (Some(a), Some(b)) => (a == b).then_some(Ordering::Equal),
+    }
+}
+
+impl<NID: NodeId> fmt::Display for LeaderId<NID> {
+    fn fmt<W: fmt::Write>(&self, f: &mut fmt::Formatter<W>) -> fmt::Result {
+        let term = self.term;
+        match self.voted_for {
+            Some(node_id) => write!(f, "T{term}-N{node_id}"),
+            None => write!(f, "T{term}"),
+        }
+    }
+}
+
+/// The leader ids of standard Raft: in a term at most one node can lead.
+#[derive(Debug, Clone, Copy, Default, PartialEq, Eq)]
+pub struct LeaderStd;
+
+impl<NID: NodeId> LeaderKind<NID> for LeaderStd {
+    type Leader = LeaderId<NID>;
+
+    type Committed = CommittedLeaderId;
+}
+
+impl<NID: NodeId> LeaderIdentity for LeaderId<NID> {
+    type Id = NID;
+
+    type Committed = CommittedLeaderId;
+
+    ghost order = { std_leader_cmp NID.eq };
+
+    ghost term_of = { λ a. a.term };
+
+    ghost voted = { λ a. a.voted_for };
+
+    ghost committed = { λ a. record { term = a.term } };
+
+    ghost leader_of = { λ t n. record { term = t; voted_for = Some n } };
+
+    fn compare(a: &Self, b: &Self) -> Option<Ordering> {
+        a.partial_cmp(b)
+    }
+
+    fn new_leader(term: u64, id: NID) -> Self {
+        Self::new(term, id)
+    }
+
+    fn new_committed(term: u64, id: NID) -> CommittedLeaderId {
+        CommittedLeaderId::new(term, id)
+    }
+
+    fn term(leader: &Self) -> u64 {
+        leader.get_term()
+    }
+
+    fn voted_for(leader: &Self) -> Option<NID> {
+        leader.voted_for()
+    }
+
+    fn to_committed(leader: &Self) -> CommittedLeaderId {
+        leader.to_committed()
+    }
+
+    fn is_same_as_committed(leader: &Self, other: &CommittedLeaderId) -> bool {
+        leader.is_same_as_committed(other)
+    }
+
+    ghost partial = { term_then_voted-partial NID.Eq.laws (λ a. a.term) (λ a. a.voted_for) };
+
+    ghost by_term = { λ a b h. first_decides (nat_cmp a.term b.term) _ (apart a.term b.term h) };
+
+    ghost rises = { λ a b h. term_not_above (nat_cmp a.term b.term) _ h };
+
+    ghost made = { λ t n. (refl, refl) };
+
+    ghost incomparable = { λ a b c h. (
+      λ k. alike_below NID.eq a.term b.term c.term a.voted_for b.voted_for c.voted_for h k,
+      λ k. alike_above NID.eq a.term b.term c.term a.voted_for b.voted_for c.voted_for h k,
+    ) };
+}

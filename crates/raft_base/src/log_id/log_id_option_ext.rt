@@ -1,0 +1,58 @@
+//! Log ids that may be absent, as that of the last entry of a log that may be empty.
+ghost use Rattle.std.specs.Prelude.{◌≡◌, ◌<◌, ◌^◌, ℕ};
+ghost use Rattle.std.specs.declared.option.Option.{Option};
+ghost use Rattle.std.specs.Option.{option_map};
+ghost use Rattle.raft_base.specs.LogIndex.{next_index_of};
+
+use super::LogIdOf;
+
+/// The index of a log id that may be absent.
+pub trait LogIdOptionExt {
+    /// The index, if there is one.
+    ghost index_of: { Self → Option ℕ };
+
+    /// The index, if there is one.
+    fn index(&self) -> Option<u64>
+        ensures { result ≡ index_of self.now };
+
+    /// The index after it, and 0 after none.
+    fn next_index(&self) -> u64
+        requires { next_index_of (index_of self.now) < 2 ^ 64 }
+        ensures { result ≡ next_index_of (index_of self.now) };
+}
+
+impl<C> LogIdOptionExt for Option<LogIdOf<C>> {
+    ghost index_of = { option_map (λ id. id.index) };
+
+    fn index(&self) -> Option<u64> {
+        match self {
+            Some(log_id) => Some(log_id.index),
+            None => None,
+        }
+    }
+
+    fn next_index(&self) -> u64 {
+        match self {
+            Some(log_id) => log_id.index + 1,
+            None => 0,
+        }
+    }
+}
+
+impl<C> LogIdOptionExt for Option<&LogIdOf<C>> {
+    ghost index_of = { option_map (λ id. id.now.index) };
+
+    fn index(&self) -> Option<u64> {
+        match self {
+            Some(log_id) => Some(log_id.index),
+            None => None,
+        }
+    }
+
+    fn next_index(&self) -> u64 {
+        match self {
+            Some(log_id) => log_id.index + 1,
+            None => 0,
+        }
+    }
+}

@@ -1,0 +1,47 @@
+//! Indexes that may be absent, as that of the last entry of a log that may be empty.
+ghost use Rattle.std.specs.Prelude.{◌≡◌, ◌+◌, ◌<◌, ◌^◌, ℕ, IsSome};
+ghost use Rattle.std.specs.declared.option.Option.{Option};
+ghost use Rattle.raft_base.specs.LogIndex.{index_before, moved_on, next_index_of};
+
+/// Steps between an index that may be absent and those beside it.
+pub trait LogIndexOptionExt: Sized {
+    /// The index, if there is one.
+    ghost shown: { Self → Option ℕ };
+
+    /// The index after it, and 0 after none.
+    fn next_index(&self) -> u64
+        requires { next_index_of (shown self.now) < 2 ^ 64 }
+        ensures { result ≡ next_index_of (shown self.now) };
+
+    /// The index before it, and none before 0.
+    fn prev_index(&self) -> Self
+        requires { IsSome (shown self.now) }
+        ensures { shown result ≡ index_before (shown self.now) };
+
+    /// The index so many places on.
+    fn add(&self, places: u64) -> Self
+        requires { next_index_of (shown self.now) + places < 2 ^ 64 }
+        ensures { shown result ≡ moved_on (shown self.now) places };
+}
+
+impl LogIndexOptionExt for Option<u64> {
+    ghost shown = { λ index. index };
+
+    fn next_index(&self) -> u64 {
+        match self {
+            Some(index) => *index + 1,
+            None => 0,
+        }
+    }
+
+    fn prev_index(&self) -> Option<u64> {
+        match self {
+            Some(index) => index.checked_sub(1),
+            None => None,
+        }
+    }
+
+    fn add(&self, places: u64) -> Option<u64> {
+        Some(self.next_index() + places).prev_index()
+    }
+}
