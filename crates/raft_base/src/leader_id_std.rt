@@ -40,7 +40,7 @@ impl CommittedLeaderId {
 
 impl fmt::Display for CommittedLeaderId {
     fn fmt<W: fmt::Write>(&self, f: &mut fmt::Formatter<W>) -> fmt::Result {
-        write!(f, "T{}", self.term)
+        write!(f, "{}", self.term)
     }
 }
 

@@ -11,6 +11,7 @@ pub mod vote;
 
 pub use kind::{LeaderAdv, LeaderIdentity, LeaderKind};
 pub use leader_id::{CommittedLeaderId, LeaderId};
+pub use leader_id_std::LeaderStd;
 pub use log_id::{LogId, LogIdOf, LogIdOptionExt, LogIndexOptionExt, RaftLogId, RaftLogIdOf};
 pub use node::{EmptyNode, Node, NodeDefault, NodeEssential, NodeId, NodeIdEssential};
 pub use vote::{Vote, VoteIn, VoteOf};

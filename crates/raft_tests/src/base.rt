@@ -1,4 +1,5 @@
 //! `raft_base`: leader ids, votes, log ids and nodes.
 
 mod calls;
+mod standard;
 mod values;

@@ -22,7 +22,7 @@ fn change_once_held<NID: NodeId, N: Node>(
     requires { ClonesAreEqual N.eq N.is_clone }
     ensures { IsDistinct NID.eq holders.now → 0 < length from.now.configs →
         IfOk result (λ made. IfSome made (λ to.
-            EachQuorumKnows NID.eq to.configs (λ id. true) (is_member NID.eq holders.now))) }
+        EachQuorumKnows NID.eq to.configs (λ id. true) (is_member NID.eq holders.now))) }
 {
     let quorums = from.to_quorum_set()?;
     if !quorums.is_quorum(holders) {

@@ -1,0 +1,97 @@
+//! Leader ids of standard Raft, and indexes that may be absent.
+
+use raft_base::leader_id_std::{CommittedLeaderId, LeaderId};
+use raft_base::{LeaderStd, LogIdOf, LogIdOptionExt, LogIndexOptionExt, VoteOf};
+use std::cmp::Ordering;
+use std::test::Fail;
+
+/// A leader as its term and the node that it is for, and whether its vote is committed.
+type Voted = (u64, Option<u64>, bool);
+
+fn vote(voted: Voted) -> VoteOf<u64, LeaderStd> {
+    VoteOf::<u64, LeaderStd> {
+        leader_id: LeaderId {
+            term: voted.0,
+            voted_for: voted.1,
+        },
+        committed: voted.2,
+    }
+}
+
+/// Whether two votes compare as wanted, from both sides.
+fn compare_as(a: Voted, b: Voted, want: Option<Ordering>) -> bool {
+    let (a, b) = (vote(a), vote(b));
+    a.partial_cmp(&b) == want
+        && b.partial_cmp(&a) == want.map(|order| order.reverse())
+        && (a == b) == (want == Some(Ordering::Equal))
+}
+
+#[test]
+fn votes_of_one_term_need_not_compare(rt: HostRuntime) -> Result<(), Fail> {
+    let greater = Some(Ordering::Greater);
+    let equal = Some(Ordering::Equal);
+    let rows: [(Voted, Voted, Option<Ordering>); 12] = [
+        ((2, Some(2), false), (1, Some(2), false), greater),
+        ((2, Some(2), false), (2, None, false), greater),
+        ((2, Some(2), false), (2, Some(2), false), equal),
+        ((2, None, false), (2, None, false), equal),
+        ((2, Some(2), false), (2, Some(3), false), None),
+        ((2, Some(1), true), (2, Some(2), false), greater),
+        ((2, Some(2), true), (2, Some(2), false), greater),
+        ((2, Some(2), true), (2, Some(3), true), None),
+        ((2, Some(2), true), (2, None, false), greater),
+        ((2, Some(2), true), (2, None, true), greater),
+        ((2, Some(1), false), (1, Some(1), true), greater),
+        ((1, Some(1), true), (1, Some(1), true), equal),
+    ];
+    for (a, b, want) in rows {
+        assert!(rt; compare_as(a, b, want), "at {a:?} and {b:?}");
+    }
+    Ok(())
+}
+
+/// Whether a granted leader is known by its term alone.
+fn is_known_by_its_term(leader: &LeaderId<u64>) -> bool {
+    leader.to_committed() == CommittedLeaderId { term: 2 }
+        && leader.is_same_as_committed(&CommittedLeaderId::new(2, 7u64))
+        && !leader.is_same_as_committed(&CommittedLeaderId::new(3, 1u64))
+        && leader.get_term() == 2
+        && leader.voted_for() == Some(1)
+}
+
+#[test]
+fn a_granted_leader_is_its_term(rt: HostRuntime) -> Result<(), Fail> {
+    assert!(rt; is_known_by_its_term(&LeaderId::new(2, 1u64)));
+    Ok(())
+}
+
+/// Whether steps from an index that may be absent lead where they should.
+fn steps_lead() -> bool {
+    let none: Option<u64> = None;
+    none.add(0) == None
+        && none.add(3) == Some(2)
+        && none.next_index() == 0
+        && Some(7).add(0) == Some(7)
+        && Some(7).next_index() == 8
+        && Some(0).prev_index() == None
+        && Some(8).prev_index() == Some(7)
+}
+
+/// Whether a log id at index 4, and none, have their indexes, also behind references.
+fn indexes_read(id: &LogIdOf<CommittedLeaderId>) -> bool {
+    let there = Some(*id);
+    let absent: Option<LogIdOf<CommittedLeaderId>> = None;
+    there.index() == Some(4)
+        && there.next_index() == 5
+        && absent.index() == None
+        && absent.next_index() == 0
+        && Some(id).index() == Some(4)
+        && Some(id).next_index() == 5
+}
+
+#[test]
+fn indexes_may_be_absent(rt: HostRuntime) -> Result<(), Fail> {
+    assert!(rt; steps_lead());
+    assert!(rt; indexes_read(&LogIdOf::new(CommittedLeaderId { term: 3 }, 4)));
+    Ok(())
+}
