@@ -2,7 +2,7 @@
 
 use super::{first_ids, made, replied, updated};
 use raft_progress::progress::{AnyStep, Progress, ProgressPart, Reply, VecProgress, replay_any};
-use std::alloc::AllocError;
+use std::alloc::{AllocError, Global};
 use std::test::Fail;
 
 type Numbers = VecProgress<u64, u64, u64, Vec<u64>>;
@@ -223,15 +223,40 @@ fn replay_always_alloc_error(rt: HostRuntime) -> Result<(), Fail> {
     Ok(())
 }
 
+/// Whether a clone of a progress equals it.
+fn has_equal_clone(progress: &Numbers) -> Result<bool, AllocError> {
+    Ok(progress.try_clone()? == *progress)
+}
+
+#[test]
+fn clones_are_equal(rt: HostRuntime) -> Result<(), Fail> {
+    let alloc = rt.alloc();
+    let mut progress: Numbers = made(&rt, alloc, first_ids(alloc, 3)?, &[5], 0)?;
+    assert!(rt; has_equal_clone(&progress)?);
+    assert!(rt; updated(&rt, &mut progress, 1, 4) == Ok(0) && has_equal_clone(&progress)?);
+    Ok(())
+}
+
 /// What is granted, by the trait alone.
 fn granted_by<P: Progress<u64, u64, u64, Vec<u64>>>(progress: &P) -> u64 {
     *progress.granted()
 }
 
+/// Whether a progress is in order and may go over to these voters, by the trait alone.
+fn may_go_over<P: Progress<u64, u64, u64, Vec<u64>>>(
+    alloc: Global,
+    progress: &mut P,
+    voters: &Vec<u64>,
+) -> Result<bool, AllocError> {
+    let fits = P::learners_fit(alloc, voters, &[9])?;
+    Ok(fits && progress.is_in_order() && progress.can_upgrade(voters, &[9], &7)?)
+}
+
 #[test]
 fn any_progress_grants(rt: HostRuntime) -> Result<(), Fail> {
     let alloc = rt.alloc();
-    let progress: Numbers = made(&rt, alloc, first_ids(alloc, 3)?, &[], 7)?;
-    assert_eq!(rt; granted_by(&progress), 7);
+    let mut progress: Numbers = made(&rt, alloc, first_ids(alloc, 3)?, &[], 7)?;
+    let voters = first_ids(alloc, 5)?;
+    assert!(rt; granted_by(&progress) == 7 && may_go_over(alloc, &mut progress, &voters)?);
     Ok(())
 }

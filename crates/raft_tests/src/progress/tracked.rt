@@ -39,7 +39,13 @@ fn a_change_takes_values_and_counts_over(rt: HostRuntime) -> Result<(), Fail> {
     let replies = replay(alloc, &mut pair, steps)?;
     let want = [Reply::Granted(0), Reply::Granted(3), Reply::Granted(3)];
     assert!(rt; replies.as_slice() == want.as_slice() && is_joint(&pair));
+    assert!(rt; has_equal_clone(&pair)?);
     Ok(())
+}
+
+/// Whether a clone of a membership with its progress equals it.
+fn has_equal_clone(pair: &Tracked<u64, EmptyNode, u64, u64>) -> Result<bool, AllocError> {
+    Ok(pair.try_clone()? == *pair)
 }
 
 /// Whether the membership is joint, the values have their places, and five updates and four moves are
