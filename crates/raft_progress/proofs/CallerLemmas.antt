@@ -3,10 +3,10 @@ use Rattle.std.specs.Prelude.{◌≡◌, Bool, Some}
 use Rattle.std.specs.declared.cmp.Ordering.{Ordering}
 use Rattle.std.proofs.Common.{ap, refl}
 use Rattle.std.proofs.lemmas.Map.{keys-set_value}
-use Rattle.raft_progress.specs.InOrder.{IsInOrder}
-use Rattle.raft_progress.specs.Kept.{KeepsParts, with_value}
-use Rattle.raft_progress.specs.Shown.{Shown, state}
-use Rattle.raft_progress.proofs.KeptLemmas.{order_alike, written_parts}
+use Rattle.raft_progress.specs.progress.InOrder.{IsInOrder}
+use Rattle.raft_progress.specs.progress.Kept.{KeepsParts, with_value}
+use Rattle.raft_progress.specs.progress.Shown.{Shown, state}
+use Rattle.raft_progress.proofs.progress.KeptLemmas.{order_alike, written_parts}
 
 module _ {ID V P QS : Type 0} (eq : ID → ID → Bool) (part : V → P) where
   -- where ids and voters' parts are as they were, a progress in order is in order

@@ -3,8 +3,7 @@
 #![tactic(auto)]
 
 pub mod progress;
+pub mod tracked;
 
-pub use progress::{
-    AnyStep, MembershipProgress, ProgressPart, Reply, Stat, Step, Tracked, VecProgress, replay,
-    replay_any,
-};
+pub use progress::{AnyStep, ProgressPart, Reply, Stat, VecProgress, replay_any};
+pub use tracked::{MembershipProgress, Step, Tracked, replay};

@@ -1,27 +1,24 @@
 //! The progress of a cluster: a value for each voter and learner, and the greatest part that a
-//! quorum of the voters has reached; and a membership together with its progress.
+//! quorum of the voters has reached.
 
 mod conditions;
 mod part;
 mod recount;
 mod replay_any_steps;
-mod replay_steps;
 mod rise;
 mod scan;
 mod stat;
 mod steps;
-mod tracked;
 mod vec_progress;
 mod walk;
 
 pub use part::ProgressPart;
 use raft_members::quorum::QuorumSet;
 pub use replay_any_steps::replay_any;
-pub use replay_steps::replay;
+pub(crate) use replay_any_steps::{increase, write};
 pub use stat::Stat;
 use std::alloc::{AllocError, Global};
-pub use steps::{AnyStep, Reply, Step};
-pub use tracked::{MembershipProgress, Tracked};
+pub use steps::{AnyStep, Reply};
 pub use vec_progress::VecProgress;
 
 /// The values of voters and learners over a quorum set, and what a quorum of the voters has reached.
@@ -31,15 +28,15 @@ pub trait Progress<ID: Copy + Ord, V: ProgressPart<P>, P: Copy + Ord, QS: Quorum
     ghost use Rattle.std.specs.Fn.{FnOnceTakesAtMut};
     ghost use Rattle.std.specs.Option.{ForSome, option_copied, option_copied_mut};
     ghost use Rattle.std.specs.Slice.Iter.{iter_rest};
-    ghost use Rattle.raft_progress.specs.InOrder.{IsInOrder};
-    ghost use Rattle.raft_progress.specs.Lends.{IsAnsweredUpdate, Leaves, LendsGranted, LendsValue};
-    ghost use Rattle.raft_progress.specs.NewProgress.{LearnersFit};
-    ghost use Rattle.raft_progress.specs.Shown.{Shown, learner_ids, state};
-    ghost use Rattle.raft_progress.specs.ProgressState.{voter_of};
-    ghost use Rattle.raft_progress.specs.Statistics.{CountsGoOn};
-    ghost use Rattle.raft_progress.specs.Upgrade.{CanUpgrade, IsUpgraded};
-    ghost use Rattle.raft_progress.specs.Updated.{IsGreaterOf, IsNotLower, IsNotLowerIfGreater, NeverFalls};
-    ghost use Rattle.raft_progress.specs.UpgradeFold.{IsUpgradeFold};
+    ghost use Rattle.raft_progress.specs.progress.InOrder.{IsInOrder};
+    ghost use Rattle.raft_progress.specs.progress.Lends.{IsAnsweredUpdate, Leaves, LendsGranted, LendsValue};
+    ghost use Rattle.raft_progress.specs.progress.NewProgress.{LearnersFit};
+    ghost use Rattle.raft_progress.specs.progress.Shown.{Shown, learner_ids, state};
+    ghost use Rattle.raft_progress.specs.progress.ProgressState.{voter_of};
+    ghost use Rattle.raft_progress.specs.progress.Statistics.{CountsGoOn};
+    ghost use Rattle.raft_progress.specs.progress.Upgrade.{CanUpgrade, IsUpgraded};
+    ghost use Rattle.raft_progress.specs.progress.Updated.{IsGreaterOf, IsNotLower, IsNotLowerIfGreater, NeverFalls};
+    ghost use Rattle.raft_progress.specs.progress.UpgradeFold.{IsUpgradeFold};
 
     /// What it shows.
     ghost shows: { Self → Shown ID V P QS };

@@ -7,10 +7,10 @@ use Rattle.raft_base.specs.declared.node.EmptyNode.{EmptyNode}
 use Rattle.raft_members.specs.Defaults.{WithDefault}
 use Rattle.raft_members.specs.Majority.{is_voter_of}
 use Rattle.raft_members.specs.Members.{MemberList, node_at}
-use Rattle.raft_progress.specs.NewProgress as new_progress
-use Rattle.raft_progress.specs.NewProgress.{HasClone}
-use Rattle.raft_progress.specs.Shown.{state}
-use Rattle.raft_progress.specs.TrackedState.{Configs, IsReady, TrackedShown, is_voter, tracked_state}
+use Rattle.raft_progress.specs.progress.NewProgress as new_progress
+use Rattle.raft_progress.specs.progress.NewProgress.{HasClone}
+use Rattle.raft_progress.specs.progress.Shown.{state}
+use Rattle.raft_progress.specs.tracked.TrackedState.{Configs, IsReady, TrackedShown, is_voter, tracked_state}
 use Rattle.raft_script.specs.Engine.{IsStart, part}
 
 or_true : (a : Bool) → (a || true) ≡ true

@@ -2,9 +2,9 @@
 use Rattle.std.specs.Prelude.{◌≡◌, ◌<◌, ◌-◌, ℕ, List, [], ◌∷◌, Option, Some, length, slice_index_or}
 use Rattle.std.proofs.Common.{arith, refl, sym, subst, ap, ◌∙◌}
 use Rattle.raft_base.specs.declared.node.EmptyNode.{EmptyNode}
-use Rattle.raft_progress.specs.TrackedSteps.{IsTrackedRun}
+use Rattle.raft_progress.specs.tracked.TrackedSteps.{IsTrackedRun}
 use Rattle.raft_progress.specs.declared.progress.steps.Reply.{Reply}
-use Rattle.raft_progress.specs.declared.progress.steps.Step.{Step}
+use Rattle.raft_progress.specs.declared.tracked.step.Step.{Step}
 use Rattle.raft_script.specs.Engine.{EngineState, IsEngineStep, AnswersStep, by_number, same_node}
 
 abbrev IsReplay : EngineState → List (Step ℕ EmptyNode ℕ) → List (Reply ℕ ℕ) → EngineState → Type 0

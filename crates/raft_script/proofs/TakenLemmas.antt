@@ -6,7 +6,7 @@ use Rattle.std.proofs.lemmas.Bool.{true≢false}
 use Rattle.std.proofs.lemmas.Slice.Eq.{bytes_eq-Decides}
 use Rattle.raft_base.specs.declared.node.EmptyNode.{EmptyNode}
 use Rattle.raft_members.specs.declared.change_members.ChangeMembers.{ChangeMembers}
-use Rattle.raft_progress.specs.declared.progress.steps.Step.TheVariants.{Update, IncreaseTo, Change}
+use Rattle.raft_progress.specs.declared.tracked.step.Step.TheVariants.{Update, IncreaseTo, Change}
 use Rattle.raft_script.specs.Inner.Taken.{Lacks, LacksChange, LacksRetain, Takes, TakesChange, Whatever, left_in}
 use Rattle.raft_script.specs.Line.{◌▸◌, End, Is, SpellsNone, kind_word, retain_word, speaks_of}
 use Rattle.raft_script.specs.Word.{IsListOf, IsNumberOf}

@@ -6,16 +6,16 @@ use Rattle.std.specs.Set.{is_member}
 use Rattle.raft_base.specs.declared.node.EmptyNode.{EmptyNode}
 use Rattle.raft_members.specs.Majority.{is_voter_of}
 use Rattle.raft_members.specs.Members.{node_at}
-use Rattle.raft_progress.specs.Comparisons.{Comparisons}
-use Rattle.raft_progress.specs.CountedValue.{IsCounted}
-use Rattle.raft_progress.specs.Headline.{ChangedQuorumsKnowGranted, QuorumsKnowGranted}
-use Rattle.raft_progress.specs.Shown.{state}
-use Rattle.raft_progress.specs.Tracked.{tracked}
-use Rattle.raft_progress.specs.TrackedState as tracked_state
-use Rattle.raft_progress.specs.TrackedState.{TrackedShown, TrackedState, has_quorum}
-use Rattle.raft_progress.specs.TrackedSteps.{IsTrackedRun}
+use Rattle.raft_progress.specs.progress.Comparisons.{Comparisons}
+use Rattle.raft_progress.specs.progress.CountedValue.{IsCounted}
+use Rattle.raft_progress.specs.tracked.Headline.{ChangedQuorumsKnowGranted, QuorumsKnowGranted}
+use Rattle.raft_progress.specs.progress.Shown.{state}
+use Rattle.raft_progress.specs.tracked.Tracked.{tracked}
+use Rattle.raft_progress.specs.tracked.TrackedState as tracked_state
+use Rattle.raft_progress.specs.tracked.TrackedState.{TrackedShown, TrackedState, has_quorum}
+use Rattle.raft_progress.specs.tracked.TrackedSteps.{IsTrackedRun}
 use Rattle.raft_progress.specs.declared.progress.steps.Reply.{Reply}
-use Rattle.raft_progress.specs.declared.progress.steps.Step.{Step}
+use Rattle.raft_progress.specs.declared.tracked.step.Step.{Step}
 use Rattle.raft_script.specs.declared.script.engine.Engine.{Engine}
 
 -- an id's value is the part that is compared

@@ -1,9 +1,9 @@
 //! `raft_progress`: progresses, replays, and memberships with their progress.
 ghost use Rattle.std.specs.Prelude.{◌≡◌, IfOk};
-ghost use Rattle.raft_progress.specs.InOrder.{IsInOrder};
-ghost use Rattle.raft_progress.specs.Shown.{state};
-ghost use Rattle.raft_progress.specs.Steps.{falls};
-ghost use Rattle.raft_progress.specs.VecProgress.{shown};
+ghost use Rattle.raft_progress.specs.progress.InOrder.{IsInOrder};
+ghost use Rattle.raft_progress.specs.progress.Shown.{state};
+ghost use Rattle.raft_progress.specs.progress.Steps.{falls};
+ghost use Rattle.raft_progress.specs.progress.VecProgress.{shown};
 
 mod callers;
 mod calls;

@@ -4,7 +4,7 @@ use Rattle.std.specs.Ordering.{is_le, is_lt}
 use Rattle.std.specs.declared.cmp.Ordering.{Ordering}
 use Rattle.std.specs.Set.{is_member}
 use Rattle.std.specs.Map.{keys_of}
-use Rattle.raft_progress.specs.CountedValue.{AtMost}
+use Rattle.raft_progress.specs.progress.CountedValue.{AtMost}
 
 module _ {ID V P : Type 0} where
   -- whether the voter's part is at least p

@@ -4,7 +4,7 @@ use Rattle.std.specs.declared.cmp.Ordering.{Ordering}
 use Rattle.std.specs.Ordering.{is_lt}
 use Rattle.std.specs.List.{AllByRecursion}
 use Rattle.raft_progress.specs.Inner.Counts.{front_test}
-use Rattle.raft_progress.specs.Walk.{LastAtLeast}
+use Rattle.raft_progress.specs.progress.Walk.{LastAtLeast}
 
 module _ {ID V P : Type 0} (cmp : P → P → Ordering) (part : V → P) where
   -- the entry at `from` has passed the entries down to `to`, each with a lesser part

@@ -6,8 +6,8 @@ use Rattle.std.specs.List.{prefix_len}
 use Rattle.std.proofs.Common.{get_or}
 use Rattle.raft_progress.specs.Inner.Counts.{exceeds}
 use Rattle.raft_progress.specs.Inner.Rises.{IsLeastFront, RisesTo}
-use Rattle.raft_progress.specs.Shown.{Shown}
-use Rattle.raft_progress.specs.Statistics.{counted_up}
+use Rattle.raft_progress.specs.progress.Shown.{Shown}
+use Rattle.raft_progress.specs.progress.Statistics.{counted_up}
 
 -- the parts that no step changes
 pub record IsSameGroup {ID V P QS : Type 0} (old new : Shown ID V P QS) : Type 0 where

@@ -3,15 +3,15 @@ use Rattle.std.specs.Prelude.{Bool, List, Option}
 use Rattle.std.specs.declared.cmp.Ordering.{Ordering}
 use Rattle.raft_members.specs.Members.{MemberList}
 use Rattle.raft_members.specs.declared.change_members.ChangeMembers.{ChangeMembers}
-use Rattle.raft_progress.specs.Answered.{IsAnswered}
+use Rattle.raft_progress.specs.progress.Answered.{IsAnswered}
 use Rattle.raft_progress.specs.Inner.TakenOver.{TakesOver}
-use Rattle.raft_progress.specs.Shown.{Shown, state}
-use Rattle.raft_progress.specs.ShownSteps.{IsIncreasedTo, IsUpdatedTo}
-use Rattle.raft_progress.specs.Steps.{IsAnsweredUpgrade, IsIncreased, IsWritten}
-use Rattle.raft_progress.specs.TrackedShownSteps.{IsChangeFold}
-use Rattle.raft_progress.specs.TrackedState.{TrackedShown, tracked_state}
-use Rattle.raft_progress.specs.TrackedSteps.{IsChanged}
-use Rattle.raft_progress.specs.UpgradeFold.{IsUpgradeFold}
+use Rattle.raft_progress.specs.progress.Shown.{Shown, state}
+use Rattle.raft_progress.specs.progress.ShownSteps.{IsIncreasedTo, IsUpdatedTo}
+use Rattle.raft_progress.specs.progress.Steps.{IsAnsweredUpgrade, IsIncreased, IsWritten}
+use Rattle.raft_progress.specs.tracked.TrackedShownSteps.{IsChangeFold}
+use Rattle.raft_progress.specs.tracked.TrackedState.{TrackedShown, tracked_state}
+use Rattle.raft_progress.specs.tracked.TrackedSteps.{IsChanged}
+use Rattle.raft_progress.specs.progress.UpgradeFold.{IsUpgradeFold}
 use Rattle.raft_progress.specs.declared.progress.steps.Reply.{Reply}
 
 -- the answer of a progress

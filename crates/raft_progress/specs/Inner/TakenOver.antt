@@ -3,8 +3,8 @@ use Rattle.std.specs.Prelude.{◌≡◌}
 use Rattle.std.specs.declared.cmp.Ordering.{Ordering}
 use Rattle.std.specs.Prelude.{Bool}
 use Rattle.raft_members.specs.Members.{MemberList, members_of}
-use Rattle.raft_progress.specs.TrackedState.{TrackedState}
-use Rattle.raft_progress.specs.TrackedSteps.{GoesOver}
+use Rattle.raft_progress.specs.tracked.TrackedState.{TrackedState}
+use Rattle.raft_progress.specs.tracked.TrackedSteps.{GoesOver}
 use Rattle.raft_progress.specs.declared.progress.steps.Reply.{Reply}
 use Rattle.raft_progress.specs.declared.progress.steps.Reply.TheVariants.{Granted, Unknown, WouldFall, Refused, BelowDefault, BadLearners, OutOfMemory}
 

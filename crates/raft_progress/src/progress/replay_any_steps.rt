@@ -1,13 +1,13 @@
 //! Steps of a progress, and their replies.
 ghost use Rattle.std.specs.Prelude.{◌≡◌, IfOk, OnErr};
-ghost use Rattle.raft_progress.specs.Comparisons.{comparisons};
-ghost use Rattle.raft_progress.specs.CountedValue.{IsCounted};
-ghost use Rattle.raft_progress.specs.InOrder.{IsInOrder};
+ghost use Rattle.raft_progress.specs.progress.Comparisons.{comparisons};
+ghost use Rattle.raft_progress.specs.progress.CountedValue.{IsCounted};
+ghost use Rattle.raft_progress.specs.progress.InOrder.{IsInOrder};
 ghost use Rattle.raft_progress.specs.Inner.ShownAnswers.{IsShownIncrease, IsShownUpgrade, IsShownWrite};
-ghost use Rattle.raft_progress.specs.Shown.{state};
-ghost use Rattle.raft_progress.specs.ShownSteps.{IsShownRun, IsShownStep};
-ghost use Rattle.raft_progress.specs.VecProgress.{shown};
-ghost use Rattle.raft_progress.specs.Steps.{IsRun, falls, stays};
+ghost use Rattle.raft_progress.specs.progress.Shown.{state};
+ghost use Rattle.raft_progress.specs.progress.ShownSteps.{IsShownRun, IsShownStep};
+ghost use Rattle.raft_progress.specs.progress.VecProgress.{shown};
+ghost use Rattle.raft_progress.specs.progress.Steps.{IsRun, falls, stays};
 
 use super::part::ProgressPart;
 use super::steps::{AnyStep, Reply};
@@ -98,7 +98,7 @@ fn try_upgrade<
 }
 
 /// Writes a value where its part isn't below the present one.
-pub(super) fn write<
+pub(crate) fn write<
     ID: Copy + Ord,
     V: ProgressPart<P> + Drop,
     P: Copy + Ord,
@@ -118,7 +118,7 @@ pub(super) fn write<
 }
 
 /// Writes a value where it is greater than the present one, unless its part is below.
-pub(super) fn increase<
+pub(crate) fn increase<
     ID: Copy + Ord,
     V: ProgressPart<P> + PartialOrd + Drop,
     P: Copy + Ord,

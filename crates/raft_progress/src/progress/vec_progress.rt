@@ -47,19 +47,19 @@ impl<
     ghost use Rattle.std.specs.Option.{ForSome, option_copied, option_copied_mut};
     ghost use Rattle.std.specs.Map.{keys_of};
     ghost use Rattle.std.specs.List.{IsDistinct};
-    ghost use Rattle.raft_progress.specs.InOrder.{IsInOrder};
+    ghost use Rattle.raft_progress.specs.progress.InOrder.{IsInOrder};
     ghost use Rattle.raft_progress.specs.Inner.Settled.{IsPutInOrder, IsRaised, IsScanned};
     ghost use Rattle.raft_progress.specs.contracts.progress.vec_progress.VecProgress.{the_row};
-    ghost use Rattle.raft_progress.specs.Lends.{IsAnsweredUpdate, Leaves, LendsGranted, LendsValue, LendsWalk};
-    ghost use Rattle.raft_progress.specs.NewProgress.{IsFirstWalk, IsNew, LearnersFit};
-    ghost use Rattle.raft_progress.specs.ProgressState.{voter_of};
-    ghost use Rattle.raft_progress.specs.Shown.{learner_ids, state};
-    ghost use Rattle.raft_progress.specs.Updated.{IsGreaterOf, IsNotLower, IsNotLowerIfGreater, IsUpdated, NeverFalls};
-    ghost use Rattle.raft_progress.specs.Upgrade.{CanUpgrade, IsLeastBelow, IsUpgraded};
-    ghost use Rattle.raft_progress.specs.UpgradeFold.{IsUpgradeFold};
+    ghost use Rattle.raft_progress.specs.progress.Lends.{IsAnsweredUpdate, Leaves, LendsGranted, LendsValue, LendsWalk};
+    ghost use Rattle.raft_progress.specs.progress.NewProgress.{IsFirstWalk, IsNew, LearnersFit};
+    ghost use Rattle.raft_progress.specs.progress.ProgressState.{voter_of};
+    ghost use Rattle.raft_progress.specs.progress.Shown.{learner_ids, state};
+    ghost use Rattle.raft_progress.specs.progress.Updated.{IsGreaterOf, IsNotLower, IsNotLowerIfGreater, IsUpdated, NeverFalls};
+    ghost use Rattle.raft_progress.specs.progress.Upgrade.{CanUpgrade, IsLeastBelow, IsUpgraded};
+    ghost use Rattle.raft_progress.specs.progress.UpgradeFold.{IsUpgradeFold};
     ghost use Rattle.raft_progress.specs.Inner.Tests.{IsLeastPassing, among, is_value_below};
-    ghost use Rattle.raft_progress.specs.Statistics.{CountsGoOn, no_counts};
-    ghost use Rattle.raft_progress.specs.VecProgress.{shown};
+    ghost use Rattle.raft_progress.specs.progress.Statistics.{CountsGoOn, no_counts};
+    ghost use Rattle.raft_progress.specs.progress.VecProgress.{shown};
 
     /// Whether the learners fit a quorum set: none stands twice, and none is a voter.
     ///
@@ -504,9 +504,9 @@ impl<
 impl<ID: Copy + Ord, V: PartialEq, P: Copy + Ord, QS: PartialEq> PartialEq
     for VecProgress<ID, V, P, QS> {
     ghost use Rattle.std.specs.Cmp.{on_per};
-    ghost use Rattle.raft_progress.specs.Equal.{equal};
-    ghost use Rattle.raft_progress.specs.EqualLaws.{equal-per};
-    ghost use Rattle.raft_progress.specs.VecProgress.{shown};
+    ghost use Rattle.raft_progress.specs.progress.Equal.{equal};
+    ghost use Rattle.raft_progress.specs.progress.EqualLaws.{equal-per};
+    ghost use Rattle.raft_progress.specs.progress.VecProgress.{shown};
 
     ghost eq = { λ a b. equal ID.eq V.eq P.eq QS.eq (shown a) (shown b) };
 
@@ -524,19 +524,19 @@ impl<ID: Copy + Ord, V: PartialEq, P: Copy + Ord, QS: PartialEq> PartialEq
 
 impl<ID: Copy + Ord, V: Eq, P: Copy + Ord, QS: Eq> Eq for VecProgress<ID, V, P, QS> {
     ghost use Rattle.std.specs.Cmp.{on_equiv};
-    ghost use Rattle.raft_progress.specs.EqualLaws.{equal-equiv};
-    ghost use Rattle.raft_progress.specs.VecProgress.{shown};
+    ghost use Rattle.raft_progress.specs.progress.EqualLaws.{equal-equiv};
+    ghost use Rattle.raft_progress.specs.progress.VecProgress.{shown};
 
     ghost laws = { on_equiv shown (equal-equiv ID.Eq.laws V.Eq.laws P.Eq.laws QS.Eq.laws) };
 }
 
 impl<ID: Copy + Ord, V: Clone, P: Copy + Ord, QS: Drop> VecProgress<ID, V, P, QS> {
     ghost use Rattle.std.specs.Prelude.{◌≡◌, IfOk};
-    ghost use Rattle.raft_progress.specs.Equal.{IsCloned};
-    ghost use Rattle.raft_progress.specs.VecProgress.{shown};
+    ghost use Rattle.raft_progress.specs.progress.Equal.{IsCloned};
+    ghost use Rattle.raft_progress.specs.progress.VecProgress.{shown};
 
     /// A clone of the values over a quorum set, which reserves the room that `new` does.
-    pub(super) fn clone_over(&self, quorum_set: QS) -> Result<Self, AllocError>
+    pub(crate) fn clone_over(&self, quorum_set: QS) -> Result<Self, AllocError>
         ensures { IfOk result (λ made. IsCloned V.is_clone (λ old new. new ≡ quorum_set) (shown self.now) (shown made)) }
     {
         let alloc = *self.walk.allocator();
@@ -554,8 +554,8 @@ impl<ID: Copy + Ord, V: Clone, P: Copy + Ord, QS: Drop> VecProgress<ID, V, P, QS
 
 /// A clone reserves the room that `new` does.
 impl<ID: Copy + Ord, V: Clone, P: Copy + Ord, QS: Clone> Clone for VecProgress<ID, V, P, QS> {
-    ghost use Rattle.raft_progress.specs.Equal.{IsCloned};
-    ghost use Rattle.raft_progress.specs.VecProgress.{shown};
+    ghost use Rattle.raft_progress.specs.progress.Equal.{IsCloned};
+    ghost use Rattle.raft_progress.specs.progress.VecProgress.{shown};
 
     ghost is_clone = { λ old new. IsCloned V.is_clone QS.is_clone (shown old) (shown new) };
 
@@ -573,8 +573,8 @@ impl<ID: Copy + Ord, V: Clone + PartialEq, P: Copy + Ord, QS: Clone + PartialEq>
 > {
     ghost use Rattle.std.specs.Prelude.{IfOk, IsTrue};
     ghost use Rattle.std.specs.Set.{ClonesAreEqual};
-    ghost use Rattle.raft_progress.specs.Equal.{IsCloned, equal};
-    ghost use Rattle.raft_progress.specs.VecProgress.{shown};
+    ghost use Rattle.raft_progress.specs.progress.Equal.{IsCloned, equal};
+    ghost use Rattle.raft_progress.specs.progress.VecProgress.{shown};
 
     /// An equal progress, where clones of values and of quorum sets equal their sources.
     pub fn try_clone(&self) -> Result<Self, AllocError>
@@ -593,7 +593,7 @@ impl<ID: Copy + Ord, V: ProgressPart<P> + Drop, P: Copy + Ord, QS: QuorumSet<ID>
     P,
     QS,
 > for VecProgress<ID, V, P, QS> {
-    ghost use Rattle.raft_progress.specs.VecProgress.{shown};
+    ghost use Rattle.raft_progress.specs.progress.VecProgress.{shown};
 
     ghost shows = { shown };
 

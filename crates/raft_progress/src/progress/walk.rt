@@ -4,7 +4,7 @@ ghost use Rattle.std.specs.List.{AllZip};
 ghost use Rattle.std.specs.Fn.{FnOnceTakesAtMut};
 ghost use Rattle.std.specs.Option.{ForSome};
 ghost use Rattle.raft_progress.specs.Inner.Placed.{IsPlaced, IsWrittenAt};
-ghost use Rattle.raft_progress.specs.Lends.{Leaves};
+ghost use Rattle.raft_progress.specs.progress.Lends.{Leaves};
 
 use std::alloc::{AllocError, Global};
 

@@ -11,7 +11,7 @@ use super::engine::ScriptStep;
 use raft_base::EmptyNode;
 use raft_members::change_members::ChangeMembers;
 use raft_members::membership::IntoNodes;
-use raft_progress::progress::Step;
+use raft_progress::tracked::Step;
 use std::alloc::{AllocError, Global};
 use std::collections::{BTreeMap, BTreeSet};
 

@@ -3,7 +3,8 @@ ghost use Rattle.std.specs.Prelude.{◌≡◌};
 
 use raft_base::EmptyNode;
 use raft_members::membership::Membership;
-use raft_progress::progress::{Reply, Step, Tracked, replay};
+use raft_progress::progress::Reply;
+use raft_progress::tracked::{Step, Tracked, replay};
 use std::alloc::{AllocError, Global};
 use std::collections::BTreeSet;
 

@@ -1,24 +1,23 @@
 //! Whole callers, the first as on the page for callers.
-ghost use Rattle.raft_progress.specs.Comparisons.{comparisons};
-ghost use Rattle.raft_progress.specs.CountedValue.{IsCounted};
-ghost use Rattle.raft_progress.specs.Headline.{QuorumsKnowGranted};
-ghost use Rattle.raft_progress.specs.NewProgress.{IsNew};
-ghost use Rattle.raft_progress.specs.ProgressState.{ProgressState};
-ghost use Rattle.raft_progress.specs.Steps.{IsRun};
-ghost use Rattle.raft_progress.specs.TrackedState.{TrackedShown, tracked_state};
-ghost use Rattle.raft_progress.specs.TrackedSteps.{IsTrackedRun};
+ghost use Rattle.raft_progress.specs.progress.Comparisons.{comparisons};
+ghost use Rattle.raft_progress.specs.progress.CountedValue.{IsCounted};
+ghost use Rattle.raft_progress.specs.tracked.Headline.{QuorumsKnowGranted};
+ghost use Rattle.raft_progress.specs.progress.NewProgress.{IsNew};
+ghost use Rattle.raft_progress.specs.progress.ProgressState.{ProgressState};
+ghost use Rattle.raft_progress.specs.progress.Steps.{IsRun};
+ghost use Rattle.raft_progress.specs.tracked.TrackedState.{TrackedShown, tracked_state};
+ghost use Rattle.raft_progress.specs.tracked.TrackedSteps.{IsTrackedRun};
 ghost use Rattle.std.specs.Ordering.{nat_cmp};
 ghost use Rattle.std.specs.Prelude.{◌≡◌, IfOk, IfSome, List, ℕ, length};
 ghost use Rattle.std.specs.Set.{ClonesAreEqual};
-ghost use Rattle.raft_progress.specs.VecProgress.{shown};
+ghost use Rattle.raft_progress.specs.progress.VecProgress.{shown};
 
 use super::{first_ids, made};
 use raft_base::{EmptyNode, Node, NodeId};
 use raft_members::membership::Membership;
 use raft_members::quorum::QuorumSet;
-use raft_progress::progress::{
-    AnyStep, ProgressPart, Reply, Step, Tracked, VecProgress, replay, replay_any,
-};
+use raft_progress::progress::{AnyStep, ProgressPart, Reply, VecProgress, replay_any};
+use raft_progress::tracked::{Step, Tracked, replay};
 use std::alloc::{AllocError, Global};
 use std::collections::BTreeMap;
 use std::test::Fail;

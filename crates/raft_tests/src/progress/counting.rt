@@ -2,8 +2,8 @@
 
 ghost use Rattle.raft_members.specs.Majority.{is_majority};
 ghost use Rattle.raft_members.specs.MajorityLaws.{is_majority-superset};
-ghost use Rattle.raft_progress.specs.InOrder.{IsInOrder};
-ghost use Rattle.raft_progress.specs.VecProgress.{shown};
+ghost use Rattle.raft_progress.specs.progress.InOrder.{IsInOrder};
+ghost use Rattle.raft_progress.specs.progress.VecProgress.{shown};
 ghost use Rattle.std.specs.Ordering.{nat_cmp};
 ghost use Rattle.std.specs.Prelude.{nat_eq};
 ghost use Rattle.std.specs.Set.{is_member};

@@ -1,15 +1,15 @@
 use Rattle.std.proofs.Common.{◌≡◌, ◌∷◌, [], ◌++◌, List, ap, append_assoc, arith, length, refl, subst, sym, ◌∙◌}
 use Rattle.std.specs.Vec.Iter.{into_iter_items}
-use Rattle.raft_progress.specs.ProgressState.{IsSame}
-use Rattle.raft_progress.specs.Shown.{state}
-use Rattle.raft_progress.specs.ShownSteps.{IsShownRun, IsShownStep}
-use Rattle.raft_progress.specs.Steps.{IsStep}
-use Rattle.raft_progress.specs.VecProgress.{shown}
+use Rattle.raft_progress.specs.progress.ProgressState.{IsSame}
+use Rattle.raft_progress.specs.progress.Shown.{state}
+use Rattle.raft_progress.specs.progress.ShownSteps.{IsShownRun, IsShownStep}
+use Rattle.raft_progress.specs.progress.Steps.{IsStep}
+use Rattle.raft_progress.specs.progress.VecProgress.{shown}
 use Rattle.std.proofs.lemmas.List.{append-nil, nil_from_length}
 use Rattle.raft_progress.specs.declared.progress.steps.AnyStep.{AnyStep}
 use Rattle.raft_progress.specs.declared.progress.steps.Reply.{Reply}
-use Rattle.raft_progress.proofs.RunLemmas.{run_more, run_seen}
-use Rattle.raft_progress.proofs.Traits.{compared}
+use Rattle.raft_progress.proofs.progress.RunLemmas.{run_more, run_seen}
+use Rattle.raft_progress.proofs.progress.Traits.{compared}
 use Rattle.raft_progress.proofs.progress.replay_any_steps.replay_any.Goals as goal
 
 pub loop-step-preserved : goal.loop-step-preserved

@@ -1,7 +1,7 @@
 use Rattle.std.proofs.Common.{refl, sym, subst, true≢false}
-use Rattle.raft_progress.specs.CountedValue.{IsCounted}
-use Rattle.raft_progress.specs.Shown.{state}
-use Rattle.raft_progress.specs.VecProgress.{shown}
+use Rattle.raft_progress.specs.progress.CountedValue.{IsCounted}
+use Rattle.raft_progress.specs.progress.Shown.{state}
+use Rattle.raft_progress.specs.progress.VecProgress.{shown}
 use Rattle.raft_progress.proofs.progress.replay_any_steps.try_upgrade.Goals as goal
 
 pub returns-in-Some-clause-step : goal.returns-in-Some-clause-step

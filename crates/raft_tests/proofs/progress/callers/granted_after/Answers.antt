@@ -1,7 +1,7 @@
 use Rattle.std.proofs.Common.{subst, sym}
-use Rattle.raft_progress.specs.CountedValue.{IsCounted}
-use Rattle.raft_progress.specs.Shown.{state}
-use Rattle.raft_progress.specs.VecProgress.{shown}
+use Rattle.raft_progress.specs.progress.CountedValue.{IsCounted}
+use Rattle.raft_progress.specs.progress.Shown.{state}
+use Rattle.raft_progress.specs.progress.VecProgress.{shown}
 use Rattle.raft_tests.proofs.progress.callers.granted_after.Goals as goal
 
 pub returns : goal.returns

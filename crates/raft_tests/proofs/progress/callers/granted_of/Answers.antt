@@ -1,5 +1,5 @@
 use Rattle.std.proofs.Common.{ap, ◌∙◌}
-use Rattle.raft_progress.specs.Tracked.{tracked}
+use Rattle.raft_progress.specs.tracked.Tracked.{tracked}
 use Rattle.raft_tests.proofs.progress.callers.granted_of.Goals as goal
 
 pub returns : goal.returns

@@ -1,7 +1,7 @@
 use Rattle.std.proofs.Common.{nat_cmp, nat_eq}
 use Rattle.raft_members.specs.Majority.{is_majority}
-use Rattle.raft_progress.specs.InOrder.{IsInOrder}
-use Rattle.raft_progress.specs.VecProgress.{shown}
+use Rattle.raft_progress.specs.progress.InOrder.{IsInOrder}
+use Rattle.raft_progress.specs.progress.VecProgress.{shown}
 use Rattle.raft_tests.proofs.progress.counting.compare_replays.Given as goal
 
 abbrev pub invariant-loop-id : goal.invariant-loop-id

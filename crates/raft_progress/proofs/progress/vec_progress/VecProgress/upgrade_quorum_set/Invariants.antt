@@ -1,10 +1,10 @@
 use Rattle.std.proofs.Common.{take}
 use Rattle.std.specs.Map.{lookup}
-use Rattle.raft_progress.specs.InOrder.{IsInOrder}
-use Rattle.raft_progress.specs.Shown.{state}
-use Rattle.raft_progress.specs.Upgrade.{IsUpgraded}
-use Rattle.raft_progress.specs.UpgradeFold.{IsFold}
-use Rattle.raft_progress.specs.VecProgress.{shown}
+use Rattle.raft_progress.specs.progress.InOrder.{IsInOrder}
+use Rattle.raft_progress.specs.progress.Shown.{state}
+use Rattle.raft_progress.specs.progress.Upgrade.{IsUpgraded}
+use Rattle.raft_progress.specs.progress.UpgradeFold.{IsFold}
+use Rattle.raft_progress.specs.progress.VecProgress.{shown}
 use Rattle.raft_progress.proofs.progress.vec_progress.VecProgress.upgrade_quorum_set.Given as goal
 
 -- the entries so far have been taken over

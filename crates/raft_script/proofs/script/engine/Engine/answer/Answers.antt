@@ -2,8 +2,8 @@ use Rattle.std.specs.Prelude.{⊤, nat_eq}
 use Rattle.std.specs.Option.{option_map}
 use Rattle.std.proofs.Common.{Some, ap, sym, ◌∙◌}
 use Rattle.std.proofs.lemmas.Result.{MatchResult-from_err}
-use Rattle.raft_progress.specs.Tracked.{tracked}
-use Rattle.raft_progress.specs.TrackedState.{tracked_state}
+use Rattle.raft_progress.specs.tracked.Tracked.{tracked}
+use Rattle.raft_progress.specs.tracked.TrackedState.{tracked_state}
 use Rattle.raft_script.proofs.Replies.{answered}
 use Rattle.raft_script.proofs.script.engine.Engine.answer.Goals as goal
 

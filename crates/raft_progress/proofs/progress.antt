@@ -1,0 +1,26 @@
+pub mod CountedAfreshLemmas
+pub mod CountedValueLemmas
+pub mod FallingLemmas
+pub mod FoldLemmas
+pub mod FrontLemmas
+pub mod KeptLemmas
+pub mod LearnersFitLemmas
+pub mod LearnersPlaceLemmas
+pub mod MovedLemmas
+pub mod NewProgressLemmas
+pub mod OutcomeLemmas
+pub mod RecountLemmas
+pub mod RisingLemmas
+pub mod RunLemmas
+pub mod SettledLemmas
+pub mod StatisticsLemmas
+pub mod UpdateLemmas
+pub mod UpgradeLemmas
+pub mod VoterLemmas
+pub mod WalkLemmas
+pub mod InOrderLemmas
+mod LentLemmas
+pub mod BelowLemmas
+pub mod CloneLemmas
+pub mod StepLemmas
+pub mod Traits

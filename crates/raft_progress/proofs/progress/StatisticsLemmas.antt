@@ -1,0 +1,64 @@
+-- Counts over one update more.
+use Rattle.std.specs.Prelude.{◌≡◌, ℕ, ◌+◌, ◌*◌, ◌<◌, ◌≤◌, ◌^◌, Bool, true, false, Option, Some, None}
+use Rattle.std.specs.declared.cmp.Ordering.{Ordering}
+use Rattle.std.proofs.Common.{arith, ◌∙◌, refl, ap}
+use Rattle.raft_progress.specs.progress.Shown.{Shown, state}
+use Rattle.raft_progress.specs.progress.Statistics.{CountsGoOn, counted_up}
+use Rattle.raft_progress.specs.progress.Updated.{IsSettled, IsUpdated, rises_past_granted}
+use Rattle.raft_progress.specs.declared.progress.stat.Stat.{Stat}
+
+-- counting twice is counting the sum
+counted_twice : (old a b : ℕ) → counted_up (counted_up old a) b ≡ counted_up old (a + b)
+counted_twice old a b = omega arith
+
+counted_none : (old : ℕ) → old < 2 ^ 64 → old ≡ counted_up old 0
+counted_none old l = omega arith
+
+one_more : (n v : ℕ) → (n + 1) * v ≡ n * v + v
+one_more n v = omega arith
+
+-- no update yet
+pub counts_begin : (voters : ℕ) (s : Stat) → s.update_count < 2 ^ 64 → s.move_count < 2 ^ 64 → s.is_quorum_count < 2 ^ 64 → CountsGoOn 0 voters s s
+counts_begin voters s a b c = record {
+  updated = counted_none s.update_count a;
+  moved = (0, omega arith, counted_none s.move_count b);
+  tested = (0, omega arith, counted_none s.is_quorum_count c);
+}
+
+module _ {ID V P QS : Type 0} (eq : ID → ID → Bool) (cmp : P → P → Ordering) (part : V → P) (Left : V → V → Type 0) (n : ℕ) (s : Stat) (old : Shown ID V P QS) (id : ID) (new : Shown ID V P QS) (u : IsUpdated eq cmp part Left old id new) (c : CountsGoOn n old.voter_count s old.stat) where
+  same : new.voter_count ≡ old.voter_count
+  same = u.same_voter_count
+
+  updated_once : new.stat.update_count ≡ counted_up s.update_count (n + 1)
+  updated_once = u.counts ∙ ap (λ x. counted_up x 1) c.updated ∙ counted_twice s.update_count n 1
+
+  -- nothing but the update was counted
+  pub counts_unknown : new.stat.move_count ≡ old.stat.move_count → new.stat.is_quorum_count ≡ old.stat.is_quorum_count → CountsGoOn (n + 1) new.voter_count s new.stat
+  counts_unknown m q = record {
+    updated = updated_once;
+    moved = let w = c.moved in let l = w.1 in (w.0, omega arith, m ∙ w.2);
+    tested = let w = c.tested in let l = w.1 in let e = one_more n old.voter_count in (w.0, rw (same, e) (omega arith), q ∙ w.2);
+  }
+
+  counts_known : (v w : V) → IsSettled eq cmp part old id v w new → CountsGoOn (n + 1) new.voter_count s new.stat
+  counts_known v w t = record {
+    updated = updated_once;
+    moved = by (rises_past_granted eq cmp part old id v w) refl;
+    tested =
+        let x = c.tested in
+        let l = x.1 in
+        let h = t.at_most_voters in
+        let e = one_more n old.voter_count in
+        (x.0 + t.tests, rw (same, e) (omega arith), t.counts_tests ∙ ap (λ y. counted_up y t.tests) x.2 ∙ counted_twice s.is_quorum_count x.0 t.tests);
+  }
+    where
+      by : (b : Bool) → rises_past_granted eq cmp part old id v w ≡ b → (k : ℕ) × (k ≤ n + 1) × (new.stat.move_count ≡ counted_up s.move_count k)
+      by true h = let x = c.moved in let l = x.1 in (x.0 + 1, omega arith, (t.rises h).1 ∙ ap (λ y. counted_up y 1) x.2 ∙ counted_twice s.move_count x.0 1)
+      by false h = let x = c.moved in let l = x.1 in (x.0, omega arith, (t.stays h).1 ∙ x.2)
+
+  pub counts_more : CountsGoOn (n + 1) new.voter_count s new.stat
+  counts_more = by ((state eq old).value id) refl
+    where
+      by : (o : Option V) → (state eq old).value id ≡ o → CountsGoOn (n + 1) new.voter_count s new.stat
+      by None h = let k = u.unknown h in counts_unknown k.3 k.4
+      by (Some v) h = let k = u.known v h in counts_known v k.0 k.3

@@ -1,0 +1,5 @@
+pub mod ReadyLemmas
+pub mod TrackedCloneLemmas
+pub mod TrackedLemmas
+pub mod HeadlineLemmas
+pub mod ChangeLemmas

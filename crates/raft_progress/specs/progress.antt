@@ -1,0 +1,21 @@
+-- What a progress is and what its calls do.
+pub mod ProgressState
+pub mod CountedValue
+pub mod Walk
+pub mod InOrder
+pub mod Shown
+pub mod VecProgress
+pub mod NewProgress
+pub mod Statistics
+pub mod Updated
+pub mod Upgrade
+pub mod UpgradeFold
+pub mod Kept
+pub mod Lends
+pub mod Comparisons
+pub mod Run
+pub mod Answered
+pub mod Steps
+pub mod ShownSteps
+pub mod Equal
+pub mod EqualLaws

@@ -1,0 +1,40 @@
+-- What a progress becomes once what it lent has come back.
+use Rattle.std.specs.Prelude.{◌≡◌, Bool, [], ◌∷◌, OnSome, Option, Result}
+use Rattle.std.specs.Borrow.{Array, Bor, Fml, LendsSo, MutBor, RattleType, follows}
+use Rattle.std.specs.Fn.{FnOnceReturnsAtMut, Once}
+use Rattle.std.specs.Io.BufRead.{Rests}
+use Rattle.std.specs.declared.cmp.Ordering.{Ordering}
+use Rattle.std.specs.declared.cmp.Ord as order_ghosts
+use Rattle.std.specs.declared.cmp.PartialEq as eq_ghosts
+use Rattle.std.specs.declared.cmp.PartialOrd as partial_ghosts
+use base.Fml.{GName}
+use denote.Struct.Tuple.{Tuple}
+use Rattle.raft_progress.specs.progress.InOrder.{IsInOrder}
+use Rattle.raft_progress.specs.progress.Kept.{with_value}
+use Rattle.raft_progress.specs.progress.Shown.{Shown}
+use Rattle.raft_progress.specs.progress.Updated.{Answers, IsUpdated}
+use Rattle.raft_progress.specs.progress.VecProgress.{with_walk}
+use Rattle.raft_progress.specs.contracts.progress.vec_progress.VecProgress.{the_row}
+
+-- what a closure may leave of a value
+abbrev pub Leaves : {F T : Type 0} → Once F (MutBor T × Unit {0}) (Unit {0} × (MutBor T × Unit {0})) → F → T → T → Type 0
+Leaves call f v w = FnOnceReturnsAtMut call f v tt w
+
+-- after an update that was answered: the value went to another by Left, the progress is in order, and the answer is granted
+pub record IsAnsweredUpdate {ID V P QS : Type 0} (eq : ID → ID → Bool) (cmp : P → P → Ordering) (part : V → P) (has_quorum : QS → (ID → Bool) → Bool) (Left : V → V → Type 0) (id : ID) (result : Result (Bor P) (Bor P)) (old new : Shown ID V P QS) : Type 0 where
+  pub updated : IsUpdated eq cmp part Left old id new
+  pub ordered : IsInOrder eq cmp part has_quorum new
+  pub answers : Answers eq old id result (λ r. r.now) (λ r. r.now) new
+
+-- once granted has come back, what p shows is related to what it showed before
+abbrev pub LendsGranted : {ID V P QS : Type 0} (R : RattleType) → (R.Denot → Shown ID V P QS) → MutBor R.Denot → (Shown ID V P QS → Shown ID V P QS → Type 0) → Fml
+LendsGranted R shows p After = Rests R p (λ new. After (shows p.now) (shows new))
+
+-- once the value of an id has come back as w, p shows w there and nothing else has changed
+abbrev pub LendsValue : {ID P QS : Type 0} (R V : RattleType) → (R.Denot → Shown ID V.Denot P QS) → (ID → ID → Bool) → MutBor R.Denot → ID → Option (MutBor V.Denot) → Fml
+LendsValue R V shows eq p id value = LendsSo R V p value (λ new w. OnSome value (shows new ≡ with_value eq (shows p.now) id w)) (λ new. shows new ≡ shows p.now)
+
+module _ (ID V P QS : RattleType) (o : order_ghosts.Ghosts ID.Denot) (e : eq_ghosts.Ghosts ID.Denot) (q : partial_ghosts.Ghosts ID.Denot) where
+  -- once its entries have come back, p has as many others in its walk, and nothing else has changed
+  abbrev pub LendsWalk : MutBor (the_row ID V P QS o e q).Denot → GName → Fml
+  LendsWalk p name = follows (the_row ID V P QS o e q) (Array (Tuple (ID ∷ V ∷ [])) 0) p.ghost_name name (with_walk p.now)

@@ -1,0 +1,38 @@
+-- What a step does to all that a progress shows: to its walk, to what is granted and to the counts too.
+use Rattle.std.specs.Prelude.{◌≡◌, Bool, List, Option}
+use Rattle.std.specs.declared.cmp.Ordering.{Ordering}
+use Rattle.raft_progress.specs.progress.Answered.{IsAnswered}
+use Rattle.raft_progress.specs.progress.Comparisons.{Comparisons}
+use Rattle.raft_progress.specs.progress.Run.{Runs}
+use Rattle.raft_progress.specs.progress.Shown.{Shown, state}
+use Rattle.raft_progress.specs.progress.Steps.{IsStep}
+use Rattle.raft_progress.specs.progress.Updated.{IsGreaterOf, IsUpdated}
+use Rattle.raft_progress.specs.progress.UpgradeFold.{IsUpgradeFold}
+use Rattle.raft_progress.specs.declared.progress.steps.AnyStep.{AnyStep}
+use Rattle.raft_progress.specs.declared.progress.steps.AnyStep.TheVariants.{Update, IncreaseTo, Upgrade}
+use Rattle.raft_progress.specs.declared.progress.steps.Reply.{Reply}
+
+module _ {ID V P QS : Type 0} (eq : ID → ID → Bool) (cmp : P → P → Ordering) (part : V → P) where
+  -- the value of an id is updated to this one
+  abbrev pub IsUpdatedTo : Shown ID V P QS → ID → V → Shown ID V P QS → Type 0
+  IsUpdatedTo old id value new = IsUpdated eq cmp part (λ v w. w ≡ value) old id new
+
+  -- the value of an id is updated to this one where this one is greater, and else to itself
+  abbrev pub IsIncreasedTo : (V → V → Option Ordering) → Shown ID V P QS → ID → V → Shown ID V P QS → Type 0
+  IsIncreasedTo partial_cmp old id value new = IsUpdated eq cmp part (IsGreaterOf partial_cmp value) old id new
+
+module _ {ID V P QS : Type 0} (by : Comparisons ID V P) (has_quorum : QS → (ID → Bool) → Bool) (is_voter : QS → ID → Bool) where
+  -- a step that is not refused is an update, an increase or an upgrade
+  abbrev pub IsDone : Shown ID V P QS → AnyStep ID V QS → Shown ID V P QS → Type 0
+  IsDone old (Update id value) new = IsUpdatedTo by.eq by.cmp by.part old id value new
+  IsDone old (IncreaseTo id value) new = IsIncreasedTo by.eq by.cmp by.part by.partial_cmp old id value new
+  IsDone old (Upgrade quorum_set learners default) new = IsUpgradeFold by.eq by.id_cmp by.cmp by.part by.IsClone is_voter old quorum_set learners.items default new
+
+  -- a step of a progress, over all that it shows: its values go on as a step says, it is done or changes nothing, and the reply tells what is granted
+  pub record IsShownStep (old : Shown ID V P QS) (step : AnyStep ID V QS) (reply : Reply ID P) (new : Shown ID V P QS) : Type 0 where
+    pub values : IsStep by has_quorum is_voter (state by.eq old) step reply (state by.eq new)
+    pub answered : IsAnswered (λ p. p.granted) (IsDone old step) old reply new
+
+  -- the steps may be answered so, one after another
+  abbrev pub IsShownRun : Shown ID V P QS → List (AnyStep ID V QS) → List (Reply ID P) → Shown ID V P QS → Type 0
+  IsShownRun old steps replies new = Runs IsShownStep (λ a b. b ≡ a) old steps replies new

@@ -1,0 +1,60 @@
+-- What an update does to a progress, and what it answers.
+use Rattle.std.specs.Prelude.{◌≡◌, ℕ, ◌≤◌, Bool, ◌&&◌, Option, Some, None, if◌then◌else◌, IsOk, IsErr, Result, MatchResult, true, false}
+use Rattle.std.specs.declared.cmp.Ordering.{Ordering}
+use Rattle.std.specs.Option.{ForSome}
+use Rattle.std.specs.Ordering.{is_le, is_lt, partial_gt}
+use Rattle.std.specs.Map.{set_value}
+use Rattle.raft_progress.specs.progress.CountedValue.{AtMost}
+use Rattle.raft_progress.specs.progress.ProgressState.{Writes, IsSame}
+use Rattle.raft_progress.specs.progress.Statistics.{counted_up}
+use Rattle.raft_progress.specs.progress.Walk.{IsRisen}
+use Rattle.raft_progress.specs.progress.Shown.{Shown, state}
+
+module _ {ID V P QS : Type 0} (eq : ID → ID → Bool) (cmp : P → P → Ordering) (part : V → P) where
+  -- whether the id is a voter whose part has risen to one that exceeds what was granted
+  abbrev pub rises_past_granted : Shown ID V P QS → ID → V → V → Bool
+  rises_past_granted old id v w = (state eq old).is_voter id && (is_lt (cmp (part v) (part w)) && is_lt (cmp old.granted (part w)))
+
+  -- whether the id is a voter whose part was at most what was granted, and now exceeds it
+  abbrev pub passes_granted : Shown ID V P QS → ID → V → V → Bool
+  passes_granted old id v w = (state eq old).is_voter id && (is_le (cmp (part v) old.granted) && is_lt (cmp old.granted (part w)))
+
+  -- the walk, granted and the counts after the value of a known id went from v to w: a voter that rises past what was granted is risen in the walk, and quorums are tested only where granted may rise, at most one test a voter
+  pub record IsSettled (old : Shown ID V P QS) (id : ID) (v w : V) (new : Shown ID V P QS) : Type 0 where
+    pub rises : rises_past_granted old id v w ≡ true → IsRisen cmp part (eq id) (set_value (eq id) old.walk w) new.walk × (new.stat.move_count ≡ counted_up old.stat.move_count 1)
+    pub stays : rises_past_granted old id v w ≡ false → (new.walk ≡ set_value (eq id) old.walk w) × (new.stat.move_count ≡ old.stat.move_count)
+    pub tests : ℕ
+    pub counts_tests : new.stat.is_quorum_count ≡ counted_up old.stat.is_quorum_count tests
+    pub at_most_voters : tests ≤ old.voter_count
+    pub tested_to_rise : is_lt (cmp old.granted new.granted) ≡ true → 1 ≤ tests
+    pub not_tested : passes_granted old id v w ≡ false → (tests ≡ 0) × (new.granted ≡ old.granted)
+
+  -- after an update of an id, whose value went to another by Left; of an unknown id only the update is counted
+  pub record IsUpdated (Left : V → V → Type 0) (old : Shown ID V P QS) (id : ID) (new : Shown ID V P QS) : Type 0 where
+    pub counts : new.stat.update_count ≡ counted_up old.stat.update_count 1
+    pub same_voter_count : new.voter_count ≡ old.voter_count
+    pub known : (v : V) → (state eq old).value id ≡ Some v → (w : V) × Left v w × Writes eq (state eq old) id w (state eq new) × IsSettled old id v w new
+    pub unknown : (state eq old).value id ≡ None → IsSame (state eq old) (state eq new) × (new.walk ≡ old.walk) × (new.granted ≡ old.granted) × (new.stat.move_count ≡ old.stat.move_count) × (new.stat.is_quorum_count ≡ old.stat.is_quorum_count)
+
+module _ {ID V P QS : Type 0} (eq : ID → ID → Bool) (cmp : P → P → Ordering) (part : V → P) where
+  -- the part of the value that an id has is not above that of another value
+  abbrev pub IsNotLower : Shown ID V P QS → ID → V → Type 0
+  IsNotLower old id value = ForSome ((state eq old).value id) (λ v. AtMost cmp (part v) (part value))
+
+  -- nor where the other value is greater
+  abbrev pub IsNotLowerIfGreater : (V → V → Option Ordering) → Shown ID V P QS → ID → V → Type 0
+  IsNotLowerIfGreater partial_cmp old id value = ForSome ((state eq old).value id) (λ v. partial_gt partial_cmp value v ≡ true → AtMost cmp (part v) (part value))
+
+  -- nor is it above that of any value that Left says may be left of it
+  abbrev pub NeverFalls : (V → V → Type 0) → Shown ID V P QS → ID → Type 0
+  NeverFalls Left old id = (v w : V) → (state eq old).value id ≡ Some v → Left v w → AtMost cmp (part v) (part w)
+
+-- the greater of a value and one that was there
+abbrev pub IsGreaterOf : {V : Type 0} → (V → V → Option Ordering) → V → V → V → Type 0
+IsGreaterOf partial_cmp value v w = w ≡ (if partial_gt partial_cmp value v then value else v)
+
+-- what an update answers: granted, as Ok for a known id and as Err for an unknown one
+pub record Answers {ID V P QS : Type 0} (eq : ID → ID → Bool) (old : Shown ID V P QS) (id : ID) {A B : Type 0} (result : Result A B) (now : A → P) (now' : B → P) (new : Shown ID V P QS) : Type 0 where
+  pub granted : MatchResult result (λ r. now r ≡ new.granted) (λ r. now' r ≡ new.granted)
+  pub known : (v : V) → (state eq old).value id ≡ Some v → IsOk result
+  pub unknown : (state eq old).value id ≡ None → IsErr result

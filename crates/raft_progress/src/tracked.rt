@@ -1,0 +1,116 @@
+//! A membership and the progress that counts by it; both change only together.
+ghost use Rattle.std.specs.Prelude.{◌≡◌, IfOk};
+ghost use Rattle.raft_members.specs.Members.{members_of};
+ghost use Rattle.raft_progress.specs.tracked.TrackedState.{AreLearners, IsReady};
+ghost use Rattle.raft_progress.specs.progress.VecProgress.{shown};
+
+mod replay_steps;
+mod step;
+
+use crate::progress::{ProgressPart, VecProgress};
+use raft_base::{Node, NodeId};
+use raft_members::membership::Membership;
+use raft_members::quorum::Joint;
+pub use replay_steps::replay;
+use std::alloc::{AllocError, Global};
+pub use step::Step;
+
+/// The progress of a membership's voters, by the quorums of its configs, and of its learners.
+pub type MembershipProgress<NID, V, P> = VecProgress<
+    NID,
+    V,
+    P,
+    Joint<NID, Vec<NID>, Vec<Vec<NID>>>,
+>;
+
+/// A membership, and the progress of its voters and learners.
+///
+/// A quorum of the progress is a quorum of the membership, and its learners are the membership's.
+/// Both change only together, by `replay`. So the progress is always in order, and counts by the
+/// membership.
+#[derive(Debug, PartialEq, Eq, Drop)]
+pub struct Tracked<NID: NodeId, N: Node, V: ProgressPart<P>, P: Copy + Ord> {
+    membership: Membership<NID, N>,
+    progress: MembershipProgress<NID, V, P>,
+    pub ghost ready: { ∥ IsReady NID.eq NID.cmp P.cmp V.part_of (record { membership = membership; progress = shown progress }) ∥₁ },
+}
+
+impl<NID: NodeId, N: Node, V: ProgressPart<P> + Drop, P: Copy + Ord> Tracked<NID, N, V, P> {
+    ghost use Rattle.std.specs.Prelude.{◌≡◌, IfOk};
+    ghost use Rattle.raft_progress.specs.tracked.Tracked.{tracked};
+    ghost use Rattle.raft_progress.specs.tracked.TrackedNew.{BeginsOver};
+    ghost use Rattle.raft_progress.specs.tracked.TrackedState.{IsReady};
+    ghost use Rattle.raft_progress.specs.progress.VecProgress.{shown};
+
+    /// The membership, with a progress in which each voter and each learner has a clone of the
+    /// default.
+    pub fn new(membership: Membership<NID, N>, default: V) -> Result<Self, AllocError>
+    where
+        V: Clone,
+        requires clones_have_the_part { (w : V) → V.is_clone default w → V.part_of w ≡ V.part_of default }
+        ensures membership { IfOk result (λ made. (tracked made).membership ≡ membership) }
+        ensures progress { IfOk result (λ made. BeginsOver NID.eq NID.cmp P.cmp V.part_of V.is_clone default (tracked made)) }
+        ensures granted { IfOk result (λ made. (tracked made).progress.granted ≡ V.part_of default) }
+        ensures ready { IfOk result (λ made. IsReady NID.eq NID.cmp P.cmp V.part_of (tracked made)) }
+    {
+        let alloc = *membership.get_joint_config().allocator();
+        let configs = membership.to_quorum_set()?;
+        let learners = learners_of(alloc, &membership)?;
+        let progress = VecProgress::new(alloc, configs, &learners, default)?;
+        Ok(Tracked {
+            membership,
+            progress,
+        })
+    }
+
+    /// The membership.
+    pub fn membership(&self) -> &Membership<NID, N>
+        ensures { result.now ≡ (tracked self.now).membership }
+    {
+        &self.membership
+    }
+
+    /// The progress of its voters and learners.
+    pub fn progress(&self) -> &MembershipProgress<NID, V, P>
+        ensures { shown result.now ≡ (tracked self.now).progress }
+    {
+        &self.progress
+    }
+}
+
+impl<NID: NodeId, N: Node, V: ProgressPart<P> + Clone + Drop, P: Copy + Ord> Tracked<NID, N, V, P> {
+    ghost use Rattle.std.specs.Prelude.{◌≡◌, IfOk, IsTrue};
+    ghost use Rattle.std.specs.Set.{ClonesAreEqual};
+    ghost use Rattle.raft_members.specs.Members.{same_members};
+    ghost use Rattle.raft_progress.specs.progress.Equal.{IsCloned};
+    ghost use Rattle.raft_progress.specs.tracked.Tracked.{tracked};
+    ghost use Rattle.raft_progress.specs.tracked.TrackedState.{HasSameConfigs};
+
+    /// An equal membership, with a progress that has a clone of each value and all else the same.
+    pub fn try_clone(&self) -> Result<Self, AllocError>
+        requires clones_have_the_part { (v w : V) → V.is_clone v w → V.part_of w ≡ V.part_of v }
+        requires clones_of_nodes_are_equal { ClonesAreEqual N.eq N.is_clone }
+        ensures membership { IfOk result (λ made. IsTrue (same_members NID.eq N.eq
+            (tracked self.now).membership (tracked made).membership)) }
+        ensures progress { IfOk result (λ made. IsCloned V.is_clone HasSameConfigs
+            (tracked self.now).progress (tracked made).progress) }
+    {
+        let membership = self.membership.try_clone()?;
+        let configs = membership.to_quorum_set()?;
+        let progress = self.progress.clone_over(configs)?;
+        Ok(Tracked {
+            membership,
+            progress,
+        })
+    }
+}
+
+/// The learners of a membership.
+fn learners_of<NID: NodeId, N: Node>(
+    alloc: Global,
+    membership: &Membership<NID, N>,
+) -> Result<Vec<NID>, AllocError>
+    ensures { IfOk result (λ ids. AreLearners NID.eq (members_of NID.cmp membership.now) ids.items) }
+{
+    membership.learner_ids().collect(alloc)
+}

@@ -1,0 +1,131 @@
+//! A replay of steps on a membership and its progress.
+ghost use Rattle.std.specs.Prelude.{◌≡◌, IfOk, OnErr};
+ghost use Rattle.std.specs.Set.{ClonesAreEqual};
+ghost use Rattle.raft_progress.specs.progress.Comparisons.{comparisons};
+ghost use Rattle.raft_progress.specs.progress.CountedValue.{IsCounted};
+ghost use Rattle.raft_progress.specs.tracked.Headline.{ChangedQuorumsKnowGranted, QuorumsKnowGranted};
+ghost use Rattle.raft_progress.specs.Inner.ShownAnswers.{IsShownChange, IsShownTakeOver};
+ghost use Rattle.raft_progress.specs.progress.Shown.{state};
+ghost use Rattle.raft_progress.specs.tracked.Tracked.{tracked};
+ghost use Rattle.raft_progress.specs.tracked.TrackedShownSteps.{IsTrackedShownRun, IsTrackedShownStep};
+ghost use Rattle.raft_progress.specs.tracked.TrackedState.{IsReady, has_quorum, tracked_state};
+ghost use Rattle.raft_progress.specs.tracked.TrackedSteps.{IsTrackedRun};
+
+use super::step::Step;
+use super::{Tracked, learners_of};
+use crate::progress::{ProgressPart, Reply, increase, write};
+use raft_base::{Node, NodeId};
+use raft_members::change_members::ChangeMembers;
+use raft_members::error::ChangeMembershipError;
+use raft_members::membership::Membership;
+use std::alloc::{AllocError, Global};
+
+/// Makes one step.
+fn answer<NID: NodeId, N: Node, V: ProgressPart<P> + PartialOrd + Clone + Drop, P: Copy + Ord>(
+    pair: &mut Tracked<NID, N, V, P>,
+    step: Step<NID, N, V>,
+) -> Reply<NID, P>
+    requires clones_have_the_part { (v w : V) → V.is_clone v w → V.part_of w ≡ V.part_of v }
+    requires clones_of_nodes_are_equal { ClonesAreEqual N.eq N.is_clone }
+    ensures { let by = comparisons NID.Ord P.Ord V.PartialOrd V.ProgressPart V.Clone in
+        IsTrackedShownStep by N.eq (tracked pair.old) step result (tracked pair.new) }
+{
+    match step {
+        Step::Update(id, value) => write(&mut pair.progress, &id, value),
+        Step::IncreaseTo(id, value) => increase(&mut pair.progress, &id, value),
+        Step::Change {
+            change,
+            retain,
+            default,
+        } => change_members(pair, change, retain, default),
+    }
+}
+
+/// Changes the membership and goes over to the changed one, or leaves the pair as it is.
+fn change_members<NID: NodeId, N: Node, V: ProgressPart<P> + Clone + Drop, P: Copy + Ord>(
+    pair: &mut Tracked<NID, N, V, P>,
+    change: ChangeMembers<NID, N>,
+    retain: bool,
+    default: V,
+) -> Reply<NID, P>
+    requires clones_have_the_part { (v w : V) → V.is_clone v w → V.part_of w ≡ V.part_of v }
+    requires clones_of_nodes_are_equal { ClonesAreEqual N.eq N.is_clone }
+    ensures { IsShownChange NID.eq NID.cmp N.eq P.cmp V.part_of V.is_clone
+        (tracked pair.old) change retain default result (tracked pair.new) }
+{
+    match pair.membership.change(change, retain) {
+        Ok(next) => match take_over(pair, next, default) {
+            Ok(reply) => reply,
+            Err(_) => Reply::OutOfMemory,
+        },
+        Err(ChangeMembershipError::EmptyMembership(_)) => Reply::Refused(None),
+        Err(ChangeMembershipError::LearnerNotFound(missing)) => Reply::Refused(Some(
+            missing.node_id,
+        )),
+        Err(ChangeMembershipError::OutOfMemory) => Reply::OutOfMemory,
+        // `change` refuses nothing for an earlier change.
+        Err(ChangeMembershipError::InProgress(_)) => unreachable!(),
+    }
+}
+
+/// Puts a membership and a progress over it in place of the old ones, unless an inherited value is
+/// below the new default.
+fn take_over<NID: NodeId, N: Node, V: ProgressPart<P> + Clone + Drop, P: Copy + Ord>(
+    pair: &mut Tracked<NID, N, V, P>,
+    next: Membership<NID, N>,
+    default: V,
+) -> Result<Reply<NID, P>, AllocError>
+    requires clones_have_the_part { (v w : V) → V.is_clone v w → V.part_of w ≡ V.part_of v }
+    ensures step { IfOk result (λ reply. IsShownTakeOver NID.eq NID.cmp P.cmp V.part_of V.is_clone
+        (tracked pair.old) next default reply (tracked pair.new)) }
+    ensures err { OnErr result (tracked pair.new ≡ tracked pair.old) }
+{
+    let alloc = *next.get_joint_config().allocator();
+    let configs = next.to_quorum_set()?;
+    let learners = learners_of(alloc, &next)?;
+    match pair.progress.least_below(&configs, &learners, &default)? {
+        Some(id) => Ok(Reply::BelowDefault(id)),
+        None => {
+            let upgraded = pair
+                .progress
+                .upgrade_quorum_set(configs, &learners, default)?;
+            pair.progress = upgraded;
+            pair.membership = next;
+            Ok(Reply::Granted(*pair.progress.granted()))
+        }
+    }
+}
+
+/// Makes the steps in order, with a reply for each.
+///
+/// Room for the replies is taken first: where it is refused nothing has changed. A step that is
+/// refused changes nothing either, and the next one is made.
+///
+/// What is granted at the end is counted afresh over the values and the membership as they then
+/// stand. Where that membership has a config, every quorum of it, and of each that one change makes of
+/// it, has a voter whose part is at least granted.
+pub fn replay<NID: NodeId, N: Node, V: ProgressPart<P> + PartialOrd + Clone + Drop, P: Copy + Ord>(
+    alloc: Global,
+    pair: &mut Tracked<NID, N, V, P>,
+    steps: Vec<Step<NID, N, V>>,
+) -> Result<Vec<Reply<NID, P>>, AllocError>
+    requires clones_have_the_part { (v w : V) → V.is_clone v w → V.part_of w ≡ V.part_of v }
+    requires clones_of_nodes_are_equal { ClonesAreEqual N.eq N.is_clone }
+    ensures run { let by = comparisons NID.Ord P.Ord V.PartialOrd V.ProgressPart V.Clone in
+        IfOk result (λ replies. IsTrackedRun by N.eq
+        (tracked_state NID.eq (tracked pair.old)) steps.items replies.items (tracked_state NID.eq (tracked pair.new))) }
+    ensures shown_run { let by = comparisons NID.Ord P.Ord V.PartialOrd V.ProgressPart V.Clone in
+        IfOk result (λ replies. IsTrackedShownRun by N.eq (tracked pair.old) steps.items replies.items (tracked pair.new)) }
+    ensures ready { IsReady NID.eq NID.cmp P.cmp V.part_of (tracked pair.new) }
+    ensures granted { IsCounted P.cmp V.part_of (has_quorum NID.eq) (state NID.eq (tracked pair.new).progress) (tracked pair.new).progress.granted }
+    ensures quorums { QuorumsKnowGranted NID.eq P.cmp V.part_of (tracked pair.new) }
+    ensures changed_quorums { ChangedQuorumsKnowGranted NID.eq NID.cmp P.cmp V.part_of (tracked pair.new) }
+    ensures err { OnErr result (tracked pair.new ≡ tracked pair.old) }
+{
+    let mut replies = Vec::with_capacity(alloc, steps.len())?;
+    for step in steps {
+        let reply = answer(pair, step);
+        replies.push_reserved(reply);
+    }
+    Ok(replies)
+}
