@@ -1,3 +1,4 @@
+pub mod ListLemmas
 pub mod CountedAfreshLemmas
 pub mod CountedValueLemmas
 pub mod FallingLemmas
