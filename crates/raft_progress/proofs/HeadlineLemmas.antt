@@ -20,9 +20,9 @@ use Rattle.raft_progress.specs.progress.CountedValue.{AtMost, has_part, reached}
 use Rattle.raft_progress.specs.progress.InOrder.{IsInOrder}
 use Rattle.raft_progress.specs.progress.Shown.{Shown, state}
 use Rattle.raft_progress.specs.tracked.TrackedState.{IsReady, TrackedShown, has_quorum}
-use Rattle.raft_progress.proofs.progress.RecountLemmas.{AtMost-from_not_lt, AtMost-trans}
-use Rattle.raft_progress.proofs.progress.UpdateLemmas.{lookup_alike}
-use Rattle.raft_progress.proofs.progress.ListLemmas.{both}
+use Rattle.raft_progress.proofs.RecountLemmas.{AtMost-from_not_lt, AtMost-trans}
+use Rattle.raft_progress.proofs.UpdateLemmas.{lookup_alike}
+use Rattle.raft_progress.proofs.ListLemmas.{both}
 use Rattle.raft_members.proofs.CallerLemmas.{is_member-alike}
 
 -- a member of the first keys has a value

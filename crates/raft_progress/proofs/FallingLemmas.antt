@@ -10,8 +10,8 @@ use Rattle.std.proofs.Common.{arith, sym, ap, refl, ◌∙◌, true≢false, suc
 use Rattle.raft_progress.specs.progress.CountedValue.{AtMost}
 use Rattle.raft_progress.specs.progress.Walk.{LastAtLeast}
 use Rattle.raft_progress.specs.progress.Walk.{IsFalling}
-use Rattle.raft_progress.proofs.progress.RecountLemmas.{AtMost-trans, AtMost-from_lt}
-use Rattle.raft_progress.proofs.progress.ListLemmas.{all_weaker}
+use Rattle.raft_progress.proofs.RecountLemmas.{AtMost-trans, AtMost-from_lt}
+use Rattle.raft_progress.proofs.ListLemmas.{all_weaker}
 
 pub nothing_kept : {X : Type 0} (p : X → Bool) (xs : List X) → AllByRecursion (λ x. p x ≡ false) xs → filter p xs ≡ []
 nothing_kept p [] a = refl

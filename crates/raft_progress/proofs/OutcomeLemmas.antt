@@ -20,12 +20,12 @@ use Rattle.raft_progress.specs.progress.ProgressState.{Writes}
 use Rattle.raft_progress.specs.progress.Shown.{Shown, state}
 use Rattle.raft_progress.specs.progress.Statistics.{counted_up}
 use Rattle.raft_progress.specs.progress.Walk.{IsRisen, state_of}
-use Rattle.raft_progress.proofs.progress.RecountLemmas.{AtMost-from_not_lt}
-use Rattle.raft_progress.proofs.progress.MovedLemmas.{is_risen}
-use Rattle.raft_progress.proofs.progress.SettledLemmas as settles
-use Rattle.raft_progress.proofs.progress.UpdateLemmas.{same_keys, lookup_written, writes}
-use Rattle.raft_progress.proofs.progress.ListLemmas.{of_both}
-use Rattle.raft_progress.proofs.progress.StatisticsLemmas.{counted_none}
+use Rattle.raft_progress.proofs.RecountLemmas.{AtMost-from_not_lt}
+use Rattle.raft_progress.proofs.MovedLemmas.{is_risen}
+use Rattle.raft_progress.proofs.SettledLemmas as settles
+use Rattle.raft_progress.proofs.UpdateLemmas.{same_keys, lookup_written, writes}
+use Rattle.raft_progress.proofs.ListLemmas.{of_both}
+use Rattle.raft_progress.proofs.StatisticsLemmas.{counted_none}
 
 -- an id's value went from v to w; the walk was ws, and mid has it written
 pub record Outcome {ID V P QS : Type 0} (eq : ID → ID → Bool) (cmp : P → P → Ordering) (part : V → P) (has_quorum : QS → (ID → Bool) → Bool) (mid : Shown ID V P QS) (ws : List (ID × V)) (id : ID) (v w : V) (new : Shown ID V P QS) : Type 0 where

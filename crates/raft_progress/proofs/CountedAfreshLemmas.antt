@@ -14,7 +14,7 @@ use Rattle.std.proofs.lemmas.List.Elements.{All-contains, All-take, All-from_rec
 use Rattle.raft_progress.specs.progress.CountedValue.{AtMost, IsCounted, has_part, reached}
 use Rattle.raft_progress.specs.Inner.Counts.{IsGreatest, at_least, reaches}
 use Rattle.raft_progress.specs.progress.Walk.{state_of}
-use Rattle.raft_progress.proofs.progress.ListLemmas.{all_weaker, or_right}
+use Rattle.raft_progress.proofs.ListLemmas.{all_weaker, or_right}
 
 module _ {ID : Type 0} {eq : ID → ID → Bool} (laws : IsEquivalence eq) where
   -- a key that is apart from all keys is not among the first of them

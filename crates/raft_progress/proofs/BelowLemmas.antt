@@ -10,11 +10,11 @@ use Rattle.std.specs.List.{AllByRecursion, list_any}
 use Rattle.std.proofs.Common.{sym, ap, refl, ◌∙◌, true≢false}
 use Rattle.raft_progress.specs.progress.Upgrade.{CanUpgrade, IsBelow, IsLeastBelow}
 use Rattle.raft_progress.specs.Inner.Tests.{IsLeastPassing, among, comes_before, is_value_below}
-use Rattle.raft_progress.proofs.progress.FallingLemmas.{all_both, all_weaker}
-use Rattle.raft_progress.proofs.progress.RecountLemmas.{AtMost-refl, AtMost-trans, AtMost-from_lt, AtMost-from_not_lt}
-use Rattle.raft_progress.proofs.progress.CountedValueLemmas.{not_both}
-use Rattle.raft_progress.proofs.progress.UpdateLemmas.{lookup_alike}
-use Rattle.raft_progress.proofs.progress.ListLemmas.{both, member_flipped}
+use Rattle.raft_progress.proofs.FallingLemmas.{all_both}
+use Rattle.raft_progress.proofs.RecountLemmas.{AtMost-refl, AtMost-trans, AtMost-from_lt, AtMost-from_not_lt}
+use Rattle.raft_progress.proofs.CountedValueLemmas.{not_both}
+use Rattle.raft_progress.proofs.UpdateLemmas.{lookup_alike}
+use Rattle.raft_progress.proofs.ListLemmas.{all_weaker, both, member_flipped}
 use Rattle.raft_members.proofs.CallerLemmas.{is_member-alike}
 
 -- ---- one entry more

@@ -6,7 +6,7 @@ use Rattle.std.specs.List.{IsDistinct, AllByRecursion, list_any}
 use Rattle.std.proofs.Common.{sym, ap, refl, ◌∙◌, true≢false}
 use Rattle.raft_progress.specs.Inner.Tests.{apart}
 use Rattle.raft_progress.specs.progress.NewProgress.{LearnersFit}
-use Rattle.raft_progress.proofs.progress.ListLemmas.{member_flipped, or_right}
+use Rattle.raft_progress.proofs.ListLemmas.{member_flipped, or_right}
 use Rattle.raft_members.proofs.CallerLemmas.{is_member-alike}
 
 module _ {ID : Type 0} {eq : ID → ID → Bool} (laws : IsEquivalence eq) where
@@ -44,4 +44,3 @@ module _ {ID : Type 0} {eq : ID → ID → Bool} (laws : IsEquivalence eq) where
   fits_apart voters is_voter v (k ∷ ks) f =
       rw (some_alike ks k f.distinct.0, member_flipped laws voters k ∙ v k ∙ f.no_voters k (ap (λ b. b || is_member eq ks k) (laws.refl k)))
       (fits_apart voters is_voter v ks record { distinct = f.distinct.1; no_voters = λ x m. f.no_voters x (or_right (eq x k) (is_member eq ks x) m) })
-    where

@@ -8,7 +8,7 @@ use Rattle.std.proofs.Common.{ap, subst, suc, sym, ◌∙◌, get_or}
 use Rattle.std.proofs.lemmas.List.{take_more}
 use Rattle.raft_progress.specs.progress.Equal.{IsCloned, equal}
 use Rattle.raft_progress.specs.progress.Shown.{Shown}
-use Rattle.raft_progress.proofs.progress.ListLemmas.{both}
+use Rattle.raft_progress.proofs.ListLemmas.{both}
 use Rattle.std.proofs.lemmas.Slice.Zip.{all_zipped_more}
 
 pub zip_step : {A B : Type 0} (R : A → B → Type 0) (xs : List A) (i : ℕ) (x : A) (ys zs : List B) (y : B) → i < length xs → x ≡ get_or xs i x → AllZip R (take i xs) ys → zs ≡ ys ++ y ∷ [] → R x y → AllZip R (take (i + 1) xs) zs

@@ -15,13 +15,13 @@ use Rattle.raft_progress.specs.progress.CountedValue.{AtMost, IsCounted, IsReach
 use Rattle.raft_progress.specs.Inner.Counts.{at_least, exceeds, front_test, reaches}
 use Rattle.raft_progress.specs.progress.ProgressState.{ProgressState}
 use Rattle.raft_progress.specs.progress.Walk.{IsFalling, state_of}
-use Rattle.raft_progress.proofs.progress.RecountLemmas.{AtMost-refl, AtMost-trans, AtMost-from_lt, AtMost-from_not_lt}
-use Rattle.raft_progress.proofs.progress.CountedAfreshLemmas.{absent, members, found, same_test, voter_value}
-use Rattle.raft_progress.proofs.progress.FallingLemmas.{filter_is_front, in_front, all_get, lt_le, le_lt}
-use Rattle.raft_progress.proofs.progress.FrontLemmas.{front_grows}
-use Rattle.raft_progress.proofs.progress.RisingLemmas.{split_at}
-use Rattle.raft_progress.proofs.progress.UpdateLemmas.{lookup_alike}
-use Rattle.raft_progress.proofs.progress.ListLemmas.{of_both}
+use Rattle.raft_progress.proofs.RecountLemmas.{AtMost-refl, AtMost-trans, AtMost-from_lt, AtMost-from_not_lt}
+use Rattle.raft_progress.proofs.CountedAfreshLemmas.{absent, members, found, same_test, voter_value}
+use Rattle.raft_progress.proofs.FallingLemmas.{filter_is_front, in_front, all_get, lt_le, le_lt}
+use Rattle.raft_progress.proofs.FrontLemmas.{front_grows}
+use Rattle.raft_progress.proofs.RisingLemmas.{split_at}
+use Rattle.raft_progress.proofs.UpdateLemmas.{lookup_alike}
+use Rattle.raft_progress.proofs.ListLemmas.{of_both}
 use Rattle.raft_members.proofs.CallerLemmas.{is_member-alike}
 
 -- whether a value is there and passes
