@@ -94,7 +94,7 @@ impl<C: Ord + Copy> LogIdListOf<C> {
         ensures { result ≡ (all_follow C.cmp (last_id (full_log self.now)) (map LID.id_of new_ids.now)
             && ends_share_leader C.eq (map LID.id_of new_ids.now)) }
     {
-        self.can_extend(new_ids) && keys::share_leader(new_ids.first(), new_ids.last())
+        self.can_extend(new_ids) && keys::share_leader(new_ids)
     }
 
     /// Appends log ids, one after the other. Room for a key each is taken first.

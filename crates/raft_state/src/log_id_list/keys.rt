@@ -1,6 +1,5 @@
 //! The work of a list over plain keys. The list keeps them in order.
-ghost use Rattle.std.specs.Prelude.{◌≡◌, ◌+◌, ◌<◌, ◌≤◌, length, map, IsOk, OnOk, OnErr, IsTrue, [], Option, Some, None, vec_len};
-ghost use Rattle.std.specs.Option.{option_copied, option_map, option_eq};
+ghost use Rattle.std.specs.Prelude.{◌≡◌, ◌+◌, ◌<◌, ◌≤◌, length, map, IsOk, OnOk, OnErr, IsTrue, [], vec_len};
 ghost use Rattle.std.specs.Vec.{vec_capacity};
 ghost use Rattle.raft_state.specs.FullLog.{full_log, end_index};
 ghost use Rattle.raft_state.specs.LogReads.{id_at, last_id};
@@ -64,18 +63,13 @@ pub fn may_all_follow<C: Ord + Copy, LID: RaftLogIdOf<C>>(
     true
 }
 
-/// Whether two log ids share a leader, or none is there.
-pub fn share_leader<C: Ord + Copy, LID: RaftLogIdOf<C>>(
-    first: Option<&LID>,
-    last: Option<&LID>,
-) -> bool
-    ensures { result ≡ option_eq (λ a b. C.eq a.leader_id b.leader_id)
-        (option_map LID.id_of (option_copied first)) (option_map LID.id_of (option_copied last)) }
+/// Whether the first and the last of these log ids share a leader, or there are none.
+pub fn share_leader<C: Ord + Copy, LID: RaftLogIdOf<C>>(ids: &[LID]) -> bool
+    ensures { result ≡ ends_share_leader C.eq (map LID.id_of ids.now) }
 {
-    match (first, last) {
-        (None, None) => true,
-        (Some(first), Some(last)) => { first.get_log_id().leader_id == last.get_log_id().leader_id }
-        _ => false,
+    match (ids.first(), ids.last()) {
+        (Some(first), Some(last)) => first.get_log_id().leader_id == last.get_log_id().leader_id,
+        _ => true,
     }
 }
 
