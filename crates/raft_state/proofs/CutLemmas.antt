@@ -435,3 +435,12 @@ purged_moved {C} ks upto key first n some place le count kept bound here =
     let rest_is : take (length ks - (n - 1)) (drop (n - 1) ks ++ take (n - 1) ks) ≡ drop (n - 1) ks = take_at (drop (n - 1) ks) (take (n - 1) ks) (length ks - (n - 1)) (omega (arith, length-drop (n - 1) ks)) in
     let cons : drop b.0 ks ≡ get_or ks b.0 first ∷ drop (suc b.0) ks = drop-cons ks b.0 first (let e = b.1 in omega arith) in
     rw (rest_is, one, cons) (sym (purged_within ks upto key some place le ∙ kept_at ks upto.index b.0 first (sym count ∙ b.1) at))
+
+-- the front of a front is the front
+pub front_twice : {C : Type 0} (log : List (LogIdOf C)) (a : ℕ) → front (front log a) a ≡ front log a
+front_twice [] a = refl
+front_twice (k ∷ ks) a = by_test (nat_lt k.index a) refl (front_twice ks a)
+  where
+    by_test : (t : Bool) → nat_lt k.index a ≡ t → front (front ks a) a ≡ front ks a → front (if t then k ∷ front ks a else front ks a) a ≡ (if t then k ∷ front ks a else front ks a)
+    by_test true e rest_same = rw (e, rest_same) refl
+    by_test false e rest_same = rest_same

@@ -1,6 +1,6 @@
 -- Appending log ids of one leader: the keys are those of appending the first one and the last one.
-use Rattle.std.proofs.Common.{◌≡◌, ℕ, ◌+◌, ◌<◌, ◌≤◌, Bool, true, false, ◌&&◌, List, [], ◌∷◌, Option, Some, None, if◌then◌else◌, IsTrue, nat_lt, refl, sym, ◌∙◌, ap, arith, length, map}
-use Rattle.std.specs.Prelude.{slice_get}
+use Rattle.std.proofs.Common.{◌≡◌, ◌-◌, ◌<◌, ◌≤◌, Bool, true, false, ◌&&◌, List, [], ◌∷◌, Option, Some, None, if◌then◌else◌, IsTrue, nat_lt, refl, sym, ◌∙◌, ap, arith, length, map}
+use Rattle.std.specs.Prelude.{slice_get, unwrap_or}
 use Rattle.std.specs.Option.{option_map}
 use Rattle.std.specs.declared.cmp.Ordering.{Ordering}
 use Rattle.std.specs.declared.cmp.Ordering.TheVariants.{Less, Equal, Greater}
@@ -8,8 +8,8 @@ use Rattle.std.specs.Ordering.{is_le, is_eq, is_gt, ordering_reverse}
 use Rattle.std.specs.Cmp.{IsTotalOrder, upto}
 use Rattle.raft_base.specs.declared.log_id.LogIdOf.{LogIdOf}
 use Rattle.raft_state.specs.Inner.KeyEdits.{added, added_after, added_all}
-use Rattle.raft_state.specs.LogConditions.{all_follow, follows}
-use Rattle.raft_state.specs.LogReads.{last_id}
+use Rattle.raft_state.specs.LogConditions.{all_follow, ends_share_leader, follows}
+use Rattle.raft_state.specs.LogReads.{first_id, last_id}
 use Rattle.raft_state.proofs.AppendLemmas.{itself, some_after}
 use Rattle.raft_state.proofs.SameLogLemmas.{both}
 
@@ -145,3 +145,20 @@ last_of_some x (y ∷ ids) = last_of_some y ids
 pub last_of_map : {C L : Type 0} (id_of : L → LogIdOf C) (l : L) (ls : List L) → Some (last_or (id_of l) (map id_of ls)) ≡ option_map id_of (slice_get (l ∷ ls) (length ls))
 last_of_map id_of l [] = refl
 last_of_map id_of l (m ∷ ls) = last_of_map id_of m ls
+
+first_mapped : {C L : Type 0} (id_of : L → LogIdOf C) (ls : List L) → first_id (map id_of ls) ≡ option_map id_of (slice_get ls 0)
+first_mapped id_of [] = refl
+first_mapped id_of (l ∷ ls) = refl
+
+last_mapped : {C L : Type 0} (id_of : L → LogIdOf C) (ls : List L) → last_id (map id_of ls) ≡ option_map id_of (slice_get ls (length ls - 1))
+last_mapped id_of [] = refl
+last_mapped id_of (l ∷ ls) =
+    let e : length (l ∷ ls) - 1 ≡ length ls = omega arith in
+    rw e (last_of_some (id_of l) (map id_of ls) ∙ last_of_map id_of l ls)
+
+-- the test of the ends asks the first and the last one
+pub ends_by_place : {C L : Type 0} (eq : C → C → Bool) (id_of : L → LogIdOf C) (ls : List L) (f l : L) → Some f ≡ slice_get ls 0 → Some l ≡ slice_get ls (length ls - 1) → eq (id_of f).leader_id (id_of l).leader_id ≡ ends_share_leader eq (map id_of ls)
+ends_by_place eq id_of ls f l first last = rw (first_mapped id_of ls, last_mapped id_of ls, ← first, ← last) refl
+
+pub same_some : {A : Type 0} (a b : A) → Some a ≡ Some b → a ≡ b
+same_some a b e = ap (λ o. unwrap_or o a) e
