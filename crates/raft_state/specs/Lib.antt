@@ -1,0 +1,7 @@
+pub mod FullLog
+pub mod FullLogLaws
+pub mod LogReads
+pub mod LogEdits
+pub mod LogConditions
+pub mod Keys
+pub mod Inner

@@ -1,0 +1,6 @@
+//! What a Raft node keeps of its own log and its own state, as plain data.
+#![tactic(auto)]
+
+pub mod log_id_list;
+
+pub use log_id_list::{LogIdList, LogIdListOf, is_key_list};
