@@ -1,12 +1,12 @@
 -- Nodes that are added or taken away one by one.
-use Rattle.std.specs.Prelude.{◌≡◌, Bool, true, false, cond, ◌||◌, Option, Some, None, List, ◌∷◌, IsTrue, is_some, refl}
-use Rattle.std.proofs.Common.{◌∙◌, ap}
+use Rattle.std.specs.Prelude.{◌≡◌, Bool, true, false, cond, ◌||◌, ◌⊎◌, Option, Some, None, List, ◌∷◌, IsTrue, is_some, refl}
+use Rattle.std.proofs.Common.{◌∙◌, ap, sym, subst, inl, inr, true≢false}
 use Rattle.std.specs.declared.cmp.Ordering.{Ordering}
 use Rattle.std.specs.declared.cmp.Ordering.TheVariants.{Less, Equal, Greater}
 use Rattle.std.specs.Cmp.{IsTotalOrder, IsEquivalence}
 use Rattle.std.specs.Cmp.Lexicographic.{options_equiv}
 use Rattle.std.specs.Ordering.{is_eq}
-use Rattle.std.proofs.lemmas.Cmp.{eq_by_cmp_equiv}
+use Rattle.std.proofs.lemmas.Cmp.{eq_by_cmp_equiv, tied_itself}
 use Rattle.std.specs.List.{list_any}
 use Rattle.std.specs.Map.{lookup}
 use Rattle.std.specs.BTreeMap.{is_at}
@@ -67,6 +67,30 @@ module _ {K N : Type 0} {cmp : K → K → Ordering} (o : IsTotalOrder cmp) wher
     -- a copy of an entry whose id is absent is added
     pub add_new : (es fs rest : List (K × N)) (x : K × N) (w : N) → same w x.1 ≡ true → is_some (lookup (is_at (cmp x.0)) es) ≡ false → ((q : K) → lookup (is_at (cmp q)) fs ≡ cond (is_at (cmp x.0) q) (Some w) (lookup (is_at (cmp q)) es)) → (q : K) → IsTrue (option_eq same (option_or (lookup (is_at (cmp q)) fs) (lookup (is_at (cmp q)) rest)) (option_or (lookup (is_at (cmp q)) es) (lookup (is_at (cmp q)) (x ∷ rest))))
     add_new es fs rest x w s h u q = new_step es fs rest x w q (is_at (cmp q) x.0) refl s h (u q ∙ ap (λ b. cond b (Some w) (lookup (is_at (cmp q)) es)) (flip o x.0 q))
+
+  -- what is to come has the first entry's node at its id
+  head_at : (x : K × N) (rest : List (K × N)) → lookup (is_at (cmp x.0)) (x ∷ rest) ≡ Some x.1
+  head_at x rest = rw (tied_itself o x.0) refl
+
+  -- where an id that is still to come has no node yet, one of the two lists has a node at it
+  pub either_has : (same : N → N → Bool) (now given more : List (K × N)) (x : K × N) (rest : List (K × N)) → is_some (lookup (is_at (cmp x.0)) now) ≡ false → IsTrue (option_eq same (option_or (lookup (is_at (cmp x.0)) now) (lookup (is_at (cmp x.0)) (x ∷ rest))) (option_or (lookup (is_at (cmp x.0)) given) (lookup (is_at (cmp x.0)) more))) → IsTrue (is_some (lookup (is_at (cmp x.0)) given)) ⊎ IsTrue (is_some (lookup (is_at (cmp x.0)) more))
+  either_has same now given more x rest gone e =
+      by (lookup (is_at (cmp x.0)) now) (lookup (is_at (cmp x.0)) given) (lookup (is_at (cmp x.0)) more) gone
+      (subst (λ (v : Option N). IsTrue (option_eq same (option_or (lookup (is_at (cmp x.0)) now) v) (option_or (lookup (is_at (cmp x.0)) given) (lookup (is_at (cmp x.0)) more)))) (head_at x rest) e)
+    where
+      by : (n g m : Option N) → is_some n ≡ false → IsTrue (option_eq same (option_or n (Some x.1)) (option_or g m)) → IsTrue (is_some g) ⊎ IsTrue (is_some m)
+      by (Some y) g m h q = absurd (true≢false h)
+      by None (Some y) m h q = inl refl
+      by None None (Some y) h q = inr refl
+      by None None None h q = absurd (true≢false (sym q))
+
+  -- a node at an id stays where another one is put
+  pub has_still : (es fs : List (K × N)) (x q : K) (w : N) → lookup (is_at (cmp q)) fs ≡ cond (is_at (cmp x) q) (Some w) (lookup (is_at (cmp q)) es) → IsTrue (is_some (lookup (is_at (cmp q)) es)) → IsTrue (is_some (lookup (is_at (cmp q)) fs))
+  has_still es fs x q w is there = subst (λ (v : Option N). IsTrue (is_some v)) (sym is) (by (is_at (cmp x) q) there)
+    where
+      by : (b : Bool) → IsTrue (is_some (lookup (is_at (cmp q)) es)) → IsTrue (is_some (cond b (Some w) (lookup (is_at (cmp q)) es)))
+      by true h = refl
+      by false h = h
 
   -- one more id is taken away
   pub remove_next : (es fs : List (K × N)) (x : K) (rest : List K) → ((q : K) → lookup (is_at (cmp q)) fs ≡ cond (is_at (cmp x) q) None (lookup (is_at (cmp q)) es)) → (q : K) → cond (list_any (is_at (cmp q)) rest) None (lookup (is_at (cmp q)) fs) ≡ cond (list_any (is_at (cmp q)) (x ∷ rest)) None (lookup (is_at (cmp q)) es)

@@ -1,6 +1,6 @@
 -- What a membership says: its configs, and the node at each id.
 pub use Rattle.raft_members.specs.MemberList.{MemberList}
-use Rattle.std.specs.Prelude.{◌≡◌, ◌&&◌, Bool, Option, List, IsTrue}
+use Rattle.std.specs.Prelude.{◌≡◌, ◌&&◌, Bool, Option, List, IsTrue, is_some}
 use Rattle.std.specs.Cmp.Lexicographic.{pointwise}
 use Rattle.std.specs.declared.cmp.Ordering.{Ordering}
 use Rattle.std.specs.Map.{lookup}
@@ -23,6 +23,10 @@ members_of cmp m = record { configs = m.configs; node = node_at cmp m.nodes }
 -- the nodes are, at each id, equal to what a function gives, or like it none
 abbrev pub HasNodes : {K N : Type 0} → (N → N → Bool) → (K → K → Ordering) → List (K × N) → (K → Option N) → Type 0
 HasNodes {K} same cmp nodes node = (id : K) → IsTrue (option_eq same (node_at cmp nodes id) (node id))
+
+-- each id that has a node among the new ones has one among the old ones already
+abbrev pub AddsNoId : {K N : Type 0} → (K → K → Ordering) → List (K × N) → List (K × N) → Type 0
+AddsNoId {K} cmp old new = (id : K) → IsTrue (is_some (node_at cmp new id)) → IsTrue (is_some (node_at cmp old id))
 
 -- the membership has exactly these configs, and at each id an equal node or, like them, none
 abbrev pub Says : {K N : Type 0} → (N → N → Bool) → (K → K → Ordering) → MemberList K N → Members K N → Type 0

@@ -10,7 +10,7 @@ ghost use Rattle.std.specs.Cmp.{partial_equiv_from_equiv};
 ghost use Rattle.std.specs.Cmp.Lexicographic.{pointwise};
 ghost use Rattle.raft_members.specs.MembersLaws.{same_members-equiv};
 ghost use Rattle.raft_members.specs.Majority.{is_majority, is_joint_majority, is_voter_of};
-ghost use Rattle.raft_members.specs.Members.{MemberList, node_at, members_of, same_members, HasNodes};
+ghost use Rattle.raft_members.specs.Members.{MemberList, node_at, members_of, same_members, AddsNoId, HasNodes};
 ghost use Rattle.raft_members.specs.Valid.{has_empty_config, FirstWithoutNode, IsValid};
 ghost use Rattle.raft_members.specs.Refusal.{err_of, IsRefusal};
 ghost use Rattle.raft_members.specs.Defaults.{HasDefaults};
@@ -128,14 +128,16 @@ impl<NID: NodeId, N: Node> Membership<NID, N> {
         Ok(Membership { configs, nodes })
     }
 
-    /// The old nodes, and copies of those new ones whose ids have no old node.
+    /// The old nodes, and copies of those new ones whose ids have no old node. Where there are none,
+    /// no memory is taken.
     pub fn extend_nodes(
         old: BTreeMap<NID, N>,
         new: &BTreeMap<NID, N>,
     ) -> Result<BTreeMap<NID, N>, AllocError>
         requires { ClonesAreEqual N.eq N.is_clone }
-        ensures { IfOk result (λ nodes. HasNodes N.eq NID.cmp nodes.entries
+        ensures nodes { IfOk result (λ nodes. HasNodes N.eq NID.cmp nodes.entries
             (λ id. option_or (get NID.cmp old id) (get NID.cmp new.now id))) }
+        ensures no_memory { AddsNoId NID.cmp old.entries new.now.entries → IsOk result }
     {
         nodes::added(old, new)
     }

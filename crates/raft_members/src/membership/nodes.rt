@@ -1,8 +1,8 @@
 //! The nodes of a membership, by their ids.
-ghost use Rattle.std.specs.Prelude.{◌≡◌, Bool, IfOk, IsTrue, OnOk, true, false, map, cond, not, ◌&&◌, Some, None, is_some};
+ghost use Rattle.std.specs.Prelude.{◌≡◌, Bool, IfOk, IsOk, IsTrue, OnOk, true, false, map, cond, not, ◌&&◌, Some, None, is_some};
 ghost use Rattle.std.specs.Option.{option_eq, option_or};
 ghost use Rattle.std.specs.List.{find, filter};
-ghost use Rattle.raft_members.specs.Members.{HasNodes, same_nodes};
+ghost use Rattle.raft_members.specs.Members.{AddsNoId, HasNodes, same_nodes};
 ghost use Rattle.raft_members.specs.Inner.Configs.{ids_of_configs};
 ghost use Rattle.raft_members.specs.Inner.Nodes.{PutsEqual, lesser};
 ghost use Rattle.std.specs.List.Sorted.{IsStrictlySortedBy};
@@ -92,8 +92,9 @@ pub fn added<NID: NodeId, N: Node>(
     more: &BTreeMap<NID, N>,
 ) -> Result<BTreeMap<NID, N>, AllocError>
     requires { ClonesAreEqual N.eq N.is_clone }
-    ensures { IfOk result (λ n. HasNodes N.eq NID.cmp n.entries
+    ensures nodes { IfOk result (λ n. HasNodes N.eq NID.cmp n.entries
         (λ q. option_or (get NID.cmp nodes q) (get NID.cmp more.now q))) }
+    ensures no_memory { AddsNoId NID.cmp nodes.entries more.now.entries → IsOk result }
 {
     let mut added = nodes;
     for (id, node) in more.iter() {
