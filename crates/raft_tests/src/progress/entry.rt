@@ -1,4 +1,5 @@
 //! Progress entries: worked replies and sends, validity, and entries as values of a progress.
+ghost use Rattle.std.specs.Prelude.{◌≡◌};
 
 use super::inflight::{logs, snapshot, wrong_id};
 use super::{made, updated};
@@ -6,10 +7,12 @@ use crate::plain_log::{Numbered, PlainLog, id, log_below};
 use crate::text::{debugs, displays};
 use raft_base::leader_id_std::CommittedLeaderId;
 use raft_base::{Invalid, LeaderId, LogId, LogIdOf, Validate};
+use raft_members::quorum::QuorumSet;
 use raft_progress::entry::{ProgressEntry, ProgressEntryOf};
 use raft_progress::inflight::{InflightError, InflightOf};
-use raft_progress::progress::VecProgress;
+use raft_progress::progress::{ProgressPart, VecProgress};
 use std::alloc::{AllocError, Global};
+use std::process::Abort;
 use std::test::Fail;
 
 /// A call on an entry: a send of so many logs at most, an ack up to a log id, a conflict at an index.
@@ -354,18 +357,28 @@ fn entries_read_back_and_are_validated(rt: HostRuntime) -> Result<(), Fail> {
 /// The progress of a leader's followers.
 type Followers = VecProgress<u64, ProgressEntry<u64>, Option<LogId<u64>>, Vec<u64>>;
 
-/// What is granted once a progress has gone over to these voters, with nothing known of new ones.
-fn granted_over(
+/// What is granted once a progress has gone over to another quorum set, without learners.
+fn granted_over<
+    ID: Copy + Ord,
+    V: ProgressPart<P> + Clone + Drop,
+    P: Copy + Ord,
+    QS: QuorumSet<ID> + Drop,
+>(
+    rt: &impl Abort,
     alloc: Global,
-    progress: &mut Followers,
-    voters: Vec<u64>,
-) -> Result<Option<LogId<u64>>, AllocError> {
-    let fits = Followers::learners_fit(alloc, &voters, &[])?;
-    let default = ProgressEntry::empty(10);
-    if !(fits && progress.is_in_order() && progress.can_upgrade(&voters, &[], &default)?) {
-        return Ok(None);
-    }
-    let upgraded = progress.upgrade_quorum_set(voters, &[], default)?;
+    progress: &mut VecProgress<ID, V, P, QS>,
+    quorum_set: QS,
+    default: V,
+) -> Result<P, AllocError>
+    requires { (v w : V) → V.is_clone v w → V.part_of w ≡ V.part_of v }
+{
+    let ordered = progress.is_in_order();
+    assert!(rt; ordered);
+    let fits = VecProgress::<ID, V, P, QS>::learners_fit(alloc, &quorum_set, &[])?;
+    assert!(rt; fits);
+    let is_allowed = progress.can_upgrade(&quorum_set, &[], &default)?;
+    assert!(rt; is_allowed);
+    let upgraded = progress.upgrade_quorum_set(quorum_set, &[], default)?;
     Ok(*upgraded.granted())
 }
 
@@ -379,6 +392,7 @@ fn followers_grant_what_a_quorum_matches(rt: HostRuntime) -> Result<(), Fail> {
         assert!(rt; updated(&rt, &mut progress, follower, entry) == Ok(granted));
     }
     let kept = [1, 2].to_vec(alloc)?;
-    assert!(rt; granted_over(alloc, &mut progress, kept)? == id(1, 3));
+    let granted = granted_over(&rt, alloc, &mut progress, kept, ProgressEntry::empty(10))?;
+    assert!(rt; granted == id(1, 3));
     Ok(())
 }
