@@ -1,6 +1,7 @@
 //! Progress entries: worked replies and sends, validity, and entries as values of a progress.
 ghost use Rattle.std.specs.Prelude.{◌≡◌};
 
+use super::callers::sent_next;
 use super::inflight::{logs, snapshot, wrong_id};
 use super::{made, updated};
 use crate::plain_log::{Numbered, PlainLog, id, log_below};
@@ -244,6 +245,16 @@ fn stands_regress<C: Numbered>(log: &PlainLog<C>) -> bool {
         && refuses(log, idle, Call::Ack(0, None), wrong_id(None, 0))
 }
 
+/// Whether a caller who asks first sends this next.
+fn sends_next<C: Numbered>(
+    log: &PlainLog<C>,
+    from: ProgressEntryOf<C>,
+    want: Option<InflightOf<C>>,
+) -> bool {
+    let mut entry = from;
+    sent_next(&mut entry, log) == want
+}
+
 /// Whether replies to a snapshot are taken up to the greatest index but one, in a log that ends at 9.
 fn stands_snapshots<C: Numbered>(log: &PlainLog<C>) -> bool {
     let entry = at(None, 9, 0, snapshot(2, id(1, 8)));
@@ -265,7 +276,8 @@ fn stands_snapshots<C: Numbered>(log: &PlainLog<C>) -> bool {
         Err(InflightError::ConflictOnSnapshot),
     ) && takes(log, entry, Call::Ack(2, id(1, 12)), matched)
         && !matched.can_send(log)
-        && !at(None, 9, u64::MAX, InflightOf::None).can_send(log)
+        && sends_next(log, at(None, 9, u64::MAX, InflightOf::None), None)
+        && sends_next(log, at(id(1, 8), 9, 0, InflightOf::None), Some(logs(1, id(1, 8), id(1, 9))))
 }
 
 /// Whether all worked calls over a kind of leaders are as they should be.
