@@ -277,7 +277,11 @@ fn stands_snapshots<C: Numbered>(log: &PlainLog<C>) -> bool {
     ) && takes(log, entry, Call::Ack(2, id(1, 12)), matched)
         && !matched.can_send(log)
         && sends_next(log, at(None, 9, u64::MAX, InflightOf::None), None)
-        && sends_next(log, at(id(1, 8), 9, 0, InflightOf::None), Some(logs(1, id(1, 8), id(1, 9))))
+        && sends_next(
+            log,
+            at(id(1, 8), 9, 0, InflightOf::None),
+            Some(logs(1, id(1, 8), id(1, 9))),
+        )
 }
 
 /// Whether all worked calls over a kind of leaders are as they should be.
