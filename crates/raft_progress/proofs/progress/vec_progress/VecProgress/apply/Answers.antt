@@ -38,7 +38,7 @@ returns-in-Some-clause-updated g c =
             rw (← same) h.3,
             oc.written,
             subst (λ (v : g.row.V.Denot). IsSettled g.ID.PartialEq.eq g.P.Ord.cmp g.V.ProgressPart.part_of (shown c.args.self.now) c.args.id.now v h.1 (shown c.settle.new.self)) same
-                record { rises = oc.rises; stays = oc.stays; tests = oc.tests; counts_tests = oc.counts_tests; at_most_voters = oc.at_most_voters; tested_to_rise = oc.tested_to_rise; not_tested = oc.not_tested },
+                record { rises = oc.rises; stays = oc.stays; tests = oc.tests; counts_tests = oc.counts_tests; few_tests = oc.few_tests; tested_to_rise = oc.tested_to_rise; not_tested = oc.not_tested },
           );
       unknown = λ e. absurd (no_value _ _ e before);
     }
