@@ -32,7 +32,7 @@ pub(crate) struct Scan {
 ///
 /// A front that contains a quorum is one, so a test halves the fronts that are left, and there are at
 /// most as many tests as the number of voters has binary digits. Within this bound the longest front
-/// that may be is tried: where none is a quorum, which is so in most updates, the first test tells.
+/// that may be is tried: if it is no quorum, neither is any other, and one test tells.
 pub(crate) fn least_front<ID: Copy + Ord, V, QS: QuorumSet<ID>>(
     quorum_set: &QS,
     voters: &[(ID, V)],
