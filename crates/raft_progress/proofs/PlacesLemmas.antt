@@ -1,19 +1,22 @@
 -- A map that tells the places of ids.
-use Rattle.std.specs.Prelude.{◌≡◌, ℕ, ◌+◌, ◌-◌, ◌<◌, ◌≤◌, Bool, true, false, cond, ◌||◌, List, [], ◌∷◌, ◌++◌, length, take, Option, Some, None, position}
+use Rattle.std.specs.Prelude.{◌≡◌, ℕ, ◌+◌, ◌-◌, ◌<◌, ◌≤◌, Bool, true, false, cond, ◌||◌, List, [], ◌∷◌, ◌++◌, length, take, Option, Some, None, position, slice_get}
 use Rattle.std.specs.Cmp.{IsEquivalence}
 use Rattle.std.specs.Map.{keys_of}
 use Rattle.std.specs.Set.{is_member}
 use Rattle.std.specs.List.{IsDistinct}
 use Rattle.std.specs.Option.{is_some}
-use Rattle.std.proofs.Common.{arith, sym, ap, refl, ◌∙◌, true≢false, get_or, subst, suc, zero, ltb, ltb-true, ltb-false, append_assoc, length-append}
+use Rattle.std.proofs.Common.{arith, sym, ap, refl, ◌∙◌, true≢false, get_or, set, subst, suc, zero, ltb, ltb-true, ltb-false, append_assoc, length-append}
 use Rattle.std.proofs.Math.Seq.{get_or-append_seam}
 use Rattle.std.proofs.lemmas.List.{get_or-append-add, get_or_append_left, length-take}
 use Rattle.std.proofs.lemmas.List.Folds.{list_any-append}
 use Rattle.std.proofs.lemmas.List.Quantifiers.{position-Some}
+use Rattle.std.proofs.lemmas.Option.{get_or_from_slice_get}
 use Rattle.std.proofs.lemmas.Map.Entries.{length-keys_of}
 use Rattle.std.proofs.lemmas.Map.Keys.{apart_from_distinct}
 use Rattle.std.proofs.lemmas.Map.Made.{is_some-lookup}
+use Rattle.std.specs.declared.cmp.Ordering.{Ordering}
 use Rattle.raft_progress.specs.Inner.Places.{TellsPlaces, TellsPlacesBut}
+use Rattle.raft_progress.specs.Inner.Rises.{Passed}
 use Rattle.raft_progress.proofs.ListLemmas.{or_right}
 use Rattle.raft_progress.proofs.MovedLemmas.{member_moved}
 use Rattle.raft_progress.proofs.SettledLemmas.{get_take}
@@ -29,6 +32,15 @@ keys_append : {ID V : Type 0} (es fs : List (ID × V)) → keys_of (es ++ fs) �
 keys_append [] fs = refl
 keys_append (e ∷ es) fs = ap (λ ks. e.0 ∷ ks) (keys_append es fs)
 
+-- a value that is written leaves the ids
+pub keys_written : {ID V : Type 0} (es : List (ID × V)) (i : ℕ) (e : ID × V) (w : V) → slice_get es i ≡ Some e → keys_of (set es i (e.0, w)) ≡ keys_of es
+keys_written {ID} {V} es i e w h = ap (λ (f : ID × V). keys_of (set es i (f.0, w))) (sym (get_or_from_slice_get es i e e h)) ∙ keys_rewritten es i e w
+  where
+    keys_rewritten : {ID V : Type 0} (es : List (ID × V)) (i : ℕ) (d : ID × V) (w : V) → keys_of (set es i ((get_or es i d).0, w)) ≡ keys_of es
+    keys_rewritten [] i d w = refl
+    keys_rewritten (e ∷ es) zero d w = refl
+    keys_rewritten (e ∷ es) (suc i) d w = ap (λ ks. e.0 ∷ ks) (keys_rewritten es i d w)
+
 -- where an id is found, there is a place
 pub place_within : {X : Type 0} (p : X → Bool) (xs : List X) (i : ℕ) → position p xs ≡ Some i → i < length xs
 place_within p [] i h = absurd (cc)
@@ -38,6 +50,22 @@ any_default : {X : Type 0} (xs : List X) (i : ℕ) (d e : X) → i < length xs �
 any_default [] i d e l = absurd (omega arith)
 any_default (x ∷ xs) zero d e l = refl
 any_default (x ∷ xs) (suc i) d e l = any_default xs i d e (omega arith)
+
+pub passed_length : {ID V P : Type 0} (cmp : P → P → Ordering) (part : V → P) (old : List (ID × V)) (from : ℕ) (new : List (ID × V)) (to : ℕ) → Passed cmp part old from new to → length new ≡ length old
+passed_length cmp part old from new to p =
+    let a = length-append p.front (p.passed ++ (p.entry ∷ p.rest)) in
+    let b = length-append p.passed (p.entry ∷ p.rest) in
+    let c = length-append p.front (p.entry ∷ (p.passed ++ p.rest)) in
+    let d = length-append p.passed p.rest in
+    ap length p.now ∙ omega arith ∙ sym (ap length p.was)
+
+-- what has passed nothing stands where it stood
+pub passed_nothing : {ID V P : Type 0} (cmp : P → P → Ordering) (part : V → P) (old : List (ID × V)) (from : ℕ) (new : List (ID × V)) (to : ℕ) → Passed cmp part old from new to → from ≤ to → new ≡ old
+passed_nothing {ID} {V} cmp part old from new to p l = by p.passed refl
+  where
+    by : (passed : List (ID × V)) → p.passed ≡ passed → new ≡ old
+    by [] none = p.now ∙ ap (λ (es : List (ID × V)). p.front ++ (p.entry ∷ (es ++ p.rest))) none ∙ sym (p.was ∙ ap (λ (es : List (ID × V)). p.front ++ (es ++ (p.entry ∷ p.rest))) none)
+    by (e ∷ es) some = let q = p.now_at in let w = p.was_at in let n = ap length some in absurd (omega arith)
 
 module _ {ID : Type 0} {eq : ID → ID → Bool} (laws : IsEquivalence eq) where
   pub member_at : (ids : List ID) (k : ℕ) (d x : ID) → k < length ids → eq x (get_or ids k d) ≡ true → is_member eq ids x ≡ true
@@ -227,3 +255,15 @@ module _ {ID : Type 0} {eq : ID → ID → Bool} (laws : IsEquivalence eq) where
       known = λ x m. let r = place_of_member Old x (sym (member_moved laws front passed e rest x) ∙ m) in ap is_some (t.here x r.0 r.1 r.2);
       unknown = λ x m. t.unknown x (sym (member_moved laws front passed e rest x) ∙ m);
     }
+
+  pub but_passed : {V P : Type 0} (cmp : P → P → Ordering) (part : V → P) (old : List (ID × V)) (from : ℕ) (new : List (ID × V)) (to : ℕ) → Passed cmp part old from new to → (found : ID → Option ℕ) → TellsPlaces eq (keys_of old) found → TellsPlacesBut eq (keys_of new) to (from + 1) found
+  but_passed {V} {P} cmp part old from new to p found t =
+      let b = but_moved p.front p.passed p.entry p.rest found (subst (λ (es : List (ID × V)). TellsPlaces eq (keys_of es) found) p.was t) in
+      subst (λ (es : List (ID × V)). TellsPlacesBut eq (keys_of es) to (from + 1) found) (sym p.now)
+      (subst (λ (n : ℕ). TellsPlacesBut eq (keys_of (p.front ++ (p.entry ∷ (p.passed ++ p.rest)))) n (from + 1) found) p.now_at
+      (subst (λ (n : ℕ). TellsPlacesBut eq (keys_of (p.front ++ (p.entry ∷ (p.passed ++ p.rest)))) (length p.front) (n + 1) found) p.was_at b))
+
+  -- the same ids, and a map that tells the same
+  pub tells_alike : (ids ids' : List ID) (found found' : ID → Option ℕ) → ids' ≡ ids → ((x : ID) → found' x ≡ found x) → TellsPlaces eq ids found → TellsPlaces eq ids' found'
+  tells_alike ids ids' found found' same is t =
+      subst (λ (ks : List ID). TellsPlaces eq ks found') (sym same) record { here = λ x k l h. is x ∙ t.here x k l h; unknown = λ x m. is x ∙ t.unknown x m }

@@ -24,3 +24,6 @@ returns-in-None g c = (
   (refl, (λ w. tt), refl),
   record { writes_back = tt; value = sym (lookup_absent (g.ID.PartialEq.eq c.args.id.now) c.args.self.now.walk.items (sym c.in-None.ensures)) },
 )
+
+pub invariant_of-self-lent : goal.invariant_of-self-lent
+invariant_of-self-lent g c = λ w. ?

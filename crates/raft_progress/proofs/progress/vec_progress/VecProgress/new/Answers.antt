@@ -36,4 +36,5 @@ pub invariant_of-result : goal.invariant_of-result
 invariant_of-result g c = record {
   voters_fit = voters_within _ c.in_ok-room.room.items c.args.learners.now _ (keys_placed _ _ _ _ _ c.new-walk.ensures.items c.in_ok-place_all.ensures c.in_ok-place_all-2.ensures ∙ ap (λ ids. ids ++ c.args.learners.now) c.deref.ensures.value) (c.len-voter_count.ensures ∙ c.in_ok-room.room.ok.0);
   room_fits = sym (c.len-voter_count.ensures ∙ c.in_ok-room.room.ok.0);
+  agree = λ e. ?;
 }
