@@ -33,13 +33,13 @@ keys_append [] fs = refl
 keys_append (e ∷ es) fs = ap (λ ks. e.0 ∷ ks) (keys_append es fs)
 
 -- a value that is written leaves the ids
+pub keys_rewritten : {ID V : Type 0} (es : List (ID × V)) (i : ℕ) (d : ID × V) (w : V) → keys_of (set es i ((get_or es i d).0, w)) ≡ keys_of es
+keys_rewritten [] i d w = refl
+keys_rewritten (e ∷ es) zero d w = refl
+keys_rewritten (e ∷ es) (suc i) d w = ap (λ ks. e.0 ∷ ks) (keys_rewritten es i d w)
+
 pub keys_written : {ID V : Type 0} (es : List (ID × V)) (i : ℕ) (e : ID × V) (w : V) → slice_get es i ≡ Some e → keys_of (set es i (e.0, w)) ≡ keys_of es
 keys_written {ID} {V} es i e w h = ap (λ (f : ID × V). keys_of (set es i (f.0, w))) (sym (get_or_from_slice_get es i e e h)) ∙ keys_rewritten es i e w
-  where
-    keys_rewritten : {ID V : Type 0} (es : List (ID × V)) (i : ℕ) (d : ID × V) (w : V) → keys_of (set es i ((get_or es i d).0, w)) ≡ keys_of es
-    keys_rewritten [] i d w = refl
-    keys_rewritten (e ∷ es) zero d w = refl
-    keys_rewritten (e ∷ es) (suc i) d w = ap (λ ks. e.0 ∷ ks) (keys_rewritten es i d w)
 
 -- where an id is found, there is a place
 pub place_within : {X : Type 0} (p : X → Bool) (xs : List X) (i : ℕ) → position p xs ≡ Some i → i < length xs

@@ -8,7 +8,7 @@ use Rattle.raft_progress.specs.Inner.Settled.{IsScanned}
 use Rattle.raft_progress.specs.progress.Shown.{Shown}
 use Rattle.raft_progress.specs.progress.VecProgress.{shown}
 use Rattle.raft_progress.proofs.MovedLemmas.{distinct_moved}
-use Rattle.raft_progress.proofs.PlacesLemmas.{but_passed, passed_length}
+use Rattle.raft_progress.proofs.PlacesLemmas.{but_passed, passed_length, passed_nothing}
 use Rattle.raft_progress.proofs.progress.vec_progress.VecProgress.raise.Goals as goal
 use Rattle.raft_progress.proofs.progress.vec_progress.VecProgress.raise.Goals.{then-to-place+then-not-self, else-to-place, else-to-place-via-then-to-place+else-not-self, else-to-place-via-else-to-place}
 
@@ -25,6 +25,15 @@ write_places-requires g c =
           omega arith;
       distinct = distinct;
       others = rw c.deref.ensures.value (but_passed g.met.ID.Eq.laws g.P.Ord.cmp g.V.ProgressPart.part_of c.args.self.now.walk.items c.args.place c.move_up-to.new.walk.items c.move_up-to.result p (get g.ID.Ord.cmp c.args.self.now.places) (c.args.self.now.agree c.if-not-self.true));
+    }
+
+pub invariant_of-self-else-to-place : goal.invariant_of-self-else-to-place
+invariant_of-self-else-to-place g c =
+    let same = passed_nothing g.P.Ord.cmp g.V.ProgressPart.part_of c.args.self.now.walk.items c.args.place c.move_up-to.new.walk.items c.move_up-to.result c.move_up-to.ensures.passes c.if-to-place.false in
+    record {
+      voters_fit = subst (λ n. c.args.self.now.voter_count ≤ n) (sym (ap length same)) c.args.self.now.voters_fit;
+      room_fits = c.args.self.now.room_fits;
+      agree = λ fresh. rw same (c.args.self.now.agree fresh);
     }
 
 pub scan-requires : goal.scan-requires
