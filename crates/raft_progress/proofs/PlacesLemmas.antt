@@ -5,7 +5,7 @@ use Rattle.std.specs.Map.{keys_of}
 use Rattle.std.specs.Set.{is_member}
 use Rattle.std.specs.List.{IsDistinct}
 use Rattle.std.specs.Option.{is_some}
-use Rattle.std.proofs.Common.{arith, sym, ap, refl, ◌∙◌, true≢false, get_or, set, subst, suc, zero, ltb, ltb-true, ltb-false, append_assoc, length-append}
+use Rattle.std.proofs.Common.{arith, sym, ap, refl, ◌∙◌, true≢false, get_or, set, subst, suc, zero, ltb, ltb-true, ltb-false, length-append}
 use Rattle.std.proofs.Math.Seq.{get_or-append_seam}
 use Rattle.std.proofs.lemmas.List.{get_or-append-add, get_or_append_left, length-take}
 use Rattle.std.proofs.lemmas.List.Folds.{list_any-append}

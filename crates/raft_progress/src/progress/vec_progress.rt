@@ -42,7 +42,8 @@ pub struct VecProgress<ID: Copy + Ord, V, P, QS> {
     stat: Stat,
     ghost voters_fit: { voter_count ≤ length walk.items },
     ghost room_fits: { length room.items ≡ voter_count },
-    ghost agree: { stale ≡ false → TellsPlaces ID.eq (keys_of walk.items) (get ID.cmp places) } by { Prim.hlevel props },
+    ghost agree: { stale ≡ false →
+        TellsPlaces ID.eq (keys_of walk.items) (get ID.cmp places) } by { Prim.hlevel props },
 }
 
 impl<

@@ -1,6 +1,5 @@
-use Rattle.std.proofs.Common.{◌≡◌, ap, false, refl, rules, sym, true, true≢false, ◌∙◌}
+use Rattle.std.proofs.Common.{◌≡◌, ap, false, rules, sym, true≢false, ◌∙◌}
 use Rattle.std.specs.Option.{is_some, option_copied}
-use Rattle.raft_progress.specs.progress.Shown.{state}
 use Rattle.raft_progress.specs.progress.Steps.{falls, stays}
 use Rattle.raft_progress.specs.progress.Updated.{IsGreaterOf}
 use Rattle.raft_progress.specs.progress.VecProgress.{shown}

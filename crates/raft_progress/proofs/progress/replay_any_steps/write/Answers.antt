@@ -1,7 +1,6 @@
-use Rattle.std.proofs.Common.{◌≡◌, ap, false, refl, rules, subst, sym, true, true≢false, ◌∙◌}
+use Rattle.std.proofs.Common.{◌≡◌, ap, rules, subst, sym, true≢false, ◌∙◌}
 use Rattle.std.specs.Option.{is_some}
 use Rattle.raft_progress.specs.progress.CountedValue.{AtMost}
-use Rattle.raft_progress.specs.progress.Shown.{state}
 use Rattle.raft_progress.specs.progress.Steps.{falls}
 use Rattle.raft_progress.specs.progress.VecProgress.{shown}
 use Rattle.raft_progress.proofs.FoldLemmas.{updated_weaker}

@@ -1,12 +1,11 @@
 use Rattle.std.proofs.Common.{arith, sym, ap, ◌∙◌, refl, subst, ◌≡◌, ◌<◌, ◌≤◌, ◌^◌, get_or, length}
 use Rattle.std.proofs.Math.ListN.{length-set}
-use Rattle.std.specs.Option.{is_some}
 use Rattle.std.specs.List.{IsDistinct}
 use Rattle.std.specs.Map.{keys_of}
 use Rattle.raft_progress.proofs.PlacesLemmas.{keys_written}
 use Rattle.std.proofs.lemmas.Option.{get_or_from_slice_get}
 use Rattle.raft_progress.proofs.WalkLemmas.{lookup_absent, no_value}
-use Rattle.raft_progress.proofs.UpdateLemmas.{was, wrote, same_keys}
+use Rattle.raft_progress.proofs.UpdateLemmas.{was, wrote}
 use Rattle.raft_progress.proofs.OutcomeLemmas.{outcome}
 use Rattle.raft_progress.specs.progress.Updated.{IsSettled}
 use Rattle.raft_progress.specs.progress.VecProgress.{shown}

@@ -1,11 +1,8 @@
-use Rattle.std.proofs.Common.{refl, ap, arith, sym, ◌∙◌, ◌≡◌, ◌≤◌, ◌+◌, length, subst, List, true≢false}
+use Rattle.std.proofs.Common.{refl, ap, arith, sym, ◌∙◌, ◌≡◌, ◌≤◌, length, subst, List, true≢false}
 use Rattle.std.specs.BTreeMap.{get}
 use Rattle.std.specs.List.{IsDistinct}
 use Rattle.std.specs.Map.{keys_of}
-use Rattle.raft_progress.specs.Inner.Places.{TellsPlaces, TellsPlacesBut}
-use Rattle.raft_progress.specs.Inner.Rises.{Passed, RisesTo}
-use Rattle.raft_progress.specs.Inner.Settled.{IsScanned}
-use Rattle.raft_progress.specs.progress.Shown.{Shown}
+use Rattle.raft_progress.specs.Inner.Rises.{RisesTo}
 use Rattle.raft_progress.specs.progress.VecProgress.{shown}
 use Rattle.raft_progress.proofs.MovedLemmas.{distinct_moved}
 use Rattle.raft_progress.proofs.PlacesLemmas.{but_passed, passed_length, passed_nothing}
