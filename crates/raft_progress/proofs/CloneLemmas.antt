@@ -1,6 +1,7 @@
 -- Clones of entries, one after another.
 use Rattle.std.specs.Prelude.{◌≡◌, ℕ, ◌+◌, ◌<◌, Bool, true, ◌&&◌, List, [], ◌∷◌, ◌++◌, length, take, refl, nat_eq, Result, Ok, Err, MatchResult, IfOk}
 use Rattle.std.specs.List.{AllZip}
+use Rattle.std.specs.Map.{keys_of}
 use Rattle.std.specs.Set.{ClonesAreEqual}
 use Rattle.std.specs.Cmp.{IsEquivalence, nat_eq_equiv}
 use Rattle.std.specs.Cmp.Lexicographic.{pointwise}
@@ -21,6 +22,13 @@ same_length R [] [] a = refl
 same_length R [] (y ∷ ys) a = absurd a
 same_length R (x ∷ xs) [] a = absurd a
 same_length R (x ∷ xs) (y ∷ ys) a = ap suc (same_length R xs ys a.1)
+
+-- the ids stay
+pub same_ids : {ID V : Type 0} (IsClone : V → V → Type 0) (es fs : List (ID × V)) → AllZip (λ d e. (e.0 ≡ d.0) × IsClone d.1 e.1) es fs → keys_of fs ≡ keys_of es
+same_ids IsClone [] [] a = refl
+same_ids IsClone [] (f ∷ fs) a = absurd a
+same_ids IsClone (e ∷ es) [] a = absurd a
+same_ids IsClone (e ∷ es) (f ∷ fs) a = λ i. a.0.0 i ∷ same_ids IsClone es fs a.1 i
 
 -- where a value equals its clone, entries equal theirs
 walks_equal : {ID V : Type 0} {eq : ID → ID → Bool} (laws : IsEquivalence eq) (value_eq : V → V → Bool) (IsClone : V → V → Type 0) → ClonesAreEqual value_eq IsClone → (es fs : List (ID × V)) → AllZip (λ d e. (e.0 ≡ d.0) × IsClone d.1 e.1) es fs → pointwise (λ d e. eq d.0 e.0 && value_eq d.1 e.1) es fs ≡ true

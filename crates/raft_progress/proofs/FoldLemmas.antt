@@ -54,7 +54,7 @@ module _ {ID V P QS : Type 0} (eq : ID → ID → Bool) (id_cmp : ID → ID → 
     pub fold_learners : drop old.voter_count (keys_of old.walk) ≡ learners
     fold_learners = each_learners es f.first old f.takes_over ∙ learners_first id_cmp learners f.first f.begins.walk
 
-    -- an update is counted for each entry, with at most one move and one quorum test a voter
+    -- an update is counted for each entry, with at most one move, and as many quorum tests as the number of voters has binary digits
     pub fold_counts : ((voters : ℕ) → CountsGoOn 0 voters stat stat) → CountsGoOn (length es) old.voter_count stat old.stat
     fold_counts none =
         let all : length es + 0 ≡ length es = omega arith in

@@ -99,6 +99,10 @@ module _ {ID : Type 0} {eq : ID → ID → Bool} (laws : IsEquivalence eq) where
     IsDistinct-append ks ls d.1 e (λ y m. (or_false (eq y k) (is_member eq ks y) (h y m)).1),
   )
 
+  -- the ids of voters, each once, and of learners that fit are distinct
+  pub distinct_with_learners : (is_voter : ID → Bool) (ids learners : List ID) → IsDistinct eq ids → ((x : ID) → is_member eq ids x ≡ is_voter x) → LearnersFit eq is_voter learners → IsDistinct eq (ids ++ learners)
+  distinct_with_learners is_voter ids learners distinct voters fit = IsDistinct-append ids learners distinct fit.distinct (λ y m. voters y ∙ fit.no_voters y m)
+
   module _ {V P QS : Type 0} {cmp : P → P → Ordering} (o : IsTotalOrder cmp) (part : V → P) (has_quorum : QS → (ID → Bool) → Bool) (IsClone : V → V → Type 0) (is_voter : ID → Bool) (set : QS) (ids learners : List ID) (v : V) (same_part : (w : V) → IsClone v w → part w ≡ part v) (walk : List (ID × V)) (n : ℕ) (p : P) (distinct : IsDistinct eq ids) (voters : (x : ID) → is_member eq ids x ≡ is_voter x) (fit : LearnersFit eq is_voter learners) (keys : keys_of walk ≡ ids ++ learners) (clones : AllByRecursion (λ e. IsClone v e.1) walk) (counted : n ≡ length ids) (default : p ≡ part v) where
     front : take n (keys_of walk) ≡ ids
     front = rw (counted, keys) (take_front ids learners)
@@ -136,7 +140,7 @@ module _ {ID : Type 0} {eq : ID → ID → Bool} (laws : IsEquivalence eq) where
     pub fresh_in_order : IsWalkInOrder eq cmp part has_quorum set walk n p p
     fresh_in_order = record {
       falling = falling_at n walk clones;
-      distinct = rw keys (IsDistinct-append ids learners distinct fit.distinct (λ y m. voters y ∙ fit.no_voters y m));
+      distinct = rw keys (distinct_with_learners is_voter ids learners distinct voters fit);
       not_below = λ x u m l. rw (part_at x u l) (AtMost-refl o p);
       counted = record {
         is_one = inl (tied_itself o p);

@@ -10,7 +10,6 @@ use Rattle.std.proofs.Common.{arith, sym, ap, refl, ◌∙◌, true≢false, get
 use Rattle.std.proofs.lemmas.Cmp.{tied_itself}
 use Rattle.std.proofs.lemmas.List.{get_or-set_same}
 use Rattle.std.proofs.lemmas.List.Quantifiers.{position-Some}
-use Rattle.std.proofs.lemmas.List.Sums.{prefix_len-le-length}
 use Rattle.raft_progress.specs.progress.CountedValue.{AtMost}
 use Rattle.raft_progress.specs.progress.InOrder.{IsInOrder, IsWalkInOrder}
 use Rattle.raft_progress.specs.Inner.Counts.{exceeds}
@@ -37,7 +36,7 @@ pub record Outcome {ID V P QS : Type 0} (eq : ID → ID → Bool) (cmp : P → P
   pub stays : (is_member eq (take mid.voter_count (keys_of ws)) id && (is_lt (cmp (part v) (part w)) && is_lt (cmp mid.granted (part w)))) ≡ false → (new.walk ≡ set_value (eq id) ws w) × (new.stat.move_count ≡ mid.stat.move_count)
   pub tests : ℕ
   pub counts_tests : new.stat.is_quorum_count ≡ counted_up mid.stat.is_quorum_count tests
-  pub at_most_voters : tests ≤ mid.voter_count
+  pub few_tests : (k : ℕ) → mid.voter_count < 2 ^ k → tests ≤ k
   pub tested_to_rise : is_lt (cmp mid.granted new.granted) ≡ true → 1 ≤ tests
   pub not_tested : (is_member eq (take mid.voter_count (keys_of ws)) id && (is_le (cmp (part v) mid.granted) && is_lt (cmp mid.granted (part w)))) ≡ false → (tests ≡ 0) × (new.granted ≡ mid.granted)
 
@@ -101,7 +100,7 @@ module _ {ID V P QS : Type 0} {eq : ID → ID → Bool} (laws : IsEquivalence eq
         stays = λ h. (wrote, refl);
         tests = 0;
         counts_tests = counted_none mid.stat.is_quorum_count fits;
-        at_most_voters = omega arith;
+        few_tests = λ k h. omega arith;
         tested_to_rise = λ h. absurd (true≢false (sym h ∙ ap is_lt (tied_itself o mid.granted)));
         not_tested = λ h. (refl, refl);
       }
@@ -171,7 +170,7 @@ module _ {ID V P QS : Type 0} {eq : ID → ID → Bool} (laws : IsEquivalence eq
           stays = λ h. absurd (true≢false (sym rise ∙ h));
           tests = 0;
           counts_tests = raised.tests ∙ counted_none mid.stat.is_quorum_count fits;
-          at_most_voters = omega arith;
+          few_tests = λ k h. omega arith;
           tested_to_rise = λ h. absurd (true≢false (sym h ∙ ap (λ (x : P). is_lt (cmp mid.granted x)) raised.granted ∙ ap is_lt (tied_itself o mid.granted)));
           not_tested = λ h. (refl, raised.granted);
         }
@@ -210,11 +209,7 @@ module _ {ID V P QS : Type 0} {eq : ID → ID → Bool} (laws : IsEquivalence eq
         stays = λ h. absurd (true≢false (sym rise ∙ h));
         tests = s.tests;
         counts_tests = s.counts ∙ ap (λ x. counted_up x s.tests) raised.tests;
-        at_most_voters =
-            let a = scan.at_most in
-            let b = prefix_len-le-length (exceeds cmp part mid.granted) (take mid.voter_count (m.walk)) in
-            let l = length_take_le (m.walk) mid.voter_count in
-            omega arith;
+        few_tests = λ k h. scan.few k (let l = length_take_le (m.walk) mid.voter_count in omega arith);
         tested_to_rise = tested s.found refl;
         not_tested = λ h. absurd (true≢false (sym (passed (of_both _ _ rise).0 (ap (λ (x : P). is_le (cmp x mid.granted)) (sym before_is) ∙ t) high) ∙ h));
       }

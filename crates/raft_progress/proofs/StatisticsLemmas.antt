@@ -1,7 +1,7 @@
 -- Counts over one update more.
 use Rattle.std.specs.Prelude.{◌≡◌, ℕ, ◌+◌, ◌*◌, ◌<◌, ◌≤◌, ◌^◌, Bool, true, false, Option, Some, None}
 use Rattle.std.specs.declared.cmp.Ordering.{Ordering}
-use Rattle.std.proofs.Common.{arith, ◌∙◌, refl, ap}
+use Rattle.std.proofs.Common.{arith, ◌∙◌, refl, ap, subst}
 use Rattle.raft_progress.specs.progress.Shown.{Shown, state}
 use Rattle.raft_progress.specs.progress.Statistics.{CountsGoOn, counted_up}
 use Rattle.raft_progress.specs.progress.Updated.{IsSettled, IsUpdated, rises_past_granted}
@@ -22,12 +22,15 @@ pub counts_begin : (voters : ℕ) (s : Stat) → s.update_count < 2 ^ 64 → s.m
 counts_begin voters s a b c = record {
   updated = counted_none s.update_count a;
   moved = (0, omega arith, counted_none s.move_count b);
-  tested = (0, omega arith, counted_none s.is_quorum_count c);
+  tested = (0, λ d h. omega arith, counted_none s.is_quorum_count c);
 }
 
 module _ {ID V P QS : Type 0} (eq : ID → ID → Bool) (cmp : P → P → Ordering) (part : V → P) (Left : V → V → Type 0) (n : ℕ) (s : Stat) (old : Shown ID V P QS) (id : ID) (new : Shown ID V P QS) (u : IsUpdated eq cmp part Left old id new) (c : CountsGoOn n old.voter_count s old.stat) where
   same : new.voter_count ≡ old.voter_count
   same = u.same_voter_count
+
+  fits : (d : ℕ) → new.voter_count < 2 ^ d → old.voter_count < 2 ^ d
+  fits d h = subst (λ (v : ℕ). v < 2 ^ d) same h
 
   updated_once : new.stat.update_count ≡ counted_up s.update_count (n + 1)
   updated_once = u.counts ∙ ap (λ x. counted_up x 1) c.updated ∙ counted_twice s.update_count n 1
@@ -37,7 +40,15 @@ module _ {ID V P QS : Type 0} (eq : ID → ID → Bool) (cmp : P → P → Order
   counts_unknown m q = record {
     updated = updated_once;
     moved = let w = c.moved in let l = w.1 in (w.0, omega arith, m ∙ w.2);
-    tested = let w = c.tested in let l = w.1 in let e = one_more n old.voter_count in (w.0, rw (same, e) (omega arith), q ∙ w.2);
+    tested =
+        let x = c.tested in (
+          x.0,
+          λ d h.
+              let l = x.1 d (fits d h) in
+              let e = one_more n d in
+              omega arith,
+          q ∙ x.2,
+        );
   }
 
   counts_known : (v w : V) → IsSettled eq cmp part old id v w new → CountsGoOn (n + 1) new.voter_count s new.stat
@@ -45,11 +56,15 @@ module _ {ID V P QS : Type 0} (eq : ID → ID → Bool) (cmp : P → P → Order
     updated = updated_once;
     moved = by (rises_past_granted eq cmp part old id v w) refl;
     tested =
-        let x = c.tested in
-        let l = x.1 in
-        let h = t.at_most_voters in
-        let e = one_more n old.voter_count in
-        (x.0 + t.tests, rw (same, e) (omega arith), t.counts_tests ∙ ap (λ y. counted_up y t.tests) x.2 ∙ counted_twice s.is_quorum_count x.0 t.tests);
+        let x = c.tested in (
+          x.0 + t.tests,
+          λ d h.
+              let l = x.1 d (fits d h) in
+              let m = t.few_tests d (fits d h) in
+              let e = one_more n d in
+              omega arith,
+          t.counts_tests ∙ ap (λ y. counted_up y t.tests) x.2 ∙ counted_twice s.is_quorum_count x.0 t.tests,
+        );
   }
     where
       by : (b : Bool) → rises_past_granted eq cmp part old id v w ≡ b → (k : ℕ) × (k ≤ n + 1) × (new.stat.move_count ≡ counted_up s.move_count k)

@@ -1,6 +1,7 @@
 -- What the private functions do, one step at a time. No public contract cites these words.
 pub mod Counts
 pub mod Placed
+pub mod Places
 pub mod Rises
 pub mod Settled
 pub mod ShownAnswers

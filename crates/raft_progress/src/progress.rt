@@ -3,6 +3,7 @@
 
 mod conditions;
 mod part;
+mod places;
 mod recount;
 mod replay_any_steps;
 mod rise;

@@ -1,5 +1,5 @@
 -- How an entry moves up by neighbours, and what a scan of fronts finds.
-use Rattle.std.specs.Prelude.{◌≡◌, ℕ, ◌+◌, ◌<◌, ◌≤◌, Bool, true, false, Option, Some, None, List, ◌∷◌, ◌++◌, length}
+use Rattle.std.specs.Prelude.{◌≡◌, ℕ, ◌+◌, ◌^◌, ◌<◌, ◌≤◌, Bool, true, false, Option, Some, None, List, ◌∷◌, ◌++◌, length}
 use Rattle.std.specs.declared.cmp.Ordering.{Ordering}
 use Rattle.std.specs.Ordering.{is_lt}
 use Rattle.std.specs.List.{AllByRecursion}
@@ -24,7 +24,7 @@ module _ {ID V P : Type 0} (cmp : P → P → Ordering) (part : V → P) where
     pub passes : Passed old from new to
     pub stops : LastAtLeast cmp part (part passes.entry.1) passes.front
 
--- the least front above low and up to high that is a quorum, if there is one, and the number of fronts that were tested
+-- the least front above low and up to high that is a quorum, if there is one, and the number of fronts that were tested: at most as many as the number of voters has binary digits
 pub record IsLeastFront {ID V : Type 0} (eq : ID → ID → Bool) (is_quorum : (ID → Bool) → Bool) (voters : List (ID × V)) (low high : ℕ) (found : Option ℕ) (tests : ℕ) : Type 0 where
   pub none : found ≡ None → (k : ℕ) → low < k → k ≤ high → front_test eq is_quorum voters k ≡ false
   pub above : (k : ℕ) → found ≡ Some k → low < k
@@ -32,4 +32,4 @@ pub record IsLeastFront {ID V : Type 0} (eq : ID → ID → Bool) (is_quorum : (
   pub holds : (k : ℕ) → found ≡ Some k → front_test eq is_quorum voters k ≡ true
   pub least : (k l : ℕ) → found ≡ Some k → low < l → l < k → front_test eq is_quorum voters l ≡ false
   pub tested : (k : ℕ) → found ≡ Some k → 1 ≤ tests
-  pub at_most : tests ≤ high
+  pub few : (k : ℕ) → length voters < 2 ^ k → tests ≤ k

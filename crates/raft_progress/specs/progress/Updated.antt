@@ -1,5 +1,5 @@
 -- What an update does to a progress, and what it answers.
-use Rattle.std.specs.Prelude.{◌≡◌, ℕ, ◌≤◌, Bool, ◌&&◌, Option, Some, None, if◌then◌else◌, IsOk, IsErr, Result, MatchResult, true, false}
+use Rattle.std.specs.Prelude.{◌≡◌, ℕ, ◌^◌, ◌<◌, ◌≤◌, Bool, ◌&&◌, Option, Some, None, if◌then◌else◌, IsOk, IsErr, Result, MatchResult, true, false}
 use Rattle.std.specs.declared.cmp.Ordering.{Ordering}
 use Rattle.std.specs.Option.{ForSome}
 use Rattle.std.specs.Ordering.{is_le, is_lt, partial_gt}
@@ -19,13 +19,13 @@ module _ {ID V P QS : Type 0} (eq : ID → ID → Bool) (cmp : P → P → Order
   abbrev pub passes_granted : Shown ID V P QS → ID → V → V → Bool
   passes_granted old id v w = (state eq old).is_voter id && (is_le (cmp (part v) old.granted) && is_lt (cmp old.granted (part w)))
 
-  -- the walk, granted and the counts after the value of a known id went from v to w: a voter that rises past what was granted is risen in the walk, and quorums are tested only where granted may rise, at most one test a voter
+  -- the walk, granted and the counts after the value of a known id went from v to w: a voter that rises past what was granted is risen in the walk, and quorums are tested only where granted may rise, at most as many as the number of voters has binary digits: the least k for which the number is below 2 to the power of k
   pub record IsSettled (old : Shown ID V P QS) (id : ID) (v w : V) (new : Shown ID V P QS) : Type 0 where
     pub rises : rises_past_granted old id v w ≡ true → IsRisen cmp part (eq id) (set_value (eq id) old.walk w) new.walk × (new.stat.move_count ≡ counted_up old.stat.move_count 1)
     pub stays : rises_past_granted old id v w ≡ false → (new.walk ≡ set_value (eq id) old.walk w) × (new.stat.move_count ≡ old.stat.move_count)
     pub tests : ℕ
     pub counts_tests : new.stat.is_quorum_count ≡ counted_up old.stat.is_quorum_count tests
-    pub at_most_voters : tests ≤ old.voter_count
+    pub few_tests : (k : ℕ) → old.voter_count < 2 ^ k → tests ≤ k
     pub tested_to_rise : is_lt (cmp old.granted new.granted) ≡ true → 1 ≤ tests
     pub not_tested : passes_granted old id v w ≡ false → (tests ≡ 0) × (new.granted ≡ old.granted)
 

@@ -1,5 +1,6 @@
 //! Steps of a progress, and their replies.
 ghost use Rattle.std.specs.Prelude.{◌≡◌, IfOk, OnErr};
+ghost use Rattle.std.specs.Option.{option_copied};
 ghost use Rattle.raft_progress.specs.progress.Comparisons.{comparisons};
 ghost use Rattle.raft_progress.specs.progress.CountedValue.{IsCounted};
 ghost use Rattle.raft_progress.specs.progress.InOrder.{IsInOrder};
@@ -111,12 +112,14 @@ pub(crate) fn write<
         (shown progress.old) id.now value result (shown progress.new) }
     ensures ordered { IsInOrder ID.eq P.cmp V.part_of QS.has_quorum (shown progress.new) }
 {
-    if would_fall(progress, id, &value) {
+    let found = progress.index(id);
+    if would_fall(progress.value_at(found), &value) {
         return Reply::WouldFall;
     }
-    match progress.update(id, value) {
-        Ok(granted) => Reply::Granted(*granted),
-        Err(granted) => Reply::Unknown(*granted),
+    if progress.apply_at(found, |current| *current = value) {
+        Reply::Granted(*progress.granted())
+    } else {
+        Reply::Unknown(*progress.granted())
     }
 }
 
@@ -132,42 +135,38 @@ pub(crate) fn increase<
         (shown progress.old) id.now value result (shown progress.new) }
     ensures ordered { IsInOrder ID.eq P.cmp V.part_of QS.has_quorum (shown progress.new) }
 {
-    if !is_not_greater(progress, id, &value) && would_fall(progress, id, &value) {
+    let found = progress.index(id);
+    let current = progress.value_at(found);
+    if !is_not_greater(current, &value) && would_fall(current, &value) {
         return Reply::WouldFall;
     }
-    match progress.increase_to(id, value) {
-        Ok(granted) => Reply::Granted(*granted),
-        Err(granted) => Reply::Unknown(*granted),
+    let known = progress.apply_at(found, |current| {
+        if value > *current {
+            *current = value;
+        }
+    });
+    if known {
+        Reply::Granted(*progress.granted())
+    } else {
+        Reply::Unknown(*progress.granted())
     }
 }
 
 /// Whether there is a value that the new one isn't greater than.
-fn is_not_greater<
-    ID: Copy + Ord,
-    V: ProgressPart<P> + PartialOrd + Drop,
-    P: Copy + Ord,
-    QS: QuorumSet<ID> + Drop,
->(progress: &VecProgress<ID, V, P, QS>, id: &ID, value: &V) -> bool
-    ensures { result ≡ stays V.partial_cmp
-        ((state ID.eq (shown progress.now)).value id.now) value.now }
+fn is_not_greater<V: PartialOrd>(current: Option<&V>, value: &V) -> bool
+    ensures { result ≡ stays V.partial_cmp (option_copied current.entry) value.now }
 {
-    match progress.try_get(id) {
+    match current {
         Some(current) => !(*value > *current),
         None => false,
     }
 }
 
 /// Whether the value's part is below that of the present value.
-pub(super) fn would_fall<
-    ID: Copy + Ord,
-    V: ProgressPart<P> + Drop,
-    P: Copy + Ord,
-    QS: QuorumSet<ID> + Drop,
->(progress: &VecProgress<ID, V, P, QS>, id: &ID, value: &V) -> bool
-    ensures { result ≡ falls P.cmp V.part_of
-        ((state ID.eq (shown progress.now)).value id.now) value.now }
+fn would_fall<V: ProgressPart<P>, P: Copy + Ord>(current: Option<&V>, value: &V) -> bool
+    ensures { result ≡ falls P.cmp V.part_of (option_copied current.entry) value.now }
 {
-    match progress.try_get(id) {
+    match current {
         Some(current) => value.part().cmp(&current.part()).is_lt(),
         None => false,
     }

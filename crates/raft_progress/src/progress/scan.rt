@@ -1,29 +1,22 @@
 //! The least front of the walk that is a quorum.
-ghost use Rattle.std.specs.Prelude.{◌≡◌, ◌≤◌, length};
+ghost use Rattle.std.specs.Prelude.{◌≡◌, ◌≤◌, length, take};
 ghost use Rattle.std.specs.List.{IsDistinct, prefix_len};
 ghost use Rattle.std.specs.Map.{keys_of};
-ghost use Rattle.raft_progress.specs.Inner.Counts.{exceeds, front_test};
+ghost use Rattle.raft_progress.specs.Inner.Counts.{exceeds};
 ghost use Rattle.raft_progress.specs.Inner.Rises.{IsLeastFront};
 
 use super::part::ProgressPart;
 use raft_members::quorum::QuorumSet;
 
-/// Whether the first voters are a quorum.
-fn is_front_quorum<ID: Copy + Ord, V, QS: QuorumSet<ID>>(
-    quorum_set: &QS,
-    voters: &[(ID, V)],
-    front: usize,
-    room: &mut [ID],
-) -> bool
+/// Writes the ids of the first voters to the front of `room`.
+fn gather_front<ID: Copy, V>(voters: &[(ID, V)], front: usize, room: &mut [ID])
     requires within { front ≤ length voters.now }
     requires room { length voters.now ≤ length room.old }
-    requires distinct { IsDistinct ID.eq (keys_of voters.now) }
-    ensures { result ≡ front_test ID.eq (QS.has_quorum quorum_set.now) voters.now front }
+    ensures { take front room.new ≡ keys_of (take front voters.now) }
 {
-    for i in 0..front {
-        room[i] = voters[i].0;
+    for place in 0..front {
+        room[place] = voters[place].0;
     }
-    quorum_set.is_quorum(&room[..front])
 }
 
 /// What a scan of fronts has found.
@@ -35,7 +28,11 @@ pub(crate) struct Scan {
     pub tests: u64,
 }
 
-/// The least front above `low` and up to `high` that is a quorum, each tried in turn.
+/// The least front above `low` and up to `high` that is a quorum, found by halving.
+///
+/// A front that contains a quorum is one, so a test halves the fronts that are left, and there are at
+/// most as many tests as the number of voters has binary digits. Within this bound the longest front
+/// that may be is tried: if it is no quorum, neither is any other, and one test tells.
 pub(crate) fn least_front<ID: Copy + Ord, V, QS: QuorumSet<ID>>(
     quorum_set: &QS,
     voters: &[(ID, V)],
@@ -49,17 +46,27 @@ pub(crate) fn least_front<ID: Copy + Ord, V, QS: QuorumSet<ID>>(
     ensures { IsLeastFront ID.eq (QS.has_quorum quorum_set.now) voters.now
         low high result.front result.tests }
 {
+    gather_front(voters, high, room);
     let mut tests = 0;
-    for below in low..high {
+    let mut least = None;
+    let mut failed = low;
+    let mut end = high;
+    let mut left = voters.len();
+    while failed < end {
+        left /= 2;
+        let front = failed + 1 + left.min(end - failed - 1);
         tests += 1;
-        if is_front_quorum(quorum_set, voters, below + 1, room) {
-            return Scan {
-                front: Some(below + 1),
-                tests,
-            };
+        if quorum_set.is_quorum(&room[..front]) {
+            least = Some(front);
+            end = front - 1;
+        } else {
+            failed = front;
         }
     }
-    Scan { front: None, tests }
+    Scan {
+        front: least,
+        tests,
+    }
 }
 
 /// How many of the first voters have a part that exceeds `least`.

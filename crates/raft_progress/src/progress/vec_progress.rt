@@ -1,11 +1,16 @@
 //! The progress of a group of nodes.
-ghost use Rattle.std.specs.Prelude.{◌≡◌, ◌≤◌, ◌<◌, length};
+ghost use Rattle.std.specs.Prelude.{◌≡◌, ◌≤◌, ◌<◌, false, length};
+ghost use Rattle.std.specs.BTreeMap.{get};
+ghost use Rattle.std.specs.Map.{keys_of};
+ghost use Rattle.std.proofs.Props.{props};
+ghost use Rattle.raft_progress.specs.Inner.Places.{TellsPlaces};
 
 use super::Progress;
 use super::conditions::{
     are_apart, has_distinct_ids, is_among, is_at_least, is_before, is_falling,
 };
 use super::part::ProgressPart;
+use super::places::{copy_places, places_of, write_places};
 use super::recount::count;
 use super::rise::{is_raised, move_up};
 use super::scan::{leading, least_front};
@@ -13,25 +18,32 @@ use super::stat::Stat;
 use super::walk::{clone_walk, copy_ids, place_all, write_at};
 use raft_members::quorum::QuorumSet;
 use std::alloc::{AllocError, Global};
+use std::collections::BTreeMap;
+use std::fmt;
 
 /// The values of voters and learners in a vector, and the greatest part that a quorum of the voters
 /// has reached.
 ///
 /// The voters whose part exceeds the granted value come first, and their parts never rise along the
 /// vector. So the voters that have reached a part are a front of it, and a quorum is found by testing
-/// fronts. Voters up to granted are in no order, and learners, which come last, never move. Suited
-/// to the few voters that a cluster has: an id is found by a search.
-#[derive(Debug, Drop)]
+/// fronts. Voters up to granted are in no order, and learners, which come last, never move. An ordered
+/// map beside the vector tells the place of each id.
+#[derive(Drop)]
 pub struct VecProgress<ID: Copy + Ord, V, P, QS> {
     quorum_set: QS,
     granted: P,
     default_part: P,
     voter_count: usize,
     walk: Vec<(ID, V)>,
+    places: BTreeMap<ID, usize>,
+    // Whether ids may have been written through `iter_mut`, so that places are searched for in the walk.
+    stale: bool,
     room: Vec<ID>,
     stat: Stat,
     ghost voters_fit: { voter_count ≤ length walk.items },
     ghost room_fits: { length room.items ≡ voter_count },
+    ghost agree: { stale ≡ false →
+        TellsPlaces ID.eq (keys_of walk.items) (get ID.cmp places) } by { Prim.hlevel props },
 }
 
 impl<
@@ -40,13 +52,13 @@ impl<
     P: Copy + Ord,
     QS: QuorumSet<ID> + Drop,
 > VecProgress<ID, V, P, QS> {
-    ghost use Rattle.std.specs.Prelude.{◌≡◌, ◌≤◌, ◌<◌, ◌↔◌, ℕ, IsTrue, IfOk, position, is_some, IsSome, length, ◌&&◌};
+    ghost use Rattle.std.specs.Prelude.{◌≡◌, ◌≤◌, ◌<◌, ◌↔◌, ℕ, IsTrue, IfOk, position, slice_get, is_some, IsSome, length, ◌&&◌};
     ghost use Rattle.std.specs.Borrow.{sem};
     ghost use Rattle.std.specs.Slice.Iter.{iter_mut_name, iter_mut_rest, iter_rest};
     ghost use Rattle.std.specs.Fn.{FnOnceTakesAtMut};
     ghost use Rattle.std.specs.Option.{ForSome, option_copied, option_copied_mut};
-    ghost use Rattle.std.specs.Map.{keys_of};
     ghost use Rattle.std.specs.List.{IsDistinct};
+    ghost use Rattle.raft_progress.specs.progress.CountedValue.{AtMost};
     ghost use Rattle.raft_progress.specs.progress.InOrder.{IsInOrder};
     ghost use Rattle.raft_progress.specs.Inner.Settled.{IsPutInOrder, IsRaised, IsScanned};
     ghost use Rattle.raft_progress.specs.contracts.progress.vec_progress.VecProgress.{the_row};
@@ -102,6 +114,7 @@ impl<
         let mut walk = Vec::new(alloc);
         place_all(&mut walk, &room, &default)?;
         place_all(&mut walk, learners, &default)?;
+        let places = places_of(alloc, &walk)?;
         let part = default.part();
         Ok(VecProgress {
             quorum_set,
@@ -109,6 +122,8 @@ impl<
             default_part: part,
             voter_count,
             walk,
+            places,
+            stale: false,
             room,
             stat: Stat {
                 update_count: 0,
@@ -308,14 +323,26 @@ impl<
     pub fn index(&self, id: &ID) -> Option<usize>
         ensures { result ≡ position (λ e. ID.eq id.now e.0) ((shown self.now).walk) }
     {
-        self.walk.iter().position(|entry| *id == entry.0)
+        if self.stale {
+            return self.walk.iter().position(|entry| *id == entry.0);
+        }
+        self.places.get(id).copied()
     }
 
     /// The value of an id.
     pub fn try_get(&self, id: &ID) -> Option<&V>
         ensures { option_copied result ≡ (state ID.eq (shown self.now)).value id.now }
     {
-        match self.index(id) {
+        self.value_at(self.index(id))
+    }
+
+    /// The value at the place that a look-up has found.
+    pub(crate) fn value_at(&self, found: Option<usize>) -> Option<&V>
+        requires { ForSome found (λ place. place < length (shown self.now).walk) }
+        ensures { (id : ID) → found ≡ position (λ e. ID.eq id e.0) (shown self.now).walk →
+            option_copied result ≡ (state ID.eq (shown self.now)).value id }
+    {
+        match found {
             Some(place) => Some(&self.walk[place].1),
             None => None,
         }
@@ -392,6 +419,7 @@ impl<
             self.entry (iter_mut_name result)) }
         ensures rest { iter_mut_rest result ≡ (shown self.old).walk }
     {
+        self.stale = true;
         self.walk.iter_mut()
     }
 
@@ -475,10 +503,29 @@ impl<
         ensures ordered { IsInOrder ID.eq P.cmp V.part_of QS.has_quorum (shown self.new) }
         ensures known { result ≡ is_some ((state ID.eq (shown self.old)).value id.now) }
     {
+        let found = self.index(id);
+        self.apply_at(found, f)
+    }
+
+    /// The same for the id whose place a look-up has found.
+    pub(crate) fn apply_at<F: FnOnce(&mut V)>(&mut self, found: Option<usize>, f: F) -> bool
+        requires within { ForSome found (λ place. place < length (shown self.old).walk) }
+        requires ordered { IsInOrder ID.eq P.cmp V.part_of QS.has_quorum (shown self.old) }
+        requires callable { (place : ℕ) (e : ID × V) → found ≡ Some place →
+            slice_get (shown self.old).walk place ≡ Some e → FnOnceTakesAtMut F.FnOnce f e.1 }
+        requires not_lower { (place : ℕ) (e : ID × V) (w : V) → found ≡ Some place →
+            slice_get (shown self.old).walk place ≡ Some e → Leaves F.FnOnce f e.1 w →
+            AtMost P.cmp (V.part_of e.1) (V.part_of w) }
+        ensures updated { (id : ID) → found ≡ position (λ e. ID.eq id e.0) (shown self.old).walk →
+            IsUpdated ID.eq P.cmp V.part_of (Leaves F.FnOnce f) (shown self.old) id (shown self.new) }
+        ensures ordered { (id : ID) → found ≡ position (λ e. ID.eq id e.0) (shown self.old).walk →
+            IsInOrder ID.eq P.cmp V.part_of QS.has_quorum (shown self.new) }
+        ensures known { result ≡ is_some found }
+    {
         // The proof knows that a count fits a u64 once it has been read.
         let _counts = (self.stat.move_count, self.stat.is_quorum_count);
         self.stat.update_count = self.stat.update_count.saturating_add(1);
-        match self.index(id) {
+        match found {
             Some(place) => {
                 let before = self.walk[place].1.part();
                 write_at(&mut self.walk, place, f);
@@ -512,6 +559,9 @@ impl<
     {
         self.stat.move_count = self.stat.move_count.saturating_add(1);
         let to = move_up(&mut self.walk, place);
+        if to < place && !self.stale {
+            write_places(&mut self.places, &self.walk, to, place);
+        }
         if counts {
             self.scan(to);
         }
@@ -530,6 +580,21 @@ impl<
         if let Some(front) = found.front {
             self.granted = self.walk[front - 1].1.part();
         }
+    }
+}
+
+/// What is compared, and no more.
+impl<ID: Copy + Ord + fmt::Debug, V: fmt::Debug, P: fmt::Debug, QS: fmt::Debug> fmt::Debug
+    for VecProgress<ID, V, P, QS> {
+    fn fmt<W: fmt::Write>(&self, f: &mut fmt::Formatter<W>) -> fmt::Result {
+        f.debug_struct("VecProgress")
+            .field("quorum_set", &self.quorum_set)
+            .field("granted", &self.granted)
+            .field("default_part", &self.default_part)
+            .field("voter_count", &self.voter_count)
+            .field("walk", &self.walk)
+            .field("stat", &self.stat)
+            .finish()
     }
 }
 
@@ -580,6 +645,8 @@ impl<ID: Copy + Ord, V: Clone, P: Copy + Ord, QS: Drop> VecProgress<ID, V, P, QS
             default_part: self.default_part,
             voter_count: self.voter_count,
             walk: clone_walk(alloc, &self.walk)?,
+            places: copy_places(alloc, &self.places)?,
+            stale: self.stale,
             room: copy_ids(alloc, &self.room)?,
             stat: self.stat.clone()?,
         })

@@ -123,6 +123,32 @@ fn order_is_lost_by_a_write_and_found_again(rt: HostRuntime) -> Result<(), Fail>
     Ok(())
 }
 
+/// Whether the learner 8 stands behind three voters, in a clone too, and 5 is unknown.
+fn has_learner_eight(progress: &Numbers) -> Result<bool, AllocError> {
+    let copy = progress.clone()?;
+    Ok(
+        progress.index(&8) == Some(3)
+            && progress.index(&5) == None
+            && copy.index(&8) == Some(3)
+            && copy == *progress,
+    )
+}
+
+#[test]
+fn an_id_is_changed_through_iter_mut(rt: HostRuntime) -> Result<(), Fail> {
+    let alloc = rt.alloc();
+    let mut progress: Numbers = made(&rt, alloc, first_ids(alloc, 3)?, &[5], 0)?;
+    for entry in progress.iter_mut() {
+        if entry.0 == 5 {
+            entry.0 = 8;
+        }
+    }
+    assert!(rt; has_learner_eight(&progress)?);
+    // The progress is in order, or `updated` would stop.
+    assert!(rt; updated(&rt, &mut progress, 8, 4) == Ok(0));
+    Ok(())
+}
+
 #[test]
 fn increases(rt: HostRuntime) -> Result<(), Fail> {
     let alloc = rt.alloc();

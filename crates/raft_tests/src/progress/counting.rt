@@ -52,47 +52,52 @@ fn make_asked(alloc: Global, n: u64) -> Result<Asked, AllocError> {
 /// Updates, each with what it answers: granted, as an error where the id is unknown.
 type Updates<'a> = &'a [(u64, u64, Result<u64, u64>)];
 
-/// Whether the counted quorum tests are those that were made.
-fn is_counted(progress: &Progress) -> bool {
-    progress.stat().is_quorum_count == progress.quorum_set().calls.get()
+/// Whether the counted quorum tests are those that were made, and at most so many more than before.
+fn is_counted(progress: &Progress, before: u64, most: u64) -> bool {
+    let tests = progress.stat().is_quorum_count;
+    tests == progress.quorum_set().calls.get() && tests <= before.saturating_add(most)
 }
 
-/// Makes the updates, and compares the counts with the calls after each.
-fn compare_updates(rt: &impl Abort, progress: &mut Progress, updates: Updates<'_>)
+/// Makes the updates, and compares the counts with the calls after each. One update makes at most so
+/// many quorum tests.
+fn compare_updates(rt: &impl Abort, progress: &mut Progress, updates: Updates<'_>, most: u64)
     requires { IsInOrder nat_eq nat_cmp (λ x. x) (λ a s. is_majority nat_eq a.voters.items s) (shown progress.old) }
 {
     for (id, value, want) in updates {
         let falls = would_fall(progress, id, value);
         assert!(rt; !falls);
+        let before = progress.stat().is_quorum_count;
         let answer = match progress.update(id, *value) {
             Ok(granted) => Ok(*granted),
             Err(granted) => Err(*granted),
         };
         assert!(rt;
-            answer == *want && is_counted(progress),
+            answer == *want && is_counted(progress, before, most),
             "at ({id}, {value})"
         );
     }
 }
 
-/// Replays the updates one by one, and compares the counts with the calls after each.
+/// The same by replays of one update each.
 fn compare_replays(
     rt: &impl Abort,
     alloc: Global,
     progress: &mut Progress,
     updates: Updates<'_>,
+    most: u64,
 ) -> Result<(), AllocError>
     requires { IsInOrder nat_eq nat_cmp (λ x. x) (λ a s. is_majority nat_eq a.voters.items s) (shown progress.old) }
 {
     for (id, value, want) in updates {
         let mut steps = Vec::new(alloc);
         steps.push(AnyStep::Update(*id, *value))?;
+        let before = progress.stat().is_quorum_count;
         let mut replies = replay_any(alloc, progress, steps)?;
         let reply = match *want {
             Ok(granted) => Reply::Granted(granted),
             Err(granted) => Reply::Unknown(granted),
         };
-        let is_right = replies.pop() == Some(reply) && is_counted(progress);
+        let is_right = replies.pop() == Some(reply) && is_counted(progress, before, most);
         assert!(rt; is_right, "at ({id}, {value})");
     }
     Ok(())
@@ -103,20 +108,31 @@ fn has_walk(progress: &Progress, want: &[(u64, u64)]) -> bool {
     want.is_empty() || progress.iter().copied().eq(want.iter().copied())
 }
 
-/// Whether the counts are the wanted ones, where some are wanted.
-fn has_counts(progress: &Progress, want: &Option<Stat>) -> bool {
+/// Whether so many updates and moves were counted, where that is known.
+fn has_counts(progress: &Progress, want: &Option<(u64, u64)>) -> bool {
     match want {
-        Some(want) => *progress.stat() == *want,
+        Some((updates, moves)) => {
+            progress.stat().update_count == *updates && progress.stat().move_count == *moves
+        }
         None => true,
     }
 }
 
-/// A number of voters, learners and updates; the walk and the counts that they leave, where known.
-type Row<'a> = (u64, &'a [u64], Updates<'a>, &'a [(u64, u64)], Option<Stat>);
+/// A number of voters and its binary digits, learners and updates; the walk that they leave, and how
+/// many updates and moves are counted, where known.
+type Row<'a> = (
+    u64,
+    u64,
+    &'a [u64],
+    Updates<'a>,
+    &'a [(u64, u64)],
+    Option<(u64, u64)>,
+);
 
 const ROWS: [Row<'static>; 5] = [
     (
         5,
+        3,
         &[6],
         &[
             (6, 9, Ok(0)),
@@ -135,6 +151,7 @@ const ROWS: [Row<'static>; 5] = [
     ),
     (
         5,
+        3,
         &[],
         &[
             (0, 5, Ok(0)),
@@ -144,14 +161,11 @@ const ROWS: [Row<'static>; 5] = [
             (3, 6, Ok(5)),
         ],
         &[],
-        Some(Stat {
-            update_count: 5,
-            move_count: 5,
-            is_quorum_count: 6,
-        }),
+        Some((5, 5)),
     ),
     (
         5,
+        3,
         &[],
         &[
             (1, 2, Ok(0)),
@@ -165,23 +179,24 @@ const ROWS: [Row<'static>; 5] = [
     ),
     (
         5,
+        3,
         &[6, 7],
         &[(7, 7, Ok(0)), (3, 3, Ok(0)), (1, 1, Ok(0))],
         &[(3, 3), (1, 1), (0, 0), (2, 0), (4, 0), (6, 0), (7, 7)],
         None,
     ),
-    (3, &[], &[(0, 5, Ok(0)), (1, 6, Ok(5))], &[], None),
+    (3, 2, &[], &[(0, 5, Ok(0)), (1, 6, Ok(5))], &[], None),
 ];
 
 #[test]
 fn updates_answer_as_worked(rt: HostRuntime) -> Result<(), Fail> {
     let alloc = rt.alloc();
-    for (voters, learners, updates, walk, stat) in &ROWS {
+    for (voters, digits, learners, updates, walk, counts) in &ROWS {
         let mut updated = made(&rt, alloc, make_asked(alloc, *voters)?, learners, 0)?;
-        compare_updates(&rt, &mut updated, updates);
-        assert!(rt; has_walk(&updated, walk) && has_counts(&updated, stat));
+        compare_updates(&rt, &mut updated, updates, *digits);
+        assert!(rt; has_walk(&updated, walk) && has_counts(&updated, counts));
         let mut replayed = made(&rt, alloc, make_asked(alloc, *voters)?, learners, 0)?;
-        compare_replays(&rt, alloc, &mut replayed, updates)?;
+        compare_replays(&rt, alloc, &mut replayed, updates, *digits)?;
         assert!(rt; *updated.stat() == *replayed.stat());
     }
     Ok(())
@@ -195,8 +210,7 @@ fn a_hundred_voters(rt: HostRuntime) -> Result<(), Fail> {
         risen[i as usize] = (i, i + 1, Ok(i / 50));
     }
     let mut progress = made(&rt, alloc, make_asked(alloc, 100)?, &[], 0)?;
-    compare_updates(&rt, &mut progress, &risen);
-    assert_eq!(rt; progress.stat().is_quorum_count, 1326);
+    compare_updates(&rt, &mut progress, &risen, 7);
     Ok(())
 }
 
@@ -210,7 +224,7 @@ fn counts_are(stat: &Stat, tests: u64) -> bool {
 fn an_upgrade_counts_its_calls(rt: HostRuntime) -> Result<(), Fail> {
     let alloc = rt.alloc();
     let mut progress = made(&rt, alloc, make_asked(alloc, 3)?, &[], 0)?;
-    compare_updates(&rt, &mut progress, &[(0, 5, Ok(0)), (1, 6, Ok(5))]);
+    compare_updates(&rt, &mut progress, &[(0, 5, Ok(0)), (1, 6, Ok(5))], 2);
     let before = progress.stat().is_quorum_count;
     let upgrade = AnyStep::Upgrade {
         quorum_set: make_asked(alloc, 3)?,

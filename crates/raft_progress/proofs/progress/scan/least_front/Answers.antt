@@ -1,13 +1,37 @@
-use Rattle.std.proofs.Common.{arith}
+use Rattle.std.proofs.Common.{arith, sym, ◌∙◌, ◌+◌, ◌≤◌}
+use Rattle.raft_progress.proofs.FrontLemmas.{front_tested, halves_all, halves_failed, halves_none, halves_passed, tests_fit}
 use Rattle.raft_progress.proofs.progress.scan.least_front.Goals as goal
 
-pub returns : goal.returns
-returns g c = record {
-  none = λ e k l h. c.loop-below.invariant.none k l (omega arith);
-  above = λ k e. cc;
-  within = λ k e. cc;
-  holds = λ k e. cc;
-  least = λ k l e. cc;
-  tested = λ k e. cc;
-  at_most = omega arith;
+pub overflow_add-tests : goal.overflow_add-tests
+overflow_add-tests g c =
+    let t = tests_fit g.ID.PartialEq.eq (g.QS.QuorumSet.has_quorum c.args.quorum_set.now) c.args.voters.now c.args.low c.args.high c.loop-failed.failed c.loop-failed.end c.loop-failed.left c.loop-failed.least c.loop-failed.tests c.loop-failed.invariant.halves c.loop-failed.invariant.fits in
+    omega arith
+
+pub loop-failed-init : goal.loop-failed-init
+loop-failed-init g c = record {
+  halves = halves_none g.ID.PartialEq.eq (g.QS.QuorumSet.has_quorum c.args.quorum_set.now) c.args.voters.now c.args.low c.args.high c.requires.within;
+  fits = omega arith;
 }
+
+pub loop-failed-preserved-then-is_quorum : goal.loop-failed-preserved-then-is_quorum
+loop-failed-preserved-then-is_quorum g c =
+    let e = c.min.ensures in
+    let l : c.loop-failed.failed + 1 + c.min.result ≤ c.args.high = let w = c.loop-failed.invariant.halves.within in omega arith in
+    let tested = front_tested g.met.ID.Eq.laws (g.QS.QuorumSet.has_quorum c.args.quorum_set.now) c.args.voters.now c.requires.distinct c.gather_front.new.room c.args.high (c.loop-failed.failed + 1 + c.min.result) l c.gather_front.ensures c.is_quorum.result c.is_quorum.ensures.quorum in
+    record {
+      halves = halves_passed g.ID.PartialEq.eq (g.QS.QuorumSet.has_quorum c.args.quorum_set.now) c.args.voters.now c.args.low c.args.high c.loop-failed.failed c.loop-failed.end c.loop-failed.left c.loop-failed.least c.loop-failed.tests c.loop-failed.invariant.halves c.loop-failed-test.true (c.loop-failed.failed + 1 + c.min.result) (omega arith) (sym tested ∙ c.if-is_quorum.true);
+      fits = c.loop-failed.invariant.fits;
+    }
+
+pub loop-failed-preserved : goal.loop-failed-preserved
+loop-failed-preserved g c =
+    let e = c.min.ensures in
+    let l : c.loop-failed.failed + 1 + c.min.result ≤ c.args.high = let w = c.loop-failed.invariant.halves.within in omega arith in
+    let tested = front_tested g.met.ID.Eq.laws (g.QS.QuorumSet.has_quorum c.args.quorum_set.now) c.args.voters.now c.requires.distinct c.gather_front.new.room c.args.high (c.loop-failed.failed + 1 + c.min.result) l c.gather_front.ensures c.is_quorum.result c.is_quorum.ensures.quorum in
+    record {
+      halves = halves_failed g.ID.PartialEq.eq (g.QS.QuorumSet.has_quorum c.args.quorum_set.now) c.args.voters.now c.args.low c.args.high c.loop-failed.failed c.loop-failed.end c.loop-failed.left c.loop-failed.least c.loop-failed.tests c.loop-failed.invariant.halves c.loop-failed-test.true (c.loop-failed.failed + 1 + c.min.result) (omega arith) (g.met.QS.QuorumSet.superset c.args.quorum_set.now) (sym tested ∙ c.if-is_quorum.false);
+      fits = c.loop-failed.invariant.fits;
+    }
+
+pub returns : goal.returns
+returns g c = halves_all g.ID.PartialEq.eq (g.QS.QuorumSet.has_quorum c.args.quorum_set.now) c.args.voters.now c.args.low c.args.high c.loop-failed.failed c.loop-failed.end c.loop-failed.left c.loop-failed.least c.loop-failed.tests c.loop-failed.invariant.halves (omega arith)

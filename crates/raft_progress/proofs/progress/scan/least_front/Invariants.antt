@@ -1,11 +1,13 @@
-use Rattle.std.proofs.Common.{◌≡◌, ◌<◌, ◌≤◌, ◌+◌, false, ℕ}
-use Rattle.raft_progress.specs.Inner.Counts.{front_test}
+use Rattle.std.proofs.Common.{◌-◌, ◌<◌, ◌^◌, length}
+use Rattle.raft_progress.proofs.FrontLemmas.{Halves}
 use Rattle.raft_progress.proofs.progress.scan.least_front.Given as goal
 
--- no front so far is a quorum, and each was tested once
-abbrev pub invariant-loop-below : goal.invariant-loop-below
-invariant-loop-below g l = record {
-  tests : l.tests + l.low ≡ l.below;
-  at_most : l.tests ≤ l.high;
-  none : (k : ℕ) → l.low < k → k < l.below + 1 → front_test g.ID.PartialEq.eq (g.QS.QuorumSet.has_quorum l.quorum_set) l.voters k ≡ false;
+-- the fronts that are left are halved by each test
+abbrev pub invariant-loop-failed : goal.invariant-loop-failed
+invariant-loop-failed g l = record {
+  halves : Halves g.ID.PartialEq.eq (g.QS.QuorumSet.has_quorum l.quorum_set) l.voters l.low l.high l.failed l.end l.left l.least l.tests;
+  fits : length l.voters < 2 ^ 64;
 }
+
+abbrev pub decreases-loop-failed : goal.decreases-loop-failed
+decreases-loop-failed g l = l.end - l.failed

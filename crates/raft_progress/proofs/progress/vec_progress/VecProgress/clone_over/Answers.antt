@@ -1,6 +1,9 @@
 use Rattle.std.proofs.Common.{List, ◌≡◌, ◌≤◌, ◌∙◌, ap, length, refl, rules, subst, sym}
 use Rattle.std.specs.List.{AllZip}
-use Rattle.raft_progress.proofs.CloneLemmas.{same_length}
+use Rattle.std.specs.BTreeMap.{get}
+use Rattle.std.specs.Map.{keys_of}
+use Rattle.raft_progress.proofs.CloneLemmas.{same_ids, same_length}
+use Rattle.raft_progress.proofs.PlacesLemmas.{tells_alike}
 use Rattle.raft_progress.proofs.progress.vec_progress.VecProgress.clone_over.Goals as goal
 
 pub returns : goal.returns
@@ -17,4 +20,7 @@ pub invariant_of-result : goal.invariant_of-result
 invariant_of-result g c = record {
   voters_fit = subst (λ n. c.args.self.now.voter_count ≤ n) (sym (same_length (λ (d e : g.row.ID.Denot × g.row.V.Denot). (e.0 ≡ d.0) × g.V.Clone.is_clone d.1 e.1) c.deref.result.now c.in_ok-clone_walk.field-0.items c.in_ok-clone_walk.ensures ∙ ap length c.deref.ensures.value)) c.args.self.now.voters_fit;
   room_fits = ap length (c.in_ok-copy_ids.ensures ∙ c.deref-2.ensures.value) ∙ c.args.self.now.room_fits;
+  agree = λ fresh.
+      let same : keys_of c.in_ok-clone_walk.field-0.items ≡ keys_of c.args.self.now.walk.items = same_ids g.V.Clone.is_clone c.deref.result.now c.in_ok-clone_walk.field-0.items c.in_ok-clone_walk.ensures ∙ ap keys_of c.deref.ensures.value in
+      tells_alike g.met.ID.Eq.laws (keys_of c.args.self.now.walk.items) (keys_of c.in_ok-clone_walk.field-0.items) (get g.ID.Ord.cmp c.args.self.now.places) (get g.ID.Ord.cmp c.in_ok-copy_places.field-0) same c.in_ok-copy_places.ensures (c.args.self.now.agree fresh);
 }

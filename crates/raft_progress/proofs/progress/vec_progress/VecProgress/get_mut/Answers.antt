@@ -1,4 +1,7 @@
-use Rattle.std.proofs.Common.{sym, ap, ◌∙◌, refl, Some, set, List}
+use Rattle.std.proofs.Common.{sym, ap, ◌∙◌, ◌≤◌, refl, Some, set, List, subst}
+use Rattle.std.proofs.Math.ListN.{length-set}
+use Rattle.std.specs.Map.{keys_of}
+use Rattle.raft_progress.proofs.PlacesLemmas.{keys_rewritten}
 use Rattle.raft_progress.proofs.WalkLemmas.{lookup_found, lookup_absent, set_found}
 use Rattle.raft_progress.specs.progress.VecProgress.{shown}
 use Rattle.raft_progress.proofs.progress.vec_progress.VecProgress.get_mut.Goals as goal
@@ -24,3 +27,11 @@ returns-in-None g c = (
   (refl, (λ w. tt), refl),
   record { writes_back = tt; value = sym (lookup_absent (g.ID.PartialEq.eq c.args.id.now) c.args.self.now.walk.items (sym c.in-None.ensures)) },
 )
+
+pub invariant_of-self-lent : goal.invariant_of-self-lent
+invariant_of-self-lent g c = λ w.
+    let is = c.index_mut-entry.ensures.value in
+    let same = ap (λ (e : g.row.ID.Denot × g.row.V.Denot). keys_of (set c.args.self.now.walk.items c.in-Some.place (e.0, w))) is ∙ keys_rewritten c.args.self.now.walk.items c.in-Some.place c.index_mut-entry.result.now w in (
+      subst (λ n. c.args.self.now.voter_count ≤ n) (sym (length-set c.args.self.now.walk.items c.in-Some.place (c.index_mut-entry.result.now.0, w))) c.args.self.now.voters_fit,
+      (c.args.self.now.room_fits, ((λ fresh. rw same (c.args.self.now.agree fresh)), tt)),
+    )

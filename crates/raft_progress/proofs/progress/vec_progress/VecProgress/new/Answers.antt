@@ -1,5 +1,7 @@
-use Rattle.std.proofs.Common.{ap, sym, ◌∙◌, ◌++◌}
-use Rattle.raft_progress.proofs.NewProgressLemmas.{IsDistinct-from_cmp, all_placed, fresh_is_new, fresh_in_order, keys_placed, voters_within}
+use Rattle.std.proofs.Common.{ap, subst, sym, ◌∙◌, ◌++◌}
+use Rattle.std.specs.List.{IsDistinct}
+use Rattle.std.specs.Map.{keys_of}
+use Rattle.raft_progress.proofs.NewProgressLemmas.{IsDistinct-from_cmp, all_placed, distinct_with_learners, fresh_is_new, fresh_in_order, keys_placed, voters_within}
 use Rattle.raft_progress.proofs.progress.vec_progress.VecProgress.new.Goals as goal
 
 pub returns-clause-made : goal.returns-clause-made
@@ -36,4 +38,10 @@ pub invariant_of-result : goal.invariant_of-result
 invariant_of-result g c = record {
   voters_fit = voters_within _ c.in_ok-room.room.items c.args.learners.now _ (keys_placed _ _ _ _ _ c.new-walk.ensures.items c.in_ok-place_all.ensures c.in_ok-place_all-2.ensures ∙ ap (λ ids. ids ++ c.args.learners.now) c.deref.ensures.value) (c.len-voter_count.ensures ∙ c.in_ok-room.room.ok.0);
   room_fits = sym (c.len-voter_count.ensures ∙ c.in_ok-room.room.ok.0);
+  agree = λ fresh. rw c.deref-2.ensures.value at c.in_ok-places.ensures;
 }
+
+pub places_of-requires : goal.places_of-requires
+places_of-requires g c =
+    subst (IsDistinct g.ID.PartialEq.eq) (sym (ap keys_of c.deref-2.ensures.value ∙ keys_placed _ _ _ _ _ c.new-walk.ensures.items c.in_ok-place_all.ensures c.in_ok-place_all-2.ensures ∙ ap (λ ids. ids ++ c.args.learners.now) c.deref.ensures.value))
+    (distinct_with_learners g.met.ID.Eq.laws (g.QS.QuorumSet.is_voter c.args.quorum_set) c.in_ok-room.room.items c.args.learners.now (IsDistinct-from_cmp g.ID.Ord.cmp g.met.ID.Ord.matches_eq _ c.in_ok-room.ensures.ascending) c.in_ok-room.ensures.voters c.requires.learners_fit)

@@ -1,40 +1,94 @@
-use Rattle.std.proofs.Common.{refl, sym, ◌∙◌, subst, List, true≢false}
+use Rattle.std.proofs.Common.{refl, ap, arith, sym, ◌∙◌, ◌≡◌, ◌≤◌, length, subst, List, true≢false}
+use Rattle.std.specs.BTreeMap.{get}
 use Rattle.std.specs.List.{IsDistinct}
 use Rattle.std.specs.Map.{keys_of}
+use Rattle.raft_progress.specs.Inner.Rises.{RisesTo}
+use Rattle.raft_progress.specs.progress.VecProgress.{shown}
 use Rattle.raft_progress.proofs.MovedLemmas.{distinct_moved}
+use Rattle.raft_progress.proofs.PlacesLemmas.{but_passed, passed_length, passed_nothing}
 use Rattle.raft_progress.proofs.progress.vec_progress.VecProgress.raise.Goals as goal
+use Rattle.raft_progress.proofs.progress.vec_progress.VecProgress.raise.Goals.{then-to-place+then-not-self, else-to-place, else-to-place-via-then-to-place+else-not-self, else-to-place-via-else-to-place}
+
+pub write_places-requires : goal.write_places-requires
+write_places-requires g c =
+    let p = c.move_up-to.ensures.passes in
+    let distinct = subst (λ (es : List (g.row.ID.Denot × g.row.V.Denot)). IsDistinct g.ID.PartialEq.eq (keys_of es)) (sym (c.deref.ensures.value ∙ p.now)) (distinct_moved g.met.ID.Eq.laws p.front p.passed p.entry p.rest (subst (λ (es : List (g.row.ID.Denot × g.row.V.Denot)). IsDistinct g.ID.PartialEq.eq (keys_of es)) p.was c.requires.distinct)) in
+    record {
+      ascending = omega arith;
+      within =
+          let long = ap (length {A = g.row.ID.Denot × g.row.V.Denot}) c.deref.ensures.value ∙ passed_length g.P.Ord.cmp g.V.ProgressPart.part_of c.args.self.now.walk.items c.args.place c.move_up-to.new.walk.items c.move_up-to.result p in
+          let f = c.args.self.now.voters_fit in
+          let l = c.requires.within in
+          omega arith;
+      distinct = distinct;
+      others = rw c.deref.ensures.value (but_passed g.met.ID.Eq.laws g.P.Ord.cmp g.V.ProgressPart.part_of c.args.self.now.walk.items c.args.place c.move_up-to.new.walk.items c.move_up-to.result p (get g.ID.Ord.cmp c.args.self.now.places) (c.args.self.now.agree c.if-not-self.true));
+    }
+
+pub invariant_of-self-else-to-place : goal.invariant_of-self-else-to-place
+invariant_of-self-else-to-place g c =
+    let same = passed_nothing g.P.Ord.cmp g.V.ProgressPart.part_of c.args.self.now.walk.items c.args.place c.move_up-to.new.walk.items c.move_up-to.result c.move_up-to.ensures.passes c.if-to-place.false in
+    record {
+      voters_fit = subst (λ n. c.args.self.now.voter_count ≤ n) (sym (ap length same)) c.args.self.now.voters_fit;
+      room_fits = c.args.self.now.room_fits;
+      agree = λ fresh. rw same (c.args.self.now.agree fresh);
+    }
 
 pub scan-requires : goal.scan-requires
 scan-requires g c =
+    let same : shown c.if-to-place.self ≡ record (shown c.args.self.now) { walk = c.move_up-to.new.walk.items; stat = record c.args.self.now.stat { move_count = c.saturating_add-self.result } } =
+    elim c.if-to-place.branch [
+      | then-to-place+then-not-self w ↦ ap (λ p. shown p) w.self-is
+      | else-to-place w ↦ elim w.else-to-place.branch [
+        | else-to-place-via-then-to-place+else-not-self w' ↦ ap (λ p. shown p) (w.self-is ∙ w'.self-is)
+        | else-to-place-via-else-to-place w' ↦ ap (λ p. shown p) (w.self-is ∙ w'.self-is)
+      ]
+    ] in
     let p = c.move_up-to.ensures.passes in
     record {
-      distinct = subst (λ (es : List (g.row.ID.Denot × g.row.V.Denot)). IsDistinct g.ID.PartialEq.eq (keys_of es)) (sym p.now)
-          (distinct_moved g.met.ID.Eq.laws p.front p.passed p.entry p.rest
-          (subst (λ (es : List (g.row.ID.Denot × g.row.V.Denot)). IsDistinct g.ID.PartialEq.eq (keys_of es)) p.was c.requires.distinct));
+      distinct = subst (λ (es : List (g.row.ID.Denot × g.row.V.Denot)). IsDistinct g.ID.PartialEq.eq (keys_of es)) (sym (ap (λ p. p.walk) same ∙ p.now))
+          (distinct_moved g.met.ID.Eq.laws p.front p.passed p.entry p.rest (subst (λ (es : List (g.row.ID.Denot × g.row.V.Denot)). IsDistinct g.ID.PartialEq.eq (keys_of es)) p.was c.requires.distinct));
     }
 
 pub returns-then-counts : goal.returns-then-counts
-returns-then-counts g c = record {
-  middle = _;
-  group = record { quorum_set = refl; voter_count = refl; default_part = refl; updates = refl };
-  granted = refl;
-  tests = refl;
-  moves = c.saturating_add-self.ensures;
-  to = c.move_up-to.result;
-  rises = c.move_up-to.ensures;
-  looked = λ e. c.scan.ensures;
-  kept = λ e. absurd (true≢false (sym c.if-counts.true ∙ e));
-}
+returns-then-counts g c =
+    let same : shown c.if-to-place.self ≡ record (shown c.args.self.now) { walk = c.move_up-to.new.walk.items; stat = record c.args.self.now.stat { move_count = c.saturating_add-self.result } } =
+    elim c.if-to-place.branch [
+      | then-to-place+then-not-self w ↦ ap (λ p. shown p) w.self-is
+      | else-to-place w ↦ elim w.else-to-place.branch [
+        | else-to-place-via-then-to-place+else-not-self w' ↦ ap (λ p. shown p) (w.self-is ∙ w'.self-is)
+        | else-to-place-via-else-to-place w' ↦ ap (λ p. shown p) (w.self-is ∙ w'.self-is)
+      ]
+    ] in
+    record {
+      middle = shown c.if-to-place.self;
+      group = record { quorum_set = ap (λ p. p.quorum_set) same; voter_count = ap (λ p. p.voter_count) same; default_part = ap (λ p. p.default_part) same; updates = ap (λ p. p.stat.update_count) same };
+      granted = ap (λ p. p.granted) same;
+      tests = ap (λ p. p.stat.is_quorum_count) same;
+      moves = ap (λ p. p.stat.move_count) same ∙ c.saturating_add-self.ensures;
+      to = c.move_up-to.result;
+      rises = subst (λ (es : List (g.row.ID.Denot × g.row.V.Denot)). RisesTo g.P.Ord.cmp g.V.ProgressPart.part_of c.args.self.now.walk.items c.args.place es c.move_up-to.result) (sym (ap (λ p. p.walk) same)) c.move_up-to.ensures;
+      looked = λ e. c.scan.ensures;
+      kept = λ e. absurd (true≢false (sym c.if-counts.true ∙ e));
+    }
 
 pub returns-else-counts : goal.returns-else-counts
-returns-else-counts g c = record {
-  middle = _;
-  group = record { quorum_set = refl; voter_count = refl; default_part = refl; updates = refl };
-  granted = refl;
-  tests = refl;
-  moves = c.saturating_add-self.ensures;
-  to = c.move_up-to.result;
-  rises = c.move_up-to.ensures;
-  looked = λ e. absurd (true≢false (sym e ∙ c.if-counts.false));
-  kept = λ e. refl;
-}
+returns-else-counts g c =
+    let same : shown c.if-to-place.self ≡ record (shown c.args.self.now) { walk = c.move_up-to.new.walk.items; stat = record c.args.self.now.stat { move_count = c.saturating_add-self.result } } =
+    elim c.if-to-place.branch [
+      | then-to-place+then-not-self w ↦ ap (λ p. shown p) w.self-is
+      | else-to-place w ↦ elim w.else-to-place.branch [
+        | else-to-place-via-then-to-place+else-not-self w' ↦ ap (λ p. shown p) (w.self-is ∙ w'.self-is)
+        | else-to-place-via-else-to-place w' ↦ ap (λ p. shown p) (w.self-is ∙ w'.self-is)
+      ]
+    ] in
+    record {
+      middle = shown c.if-to-place.self;
+      group = record { quorum_set = ap (λ p. p.quorum_set) same; voter_count = ap (λ p. p.voter_count) same; default_part = ap (λ p. p.default_part) same; updates = ap (λ p. p.stat.update_count) same };
+      granted = ap (λ p. p.granted) same;
+      tests = ap (λ p. p.stat.is_quorum_count) same;
+      moves = ap (λ p. p.stat.move_count) same ∙ c.saturating_add-self.ensures;
+      to = c.move_up-to.result;
+      rises = subst (λ (es : List (g.row.ID.Denot × g.row.V.Denot)). RisesTo g.P.Ord.cmp g.V.ProgressPart.part_of c.args.self.now.walk.items c.args.place es c.move_up-to.result) (sym (ap (λ p. p.walk) same)) c.move_up-to.ensures;
+      looked = λ e. absurd (true≢false (sym e ∙ c.if-counts.false));
+      kept = λ e. refl;
+    }

@@ -1,4 +1,4 @@
-use Rattle.std.proofs.Common.{arith, refl, sym, ap, ◌∙◌, true≢false, nat_lt, lt-ltb, ltb, is_lt, ◌&&◌, ◌≡◌, Bool, true, false, ◌≤◌, ℕ, ltb-true}
+use Rattle.std.proofs.Common.{arith, refl, sym, ap, ◌∙◌, true≢false, nat_lt, lt-ltb, ltb, is_le, is_lt, ◌&&◌, ◌≡◌, Bool, true, false, ◌≤◌, ℕ, ltb-true}
 use Rattle.raft_progress.proofs.progress.vec_progress.VecProgress.settle.Goals as goal
 use Rattle.raft_progress.proofs.progress.vec_progress.VecProgress.settle.Goals.{else-place-self-via-then-place-self+else-is_raised, else-place-self-via-else-place-self}
 
@@ -17,10 +17,11 @@ pub returns-then-is_raised : goal.returns-then-is_raised
 returns-then-is_raised g c =
     let yes : (nat_lt c.args.place c.args.self.now.voter_count && (is_lt (g.P.Ord.cmp c.args.before (g.V.ProgressPart.part_of c.index.result.now.1)) && is_lt (g.P.Ord.cmp c.args.self.now.granted (g.V.ProgressPart.part_of c.index.result.now.1)))) ≡ true =
     rw (lt-ltb _ _ c.if-place-self.true, ← c.part-after.ensures) (sym c.is_raised.ensures ∙ c.if-is_raised.true) in
+    let counts : c.is_le.result ≡ is_le (g.P.Ord.cmp c.args.before c.args.self.now.granted) = cc in
     record {
       entry = c.index.result.now;
       at = c.index.ensures;
-      raised = λ h. rw (← c.cmp.ensures, ← c.is_le.ensures) c.raise.ensures;
+      raised = λ h. rw (← counts) c.raise.ensures;
       kept = λ h. absurd (true≢false (sym yes ∙ h));
     }
 

@@ -1,0 +1,269 @@
+-- A map that tells the places of ids.
+use Rattle.std.specs.Prelude.{◌≡◌, ℕ, ◌+◌, ◌-◌, ◌<◌, ◌≤◌, Bool, true, false, cond, ◌||◌, List, [], ◌∷◌, ◌++◌, length, take, Option, Some, None, position, slice_get}
+use Rattle.std.specs.Cmp.{IsEquivalence}
+use Rattle.std.specs.Map.{keys_of}
+use Rattle.std.specs.Set.{is_member}
+use Rattle.std.specs.List.{IsDistinct}
+use Rattle.std.specs.Option.{is_some}
+use Rattle.std.proofs.Common.{arith, sym, ap, refl, ◌∙◌, true≢false, get_or, set, subst, suc, zero, ltb, ltb-true, ltb-false, length-append}
+use Rattle.std.proofs.Math.Seq.{get_or-append_seam}
+use Rattle.std.proofs.lemmas.List.{get_or-append-add, get_or_append_left, length-take}
+use Rattle.std.proofs.lemmas.List.Folds.{list_any-append}
+use Rattle.std.proofs.lemmas.List.Quantifiers.{position-Some}
+use Rattle.std.proofs.lemmas.Option.{get_or_from_slice_get}
+use Rattle.std.proofs.lemmas.Map.Entries.{length-keys_of}
+use Rattle.std.proofs.lemmas.Map.Keys.{apart_from_distinct}
+use Rattle.std.proofs.lemmas.Map.Made.{is_some-lookup}
+use Rattle.std.specs.declared.cmp.Ordering.{Ordering}
+use Rattle.raft_progress.specs.Inner.Places.{TellsPlaces, TellsPlacesBut}
+use Rattle.raft_progress.specs.Inner.Rises.{Passed}
+use Rattle.raft_progress.proofs.ListLemmas.{or_right}
+use Rattle.raft_progress.proofs.MovedLemmas.{member_moved}
+use Rattle.raft_progress.proofs.SettledLemmas.{get_take}
+use Rattle.raft_progress.proofs.WalkLemmas.{lookup_absent}
+
+-- the id at a place is that of the entry there
+pub key_at : {ID V : Type 0} (es : List (ID × V)) (i : ℕ) (d : ID × V) (x : ID) → i < length es → (get_or es i d).0 ≡ get_or (keys_of es) i x
+key_at [] i d x l = absurd (omega arith)
+key_at (e ∷ es) zero d x l = refl
+key_at (e ∷ es) (suc i) d x l = key_at es i d x (omega arith)
+
+keys_append : {ID V : Type 0} (es fs : List (ID × V)) → keys_of (es ++ fs) ≡ keys_of es ++ keys_of fs
+keys_append [] fs = refl
+keys_append (e ∷ es) fs = ap (λ ks. e.0 ∷ ks) (keys_append es fs)
+
+-- a value that is written leaves the ids
+pub keys_rewritten : {ID V : Type 0} (es : List (ID × V)) (i : ℕ) (d : ID × V) (w : V) → keys_of (set es i ((get_or es i d).0, w)) ≡ keys_of es
+keys_rewritten [] i d w = refl
+keys_rewritten (e ∷ es) zero d w = refl
+keys_rewritten (e ∷ es) (suc i) d w = ap (λ ks. e.0 ∷ ks) (keys_rewritten es i d w)
+
+pub keys_written : {ID V : Type 0} (es : List (ID × V)) (i : ℕ) (e : ID × V) (w : V) → slice_get es i ≡ Some e → keys_of (set es i (e.0, w)) ≡ keys_of es
+keys_written {ID} {V} es i e w h = ap (λ (f : ID × V). keys_of (set es i (f.0, w))) (sym (get_or_from_slice_get es i e e h)) ∙ keys_rewritten es i e w
+
+-- where an id is found, there is a place
+pub place_within : {X : Type 0} (p : X → Bool) (xs : List X) (i : ℕ) → position p xs ≡ Some i → i < length xs
+place_within p [] i h = absurd (cc)
+place_within p (x ∷ xs) i h = (position-Some p (x ∷ xs) i x h).0
+
+any_default : {X : Type 0} (xs : List X) (i : ℕ) (d e : X) → i < length xs → get_or xs i d ≡ get_or xs i e
+any_default [] i d e l = absurd (omega arith)
+any_default (x ∷ xs) zero d e l = refl
+any_default (x ∷ xs) (suc i) d e l = any_default xs i d e (omega arith)
+
+pub passed_length : {ID V P : Type 0} (cmp : P → P → Ordering) (part : V → P) (old : List (ID × V)) (from : ℕ) (new : List (ID × V)) (to : ℕ) → Passed cmp part old from new to → length new ≡ length old
+passed_length cmp part old from new to p =
+    let a = length-append p.front (p.passed ++ (p.entry ∷ p.rest)) in
+    let b = length-append p.passed (p.entry ∷ p.rest) in
+    let c = length-append p.front (p.entry ∷ (p.passed ++ p.rest)) in
+    let d = length-append p.passed p.rest in
+    ap length p.now ∙ omega arith ∙ sym (ap length p.was)
+
+-- what has passed nothing stands where it stood
+pub passed_nothing : {ID V P : Type 0} (cmp : P → P → Ordering) (part : V → P) (old : List (ID × V)) (from : ℕ) (new : List (ID × V)) (to : ℕ) → Passed cmp part old from new to → from ≤ to → new ≡ old
+passed_nothing {ID} {V} cmp part old from new to p l = by p.passed refl
+  where
+    by : (passed : List (ID × V)) → p.passed ≡ passed → new ≡ old
+    by [] none = p.now ∙ ap (λ (es : List (ID × V)). p.front ++ (p.entry ∷ (es ++ p.rest))) none ∙ sym (p.was ∙ ap (λ (es : List (ID × V)). p.front ++ (es ++ (p.entry ∷ p.rest))) none)
+    by (e ∷ es) some = let q = p.now_at in let w = p.was_at in let n = ap length some in absurd (omega arith)
+
+module _ {ID : Type 0} {eq : ID → ID → Bool} (laws : IsEquivalence eq) where
+  pub member_at : (ids : List ID) (k : ℕ) (d x : ID) → k < length ids → eq x (get_or ids k d) ≡ true → is_member eq ids x ≡ true
+  member_at [] k d x l h = absurd (omega arith)
+  member_at (i ∷ ids) zero d x l h = ap (λ b. b || is_member eq ids x) h
+  member_at (i ∷ ids) (suc k) d x l h = or_right (eq x i) (is_member eq ids x) (member_at ids k d x (omega arith) h)
+
+  -- a member has a place
+  place_of_member : (ids : List ID) (x : ID) → is_member eq ids x ≡ true → (k : ℕ) × (k < length ids) × (eq x (get_or ids k x) ≡ true)
+  place_of_member [] x m = absurd (true≢false (sym m))
+  place_of_member (i ∷ ids) x m = by (eq x i) refl m (place_of_member ids x)
+    where
+      by : (b : Bool) → eq x i ≡ b → (b || is_member eq ids x) ≡ true → (is_member eq ids x ≡ true → (k : ℕ) × (k < length ids) × (eq x (get_or ids k x) ≡ true)) → (k : ℕ) × (k < length (i ∷ ids)) × (eq x (get_or (i ∷ ids) k x) ≡ true)
+      by true e h more = (0, omega arith, e)
+      by false e h more = let r = more h in let l = r.1 in (suc r.0, omega arith, r.2)
+
+  no_member : (ids : List ID) (x : ID) → ((k : ℕ) → k < length ids → eq x (get_or ids k x) ≡ false) → is_member eq ids x ≡ false
+  no_member ids x none = by (is_member eq ids x) refl
+    where
+      by : (b : Bool) → is_member eq ids x ≡ b → b ≡ false
+      by false m = refl
+      by true m = let r = place_of_member ids x m in absurd (true≢false (sym r.2 ∙ none r.0 r.1))
+
+  differs : (ids : List ID) → IsDistinct eq ids → (i k : ℕ) (x : ID) → i < length ids → k < length ids → (i ≡ k → ⊥) → eq (get_or ids i x) (get_or ids k x) ≡ false
+  differs ids d i k x l m n = by (ltb i k) refl
+    where
+      by : (b : Bool) → ltb i k ≡ b → eq (get_or ids i x) (get_or ids k x) ≡ false
+      by true t = apart_from_distinct eq ids i k x d (ltb-true i k t) m
+      by false t =
+          let h = ltb-false i k t in
+          let g : k < i = by' (ltb k i) refl h in
+          laws.symm (get_or ids i x) (get_or ids k x) ∙ apart_from_distinct eq ids k i x d g l
+        where
+          by' : (b : Bool) → ltb k i ≡ b → k ≤ i → k < i
+          by' true t h = ltb-true k i t
+          by' false t h = let u = ltb-false k i t in absurd (n (omega arith))
+
+  -- the map tells what a search of the walk finds
+  pub place_is : {V : Type 0} (walk : List (ID × V)) (found : ID → Option ℕ) → TellsPlaces eq (keys_of walk) found → (id : ID) → found id ≡ position (λ (e : ID × V). eq id e.0) walk
+  place_is [] found t id = t.unknown id refl
+  place_is {V} (e ∷ es) found t id = by (position (λ (f : ID × V). eq id f.0) (e ∷ es)) refl
+    where
+      by : (o : Option ℕ) → position (λ (f : ID × V). eq id f.0) (e ∷ es) ≡ o → found id ≡ o
+      by (Some i) h =
+          let p = position-Some (λ (f : ID × V). eq id f.0) (e ∷ es) i e h in
+          t.here id i (rw (length-keys_of (e ∷ es)) p.0) (ap (eq id) (sym (key_at (e ∷ es) i e id p.0)) ∙ p.1)
+      by None h = t.unknown id (sym (is_some-lookup (eq id) (e ∷ es)) ∙ ap is_some (lookup_absent (eq id) (e ∷ es) h))
+
+  -- nothing is told of no ids
+  pub tells_none : (found : ID → Option ℕ) → ((x : ID) → found x ≡ None) → TellsPlaces eq [] found
+  tells_none found none = record { here = λ x k l h. absurd (omega arith); unknown = λ x m. none x }
+
+  -- one id more, behind the others
+  pub tells_more : (ids : List ID) (found found' : ID → Option ℕ) (id : ID) → TellsPlaces eq ids found → is_member eq ids id ≡ false → ((x : ID) → found' x ≡ cond (eq id x) (Some (length ids)) (found x)) → TellsPlaces eq (ids ++ id ∷ []) found'
+  tells_more ids found found' id t fresh is = record { here = here; unknown = unknown }
+    where
+      others : (x : ID) → eq id x ≡ false → found' x ≡ found x
+      others x h = is x ∙ ap (λ b. cond b (Some (length ids)) (found x)) h
+
+      here : (x : ID) (k : ℕ) → k < length (ids ++ id ∷ []) → eq x (get_or (ids ++ id ∷ []) k x) ≡ true → found' x ≡ Some k
+      here x k l h = by (ltb k (length ids)) refl
+        where
+          by : (b : Bool) → ltb k (length ids) ≡ b → found' x ≡ Some k
+          by true u =
+              let m = ltb-true k (length ids) u in
+              let at : eq x (get_or ids k x) ≡ true = ap (eq x) (sym (get_or_append_left ids (id ∷ []) x k m)) ∙ h in
+              others x (other (eq id x) refl at m) ∙ t.here x k m at
+            where
+              other : (b : Bool) → eq id x ≡ b → eq x (get_or ids k x) ≡ true → k < length ids → b ≡ false
+              other false e at m = refl
+              other true e at m = absurd (true≢false (sym (member_at ids k x id m (laws.congr id x (get_or ids k x) e ∙ at)) ∙ fresh))
+          by false u =
+              let m = ltb-false k (length ids) u in
+              let same : k ≡ length ids = omega (arith, length-append ids (id ∷ [])) in
+              let at : eq x id ≡ true = ap (eq x) (sym (get_or-append_seam ids id [] x)) ∙ ap (λ n. eq x (get_or (ids ++ id ∷ []) n x)) (sym same) ∙ h in
+              is x ∙ ap (λ b. cond b (Some (length ids)) (found x)) (laws.symm id x ∙ at) ∙ ap (λ (n : ℕ). Some n) (sym same)
+
+      unknown : (x : ID) → is_member eq (ids ++ id ∷ []) x ≡ false → found' x ≡ None
+      unknown x m =
+          let parts = neither (is_member eq ids x) (eq x id) (sym (list_any-append (eq x) ids (id ∷ [])) ∙ m) in
+          others x (laws.symm id x ∙ parts.1) ∙ t.unknown x parts.0
+        where
+          neither : (a b : Bool) → (a || (b || false)) ≡ false → (a ≡ false) × (b ≡ false)
+          neither true b e = absurd (true≢false e)
+          neither false true e = absurd (true≢false e)
+          neither false false e = (refl, refl)
+
+  -- no id of the list stands before its place
+  pub fresh_at : (ids : List ID) → IsDistinct eq ids → (i : ℕ) (d : ID) → i < length ids → is_member eq (take i ids) (get_or ids i d) ≡ false
+  fresh_at ids distinct i d l =
+      let y = get_or ids i d in
+      no_member (take i ids) y
+      (λ k m.
+      let near : k < i = omega (arith, length-take i ids) in
+      ap (eq y) (get_take ids i k y near) ∙ ap (λ z. eq z (get_or ids k y)) (any_default ids i d y l) ∙ differs ids distinct i k y l (omega arith) (λ e. omega arith))
+
+  module _ (ids : List ID) (distinct : IsDistinct eq ids) (i to : ℕ) (found found' : ID → Option ℕ) (id : ID) (l : i < length ids) (u : i < to) (is : (x : ID) → id ≡ get_or ids i x) (here : (x : ID) → eq id x ≡ true → found' x ≡ Some i) (others : (x : ID) → eq id x ≡ false → found' x ≡ found x) where
+    other : (x : ID) (k : ℕ) → k < length ids → eq x (get_or ids k x) ≡ true → (i ≡ k → ⊥) → eq id x ≡ false
+    other x k m at n =
+        laws.symm id x ∙ laws.congr x (get_or ids k x) id at ∙ laws.symm (get_or ids k x) id ∙ ap (λ y. eq y (get_or ids k x)) (is x) ∙ differs ids distinct i k x l m n
+
+    -- the place of one of the ids is written
+    pub but_more : TellsPlacesBut eq ids i to found → TellsPlacesBut eq ids (i + 1) to found'
+    but_more t = record { before = before; behind = behind; known = known; unknown = unknown }
+      where
+        before : (x : ID) (k : ℕ) → k < length ids → eq x (get_or ids k x) ≡ true → k < i + 1 → found' x ≡ Some k
+        before x k m at n = by (ltb k i) refl
+          where
+            by : (b : Bool) → ltb k i ≡ b → found' x ≡ Some k
+            by true v = let h = ltb-true k i v in others x (other x k m at (λ e. omega arith)) ∙ t.before x k m at h
+            by false v =
+                let h = ltb-false k i v in
+                let same : k ≡ i = omega arith in
+                here x (laws.symm id x ∙ ap (eq x) (is x) ∙ ap (λ n. eq x (get_or ids n x)) (sym same) ∙ at) ∙ ap (λ (n : ℕ). Some n) (sym same)
+
+        behind : (x : ID) (k : ℕ) → k < length ids → eq x (get_or ids k x) ≡ true → to ≤ k → found' x ≡ Some k
+        behind x k m at n = others x (other x k m at (λ e. omega arith)) ∙ t.behind x k m at n
+
+        known : (x : ID) → is_member eq ids x ≡ true → is_some (found' x) ≡ true
+        known x m = by (eq id x) refl
+          where
+            by : (b : Bool) → eq id x ≡ b → is_some (found' x) ≡ true
+            by true e = ap is_some (here x e)
+            by false e = ap is_some (others x e) ∙ t.known x m
+
+        unknown : (x : ID) → is_member eq ids x ≡ false → found' x ≡ None
+        unknown x m = by (eq id x) refl
+          where
+            by : (b : Bool) → eq id x ≡ b → found' x ≡ None
+            by true e = absurd (true≢false (sym (member_at ids i x x l (ap (eq x) (sym (is x)) ∙ laws.symm x id ∙ e)) ∙ m))
+            by false e = others x e ∙ t.unknown x m
+
+  -- all places are told
+  pub tells_all : (ids : List ID) (from to : ℕ) (found : ID → Option ℕ) → to ≤ from → TellsPlacesBut eq ids from to found → TellsPlaces eq ids found
+  tells_all ids from to found over t = record { here = here; unknown = t.unknown }
+    where
+      here : (x : ID) (k : ℕ) → k < length ids → eq x (get_or ids k x) ≡ true → found x ≡ Some k
+      here x k m at = by (ltb k from) refl
+        where
+          by : (b : Bool) → ltb k from ≡ b → found x ≡ Some k
+          by true v = t.before x k m at (ltb-true k from v)
+          by false v = let h = ltb-false k from v in t.behind x k m at (omega arith)
+
+  -- an entry has moved up, and the places of those that it passed and its own are not told yet
+  module _ {V : Type 0} (front passed : List (ID × V)) (e : ID × V) (rest : List (ID × V)) (found : ID → Option ℕ) (t : TellsPlaces eq (keys_of (front ++ (passed ++ (e ∷ rest)))) found) where
+    abbrev Old : List ID
+    Old = keys_of (front ++ (passed ++ (e ∷ rest)))
+
+    abbrev New : List ID
+    New = keys_of (front ++ (e ∷ (passed ++ rest)))
+
+    old_is : Old ≡ keys_of front ++ (keys_of passed ++ (e.0 ∷ keys_of rest))
+    old_is = keys_append front (passed ++ (e ∷ rest)) ∙ ap (λ ks. keys_of front ++ ks) (keys_append passed (e ∷ rest))
+
+    new_is : New ≡ keys_of front ++ (e.0 ∷ (keys_of passed ++ keys_of rest))
+    new_is = keys_append front (e ∷ (passed ++ rest)) ∙ ap (λ ks. keys_of front ++ (e.0 ∷ ks)) (keys_append passed rest)
+
+    as_long : length Old ≡ length New
+    as_long =
+        ap length old_is
+        ∙ let a = length-append (keys_of front) (keys_of passed ++ (e.0 ∷ keys_of rest)) in
+        let b = length-append (keys_of passed) (e.0 ∷ keys_of rest) in
+        let c = length-append (keys_of front) (e.0 ∷ (keys_of passed ++ keys_of rest)) in
+        let d = length-append (keys_of passed) (keys_of rest) in
+        omega arith
+        ∙ ap length (sym new_is)
+
+    same_before : (k : ℕ) (x : ID) → k < length front → get_or New k x ≡ get_or Old k x
+    same_before k x l =
+        let m : k < length (keys_of front) = rw (length-keys_of front) l in
+        ap (λ ks. get_or ks k x) new_is ∙ get_or_append_left (keys_of front) _ x k m ∙ sym (get_or_append_left (keys_of front) _ x k m) ∙ ap (λ ks. get_or ks k x) (sym old_is)
+
+    same_behind : (k : ℕ) (x : ID) → length front + length passed + 1 ≤ k → get_or New k x ≡ get_or Old k x
+    same_behind k x l =
+        let j : ℕ = k - length front - length passed - 1 in
+        let f = length-keys_of front in
+        let p = length-keys_of passed in
+        let to_new : k ≡ length (keys_of front) + suc (length (keys_of passed) + j) = omega arith in
+        let to_old : k ≡ length (keys_of front) + (length (keys_of passed) + suc j) = omega arith in
+        ap (λ ks. get_or ks k x) new_is ∙ ap (λ n. get_or (keys_of front ++ (e.0 ∷ (keys_of passed ++ keys_of rest))) n x) to_new ∙ get_or-append-add (keys_of front) (e.0 ∷ (keys_of passed ++ keys_of rest)) (suc (length (keys_of passed) + j)) x ∙ get_or-append-add (keys_of passed) (keys_of rest) j x
+        ∙ sym (ap (λ ks. get_or ks k x) old_is ∙ ap (λ n. get_or (keys_of front ++ (keys_of passed ++ (e.0 ∷ keys_of rest))) n x) to_old ∙ get_or-append-add (keys_of front) (keys_of passed ++ (e.0 ∷ keys_of rest)) (length (keys_of passed) + suc j) x ∙ get_or-append-add (keys_of passed) (e.0 ∷ keys_of rest) (suc j) x)
+
+    pub but_moved : TellsPlacesBut eq New (length front) (length front + length passed + 1) found
+    but_moved = record {
+      before = λ x k m at l. t.here x k (rw as_long m) (ap (eq x) (sym (same_before k x l)) ∙ at);
+      behind = λ x k m at l. t.here x k (rw as_long m) (ap (eq x) (sym (same_behind k x l)) ∙ at);
+      known = λ x m. let r = place_of_member Old x (sym (member_moved laws front passed e rest x) ∙ m) in ap is_some (t.here x r.0 r.1 r.2);
+      unknown = λ x m. t.unknown x (sym (member_moved laws front passed e rest x) ∙ m);
+    }
+
+  pub but_passed : {V P : Type 0} (cmp : P → P → Ordering) (part : V → P) (old : List (ID × V)) (from : ℕ) (new : List (ID × V)) (to : ℕ) → Passed cmp part old from new to → (found : ID → Option ℕ) → TellsPlaces eq (keys_of old) found → TellsPlacesBut eq (keys_of new) to (from + 1) found
+  but_passed {V} {P} cmp part old from new to p found t =
+      let b = but_moved p.front p.passed p.entry p.rest found (subst (λ (es : List (ID × V)). TellsPlaces eq (keys_of es) found) p.was t) in
+      subst (λ (es : List (ID × V)). TellsPlacesBut eq (keys_of es) to (from + 1) found) (sym p.now)
+      (subst (λ (n : ℕ). TellsPlacesBut eq (keys_of (p.front ++ (p.entry ∷ (p.passed ++ p.rest)))) n (from + 1) found) p.now_at
+      (subst (λ (n : ℕ). TellsPlacesBut eq (keys_of (p.front ++ (p.entry ∷ (p.passed ++ p.rest)))) (length p.front) (n + 1) found) p.was_at b))
+
+  -- the same ids, and a map that tells the same
+  pub tells_alike : (ids ids' : List ID) (found found' : ID → Option ℕ) → ids' ≡ ids → ((x : ID) → found' x ≡ found x) → TellsPlaces eq ids found → TellsPlaces eq ids' found'
+  tells_alike ids ids' found found' same is t =
+      subst (λ (ks : List ID). TellsPlaces eq ks found') (sym same) record { here = λ x k l h. is x ∙ t.here x k l h; unknown = λ x m. is x ∙ t.unknown x m }
