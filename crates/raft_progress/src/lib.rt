@@ -5,9 +5,11 @@
 pub mod entry;
 pub mod inflight;
 pub mod progress;
+pub mod search;
 pub mod tracked;
 
 pub use entry::{ProgressEntry, ProgressEntryOf};
 pub use inflight::{Inflight, InflightError, InflightOf, RequestId};
 pub use progress::{AnyStep, ProgressPart, Reply, Stat, VecProgress, replay_any};
+pub use search::{SearchEvent, search_run};
 pub use tracked::{MembershipProgress, Step, Tracked, replay};
