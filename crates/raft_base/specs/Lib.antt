@@ -6,5 +6,6 @@ pub mod LeaderOrder
 pub mod LogId
 pub mod LogIdLaws
 pub mod LogIndex
+pub mod UTime
 pub mod Vote
 pub mod VoteLaws
