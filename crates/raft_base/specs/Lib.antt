@@ -5,7 +5,10 @@ pub mod LeaderIdStdLaws
 pub mod LeaderOrder
 pub mod LogId
 pub mod LogIdLaws
+pub mod LogIdRange
 pub mod LogIndex
+pub mod LogView
 pub mod UTime
+pub mod Validate
 pub mod Vote
 pub mod VoteLaws

@@ -2,6 +2,7 @@
 //! to it, and since when.
 #![tactic(auto)]
 
+pub mod display_ext;
 pub mod instant;
 pub mod kind;
 pub mod leader_id;
@@ -13,11 +14,15 @@ pub mod server_state;
 pub mod utime;
 pub mod vote;
 
+pub use display_ext::DisplayOption;
 pub use instant::Instant;
 pub use kind::{LeaderAdv, LeaderIdentity, LeaderKind};
 pub use leader_id::{CommittedLeaderId, LeaderId};
 pub use leader_id_std::LeaderStd;
-pub use log_id::{LogId, LogIdOf, LogIdOptionExt, LogIndexOptionExt, RaftLogId, RaftLogIdOf};
+pub use log_id::{
+    Invalid, LogId, LogIdOf, LogIdOptionExt, LogIdRange, LogIdRangeOf, LogIndexOptionExt,
+    LogStateReader, RaftLogId, RaftLogIdOf, Validate,
+};
 pub use node::{EmptyNode, Node, NodeDefault, NodeEssential, NodeId, NodeIdEssential};
 pub use server_state::ServerState;
 pub use utime::UTime;

@@ -2,14 +2,20 @@
 ghost use Rattle.std.specs.Prelude.{◌≡◌};
 
 mod log_id_option_ext;
+mod log_id_range;
 mod log_index_option_ext;
+mod log_state_reader;
 mod raft_log_id;
+mod validate;
 
 use crate::leader_id::CommittedLeaderId;
 pub use log_id_option_ext::LogIdOptionExt;
+pub use log_id_range::{LogIdRange, LogIdRangeOf};
 pub use log_index_option_ext::LogIndexOptionExt;
+pub use log_state_reader::LogStateReader;
 pub use raft_log_id::{RaftLogId, RaftLogIdOf};
 use std::fmt;
+pub use validate::{Invalid, Validate};
 
 /// Identifies a log entry in the whole cluster: the leader that proposed it, and its index.
 ///

@@ -1,7 +1,7 @@
 //! Log ids that may be absent, as that of the last entry of a log that may be empty.
 ghost use Rattle.std.specs.Prelude.{◌≡◌, ◌<◌, ◌^◌, ℕ};
 ghost use Rattle.std.specs.declared.option.Option.{Option};
-ghost use Rattle.std.specs.Option.{option_map};
+ghost use Rattle.std.specs.Option.{option_copied, option_map};
 ghost use Rattle.raft_base.specs.LogIndex.{next_index_of};
 
 use super::LogIdOf;
@@ -40,7 +40,7 @@ impl<C> LogIdOptionExt for Option<LogIdOf<C>> {
 }
 
 impl<C> LogIdOptionExt for Option<&LogIdOf<C>> {
-    ghost index_of = { option_map (λ id. id.now.index) };
+    ghost index_of = { λ id. option_map (λ a. a.index) (option_copied id) };
 
     fn index(&self) -> Option<u64> {
         match self {
