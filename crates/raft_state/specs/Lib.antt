@@ -1,2 +1,15 @@
 pub mod Accepted
+pub mod Apply
+pub mod FullLog
+pub mod FullLogLaws
 pub mod IOState
+pub mod Inner
+pub mod Keys
+pub mod LogConditions
+pub mod LogEdits
+pub mod LogReads
+pub mod MembershipMoves
+pub mod MembershipRelations
+pub mod Memberships
+pub mod MembershipsLaws
+pub mod SnapshotMeta

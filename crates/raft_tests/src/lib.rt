@@ -13,4 +13,6 @@ mod members;
 #[cfg(test)]
 mod progress;
 #[cfg(test)]
+mod state;
+#[cfg(test)]
 mod text;
