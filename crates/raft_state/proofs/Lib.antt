@@ -7,3 +7,4 @@ pub mod EndsLemmas
 pub mod EqualLemmas
 pub mod ListLemmas
 pub mod EffectLemmas
+pub mod LoggedLemmas

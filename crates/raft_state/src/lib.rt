@@ -7,6 +7,7 @@ pub mod error;
 pub mod io_state;
 pub mod log_id_list;
 pub mod membership_state;
+pub mod raft_state;
 pub mod snapshot_meta;
 pub mod vote_state_reader;
 
@@ -15,5 +16,6 @@ pub use error::ForwardToLeader;
 pub use io_state::{IOState, IOStateIn, IOStateOf, LogIOId, LogIOIdOf};
 pub use log_id_list::{LogIdList, LogIdListOf, is_key_list};
 pub use membership_state::{ChangeHandler, ChangeHandlerOf, MembershipState, MembershipStateOf};
+pub use raft_state::{RaftState, RaftStateIn, RaftStateOf};
 pub use snapshot_meta::{SnapshotMeta, SnapshotMetaOf};
 pub use vote_state_reader::VoteStateReader;
