@@ -2,8 +2,12 @@
 //! where the membership changes.
 #![tactic(auto)]
 
+pub mod entry;
+pub mod inflight;
 pub mod progress;
 pub mod tracked;
 
+pub use entry::{ProgressEntry, ProgressEntryOf};
+pub use inflight::{Inflight, InflightError, InflightOf, RequestId};
 pub use progress::{AnyStep, ProgressPart, Reply, Stat, VecProgress, replay_any};
 pub use tracked::{MembershipProgress, Step, Tracked, replay};

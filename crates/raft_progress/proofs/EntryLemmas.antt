@@ -1,0 +1,8 @@
+-- What the refusal of a call says of the table that it follows.
+use Rattle.std.proofs.Common.{◌≡◌, Result, Ok, Err, ap, sym}
+use Rattle.raft_progress.specs.inflight.InflightTable.{FollowsTable}
+
+-- a call that is refused has the table's refusal
+pub table_of_refused : {S E : Type 0} (U : Type 0) (table : Result S E) (old new : S) (e : E) → FollowsTable {U = U} table old (Err e) new → table ≡ Err e
+table_of_refused U (Ok s) old new e h = absurd h
+table_of_refused U (Err f) old new e h = ap Err (sym h.0)

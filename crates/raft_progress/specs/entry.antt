@@ -1,0 +1,4 @@
+-- What a leader keeps of a follower, and what replies and sends make of it.
+pub mod EntryTable
+pub mod EntryValid
+pub mod Send

@@ -1,0 +1,51 @@
+-- What is sent next to a follower, case by case.
+use Rattle.std.specs.Prelude.{◌≡◌, ℕ, ◌+◌, ◌-◌, ◌*◌, ◌/◌, ◌^◌, min, max, Bool, true, ◌&&◌, ◌==◌, nat_lt, nat_le, Result, Ok, Err, MatchResult, if◌then◌else◌}
+use Rattle.std.specs.Borrow.{Bor}
+use Rattle.std.specs.declared.cmp.Ordering.{Ordering}
+use Rattle.raft_base.specs.LogId.{next_index}
+use Rattle.raft_base.specs.LogView.{LogView, prev_id}
+use Rattle.raft_progress.specs.inflight.Inflight.{is_idle, logs_from}
+use Rattle.raft_progress.specs.declared.entry.ProgressEntryOf.{ProgressEntryOf}
+use Rattle.raft_progress.specs.declared.inflight.InflightOf.{InflightOf}
+use Rattle.raft_progress.specs.declared.inflight.InflightOf.TheVariants.{Snapshot}
+
+-- where the next probe between a match and the end of the search starts: half of the sixteenths on
+abbrev pub calc_mid : ℕ → ℕ → ℕ
+calc_mid matched end = matched + (end - matched) / 16 * 8
+
+-- the first index to send: that of the next probe, and none that is to be purged
+abbrev pub start_of : {C : Type 0} → ProgressEntryOf C → LogView C → ℕ
+start_of entry log = max (calc_mid (next_index entry.matching) entry.searching_end) (next_index log.purge_upto)
+
+-- the index after the last one to send: no more entries than allowed, and no more than there are
+abbrev pub end_of : {C : Type 0} → ProgressEntryOf C → LogView C → ℕ → ℕ
+end_of entry log max_entries = min (start_of entry log + max_entries) (next_index log.last)
+
+-- a send where nothing is in flight: a snapshot where each match that is still possible is purged, or where there is no log to probe with; else logs, where there are any. It takes the next request id
+abbrev pub sent_idle : {C : Type 0} → (C → C → Ordering) → ProgressEntryOf C → LogView C → ℕ → Result (ProgressEntryOf C) (ProgressEntryOf C)
+sent_idle cmp entry log max_entries =
+    let id = entry.curr_inflight_id + 1 in
+    let snapshot = record entry { curr_inflight_id = id; inflight = Snapshot id log.snapshot } in
+    let from = start_of entry log in
+    let to = end_of entry log max_entries in
+    if nat_lt entry.searching_end (next_index log.purge_upto) then Ok snapshot
+    else (if from == to then (if nat_lt (next_index entry.matching) entry.searching_end then Ok snapshot else Err entry)
+    else Ok (record entry { curr_inflight_id = id; inflight = logs_from cmp id (prev_id log.id_at from) (prev_id log.id_at to) }))
+
+-- the entry after a send, as Err where nothing was sent: something is in flight already, or all is sent
+abbrev pub sent : {C : Type 0} → (C → C → Ordering) → ProgressEntryOf C → LogView C → ℕ → Result (ProgressEntryOf C) (ProgressEntryOf C)
+sent cmp entry log max_entries = if is_idle entry.inflight then sent_idle cmp entry log max_entries else Err entry
+
+-- a send may be made where something is in flight; else the match is below the end of the search, which is not past the log, and no index nor the request id is the greatest u64
+abbrev pub can_be_sent : {C : Type 0} → ProgressEntryOf C → LogView C → Bool
+can_be_sent entry log =
+    if is_idle entry.inflight then
+    (nat_le (next_index entry.matching) entry.searching_end
+    && nat_lt (next_index log.last) (2 ^ 64) && nat_le entry.searching_end (next_index log.last)
+    && nat_lt (next_index log.purge_upto) (2 ^ 64) && nat_lt (entry.curr_inflight_id + 1) (2 ^ 64))
+    else true
+
+-- a send answers what is in flight after it, as Ok or Err, as the table has it
+abbrev pub IsSent : {C : Type 0} → Result (ProgressEntryOf C) (ProgressEntryOf C) → Result (Bor (InflightOf C)) (Bor (InflightOf C)) → ProgressEntryOf C → Type 0
+IsSent table result new =
+    MatchResult result (λ sending. (table ≡ Ok new) × (sending.now ≡ new.inflight)) (λ sending. (table ≡ Err new) × (sending.now ≡ new.inflight))

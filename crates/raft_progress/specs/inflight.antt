@@ -1,0 +1,4 @@
+-- What is in flight to a follower, and what a reply makes of it.
+pub mod Inflight
+pub mod InflightTable
+pub mod InflightValid

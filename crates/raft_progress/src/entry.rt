@@ -1,0 +1,320 @@
+//! What a leader keeps of a follower: how far their logs match, and what is in flight to it.
+ghost use Rattle.std.specs.Prelude.{◌≡◌, ◌^◌, ◌<◌, ◌≤◌, nat_le, nat_lt, Ok, Err, None, if◌then◌else◌, IsTrue};
+ghost use Rattle.raft_base.specs.LogId.{next_index};
+ghost use Rattle.raft_base.specs.Validate.{first_false};
+ghost use Rattle.raft_progress.specs.entry.EntryTable.{conflicting, matched};
+ghost use Rattle.raft_progress.specs.entry.EntryValid.{entry_relations};
+ghost use Rattle.raft_progress.specs.entry.Send.{IsSent, calc_mid, can_be_sent, sent};
+ghost use Rattle.raft_progress.specs.inflight.Inflight.{is_after_prev, is_idle};
+ghost use Rattle.raft_progress.specs.inflight.InflightTable.{FollowsTable};
+ghost use Rattle.raft_progress.specs.declared.inflight.InflightOf.TheVariants.{None as Idle};
+
+use crate::inflight::{InflightError, InflightOf};
+use crate::progress::ProgressPart;
+use raft_base::{
+    CommittedLeaderId, DisplayOption, Invalid, LogIdOf, LogIdOptionExt, LogStateReader, Validate,
+};
+use std::fmt;
+
+/// What a leader keeps of a follower.
+///
+/// The last log that both have lies from the match on and below the end of the search. Probes narrow
+/// this stretch: logs are sent that begin inside it, and an ack raises the match, a conflict lowers
+/// the end. Its part in a progress is the match.
+#[derive(Clone, Copy, PartialEq, Eq)]
+pub struct ProgressEntryOf<C> {
+    /// The last log id that is known to match.
+    pub matching: Option<LogIdOf<C>>,
+    /// The number of the last request that was sent.
+    pub curr_inflight_id: u64,
+    /// What is in flight.
+    pub inflight: InflightOf<C>,
+    /// The index after the last log that may match.
+    pub searching_end: u64,
+}
+
+/// What a leader keeps of a follower, with the default leader ids.
+pub type ProgressEntry<NID> = ProgressEntryOf<CommittedLeaderId<NID>>;
+
+impl<C: Ord + Copy> ProgressPart<Option<LogIdOf<C>>> for ProgressEntryOf<C> {
+    ghost part_of = { λ entry. entry.matching };
+
+    fn part(&self) -> Option<LogIdOf<C>> {
+        self.matching
+    }
+}
+
+impl<C: Ord + Copy> ProgressEntryOf<C> {
+    ghost use Rattle.std.specs.Borrow.{sem};
+    ghost use Rattle.std.specs.Io.BufRead.{Rests};
+    ghost use Rattle.raft_progress.specs.contracts.entry.ProgressEntryOf.{the_row};
+
+    /// A follower that matches up to a log id, and no further.
+    pub fn new(matching: Option<LogIdOf<C>>) -> Self
+        requires { next_index matching < 2 ^ 64 }
+        ensures { result ≡ record {
+          matching = matching;
+          curr_inflight_id = 0;
+          inflight = Idle;
+          searching_end = next_index matching;
+        } }
+    {
+        ProgressEntryOf {
+            matching,
+            curr_inflight_id: 0,
+            inflight: InflightOf::None,
+            searching_end: matching.next_index(),
+        }
+    }
+
+    /// A follower of which nothing is known but that it does not match from an index on.
+    pub fn empty(end: u64) -> Self
+        ensures { result ≡ record {
+          matching = None;
+          curr_inflight_id = 0;
+          inflight = Idle;
+          searching_end = end;
+        } }
+    {
+        ProgressEntryOf {
+            matching: None,
+            curr_inflight_id: 0,
+            inflight: InflightOf::None,
+            searching_end: end,
+        }
+    }
+
+    /// The same with another last request.
+    pub fn with_curr_inflight_id(mut self, id: u64) -> Self
+        ensures { result ≡ record self { curr_inflight_id = id } }
+    {
+        self.curr_inflight_id = id;
+        self
+    }
+
+    /// The same with something in flight, where nothing was.
+    pub fn with_inflight(mut self, inflight: InflightOf<C>) -> Self
+        requires { IsTrue (is_idle self.inflight) }
+        ensures { result ≡ record self { inflight = inflight } }
+    {
+        self.inflight = inflight;
+        self
+    }
+
+    /// Whether logs are in flight that begin before a log id, so that it is among them or past them.
+    pub fn is_log_range_inflight(&self, upto: &LogIdOf<C>) -> bool
+        ensures { result ≡ is_after_prev C.cmp self.now.inflight upto.now }
+    {
+        match self.inflight {
+            InflightOf::Logs { log_id_range, .. } => log_id_range.prev < Some(*upto),
+            _ => false,
+        }
+    }
+
+    /// Takes the reply that the follower has all up to a log id: it matches up to it.
+    pub fn update_matching(
+        &mut self,
+        request_id: u64,
+        matching: Option<LogIdOf<C>>,
+    ) -> Result<(), InflightError>
+        ensures { FollowsTable (matched C.cmp self.old request_id matching) self.old result self.new }
+    {
+        // On a copy, so that a refusal leaves the entry as it was.
+        let mut inflight = self.inflight;
+        inflight.ack(request_id, matching)?;
+        if matching.cmp(&self.matching).is_lt() {
+            return Err(InflightError::MatchingRegress);
+        }
+        if !has_next_index(matching) {
+            return Err(InflightError::IndexTooLarge);
+        }
+        self.inflight = inflight;
+        self.matching = matching;
+        self.searching_end = self.searching_end.max(matching.next_index());
+        Ok(())
+    }
+
+    /// Takes the reply that the follower does not match at an index: the search ends there.
+    ///
+    /// The reply to a heartbeat has no request id, and what is in flight stays.
+    pub fn update_conflicting(
+        &mut self,
+        request_id: Option<u64>,
+        conflict: u64,
+    ) -> Result<(), InflightError>
+        ensures { FollowsTable (conflicting self.old request_id conflict) self.old result self.new }
+    {
+        let mut inflight = self.inflight;
+        if let Some(id) = request_id {
+            inflight.conflict(id, conflict)?;
+        }
+        if conflict < self.searching_end {
+            if Some(conflict) <= self.matching.index() {
+                return Err(InflightError::ConflictBelowMatching);
+            }
+            self.searching_end = conflict;
+        }
+        self.inflight = inflight;
+        Ok(())
+    }
+
+    /// Whether `next_send` may be called with a log.
+    pub fn can_send<L: LogStateReader<C>>(&self, log: &L) -> bool
+        ensures { result ≡ can_be_sent self.now (L.log_view log.now) }
+    {
+        if !self.inflight.is_none() {
+            return true;
+        }
+        let last = log.last_log_id().copied();
+        let purge_upto = log.purge_upto().copied();
+        ends_by(self.matching, self.searching_end)
+            && has_next_index(last)
+            && self.searching_end <= last.next_index()
+            && has_next_index(purge_upto)
+            && self.curr_inflight_id < u64::MAX
+    }
+
+    /// Puts in flight what is sent next, if anything is: logs up to so many entries, or a snapshot.
+    ///
+    /// Logs start half of the way from the match to the end of the search, so that each reply tells
+    /// much of where they part; close to it they start at the match. Where the logs that a probe needs
+    /// are purged, it is a snapshot. `Err` has what is in flight already, or nothing where the
+    /// follower has all. `Ok` has nothing in flight where the log's ids do not rise.
+    pub fn next_send<L: LogStateReader<C>>(
+        &mut self,
+        log: &L,
+        max_entries: u64,
+    ) -> Result<&InflightOf<C>, &InflightOf<C>>
+        requires { IsTrue (can_be_sent self.old (L.log_view log.now)) }
+        ensures* after { sem 𝓛 (Rests (the_row C.row) self.entry
+            (IsSent (sent C.cmp self.old (L.log_view log.now) max_entries) result)) }
+    {
+        if self.send(log, max_entries) {
+            Ok(&self.inflight)
+        } else {
+            Err(&self.inflight)
+        }
+    }
+
+    /// Whether something was sent, or at least a request id taken.
+    fn send<L: LogStateReader<C>>(&mut self, log: &L, max_entries: u64) -> bool
+        requires { IsTrue (can_be_sent self.old (L.log_view log.now)) }
+        ensures { sent C.cmp self.old (L.log_view log.now) max_entries
+            ≡ (if result then Ok self.new else Err self.new) }
+    {
+        if !self.inflight.is_none() {
+            return false;
+        }
+        let matched = self.matching.next_index();
+        let end = self.searching_end;
+        let purged = log.purge_upto().copied().next_index();
+        let logged = log.last_log_id().copied().next_index();
+        let id = self.curr_inflight_id + 1;
+        let start = calc_mid(matched, end).max(purged);
+        let until = start.saturating_add(max_entries).min(logged);
+        if end < purged || (start == until && matched < end) {
+            let last = log.snapshot_last_log_id().copied();
+            self.curr_inflight_id = id;
+            self.inflight = InflightOf::snapshot(last).with_id(id);
+            return true;
+        }
+        if start == until {
+            return false;
+        }
+        self.curr_inflight_id = id;
+        self.inflight = InflightOf::logs(log.prev_log_id(start), log.prev_log_id(until)).with_id(
+            id,
+        );
+        true
+    }
+
+    /// Where the next probe starts, and where the search ends.
+    pub fn sending_start(&self) -> (u64, u64)
+        requires { next_index self.now.matching ≤ self.now.searching_end }
+        ensures { result ≡ (
+          calc_mid (next_index self.now.matching) self.now.searching_end,
+          self.now.searching_end,
+        ) }
+    {
+        let end = self.searching_end;
+        (calc_mid(self.matching.next_index(), end), end)
+    }
+}
+
+/// Where the next probe between a match and the end of the search starts.
+fn calc_mid(matched: u64, end: u64) -> u64
+    requires { matched ≤ end }
+    ensures value { result ≡ calc_mid matched end }
+    ensures within { result ≤ end }
+{
+    matched + (end - matched) / 16 * 8
+}
+
+/// Whether a log id is absent or stands before an index.
+fn ends_by<C: Copy>(id: Option<LogIdOf<C>>, end: u64) -> bool
+    ensures { result ≡ nat_le (next_index id) end }
+{
+    id.index() < Some(end)
+}
+
+/// Whether there is an index after that of a log id.
+fn has_next_index<C: Copy>(id: Option<LogIdOf<C>>) -> bool
+    ensures { result ≡ nat_lt (next_index id) (2 ^ 64) }
+{
+    id.index() != Some(u64::MAX)
+}
+
+impl<C: Ord + Copy> Validate for ProgressEntryOf<C> {
+    ghost broken = { λ entry. first_false (entry_relations C.cmp entry) };
+
+    fn validate(&self) -> Result<(), Invalid> {
+        if !ends_by(self.matching, self.searching_end) {
+            return Err(Invalid::MatchingPastEnd);
+        }
+        match self.inflight {
+            InflightOf::None => Ok(()),
+            InflightOf::Logs { log_id_range, .. } => {
+                log_id_range.validate()?;
+                if !(self.matching <= log_id_range.prev) {
+                    Err(Invalid::MatchingPastPrev)
+                } else if !ends_by(log_id_range.prev, self.searching_end) {
+                    Err(Invalid::PrevPastEnd)
+                } else {
+                    Ok(())
+                }
+            }
+            InflightOf::Snapshot { last_log_id, .. } => {
+                if self.matching < last_log_id {
+                    Ok(())
+                } else {
+                    Err(Invalid::SnapshotNotPastMatching)
+                }
+            }
+        }
+    }
+}
+
+// By hand, for the name that the type goes by.
+impl<C: fmt::Debug> fmt::Debug for ProgressEntryOf<C> {
+    fn fmt<W: fmt::Write>(&self, f: &mut fmt::Formatter<W>) -> fmt::Result {
+        f.debug_struct("ProgressEntry")
+            .field("matching", &self.matching)
+            .field("curr_inflight_id", &self.curr_inflight_id)
+            .field("inflight", &self.inflight)
+            .field("searching_end", &self.searching_end)
+            .finish()
+    }
+}
+
+impl<C: fmt::Display + Copy> fmt::Display for ProgressEntryOf<C> {
+    fn fmt<W: fmt::Write>(&self, f: &mut fmt::Formatter<W>) -> fmt::Result {
+        let ProgressEntryOf {
+            matching,
+            inflight,
+            searching_end,
+            ..
+        } = self;
+        let matching = DisplayOption(matching);
+        write!(f, "{{[{matching}, {searching_end}), inflight:{inflight}}}")
+    }
+}

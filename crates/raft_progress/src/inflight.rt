@@ -1,0 +1,268 @@
+//! What is in flight to a follower, and what its replies make of it.
+ghost use Rattle.std.specs.Prelude.{◌≡◌, ◌↔◌, Some, IsSome, IsTrue};
+ghost use Rattle.raft_base.specs.Validate.{first_false, refusal_of};
+ghost use Rattle.raft_progress.specs.inflight.Inflight.{id_of, is_idle, is_sending_log, is_sending_snapshot, logs_from, request_of, with_id, wrong_id};
+ghost use Rattle.raft_progress.specs.inflight.InflightTable.{FollowsTable, acked, conflicted};
+ghost use Rattle.raft_progress.specs.inflight.InflightValid.{inflight_relations};
+ghost use Rattle.raft_progress.specs.declared.inflight.InflightOf.TheVariants.{Snapshot};
+
+use raft_base::{
+    CommittedLeaderId, DisplayOption, Invalid, LogIdOf, LogIdOptionExt, LogIdRangeOf, Validate,
+};
+use std::fmt;
+use thiserror::Error;
+
+/// Identifies a request to a follower.
+#[derive(Debug, Clone, Copy, PartialEq, Eq)]
+pub enum RequestId {
+    /// Logs.
+    AppendEntries {
+        /// The number of the request.
+        id: u64,
+    },
+    /// A snapshot.
+    Snapshot {
+        /// The number of the request.
+        id: u64,
+    },
+}
+
+/// Why a follower's reply is refused. They are asked in this order, as far as they concern a call.
+#[derive(Debug, Clone, Copy, PartialEq, Eq, Error)]
+pub enum InflightError {
+    /// Nothing is in flight, or another request.
+    #[error("got invalid request id, mine={mine:?}, received={received}")]
+    InvalidRequestId {
+        /// The request in flight.
+        mine: Option<u64>,
+        /// The request that was replied to.
+        received: u64,
+    },
+    /// An ack of logs is not between the ends of what is in flight, by order or by index.
+    #[error("ack out of range")]
+    AckOutOfRange,
+    /// An ack of a snapshot is below its last log id.
+    #[error("snapshot ack regresses")]
+    SnapshotAckRegress,
+    /// An ack is below the match.
+    #[error("matching regresses")]
+    MatchingRegress,
+    /// A conflict is not at the log before those in flight.
+    #[error("conflict is not at prev")]
+    ConflictNotAtPrev,
+    /// A snapshot never conflicts.
+    #[error("conflict on a snapshot")]
+    ConflictOnSnapshot,
+    /// A conflict is at a log that matches already.
+    #[error("conflict below matching")]
+    ConflictBelowMatching,
+    /// An ack has the greatest index, after which there is none.
+    #[error("index too large")]
+    IndexTooLarge,
+}
+
+/// What is in flight to a follower: it was sent, and its reply has not come.
+#[derive(Debug, Clone, Copy, PartialEq, Eq)]
+pub enum InflightOf<C> {
+    /// Nothing.
+    None,
+    /// Logs.
+    Logs {
+        /// The number of the request.
+        id: u64,
+        /// The logs.
+        log_id_range: LogIdRangeOf<C>,
+    },
+    /// A snapshot.
+    Snapshot {
+        /// The number of the request.
+        id: u64,
+        /// The last log id of the snapshot, and none of an empty one.
+        last_log_id: Option<LogIdOf<C>>,
+    },
+}
+
+/// What is in flight, with the default leader ids.
+pub type Inflight<NID> = InflightOf<CommittedLeaderId<NID>>;
+
+impl<C: Ord + Copy> InflightOf<C> {
+    /// The logs after `prev` up to `last`, or nothing where there are none. The request is 0.
+    pub fn logs(prev: Option<LogIdOf<C>>, last: Option<LogIdOf<C>>) -> Self
+        ensures { result ≡ logs_from C.cmp 0 prev last }
+    {
+        if prev < last {
+            InflightOf::Logs {
+                id: 0,
+                log_id_range: LogIdRangeOf::new(prev, last),
+            }
+        } else {
+            InflightOf::None
+        }
+    }
+
+    /// A snapshot up to a log id. The request is 0.
+    pub fn snapshot(snapshot_last_log_id: Option<LogIdOf<C>>) -> Self
+        ensures { result ≡ Snapshot 0 snapshot_last_log_id }
+    {
+        InflightOf::Snapshot {
+            id: 0,
+            last_log_id: snapshot_last_log_id,
+        }
+    }
+
+    /// The same in another request.
+    pub fn with_id(self, id: u64) -> Self
+        ensures { result ≡ with_id self id }
+    {
+        match self {
+            InflightOf::None => InflightOf::None,
+            InflightOf::Logs { log_id_range, .. } => InflightOf::Logs { id, log_id_range },
+            InflightOf::Snapshot { last_log_id, .. } => InflightOf::Snapshot { id, last_log_id },
+        }
+    }
+
+    /// Whether a request is the one in flight.
+    pub fn is_my_id(&self, request_id: RequestId) -> bool
+        ensures { IsTrue result ↔ (request_of self.now ≡ Some request_id) }
+    {
+        match *self {
+            InflightOf::None => false,
+            InflightOf::Logs { id, .. } => RequestId::AppendEntries { id } == request_id,
+            InflightOf::Snapshot { id, .. } => RequestId::Snapshot { id } == request_id,
+        }
+    }
+
+    /// Refuses the reply to another request than the one in flight.
+    pub fn assert_my_id(&self, request_id: u64) -> Result<(), InflightError>
+        ensures { refusal_of result ≡ wrong_id self.now request_id }
+    {
+        let mine = self.get_id();
+        if mine == Some(request_id) {
+            Ok(())
+        } else {
+            Err(InflightError::InvalidRequestId {
+                mine,
+                received: request_id,
+            })
+        }
+    }
+
+    /// The number of the request in flight, if there is one.
+    pub fn get_id(&self) -> Option<u64>
+        ensures { result ≡ id_of self.now }
+    {
+        match *self {
+            InflightOf::None => None,
+            InflightOf::Logs { id, .. } => Some(id),
+            InflightOf::Snapshot { id, .. } => Some(id),
+        }
+    }
+
+    /// The number of the request in flight.
+    pub fn id(&self) -> u64
+        requires { IsSome (id_of self.now) }
+        ensures { Some result ≡ id_of self.now }
+    {
+        self.get_id().unwrap()
+    }
+
+    /// Whether nothing is in flight.
+    pub fn is_none(&self) -> bool
+        ensures { result ≡ is_idle self.now }
+    {
+        matches!(self, InflightOf::None)
+    }
+
+    /// Whether logs are in flight.
+    pub fn is_sending_log(&self) -> bool
+        ensures { result ≡ is_sending_log self.now }
+    {
+        matches!(self, InflightOf::Logs { .. })
+    }
+
+    /// Whether a snapshot is in flight.
+    pub fn is_sending_snapshot(&self) -> bool
+        ensures { result ≡ is_sending_snapshot self.now }
+    {
+        matches!(self, InflightOf::Snapshot { .. })
+    }
+
+    /// Takes the reply that the follower has all up to a log id. The logs after it stay in flight.
+    pub fn ack(&mut self, request_id: u64, upto: Option<LogIdOf<C>>) -> Result<(), InflightError>
+        ensures { FollowsTable (acked C.cmp self.old request_id upto) self.old result self.new }
+    {
+        match *self {
+            InflightOf::None => Err(InflightError::InvalidRequestId {
+                mine: None,
+                received: request_id,
+            }),
+            InflightOf::Logs { id, log_id_range } => {
+                self.assert_my_id(request_id)?;
+                let LogIdRangeOf { prev, last } = log_id_range;
+                let is_in_order = prev <= upto && upto <= last;
+                if !(is_in_order && prev.index() <= upto.index() && upto.index() <= last.index()) {
+                    return Err(InflightError::AckOutOfRange);
+                }
+                *self = InflightOf::logs(upto, last).with_id(id);
+                Ok(())
+            }
+            InflightOf::Snapshot { last_log_id, .. } => {
+                self.assert_my_id(request_id)?;
+                if upto < last_log_id {
+                    return Err(InflightError::SnapshotAckRegress);
+                }
+                *self = InflightOf::None;
+                Ok(())
+            }
+        }
+    }
+
+    /// Takes the reply that the follower does not have the log before those in flight, which stands
+    /// at an index. Nothing stays in flight.
+    pub fn conflict(&mut self, request_id: u64, conflict: u64) -> Result<(), InflightError>
+        ensures { FollowsTable (conflicted self.old request_id conflict) self.old result self.new }
+    {
+        match *self {
+            InflightOf::None => Err(InflightError::InvalidRequestId {
+                mine: None,
+                received: request_id,
+            }),
+            InflightOf::Logs { log_id_range, .. } => {
+                self.assert_my_id(request_id)?;
+                if log_id_range.prev.index() != Some(conflict) {
+                    return Err(InflightError::ConflictNotAtPrev);
+                }
+                *self = InflightOf::None;
+                Ok(())
+            }
+            InflightOf::Snapshot { .. } => {
+                self.assert_my_id(request_id)?;
+                Err(InflightError::ConflictOnSnapshot)
+            }
+        }
+    }
+}
+
+impl<C: Ord + Copy> Validate for InflightOf<C> {
+    ghost broken = { λ inflight. first_false (inflight_relations C.cmp inflight) };
+
+    fn validate(&self) -> Result<(), Invalid> {
+        match self {
+            InflightOf::None => Ok(()),
+            InflightOf::Logs { log_id_range, .. } => log_id_range.validate(),
+            InflightOf::Snapshot { .. } => Ok(()),
+        }
+    }
+}
+
+impl<C: fmt::Display + Copy> fmt::Display for InflightOf<C> {
+    fn fmt<W: fmt::Write>(&self, f: &mut fmt::Formatter<W>) -> fmt::Result {
+        match self {
+            InflightOf::None => f.write_str("None"),
+            InflightOf::Logs { id, log_id_range } => write!(f, "Logs(id={id}):{log_id_range}"),
+            InflightOf::Snapshot { id, last_log_id } => {
+                write!(f, "Snapshot(id={id}):{}", DisplayOption(last_log_id))
+            }
+        }
+    }
+}
