@@ -8,3 +8,4 @@ pub mod EqualLemmas
 pub mod ListLemmas
 pub mod EffectLemmas
 pub mod LoggedLemmas
+pub mod SendLemmas

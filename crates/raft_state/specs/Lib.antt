@@ -18,6 +18,7 @@ pub mod Memberships
 pub mod MembershipsLaws
 pub mod NewState
 pub mod Purge
+pub mod Sending
 pub mod SnapshotMeta
 pub mod StateView
 pub mod Valid

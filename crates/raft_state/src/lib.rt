@@ -5,6 +5,7 @@
 pub mod accepted;
 pub mod error;
 pub mod io_state;
+pub mod laws;
 pub mod log_id_list;
 pub mod membership_state;
 pub mod raft_state;
