@@ -11,6 +11,8 @@ mod base;
 #[cfg(test)]
 mod members;
 #[cfg(test)]
+mod plain_log;
+#[cfg(test)]
 mod progress;
 #[cfg(test)]
 mod state;

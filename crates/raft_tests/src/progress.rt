@@ -8,6 +8,9 @@ ghost use Rattle.raft_progress.specs.progress.VecProgress.{shown};
 mod callers;
 mod calls;
 mod counting;
+mod entry;
+mod events;
+mod inflight;
 mod tracked;
 
 use raft_members::quorum::QuorumSet;
