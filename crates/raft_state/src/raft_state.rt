@@ -42,7 +42,7 @@ use std::fmt;
 ///
 /// A node decides by this state and not by what is on disk, which may be behind: `io_state` says how
 /// far storage has got.
-#[derive(PartialEq, Eq, Drop)]
+#[derive(Clone, PartialEq, Eq, Drop)]
 pub struct RaftStateIn<NID: NodeId, N: Node, I: Instant, L, C: Ord + Copy> {
     /// The vote, and the moment of its last update.
     pub vote: UTime<VoteIn<L>, I>,
