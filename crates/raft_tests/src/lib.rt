@@ -15,4 +15,6 @@ mod plain_log;
 #[cfg(test)]
 mod progress;
 #[cfg(test)]
+mod state;
+#[cfg(test)]
 mod text;

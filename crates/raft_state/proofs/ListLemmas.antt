@@ -1,0 +1,69 @@
+-- What the calls of a list do, from the laws of leaders.
+use Rattle.std.proofs.Common.{◌≡◌, suc, ◌+◌, ◌-◌, ◌<◌, ◌≤◌, Bool, true, List, [], ◌∷◌, Some, IsTrue, length, map, ap, sym, arith, ◌∙◌}
+use Rattle.std.specs.Prelude.{slice_get}
+use Rattle.std.specs.Option.{option_map}
+use Rattle.std.specs.declared.cmp.Ordering.{Ordering}
+use Rattle.std.specs.Ordering.{is_eq}
+use Rattle.std.specs.Cmp.{IsTotalOrder, IsEquivalence}
+use Rattle.raft_base.specs.declared.log_id.LogIdOf.{LogIdOf}
+use Rattle.raft_state.specs.FullLog.{full_log, same_log}
+use Rattle.raft_state.specs.LogReads.{last_id, leader_count}
+use Rattle.raft_state.specs.LogEdits.{appended, extended}
+use Rattle.raft_state.specs.LogConditions.{follows, all_follow, ends_share_leader}
+use Rattle.raft_state.specs.Inner.KeyList.{IsKeyList}
+use Rattle.raft_state.specs.Inner.KeyEdits.{added, added_all}
+use Rattle.raft_state.proofs.SameLogLemmas.{both, is_same}
+use Rattle.raft_state.proofs.AppendLemmas.{apart, full_after, stays_key_list, strictly_less, upto_equal}
+use Rattle.raft_state.proofs.CutLemmas.{last_full}
+use Rattle.raft_state.proofs.ExtendLemmas.{all_stay, can_append, full_after_all}
+use Rattle.raft_state.proofs.EndsLemmas.{added_by_ends, last_of_map, last_of_some, last_or, one_leader, same_some}
+use Rattle.raft_state.proofs.EqualLemmas as Equal
+
+module _ {C : Type 0} (cmp : C → C → Ordering) (eq : C → C → Bool) (total : IsTotalOrder cmp) (law : (x y : C) → eq x y ≡ is_eq (cmp x y)) (eqs : IsEquivalence eq) where
+  pub trans : (a b c : C) → eq a b ≡ true → eq b c ≡ true → eq a c ≡ true
+  trans a b c h g = eqs.congr a b c h ∙ g
+
+  pub turn : (a b : C) → eq a b ≡ true → eq b a ≡ true
+  turn a b h = eqs.symm b a ∙ h
+
+  -- an append leaves keys
+  pub append_keeps : (ks : List (LogIdOf C)) (id : LogIdOf C) → IsKeyList cmp ks → IsTrue (follows cmp (last_id (full_log ks)) id) → IsKeyList cmp (added eq ks id)
+  append_keeps ks id s h =
+      stays_key_list eq eqs.refl cmp (strictly_less cmp eq total law) (upto_equal cmp eq total law) ks id s (can_append cmp ks id (rw (last_full cmp ks s) at h))
+
+  -- and the full log with the log id
+  pub append_fills : (ks : List (LogIdOf C)) (id : LogIdOf C) → IsKeyList cmp ks → IsTrue (follows cmp (last_id (full_log ks)) id) → IsTrue (same_log eq (full_log (added eq ks id)) (appended (full_log ks) id))
+  append_fills ks id s h =
+      is_same eq (full_log (added eq ks id)) (appended (full_log ks) id) (full_after eq eqs.refl cmp ks id s (can_append cmp ks id (rw (last_full cmp ks s) at h)))
+
+  -- several appends leave keys
+  pub extend_keeps : (ks ids : List (LogIdOf C)) → IsKeyList cmp ks → IsTrue (all_follow cmp (last_id (full_log ks)) ids) → IsKeyList cmp (added_all eq ks ids)
+  extend_keeps ks ids s h =
+      all_stay eq eqs.refl trans cmp (strictly_less cmp eq total law) (upto_equal cmp eq total law) ks ids s (rw (last_full cmp ks s) at h)
+
+  -- and the full log with the log ids
+  pub extend_fills : (ks ids : List (LogIdOf C)) → IsKeyList cmp ks → IsTrue (all_follow cmp (last_id (full_log ks)) ids) → IsTrue (same_log eq (full_log (added_all eq ks ids)) (extended (full_log ks) ids))
+  extend_fills ks ids s h =
+      is_same eq (full_log (added_all eq ks ids)) (extended (full_log ks) ids)
+      (full_after_all eq eqs.refl trans cmp (strictly_less cmp eq total law) (upto_equal cmp eq total law) ks ids s (rw (last_full cmp ks s) at h))
+
+  -- two key lists are equal exactly where their full logs are
+  pub keys_decide : (ks ls : List (LogIdOf C)) → IsKeyList cmp ks → IsKeyList cmp ls → same_log eq ks ls ≡ same_log eq (full_log ks) (full_log ls)
+  keys_decide ks ls s r = Equal.keys_decide eq eqs.refl trans turn cmp (apart cmp eq total law) ks ls s r
+
+  -- at most one key more than leaders
+  pub few_keys : (ks : List (LogIdOf C)) → IsKeyList cmp ks → length ks ≤ leader_count eq (full_log ks) + 1
+  few_keys ks s = Equal.few_keys eq eqs.refl trans turn cmp (apart cmp eq total law) ks s
+
+  -- log ids of one leader: the first one and the last one make the keys of all
+  pub ends_make_all : {L : Type 0} (id_of : L → LogIdOf C) (ks : List (LogIdOf C)) (ls : List L) (f l : L) → 1 < length ls → Some f ≡ slice_get ls 0 → Some l ≡ slice_get ls (length ls - 1) → IsTrue (all_follow cmp (last_id ks) (map id_of ls)) → IsTrue (ends_share_leader eq (map id_of ls)) → added eq (added eq ks (id_of f)) (id_of l) ≡ added_all eq ks (map id_of ls)
+  ends_make_all id_of ks [] f l some first last h e = absurd (omega arith)
+  ends_make_all id_of ks (x ∷ []) f l some first last h e = absurd (omega arith)
+  ends_make_all id_of ks (x ∷ y ∷ ls) f l some first last h e =
+      let n : length (x ∷ y ∷ ls) - 1 ≡ suc (length ls) = omega arith in
+      let is_first : id_of f ≡ id_of x = ap id_of (same_some f x first) in
+      let ends : Some l ≡ slice_get (y ∷ ls) (length ls) = rw n at last in
+      let is_last : id_of l ≡ last_or (id_of y) (map id_of ls) = same_some (id_of l) (last_or (id_of y) (map id_of ls)) (ap (option_map id_of) ends ∙ sym (last_of_map id_of y ls)) in
+      let shared : eq (id_of x).leader_id (last_or (id_of y) (map id_of ls)).leader_id ≡ true = rw (last_of_some (id_of x) (id_of y ∷ map id_of ls)) at e in
+      let b = both (follows cmp (last_id ks) (id_of x)) (all_follow cmp (Some (id_of x)) (id_of y ∷ map id_of ls)) h in
+      rw (is_first, is_last) (sym (added_by_ends eq eqs.refl trans turn ks (id_of x) (id_of y) (map id_of ls) (one_leader cmp eq total law (id_of x) (id_of y) (map id_of ls) b.1 shared)))

@@ -1,0 +1,12 @@
+use Rattle.raft_state.proofs.ListLemmas.{append_fills, append_keeps}
+use Rattle.raft_state.proofs.log_id_list.LogIdListOf.append.Goals as goal
+
+pub invariant_of-self-2 : goal.invariant_of-self-2
+invariant_of-self-2 g c =
+    let can = rw (← c.self.view_is) at c.requires in
+    rw c.in_ok-append.ensures.ok (append_keeps g.C.Ord.cmp g.C.PartialEq.eq g.met.C.Ord.total g.met.C.Ord.matches_eq g.met.C.Eq.laws c.self.inside.key_log_ids.items c.args.new_log_id c.self.invariant can)
+
+pub returns-clause-ok : goal.returns-clause-ok
+returns-clause-ok g c =
+    let can = rw (← c.self.view_is) at c.requires in
+    rw (c.in_ok-append.ensures.ok, ← c.self.view_is) (append_fills g.C.Ord.cmp g.C.PartialEq.eq g.met.C.Ord.total g.met.C.Ord.matches_eq g.met.C.Eq.laws c.self.inside.key_log_ids.items c.args.new_log_id c.self.invariant can)

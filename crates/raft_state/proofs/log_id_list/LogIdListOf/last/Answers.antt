@@ -1,0 +1,6 @@
+use Rattle.std.proofs.Common.{◌∙◌}
+use Rattle.raft_state.proofs.CutLemmas.{last_is}
+use Rattle.raft_state.proofs.log_id_list.LogIdListOf.last.Goals as goal
+
+pub returns : goal.returns
+returns g c = c.last.ensures.value ∙ rw (c.deref.ensures.value, ← c.self.view_is) (last_is g.C.Ord.cmp c.self.inside.key_log_ids.items c.self.invariant)

@@ -1,0 +1,8 @@
+use Rattle.std.proofs.Common.{ap, ◌∙◌}
+use Rattle.raft_state.specs.FullLog.{full_log}
+use Rattle.raft_state.specs.LogEdits.{front}
+use Rattle.raft_state.proofs.CutLemmas.{front_twice}
+use Rattle.raft_state.proofs.log_id_list.laws.truncate_twice.Goals as goal
+
+pub returns : goal.returns
+returns g c = c.truncate-2.ensures ∙ (ap (λ log. front log c.args.at) c.truncate.ensures ∙ front_twice (full_log c.args.list.now) c.args.at)

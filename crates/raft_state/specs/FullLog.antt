@@ -1,0 +1,33 @@
+-- The full log that a few keys stand for, and when two logs are the same.
+use Rattle.std.specs.Prelude.{ℕ, zero, suc, ◌+◌, ◌-◌, nat_eq, Bool, ◌&&◌, List, [], ◌∷◌, ◌++◌}
+use Rattle.std.specs.Cmp.Lexicographic.{pointwise}
+use Rattle.raft_base.specs.declared.log_id.LogIdOf.{LogIdOf}
+
+-- n log ids of one leader, with consecutive indexes from index i on
+abbrev pub ids_of : {C : Type 0} → C → ℕ → ℕ → List (LogIdOf C)
+ids_of c i zero = []
+ids_of c i (suc n) = record { leader_id = c; index = i } ∷ ids_of c (i + 1) n
+
+-- the index of the first of these log ids, or e where there is none
+abbrev pub first_index_or : {C : Type 0} → List (LogIdOf C) → ℕ → ℕ
+first_index_or [] e = e
+first_index_or (k ∷ ks) e = k.index
+
+-- the index after that of the last of these log ids, 0 where there is none
+abbrev pub end_index : {C : Type 0} → List (LogIdOf C) → ℕ
+end_index [] = 0
+end_index (k ∷ []) = k.index + 1
+end_index (k ∷ l ∷ ks) = end_index (l ∷ ks)
+
+-- the log ids from the first key's index up to below e: each key's leader has the indexes up to the next key
+abbrev pub filled : {C : Type 0} → List (LogIdOf C) → ℕ → List (LogIdOf C)
+filled [] e = []
+filled (k ∷ ks) e = ids_of k.leader_id k.index (first_index_or ks e - k.index) ++ filled ks e
+
+-- the full log of keys: at each index from the first key's to the last key's, the leader of the last key not past it
+abbrev pub full_log : {C : Type 0} → List (LogIdOf C) → List (LogIdOf C)
+full_log keys = filled keys (end_index keys)
+
+-- the same indexes, under leaders that are equal by their own equality
+abbrev pub same_log : {C : Type 0} → (C → C → Bool) → List (LogIdOf C) → List (LogIdOf C) → Bool
+same_log eq = pointwise (λ a b. eq a.leader_id b.leader_id && nat_eq a.index b.index)

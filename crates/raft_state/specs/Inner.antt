@@ -1,0 +1,2 @@
+pub mod KeyList
+pub mod KeyEdits

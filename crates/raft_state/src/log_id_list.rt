@@ -1,0 +1,244 @@
+//! The log ids of a whole log, kept by few of them.
+ghost use Rattle.std.specs.Prelude.{◌≡◌, ◌+◌, ◌≤◌, ◌&&◌, length, map, [], IsOkAnd, IfOk, OnOk, OnErr, IsTrue};
+ghost use Rattle.std.specs.Option.{option_copied};
+ghost use Rattle.raft_state.specs.FullLog.{full_log, same_log};
+ghost use Rattle.raft_state.specs.LogReads.{id_at, first_id, last_id, leader_count};
+ghost use Rattle.raft_state.specs.LogEdits.{appended, extended, front, purged};
+ghost use Rattle.raft_state.specs.LogConditions.{follows, all_follow, ends_share_leader, may_be_purged_to};
+ghost use Rattle.raft_state.specs.Keys.{may_be_keys, by_last_leader};
+
+mod keys;
+pub mod laws;
+
+pub use keys::is_key_list;
+use raft_base::{CommittedLeaderId, LogIdOf, RaftLogIdOf};
+use std::alloc::{AllocError, Global};
+use std::fmt;
+use std::marker::Model;
+
+/// The log ids of a log, kept by its keys: the first log id, the first one of each later leader, and
+/// the last one.
+///
+/// A log id between two keys has the leader of the key before it, so the keys tell the log id at each
+/// index from the first key's to the last key's. That is the full log, of which the contracts speak.
+/// The first log id is mostly that of the last purged entry.
+///
+/// Keys rise by index and by leader, and only the last two may share a leader. Two lists are equal if
+/// their full logs are, which is exactly where their keys are.
+#[derive(Drop)]
+pub struct LogIdListOf<C: Ord + Copy> {
+    key_log_ids: Vec<LogIdOf<C>>,
+}
+
+/// The log ids of a log with the default leader ids.
+pub type LogIdList<NID> = LogIdListOf<CommittedLeaderId<NID>>;
+
+impl<C: Ord + Copy> Model for LogIdListOf<C> {
+    ghost use Rattle.std.specs.Prelude.{List};
+    ghost use Rattle.raft_base.specs.declared.log_id.LogIdOf.{LogIdOf};
+    ghost use Rattle.raft_state.specs.Inner.KeyList.{IsKeyList};
+
+    ghost Value = { List (LogIdOf C) };
+
+    ghost view = { λ a. a.key_log_ids.items };
+
+    ghost invariant = { λ a. IsKeyList C.cmp a.key_log_ids.items };
+}
+
+impl<C: Ord + Copy> LogIdListOf<C> {
+    /// The list with these keys.
+    pub fn new(key_log_ids: Vec<LogIdOf<C>>) -> Self
+        requires { IsTrue (may_be_keys C.cmp key_log_ids.items) }
+        ensures { result ≡ key_log_ids.items }
+    {
+        LogIdListOf { key_log_ids }
+    }
+
+    /// The list without log ids, in place of a `Default`, which has no allocator. No memory is taken.
+    pub fn try_default(alloc: Global) -> Result<Self, AllocError>
+        ensures { IsOkAnd result (λ list. full_log list ≡ []) }
+    {
+        Ok(LogIdListOf {
+            key_log_ids: Vec::new(alloc),
+        })
+    }
+
+    /// A list with the same keys.
+    pub fn try_clone(&self) -> Result<Self, AllocError>
+        ensures { IfOk result (λ list. list ≡ self.now) }
+    {
+        let alloc = *self.key_log_ids.allocator();
+        let key_log_ids = Vec::from_slice(alloc, &self.key_log_ids)?;
+        Ok(LogIdListOf { key_log_ids })
+    }
+
+    /// Appends log ids of one leader, one after the other. It looks at the first and the last one
+    /// alone, and takes room for two keys at most.
+    pub fn extend_from_same_leader<LID: RaftLogIdOf<C>>(
+        &mut self,
+        new_ids: &[LID],
+    ) -> Result<(), AllocError>
+        requires follow { IsTrue (all_follow C.cmp (last_id (full_log self.old))
+            (map LID.id_of new_ids.now)) }
+        requires one_leader { IsTrue (ends_share_leader C.eq (map LID.id_of new_ids.now)) }
+        ensures ok { OnOk result (IsTrue (same_log C.eq (full_log self.new)
+            (extended (full_log self.old) (map LID.id_of new_ids.now)))) }
+        ensures err { OnErr result (self.new ≡ self.old) }
+    {
+        keys::extend_by_ends(&mut self.key_log_ids, new_ids)?;
+        Ok(())
+    }
+
+    /// Whether these log ids may be appended one after the other, and are of one leader.
+    pub fn can_extend_from_same_leader<LID: RaftLogIdOf<C>>(&self, new_ids: &[LID]) -> bool
+        ensures { result ≡ (all_follow C.cmp (last_id (full_log self.now)) (map LID.id_of new_ids.now)
+            && ends_share_leader C.eq (map LID.id_of new_ids.now)) }
+    {
+        self.can_extend(new_ids) && keys::share_leader(new_ids)
+    }
+
+    /// Appends log ids, one after the other. Room for a key each is taken first.
+    pub fn extend<LID: RaftLogIdOf<C>>(&mut self, new_ids: &[LID]) -> Result<(), AllocError>
+        requires { IsTrue (all_follow C.cmp (last_id (full_log self.old))
+            (map LID.id_of new_ids.now)) }
+        ensures ok { OnOk result (IsTrue (same_log C.eq (full_log self.new)
+            (extended (full_log self.old) (map LID.id_of new_ids.now)))) }
+        ensures err { OnErr result (self.new ≡ self.old) }
+    {
+        keys::extend(&mut self.key_log_ids, new_ids)?;
+        Ok(())
+    }
+
+    /// Whether these log ids may be appended one after the other.
+    pub fn can_extend<LID: RaftLogIdOf<C>>(&self, new_ids: &[LID]) -> bool
+        ensures { result ≡ all_follow C.cmp (last_id (full_log self.now))
+            (map LID.id_of new_ids.now) }
+    {
+        keys::may_all_follow(self.last().copied(), new_ids)
+    }
+
+    /// Appends a log id. The indexes that are missing before it go to the leader of the last one.
+    pub fn append(&mut self, new_log_id: LogIdOf<C>) -> Result<(), AllocError>
+        requires { IsTrue (follows C.cmp (last_id (full_log self.old)) new_log_id) }
+        ensures ok { OnOk result (IsTrue (same_log C.eq (full_log self.new)
+            (appended (full_log self.old) new_log_id))) }
+        ensures err { OnErr result (self.new ≡ self.old) }
+    {
+        keys::append(&mut self.key_log_ids, new_log_id)?;
+        Ok(())
+    }
+
+    /// Whether a log id may be appended: the list is empty, or its last one has a lesser index and no
+    /// greater leader.
+    pub fn can_append(&self, new_log_id: LogIdOf<C>) -> bool
+        ensures { result ≡ follows C.cmp (last_id (full_log self.now)) new_log_id }
+    {
+        keys::may_follow(self.last().copied(), new_log_id)
+    }
+
+    /// Keeps the log ids with index below `at`. It takes no memory.
+    pub fn truncate(&mut self, at: u64)
+        ensures { full_log self.new ≡ front (full_log self.old) at }
+    {
+        keys::truncate(&mut self.key_log_ids, at);
+    }
+
+    /// Removes the log ids below `upto`. What remains keeps its leaders, also at the index of `upto`.
+    ///
+    /// Of an empty list, or past the last index, `upto` alone remains; below the first index nothing
+    /// changes. Only an empty list wants memory.
+    pub fn purge(&mut self, upto: &LogIdOf<C>) -> Result<(), AllocError>
+        requires { IsTrue (may_be_purged_to C.cmp (last_id (full_log self.old)) upto.now) }
+        ensures ok { OnOk result (full_log self.new ≡ purged (full_log self.old) upto.now) }
+        ensures was_empty { OnErr result (full_log self.old ≡ []) }
+        ensures err { OnErr result (self.new ≡ self.old) }
+    {
+        keys::purge(&mut self.key_log_ids, *upto)?;
+        Ok(())
+    }
+
+    /// Whether the log may be purged up to a log id: its index is not past the last one, or its leader
+    /// is no lesser one.
+    pub fn can_purge(&self, upto: &LogIdOf<C>) -> bool
+        ensures { result ≡ may_be_purged_to C.cmp (last_id (full_log self.now)) upto.now }
+    {
+        match self.last() {
+            None => true,
+            Some(last) => upto.index <= last.index || last.leader_id <= upto.leader_id,
+        }
+    }
+
+    /// The log id at an index, if it is there.
+    pub fn get(&self, index: u64) -> Option<LogIdOf<C>>
+        ensures { result ≡ id_at (full_log self.now) index }
+    {
+        keys::get(&self.key_log_ids, index)
+    }
+
+    /// The first log id, if there is one.
+    pub fn first(&self) -> Option<&LogIdOf<C>>
+        ensures { option_copied result ≡ first_id (full_log self.now) }
+    {
+        self.key_log_ids.first()
+    }
+
+    /// The last log id, if there is one.
+    pub fn last(&self) -> Option<&LogIdOf<C>>
+        ensures { option_copied result ≡ last_id (full_log self.now) }
+    {
+        self.key_log_ids.last()
+    }
+
+    /// The keys: at most one more than the log has leaders.
+    pub fn key_log_ids(&self) -> &[LogIdOf<C>]
+        ensures keys { result.now ≡ self.now }
+        ensures canonical { IsTrue (may_be_keys C.cmp result.now) }
+        ensures few { length result.now ≤ leader_count C.eq (full_log self.now) + 1 }
+    {
+        &self.key_log_ids
+    }
+
+    /// The keys of the last leader: the last two keys where they share a leader, else the last one.
+    pub fn by_last_leader(&self) -> &[LogIdOf<C>]
+        ensures { result.now ≡ by_last_leader C.eq self.now }
+    {
+        keys::by_last_leader(&self.key_log_ids)
+    }
+}
+
+impl<C: Ord + Copy> Clone for LogIdListOf<C> {
+    ghost is_clone = { λ a copy. copy ≡ a };
+
+    fn clone(&self) -> Result<Self, AllocError> {
+        self.try_clone()
+    }
+}
+
+impl<C: Ord + Copy> PartialEq for LogIdListOf<C> {
+    ghost use Rattle.std.specs.Cmp.{partial_equiv_from_equiv};
+    ghost use Rattle.raft_state.specs.FullLogLaws.{same_full_log-equiv};
+
+    ghost eq = { λ a b. same_log C.eq (full_log a) (full_log b) };
+
+    ghost laws = { partial_equiv_from_equiv (same_full_log-equiv C.Eq.laws) };
+
+    // Equal keys and equal full logs are the same.
+    fn eq(&self, other: &Self) -> bool {
+        self.key_log_ids == other.key_log_ids
+    }
+}
+
+impl<C: Ord + Copy> Eq for LogIdListOf<C> {
+    ghost use Rattle.raft_state.specs.FullLogLaws.{same_full_log-equiv};
+
+    ghost laws = { same_full_log-equiv C.Eq.laws };
+}
+
+// By hand, for the name that the type goes by.
+impl<C: Ord + Copy + fmt::Debug> fmt::Debug for LogIdListOf<C> {
+    fn fmt<W: fmt::Write>(&self, f: &mut fmt::Formatter<W>) -> fmt::Result {
+        f.debug_struct("LogIdList")
+            .field("key_log_ids", &self.key_log_ids)
+            .finish()
+    }
+}

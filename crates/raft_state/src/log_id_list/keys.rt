@@ -1,0 +1,223 @@
+//! The work of a list over plain keys. The list keeps them in order.
+ghost use Rattle.std.specs.Prelude.{◌≡◌, ◌+◌, ◌<◌, ◌≤◌, length, map, IsOk, OnOk, OnErr, IsTrue, [], vec_len};
+ghost use Rattle.std.specs.Vec.{vec_capacity};
+ghost use Rattle.raft_state.specs.FullLog.{full_log, end_index};
+ghost use Rattle.raft_state.specs.LogReads.{id_at, last_id};
+ghost use Rattle.raft_state.specs.LogConditions.{follows, all_follow, ends_share_leader};
+ghost use Rattle.raft_state.specs.Keys.{key_follows, may_be_keys, by_last_leader as last_leader_keys};
+ghost use Rattle.raft_state.specs.Inner.KeyList.{IsKeyList, Rises, keys_to};
+ghost use Rattle.raft_state.specs.Inner.KeyEdits.{added, added_all, cut, purged_keys};
+
+use raft_base::{LogIdOf, RaftLogIdOf};
+use std::alloc::AllocError;
+
+/// Whether these may be the keys of a list: indexes and leaders rise, and only the last two may share a
+/// leader.
+pub fn is_key_list<C: Ord + Copy>(keys: &[LogIdOf<C>]) -> bool
+    ensures { result ≡ may_be_keys C.cmp keys.now }
+{
+    for place in 1..keys.len() {
+        if !key_may_follow(keys[place - 1], keys[place], keys.len() - place == 1) {
+            return false;
+        }
+    }
+    true
+}
+
+fn key_may_follow<C: Ord + Copy>(key: LogIdOf<C>, next: LogIdOf<C>, at_end: bool) -> bool
+    ensures { result ≡ key_follows C.cmp key next at_end }
+{
+    key.index < next.index
+        && if at_end {
+            key.leader_id <= next.leader_id
+        } else {
+            key.leader_id < next.leader_id
+        }
+}
+
+/// Whether a log id may come after the last one.
+pub fn may_follow<C: Ord + Copy>(last: Option<LogIdOf<C>>, id: LogIdOf<C>) -> bool
+    ensures { result ≡ follows C.cmp last id }
+{
+    match last {
+        None => true,
+        Some(last) => last.index < id.index && last.leader_id <= id.leader_id,
+    }
+}
+
+/// Whether log ids may come one after the other, the first one after the last one.
+pub fn may_all_follow<C: Ord + Copy, LID: RaftLogIdOf<C>>(
+    last: Option<LogIdOf<C>>,
+    ids: &[LID],
+) -> bool
+    ensures { result ≡ all_follow C.cmp last (map LID.id_of ids.now) }
+{
+    let mut last = last;
+    for id in ids {
+        let id = *id.get_log_id();
+        if !may_follow(last, id) {
+            return false;
+        }
+        last = Some(id);
+    }
+    true
+}
+
+/// Whether the first and the last of these log ids share a leader, or there are none.
+pub fn share_leader<C: Ord + Copy, LID: RaftLogIdOf<C>>(ids: &[LID]) -> bool
+    ensures { result ≡ ends_share_leader C.eq (map LID.id_of ids.now) }
+{
+    match (ids.first(), ids.last()) {
+        (Some(first), Some(last)) => first.get_log_id().leader_id == last.get_log_id().leader_id,
+        _ => true,
+    }
+}
+
+/// Appends a log id, in place of the last key where the last two share a leader.
+pub fn append<C: Ord + Copy>(keys: &mut Vec<LogIdOf<C>>, id: LogIdOf<C>) -> Result<(), AllocError>
+    ensures ok { OnOk result (keys.new.items ≡ added C.eq keys.old.items id) }
+    ensures err { OnErr result (keys.new.items ≡ keys.old.items) }
+    ensures room { vec_len keys.old < vec_capacity keys.old → IsOk result }
+    ensures len { vec_len keys.new ≤ vec_len keys.old + 1 }
+    ensures capacity { vec_capacity keys.old ≤ vec_capacity keys.new }
+{
+    let count = keys.len();
+    if count >= 2 && keys[count - 2].leader_id == keys[count - 1].leader_id {
+        keys[count - 1] = id;
+    } else {
+        keys.push(id)?;
+    }
+    Ok(())
+}
+
+/// Appends log ids one after the other. Room is taken first, so that none is refused after another.
+pub fn extend<C: Ord + Copy, LID: RaftLogIdOf<C>>(
+    keys: &mut Vec<LogIdOf<C>>,
+    ids: &[LID],
+) -> Result<(), AllocError>
+    ensures ok { OnOk result
+        (keys.new.items ≡ added_all C.eq keys.old.items (map LID.id_of ids.now)) }
+    ensures err { OnErr result (keys.new.items ≡ keys.old.items) }
+{
+    keys.reserve(ids.len())?;
+    for id in ids {
+        append(keys, *id.get_log_id())?;
+    }
+    Ok(())
+}
+
+/// Appends log ids of one leader: their keys are those of the first and the last one.
+pub fn extend_by_ends<C: Ord + Copy, LID: RaftLogIdOf<C>>(
+    keys: &mut Vec<LogIdOf<C>>,
+    ids: &[LID],
+) -> Result<(), AllocError>
+    requires follow { IsTrue (all_follow C.cmp (last_id keys.old.items) (map LID.id_of ids.now)) }
+    requires one_leader { IsTrue (ends_share_leader C.eq (map LID.id_of ids.now)) }
+    ensures ok { OnOk result
+        (keys.new.items ≡ added_all C.eq keys.old.items (map LID.id_of ids.now)) }
+    ensures err { OnErr result (keys.new.items ≡ keys.old.items) }
+{
+    if let (Some(first), Some(last)) = (ids.first(), ids.last()) {
+        keys.reserve(ids.len().min(2))?;
+        append(keys, *first.get_log_id())?;
+        if ids.len() > 1 {
+            append(keys, *last.get_log_id())?;
+        }
+    }
+    Ok(())
+}
+
+/// Leaves the keys of the log ids below an index.
+pub fn truncate<C: Ord + Copy>(keys: &mut Vec<LogIdOf<C>>, at: u64)
+    requires { IsKeyList C.cmp keys.old.items }
+    ensures { keys.new.items ≡ cut keys.old.items at }
+{
+    if at == 0 {
+        keys.clear();
+        return;
+    }
+    let end = at - 1;
+    let kept = count_to(keys, end);
+    if kept == 0 {
+        keys.clear();
+        return;
+    }
+    if kept == keys.len() {
+        return;
+    }
+    let last = keys[kept - 1];
+    if last.index < end {
+        // The next key's place is free for the new last one.
+        keys[kept] = LogIdOf::new(last.leader_id, end);
+        keys.truncate(kept + 1);
+    } else {
+        keys.truncate(kept);
+    }
+}
+
+/// Leaves the keys of what a purge leaves.
+pub fn purge<C: Ord + Copy>(keys: &mut Vec<LogIdOf<C>>, upto: LogIdOf<C>) -> Result<(), AllocError>
+    requires { IsKeyList C.cmp keys.old.items }
+    ensures ok { OnOk result (keys.new.items ≡ purged_keys keys.old.items upto) }
+    ensures was_empty { OnErr result (keys.old.items ≡ []) }
+    ensures err { OnErr result (keys.new.items ≡ keys.old.items) }
+{
+    let count = keys.len();
+    if count == 0 {
+        keys.push(upto)?;
+        return Ok(());
+    }
+    if keys[count - 1].index < upto.index {
+        keys.truncate(1);
+        keys[0] = upto;
+        return Ok(());
+    }
+    let covered = count_to(keys, upto.index);
+    if covered == 0 {
+        return Ok(());
+    }
+    let leader_id = keys[covered - 1].leader_id;
+    keys.rotate_left(covered - 1);
+    keys.truncate(count - (covered - 1));
+    keys[0] = LogIdOf::new(leader_id, upto.index);
+    Ok(())
+}
+
+/// The log id at an index, under the leader of the last key that is not past it.
+pub fn get<C: Ord + Copy>(keys: &[LogIdOf<C>], index: u64) -> Option<LogIdOf<C>>
+    requires { IsKeyList C.cmp keys.now }
+    ensures { result ≡ id_at (full_log keys.now) index }
+{
+    let covered = count_to(keys, index);
+    if covered == 0 {
+        return None;
+    }
+    let key = keys[covered - 1];
+    if covered == keys.len() && key.index < index {
+        return None;
+    }
+    Some(LogIdOf::new(key.leader_id, index))
+}
+
+/// How many keys are not past an index, by halving.
+fn count_to<C: Ord + Copy>(keys: &[LogIdOf<C>], index: u64) -> usize
+    requires { Rises 0 keys.now (end_index keys.now) }
+    ensures bound { result ≤ length keys.now }
+    ensures count { result ≡ keys_to keys.now index }
+{
+    keys.partition_point(|key| key.index <= index)
+}
+
+/// The last two keys where they share a leader, else the last one.
+pub fn by_last_leader<C: Ord + Copy>(keys: &[LogIdOf<C>]) -> &[LogIdOf<C>]
+    ensures { result.now ≡ last_leader_keys C.eq keys.now }
+{
+    let count = keys.len();
+    if count < 2 {
+        return keys;
+    }
+    if keys[count - 2].leader_id == keys[count - 1].leader_id {
+        return &keys[count - 2..];
+    }
+    &keys[count - 1..]
+}
