@@ -6,3 +6,4 @@ pub mod Settled
 pub mod ShownAnswers
 pub mod TakenOver
 pub mod Tests
+pub mod Turns
