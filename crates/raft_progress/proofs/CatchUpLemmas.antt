@@ -16,19 +16,19 @@ use Rattle.raft_base.specs.Logged.{Logged}
 use Rattle.raft_base.specs.declared.log_id.LogIdOf.{LogIdOf}
 use Rattle.raft_base.specs.declared.log_id.log_id_range.LogIdRangeOf.{LogIdRangeOf}
 use Rattle.raft_progress.specs.catch_up.CatchUp.{CaughtUp, can_agree, can_catch_up, has_request_ids, match_fits}
-use Rattle.raft_progress.specs.catch_up.HonestRun.{HonestRun, HonestHonestRunEnds, TurnsLeadTo, new_run, replied, replied_to_logs, turn}
+use Rattle.raft_progress.specs.catch_up.HonestRun.{HonestRun, HonestRunEnds, TurnsLeadTo, new_run, replied, replied_to_logs, turn}
 use Rattle.raft_progress.specs.entry.EntryTable.{matched}
 use Rattle.raft_progress.specs.entry.Send.{IsSent, can_be_sent, end_of, sent, start_of}
 use Rattle.raft_progress.specs.inflight.Inflight.{is_idle}
 use Rattle.raft_progress.specs.inflight.InflightTable.{FollowsTable}
 use Rattle.raft_progress.specs.Inner.Turns.{Ready}
-use Rattle.raft_progress.specs.search.Search.{after_reply, stretch}
+use Rattle.raft_progress.specs.search.Search.{after_reply}
 use Rattle.raft_progress.specs.declared.entry.ProgressEntryOf.{ProgressEntryOf}
 use Rattle.raft_progress.specs.declared.inflight.InflightError.{InflightError}
 use Rattle.raft_progress.specs.declared.inflight.InflightOf.{InflightOf}
 use Rattle.raft_progress.specs.declared.inflight.InflightOf.TheVariants.{Logs}
 use Rattle.raft_progress.proofs.HalvingLemmas.{Near}
-use Rattle.raft_progress.proofs.HonestRunLemmas.{Acked, Refused, Sends, at_end, ids_cmp, ids_total, le_lt, le_true, lt_true, prev_at, prev_rises, ready_acked, ready_refused, sends, turn_acked, turn_refused}
+use Rattle.raft_progress.proofs.HonestRunLemmas.{Acked, Refused, Sends, at_end, ids_total, le_lt, le_true, lt_true, prev_at, prev_rises, ready_acked, ready_refused, sends, turn_acked, turn_refused}
 use Rattle.raft_progress.proofs.HonestTurnLemmas.{Stands, ack_falls, ack_near, conflict_falls, conflict_halves, measure}
 
 -- a send that is no error is the table's
@@ -76,7 +76,7 @@ three a b c h = let p = both (a && b) c h in let q = both a b p.0 in (q.0, q.1, 
 five : (a b c d e : Bool) → (a && b && c && d && e) ≡ true → (a ≡ true) × (b ≡ true) × (c ≡ true) × (d ≡ true) × (e ≡ true)
 five a b c d e h = let p = both (a && b && c && d) e h in let q = both (a && b && c) d p.0 in let r = three a b c q.0 in (r.0, r.1, r.2, q.1, p.1)
 
-module _ {C : Type 0} {eq : C → C → Bool} (cmp : C → C → Ordering) where
+module _ {C : Type 0} (eq : C → C → Bool) (cmp : C → C → Ordering) where
   fits_left : (log : LogView C) (entry : ProgressEntryOf C) → match_fits eq cmp log entry ≡ true → IsTrue (same_ids eq entry.matching log.last)
       ⊎ ((next_index entry.matching < next_index log.last) × (next_index log.purge_upto < next_index log.last)
       × IsTrue (id_le cmp entry.matching (prev_id log.id_at (max (next_index entry.matching) (next_index log.purge_upto)))))
@@ -255,7 +255,7 @@ module _ {C : Type 0} (eq : C → C → Bool) (cmp : C → C → Ordering) (tota
     conflicts_within entry agree c k here j h = let b = here.near j h in let b1 = b.1 in omega arith
 
 -- equal log ids are neither above nor below each other, so a run never lowers the match
-module _ {C : Type 0} {eq : C → C → Bool} (cmp : C → C → Ordering) (total : IsTotalOrder cmp) (reflexive : (x : C) → eq x x ≡ true) (ties : (x y : C) → eq x y ≡ eq_by_cmp cmp x y) where
+module _ {C : Type 0} (eq : C → C → Bool) (cmp : C → C → Ordering) (total : IsTotalOrder cmp) (reflexive : (x : C) → eq x x ≡ true) (ties : (x y : C) → eq x y ≡ eq_by_cmp cmp x y) where
   tied : (a b : Option (LogIdOf C)) → same_ids eq a b ≡ true → is_eq (option_cmp (log_id_cmp cmp) a b) ≡ true
   tied None None h = refl
   tied None (Some b) h = cc

@@ -1,10 +1,9 @@
 -- The bounds on the conflicts that a search accepts.
-use Rattle.std.proofs.Common.{◌≡◌, ◌∙◌, ℕ, zero, suc, ◌+◌, ◌-◌, ◌/◌, ◌^◌, ◌<◌, ◌≤◌, true, refl, sym, ap, arith, List, [], ◌∷◌, IfSome, length, get_or, drop, drop-cons, add-one}
+use Rattle.std.proofs.Common.{◌≡◌, ◌∙◌, ℕ, zero, suc, ◌+◌, ◌/◌, ◌^◌, ◌<◌, ◌≤◌, refl, sym, ap, arith, List, [], ◌∷◌, IfSome, length, get_or, drop, drop-cons, add-one}
 use Rattle.std.proofs.lemmas.List.{at_drop_all}
 use Rattle.std.specs.declared.cmp.Ordering.{Ordering}
 use Rattle.raft_base.specs.LogId.{next_index}
 use Rattle.raft_base.specs.LogView.{LogView}
-use Rattle.raft_progress.specs.inflight.Inflight.{is_idle}
 use Rattle.raft_progress.specs.search.Search.{CanSearch, NonePurgedPast, Search, after_event, after_events, new_search, stretch}
 use Rattle.raft_progress.specs.declared.entry.ProgressEntryOf.{ProgressEntryOf}
 use Rattle.raft_progress.specs.declared.search.SearchEvent.{SearchEvent}

@@ -147,8 +147,8 @@ fn reply<C: Ord + Copy>(
         replied_to_logs C.cmp
         (record { entry = old; agree = agree.old; conflicts = c; acks = k }) entry.old id range
         ≡ (if result
-           then record { entry = entry.new; agree = agree.new; conflicts = c; acks = k + 1 }
-           else record { entry = entry.new; agree = agree.new; conflicts = c + 1; acks = k }) }
+        then record { entry = entry.new; agree = agree.new; conflicts = c; acks = k + 1 }
+        else record { entry = entry.new; agree = agree.new; conflicts = c + 1; acks = k }) }
 {
     let LogIdRangeOf { prev, last } = range;
     match refused_at(prev, *agree) {

@@ -1,10 +1,10 @@
 -- Where an honest run stands between its turns, and what one turn does.
-use Rattle.std.specs.Prelude.{◌≡◌, ℕ, ◌+◌, ◌<◌, ◌≤◌, ◌^◌, ◌⊎◌, max, Bool, true, Option, Some, None, IsTrue}
+use Rattle.std.specs.Prelude.{◌≡◌, ℕ, ◌+◌, ◌<◌, ◌≤◌, ◌^◌, ◌⊎◌, max, Bool, true, Some, None, IsTrue}
 use Rattle.std.specs.declared.cmp.Ordering.{Ordering}
 use Rattle.raft_base.specs.LogId.{id_le, next_index, same_ids}
 use Rattle.raft_base.specs.LogView.{LogView, prev_id}
 use Rattle.raft_progress.specs.catch_up.CatchUp.{CaughtUp}
-use Rattle.raft_progress.specs.catch_up.HonestRun.{HonestRun, turn}
+use Rattle.raft_progress.specs.catch_up.HonestRun.{turn}
 use Rattle.raft_progress.specs.inflight.Inflight.{is_idle}
 use Rattle.raft_progress.specs.declared.catch_up.Turn.{Turn}
 use Rattle.raft_progress.specs.declared.catch_up.Turn.TheVariants.{Ended, Refused, Acked}
