@@ -9,3 +9,4 @@ pub mod ListLemmas
 pub mod EffectLemmas
 pub mod LoggedLemmas
 pub mod SendLemmas
+pub mod CatchUpLemmas

@@ -1,5 +1,6 @@
 pub mod Accepted
 pub mod Apply
+pub mod CatchUp
 pub mod Commit
 pub mod FirstDenied
 pub mod FullLog

@@ -3,6 +3,7 @@
 #![tactic(auto)]
 
 pub mod accepted;
+pub mod catch_up;
 pub mod error;
 pub mod io_state;
 pub mod laws;

@@ -11,6 +11,7 @@ mod counting;
 mod entry;
 mod events;
 mod inflight;
+mod search;
 mod tracked;
 
 use raft_members::quorum::QuorumSet;
