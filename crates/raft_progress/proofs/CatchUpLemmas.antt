@@ -256,7 +256,7 @@ module _ {C : Type 0} (eq : C → C → Bool) (cmp : C → C → Ordering) (tota
 
 -- equal log ids are neither above nor below each other, so a run never lowers the match
 module _ {C : Type 0} (eq : C → C → Bool) (cmp : C → C → Ordering) (total : IsTotalOrder cmp) (reflexive : (x : C) → eq x x ≡ true) (ties : (x y : C) → eq x y ≡ eq_by_cmp cmp x y) where
-  tied : (a b : Option (LogIdOf C)) → same_ids eq a b ≡ true → is_eq (option_cmp (log_id_cmp cmp) a b) ≡ true
+  pub tied : (a b : Option (LogIdOf C)) → same_ids eq a b ≡ true → is_eq (option_cmp (log_id_cmp cmp) a b) ≡ true
   tied None None h = refl
   tied None (Some b) h = cc
   tied (Some a) None h = cc

@@ -10,3 +10,4 @@ pub mod EffectLemmas
 pub mod LoggedLemmas
 pub mod SendLemmas
 pub mod CatchUpLemmas
+pub mod RoundLemmas

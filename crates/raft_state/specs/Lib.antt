@@ -20,6 +20,7 @@ pub mod MembershipsLaws
 pub mod NewState
 pub mod Purge
 pub mod Sending
+pub mod Round
 pub mod SnapshotMeta
 pub mod StateView
 pub mod Valid

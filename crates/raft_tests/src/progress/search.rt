@@ -57,10 +57,23 @@ fn halves<C: Numbered>(log: &PlainLog<C>) -> bool {
         send(log, 10),
         conflict(3, 0),
     ];
-    let first = logs(3, None, id(1, 9));
-    accepts(ProgressEntryOf::empty(100), &probes, 2, at(None, 15, 3, first))
-        && accepts(ProgressEntryOf::empty(100), &shortened, 2, at(None, 7, 3, first))
-        && accepts(ProgressEntryOf::empty(100), &[], 0, ProgressEntryOf::empty(100))
+    let first = logs(3, None, id::<C>(1, 9));
+    accepts(
+        ProgressEntryOf::empty(100),
+        &probes,
+        2,
+        at(None, 15, 3, first),
+    ) && accepts(
+        ProgressEntryOf::empty(100),
+        &shortened,
+        2,
+        at(None, 7, 3, first),
+    ) && accepts::<C>(
+        ProgressEntryOf::empty(100),
+        &[],
+        0,
+        ProgressEntryOf::empty(100),
+    )
 }
 
 /// Whether searches at a purge point end with a snapshot, also where a send is skipped since its
