@@ -1,5 +1,5 @@
 -- What stands between the visits of a round, and what is granted after it.
-use Rattle.std.proofs.Common.{◌≡◌, ◌⊎◌, inl, inr, ℕ, suc, ◌+◌, ◌<◌, Bool, true, false, ◌&&◌, ◌||◌, nat_eq, List, [], ◌∷◌, ◌++◌, length, Option, Some, None, IsTrue, refl, sym, ap, ◌∙◌, cond, subst, arith}
+use Rattle.std.proofs.Common.{◌≡◌, ◌⊎◌, inl, inr, ℕ, ◌+◌, Bool, true, false, ◌&&◌, ◌||◌, List, [], ◌∷◌, ◌++◌, length, Option, Some, refl, sym, ap, ◌∙◌, cond, subst, arith}
 use Rattle.std.proofs.lemmas.List.{append_assoc, append-nil}
 use Rattle.std.proofs.lemmas.Cmp.{tied_itself}
 use Rattle.std.specs.Cmp.{IsEquivalence, IsTotalOrder, first_so, second_so}
@@ -13,10 +13,8 @@ use Rattle.raft_base.specs.LogIdLaws.{optional-log_id_cmp-total}
 use Rattle.raft_base.specs.LogView.{LogView}
 use Rattle.raft_base.specs.declared.log_id.LogIdOf.{LogIdOf}
 use Rattle.raft_progress.proofs.CatchUpLemmas.{tied}
-use Rattle.raft_progress.specs.catch_up.CatchUp.{CaughtUp}
-use Rattle.raft_progress.specs.catch_up.HonestRun.{HonestRunEnds}
 use Rattle.raft_progress.specs.progress.CountedValue.{AtMost, IsCounted, IsReached, reached}
-use Rattle.raft_progress.specs.progress.ProgressState.{IsSame, ProgressState, Writes}
+use Rattle.raft_progress.specs.progress.ProgressState.{ProgressState}
 use Rattle.raft_progress.specs.declared.entry.ProgressEntryOf.{ProgressEntryOf}
 use Rattle.raft_state.specs.Round.{IsCaughtUp, IsRound, IsRoundEnd, NonePastLast, QuorumRan, Visits}
 

@@ -18,12 +18,7 @@ use raft_progress::entry::ProgressEntryOf;
 use raft_progress::progress::VecProgress;
 
 /// The progress of a leader's followers: for each what it has, by their matches.
-pub type FollowersOf<C, NID, QS> = VecProgress<
-    NID,
-    ProgressEntryOf<C>,
-    Option<LogIdOf<C>>,
-    QS,
->;
+pub type FollowersOf<C, NID, QS> = VecProgress<NID, ProgressEntryOf<C>, Option<LogIdOf<C>>, QS>;
 
 impl<
     NID: NodeId,
@@ -77,11 +72,10 @@ impl<
     ) -> u64
         requires { IsInOrderByMatch NID.eq C.cmp QS.has_quorum (shown progress.old) }
         ensures ordered { IsInOrderByMatch NID.eq C.cmp QS.has_quorum (shown progress.new) }
-        ensures round {
-            let can = state_can_catch_up C.eq C.cmp self.now in
+        ensures round { let can = state_can_catch_up C.eq C.cmp self.now in
             (ran : List NID) × IsRoundEnd C.eq NID.eq C.cmp QS.has_quorum (view_of self.now)
-                max_entries can (state NID.eq (shown progress.old)) followers.now result
-                (state NID.eq (shown progress.new)) (shown progress.new).granted ran }
+            max_entries can (state NID.eq (shown progress.old)) followers.now result
+            (state NID.eq (shown progress.new)) (shown progress.new).granted ran }
     {
         let mut count = 0;
         for follower in followers {
@@ -102,11 +96,10 @@ impl<
     ) -> bool
         requires { IsInOrderByMatch NID.eq C.cmp QS.has_quorum (shown progress.old) }
         ensures ordered { IsInOrderByMatch NID.eq C.cmp QS.has_quorum (shown progress.new) }
-        ensures visited {
-            let can = state_can_catch_up C.eq C.cmp self.now in
+        ensures visited { let can = state_can_catch_up C.eq C.cmp self.now in
             Visits NID.eq C.cmp (view_of self.now) max_entries can
-                (state NID.eq (shown progress.old)) id.now agree result
-                (state NID.eq (shown progress.new)) }
+            (state NID.eq (shown progress.old)) id.now agree result
+            (state NID.eq (shown progress.new)) }
         ensures caught_up { IsTrue result →
             IsCaughtUp C.eq (view_of self.now) (state NID.eq (shown progress.new)) id.now }
     {

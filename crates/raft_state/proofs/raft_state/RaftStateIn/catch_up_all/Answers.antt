@@ -33,6 +33,6 @@ returns-clause-round g c =
     let ordered = c.loop-follower.invariant.ordered in (
       end.ran,
       round_end g.met.NID.Eq.laws g.C.Ord.cmp g.met.C.Ord.total g.met.C.Eq.laws.refl g.met.C.Ord.matches_eq (view_of c.args.self.now) c.args.max_entries (state_can_catch_up g.C.PartialEq.eq g.C.Ord.cmp c.args.self.now) g.QS.QuorumSet.has_quorum g.met.QS.QuorumSet.superset
-      (state g.NID.PartialEq.eq (shown c.args.progress.now)) now c.args.followers.now end.ran c.loop-follower.progress.granted
-      (round_of g.C.PartialEq.eq g.met.NID.Eq.laws g.C.Ord.cmp (view_of c.args.self.now) c.args.max_entries (state_can_catch_up g.C.PartialEq.eq g.C.Ord.cmp c.args.self.now) (state g.NID.PartialEq.eq (shown c.args.progress.now)) c.args.followers.now c.loop-follower.count now end) end.caught ordered.counted ordered.not_below c.loop-follower.count end.counted,
+          (state g.NID.PartialEq.eq (shown c.args.progress.now)) now c.args.followers.now end.ran c.loop-follower.progress.granted
+          (round_of g.C.PartialEq.eq g.met.NID.Eq.laws g.C.Ord.cmp (view_of c.args.self.now) c.args.max_entries (state_can_catch_up g.C.PartialEq.eq g.C.Ord.cmp c.args.self.now) (state g.NID.PartialEq.eq (shown c.args.progress.now)) c.args.followers.now c.loop-follower.count now end) end.caught ordered.counted ordered.not_below c.loop-follower.count end.counted,
     )
