@@ -1,2 +1,3 @@
+-- Words that only private functions and invariants cite.
 pub mod KeyList
 pub mod KeyEdits

@@ -20,6 +20,10 @@ all_follow cmp last (id ∷ ids) = follows cmp last id && all_follow cmp (Some i
 abbrev pub ends_share_leader : {C : Type 0} → (C → C → Bool) → List (LogIdOf C) → Bool
 ends_share_leader eq ids = option_eq (λ a b. eq a.leader_id b.leader_id) (first_id ids) (last_id ids)
 
+-- log ids of one leader may come one after the other, the first one after this last one
+abbrev pub all_follow_of_one_leader : {C : Type 0} → (C → C → Ordering) → (C → C → Bool) → Option (LogIdOf C) → List (LogIdOf C) → Bool
+all_follow_of_one_leader cmp eq last ids = all_follow cmp last ids && ends_share_leader eq ids
+
 -- a log with this last log id may be purged up to that one: past the last index only with no lesser leader
 abbrev pub may_be_purged_to : {C : Type 0} → (C → C → Ordering) → Option (LogIdOf C) → LogIdOf C → Bool
 may_be_purged_to cmp None upto = true

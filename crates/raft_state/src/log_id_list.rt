@@ -1,10 +1,10 @@
 //! The log ids of a whole log, kept by few of them.
-ghost use Rattle.std.specs.Prelude.{◌≡◌, ◌+◌, ◌≤◌, ◌&&◌, length, map, [], IsOkAnd, IfOk, OnOk, OnErr, IsTrue};
+ghost use Rattle.std.specs.Prelude.{◌≡◌, ◌+◌, ◌≤◌, length, map, [], IsOkAnd, IfOk, OnOk, OnErr, IsTrue};
 ghost use Rattle.std.specs.Option.{option_copied};
 ghost use Rattle.raft_state.specs.FullLog.{full_log, same_log};
 ghost use Rattle.raft_state.specs.LogReads.{id_at, first_id, last_id, leader_count};
 ghost use Rattle.raft_state.specs.LogEdits.{appended, extended, front, purged};
-ghost use Rattle.raft_state.specs.LogConditions.{follows, all_follow, ends_share_leader, may_be_purged_to};
+ghost use Rattle.raft_state.specs.LogConditions.{follows, all_follow, all_follow_of_one_leader, may_be_purged_to};
 ghost use Rattle.raft_state.specs.Keys.{may_be_keys, by_last_leader};
 
 mod keys;
@@ -78,9 +78,8 @@ impl<C: Ord + Copy> LogIdListOf<C> {
         &mut self,
         new_ids: &[LID],
     ) -> Result<(), AllocError>
-        requires follow { IsTrue (all_follow C.cmp (last_id (full_log self.old))
+        requires { IsTrue (all_follow_of_one_leader C.cmp C.eq (last_id (full_log self.old))
             (map LID.id_of new_ids.now)) }
-        requires one_leader { IsTrue (ends_share_leader C.eq (map LID.id_of new_ids.now)) }
         ensures ok { OnOk result (IsTrue (same_log C.eq (full_log self.new)
             (extended (full_log self.old) (map LID.id_of new_ids.now)))) }
         ensures err { OnErr result (self.new ≡ self.old) }
@@ -91,8 +90,8 @@ impl<C: Ord + Copy> LogIdListOf<C> {
 
     /// Whether these log ids may be appended one after the other, and are of one leader.
     pub fn can_extend_from_same_leader<LID: RaftLogIdOf<C>>(&self, new_ids: &[LID]) -> bool
-        ensures { result ≡ (all_follow C.cmp (last_id (full_log self.now)) (map LID.id_of new_ids.now)
-            && ends_share_leader C.eq (map LID.id_of new_ids.now)) }
+        ensures { result ≡ all_follow_of_one_leader C.cmp C.eq (last_id (full_log self.now))
+            (map LID.id_of new_ids.now) }
     {
         self.can_extend(new_ids) && keys::share_leader(new_ids)
     }

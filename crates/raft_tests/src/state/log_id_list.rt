@@ -7,7 +7,7 @@ use super::words::{call_is_right, log_ids};
 use crate::text::debugs;
 use raft_base::leader_id_std::LeaderId as StdLeaderId;
 use raft_base::{LeaderId, LogIdOf};
-use raft_state::log_id_list::laws::truncate_twice;
+use raft_state::log_id_list::laws::{have_equal_keys, truncate_twice};
 use raft_state::{LogIdList, LogIdListOf, is_key_list};
 use std::alloc::{AllocError, Global};
 use std::test::Fail;
@@ -117,6 +117,8 @@ fn lists_compare(alloc: Global) -> Result<bool, AllocError> {
         list == list.clone()?
             && list != cut
             && cut == shorter
+            && have_equal_keys(&cut, &shorter)
+            && !have_equal_keys(&list, &cut)
             && list != list_of(alloc, "1.1,3.3,3.9")?
             && is_taken
             && taken == list_of(alloc, "1.1,2.3,3.6")?
