@@ -8,6 +8,8 @@ pub mod LogIdLaws
 pub mod LogIdRange
 pub mod LogIndex
 pub mod LogView
+pub mod Logged
+pub mod UTime
 pub mod Validate
 pub mod Vote
 pub mod VoteLaws

@@ -1,5 +1,7 @@
 -- Indexes that may be absent.
-use Rattle.std.specs.Prelude.{ℕ, zero, suc, ◌+◌, Option, Some, None}
+use Rattle.std.specs.Prelude.{ℕ, zero, suc, ◌+◌, Bool, Option, Some, None}
+use Rattle.std.specs.Option.{option_cmp}
+use Rattle.std.specs.Ordering.{is_le, is_lt, nat_cmp}
 
 -- the index after one that may be absent, and 0 after none
 abbrev pub next_index_of : Option ℕ → ℕ
@@ -19,3 +21,11 @@ index_before None = None
 -- the index so many places on
 abbrev pub moved_on : Option ℕ → ℕ → Option ℕ
 moved_on index places = last_of (next_index_of index + places)
+
+-- one index is at most another; an absent one is below all others
+abbrev pub index_le : Option ℕ → Option ℕ → Bool
+index_le a b = is_le (option_cmp nat_cmp a b)
+
+-- one index is below another; an absent one is below all others
+abbrev pub index_lt : Option ℕ → Option ℕ → Bool
+index_lt a b = is_lt (option_cmp nat_cmp a b)

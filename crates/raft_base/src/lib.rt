@@ -1,16 +1,21 @@
-//! The names that a Raft cluster agrees on: node ids, leader ids, votes and log ids.
+//! The names that a Raft cluster agrees on: node ids, leader ids, votes and log ids; and what a node is
+//! to it, and since when.
 #![tactic(auto)]
 
 pub mod display_ext;
+pub mod instant;
 pub mod kind;
 pub mod leader_id;
 pub mod leader_id_std;
 pub mod log_id;
 pub mod node;
 pub mod order;
+pub mod server_state;
+pub mod utime;
 pub mod vote;
 
 pub use display_ext::DisplayOption;
+pub use instant::Instant;
 pub use kind::{LeaderAdv, LeaderIdentity, LeaderKind};
 pub use leader_id::{CommittedLeaderId, LeaderId};
 pub use leader_id_std::LeaderStd;
@@ -19,4 +24,6 @@ pub use log_id::{
     LogStateReader, RaftLogId, RaftLogIdOf, Validate,
 };
 pub use node::{EmptyNode, Node, NodeDefault, NodeEssential, NodeId, NodeIdEssential};
+pub use server_state::ServerState;
+pub use utime::UTime;
 pub use vote::{Vote, VoteIn, VoteOf};

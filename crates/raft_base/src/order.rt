@@ -6,7 +6,8 @@ ghost use Rattle.std.specs.declared.cmp.Ordering.TheVariants.{Equal};
 ghost use Rattle.std.specs.Ordering.{is_eq};
 ghost use Rattle.std.specs.Option.{option_cmp};
 ghost use Rattle.raft_base.specs.LeaderId.{leader_id_cmp};
-ghost use Rattle.raft_base.specs.LogId.{log_id_cmp};
+ghost use Rattle.raft_base.specs.LogId.{id_le, id_lt, log_id_cmp, same_ids};
+ghost use Rattle.raft_base.specs.LogIndex.{index_le, index_lt};
 ghost use Rattle.raft_base.specs.Vote.{vote_cmp, default_vote_cmp};
 
 use crate::kind::LeaderIdentity;
@@ -42,6 +43,41 @@ pub fn compare_optional_log_ids<C: Ord>(a: &Option<LogIdOf<C>>, b: &Option<LogId
     ensures { result ≡ option_cmp (log_id_cmp C.cmp) a.now b.now }
 {
     a.cmp(b)
+}
+
+/// Whether an optional log id is at most another one. An absent one is below each that is there.
+pub fn log_id_at_most<C: Ord + Copy>(a: Option<LogIdOf<C>>, b: Option<LogIdOf<C>>) -> bool
+    ensures { result ≡ id_le C.cmp a b }
+{
+    a <= b
+}
+
+/// Whether an optional log id is below another one.
+pub fn log_id_below<C: Ord + Copy>(a: Option<LogIdOf<C>>, b: Option<LogIdOf<C>>) -> bool
+    ensures { result ≡ id_lt C.cmp a b }
+{
+    a < b
+}
+
+/// Whether two optional log ids are equal, or both absent.
+pub fn same_optional_log_ids<C: Eq + Copy>(a: Option<LogIdOf<C>>, b: Option<LogIdOf<C>>) -> bool
+    ensures { result ≡ same_ids C.eq a b }
+{
+    a == b
+}
+
+/// Whether an optional index is at most another one. An absent one is below each that is there.
+pub fn index_at_most(a: Option<u64>, b: Option<u64>) -> bool
+    ensures { result ≡ index_le a b }
+{
+    a <= b
+}
+
+/// Whether an optional index is below another one.
+pub fn index_below(a: Option<u64>, b: Option<u64>) -> bool
+    ensures { result ≡ index_lt a b }
+{
+    a < b
 }
 
 /// How two votes compare, over any kind of leader ids: by leader, then by being committed.

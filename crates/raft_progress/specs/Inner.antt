@@ -7,3 +7,4 @@ pub mod Settled
 pub mod ShownAnswers
 pub mod TakenOver
 pub mod Tests
+pub mod Turns

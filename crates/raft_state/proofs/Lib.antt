@@ -6,3 +6,8 @@ pub mod ExtendLemmas
 pub mod EndsLemmas
 pub mod EqualLemmas
 pub mod ListLemmas
+pub mod EffectLemmas
+pub mod LoggedLemmas
+pub mod SendLemmas
+pub mod CatchUpLemmas
+pub mod RoundLemmas

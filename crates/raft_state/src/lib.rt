@@ -1,6 +1,23 @@
-//! What a Raft node keeps of its own log and its own state, as plain data.
+//! What a Raft node keeps of its own log and its own state, as plain data: its log ids, its memberships,
+//! its snapshot, its vote, and how far its storage has got.
 #![tactic(auto)]
 
+pub mod accepted;
+pub mod catch_up;
+pub mod error;
+pub mod io_state;
+pub mod laws;
 pub mod log_id_list;
+pub mod membership_state;
+pub mod raft_state;
+pub mod snapshot_meta;
+pub mod vote_state_reader;
 
+pub use accepted::{Accepted, AcceptedIn, AcceptedOf};
+pub use error::ForwardToLeader;
+pub use io_state::{IOState, IOStateIn, IOStateOf, LogIOId, LogIOIdOf};
 pub use log_id_list::{LogIdList, LogIdListOf, is_key_list};
+pub use membership_state::{ChangeHandler, ChangeHandlerOf, MembershipState, MembershipStateOf};
+pub use raft_state::{RaftState, RaftStateIn, RaftStateOf};
+pub use snapshot_meta::{SnapshotMeta, SnapshotMetaOf};
+pub use vote_state_reader::VoteStateReader;

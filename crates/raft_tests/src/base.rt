@@ -2,5 +2,6 @@
 
 mod calls;
 mod logs;
+mod moments;
 mod standard;
 mod values;

@@ -11,6 +11,7 @@ mod counting;
 mod entry;
 mod events;
 mod inflight;
+mod search;
 mod tracked;
 
 use raft_members::quorum::QuorumSet;
@@ -20,7 +21,12 @@ use std::process::Abort;
 use std::test::Fail;
 
 /// A progress whose learners fit.
-fn made<ID: Copy + Ord, V: ProgressPart<P> + Clone + Drop, P: Copy + Ord, QS: QuorumSet<ID> + Drop>(
+pub fn made<
+    ID: Copy + Ord,
+    V: ProgressPart<P> + Clone + Drop,
+    P: Copy + Ord,
+    QS: QuorumSet<ID> + Drop,
+>(
     rt: &impl Abort,
     alloc: Global,
     quorum_set: QS,
@@ -50,7 +56,7 @@ fn would_fall<ID: Copy + Ord, V: ProgressPart<P> + Drop, P: Copy + Ord, QS: Quor
 }
 
 /// An update of a progress in order that doesn't lower the value.
-fn updated<ID: Copy + Ord, V: ProgressPart<P> + Drop, P: Copy + Ord, QS: QuorumSet<ID> + Drop>(
+pub fn updated<ID: Copy + Ord, V: ProgressPart<P> + Drop, P: Copy + Ord, QS: QuorumSet<ID> + Drop>(
     rt: &impl Abort,
     progress: &mut VecProgress<ID, V, P, QS>,
     id: ID,

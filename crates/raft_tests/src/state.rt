@@ -1,5 +1,9 @@
-//! `raft_state`: the list of log ids.
+//! `raft_state`: the list of log ids, the memberships of a node, and its whole state.
 
+mod callers;
 mod compared;
 mod log_id_list;
+mod memberships;
+mod rows;
+mod whole;
 mod words;

@@ -55,7 +55,7 @@ pub fn answer_of<C: Numbered>(
 }
 
 /// An entry by its match, the end of the search, the last request and what is in flight.
-fn at<C: Numbered>(
+pub fn at<C: Numbered>(
     matching: Option<LogIdOf<C>>,
     searching_end: u64,
     curr_inflight_id: u64,

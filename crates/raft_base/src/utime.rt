@@ -1,0 +1,88 @@
+//! A value with the moment of its last update.
+ghost use Rattle.std.specs.Prelude.{◌≡◌, Some, None, IsTrue};
+ghost use Rattle.std.specs.Ordering.{is_ge};
+ghost use Rattle.std.specs.Option.{option_cmp};
+
+use crate::instant::Instant;
+
+/// A value, and the moment of its last update, if there was one.
+///
+/// A follower waits for its leader from the moment on that the leader was last heard. So a vote is
+/// kept with that moment. Two are equal if their values and their moments are.
+#[derive(Debug, Clone, Default, PartialEq, Eq, Drop)]
+pub struct UTime<T, I: Instant> {
+    data: T,
+    utime: Option<I>,
+}
+
+impl<T: Drop, I: Instant> UTime<T, I> {
+    ghost use Rattle.std.specs.Borrow.{sem, Lends};
+    ghost use Rattle.raft_base.specs.UTime.{data_of, moment_of, stamped};
+    ghost use Rattle.raft_base.specs.contracts.utime.UTime.{the_row};
+
+    /// A value that is updated now.
+    pub fn new(now: I, value: T) -> Self
+        ensures { result ≡ stamped value (Some now) }
+    {
+        UTime {
+            data: value,
+            utime: Some(now),
+        }
+    }
+
+    /// A value that was never updated.
+    pub fn without_utime(value: T) -> Self
+        ensures { result ≡ stamped value None }
+    {
+        UTime {
+            data: value,
+            utime: None,
+        }
+    }
+
+    /// The moment of the last update, if there was one.
+    pub fn utime(&self) -> Option<I>
+        ensures { result ≡ moment_of self.now }
+    {
+        self.utime
+    }
+
+    /// The value, without its moment.
+    pub fn into_inner(self) -> T
+        ensures { result ≡ data_of self }
+    {
+        self.data
+    }
+
+    /// Takes another value, updated now.
+    pub fn update(&mut self, now: I, value: T)
+        ensures { self.new ≡ stamped value (Some now) }
+    {
+        self.data = value;
+        self.utime = Some(now);
+    }
+
+    /// Marks the value as updated now, which is not before its last update.
+    pub fn touch(&mut self, now: I)
+        requires { IsTrue (is_ge (option_cmp I.cmp (Some now) (moment_of self.old))) }
+        ensures { self.new ≡ stamped (data_of self.old) (Some now) }
+    {
+        self.utime = Some(now);
+    }
+
+    /// The value.
+    pub fn get(&self) -> &T
+        ensures { result.now ≡ data_of self.now }
+    {
+        &self.data
+    }
+
+    /// The value, to be written. Its moment stays.
+    pub fn get_mut(&mut self) -> &mut T
+        ensures* written { sem 𝓛 (Lends (the_row T.row I.row) T.row self.entry result
+            (λ value. stamped value (moment_of self.old))) }
+        ensures value { result.now ≡ data_of self.old }
+    {
+        &mut self.data
+    }
+}

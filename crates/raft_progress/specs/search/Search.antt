@@ -1,0 +1,73 @@
+-- The search for the last log that a leader and a follower share: what events make of it.
+use Rattle.std.specs.Prelude.{ℕ, ◌+◌, ◌-◌, ◌≤◌, ◌≡◌, true, ◌&&◌, nat_le, Result, Ok, Err, if◌then◌else◌, List, [], ◌∷◌, Some, None}
+use Rattle.std.specs.declared.cmp.Ordering.{Ordering}
+use Rattle.raft_base.specs.LogId.{next_index}
+use Rattle.raft_base.specs.LogView.{LogView}
+use Rattle.raft_progress.specs.entry.EntryTable.{conflicting}
+use Rattle.raft_progress.specs.entry.Send.{can_be_sent, sent}
+use Rattle.raft_progress.specs.inflight.Inflight.{is_idle}
+use Rattle.raft_progress.specs.declared.entry.ProgressEntryOf.{ProgressEntryOf}
+use Rattle.raft_progress.specs.declared.search.SearchEvent.{SearchEvent}
+use Rattle.raft_progress.specs.declared.search.SearchEvent.TheVariants.{Send, Conflict, Heartbeat}
+
+-- an entry in a search, the index after the last purge point that was sent over, and how many conflicts were accepted
+pub record Search (C : Type 0) : Type 0 where
+  pub entry : ProgressEntryOf C
+  pub purged : ℕ
+  pub accepted : ℕ
+
+-- a search that begins with an entry
+abbrev pub new_search : {C : Type 0} → ProgressEntryOf C → Search C
+new_search entry = record { entry = entry; purged = 0; accepted = 0 }
+
+-- the entry after a send, whether something was sent or not
+abbrev pub after_send : {S : Type 0} → Result S S → S
+after_send (Ok entry) = entry
+after_send (Err entry) = entry
+
+-- the entry after a reply: where it is refused, the entry as it was
+abbrev pub after_reply : {S E : Type 0} → S → Result S E → S
+after_reply entry (Ok new) = new
+after_reply entry (Err e) = entry
+
+-- 1 where a reply is accepted, 0 where it is refused
+abbrev pub one_if_accepted : {S E : Type 0} → Result S E → ℕ
+one_if_accepted (Ok new) = 1
+one_if_accepted (Err e) = 0
+
+module _ {L C : Type 0} (cmp : C → C → Ordering) (log_view : L → LogView C) where
+  -- a send over a log, unless it may not be made, or the purge point has gone back since an earlier send
+  abbrev pub after_sending : Search C → LogView C → ℕ → Search C
+  after_sending search log max_entries =
+      if can_be_sent search.entry log && nat_le search.purged (next_index log.purge_upto)
+      then record { entry = after_send (sent cmp search.entry log max_entries); purged = next_index log.purge_upto; accepted = search.accepted }
+      else search
+
+  -- the search after an event; an event that is refused changes nothing
+  abbrev pub after_event : Search C → SearchEvent L → Search C
+  after_event search (Send log max_entries) = after_sending search (log_view log.now) max_entries
+  after_event search (Conflict request_id index) =
+      let answer = conflicting search.entry (Some request_id) index in
+      record { entry = after_reply search.entry answer; purged = search.purged; accepted = search.accepted + one_if_accepted answer }
+  after_event search (Heartbeat index) = record search { entry = after_reply search.entry (conflicting search.entry None index) }
+
+  -- the search after events, one after another
+  abbrev pub after_events : Search C → List (SearchEvent L) → Search C
+  after_events search [] = search
+  after_events search (event ∷ events) = after_events (after_event search event) events
+
+module _ {L C : Type 0} (log_view : L → LogView C) (index : ℕ) where
+  -- no send has a purge point at or past an index
+  abbrev pub NonePurgedPast : List (SearchEvent L) → Type 0
+  NonePurgedPast [] = Unit {0}
+  NonePurgedPast (Send log max_entries ∷ events) = (next_index (log_view log.now).purge_upto ≤ index) × NonePurgedPast events
+  NonePurgedPast (Conflict request_id conflict ∷ events) = NonePurgedPast events
+  NonePurgedPast (Heartbeat conflict ∷ events) = NonePurgedPast events
+
+-- a search can begin: nothing is in flight, and the match is below the end of the search
+abbrev pub CanSearch : {C : Type 0} → ProgressEntryOf C → Type 0
+CanSearch entry = (is_idle entry.inflight ≡ true) × (next_index entry.matching ≤ entry.searching_end)
+
+-- from the match to the end of the search: so many indexes may be that of the last shared log
+abbrev pub stretch : {C : Type 0} → ProgressEntryOf C → ℕ
+stretch entry = entry.searching_end - next_index entry.matching

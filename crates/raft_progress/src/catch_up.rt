@@ -1,0 +1,176 @@
+//! Catching up a follower that replies honestly: sends until it has all.
+ghost use Rattle.std.specs.Prelude.{◌≡◌, ◌+◌, ◌-◌, ◌*◌, ◌/◌, ◌^◌, ◌<◌, ◌≤◌, ℕ, nat_lt, IsTrue, Some, None, if◌then◌else◌};
+ghost use Rattle.raft_base.specs.LogId.{id_le, next_index};
+ghost use Rattle.raft_base.specs.Logged.{Logged};
+ghost use Rattle.raft_progress.specs.catch_up.CatchUp.{CaughtUp, can_agree, can_catch_up, has_request_ids};
+ghost use Rattle.raft_progress.specs.catch_up.HonestRun.{HonestRunEnds, replied_to_logs};
+ghost use Rattle.raft_progress.specs.search.Search.{stretch};
+ghost use Rattle.raft_progress.specs.Inner.Turns.{Ready, TurnDone};
+ghost use Rattle.raft_progress.specs.declared.entry.ProgressEntryOf.{ProgressEntryOf};
+
+use crate::entry::ProgressEntryOf;
+use crate::inflight::InflightOf;
+use raft_base::order::{log_id_at_most, same_optional_log_ids};
+use raft_base::{LogIdOf, LogIdOptionExt, LogIdRangeOf, LogStateReader};
+
+/// Whether `catch_up_entry` may be called, over a log that has all its log ids from the purge point on.
+///
+/// Nothing is in flight and a send may be made; the follower agrees up to the match and the purge
+/// point at least, and no further than the search goes; a send takes an entry at least; there are
+/// request ids for the whole run; and the match is the last log id, or not above the log from which
+/// the run goes on.
+pub fn can_catch_up_entry<C: Ord + Copy, L: LogStateReader<C>>(
+    log: &L,
+    entry: &ProgressEntryOf<C>,
+    agree: u64,
+    max_entries: u64,
+) -> bool
+    ensures { result ≡ can_catch_up C.eq C.cmp (L.log_view log.now) entry.now agree max_entries }
+{
+    if !entry.inflight.is_none() || !entry.can_send(log) || max_entries == 0 {
+        return false;
+    }
+    let last = log.last_log_id().copied();
+    let matched = entry.matching.next_index();
+    let purged = log.purge_upto().copied().next_index();
+    let logged = last.next_index();
+    if !can_agree(matched, entry.searching_end, purged, agree)
+        || !has_request_ids(entry.curr_inflight_id, logged)
+    {
+        return false;
+    }
+    if same_optional_log_ids(entry.matching, last) {
+        return true;
+    }
+    matched < logged
+        && purged < logged
+        && log_id_at_most(entry.matching, log.prev_log_id(matched.max(purged)))
+}
+
+/// Whether a follower can agree below an index.
+fn can_agree(matched: u64, end: u64, purged: u64, agree: u64) -> bool
+    ensures { result ≡ can_agree matched end purged agree }
+{
+    matched <= agree && agree <= end && purged <= agree
+}
+
+/// Whether enough request ids are left for a run over a log of this length.
+fn has_request_ids(id: u64, length: u64) -> bool
+    ensures { result ≡ has_request_ids id length }
+{
+    length < u64::MAX - 64 && id < u64::MAX - 64 - length
+}
+
+/// Sends to a follower whose log agrees with this one below an index, and takes its replies, until
+/// nothing is left to send. Answers how many conflicts came, and how many acks.
+///
+/// The follower replies honestly: with a conflict where it does not agree before the logs that were
+/// sent, else with an ack of them all. At the end it has all. Conflicts are at most the binary digits
+/// of a sixteenth of the stretch from the match to the end of the search, acks at most what is left of
+/// the log by `max_entries`, rounded up.
+pub fn catch_up_entry<C: Ord + Copy, L: LogStateReader<C>>(
+    log: &L,
+    entry: &mut ProgressEntryOf<C>,
+    agree: u64,
+    max_entries: u64,
+) -> (u64, u64)
+    requires logged { Logged C.cmp (L.log_view log.now) }
+    requires can { IsTrue (can_catch_up C.eq C.cmp (L.log_view log.now) entry.old agree max_entries) }
+    ensures run { HonestRunEnds C.cmp (L.log_view log.now) max_entries
+        entry.old agree entry.new result.0 result.1 }
+    ensures caught_up { CaughtUp C.eq (L.log_view log.now) entry.new }
+    ensures not_lowered { IsTrue (id_le C.cmp entry.old.matching entry.new.matching) }
+    ensures conflicts { (k : ℕ) → stretch entry.old / 16 < 2 ^ k → result.0 ≤ k }
+    ensures acks { let left = next_index (L.log_view log.now).last - next_index entry.old.matching in
+        result.1 * max_entries < left + max_entries }
+{
+    let mut agreed = agree;
+    let mut conflicts = 0;
+    let mut acks = 0;
+    'turns: loop {
+        match take_turn(log, entry, &mut agreed, max_entries) {
+            Turn::Ended => return (conflicts, acks),
+            Turn::Refused => conflicts += 1,
+            Turn::Acked => acks += 1,
+        }
+    }
+}
+
+/// What one turn came to.
+enum Turn {
+    /// Nothing was sent.
+    Ended,
+    /// A conflict came.
+    Refused,
+    /// An ack came.
+    Acked,
+}
+
+/// One send and its reply.
+fn take_turn<C: Ord + Copy, L: LogStateReader<C>>(
+    log: &L,
+    entry: &mut ProgressEntryOf<C>,
+    agree: &mut u64,
+    max_entries: u64,
+) -> Turn
+    requires logged { Logged C.cmp (L.log_view log.now) }
+    requires ready { Ready C.eq C.cmp (L.log_view log.now) max_entries entry.old agree.old }
+    requires id { entry.old.curr_inflight_id + 1 < 2 ^ 64 }
+    ensures { TurnDone C.eq C.cmp (L.log_view log.now) max_entries
+        entry.old agree.old result entry.new agree.new }
+{
+    if entry.next_send(log, max_entries).is_err() {
+        return Turn::Ended;
+    }
+    match entry.inflight {
+        InflightOf::Logs { id, log_id_range } => {
+            if reply(entry, id, log_id_range, agree) {
+                Turn::Acked
+            } else {
+                Turn::Refused
+            }
+        }
+        InflightOf::None => Turn::Ended,
+        InflightOf::Snapshot { .. } => Turn::Ended,
+    }
+}
+
+/// Takes the honest reply to logs, and answers whether it is an ack.
+fn reply<C: Ord + Copy>(
+    entry: &mut ProgressEntryOf<C>,
+    id: u64,
+    range: LogIdRangeOf<C>,
+    agree: &mut u64,
+) -> bool
+    requires { next_index range.last < 2 ^ 64 }
+    ensures { (old : ProgressEntryOf C) (c k : ℕ) →
+        replied_to_logs C.cmp
+        (record { entry = old; agree = agree.old; conflicts = c; acks = k }) entry.old id range
+        ≡ (if result
+        then record { entry = entry.new; agree = agree.new; conflicts = c; acks = k + 1 }
+        else record { entry = entry.new; agree = agree.new; conflicts = c + 1; acks = k }) }
+{
+    let LogIdRangeOf { prev, last } = range;
+    match refused_at(prev, *agree) {
+        Some(index) => {
+            let _ = entry.update_conflicting(Some(id), index);
+            false
+        }
+        None => {
+            let _ = entry.update_matching(id, last);
+            *agree = (*agree).max(last.next_index());
+            true
+        }
+    }
+}
+
+/// The index of the log before those that were sent, where the follower does not agree there.
+fn refused_at<C: Copy>(prev: Option<LogIdOf<C>>, agree: u64) -> Option<u64>
+    ensures { result ≡
+        (if nat_lt agree (next_index prev) then Some (next_index prev - 1) else None) }
+{
+    match prev {
+        Some(prev) if prev.index >= agree => Some(prev.index),
+        _ => None,
+    }
+}

@@ -1,0 +1,99 @@
+//! The search for the last log that a leader and a follower share, over whole lists of events.
+ghost use Rattle.std.specs.Prelude.{◌≡◌, ◌+◌, ◌/◌, ◌^◌, ◌<◌, ◌≤◌, ℕ, if◌then◌else◌};
+ghost use Rattle.raft_base.specs.LogId.{next_index};
+ghost use Rattle.raft_base.specs.LogIndex.{next_index_of};
+ghost use Rattle.raft_progress.specs.search.Search.{CanSearch, NonePurgedPast, after_event, after_events, new_search, stretch};
+
+use crate::entry::ProgressEntryOf;
+use raft_base::{LogIdOptionExt, LogStateReader};
+
+/// What comes to a search.
+#[derive(Drop)]
+pub enum SearchEvent<'a, L> {
+    /// The leader sends what comes next.
+    Send {
+        /// The leader's log.
+        log: &'a L,
+        /// How many entries a request has at most.
+        max_entries: u64,
+    },
+    /// The follower replies that it does not have the log before those in flight.
+    Conflict {
+        /// The request that it replies to.
+        request_id: u64,
+        /// The index of the log that it does not have.
+        conflict: u64,
+    },
+    /// The follower replies to a heartbeat that it does not match at an index.
+    Heartbeat {
+        /// The index.
+        conflict: u64,
+    },
+}
+
+/// Takes events one after another, and answers how many conflicts were accepted.
+///
+/// A send is skipped where `can_send` is false, and where its purge point is before that of an earlier
+/// send that was not skipped. A reply that is refused changes nothing. Each probe halves the stretch
+/// that is left, so the accepted conflicts are few: at most the binary digits of the stretch from the
+/// match to the end of the search, and at most those of a sixteenth of it, or one more where a purge
+/// point lies past the match.
+pub fn search_run<C: Ord + Copy, L: LogStateReader<C>>(
+    entry: &mut ProgressEntryOf<C>,
+    events: &[SearchEvent<'_, L>],
+) -> u64
+    ensures run { let search = after_events C.cmp L.log_view (new_search entry.old) events.now in
+        (result ≡ search.accepted) × (entry.new ≡ search.entry) }
+    ensures digits { CanSearch entry.old → (k : ℕ) → stretch entry.old < 2 ^ k → result ≤ k }
+    ensures near_digits { CanSearch entry.old
+        → NonePurgedPast L.log_view (next_index entry.old.matching) events.now
+        → (k : ℕ) → stretch entry.old / 16 < 2 ^ k → result ≤ k }
+    ensures one_more { CanSearch entry.old
+        → (k : ℕ) → stretch entry.old / 16 < 2 ^ k → result ≤ k + 1 }
+{
+    let mut purged = None;
+    let mut accepted = 0;
+    for event in events {
+        if take_event(entry, event, &mut purged) {
+            accepted += 1;
+        }
+    }
+    accepted
+}
+
+/// Takes an event, and answers whether it is a conflict that was accepted.
+fn take_event<C: Ord + Copy, L: LogStateReader<C>>(
+    entry: &mut ProgressEntryOf<C>,
+    event: &SearchEvent<'_, L>,
+    purged: &mut Option<u64>,
+) -> bool
+    ensures { (n : ℕ) →
+        after_event C.cmp L.log_view
+        (record { entry = entry.old; purged = next_index_of purged.old; accepted = n }) event.now
+        ≡ record {
+          entry = entry.new;
+          purged = next_index_of purged.new;
+          accepted = n + (if result then 1 else 0);
+        } }
+{
+    match event {
+        SearchEvent::Send { log, max_entries } => {
+            let purge_upto = log.purge_upto().copied().index();
+            if entry.can_send(*log) && *purged <= purge_upto {
+                *purged = purge_upto;
+                let _ = entry.next_send(*log, *max_entries);
+            }
+            false
+        }
+        SearchEvent::Conflict {
+            request_id,
+            conflict,
+        } => entry
+            .update_conflicting(Some(*request_id), *conflict)
+            .is_ok(),
+        SearchEvent::Heartbeat { conflict } => {
+            let _ = entry.update_conflicting(None, *conflict);
+            false
+        }
+    }
+}

@@ -1,0 +1,22 @@
+-- What a node has accepted of a leader's log. This file and no other reads the private fields.
+use Rattle.std.specs.Prelude.{Bool, Option, None, if◌then◌else◌}
+use Rattle.std.specs.declared.cmp.Ordering.{Ordering}
+use Rattle.raft_base.specs.declared.log_id.LogIdOf.{LogIdOf}
+use Rattle.raft_base.specs.LogId.{id_lt}
+use Rattle.raft_state.specs.declared.accepted.AcceptedIn.{AcceptedIn}
+
+-- a log id that was accepted of a leader
+abbrev pub accepted_from : {L C : Type 0} → L → Option (LogIdOf C) → AcceptedIn L C
+accepted_from leader id = record { leader_id = leader; log_id = id }
+
+-- the leader
+abbrev pub leader_of : {L C : Type 0} → AcceptedIn L C → L
+leader_of accepted = accepted.leader_id
+
+-- the log id that was accepted of this leader, and none of any other one
+abbrev pub accepted_id : {L C : Type 0} → (L → L → Bool) → AcceptedIn L C → L → Option (LogIdOf C)
+accepted_id eq accepted leader = if eq leader accepted.leader_id then accepted.log_id else None
+
+-- a greater log id of this leader takes the place of what was accepted
+abbrev pub after_accept : {L C : Type 0} → (L → L → Bool) → (C → C → Ordering) → AcceptedIn L C → L → Option (LogIdOf C) → AcceptedIn L C
+after_accept eq cmp accepted leader id = if id_lt cmp (accepted_id eq accepted leader) id then accepted_from leader id else accepted

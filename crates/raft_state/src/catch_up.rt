@@ -1,0 +1,119 @@
+//! Catching up a follower with the state of its leader.
+ghost use Rattle.std.specs.Prelude.{◌≡◌, ◌+◌, ◌-◌, ◌*◌, ◌/◌, ◌^◌, ◌<◌, ◌≤◌, ℕ, List, IsTrue};
+ghost use Rattle.raft_base.specs.LogId.{id_le, next_index};
+ghost use Rattle.raft_progress.specs.catch_up.CatchUp.{CaughtUp};
+ghost use Rattle.raft_progress.specs.catch_up.HonestRun.{HonestRunEnds};
+ghost use Rattle.raft_progress.specs.progress.Shown.{state};
+ghost use Rattle.raft_progress.specs.progress.VecProgress.{shown};
+ghost use Rattle.raft_progress.specs.search.Search.{stretch};
+ghost use Rattle.raft_state.specs.CatchUp.{state_can_catch_up};
+ghost use Rattle.raft_state.specs.Round.{IsCaughtUp, IsInOrderByMatch, IsRoundEnd, Visits};
+ghost use Rattle.raft_state.specs.StateView.{view_of};
+
+use crate::raft_state::RaftStateIn;
+use raft_base::{Instant, LeaderIdentity, LogIdOf, Node, NodeId, Validate};
+use raft_members::quorum::QuorumSet;
+use raft_progress::catch_up::{can_catch_up_entry, catch_up_entry};
+use raft_progress::entry::ProgressEntryOf;
+use raft_progress::progress::VecProgress;
+
+/// The progress of a leader's followers: for each what it has, by their matches.
+pub type FollowersOf<C, NID, QS> = VecProgress<NID, ProgressEntryOf<C>, Option<LogIdOf<C>>, QS>;
+
+impl<
+    NID: NodeId,
+    N: Node,
+    I: Instant,
+    C: Ord + Copy + Default + Drop + 'static,
+    L: LeaderIdentity<Id = NID, Committed = C> + Drop,
+> RaftStateIn<NID, N, I, L, C> {
+    /// Whether `catch_up` may be called: the state is valid, its purge point is in its log, and
+    /// [`can_catch_up_entry`] over that log.
+    pub fn can_catch_up(&self, entry: &ProgressEntryOf<C>, agree: u64, max_entries: u64) -> bool
+        ensures { result ≡ state_can_catch_up C.eq C.cmp self.now entry.now agree max_entries }
+    {
+        self.validate().is_ok()
+            && self.purge_upto_is_logged()
+            && can_catch_up_entry(self, entry, agree, max_entries)
+    }
+
+    /// Sends to a follower whose log agrees with this one below an index, and takes its replies, until
+    /// it has all. Answers how many conflicts came, and how many acks; see [`catch_up_entry`].
+    pub fn catch_up(
+        &self,
+        entry: &mut ProgressEntryOf<C>,
+        agree: u64,
+        max_entries: u64,
+    ) -> (u64, u64)
+        requires { IsTrue (state_can_catch_up C.eq C.cmp self.now entry.old agree max_entries) }
+        ensures run { HonestRunEnds C.cmp (view_of self.now) max_entries
+            entry.old agree entry.new result.0 result.1 }
+        ensures caught_up { CaughtUp C.eq (view_of self.now) entry.new }
+        ensures not_lowered { IsTrue (id_le C.cmp entry.old.matching entry.new.matching) }
+        ensures conflicts { (k : ℕ) → stretch entry.old / 16 < 2 ^ k → result.0 ≤ k }
+        ensures acks { let left = next_index (view_of self.now).last - next_index entry.old.matching in
+            result.1 * max_entries < left + max_entries }
+    {
+        // Its contract says that the log has all that is sent.
+        let _is_logged = self.purge_upto_is_logged();
+        catch_up_entry(self, entry, agree, max_entries)
+    }
+
+    /// Catches up followers one after another, each with the index below which it agrees, and answers
+    /// how many were. One that is unknown or that `can_catch_up` denies is passed over.
+    ///
+    /// Where at least one voter was caught up, and those that were are a quorum, the last log id is
+    /// granted, or more where a voter's match was past it before.
+    pub fn catch_up_all<QS: QuorumSet<NID> + Drop>(
+        &self,
+        progress: &mut FollowersOf<C, NID, QS>,
+        followers: &[(NID, u64)],
+        max_entries: u64,
+    ) -> u64
+        requires { IsInOrderByMatch NID.eq C.cmp QS.has_quorum (shown progress.old) }
+        ensures ordered { IsInOrderByMatch NID.eq C.cmp QS.has_quorum (shown progress.new) }
+        ensures round { let can = state_can_catch_up C.eq C.cmp self.now in
+            (ran : List NID) × IsRoundEnd C.eq NID.eq C.cmp QS.has_quorum (view_of self.now)
+            max_entries can (state NID.eq (shown progress.old)) followers.now result
+            (state NID.eq (shown progress.new)) (shown progress.new).granted ran }
+    {
+        let mut count = 0;
+        for follower in followers {
+            if self.visit(progress, &follower.0, follower.1, max_entries) {
+                count += 1;
+            }
+        }
+        count
+    }
+
+    /// Catches a follower up where it is known and can be, and answers whether it did.
+    fn visit<QS: QuorumSet<NID> + Drop>(
+        &self,
+        progress: &mut FollowersOf<C, NID, QS>,
+        id: &NID,
+        agree: u64,
+        max_entries: u64,
+    ) -> bool
+        requires { IsInOrderByMatch NID.eq C.cmp QS.has_quorum (shown progress.old) }
+        ensures ordered { IsInOrderByMatch NID.eq C.cmp QS.has_quorum (shown progress.new) }
+        ensures visited { let can = state_can_catch_up C.eq C.cmp self.now in
+            Visits NID.eq C.cmp (view_of self.now) max_entries can
+            (state NID.eq (shown progress.old)) id.now agree result
+            (state NID.eq (shown progress.new)) }
+        ensures caught_up { IsTrue result →
+            IsCaughtUp C.eq (view_of self.now) (state NID.eq (shown progress.new)) id.now }
+    {
+        match progress.try_get(id).copied() {
+            None => false,
+            Some(found) => {
+                if !self.can_catch_up(&found, agree, max_entries) {
+                    return false;
+                }
+                let mut entry = found;
+                let _ = self.catch_up(&mut entry, agree, max_entries);
+                let _ = progress.update(id, entry);
+                true
+            }
+        }
+    }
+}

@@ -1,0 +1,37 @@
+//! Why a node does not serve a request.
+ghost use Rattle.std.specs.Prelude.{◌≡◌, Some, None};
+
+use raft_base::{Node, NodeId};
+use thiserror::Error;
+
+/// The request belongs to the leader: the node that leads, as far as it is known.
+#[derive(Debug, Clone, PartialEq, Eq, Drop, Error)]
+#[error("has to forward request to: {leader_id:?}, {leader_node:?}")]
+pub struct ForwardToLeader<NID: NodeId, N: Node> {
+    /// The leader's id.
+    pub leader_id: Option<NID>,
+    /// The leader.
+    pub leader_node: Option<N>,
+}
+
+impl<NID: NodeId, N: Node> ForwardToLeader<NID, N> {
+    /// No leader is known.
+    pub fn empty() -> Self
+        ensures { result ≡ record { leader_id = None; leader_node = None } }
+    {
+        ForwardToLeader {
+            leader_id: None,
+            leader_node: None,
+        }
+    }
+
+    /// This node leads.
+    pub fn new(leader_id: NID, node: N) -> Self
+        ensures { result ≡ record { leader_id = Some leader_id; leader_node = Some node } }
+    {
+        ForwardToLeader {
+            leader_id: Some(leader_id),
+            leader_node: Some(node),
+        }
+    }
+}

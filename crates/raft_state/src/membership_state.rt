@@ -1,0 +1,315 @@
+//! The memberships of a node: the last committed one, and the one in effect.
+ghost use Rattle.std.specs.Prelude.{◌≡◌, IsTrue, IfOk, OnOk, OnErr, MatchResult, Some, is_some};
+ghost use Rattle.std.specs.Option.{option_map};
+ghost use Rattle.std.specs.Cmp.{partial_equiv_from_equiv};
+ghost use Rattle.raft_base.specs.Validate.{first_false};
+ghost use Rattle.raft_base.specs.LogIndex.{index_lt};
+ghost use Rattle.raft_members.specs.Majority.{is_voter_of};
+ghost use Rattle.raft_members.specs.Members.{node_at};
+ghost use Rattle.raft_members.specs.Stored.{membership_of};
+ghost use Rattle.raft_state.specs.Memberships.{index_at, same_memberships, IsNoMembership};
+ghost use Rattle.raft_state.specs.MembershipsLaws.{same_memberships-equiv};
+ghost use Rattle.raft_state.specs.MembershipMoves.{after_commit, may_commit, after_append, may_append, after_truncate, is_cut, after_update_committed, effect_changes, effective_where};
+ghost use Rattle.raft_state.specs.MembershipRelations.{membership_relations};
+
+mod change_handler;
+
+pub use change_handler::{ChangeHandler, ChangeHandlerOf};
+use raft_base::order::{index_at_most, index_below, log_id_at_most, log_id_below};
+use raft_base::{CommittedLeaderId, Invalid, LogIdOf, LogIdOptionExt, Node, NodeId, Validate};
+use raft_members::EffectiveMembershipOf;
+use std::alloc::{AllocError, Global};
+use std::fmt;
+use std::marker::Model;
+use std::mem::replace;
+use std::rc::Rc;
+
+/// The last committed membership of a node, and the last one that it has seen, which is in effect.
+///
+/// A membership is in effect as soon as it stands in the log, committed or not. It may only be
+/// proposed once the one before it is committed, so at most one is not committed; and where a new
+/// leader cuts that one off, the committed one is in effect again. Two states are equal if both
+/// memberships are, with their log ids.
+#[derive(Drop)]
+pub struct MembershipStateOf<C, NID: NodeId, N: Node> {
+    committed: Rc<EffectiveMembershipOf<C, NID, N>>,
+    effective: Rc<EffectiveMembershipOf<C, NID, N>>,
+}
+
+/// The memberships of a node, with the default leader ids.
+pub type MembershipState<NID, N> = MembershipStateOf<CommittedLeaderId<NID>, NID, N>;
+
+impl<C, NID: NodeId, N: Node> Model for MembershipStateOf<C, NID, N> {
+    ghost use Rattle.raft_state.specs.Memberships.{Memberships};
+
+    ghost Value = { Memberships C NID N };
+
+    ghost view = { λ a. record { committed = a.committed.value; effective = a.effective.value } };
+}
+
+impl<C: Copy + Drop, NID: NodeId, N: Node> MembershipStateOf<C, NID, N> {
+    /// The memberships of a node.
+    pub fn new(
+        committed: Rc<EffectiveMembershipOf<C, NID, N>>,
+        effective: Rc<EffectiveMembershipOf<C, NID, N>>,
+    ) -> Self
+        ensures { result ≡ record { committed = committed.value; effective = effective.value } }
+    {
+        MembershipStateOf {
+            committed,
+            effective,
+        }
+    }
+
+    /// No membership yet, in place of a `Default`, which has no allocator.
+    pub fn try_default(alloc: Global) -> Result<Self, AllocError>
+        ensures committed { IfOk result (λ m. IsNoMembership m.committed) }
+        ensures effective { IfOk result (λ m. IsNoMembership m.effective) }
+    {
+        let committed = Rc::new(alloc, EffectiveMembershipOf::try_default(alloc)?)?;
+        let effective = committed.clone()?;
+        Ok(MembershipStateOf::new(committed, effective))
+    }
+
+    /// The same memberships, shared.
+    pub fn try_clone(&self) -> Result<Self, AllocError>
+        ensures { IfOk result (λ copy. copy ≡ self.now) }
+    {
+        let committed = self.committed.clone()?;
+        let effective = self.effective.clone()?;
+        Ok(MembershipStateOf::new(committed, effective))
+    }
+
+    /// Whether the id has a node in the membership in effect, as a voter or as a learner.
+    pub fn contains(&self, id: &NID) -> bool
+        ensures { result
+            ≡ is_some (node_at NID.cmp (membership_of self.now.effective).nodes id.now) }
+    {
+        self.effective.membership().contains(id)
+    }
+
+    /// Whether the id is a voter of the membership in effect.
+    pub fn is_voter(&self, id: &NID) -> bool
+        ensures { result ≡ is_voter_of NID.eq (membership_of self.now.effective).configs id.now }
+    {
+        self.effective.is_voter(id)
+    }
+
+    /// The last committed membership.
+    pub fn committed(&self) -> &Rc<EffectiveMembershipOf<C, NID, N>>
+        ensures { result.now.value ≡ self.now.committed }
+    {
+        &self.committed
+    }
+
+    /// The membership in effect.
+    pub fn effective(&self) -> &Rc<EffectiveMembershipOf<C, NID, N>>
+        ensures { result.now.value ≡ self.now.effective }
+    {
+        &self.effective
+    }
+
+    /// What changes the membership in effect.
+    pub fn change_handler(&self) -> ChangeHandlerOf<'_, C, NID, N>
+        ensures { result.state.now ≡ self.now }
+    {
+        ChangeHandlerOf { state: self }
+    }
+}
+
+impl<C: Ord + Copy + Drop, NID: NodeId, N: Node> MembershipStateOf<C, NID, N> {
+    ghost use Rattle.std.specs.Borrow.{sem};
+    ghost use Rattle.std.specs.Io.BufRead.{Rests};
+    ghost use Rattle.raft_state.specs.contracts.membership_state.MembershipStateOf.{the_row};
+
+    /// Whether `commit` may be called with a log id: where that commits the membership in effect, its
+    /// index is not the lesser one. Of the ids of one log this is always so.
+    pub fn can_commit(&self, log_id: &Option<LogIdOf<C>>) -> bool
+        ensures { result ≡ may_commit C.cmp log_id.now self.now }
+    {
+        let effective = *self.effective.log_id();
+        !log_id_at_most(effective, *log_id) || index_at_most(effective.index(), log_id.index())
+    }
+
+    /// Takes the log as committed up to a log id. The membership in effect is committed with it, if it
+    /// is not past it.
+    ///
+    /// After an error nothing has changed.
+    pub fn commit(&mut self, log_id: &Option<LogIdOf<C>>) -> Result<(), AllocError>
+        requires { IsTrue (may_commit C.cmp log_id.now self.old) }
+        ensures ok { OnOk result (self.new ≡ after_commit C.cmp log_id.now self.old) }
+        ensures err { OnErr result (self.new ≡ self.old) }
+    {
+        if log_id_at_most(*self.effective.log_id(), *log_id) {
+            self.committed = self.effective.clone()?;
+        }
+        Ok(())
+    }
+
+    /// Takes over a committed membership that comes with a snapshot of the log up to an index, and
+    /// answers the membership in effect if it is not the one from before.
+    ///
+    /// Where the snapshot has the membership in effect in it, only the new one is left. Else that one
+    /// may be of a log that conflicts with the leader's, so their indexes are compared and not their
+    /// log ids. After an error nothing has changed.
+    pub fn update_committed(
+        &mut self,
+        membership: Rc<EffectiveMembershipOf<C, NID, N>>,
+        snapshot_last_log_index: u64,
+    ) -> Result<Option<&Rc<EffectiveMembershipOf<C, NID, N>>>, AllocError>
+        ensures* after { sem 𝓛 (Rests (the_row C.row NID.row N.row NID.PartialEq NID.Ord.own
+            NID.PartialOrd.own NID.Debug NID.Display NID.Hash.own NID.Default N.PartialEq N.Debug
+            N.Clone N.NodeDefault.own) self.entry (λ new. MatchResult result
+            (λ answer. (new ≡ after_update_committed C.cmp membership.value snapshot_last_log_index
+            self.old) × (option_map (λ r. r.now.value) answer
+            ≡ effective_where (effect_changes NID.eq N.eq self.old new) new))
+            (λ _. new ≡ self.old))) }
+    {
+        if self.take_over(membership, snapshot_last_log_index)? {
+            Ok(Some(&self.effective))
+        } else {
+            Ok(None)
+        }
+    }
+
+    // True where another membership is in effect than before.
+    fn take_over(
+        &mut self,
+        membership: Rc<EffectiveMembershipOf<C, NID, N>>,
+        upto: u64,
+    ) -> Result<bool, AllocError>
+        ensures ok { OnOk result
+            (self.new ≡ after_update_committed C.cmp membership.value upto self.old) }
+        ensures changed { IfOk result (λ changed. changed ≡ effect_changes NID.eq N.eq self.old
+            (after_update_committed C.cmp membership.value upto self.old)) }
+        ensures err { OnErr result (self.new ≡ self.old) }
+    {
+        let present = *self.effective.log_id();
+        let new = *membership.log_id();
+        if index_at_most(present.index(), Some(upto)) {
+            let changed = membership.membership() != self.effective.membership();
+            self.committed = membership.clone()?;
+            self.effective = membership;
+            return Ok(changed);
+        }
+        let commits = log_id_below(*self.committed.log_id(), new);
+        if !index_at_most(present.index(), new.index()) {
+            if commits {
+                self.committed = membership;
+            }
+            return Ok(false);
+        }
+        let changed = membership.membership() != self.effective.membership();
+        if commits {
+            self.committed = membership.clone()?;
+        }
+        self.effective = membership;
+        Ok(changed)
+    }
+
+    /// Whether `append` may be called with a membership: it has a greater log id and a greater index
+    /// than the one in effect.
+    pub fn can_append(&self, membership: &EffectiveMembershipOf<C, NID, N>) -> bool
+        ensures { result ≡ may_append C.cmp membership.now self.now }
+    {
+        let effective = *self.effective.log_id();
+        let new = *membership.log_id();
+        log_id_below(effective, new) && index_below(effective.index(), new.index())
+    }
+
+    /// Puts a membership in effect that was added to the log. The one before it is committed, for
+    /// else the new one could not have been proposed. No memory is taken.
+    pub fn append(&mut self, membership: Rc<EffectiveMembershipOf<C, NID, N>>)
+        requires { IsTrue (may_append C.cmp membership.value self.old) }
+        ensures { self.new ≡ after_append membership.value self.old }
+    {
+        self.committed = replace(&mut self.effective, membership);
+    }
+
+    /// Takes the log as cut off from an index on, which is past the committed membership. Where the
+    /// membership in effect is cut off with it, the committed one is in effect again and is answered.
+    ///
+    /// After an error nothing has changed.
+    pub fn truncate(
+        &mut self,
+        since: u64,
+    ) -> Result<Option<&Rc<EffectiveMembershipOf<C, NID, N>>>, AllocError>
+        requires { IsTrue (index_lt (index_at self.old.committed) (Some since)) }
+        ensures* after { sem 𝓛 (Rests (the_row C.row NID.row N.row NID.PartialEq NID.Ord.own
+            NID.PartialOrd.own NID.Debug NID.Display NID.Hash.own NID.Default N.PartialEq N.Debug
+            N.Clone N.NodeDefault.own) self.entry (λ new. MatchResult result
+            (λ answer. (new ≡ after_truncate since self.old) × (option_map (λ r. r.now.value) answer
+            ≡ effective_where (is_cut since self.old) new))
+            (λ _. new ≡ self.old))) }
+    {
+        if self.revert(since)? {
+            Ok(Some(&self.effective))
+        } else {
+            Ok(None)
+        }
+    }
+
+    // True where the committed membership is in effect again.
+    fn revert(&mut self, since: u64) -> Result<bool, AllocError>
+        ensures ok { OnOk result (self.new ≡ after_truncate since self.old) }
+        ensures reverted { IfOk result (λ reverted. reverted ≡ is_cut since self.old) }
+        ensures err { OnErr result (self.new ≡ self.old) }
+    {
+        if index_at_most(Some(since), self.effective.log_id().index()) {
+            self.effective = self.committed.clone()?;
+            Ok(true)
+        } else {
+            Ok(false)
+        }
+    }
+}
+
+/// The committed membership is not above the one in effect, by log id and by index.
+impl<C: Ord + Copy + Drop, NID: NodeId, N: Node> Validate for MembershipStateOf<C, NID, N> {
+    ghost broken = { λ m. first_false (membership_relations C.cmp m) };
+
+    fn validate(&self) -> Result<(), Invalid> {
+        let committed = *self.committed.log_id();
+        let effective = *self.effective.log_id();
+        if !log_id_at_most(committed, effective) {
+            return Err(Invalid::MembershipLogId);
+        }
+        if !index_at_most(committed.index(), effective.index()) {
+            return Err(Invalid::MembershipIndex);
+        }
+        Ok(())
+    }
+}
+
+impl<C: Copy + Drop, NID: NodeId, N: Node> Clone for MembershipStateOf<C, NID, N> {
+    ghost is_clone = { λ m copy. copy ≡ m };
+
+    fn clone(&self) -> Result<Self, AllocError> {
+        self.try_clone()
+    }
+}
+
+impl<C: Copy + Eq + Drop, NID: NodeId, N: Node> PartialEq for MembershipStateOf<C, NID, N> {
+    ghost eq = { λ a b. same_memberships C.eq NID.eq N.eq a b };
+
+    ghost laws = { partial_equiv_from_equiv
+        (same_memberships-equiv C.Eq.laws NID.Eq.laws N.Eq.laws) };
+
+    fn eq(&self, other: &Self) -> bool {
+        self.committed == other.committed && self.effective == other.effective
+    }
+}
+
+impl<C: Copy + Eq + Drop, NID: NodeId, N: Node> Eq for MembershipStateOf<C, NID, N> {
+    ghost laws = { same_memberships-equiv C.Eq.laws NID.Eq.laws N.Eq.laws };
+}
+
+// By hand, for the name that the type goes by.
+impl<C: fmt::Debug, NID: NodeId, N: Node> fmt::Debug for MembershipStateOf<C, NID, N> {
+    fn fmt<W: fmt::Write>(&self, f: &mut fmt::Formatter<W>) -> fmt::Result {
+        f.debug_struct("MembershipState")
+            .field("committed", &self.committed)
+            .field("effective", &self.effective)
+            .finish()
+    }
+}

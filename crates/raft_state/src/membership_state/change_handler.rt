@@ -1,0 +1,94 @@
+//! What changes the membership in effect.
+ghost use Rattle.std.specs.Prelude.{◌≡◌, ◌<◌, None, IfOk, IfErr, true, length};
+ghost use Rattle.std.specs.Set.{ClonesAreEqual};
+ghost use Rattle.raft_members.specs.Change.{changed};
+ghost use Rattle.raft_members.specs.Coherence.{is_coherent};
+ghost use Rattle.raft_members.specs.Members.{members_of, Says};
+ghost use Rattle.raft_members.specs.Refusal.{err_of};
+ghost use Rattle.raft_members.specs.ReplaceAll.{OnlyMemory, TwoChanges};
+ghost use Rattle.raft_members.specs.Valid.{IsValid};
+ghost use Rattle.raft_state.specs.Apply.{effective_members, in_progress, IsApplyRefusal};
+
+use super::MembershipStateOf;
+use raft_base::{CommittedLeaderId, Node, NodeId};
+use raft_members::{ChangeMembers, ChangeMembershipErrorOf, InProgressOf, Membership};
+use std::fmt::Debug;
+
+/// Changes the membership in effect, once it is committed.
+#[derive(Drop)]
+pub struct ChangeHandlerOf<'m, C, NID: NodeId, N: Node> {
+    /// The memberships of the node.
+    pub state: &'m MembershipStateOf<C, NID, N>,
+}
+
+/// The same, with the default leader ids.
+pub type ChangeHandler<'m, NID, N> = ChangeHandlerOf<'m, CommittedLeaderId<NID>, NID, N>;
+
+impl<'m, C: Ord + Copy + Default + Debug + Drop, NID: NodeId, N: Node> ChangeHandlerOf<
+    'm,
+    C,
+    NID,
+    N,
+> {
+    /// What a change makes of the membership in effect, as `Membership::change` says. It is refused
+    /// as long as an earlier change is in progress.
+    ///
+    /// With `retain` voters that go stay as learners. Nothing is put in effect: that is for `append`,
+    /// once the answer stands in the log.
+    pub fn apply(
+        &self,
+        change: ChangeMembers<NID, N>,
+        retain: bool,
+    ) -> Result<Membership<NID, N>, ChangeMembershipErrorOf<C, NID>>
+        requires { ClonesAreEqual N.eq N.is_clone }
+        ensures committed { IfOk result (λ _. in_progress C.eq self.now.state.now ≡ None) }
+        ensures valid { IfOk result (λ _. IsValid NID.eq (changed NID.eq NID.cmp
+            (effective_members NID.cmp self.now.state.now) change retain)) }
+        ensures valid_itself { IfOk result (λ m. IsValid NID.eq (members_of NID.cmp m)) }
+        ensures changed { IfOk result (λ m. Says N.eq NID.cmp m (changed NID.eq NID.cmp
+            (effective_members NID.cmp self.now.state.now) change retain)) }
+        ensures coherent { IfOk result (λ m. let old = effective_members NID.cmp self.now.state.now
+            in 0 < length old.configs → is_coherent NID.eq old.configs m.configs ≡ true) }
+        ensures two_changes { IfOk result (TwoChanges NID.eq NID.cmp
+            (effective_members NID.cmp self.now.state.now) change) }
+
+        // An earlier change comes first. Without one, the refusals are those of a change.
+        ensures refused { IfErr result (IsApplyRefusal C.eq NID.eq NID.cmp self.now.state.now
+            (changed NID.eq NID.cmp
+            (effective_members NID.cmp self.now.state.now) change retain)) }
+        ensures only_memory { IfErr result (λ e. in_progress C.eq self.now.state.now ≡ None →
+            OnlyMemory NID.eq (effective_members NID.cmp self.now.state.now) change e) }
+    {
+        self.ensure_committed()?;
+        match self.state.effective().membership().change(change, retain) {
+            Ok(changed) => Ok(changed),
+            Err(refused) => match refused {
+                ChangeMembershipErrorOf::EmptyMembership(e) => {
+                    Err(ChangeMembershipErrorOf::EmptyMembership(e))
+                }
+                ChangeMembershipErrorOf::LearnerNotFound(e) => {
+                    Err(ChangeMembershipErrorOf::LearnerNotFound(e))
+                }
+                // A change of a membership alone is never in progress.
+                ChangeMembershipErrorOf::InProgress(_) => Err(ChangeMembershipErrorOf::OutOfMemory),
+                ChangeMembershipErrorOf::OutOfMemory => Err(ChangeMembershipErrorOf::OutOfMemory),
+            },
+        }
+    }
+
+    /// Refuses while the membership in effect is not committed. No memory is taken.
+    pub fn ensure_committed(&self) -> Result<(), InProgressOf<C>>
+        ensures { err_of result ≡ in_progress C.eq self.now.state.now }
+    {
+        let effective = *self.state.effective().log_id();
+        let committed = *self.state.committed().log_id();
+        if effective == committed {
+            Ok(())
+        } else {
+            Err(InProgressOf {
+                committed,
+                membership_log_id: effective,
+            })
+        }
+    }
+}

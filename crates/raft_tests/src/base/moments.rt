@@ -1,0 +1,72 @@
+//! Moments, values with the moment of their last update, and what a node is.
+ghost use Rattle.std.specs.Prelude.{◌≡◌, Some, IsTrue, if◌then◌else◌};
+ghost use Rattle.std.specs.Ordering.{is_ge};
+ghost use Rattle.std.specs.Option.{option_cmp};
+ghost use Rattle.raft_base.specs.UTime.{data_of, moment_of, stamped};
+
+use raft_base::{Instant, ServerState, UTime};
+use std::test::Fail;
+
+/// Marks a value as updated now, unless it was updated later than that.
+fn touch_in_turn<T: Drop, I: Instant>(value: &mut UTime<T, I>, now: I)
+    ensures { value.new ≡ (if is_ge (option_cmp I.cmp (Some now) (moment_of value.old))
+        then stamped (data_of value.old) (Some now) else value.old) }
+{
+    if Some(now) >= value.utime() {
+        value.touch(now);
+    }
+}
+
+/// Adds one to a count, at the moment that it has.
+fn count_up(count: &mut UTime<u8, u64>)
+    requires { data_of count.old ≡ 7 }
+    ensures { count.new ≡ stamped 8 (moment_of count.old) }
+{
+    let value = count.get_mut();
+    *value = *value + 1;
+}
+
+/// Whether a count is updated, touched and written, each time with its moment.
+fn is_stamped() -> bool {
+    let mut count = UTime::new(3u64, 5u8);
+    let is_new = count.utime() == Some(3) && *count.get() == 5;
+    count.update(4, 7);
+    touch_in_turn(&mut count, 9);
+    touch_in_turn(&mut count, 6);
+    let is_touched = count == UTime::new(9, 7);
+    count_up(&mut count);
+    is_new
+        && is_touched
+        && count == UTime::new(9, 8)
+        && count != UTime::new(8, 8)
+        && count != UTime::without_utime(8)
+        && UTime::<u8, u64>::default() == UTime::without_utime(0)
+        && UTime::<u8, u64>::without_utime(2).utime() == None
+        && count.into_inner() == 8
+}
+
+/// Whether a state is exactly what its tests say: a learner, a follower, a candidate, the leader.
+fn is_exactly(state: ServerState, want: [bool; 4]) -> bool {
+    [
+        state.is_learner(),
+        state.is_follower(),
+        state.is_candidate(),
+        state.is_leader(),
+    ] == want
+}
+
+/// Whether each state is told from the others.
+fn states_differ() -> bool {
+    is_exactly(ServerState::default(), [true, false, false, false])
+        && is_exactly(ServerState::Follower, [false, true, false, false])
+        && is_exactly(ServerState::Candidate, [false, false, true, false])
+        && is_exactly(ServerState::Leader, [false, false, false, true])
+        && is_exactly(ServerState::Shutdown, [false, false, false, false])
+}
+
+#[test]
+fn moments_pass(rt: HostRuntime) -> Result<(), Fail> {
+    assert!(rt; 5u64.elapsed(9) == 4 && 9u64.elapsed(5) == 0 && 5u64.ticks() == 5);
+    assert!(rt; is_stamped() && states_differ());
+    Ok(())
+}

@@ -1,0 +1,136 @@
+//! Callers, whose contracts show how much those of `raft_state` tell them.
+ghost use Rattle.std.specs.Prelude.{◌≡◌, false, None, IfOk, OnErr, IsTrue};
+ghost use Rattle.raft_base.specs.LogId.{id_le, id_lt};
+ghost use Rattle.raft_progress.specs.inflight.Inflight.{is_idle};
+ghost use Rattle.raft_progress.specs.progress.VecProgress.{shown};
+ghost use Rattle.raft_state.specs.Commit.{state_after_commit};
+ghost use Rattle.raft_state.specs.FullLog.{full_log};
+ghost use Rattle.raft_state.specs.LogReads.{last_id};
+ghost use Rattle.raft_state.specs.Sending.{FromLog};
+ghost use Rattle.raft_state.specs.StateView.{view_of};
+ghost use Rattle.raft_state.specs.Valid.{broken_relation};
+
+use super::rows::{id, log_id};
+use super::whole::{State, valid_state};
+use crate::progress::{made, updated};
+use raft_base::order::log_id_at_most;
+use raft_base::{
+    Instant, LeaderAdv, LeaderIdentity, LeaderKind, LeaderStd, LogIdOf, LogIdRangeOf,
+    LogStateReader, Node, NodeId, Validate,
+};
+use raft_members::quorum::QuorumSet;
+use raft_progress::{InflightOf, ProgressEntryOf, VecProgress};
+use raft_state::RaftStateIn;
+use raft_state::laws::sends_from_log;
+use std::alloc::{AllocError, Global};
+use std::process::Abort;
+use std::test::Fail;
+
+/// What a quorum of a leader's followers has.
+type Followers<NID, C, QS> = VecProgress<NID, ProgressEntryOf<C>, Option<LogIdOf<C>>, QS>;
+
+/// A leader with a valid state commits what a quorum of its followers has, if that is in its log and
+/// more than is committed.
+fn commit_granted<
+    NID: NodeId,
+    N: Node,
+    I: Instant,
+    C: Ord + Copy + Default + Drop + 'static,
+    L: LeaderIdentity<Id = NID, Committed = C> + Drop,
+    QS: QuorumSet<NID> + Drop,
+>(
+    state: &mut RaftStateIn<NID, N, I, L, C>,
+    followers: &Followers<NID, C, QS>,
+) -> Result<bool, AllocError>
+    ensures valid { IfOk result (λ more. IsTrue more → broken_relation C.cmp state.old ≡ None) }
+    ensures in_log { IfOk result (λ more. IsTrue more → IsTrue (id_le C.cmp
+        (shown followers.now).granted (last_id (full_log state.new.log_ids)))) }
+    ensures committed { IfOk result (λ more. IsTrue more →
+        state.new ≡ state_after_commit C.cmp (shown followers.now).granted state.old) }
+    ensures greater { IfOk result (λ more. IsTrue more →
+        IsTrue (id_lt C.cmp state.old.committed state.new.committed)) }
+    ensures kept { IfOk result (λ more. more ≡ false → state.new ≡ state.old) }
+    ensures err { OnErr result (state.new ≡ state.old) }
+{
+    let granted = *followers.granted();
+    if state.validate().is_err()
+        || !log_id_at_most(granted, state.last_log_id().copied())
+        || !state.can_commit(&granted)
+    {
+        return Ok(false);
+    }
+    let before = state.update_committed(&granted)?;
+    Ok(before.is_some())
+}
+
+/// A leader with a valid state, whose purge point is in its log, sends to a follower to which nothing
+/// is in flight. What is sent is from the full log.
+fn send<
+    NID: NodeId,
+    N: Node,
+    I: Instant,
+    C: Ord + Copy + Default + Drop + 'static,
+    L: LeaderIdentity<Id = NID, Committed = C> + Drop,
+>(state: &RaftStateIn<NID, N, I, L, C>, follower: &mut ProgressEntryOf<C>, max_entries: u64) -> bool
+    ensures { IsTrue result → FromLog (view_of state.now) max_entries follower.old follower.new.inflight }
+{
+    sends_from_log::<C>();
+    if state.validate().is_err() || !state.purge_upto_is_logged() {
+        return false;
+    }
+    if !follower.inflight.is_none() || !follower.can_send(state) {
+        return false;
+    }
+    follower.next_send(state, max_entries).is_ok()
+}
+
+/// Whether a send, the conflict that answers it and the next send lead where they should.
+fn sends_right<K: LeaderKind<u64>>(state: &State<K>) -> bool {
+    let mut follower = ProgressEntryOf::empty(5);
+    let is_sent = send(state, &mut follower, 10);
+    let log_id_range = LogIdRangeOf::new(id::<K>(Some((1, 1))), id::<K>(Some((3, 4))));
+    let are_logs = follower.inflight
+        == InflightOf::Logs {
+            id: 1,
+            log_id_range,
+        };
+    let is_taken = follower.update_conflicting(Some(1), 1).is_ok() && follower.searching_end == 1;
+    let is_sent_again = send(state, &mut follower, 10);
+    let last_log_id = None;
+    let is_snapshot = follower.inflight == InflightOf::Snapshot { id: 2, last_log_id };
+    is_sent && are_logs && is_taken && is_sent_again && is_snapshot
+}
+
+/// Two followers of three that match up to the last log id.
+fn followers<K: LeaderKind<u64>>(
+    rt: &impl Abort,
+    alloc: Global,
+) -> Result<Followers<u64, K::Committed, Vec<u64>>, AllocError> {
+    let ids = vec![in alloc; 1, 2, 3]?;
+    let mut followers = made(rt, alloc, ids, &[], ProgressEntryOf::empty(5))?;
+    for id in [1, 2] {
+        let matched = ProgressEntryOf::new(Some(log_id::<K>(3, 4)));
+        let _granted = updated(rt, &mut followers, id, matched);
+    }
+    Ok(followers)
+}
+
+/// Whether a leader commits its followers' match once.
+fn commits_right<K: LeaderKind<u64>>(
+    mut state: State<K>,
+    followers: &Followers<u64, K::Committed, Vec<u64>>,
+) -> Result<bool, AllocError> {
+    let first = commit_granted(&mut state, followers)?;
+    let second = commit_granted(&mut state, followers)?;
+    Ok(first && !second && state.committed == id::<K>(Some((3, 4))))
+}
+
+#[test]
+fn a_leader_sends_and_commits(rt: HostRuntime) -> Result<(), Fail> {
+    let alloc = rt.alloc();
+    assert!(rt; sends_right::<LeaderAdv>(&valid_state::<LeaderAdv>(alloc)?));
+    assert!(rt; sends_right::<LeaderStd>(&valid_state::<LeaderStd>(alloc)?));
+    let granted = followers::<LeaderAdv>(&rt, alloc)?;
+    assert!(rt; commits_right::<LeaderAdv>(valid_state::<LeaderAdv>(alloc)?, &granted)?);
+    Ok(())
+}
