@@ -1,5 +1,5 @@
-//! What each follower of a Raft leader has, what a quorum of them has reached, and how both go on
-//! where the membership changes.
+//! What each follower of a Raft leader has, what is sent to it next, what a quorum of them has
+//! reached, and how this goes on where the membership changes.
 #![tactic(auto)]
 
 pub mod entry;
@@ -9,5 +9,5 @@ pub mod tracked;
 
 pub use entry::{ProgressEntry, ProgressEntryOf};
 pub use inflight::{Inflight, InflightError, InflightOf, RequestId};
-pub use progress::{AnyStep, ProgressPart, Reply, Stat, VecProgress, replay_any};
+pub use progress::{AnyStep, Progress, ProgressPart, Reply, Stat, VecProgress, replay_any};
 pub use tracked::{MembershipProgress, Step, Tracked, replay};

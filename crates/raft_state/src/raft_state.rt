@@ -14,7 +14,7 @@ ghost use Rattle.raft_state.specs.Commit.{state_after_commit, committed_before, 
 ghost use Rattle.raft_state.specs.FirstDenied.{first_denied};
 ghost use Rattle.raft_state.specs.FullLog.{full_log, same_log};
 ghost use Rattle.raft_state.specs.Leads.{is_initialized, is_leading, server_state_of, leading_node, ForwardsTo};
-ghost use Rattle.raft_state.specs.LogConditions.{all_follow, ends_share_leader};
+ghost use Rattle.raft_state.specs.LogConditions.{all_follow, all_follow_of_one_leader};
 ghost use Rattle.raft_state.specs.LogEdits.{extended, purged};
 ghost use Rattle.raft_state.specs.LogReads.{last_id};
 ghost use Rattle.raft_state.specs.NewState.{IsNewState, HasNewVote};
@@ -320,9 +320,8 @@ impl<
         &mut self,
         new_log_ids: &[LID],
     ) -> Result<(), AllocError>
-        requires follow { IsTrue (all_follow C.cmp (last_id (full_log self.old.log_ids))
-            (map LID.id_of new_log_ids.now)) }
-        requires one_leader { IsTrue (ends_share_leader C.eq (map LID.id_of new_log_ids.now)) }
+        requires { IsTrue (all_follow_of_one_leader C.cmp C.eq
+            (last_id (full_log self.old.log_ids)) (map LID.id_of new_log_ids.now)) }
         ensures log { OnOk result (IsTrue (same_log C.eq (full_log self.new.log_ids)
             (extended (full_log self.old.log_ids) (map LID.id_of new_log_ids.now)))) }
         ensures rest { self.new ≡ record self.old { log_ids = self.new.log_ids } }

@@ -1,5 +1,5 @@
 -- When what is in flight is valid.
-use Rattle.std.specs.Prelude.{Bool, List, [], ◌∷◌}
+use Rattle.std.specs.Prelude.{Bool, List, []}
 use Rattle.std.specs.declared.cmp.Ordering.{Ordering}
 use Rattle.raft_base.specs.LogIdRange.{range_relations}
 use Rattle.raft_base.specs.declared.log_id.validate.Invalid.{Invalid}

@@ -1,4 +1,5 @@
 //! Whole callers, the first as on the page for callers.
+ghost use Rattle.raft_progress.specs.entry.Send.{sent};
 ghost use Rattle.raft_progress.specs.progress.Comparisons.{comparisons};
 ghost use Rattle.raft_progress.specs.progress.CountedValue.{IsCounted};
 ghost use Rattle.raft_progress.specs.tracked.Headline.{QuorumsKnowGranted};
@@ -8,14 +9,16 @@ ghost use Rattle.raft_progress.specs.progress.Steps.{IsRun};
 ghost use Rattle.raft_progress.specs.tracked.TrackedState.{TrackedShown, tracked_state};
 ghost use Rattle.raft_progress.specs.tracked.TrackedSteps.{IsTrackedRun};
 ghost use Rattle.std.specs.Ordering.{nat_cmp};
-ghost use Rattle.std.specs.Prelude.{◌≡◌, IfOk, IfSome, List, ℕ, length};
+ghost use Rattle.std.specs.Prelude.{◌≡◌, IfOk, IfSome, List, Ok, ℕ, length};
 ghost use Rattle.std.specs.Set.{ClonesAreEqual};
 ghost use Rattle.raft_progress.specs.progress.VecProgress.{shown};
 
 use super::{first_ids, made};
-use raft_base::{EmptyNode, Node, NodeId};
+use raft_base::{EmptyNode, LogStateReader, Node, NodeId};
 use raft_members::membership::Membership;
 use raft_members::quorum::QuorumSet;
+use raft_progress::entry::ProgressEntryOf;
+use raft_progress::inflight::InflightOf;
 use raft_progress::progress::{AnyStep, ProgressPart, Reply, VecProgress, replay_any};
 use raft_progress::tracked::{Step, Tracked, replay};
 use std::alloc::{AllocError, Global};
@@ -68,6 +71,23 @@ pub fn granted_of<NID: NodeId, N: Node>(
     let mut pair = Tracked::new(membership, 0u64)?;
     let _replies = replay(alloc, &mut pair, steps)?;
     Ok(*pair.progress().granted())
+}
+
+/// What is sent next to a follower, no more than 64 logs, where a send is allowed.
+pub fn sent_next<C: Ord + Copy, L: LogStateReader<C>>(
+    entry: &mut ProgressEntryOf<C>,
+    log: &L,
+) -> Option<InflightOf<C>>
+    ensures { IfSome result (λ sending. (sent C.cmp entry.old (L.log_view log.now) 64 ≡ Ok entry.new)
+        × (sending ≡ entry.new.inflight)) }
+{
+    if !entry.can_send(log) {
+        return None;
+    }
+    match entry.next_send(log, 64) {
+        Ok(sending) => Some(*sending),
+        Err(_) => None,
+    }
 }
 
 #[test]

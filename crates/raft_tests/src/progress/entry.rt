@@ -1,15 +1,19 @@
 //! Progress entries: worked replies and sends, validity, and entries as values of a progress.
+ghost use Rattle.std.specs.Prelude.{◌≡◌};
 
+use super::callers::sent_next;
 use super::inflight::{logs, snapshot, wrong_id};
 use super::{made, updated};
 use crate::plain_log::{Numbered, PlainLog, id, log_below};
 use crate::text::{debugs, displays};
 use raft_base::leader_id_std::CommittedLeaderId;
 use raft_base::{Invalid, LeaderId, LogId, LogIdOf, Validate};
+use raft_members::quorum::QuorumSet;
 use raft_progress::entry::{ProgressEntry, ProgressEntryOf};
 use raft_progress::inflight::{InflightError, InflightOf};
-use raft_progress::progress::VecProgress;
+use raft_progress::progress::{ProgressPart, VecProgress};
 use std::alloc::{AllocError, Global};
+use std::process::Abort;
 use std::test::Fail;
 
 /// A call on an entry: a send of so many logs at most, an ack up to a log id, a conflict at an index.
@@ -241,6 +245,16 @@ fn stands_regress<C: Numbered>(log: &PlainLog<C>) -> bool {
         && refuses(log, idle, Call::Ack(0, None), wrong_id(None, 0))
 }
 
+/// Whether a caller who asks first sends this next.
+fn sends_next<C: Numbered>(
+    log: &PlainLog<C>,
+    from: ProgressEntryOf<C>,
+    want: Option<InflightOf<C>>,
+) -> bool {
+    let mut entry = from;
+    sent_next(&mut entry, log) == want
+}
+
 /// Whether replies to a snapshot are taken up to the greatest index but one, in a log that ends at 9.
 fn stands_snapshots<C: Numbered>(log: &PlainLog<C>) -> bool {
     let entry = at(None, 9, 0, snapshot(2, id(1, 8)));
@@ -262,7 +276,12 @@ fn stands_snapshots<C: Numbered>(log: &PlainLog<C>) -> bool {
         Err(InflightError::ConflictOnSnapshot),
     ) && takes(log, entry, Call::Ack(2, id(1, 12)), matched)
         && !matched.can_send(log)
-        && !at(None, 9, u64::MAX, InflightOf::None).can_send(log)
+        && sends_next(log, at(None, 9, u64::MAX, InflightOf::None), None)
+        && sends_next(
+            log,
+            at(id(1, 8), 9, 0, InflightOf::None),
+            Some(logs(1, id(1, 8), id(1, 9))),
+        )
 }
 
 /// Whether all worked calls over a kind of leaders are as they should be.
@@ -354,18 +373,28 @@ fn entries_read_back_and_are_validated(rt: HostRuntime) -> Result<(), Fail> {
 /// The progress of a leader's followers.
 type Followers = VecProgress<u64, ProgressEntry<u64>, Option<LogId<u64>>, Vec<u64>>;
 
-/// What is granted once a progress has gone over to these voters, with nothing known of new ones.
-fn granted_over(
+/// What is granted once a progress has gone over to another quorum set, without learners.
+fn granted_over<
+    ID: Copy + Ord,
+    V: ProgressPart<P> + Clone + Drop,
+    P: Copy + Ord,
+    QS: QuorumSet<ID> + Drop,
+>(
+    rt: &impl Abort,
     alloc: Global,
-    progress: &mut Followers,
-    voters: Vec<u64>,
-) -> Result<Option<LogId<u64>>, AllocError> {
-    let fits = Followers::learners_fit(alloc, &voters, &[])?;
-    let default = ProgressEntry::empty(10);
-    if !(fits && progress.is_in_order() && progress.can_upgrade(&voters, &[], &default)?) {
-        return Ok(None);
-    }
-    let upgraded = progress.upgrade_quorum_set(voters, &[], default)?;
+    progress: &mut VecProgress<ID, V, P, QS>,
+    quorum_set: QS,
+    default: V,
+) -> Result<P, AllocError>
+    requires { (v w : V) → V.is_clone v w → V.part_of w ≡ V.part_of v }
+{
+    let ordered = progress.is_in_order();
+    assert!(rt; ordered);
+    let fits = VecProgress::<ID, V, P, QS>::learners_fit(alloc, &quorum_set, &[])?;
+    assert!(rt; fits);
+    let is_allowed = progress.can_upgrade(&quorum_set, &[], &default)?;
+    assert!(rt; is_allowed);
+    let upgraded = progress.upgrade_quorum_set(quorum_set, &[], default)?;
     Ok(*upgraded.granted())
 }
 
@@ -379,6 +408,7 @@ fn followers_grant_what_a_quorum_matches(rt: HostRuntime) -> Result<(), Fail> {
         assert!(rt; updated(&rt, &mut progress, follower, entry) == Ok(granted));
     }
     let kept = [1, 2].to_vec(alloc)?;
-    assert!(rt; granted_over(alloc, &mut progress, kept)? == id(1, 3));
+    let granted = granted_over(&rt, alloc, &mut progress, kept, ProgressEntry::empty(10))?;
+    assert!(rt; granted == id(1, 3));
     Ok(())
 }
