@@ -1,5 +1,5 @@
-//! The names that a Raft cluster agrees on: node ids, leader ids, votes and log ids; and what a node is
-//! to it, and since when.
+//! The names that a Raft cluster agrees on: node ids, leader ids, votes and log ids; and what a
+//! node is to it, and since when.
 #![tactic(auto)]
 
 pub mod display_ext;

@@ -9,8 +9,8 @@ pub use log_io_id::{LogIOId, LogIOIdOf};
 use raft_base::{LeaderAdv, LeaderKind, LogIdOf, VoteIn};
 use std::fmt;
 
-/// How far a node's storage has got: what is on disk and what is applied, while the node's own state
-/// may be ahead of it.
+/// How far a node's storage has got: what is on disk and what is applied, while the node's own
+/// state may be ahead of it.
 #[derive(Clone, Copy, Default, PartialEq, Eq)]
 pub struct IOStateIn<L, C> {
     building_snapshot: bool,

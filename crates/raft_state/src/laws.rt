@@ -1,5 +1,5 @@
-//! What holds of every log, as a contract: a caller that needs the fact calls its function, which does
-//! nothing.
+//! What holds of every log, as a contract: a caller that needs the fact calls its function, which
+//! does nothing.
 ghost use Rattle.raft_state.specs.Sending.{SendsFromLog};
 
 /// Over a log that has all its log ids from the purge point on, a send puts logs in flight from its

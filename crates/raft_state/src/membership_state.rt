@@ -122,8 +122,8 @@ impl<C: Ord + Copy + Drop, NID: NodeId, N: Node> MembershipStateOf<C, NID, N> {
     ghost use Rattle.std.specs.Io.BufRead.{Rests};
     ghost use Rattle.raft_state.specs.contracts.membership_state.MembershipStateOf.{the_row};
 
-    /// Whether `commit` may be called with a log id: where that commits the membership in effect, its
-    /// index is not the lesser one. Of the ids of one log this is always so.
+    /// Whether `commit` may be called with a log id: where that commits the membership in effect,
+    /// its index is not the lesser one. Of the ids of one log this is always so.
     pub fn can_commit(&self, log_id: &Option<LogIdOf<C>>) -> bool
         ensures { result ≡ may_commit C.cmp log_id.now self.now }
     {
@@ -131,8 +131,8 @@ impl<C: Ord + Copy + Drop, NID: NodeId, N: Node> MembershipStateOf<C, NID, N> {
         !log_id_at_most(effective, *log_id) || index_at_most(effective.index(), log_id.index())
     }
 
-    /// Takes the log as committed up to a log id. The membership in effect is committed with it, if it
-    /// is not past it.
+    /// Takes the log as committed up to a log id. The membership in effect is committed with it, if
+    /// it is not past it.
     ///
     /// After an error nothing has changed.
     pub fn commit(&mut self, log_id: &Option<LogIdOf<C>>) -> Result<(), AllocError>
@@ -149,9 +149,9 @@ impl<C: Ord + Copy + Drop, NID: NodeId, N: Node> MembershipStateOf<C, NID, N> {
     /// Takes over a committed membership that comes with a snapshot of the log up to an index, and
     /// answers the membership in effect if it is not the one from before.
     ///
-    /// Where the snapshot has the membership in effect in it, only the new one is left. Else that one
-    /// may be of a log that conflicts with the leader's, so their indexes are compared and not their
-    /// log ids. After an error nothing has changed.
+    /// Where the snapshot has the membership in effect in it, only the new one is left. Else that
+    /// one may be of a log that conflicts with the leader's, so their indexes are compared and not
+    /// their log ids. After an error nothing has changed.
     pub fn update_committed(
         &mut self,
         membership: Rc<EffectiveMembershipOf<C, NID, N>>,
@@ -207,8 +207,8 @@ impl<C: Ord + Copy + Drop, NID: NodeId, N: Node> MembershipStateOf<C, NID, N> {
         Ok(changed)
     }
 
-    /// Whether `append` may be called with a membership: it has a greater log id and a greater index
-    /// than the one in effect.
+    /// Whether `append` may be called with a membership: it has a greater log id and a greater
+    /// index than the one in effect.
     pub fn can_append(&self, membership: &EffectiveMembershipOf<C, NID, N>) -> bool
         ensures { result ≡ may_append C.cmp membership.now self.now }
     {
@@ -227,7 +227,8 @@ impl<C: Ord + Copy + Drop, NID: NodeId, N: Node> MembershipStateOf<C, NID, N> {
     }
 
     /// Takes the log as cut off from an index on, which is past the committed membership. Where the
-    /// membership in effect is cut off with it, the committed one is in effect again and is answered.
+    /// membership in effect is cut off with it, the committed one is in effect again and is
+    /// answered.
     ///
     /// After an error nothing has changed.
     pub fn truncate(

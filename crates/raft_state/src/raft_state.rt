@@ -14,7 +14,7 @@ ghost use Rattle.raft_state.specs.Commit.{state_after_commit, committed_before, 
 ghost use Rattle.raft_state.specs.FirstDenied.{first_denied};
 ghost use Rattle.raft_state.specs.FullLog.{full_log, same_log};
 ghost use Rattle.raft_state.specs.Leads.{is_initialized, is_leading, server_state_of, leading_node, ForwardsTo};
-ghost use Rattle.raft_state.specs.LogConditions.{all_follow, ends_share_leader};
+ghost use Rattle.raft_state.specs.LogConditions.{all_follow, all_follow_of_one_leader};
 ghost use Rattle.raft_state.specs.LogEdits.{extended, purged};
 ghost use Rattle.raft_state.specs.LogReads.{last_id};
 ghost use Rattle.raft_state.specs.NewState.{IsNewState, HasNewVote};
@@ -40,8 +40,8 @@ use std::fmt;
 
 /// The whole state of a node, as it is once storage has done all that it was told.
 ///
-/// A node decides by this state and not by what is on disk, which may be behind: `io_state` says how
-/// far storage has got.
+/// A node decides by this state and not by what is on disk, which may be behind: `io_state` says
+/// how far storage has got.
 #[derive(Clone, PartialEq, Eq, Drop)]
 pub struct RaftStateIn<NID: NodeId, N: Node, I: Instant, L, C: Ord + Copy> {
     /// The vote, and the moment of its last update.
@@ -278,8 +278,8 @@ impl<
         self.vote.utime()
     }
 
-    /// Whether the node has a log or has ever voted. Only a node that is not initialized may begin a
-    /// new cluster.
+    /// Whether the node has a log or has ever voted. Only a node that is not initialized may begin
+    /// a new cluster.
     pub fn is_initialized(&self) -> bool
         ensures { (unset : L) × L.Default.is_default unset × (result
             ≡ is_initialized L.eq (full_log self.now.log_ids) (data_of self.now.vote) unset) }
@@ -298,8 +298,8 @@ impl<
             .last_accepted_log_id(self.vote.get().leader_id())
     }
 
-    /// Takes a log id that was accepted of the vote's leader, if it is greater than the last one. The
-    /// vote is committed, and its leader is no lesser one than that of before.
+    /// Takes a log id that was accepted of the vote's leader, if it is greater than the last one.
+    /// The vote is committed, and its leader is no lesser one than that of before.
     pub fn update_accepted(&mut self, accepted: Option<LogIdOf<C>>)
         requires committed { (data_of self.old.vote).committed ≡ true }
         requires no_lesser_leader { IsTrue (partial_ge L.order (data_of self.old.vote).leader_id
@@ -320,9 +320,8 @@ impl<
         &mut self,
         new_log_ids: &[LID],
     ) -> Result<(), AllocError>
-        requires follow { IsTrue (all_follow C.cmp (last_id (full_log self.old.log_ids))
-            (map LID.id_of new_log_ids.now)) }
-        requires one_leader { IsTrue (ends_share_leader C.eq (map LID.id_of new_log_ids.now)) }
+        requires { IsTrue (all_follow_of_one_leader C.cmp C.eq
+            (last_id (full_log self.old.log_ids)) (map LID.id_of new_log_ids.now)) }
         ensures log { OnOk result (IsTrue (same_log C.eq (full_log self.new.log_ids)
             (extended (full_log self.old.log_ids) (map LID.id_of new_log_ids.now)))) }
         ensures rest { self.new ≡ record self.old { log_ids = self.new.log_ids } }
@@ -401,8 +400,8 @@ impl<
         &self.io_state
     }
 
-    /// The place of the first entry that the log does not have, and how many entries there are where
-    /// it has them all. What is committed each log has.
+    /// The place of the first entry that the log does not have, and how many entries there are
+    /// where it has them all. What is committed each log has.
     pub fn first_conflicting_index<Ent: RaftLogIdOf<C>>(&self, entries: &[Ent]) -> usize
         requires { IsTrue (list_all (λ e. may_ask C.cmp (view_of self.now) (Ent.id_of e))
             entries.now) }
@@ -417,8 +416,8 @@ impl<
         entries.len()
     }
 
-    /// Whether `purge_log` may be called with a log id: the list may be purged to it, its index is not
-    /// below the first one, and there is an index after it.
+    /// Whether `purge_log` may be called with a log id: the list may be purged to it, its index is
+    /// not below the first one, and there is an index after it.
     pub fn can_purge_log(&self, upto: &LogIdOf<C>) -> bool
         ensures { result ≡ may_purge C.cmp (full_log self.now.log_ids) upto.now }
     {
@@ -450,11 +449,11 @@ impl<
         Ok(())
     }
 
-    /// Whether the purge point is absent or the log id at its index. In a valid state the log then has
-    /// each log id from there on.
+    /// Whether the purge point is absent or the log id at its index. In a valid state the log then
+    /// has each log id from there on.
     ///
-    /// A valid state may have a purge point that is not in its log: its relations compare log ids by
-    /// their leaders first.
+    /// A valid state may have a purge point that is not in its log: its relations compare log ids
+    /// by their leaders first.
     pub fn purge_upto_is_logged(&self) -> bool
         ensures exact { result ≡ is_logged C.eq (view_of self.now) self.now.purge_upto }
         ensures logged { broken_relation C.cmp self.now ≡ None → IsTrue result →
@@ -498,8 +497,8 @@ impl<
         self.membership_state.is_voter(id)
     }
 
-    /// Whether the node of an id leads or asks to lead: it has a node in the membership in effect, and
-    /// the vote is for it. A learner that was a voter may lead until its removal is committed.
+    /// Whether the node of an id leads or asks to lead: it has a node in the membership in effect,
+    /// and the vote is for it. A learner that was a voter may lead until its removal is committed.
     pub fn is_leading(&self, id: &NID) -> bool
         ensures { result ≡ is_leading NID.eq NID.cmp L.voted
             (membership_of self.now.membership_state.effective) (data_of self.now.vote) id.now }

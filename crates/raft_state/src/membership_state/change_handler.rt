@@ -33,8 +33,8 @@ impl<'m, C: Ord + Copy + Default + Debug + Drop, NID: NodeId, N: Node> ChangeHan
     /// What a change makes of the membership in effect, as `Membership::change` says. It is refused
     /// as long as an earlier change is in progress.
     ///
-    /// With `retain` voters that go stay as learners. Nothing is put in effect: that is for `append`,
-    /// once the answer stands in the log.
+    /// With `retain` voters that go stay as learners. Nothing is put in effect: that is for
+    /// `append`, once the answer stands in the log.
     pub fn apply(
         &self,
         change: ChangeMembers<NID, N>,

@@ -29,8 +29,8 @@ use std::test::Fail;
 /// What a quorum of a leader's followers has.
 type Followers<NID, C, QS> = VecProgress<NID, ProgressEntryOf<C>, Option<LogIdOf<C>>, QS>;
 
-/// A leader with a valid state commits what a quorum of its followers has, if that is in its log and
-/// more than is committed.
+/// A leader with a valid state commits what a quorum of its followers has, if that is in its log
+/// and more than is committed.
 fn commit_granted<
     NID: NodeId,
     N: Node,
@@ -63,8 +63,8 @@ fn commit_granted<
     Ok(before.is_some())
 }
 
-/// A leader with a valid state, whose purge point is in its log, sends to a follower to which nothing
-/// is in flight. What is sent is from the full log.
+/// A leader with a valid state, whose purge point is in its log, sends to a follower to which
+/// nothing is in flight. What is sent is from the full log.
 fn send<
     NID: NodeId,
     N: Node,
@@ -72,7 +72,8 @@ fn send<
     C: Ord + Copy + Default + Drop + 'static,
     L: LeaderIdentity<Id = NID, Committed = C> + Drop,
 >(state: &RaftStateIn<NID, N, I, L, C>, follower: &mut ProgressEntryOf<C>, max_entries: u64) -> bool
-    ensures { IsTrue result → FromLog (view_of state.now) max_entries follower.old follower.new.inflight }
+    ensures { IsTrue result →
+        FromLog (view_of state.now) max_entries follower.old follower.new.inflight }
 {
     sends_from_log::<C>();
     if state.validate().is_err() || !state.purge_upto_is_logged() {

@@ -32,7 +32,8 @@ fn answers<K: LeaderKind<u64>>(answer: Option<&Rc<Effective<K>>>, want: Row) -> 
     }
 }
 
-/// Whether a snapshot up to an index, with a membership at leader 10, index 5, leads where it should.
+/// Whether a snapshot up to an index, with a membership at leader 10, index 5, leads where it
+/// should.
 fn snapshot_leads<K: LeaderKind<u64>>(
     mut state: State<K>,
     voters: &[u64],
@@ -118,7 +119,8 @@ fn move_right<K: LeaderKind<u64>>(alloc: Global, from: &State<K>) -> Result<bool
     )
 }
 
-/// Whether a change is refused while the membership in effect is not committed, and made afterwards.
+/// Whether a change is refused while the membership in effect is not committed, and made
+/// afterwards.
 fn apply_right<K: LeaderKind<u64>>(alloc: Global, mut state: State<K>) -> Result<bool, AllocError> {
     let change = ChangeMembers::AddVoterIds(ids(alloc, "1")?);
     let early = state.change_handler().apply(change.try_clone(alloc)?, true);

@@ -16,8 +16,8 @@ use std::test::Fail;
 
 pub type State<K> = RaftStateOf<u64, u64, u64, K>;
 
-/// `purged_next`, the purge point, what is committed, the snapshot's last log id, and the log ids of
-/// the committed and of the effective membership.
+/// `purged_next`, the purge point, what is committed, the snapshot's last log id, and the log ids
+/// of the committed and of the effective membership.
 type Ids = (u64, Row, Row, Row, Row, Row);
 
 const NO_MEMBERSHIP: Row = None;
@@ -277,8 +277,8 @@ fn accepted_right<K: LeaderKind<u64>>(mut state: State<K>) -> bool {
         && *VoteStateReader::vote_ref(&state) == vote
 }
 
-/// Whether with a vote requests are forwarded as wanted, and the nodes 1, 3 and 9 are what they should
-/// be.
+/// Whether with a vote requests are forwarded as wanted, and the nodes 1, 3 and 9 are what they
+/// should be.
 fn leads<K: LeaderKind<u64>>(
     state: &mut State<K>,
     vote: VoteOf<u64, K>,
