@@ -19,7 +19,7 @@ use Rattle.raft_progress.specs.catch_up.HonestRun.{turn}
 use Rattle.raft_progress.specs.entry.EntryTable.{conflicting, matched}
 use Rattle.raft_progress.specs.entry.Send.{end_of, sent, start_of}
 use Rattle.raft_progress.specs.inflight.Inflight.{is_idle}
-use Rattle.raft_progress.specs.inflight.InflightTable.{index_le}
+use Rattle.raft_base.specs.LogIndex.{index_le}
 use Rattle.raft_progress.specs.Inner.Turns.{Ready}
 use Rattle.raft_progress.specs.declared.entry.ProgressEntryOf.{ProgressEntryOf}
 use Rattle.raft_progress.specs.declared.inflight.InflightOf.TheVariants.{None as Idle, Logs, Snapshot}

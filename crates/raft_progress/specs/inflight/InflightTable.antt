@@ -1,8 +1,8 @@
 -- What a follower's reply makes of what is in flight, case by case.
 use Rattle.std.specs.Prelude.{◌≡◌, ℕ, Bool, ◌&&◌, ◌==◌, nat_eq, Option, Some, None, Result, Ok, Err, if◌then◌else◌}
 use Rattle.std.specs.declared.cmp.Ordering.{Ordering}
-use Rattle.std.specs.Option.{option_cmp, option_eq}
-use Rattle.std.specs.Ordering.{is_le, nat_cmp}
+use Rattle.std.specs.Option.{option_eq}
+use Rattle.raft_base.specs.LogIndex.{index_le}
 use Rattle.raft_base.specs.LogId.{id_le, id_lt, index_of}
 use Rattle.raft_base.specs.declared.log_id.LogIdOf.{LogIdOf}
 use Rattle.raft_base.specs.declared.log_id.log_id_range.LogIdRangeOf.{LogIdRangeOf}
@@ -11,10 +11,6 @@ use Rattle.raft_progress.specs.declared.inflight.InflightError.{InflightError}
 use Rattle.raft_progress.specs.declared.inflight.InflightError.TheVariants.{InvalidRequestId, AckOutOfRange, SnapshotAckRegress, ConflictNotAtPrev, ConflictOnSnapshot}
 use Rattle.raft_progress.specs.declared.inflight.InflightOf.{InflightOf}
 use Rattle.raft_progress.specs.declared.inflight.InflightOf.TheVariants.{None as Idle, Logs, Snapshot}
-
--- one index is at most another; an absent one is below all others
-abbrev pub index_le : Option ℕ → Option ℕ → Bool
-index_le a b = is_le (option_cmp nat_cmp a b)
 
 -- an id lies between the ends of a range, by order and by index
 abbrev pub is_within : {C : Type 0} → (C → C → Ordering) → LogIdRangeOf C → Option (LogIdOf C) → Bool
