@@ -91,11 +91,14 @@ fn has_majority<ID: Copy + Ord>(voters: &[ID], ids: &[ID]) -> bool
 }
 
 /// Whether more than `limit` of the ids are among the voters, repeated ones each time. It stops at
-/// the first id that is one too many.
+/// the first id that is one too many, and does not begin where the ids are too few.
 fn exceeds_in_list<ID: Copy + Ord>(voters: &[ID], ids: &[ID], limit: usize) -> bool
     ensures { result ≡
         nat_lt limit (count_by (λ x. list_any (λ y. ID.eq y x) voters.now) ids.now) }
 {
+    if ids.len() <= limit {
+        return false;
+    }
     let mut found = 0;
     for id in ids {
         if voters.contains(id) {
@@ -112,6 +115,9 @@ fn exceeds_in_list<ID: Copy + Ord>(voters: &[ID], ids: &[ID], limit: usize) -> b
 fn exceeds_in_set<ID: Copy + Ord>(voters: &BTreeSet<ID>, ids: &[ID], limit: usize) -> bool
     ensures { result ≡ nat_lt limit (count_by (λ x. contains_by (ID.cmp x) voters.now) ids.now) }
 {
+    if ids.len() <= limit {
+        return false;
+    }
     let mut found = 0;
     for id in ids {
         if voters.contains(id) {
