@@ -51,9 +51,10 @@ fn rounds<K: LeaderKind<u64>>(
     want: u64,
     granted: Row,
 ) -> bool {
-    progress.is_in_order()
-        && state.catch_up_all(progress, followers, 10) == want
-        && *progress.granted() == id::<K>(granted)
+    if !progress.is_in_order() {
+        return false;
+    }
+    state.catch_up_all(progress, followers, 10) == want && *progress.granted() == id::<K>(granted)
 }
 
 /// Whether followers are caught up as they should be, one alone and in rounds.
