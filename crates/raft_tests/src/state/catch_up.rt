@@ -1,0 +1,90 @@
+//! Followers that are caught up with a leader's state.
+
+use super::rows::{Row, id, ids as ids_of};
+use super::whole::{State, valid_state};
+use crate::progress::made;
+use raft_base::{LeaderAdv, LeaderKind, LeaderStd, LogStateReader};
+use raft_progress::ProgressEntryOf;
+use raft_state::catch_up::FollowersOf;
+use raft_state::{LogIdListOf, is_key_list};
+use std::alloc::{AllocError, Global};
+use std::process::Abort;
+use std::test::Fail;
+
+/// The progress of followers over kind `K`.
+type Followers<K> = FollowersOf<<K as LeaderKind<u64>>::Committed, u64, Vec<u64>>;
+
+/// A valid state with a log of leader 1 from 0 to 99, of which nothing was purged.
+fn hundred<K: LeaderKind<u64>>(alloc: Global) -> Result<State<K>, AllocError> {
+    let mut state = State::<K>::try_default(alloc)?;
+    let keys = ids_of::<K>(alloc, &[(1, 0), (1, 99)])?;
+    if is_key_list(&keys) {
+        state.log_ids = LogIdListOf::new(keys);
+    }
+    Ok(state)
+}
+
+/// Whether a follower of which only the length of the log is known is caught up by so many conflicts
+/// and acks, or cannot be.
+fn catches_up<K: LeaderKind<u64>>(
+    state: &State<K>,
+    length: u64,
+    agree: u64,
+    want: Option<(u64, u64)>,
+) -> bool {
+    let mut follower = ProgressEntryOf::empty(length);
+    if !state.can_catch_up(&follower, agree, 10) {
+        return want == None;
+    }
+    let counts = state.catch_up(&mut follower, agree, 10);
+    want == Some(counts)
+        && follower.matching == state.last_log_id().copied()
+        && follower.searching_end == length
+        && follower.inflight.is_none()
+}
+
+/// Whether a round catches up so many followers, after which this is granted.
+fn rounds<K: LeaderKind<u64>>(
+    state: &State<K>,
+    progress: &mut Followers<K>,
+    followers: &[(u64, u64)],
+    want: u64,
+    granted: Row,
+) -> bool {
+    if !progress.is_in_order() {
+        return false;
+    }
+    state.catch_up_all(progress, followers, 10) == want && *progress.granted() == id::<K>(granted)
+}
+
+/// Whether followers are caught up as they should be, one alone and in rounds.
+fn is_as_worked<K: LeaderKind<u64>>(rt: &impl Abort, alloc: Global) -> Result<bool, AllocError> {
+    let state = hundred::<K>(alloc)?;
+    let purged = valid_state::<K>(alloc)?;
+    let voters = vec![in alloc; 1, 2, 3]?;
+    let mut progress = made(rt, alloc, voters, &[4], ProgressEntryOf::empty(100))?;
+    let last = Some((1, 99));
+    Ok(
+        catches_up::<K>(&state, 100, 70, Some((1, 6)))
+            && catches_up::<K>(&state, 100, 0, Some((2, 10)))
+            && catches_up::<K>(&state, 100, 101, None)
+            && catches_up::<K>(&purged, 5, 3, Some((0, 1)))
+            && catches_up::<K>(&purged, 5, 1, None)
+            && rounds::<K>(&state, &mut progress, &[(1, 70), (4, 0), (9, 3)], 2, None)
+            && rounds::<K>(
+                &state,
+                &mut progress,
+                &[(2, 101), (2, 0), (1, 100)],
+                2,
+                last,
+            )
+            && progress.try_get(&3) == Some(&ProgressEntryOf::empty(100)),
+    )
+}
+
+#[test]
+fn followers_are_caught_up(rt: HostRuntime) -> Result<(), Fail> {
+    assert!(rt; is_as_worked::<LeaderAdv>(&rt, rt.alloc())?);
+    assert!(rt; is_as_worked::<LeaderStd>(&rt, rt.alloc())?);
+    Ok(())
+}
