@@ -2,7 +2,7 @@
 ghost use Rattle.std.specs.Prelude.{◌≡◌, ◌+◌, ◌-◌, ◌*◌, ◌/◌, ◌^◌, ◌<◌, ◌≤◌, ℕ, nat_lt, IsTrue, Some, None, if◌then◌else◌};
 ghost use Rattle.raft_base.specs.LogId.{id_le, next_index};
 ghost use Rattle.raft_base.specs.Logged.{Logged};
-ghost use Rattle.raft_progress.specs.catch_up.CatchUp.{CaughtUp, can_agree, can_catch_up, has_request_ids};
+ghost use Rattle.raft_progress.specs.catch_up.CatchUp.{CaughtUp, can_catch_up};
 ghost use Rattle.raft_progress.specs.catch_up.HonestRun.{HonestRunEnds, replied_to_logs};
 ghost use Rattle.raft_progress.specs.search.Search.{stretch};
 ghost use Rattle.raft_progress.specs.Inner.Turns.{Ready, TurnDone};
@@ -34,9 +34,10 @@ pub fn can_catch_up_entry<C: Ord + Copy, L: LogStateReader<C>>(
     let matched = entry.matching.next_index();
     let purged = log.purge_upto().copied().next_index();
     let logged = last.next_index();
-    if !can_agree(matched, entry.searching_end, purged, agree)
-        || !has_request_ids(entry.curr_inflight_id, logged)
-    {
+    if !(matched <= agree && agree <= entry.searching_end && purged <= agree) {
+        return false;
+    }
+    if !(logged < u64::MAX - 64 && entry.curr_inflight_id < u64::MAX - 64 - logged) {
         return false;
     }
     if same_optional_log_ids(entry.matching, last) {
@@ -45,20 +46,6 @@ pub fn can_catch_up_entry<C: Ord + Copy, L: LogStateReader<C>>(
     matched < logged
         && purged < logged
         && log_id_at_most(entry.matching, log.prev_log_id(matched.max(purged)))
-}
-
-/// Whether a follower can agree below an index.
-fn can_agree(matched: u64, end: u64, purged: u64, agree: u64) -> bool
-    ensures { result ≡ can_agree matched end purged agree }
-{
-    matched <= agree && agree <= end && purged <= agree
-}
-
-/// Whether enough request ids are left for a run over a log of this length.
-fn has_request_ids(id: u64, length: u64) -> bool
-    ensures { result ≡ has_request_ids id length }
-{
-    length < u64::MAX - 64 && id < u64::MAX - 64 - length
 }
 
 /// Sends to a follower whose log agrees with this one below an index, and takes its replies, until
