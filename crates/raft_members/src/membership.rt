@@ -198,7 +198,8 @@ impl<NID: NodeId, N: Node> Membership<NID, N> {
         ensures rest { learners_ahead NID.eq result ≡ learners_of NID.eq self.now }
         ensures ascending { IsStrictlySortedBy NID.cmp (learners_ahead NID.eq result) }
         ensures learners { (id : NID) →
-            is_member NID.eq (learners_ahead NID.eq result) id ≡ is_learner NID.eq NID.cmp self.now id }
+            is_member NID.eq (learners_ahead NID.eq result) id ≡
+            is_learner NID.eq NID.cmp self.now id }
     {
         LearnerIds {
             nodes: self.nodes.keys(),

@@ -5,5 +5,5 @@
 pub mod progress;
 pub mod tracked;
 
-pub use progress::{AnyStep, ProgressPart, Reply, Stat, VecProgress, replay_any};
+pub use progress::{AnyStep, Progress, ProgressPart, Reply, Stat, VecProgress, replay_any};
 pub use tracked::{MembershipProgress, Step, Tracked, replay};

@@ -66,7 +66,8 @@ pub trait Progress<ID: Copy + Ord, V: ProgressPart<P>, P: Copy + Ord, QS: Quorum
 
     /// Whether the progress is in order: the condition of the updates and of an upgrade.
     fn is_in_order(&mut self) -> bool
-        ensures answer { IsTrue result ↔ IsInOrder ID.eq P.cmp V.part_of QS.has_quorum (shows self.old) }
+        ensures answer { IsTrue result ↔
+            IsInOrder ID.eq P.cmp V.part_of QS.has_quorum (shows self.old) }
         ensures same { shows self.new ≡ shows self.old };
 
     /// The quorum set.
@@ -80,17 +81,21 @@ pub trait Progress<ID: Copy + Ord, V: ProgressPart<P>, P: Copy + Ord, QS: Quorum
     /// Changes the value of an id by `f` and answers granted: as an error where the id is unknown.
     fn update_with<F: FnOnce(&mut V)>(&mut self, id: &ID, f: F) -> Result<&P, &P>
         requires ordered { IsInOrder ID.eq P.cmp V.part_of QS.has_quorum (shows self.old) }
-        requires callable { ForSome ((state ID.eq (shows self.old)).value id.now) (FnOnceTakesAtMut F.FnOnce f) }
-        requires not_lower { NeverFalls ID.eq P.cmp V.part_of (Leaves F.FnOnce f) (shows self.old) id.now }
+        requires callable { ForSome ((state ID.eq (shows self.old)).value id.now)
+            (FnOnceTakesAtMut F.FnOnce f) }
+        requires not_lower { NeverFalls ID.eq P.cmp V.part_of (Leaves F.FnOnce f)
+            (shows self.old) id.now }
         ensures* after { sem 𝓛 (LendsGranted Self.row shows self.entry
-            (IsAnsweredUpdate ID.eq P.cmp V.part_of QS.has_quorum (Leaves F.FnOnce f) id.now result)) };
+            (IsAnsweredUpdate ID.eq P.cmp V.part_of QS.has_quorum
+            (Leaves F.FnOnce f) id.now result)) };
 
     /// Writes the value of an id and answers granted: as an error where the id is unknown.
     fn update(&mut self, id: &ID, value: V) -> Result<&P, &P>
         requires ordered { IsInOrder ID.eq P.cmp V.part_of QS.has_quorum (shows self.old) }
         requires not_lower { IsNotLower ID.eq P.cmp V.part_of (shows self.old) id.now value }
         ensures* after { sem 𝓛 (LendsGranted Self.row shows self.entry
-            (IsAnsweredUpdate ID.eq P.cmp V.part_of QS.has_quorum (λ v w. w ≡ value) id.now result)) };
+            (IsAnsweredUpdate ID.eq P.cmp V.part_of QS.has_quorum
+            (λ v w. w ≡ value) id.now result)) };
 
     /// Writes the value of an id where it is greater than the present one, and counts an update
     /// either way.
@@ -98,18 +103,22 @@ pub trait Progress<ID: Copy + Ord, V: ProgressPart<P>, P: Copy + Ord, QS: Quorum
     where
         V: PartialOrd,
         requires ordered { IsInOrder ID.eq P.cmp V.part_of QS.has_quorum (shows self.old) }
-        requires not_lower { IsNotLowerIfGreater ID.eq P.cmp V.part_of V.partial_cmp (shows self.old) id.now value }
+        requires not_lower { IsNotLowerIfGreater ID.eq P.cmp V.part_of V.partial_cmp
+            (shows self.old) id.now value }
         ensures* after { sem 𝓛 (LendsGranted Self.row shows self.entry
-            (IsAnsweredUpdate ID.eq P.cmp V.part_of QS.has_quorum (IsGreaterOf V.partial_cmp value) id.now result)) };
+            (IsAnsweredUpdate ID.eq P.cmp V.part_of QS.has_quorum
+            (IsGreaterOf V.partial_cmp value) id.now result)) };
 
     /// Whether the learners fit a quorum set: none stands twice, and none is a voter.
     fn learners_fit(alloc: Global, quorum_set: &QS, learners: &[ID]) -> Result<bool, AllocError>
-        ensures { IfOk result (λ fits. IsTrue fits ↔ LearnersFit ID.eq (QS.is_voter quorum_set.now) learners.now) };
+        ensures { IfOk result (λ fits.
+            IsTrue fits ↔ LearnersFit ID.eq (QS.is_voter quorum_set.now) learners.now) };
 
     /// Whether no value that an upgrade would take over is below the new default.
     fn can_upgrade(&self, quorum_set: &QS, learners: &[ID], default: &V) -> Result<bool, AllocError>
         ensures { IfOk result (λ can. IsTrue can ↔ CanUpgrade ID.eq P.cmp V.part_of
-            (QS.is_voter quorum_set.now) learners.now default.now (state ID.eq (shows self.now)).value) };
+            (QS.is_voter quorum_set.now) learners.now default.now
+            (state ID.eq (shows self.now)).value) };
 
     /// A progress over another quorum set that takes over the values and the counts.
     fn upgrade_quorum_set(
@@ -125,12 +134,17 @@ pub trait Progress<ID: Copy + Ord, V: ProgressPart<P>, P: Copy + Ord, QS: Quorum
         requires learners_fit { LearnersFit ID.eq (QS.is_voter quorum_set) learners.now }
         requires can_upgrade { CanUpgrade ID.eq P.cmp V.part_of (QS.is_voter quorum_set)
             learners.now default (state ID.eq (shows self.now)).value }
-        ensures made { IfOk result (λ made. IsUpgraded ID.eq V.is_clone V.part_of (QS.is_voter quorum_set)
-            quorum_set learners.now default (state ID.eq (shows self.now)).value (state ID.eq (shows made))) }
-        ensures ordered { IfOk result (λ made. IsInOrder ID.eq P.cmp V.part_of QS.has_quorum (shows made)) }
-        ensures fold { IfOk result (λ made. IsUpgradeFold ID.eq ID.cmp P.cmp V.part_of V.is_clone QS.is_voter
+        ensures made { IfOk result (λ made.
+            IsUpgraded ID.eq V.is_clone V.part_of (QS.is_voter quorum_set)
+            quorum_set learners.now default (state ID.eq (shows self.now)).value
+            (state ID.eq (shows made))) }
+        ensures ordered { IfOk result (λ made.
+            IsInOrder ID.eq P.cmp V.part_of QS.has_quorum (shows made)) }
+        ensures fold { IfOk result (λ made.
+            IsUpgradeFold ID.eq ID.cmp P.cmp V.part_of V.is_clone QS.is_voter
             (shows self.now) quorum_set learners.now default (shows made)) }
         ensures learners { IfOk result (λ made. learner_ids (shows made) ≡ learners.now) }
-        ensures counts { IfOk result (λ made. CountsGoOn (length (shows self.now).walk) (shows made).voter_count
+        ensures counts { IfOk result (λ made.
+            CountsGoOn (length (shows self.now).walk) (shows made).voter_count
             (shows self.now).stat (shows made).stat) };
 }

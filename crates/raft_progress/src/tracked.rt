@@ -32,7 +32,8 @@ pub type MembershipProgress<NID, V, P> = VecProgress<
 pub struct Tracked<NID: NodeId, N: Node, V: ProgressPart<P>, P: Copy + Ord> {
     membership: Membership<NID, N>,
     progress: MembershipProgress<NID, V, P>,
-    pub ghost ready: { ∥ IsReady NID.eq NID.cmp P.cmp V.part_of (record { membership = membership; progress = shown progress }) ∥₁ },
+    pub ghost ready: { ∥ IsReady NID.eq NID.cmp P.cmp V.part_of
+        (record { membership = membership; progress = shown progress }) ∥₁ },
 }
 
 impl<NID: NodeId, N: Node, V: ProgressPart<P> + Drop, P: Copy + Ord> Tracked<NID, N, V, P> {
@@ -47,11 +48,15 @@ impl<NID: NodeId, N: Node, V: ProgressPart<P> + Drop, P: Copy + Ord> Tracked<NID
     pub fn new(membership: Membership<NID, N>, default: V) -> Result<Self, AllocError>
     where
         V: Clone,
-        requires clones_have_the_part { (w : V) → V.is_clone default w → V.part_of w ≡ V.part_of default }
+        requires clones_have_the_part { (w : V) → V.is_clone default w →
+            V.part_of w ≡ V.part_of default }
         ensures membership { IfOk result (λ made. (tracked made).membership ≡ membership) }
-        ensures progress { IfOk result (λ made. BeginsOver NID.eq NID.cmp P.cmp V.part_of V.is_clone default (tracked made)) }
-        ensures granted { IfOk result (λ made. (tracked made).progress.granted ≡ V.part_of default) }
-        ensures ready { IfOk result (λ made. IsReady NID.eq NID.cmp P.cmp V.part_of (tracked made)) }
+        ensures progress { IfOk result (λ made.
+            BeginsOver NID.eq NID.cmp P.cmp V.part_of V.is_clone default (tracked made)) }
+        ensures granted { IfOk result (λ made.
+            (tracked made).progress.granted ≡ V.part_of default) }
+        ensures ready { IfOk result (λ made.
+            IsReady NID.eq NID.cmp P.cmp V.part_of (tracked made)) }
     {
         let alloc = *membership.get_joint_config().allocator();
         let configs = membership.to_quorum_set()?;
@@ -110,7 +115,8 @@ fn learners_of<NID: NodeId, N: Node>(
     alloc: Global,
     membership: &Membership<NID, N>,
 ) -> Result<Vec<NID>, AllocError>
-    ensures { IfOk result (λ ids. AreLearners NID.eq (members_of NID.cmp membership.now) ids.items) }
+    ensures { IfOk result (λ ids.
+        AreLearners NID.eq (members_of NID.cmp membership.now) ids.items) }
 {
     membership.learner_ids().collect(alloc)
 }

@@ -1,6 +1,6 @@
-pub mod Lists
-pub mod NewPairs
-pub mod Numbers
-pub mod Replies
+pub mod ListLemmas
+pub mod NewPairLemmas
+pub mod NumberLemmas
+pub mod ReplyLemmas
 pub mod TakenLemmas
 pub mod WordLemmas

@@ -57,7 +57,8 @@ impl<NID: NodeId, N: Node> Membership<NID, N> {
             (changed NID.eq NID.cmp (members_of NID.cmp self.now) change retain)) }
         ensures coherent { IfOk result (λ m. 0 < length self.now.configs →
             is_coherent NID.eq self.now.configs m.configs ≡ true) }
-        ensures only_memory { IfErr result (OnlyMemory NID.eq (members_of NID.cmp self.now) change) }
+        ensures only_memory { IfErr result
+            (OnlyMemory NID.eq (members_of NID.cmp self.now) change) }
         ensures two_changes { IfOk result
             (TwoChanges NID.eq NID.cmp (members_of NID.cmp self.now) change) }
     {
@@ -100,7 +101,8 @@ impl<NID: NodeId, N: Node> Membership<NID, N> {
     fn with_more(self, more: BTreeMap<NID, N>) -> Result<Self, AllocError>
         ensures configs { IfOk result (λ m. m.configs ≡ self.configs) }
         ensures nodes { IfOk result (λ m. (id : NID) →
-            node_at NID.cmp m.nodes id ≡ option_or (node_at NID.cmp self.nodes id) (get NID.cmp more id)) }
+            node_at NID.cmp m.nodes id ≡
+            option_or (node_at NID.cmp self.nodes id) (get NID.cmp more id)) }
     {
         let Membership { configs, nodes } = self;
         let nodes = nodes::merged(nodes, more)?;

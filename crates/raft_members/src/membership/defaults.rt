@@ -51,7 +51,8 @@ fn put_default<NID: NodeId, N: Node>(
     id: NID,
 ) -> Result<(), AllocError>
     ensures { OnOk result ((made : N) × N.is_default_node made × ((q : NID) →
-        get NID.cmp nodes.new q ≡ cond (is_at (NID.cmp id) q) (Some made) (get NID.cmp nodes.old q))) }
+        get NID.cmp nodes.new q ≡
+        cond (is_at (NID.cmp id) q) (Some made) (get NID.cmp nodes.old q))) }
 {
     let node = N::default_node(alloc)?;
     let _old = nodes.insert(id, node)?;

@@ -30,7 +30,8 @@ pub fn kept<NID: NodeId, N: Node>(
         cond (keeps_node NID.eq (ids_of_configs old.now) (ids_of_configs new.now) retain q)
         (get NID.cmp nodes.now q) None)) }
     ensures entries { IfOk result (λ n. IsTrue (same_nodes NID.eq N.eq
-        (filter (λ e. keeps_node NID.eq (ids_of_configs old.now) (ids_of_configs new.now) retain e.0)
+        (filter (λ e. keeps_node NID.eq (ids_of_configs old.now)
+        (ids_of_configs new.now) retain e.0)
         nodes.now.entries) n.entries)) }
 {
     let mut kept = BTreeMap::new(alloc);
@@ -109,7 +110,8 @@ pub fn merged<NID: NodeId, N: Node>(
     mut second: BTreeMap<NID, N>,
 ) -> Result<BTreeMap<NID, N>, AllocError>
     ensures { IfOk result (λ nodes.
-        (id : NID) → get NID.cmp nodes id ≡ option_or (get NID.cmp first id) (get NID.cmp second id)) }
+        (id : NID) → get NID.cmp nodes id ≡
+        option_or (get NID.cmp first id) (get NID.cmp second id)) }
 {
     second.append(&mut first)?;
     Ok(second)

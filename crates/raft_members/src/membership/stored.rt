@@ -73,7 +73,8 @@ impl<C: Copy, NID: NodeId, N: Node> StoredMembershipOf<C, NID, N> {
     pub fn voter_ids(&self) -> Result<Vec<NID>, AllocError>
         ensures ascending { IfOk result (λ ids. IsStrictlySortedBy NID.cmp ids.items) }
         ensures voters { IfOk result (λ ids. (id : NID) →
-            is_member NID.eq ids.items id ≡ is_voter_of NID.eq (membership_of self.now).configs id) }
+            is_member NID.eq ids.items id ≡
+            is_voter_of NID.eq (membership_of self.now).configs id) }
     {
         self.membership.voter_ids()
     }

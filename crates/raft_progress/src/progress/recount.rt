@@ -15,7 +15,8 @@ fn gather<ID: Copy, V: ProgressPart<P>, P: Copy + Ord>(
 ) -> usize
     requires { length voters.now ≤ length room.old }
     ensures within { result ≤ length voters.now }
-    ensures front { take result room.new ≡ keys_of (filter (at_least P.cmp V.part_of least) voters.now) }
+    ensures front { take result room.new ≡
+        keys_of (filter (at_least P.cmp V.part_of least) voters.now) }
 {
     let mut n = 0;
     for entry in voters {
@@ -36,7 +37,8 @@ fn is_reached<ID: Copy + Ord, V: ProgressPart<P>, P: Copy + Ord, QS: QuorumSet<I
 ) -> bool
     requires room { length voters.now ≤ length room.old }
     requires distinct { IsDistinct ID.eq (keys_of voters.now) }
-    ensures { result ≡ reaches ID.eq P.cmp V.part_of (QS.has_quorum quorum_set.now) voters.now part }
+    ensures { result ≡ reaches ID.eq P.cmp V.part_of
+        (QS.has_quorum quorum_set.now) voters.now part }
 {
     let n = gather(voters, part, room);
     quorum_set.is_quorum(&room[..n])
@@ -51,7 +53,8 @@ pub(crate) fn count<ID: Copy + Ord, V: ProgressPart<P>, P: Copy + Ord, QS: Quoru
 ) -> P
     requires room { length voters.now ≤ length room.old }
     requires distinct { IsDistinct ID.eq (keys_of voters.now) }
-    ensures { IsGreatest ID.eq P.cmp V.part_of (QS.has_quorum quorum_set.now) voters.now voters.now default_part result }
+    ensures { IsGreatest ID.eq P.cmp V.part_of (QS.has_quorum quorum_set.now)
+        voters.now voters.now default_part result }
 {
     let mut best = default_part;
     for entry in voters {

@@ -25,7 +25,8 @@ fn answer<
     requires ordered { IsInOrder ID.eq P.cmp V.part_of QS.has_quorum (shown progress.old) }
     requires clones_have_the_part { (v w : V) → V.is_clone v w → V.part_of w ≡ V.part_of v }
     ensures step { let by = comparisons ID.Ord P.Ord V.PartialOrd V.ProgressPart V.Clone in
-        IsShownStep by QS.has_quorum QS.is_voter (shown progress.old) step result (shown progress.new) }
+        IsShownStep by QS.has_quorum QS.is_voter (shown progress.old) step result
+        (shown progress.new) }
     ensures ordered { IsInOrder ID.eq P.cmp V.part_of QS.has_quorum (shown progress.new) }
 {
     match step {
@@ -77,7 +78,8 @@ fn try_upgrade<
 ) -> Result<Reply<ID, P>, AllocError>
     requires ordered { IsInOrder ID.eq P.cmp V.part_of QS.has_quorum (shown progress.old) }
     requires clones_have_the_part { (v w : V) → V.is_clone v w → V.part_of w ≡ V.part_of v }
-    ensures step { IfOk result (λ reply. IsShownUpgrade ID.eq ID.cmp P.cmp V.part_of V.is_clone QS.has_quorum QS.is_voter
+    ensures step { IfOk result (λ reply.
+        IsShownUpgrade ID.eq ID.cmp P.cmp V.part_of V.is_clone QS.has_quorum QS.is_voter
         (shown progress.old) quorum_set learners.now default reply (shown progress.new)) }
     ensures err { OnErr result (shown progress.new ≡ shown progress.old) }
     ensures ordered { IsInOrder ID.eq P.cmp V.part_of QS.has_quorum (shown progress.new) }
@@ -105,7 +107,8 @@ pub(crate) fn write<
     QS: QuorumSet<ID> + Drop,
 >(progress: &mut VecProgress<ID, V, P, QS>, id: &ID, value: V) -> Reply<ID, P>
     requires { IsInOrder ID.eq P.cmp V.part_of QS.has_quorum (shown progress.old) }
-    ensures step { IsShownWrite ID.eq P.cmp V.part_of QS.has_quorum (shown progress.old) id.now value result (shown progress.new) }
+    ensures step { IsShownWrite ID.eq P.cmp V.part_of QS.has_quorum
+        (shown progress.old) id.now value result (shown progress.new) }
     ensures ordered { IsInOrder ID.eq P.cmp V.part_of QS.has_quorum (shown progress.new) }
 {
     if would_fall(progress, id, &value) {
@@ -125,7 +128,8 @@ pub(crate) fn increase<
     QS: QuorumSet<ID> + Drop,
 >(progress: &mut VecProgress<ID, V, P, QS>, id: &ID, value: V) -> Reply<ID, P>
     requires { IsInOrder ID.eq P.cmp V.part_of QS.has_quorum (shown progress.old) }
-    ensures step { IsShownIncrease ID.eq P.cmp V.partial_cmp V.part_of QS.has_quorum (shown progress.old) id.now value result (shown progress.new) }
+    ensures step { IsShownIncrease ID.eq P.cmp V.partial_cmp V.part_of QS.has_quorum
+        (shown progress.old) id.now value result (shown progress.new) }
     ensures ordered { IsInOrder ID.eq P.cmp V.part_of QS.has_quorum (shown progress.new) }
 {
     if !is_not_greater(progress, id, &value) && would_fall(progress, id, &value) {
@@ -144,7 +148,8 @@ fn is_not_greater<
     P: Copy + Ord,
     QS: QuorumSet<ID> + Drop,
 >(progress: &VecProgress<ID, V, P, QS>, id: &ID, value: &V) -> bool
-    ensures { result ≡ stays V.partial_cmp ((state ID.eq (shown progress.now)).value id.now) value.now }
+    ensures { result ≡ stays V.partial_cmp
+        ((state ID.eq (shown progress.now)).value id.now) value.now }
 {
     match progress.try_get(id) {
         Some(current) => !(*value > *current),
@@ -159,7 +164,8 @@ pub(super) fn would_fall<
     P: Copy + Ord,
     QS: QuorumSet<ID> + Drop,
 >(progress: &VecProgress<ID, V, P, QS>, id: &ID, value: &V) -> bool
-    ensures { result ≡ falls P.cmp V.part_of ((state ID.eq (shown progress.now)).value id.now) value.now }
+    ensures { result ≡ falls P.cmp V.part_of
+        ((state ID.eq (shown progress.now)).value id.now) value.now }
 {
     match progress.try_get(id) {
         Some(current) => value.part().cmp(&current.part()).is_lt(),
@@ -182,12 +188,14 @@ pub fn replay_any<
     requires clones_have_the_part { (v w : V) → V.is_clone v w → V.part_of w ≡ V.part_of v }
     ensures run { let by = comparisons ID.Ord P.Ord V.PartialOrd V.ProgressPart V.Clone in
         IfOk result (λ replies. IsRun by QS.has_quorum QS.is_voter
-        (state ID.eq (shown progress.old)) steps.items replies.items (state ID.eq (shown progress.new))) }
+        (state ID.eq (shown progress.old)) steps.items replies.items
+        (state ID.eq (shown progress.new))) }
     ensures shown_run { let by = comparisons ID.Ord P.Ord V.PartialOrd V.ProgressPart V.Clone in
         IfOk result (λ replies. IsShownRun by QS.has_quorum QS.is_voter
         (shown progress.old) steps.items replies.items (shown progress.new)) }
     ensures ordered { IsInOrder ID.eq P.cmp V.part_of QS.has_quorum (shown progress.new) }
-    ensures granted { IsCounted P.cmp V.part_of QS.has_quorum (state ID.eq (shown progress.new)) (shown progress.new).granted }
+    ensures granted { IsCounted P.cmp V.part_of QS.has_quorum
+        (state ID.eq (shown progress.new)) (shown progress.new).granted }
     ensures err { OnErr result (shown progress.new ≡ shown progress.old) }
 {
     let mut replies = Vec::with_capacity(alloc, steps.len())?;

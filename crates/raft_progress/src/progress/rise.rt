@@ -12,7 +12,9 @@ fn is_below_next<ID: Copy, V: ProgressPart<P>, P: Copy + Ord>(
     place: usize,
 ) -> bool
     requires { place + 1 < length walk.now }
-    ensures { (d : ID × V) → result ≡ is_lt (P.cmp (V.part_of (get_or walk.now place d).1) (V.part_of (get_or walk.now (place + 1) d).1)) }
+    ensures { (d : ID × V) →
+        result ≡ is_lt (P.cmp (V.part_of (get_or walk.now place d).1)
+        (V.part_of (get_or walk.now (place + 1) d).1)) }
 {
     walk[place].1.part().cmp(&walk[place + 1].1.part()).is_lt()
 }

@@ -46,7 +46,8 @@ pub(crate) fn least_front<ID: Copy + Ord, V, QS: QuorumSet<ID>>(
     requires within { high ≤ length voters.now }
     requires room { length voters.now ≤ length room.old }
     requires distinct { IsDistinct ID.eq (keys_of voters.now) }
-    ensures { IsLeastFront ID.eq (QS.has_quorum quorum_set.now) voters.now low high result.front result.tests }
+    ensures { IsLeastFront ID.eq (QS.has_quorum quorum_set.now) voters.now
+        low high result.front result.tests }
 {
     let mut tests = 0;
     for below in low..high {

@@ -65,7 +65,8 @@ impl<
     ///
     /// It is the test for the condition of `new` and of `upgrade_quorum_set`.
     pub fn learners_fit(alloc: Global, quorum_set: &QS, learners: &[ID]) -> Result<bool, AllocError>
-        ensures { IfOk result (λ fits. IsTrue fits ↔ LearnersFit ID.eq (QS.is_voter quorum_set.now) learners.now) }
+        ensures { IfOk result (λ fits.
+            IsTrue fits ↔ LearnersFit ID.eq (QS.is_voter quorum_set.now) learners.now) }
     {
         let voters = quorum_set.ids(alloc)?;
         Ok(are_apart(&voters, learners))
@@ -84,13 +85,16 @@ impl<
     ) -> Result<Self, AllocError>
     where
         V: Clone,
-        requires clones_have_the_part { (w : V) → V.is_clone default w → V.part_of w ≡ V.part_of default }
+        requires clones_have_the_part { (w : V) → V.is_clone default w →
+            V.part_of w ≡ V.part_of default }
         requires learners_fit { LearnersFit ID.eq (QS.is_voter quorum_set) learners.now }
-        ensures made { IfOk result (λ made. IsNew ID.eq V.is_clone V.part_of (QS.is_voter quorum_set)
+        ensures made { IfOk result (λ made.
+            IsNew ID.eq V.is_clone V.part_of (QS.is_voter quorum_set)
             quorum_set learners.now default (state ID.eq (shown made))) }
         ensures walk { IfOk result (λ made. IsFirstWalk ID.cmp learners.now (shown made)) }
         ensures granted { IfOk result (λ made. (shown made).granted ≡ V.part_of default) }
-        ensures ordered { IfOk result (λ made. IsInOrder ID.eq P.cmp V.part_of QS.has_quorum (shown made)) }
+        ensures ordered { IfOk result (λ made.
+            IsInOrder ID.eq P.cmp V.part_of QS.has_quorum (shown made)) }
         ensures no_counts { IfOk result (λ made. (shown made).stat ≡ no_counts) }
     {
         let room = quorum_set.ids(alloc)?;
@@ -133,13 +137,18 @@ impl<
         requires learners_fit { LearnersFit ID.eq (QS.is_voter quorum_set) learners.now }
         requires can_upgrade { CanUpgrade ID.eq P.cmp V.part_of (QS.is_voter quorum_set)
             learners.now default (state ID.eq (shown self.now)).value }
-        ensures made { IfOk result (λ made. IsUpgraded ID.eq V.is_clone V.part_of (QS.is_voter quorum_set)
-            quorum_set learners.now default (state ID.eq (shown self.now)).value (state ID.eq (shown made))) }
-        ensures ordered { IfOk result (λ made. IsInOrder ID.eq P.cmp V.part_of QS.has_quorum (shown made)) }
-        ensures fold { IfOk result (λ made. IsUpgradeFold ID.eq ID.cmp P.cmp V.part_of V.is_clone QS.is_voter
+        ensures made { IfOk result (λ made.
+            IsUpgraded ID.eq V.is_clone V.part_of (QS.is_voter quorum_set)
+            quorum_set learners.now default (state ID.eq (shown self.now)).value
+            (state ID.eq (shown made))) }
+        ensures ordered { IfOk result (λ made.
+            IsInOrder ID.eq P.cmp V.part_of QS.has_quorum (shown made)) }
+        ensures fold { IfOk result (λ made.
+            IsUpgradeFold ID.eq ID.cmp P.cmp V.part_of V.is_clone QS.is_voter
             (shown self.now) quorum_set learners.now default (shown made)) }
         ensures learners { IfOk result (λ made. learner_ids (shown made) ≡ learners.now) }
-        ensures counts { IfOk result (λ made. CountsGoOn (length (shown self.now).walk) (shown made).voter_count
+        ensures counts { IfOk result (λ made.
+            CountsGoOn (length (shown self.now).walk) (shown made).voter_count
             (shown self.now).stat (shown made).stat) }
     {
         let alloc = self.allocator();
@@ -173,7 +182,8 @@ impl<
     fn take_over(&mut self, id: &ID, value: V)
         requires ordered { IsInOrder ID.eq P.cmp V.part_of QS.has_quorum (shown self.old) }
         requires not_lower { IsNotLower ID.eq P.cmp V.part_of (shown self.old) id.now value }
-        ensures updated { IsUpdated ID.eq P.cmp V.part_of (λ v w. w ≡ value) (shown self.old) id.now (shown self.new) }
+        ensures updated { IsUpdated ID.eq P.cmp V.part_of (λ v w. w ≡ value)
+            (shown self.old) id.now (shown self.new) }
         ensures ordered { IsInOrder ID.eq P.cmp V.part_of QS.has_quorum (shown self.new) }
     {
         self.apply(id, |current| *current = value);
@@ -195,7 +205,8 @@ impl<
         default: &V,
     ) -> Result<bool, AllocError>
         ensures { IfOk result (λ can. IsTrue can ↔ CanUpgrade ID.eq P.cmp V.part_of
-            (QS.is_voter quorum_set.now) learners.now default.now (state ID.eq (shown self.now)).value) }
+            (QS.is_voter quorum_set.now) learners.now default.now
+            (state ID.eq (shown self.now)).value) }
     {
         let least = self.least_below(quorum_set, learners, default)?;
         Ok(least.is_none())
@@ -209,9 +220,12 @@ impl<
         default: &V,
     ) -> Result<Option<ID>, AllocError>
         ensures none { IfOk result (λ least. least ≡ None → CanUpgrade ID.eq P.cmp V.part_of
-            (QS.is_voter quorum_set.now) learners.now default.now (state ID.eq (shown self.now)).value) }
-        ensures some { IfOk result (λ least. ForSome least (IsLeastBelow ID.eq ID.cmp P.cmp V.part_of
-            (QS.is_voter quorum_set.now) learners.now default.now (state ID.eq (shown self.now)).value)) }
+            (QS.is_voter quorum_set.now) learners.now default.now
+            (state ID.eq (shown self.now)).value) }
+        ensures some { IfOk result (λ least.
+            ForSome least (IsLeastBelow ID.eq ID.cmp P.cmp V.part_of
+            (QS.is_voter quorum_set.now) learners.now default.now
+            (state ID.eq (shown self.now)).value)) }
     {
         let alloc = self.allocator();
         let voters = quorum_set.ids(alloc)?;
@@ -243,7 +257,8 @@ impl<
 
     /// Whether an id has a value that is below a part.
     fn is_value_below(&self, part: P, id: &ID) -> bool
-        ensures { result ≡ is_value_below P.cmp V.part_of part ((state ID.eq (shown self.now)).value id.now) }
+        ensures { result ≡ is_value_below P.cmp V.part_of part
+            ((state ID.eq (shown self.now)).value id.now) }
     {
         match self.try_get(id) {
             Some(value) => value.part().cmp(&part).is_lt(),
@@ -256,7 +271,8 @@ impl<
     /// It can be lost only by a write through `get_mut` or `iter_mut` that changes an id or a
     /// voter's part. The test changes nothing and takes no memory.
     pub fn is_in_order(&mut self) -> bool
-        ensures answer { IsTrue result ↔ IsInOrder ID.eq P.cmp V.part_of QS.has_quorum (shown self.old) }
+        ensures answer { IsTrue result ↔
+            IsInOrder ID.eq P.cmp V.part_of QS.has_quorum (shown self.old) }
         ensures same { shown self.new ≡ shown self.old }
     {
         if !has_distinct_ids(&self.walk) {
@@ -353,7 +369,8 @@ impl<
     /// out of order afterwards: `is_in_order` tells.
     pub fn get_mut(&mut self, id: &ID) -> Option<&mut V>
         ensures* writes_back { sem 𝓛 (LendsValue
-            (the_row ID.row V.row P.row QS.row ID.Ord.own ID.PartialEq ID.PartialOrd.own) V.row shown ID.eq
+            (the_row ID.row V.row P.row QS.row ID.Ord.own ID.PartialEq
+            ID.PartialOrd.own) V.row shown ID.eq
             self.entry id.now result) }
         ensures value { option_copied_mut result ≡ (state ID.eq (shown self.old)).value id.now }
     {
@@ -395,11 +412,15 @@ impl<
     /// ```
     pub fn update_with<F: FnOnce(&mut V)>(&mut self, id: &ID, f: F) -> Result<&P, &P>
         requires ordered { IsInOrder ID.eq P.cmp V.part_of QS.has_quorum (shown self.old) }
-        requires callable { ForSome ((state ID.eq (shown self.old)).value id.now) (FnOnceTakesAtMut F.FnOnce f) }
-        requires not_lower { NeverFalls ID.eq P.cmp V.part_of (Leaves F.FnOnce f) (shown self.old) id.now }
+        requires callable { ForSome ((state ID.eq (shown self.old)).value id.now)
+            (FnOnceTakesAtMut F.FnOnce f) }
+        requires not_lower { NeverFalls ID.eq P.cmp V.part_of (Leaves F.FnOnce f)
+            (shown self.old) id.now }
         ensures* after { sem 𝓛 (LendsGranted
-            (the_row ID.row V.row P.row QS.row ID.Ord.own ID.PartialEq ID.PartialOrd.own) shown self.entry
-            (IsAnsweredUpdate ID.eq P.cmp V.part_of QS.has_quorum (Leaves F.FnOnce f) id.now result)) }
+            (the_row ID.row V.row P.row QS.row ID.Ord.own ID.PartialEq
+            ID.PartialOrd.own) shown self.entry
+            (IsAnsweredUpdate ID.eq P.cmp V.part_of QS.has_quorum
+            (Leaves F.FnOnce f) id.now result)) }
     {
         if self.apply(id, f) {
             Ok(&self.granted)
@@ -413,8 +434,10 @@ impl<
         requires ordered { IsInOrder ID.eq P.cmp V.part_of QS.has_quorum (shown self.old) }
         requires not_lower { IsNotLower ID.eq P.cmp V.part_of (shown self.old) id.now value }
         ensures* after { sem 𝓛 (LendsGranted
-            (the_row ID.row V.row P.row QS.row ID.Ord.own ID.PartialEq ID.PartialOrd.own) shown self.entry
-            (IsAnsweredUpdate ID.eq P.cmp V.part_of QS.has_quorum (λ v w. w ≡ value) id.now result)) }
+            (the_row ID.row V.row P.row QS.row ID.Ord.own ID.PartialEq
+            ID.PartialOrd.own) shown self.entry
+            (IsAnsweredUpdate ID.eq P.cmp V.part_of QS.has_quorum
+            (λ v w. w ≡ value) id.now result)) }
     {
         self.update_with(id, |current| *current = value)
     }
@@ -425,10 +448,13 @@ impl<
     where
         V: PartialOrd,
         requires ordered { IsInOrder ID.eq P.cmp V.part_of QS.has_quorum (shown self.old) }
-        requires not_lower { IsNotLowerIfGreater ID.eq P.cmp V.part_of V.partial_cmp (shown self.old) id.now value }
+        requires not_lower { IsNotLowerIfGreater ID.eq P.cmp V.part_of V.partial_cmp
+            (shown self.old) id.now value }
         ensures* after { sem 𝓛 (LendsGranted
-            (the_row ID.row V.row P.row QS.row ID.Ord.own ID.PartialEq ID.PartialOrd.own) shown self.entry
-            (IsAnsweredUpdate ID.eq P.cmp V.part_of QS.has_quorum (IsGreaterOf V.partial_cmp value) id.now result)) }
+            (the_row ID.row V.row P.row QS.row ID.Ord.own ID.PartialEq
+            ID.PartialOrd.own) shown self.entry
+            (IsAnsweredUpdate ID.eq P.cmp V.part_of QS.has_quorum
+            (IsGreaterOf V.partial_cmp value) id.now result)) }
     {
         self.update_with(id, |current| {
             if value > *current {
@@ -440,9 +466,12 @@ impl<
     /// Changes the value of an id by `f`, recounts granted, and answers whether the id is known.
     fn apply<F: FnOnce(&mut V)>(&mut self, id: &ID, f: F) -> bool
         requires ordered { IsInOrder ID.eq P.cmp V.part_of QS.has_quorum (shown self.old) }
-        requires callable { ForSome ((state ID.eq (shown self.old)).value id.now) (FnOnceTakesAtMut F.FnOnce f) }
-        requires not_lower { NeverFalls ID.eq P.cmp V.part_of (Leaves F.FnOnce f) (shown self.old) id.now }
-        ensures updated { IsUpdated ID.eq P.cmp V.part_of (Leaves F.FnOnce f) (shown self.old) id.now (shown self.new) }
+        requires callable { ForSome ((state ID.eq (shown self.old)).value id.now)
+            (FnOnceTakesAtMut F.FnOnce f) }
+        requires not_lower { NeverFalls ID.eq P.cmp V.part_of (Leaves F.FnOnce f)
+            (shown self.old) id.now }
+        ensures updated { IsUpdated ID.eq P.cmp V.part_of (Leaves F.FnOnce f)
+            (shown self.old) id.now (shown self.new) }
         ensures ordered { IsInOrder ID.eq P.cmp V.part_of QS.has_quorum (shown self.new) }
         ensures known { result ≡ is_some ((state ID.eq (shown self.old)).value id.now) }
     {
@@ -464,7 +493,8 @@ impl<
     fn settle(&mut self, place: usize, before: P)
         requires within { place < length (shown self.old).walk }
         requires distinct { IsDistinct ID.eq (keys_of (shown self.old).walk) }
-        ensures { IsPutInOrder ID.eq P.cmp V.part_of QS.has_quorum (shown self.old) place before (shown self.new) }
+        ensures { IsPutInOrder ID.eq P.cmp V.part_of QS.has_quorum
+            (shown self.old) place before (shown self.new) }
     {
         let after = self.walk[place].1.part();
         let granted = self.granted;
@@ -477,7 +507,8 @@ impl<
     fn raise(&mut self, place: usize, counts: bool)
         requires within { place < (shown self.old).voter_count }
         requires distinct { IsDistinct ID.eq (keys_of (shown self.old).walk) }
-        ensures { IsRaised ID.eq P.cmp V.part_of QS.has_quorum (shown self.old) place counts (shown self.new) }
+        ensures { IsRaised ID.eq P.cmp V.part_of QS.has_quorum
+            (shown self.old) place counts (shown self.new) }
     {
         self.stat.move_count = self.stat.move_count.saturating_add(1);
         let to = move_up(&mut self.walk, place);
@@ -489,7 +520,8 @@ impl<
     /// Looks for the least front past a place that is a quorum, while its parts exceed granted.
     fn scan(&mut self, place: usize)
         requires distinct { IsDistinct ID.eq (keys_of (shown self.old).walk) }
-        ensures { IsScanned ID.eq P.cmp V.part_of QS.has_quorum (shown self.old) place (shown self.new) }
+        ensures { IsScanned ID.eq P.cmp V.part_of QS.has_quorum
+            (shown self.old) place (shown self.new) }
     {
         let voters = &self.walk[..self.voter_count];
         let high = leading(voters, self.granted);
@@ -510,7 +542,8 @@ impl<ID: Copy + Ord, V: PartialEq, P: Copy + Ord, QS: PartialEq> PartialEq
 
     ghost eq = { λ a b. equal ID.eq V.eq P.eq QS.eq (shown a) (shown b) };
 
-    ghost laws = { on_per shown (equal-per ID.PartialEq.laws V.PartialEq.laws P.PartialEq.laws QS.PartialEq.laws) };
+    ghost laws = { on_per shown
+        (equal-per ID.PartialEq.laws V.PartialEq.laws P.PartialEq.laws QS.PartialEq.laws) };
 
     fn eq(&self, other: &Self) -> bool {
         self.quorum_set == other.quorum_set
@@ -537,7 +570,8 @@ impl<ID: Copy + Ord, V: Clone, P: Copy + Ord, QS: Drop> VecProgress<ID, V, P, QS
 
     /// A clone of the values over a quorum set, which reserves the room that `new` does.
     pub(crate) fn clone_over(&self, quorum_set: QS) -> Result<Self, AllocError>
-        ensures { IfOk result (λ made. IsCloned V.is_clone (λ old new. new ≡ quorum_set) (shown self.now) (shown made)) }
+        ensures { IfOk result (λ made.
+            IsCloned V.is_clone (λ old new. new ≡ quorum_set) (shown self.now) (shown made)) }
     {
         let alloc = *self.walk.allocator();
         Ok(VecProgress {
@@ -580,8 +614,10 @@ impl<ID: Copy + Ord, V: Clone + PartialEq, P: Copy + Ord, QS: Clone + PartialEq>
     pub fn try_clone(&self) -> Result<Self, AllocError>
         requires values { ClonesAreEqual V.eq V.is_clone }
         requires quorum_sets { ClonesAreEqual QS.eq QS.is_clone }
-        ensures equal { IfOk result (λ made. IsTrue (equal ID.eq V.eq P.eq QS.eq (shown self.now) (shown made))) }
-        ensures cloned { IfOk result (λ made. IsCloned V.is_clone QS.is_clone (shown self.now) (shown made)) }
+        ensures equal { IfOk result (λ made.
+            IsTrue (equal ID.eq V.eq P.eq QS.eq (shown self.now) (shown made))) }
+        ensures cloned { IfOk result (λ made.
+            IsCloned V.is_clone QS.is_clone (shown self.now) (shown made)) }
     {
         self.clone()
     }

@@ -25,7 +25,8 @@ pub(crate) fn place_all<ID: Copy, V: Clone>(
 /// Runs `f` on the value at a place.
 pub(crate) fn write_at<ID: Copy, V, F: FnOnce(&mut V)>(walk: &mut Vec<(ID, V)>, place: usize, f: F)
     requires within { place < length walk.old.items }
-    requires callable { ForSome (slice_get walk.old.items place) (λ e. FnOnceTakesAtMut F.FnOnce f e.1) }
+    requires callable { ForSome (slice_get walk.old.items place)
+        (λ e. FnOnceTakesAtMut F.FnOnce f e.1) }
     ensures { IsWrittenAt (Leaves F.FnOnce f) place walk.old.items walk.new.items }
 {
     let entry = &mut walk[place];
@@ -37,7 +38,8 @@ pub(crate) fn clone_walk<ID: Copy, V: Clone>(
     alloc: Global,
     walk: &[(ID, V)],
 ) -> Result<Vec<(ID, V)>, AllocError>
-    ensures { IfOk result (λ made. AllZip (λ d e. (e.0 ≡ d.0) × V.is_clone d.1 e.1) walk.now made.items) }
+    ensures { IfOk result (λ made.
+        AllZip (λ d e. (e.0 ≡ d.0) × V.is_clone d.1 e.1) walk.now made.items) }
 {
     let mut made = Vec::new(alloc);
     for entry in walk {

@@ -115,9 +115,12 @@ pub fn replay<NID: NodeId, N: Node, V: ProgressPart<P> + PartialOrd + Clone + Dr
         IfOk result (λ replies. IsTrackedRun by N.eq
         (tracked_state NID.eq (tracked pair.old)) steps.items replies.items (tracked_state NID.eq (tracked pair.new))) }
     ensures shown_run { let by = comparisons NID.Ord P.Ord V.PartialOrd V.ProgressPart V.Clone in
-        IfOk result (λ replies. IsTrackedShownRun by N.eq (tracked pair.old) steps.items replies.items (tracked pair.new)) }
+        IfOk result (λ replies.
+        IsTrackedShownRun by N.eq (tracked pair.old) steps.items replies.items
+        (tracked pair.new)) }
     ensures ready { IsReady NID.eq NID.cmp P.cmp V.part_of (tracked pair.new) }
-    ensures granted { IsCounted P.cmp V.part_of (has_quorum NID.eq) (state NID.eq (tracked pair.new).progress) (tracked pair.new).progress.granted }
+    ensures granted { IsCounted P.cmp V.part_of (has_quorum NID.eq)
+        (state NID.eq (tracked pair.new).progress) (tracked pair.new).progress.granted }
     ensures quorums { QuorumsKnowGranted NID.eq P.cmp V.part_of (tracked pair.new) }
     ensures changed_quorums { ChangedQuorumsKnowGranted NID.eq NID.cmp P.cmp V.part_of (tracked pair.new) }
     ensures err { OnErr result (tracked pair.new ≡ tracked pair.old) }

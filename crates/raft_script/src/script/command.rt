@@ -111,7 +111,8 @@ impl<'a> Words<'a> {
 
     /// The numbers of the list that the next word says.
     fn list(&mut self, alloc: Global) -> Result<BTreeSet<u64>, LineError>
-        ensures ok { IfOk result (λ set. Takes (IsListOf (contains nat_cmp set)) self.old self.new) }
+        ensures ok { IfOk result (λ set.
+            Takes (IsListOf (contains nat_cmp set)) self.old self.new) }
         ensures bad_line { IsErrOf result LineError.BadLine → Lacks IsList (left_in self.old) }
     {
         list(alloc, self.word()?)

@@ -36,7 +36,8 @@ impl Engine {
         configs: Vec<BTreeSet<u64>>,
         learners: BTreeSet<u64>,
     ) -> Result<(), AllocError>
-        ensures ok { OnOk result (IsSomeAnd (pair_of self.new) (IsStart (map (λ c. c.keys) configs.items) learners.keys default)) }
+        ensures ok { OnOk result (IsSomeAnd (pair_of self.new)
+            (IsStart (map (λ c. c.keys) configs.items) learners.keys default)) }
         ensures err { OnErr result (self.new ≡ self.old) }
     {
         let membership = Membership::new(configs, learners)?;
@@ -51,7 +52,8 @@ impl Engine {
         alloc: Global,
         step: ScriptStep,
     ) -> Result<Option<Reply<u64, u64>>, AllocError>
-        ensures ok { IfOk result (λ reply. AnswersStep (pair_of self.old) step reply (pair_of self.new)) }
+        ensures ok { IfOk result (λ reply.
+            AnswersStep (pair_of self.old) step reply (pair_of self.new)) }
         ensures err { OnErr result (shown_of self.new ≡ shown_of self.old) }
         ensures known { OnOk result (IfSome (shown_of self.new) GrantedIsKnown) }
     {

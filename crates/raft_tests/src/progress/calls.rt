@@ -1,7 +1,7 @@
 //! Each public call once, and values that hold more than their part.
 
 use super::{first_ids, made, replied, updated};
-use raft_progress::progress::{AnyStep, Progress, ProgressPart, Reply, VecProgress, replay_any};
+use raft_progress::{AnyStep, Progress, ProgressPart, Reply, VecProgress, replay_any};
 use std::alloc::{AllocError, Global};
 use std::test::Fail;
 

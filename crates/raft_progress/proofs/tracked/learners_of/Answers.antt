@@ -4,7 +4,7 @@ use Rattle.std.specs.Set.{is_member}
 use Rattle.std.proofs.lemmas.Iterator.{items_from_collect}
 use Rattle.std.proofs.lemmas.Iterator.Consumers.{YieldsList-from_first}
 use Rattle.std.proofs.lemmas.Result.{IfOk-weaker}
-use Rattle.raft_progress.proofs.progress.NewProgressLemmas.{IsDistinct-from_cmp}
+use Rattle.raft_progress.proofs.NewProgressLemmas.{IsDistinct-from_cmp}
 use Rattle.raft_progress.proofs.tracked.learners_of.Goals as goal
 
 pub returns : goal.returns

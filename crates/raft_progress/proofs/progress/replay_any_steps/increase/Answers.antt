@@ -4,7 +4,7 @@ use Rattle.raft_progress.specs.progress.Shown.{state}
 use Rattle.raft_progress.specs.progress.Steps.{IsIncreased, falls, stays}
 use Rattle.raft_progress.specs.progress.VecProgress.{shown}
 use Rattle.raft_progress.specs.declared.progress.steps.Reply.TheVariants.{Granted}
-use Rattle.raft_progress.proofs.progress.StepLemmas.{increased}
+use Rattle.raft_progress.proofs.StepLemmas.{increased}
 use Rattle.raft_progress.proofs.progress.replay_any_steps.increase.Goals as goal
 use Rattle.raft_progress.proofs.progress.replay_any_steps.increase.Goals.{else-not-is_not_greater-via-then-not-is_not_greater+else-would_fall, else-not-is_not_greater-via-else-not-is_not_greater}
 

@@ -8,8 +8,8 @@ use Rattle.raft_progress.specs.progress.VecProgress.{shown}
 use Rattle.std.proofs.lemmas.List.{append-nil, nil_from_length}
 use Rattle.raft_progress.specs.declared.progress.steps.AnyStep.{AnyStep}
 use Rattle.raft_progress.specs.declared.progress.steps.Reply.{Reply}
-use Rattle.raft_progress.proofs.progress.RunLemmas.{run_more, run_seen}
-use Rattle.raft_progress.proofs.progress.Traits.{compared}
+use Rattle.raft_progress.proofs.RunLemmas.{run_more, run_seen}
+use Rattle.raft_progress.proofs.Traits.{compared}
 use Rattle.raft_progress.proofs.progress.replay_any_steps.replay_any.Goals as goal
 
 pub loop-step-preserved : goal.loop-step-preserved

@@ -1,7 +1,7 @@
 use Rattle.std.proofs.Common.{arith, ◌≡◌, ◌+◌, ◌-◌, subst, sym, ◌∙◌, ℕ, ap}
 use Rattle.std.specs.List.{swap}
 use Rattle.raft_progress.specs.Inner.Rises.{Passed, RisesTo}
-use Rattle.raft_progress.proofs.progress.RisingLemmas.{passed_none, passed_more, rises_stop, rises_front}
+use Rattle.raft_progress.proofs.RisingLemmas.{passed_none, passed_more, rises_stop, rises_front}
 use Rattle.raft_progress.proofs.progress.rise.move_up.Goals as goal
 
 pub loop-at-init : goal.loop-at-init

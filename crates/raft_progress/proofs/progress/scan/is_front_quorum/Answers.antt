@@ -2,7 +2,7 @@ use Rattle.std.proofs.Common.{arith, ◌≡◌, ap, ◌∙◌, sym, subst, take}
 use Rattle.std.specs.List.{IsDistinct}
 use Rattle.std.specs.Map.{keys_of}
 use Rattle.std.specs.Set.{is_member}
-use Rattle.raft_progress.proofs.progress.UpdateLemmas.{IsDistinct-voters}
+use Rattle.raft_progress.proofs.UpdateLemmas.{IsDistinct-voters}
 use Rattle.raft_progress.proofs.progress.scan.is_front_quorum.Goals as goal
 
 pub returns : goal.returns

@@ -4,8 +4,8 @@ use Rattle.raft_progress.specs.progress.NewProgress.{IsFirstWalk, IsNew, Learner
 use Rattle.raft_progress.specs.progress.Shown.{state}
 use Rattle.raft_progress.specs.tracked.TrackedState.{is_voter}
 use Rattle.raft_progress.specs.progress.VecProgress.{shown}
-use Rattle.raft_progress.proofs.tracked.TrackedLemmas.{learners_of_fit, ready_upgraded}
-use Rattle.raft_progress.proofs.progress.UpgradeLemmas.{upgraded_none}
+use Rattle.raft_progress.proofs.TrackedLemmas.{learners_of_fit, ready_upgraded}
+use Rattle.raft_progress.proofs.UpgradeLemmas.{upgraded_none}
 use Rattle.raft_progress.proofs.tracked.Tracked.new.Goals as goal
 
 pub new-requires-clause-learners_fit : goal.new-requires-clause-learners_fit

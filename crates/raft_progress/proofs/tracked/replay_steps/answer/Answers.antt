@@ -3,7 +3,7 @@ use Rattle.std.proofs.Common.{refl}
 use Rattle.raft_progress.specs.progress.ShownSteps.{IsIncreasedTo, IsUpdatedTo}
 use Rattle.raft_progress.specs.tracked.Tracked.{tracked}
 use Rattle.raft_progress.specs.progress.VecProgress.{shown}
-use Rattle.raft_progress.proofs.tracked.ReadyLemmas.{answered_pair, ready_increased, ready_of, ready_written}
+use Rattle.raft_progress.proofs.ReadyLemmas.{answered_pair, ready_increased, ready_of, ready_written}
 use Rattle.raft_progress.proofs.tracked.replay_steps.answer.Goals as goal
 
 pub write-requires : goal.write-requires

@@ -1,4 +1,4 @@
-use Rattle.raft_progress.proofs.tracked.ChangeLemmas.{changed_step}
+use Rattle.raft_progress.proofs.ChangeLemmas.{changed_step}
 use Rattle.raft_progress.specs.tracked.Tracked.{tracked}
 use Rattle.raft_progress.specs.tracked.TrackedState.{tracked_state}
 use Rattle.raft_progress.proofs.tracked.replay_steps.change_members.Goals as goal

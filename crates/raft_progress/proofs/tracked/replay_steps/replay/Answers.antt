@@ -8,10 +8,10 @@ use Rattle.raft_progress.specs.tracked.TrackedState.{tracked_state}
 use Rattle.raft_progress.specs.tracked.TrackedSteps.{IsSamePair, IsTrackedStep}
 use Rattle.raft_progress.specs.declared.progress.steps.Reply.{Reply}
 use Rattle.raft_progress.specs.declared.tracked.step.Step.{Step}
-use Rattle.raft_progress.proofs.tracked.HeadlineLemmas.{each_quorum_knows}
-use Rattle.raft_progress.proofs.tracked.ReadyLemmas.{ready_of}
-use Rattle.raft_progress.proofs.progress.RunLemmas.{run_more, run_seen}
-use Rattle.raft_progress.proofs.progress.Traits.{compared}
+use Rattle.raft_progress.proofs.HeadlineLemmas.{each_quorum_knows}
+use Rattle.raft_progress.proofs.ReadyLemmas.{ready_of}
+use Rattle.raft_progress.proofs.RunLemmas.{run_more, run_seen}
+use Rattle.raft_progress.proofs.Traits.{compared}
 use Rattle.raft_progress.proofs.tracked.replay_steps.replay.Goals as goal
 
 pub returns-in_err-replies-clause-ready : goal.returns-in_err-replies-clause-ready

@@ -9,8 +9,8 @@ use Rattle.raft_progress.specs.progress.Upgrade.{CanUpgrade, IsLeastBelow, IsUpg
 use Rattle.raft_progress.specs.progress.VecProgress.{shown}
 use Rattle.raft_progress.specs.tracked.Tracked.{tracked}
 use Rattle.raft_progress.specs.progress.UpgradeFold.{IsUpgradeFold}
-use Rattle.raft_progress.proofs.tracked.ReadyLemmas.{ready_of}
-use Rattle.raft_progress.proofs.tracked.TrackedLemmas.{learners_of_fit, ready_upgraded}
+use Rattle.raft_progress.proofs.ReadyLemmas.{ready_of}
+use Rattle.raft_progress.proofs.TrackedLemmas.{learners_of_fit, ready_upgraded}
 use Rattle.raft_progress.proofs.tracked.replay_steps.take_over.Goals as goal
 
 pub upgrade_quorum_set-requires-clause-learners_fit : goal.upgrade_quorum_set-requires-clause-learners_fit

@@ -2,9 +2,9 @@ use Rattle.std.proofs.Common.{arith, sym, ap, ◌∙◌, refl, subst, ◌≡◌,
 use Rattle.std.specs.Option.{is_some}
 use Rattle.std.specs.List.{IsDistinct}
 use Rattle.std.proofs.lemmas.Option.{get_or_from_slice_get}
-use Rattle.raft_progress.proofs.progress.WalkLemmas.{lookup_absent, no_value}
-use Rattle.raft_progress.proofs.progress.UpdateLemmas.{was, wrote, same_keys}
-use Rattle.raft_progress.proofs.progress.OutcomeLemmas.{outcome}
+use Rattle.raft_progress.proofs.WalkLemmas.{lookup_absent, no_value}
+use Rattle.raft_progress.proofs.UpdateLemmas.{was, wrote, same_keys}
+use Rattle.raft_progress.proofs.OutcomeLemmas.{outcome}
 use Rattle.raft_progress.specs.progress.Updated.{IsSettled}
 use Rattle.raft_progress.specs.progress.VecProgress.{shown}
 use Rattle.raft_progress.proofs.progress.vec_progress.VecProgress.apply.Goals as goal

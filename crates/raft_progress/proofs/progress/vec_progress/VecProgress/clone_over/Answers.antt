@@ -1,6 +1,6 @@
 use Rattle.std.proofs.Common.{List, ◌≡◌, ◌≤◌, ◌∙◌, ap, length, refl, rules, subst, sym}
 use Rattle.std.specs.List.{AllZip}
-use Rattle.raft_progress.proofs.progress.CloneLemmas.{same_length}
+use Rattle.raft_progress.proofs.CloneLemmas.{same_length}
 use Rattle.raft_progress.proofs.progress.vec_progress.VecProgress.clone_over.Goals as goal
 
 pub returns : goal.returns

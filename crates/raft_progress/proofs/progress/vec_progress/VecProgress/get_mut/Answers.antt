@@ -1,5 +1,5 @@
 use Rattle.std.proofs.Common.{sym, ap, ◌∙◌, refl, Some, set, List}
-use Rattle.raft_progress.proofs.progress.WalkLemmas.{lookup_found, lookup_absent, set_found}
+use Rattle.raft_progress.proofs.WalkLemmas.{lookup_found, lookup_absent, set_found}
 use Rattle.raft_progress.specs.progress.VecProgress.{shown}
 use Rattle.raft_progress.proofs.progress.vec_progress.VecProgress.get_mut.Goals as goal
 

@@ -2,7 +2,7 @@ use Rattle.std.proofs.Common.{arith, sym, ap, ◌∙◌, subst, ◌≡◌, ◌<�
 use Rattle.std.specs.Map.{lookup}
 use Rattle.std.proofs.lemmas.List.{take_more}
 use Rattle.raft_progress.specs.Inner.Tests.{IsLeastPassing, among, is_value_below}
-use Rattle.raft_progress.proofs.progress.BelowLemmas.{least_falls, least_holds, least_stays}
+use Rattle.raft_progress.proofs.BelowLemmas.{least_falls, least_holds, least_stays}
 use Rattle.raft_progress.proofs.progress.vec_progress.VecProgress.least_of.Goals as goal
 use Rattle.raft_progress.proofs.progress.vec_progress.VecProgress.least_of.Goals.{then-is_below+then-is_before, else-is_below, else-is_below-via-then-is_below+else-is_before, else-is_below-via-else-is_below}
 

@@ -1,5 +1,5 @@
 use Rattle.std.proofs.Common.{ap, sym, ◌∙◌, ◌++◌}
-use Rattle.raft_progress.proofs.progress.NewProgressLemmas.{IsDistinct-from_cmp, all_placed, fresh_is_new, fresh_in_order, keys_placed, voters_within}
+use Rattle.raft_progress.proofs.NewProgressLemmas.{IsDistinct-from_cmp, all_placed, fresh_is_new, fresh_in_order, keys_placed, voters_within}
 use Rattle.raft_progress.proofs.progress.vec_progress.VecProgress.new.Goals as goal
 
 pub returns-clause-made : goal.returns-clause-made

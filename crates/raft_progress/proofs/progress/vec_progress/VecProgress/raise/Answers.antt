@@ -1,7 +1,7 @@
 use Rattle.std.proofs.Common.{refl, sym, ◌∙◌, subst, List, true≢false}
 use Rattle.std.specs.List.{IsDistinct}
 use Rattle.std.specs.Map.{keys_of}
-use Rattle.raft_progress.proofs.progress.MovedLemmas.{distinct_moved}
+use Rattle.raft_progress.proofs.MovedLemmas.{distinct_moved}
 use Rattle.raft_progress.proofs.progress.vec_progress.VecProgress.raise.Goals as goal
 
 pub scan-requires : goal.scan-requires

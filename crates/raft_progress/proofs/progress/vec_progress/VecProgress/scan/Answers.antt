@@ -3,8 +3,8 @@ use Rattle.std.proofs.lemmas.List.{length-take}
 use Rattle.std.proofs.lemmas.List.Sums.{prefix_len-le-length}
 use Rattle.raft_progress.specs.Inner.Counts.{exceeds}
 use Rattle.raft_progress.specs.Inner.Rises.{IsLeastFront}
-use Rattle.raft_progress.proofs.progress.UpdateLemmas.{IsDistinct-voters}
-use Rattle.raft_progress.proofs.progress.SettledLemmas.{get_take}
+use Rattle.raft_progress.proofs.UpdateLemmas.{IsDistinct-voters}
+use Rattle.raft_progress.proofs.SettledLemmas.{get_take}
 use Rattle.raft_progress.proofs.progress.vec_progress.VecProgress.scan.Goals as goal
 
 length_take_le : {X : Type 0} (xs : List X) (n : ℕ) → length (take n xs) ≤ n

@@ -20,8 +20,10 @@ use Rattle.raft_progress.specs.progress.CountedValue.{AtMost, has_part, reached}
 use Rattle.raft_progress.specs.progress.InOrder.{IsInOrder}
 use Rattle.raft_progress.specs.progress.Shown.{Shown, state}
 use Rattle.raft_progress.specs.tracked.TrackedState.{IsReady, TrackedShown, has_quorum}
-use Rattle.raft_progress.proofs.progress.RecountLemmas.{AtMost-from_not_lt, AtMost-trans}
-use Rattle.raft_progress.proofs.progress.UpdateLemmas.{lookup_alike}
+use Rattle.raft_progress.proofs.RecountLemmas.{AtMost-from_not_lt, AtMost-trans}
+use Rattle.raft_progress.proofs.UpdateLemmas.{lookup_alike}
+use Rattle.raft_progress.proofs.ListLemmas.{both}
+use Rattle.raft_members.proofs.CallerLemmas.{is_member-alike}
 
 -- a member of the first keys has a value
 has_value : {K V : Type 0} (eq : K → K → Bool) (n : ℕ) (walk : List (K × V)) (x : K) → is_member eq (take n (keys_of walk)) x ≡ true → (v : V) × (lookup (eq x) walk ≡ Some v)
@@ -33,16 +35,12 @@ has_value {K} {V} eq (suc n) (e ∷ es) x h = by (eq x e.0) h (has_value eq n es
     by true m r = (e.1, refl)
     by false m r = r m
 
-member_alike : {K : Type 0} {eq : K → K → Bool} (laws : IsEquivalence eq) (ks : List K) (x y : K) → eq x y ≡ true → is_member eq ks x ≡ is_member eq ks y
-member_alike laws [] x y e = refl
-member_alike laws (k ∷ ks) x y e = rw (laws.congr x y k e, member_alike laws ks x y e) refl
-
 module _ {K V P QS : Type 0} {eq : K → K → Bool} (laws : IsEquivalence eq) {cmp : P → P → Ordering} (o : IsTotalOrder cmp) (part : V → P) (has_quorum : QS → (K → Bool) → Bool) (p : Shown K V P QS) (superset : (s t : K → Bool) → ((x : K) → s x ≡ true → t x ≡ true) → has_quorum p.quorum_set s ≡ true → has_quorum p.quorum_set t ≡ true) (r : IsInOrder eq cmp part has_quorum p) where
   abbrev knows : K → Bool
   knows id = has_part cmp part p.granted ((state eq p).value id)
 
   pub knows_alike : RespectsEquality eq (λ id. (state eq p).is_voter id && knows id)
-  knows_alike x y e = λ i. member_alike laws (take p.voter_count (keys_of p.walk)) x y e i && has_part cmp part p.granted (lookup_alike laws x y e p.walk i)
+  knows_alike x y e = λ i. is_member-alike laws x y e (take p.voter_count (keys_of p.walk)) i && has_part cmp part p.granted (lookup_alike laws x y e p.walk i)
 
   back : (a b : P) → cmp a b ≡ Equal → AtMost cmp b a
   back a b e = AtMost-from_not_lt o a b (ap is_lt e)
@@ -59,9 +57,6 @@ module _ {K V P QS : Type 0} {eq : K → K → Bool} (laws : IsEquivalence eq) {
         | inr w ↦ inl (superset (reached cmp part (state eq p) (part w.1)) (λ id. (state eq p).is_voter id && knows id) (λ x h. both _ _ (first_so _ _ h) (more (part w.1) (back (part w.1) p.granted w.3) ((state eq p).value x) (second_so ((state eq p).is_voter x) _ h))) w.2.quorum)
       ]
     where
-      both : (a b : Bool) → a ≡ true → b ≡ true → (a && b) ≡ true
-      both a b h k = λ i. h i && k i
-
       all : cmp p.default_part p.granted ≡ Equal → (id : K) → (state eq p).is_voter id ≡ true → knows id ≡ true
       all e id v =
           let at = has_value eq p.voter_count p.walk id v in

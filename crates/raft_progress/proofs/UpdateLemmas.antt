@@ -9,7 +9,7 @@ use Rattle.std.proofs.lemmas.Option.{get_or_from_slice_get}
 use Rattle.std.proofs.lemmas.Map.{lookup-set_value, keys-set_value}
 use Rattle.raft_progress.specs.progress.ProgressState.{Writes}
 use Rattle.raft_progress.specs.progress.Walk.{state_of}
-use Rattle.raft_progress.proofs.progress.WalkLemmas.{lookup_found, set_found}
+use Rattle.raft_progress.proofs.WalkLemmas.{lookup_found, set_found}
 
 module _ {ID : Type 0} {eq : ID → ID → Bool} (laws : IsEquivalence eq) where
   all_take : (k : ID) (n : ℕ) (ks : List ID) → AllByRecursion (λ y. eq k y ≡ false) ks → AllByRecursion (λ y. eq k y ≡ false) (take n ks)

@@ -4,9 +4,9 @@ use Rattle.std.specs.Map.{keys_of, lookup}
 use Rattle.std.specs.Set.{is_member}
 use Rattle.std.proofs.Common.{arith, refl, get_or, ltb, ltb-true, ltb-false}
 use Rattle.std.proofs.lemmas.List.Quantifiers.{position-Some}
-use Rattle.raft_progress.proofs.progress.SettledLemmas.{none_before}
-use Rattle.raft_progress.proofs.progress.OutcomeLemmas.{some_before}
-use Rattle.raft_progress.proofs.progress.WalkLemmas.{lookup_found}
+use Rattle.raft_progress.proofs.SettledLemmas.{none_before}
+use Rattle.raft_progress.proofs.OutcomeLemmas.{some_before}
+use Rattle.raft_progress.proofs.WalkLemmas.{lookup_found}
 
 module _ {ID V : Type 0} (eq : ID → ID → Bool) (id : ID) (n i : ℕ) where
   at_some : (walk : List (ID × V)) → position (λ (f : ID × V). eq id f.0) walk ≡ Some i → ID × V

@@ -14,10 +14,10 @@ use Rattle.raft_progress.specs.progress.ProgressState.{ProgressState}
 use Rattle.raft_progress.specs.progress.Walk.{IsFalling}
 use Rattle.raft_progress.specs.Inner.Counts.{at_least}
 use Rattle.raft_progress.specs.Inner.Tests.{ids_differ, never_rises}
-use Rattle.raft_progress.proofs.progress.RecountLemmas.{AtMost-trans, AtMost-from_not_lt}
-use Rattle.raft_progress.proofs.progress.CountedValueLemmas.{not_both}
-use Rattle.raft_progress.proofs.progress.FallingLemmas.{lt_le}
-use Rattle.raft_progress.proofs.progress.CountedAfreshLemmas.{found, members, voter_value}
+use Rattle.raft_progress.proofs.RecountLemmas.{AtMost-trans, AtMost-from_not_lt}
+use Rattle.raft_progress.proofs.CountedValueLemmas.{not_both}
+use Rattle.raft_progress.proofs.FallingLemmas.{lt_le}
+use Rattle.raft_progress.proofs.CountedAfreshLemmas.{found, members, voter_value}
 
 if_false : (a b : Bool) → (if a then false else b) ≡ true → (a ≡ false) × (b ≡ true)
 if_false true b h = absurd (true≢false (sym h))

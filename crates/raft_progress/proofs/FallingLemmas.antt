@@ -10,7 +10,8 @@ use Rattle.std.proofs.Common.{arith, sym, ap, refl, ◌∙◌, true≢false, suc
 use Rattle.raft_progress.specs.progress.CountedValue.{AtMost}
 use Rattle.raft_progress.specs.progress.Walk.{LastAtLeast}
 use Rattle.raft_progress.specs.progress.Walk.{IsFalling}
-use Rattle.raft_progress.proofs.progress.RecountLemmas.{AtMost-trans, AtMost-from_lt}
+use Rattle.raft_progress.proofs.RecountLemmas.{AtMost-trans, AtMost-from_lt}
+use Rattle.raft_progress.proofs.ListLemmas.{all_weaker}
 
 pub nothing_kept : {X : Type 0} (p : X → Bool) (xs : List X) → AllByRecursion (λ x. p x ≡ false) xs → filter p xs ≡ []
 nothing_kept p [] a = refl
@@ -20,10 +21,6 @@ pub all_get : {X : Type 0} (R : X → Type 0) (xs : List X) (i : ℕ) (d : X) �
 all_get R [] i d l a = absurd (omega arith)
 all_get R (x ∷ xs) zero d l a = a.0
 all_get R (x ∷ xs) (suc i) d l a = all_get R xs i d (omega arith) a.1
-
-pub all_weaker : {X : Type 0} (P Q : X → Type 0) → ((x : X) → P x → Q x) → (xs : List X) → AllByRecursion P xs → AllByRecursion Q xs
-all_weaker P Q h [] a = tt
-all_weaker P Q h (x ∷ xs) a = (h x a.0, all_weaker P Q h xs a.1)
 
 -- all of two lists
 pub all_first : {X : Type 0} (P : X → Type 0) (xs ys : List X) → AllByRecursion P (xs ++ ys) → AllByRecursion P xs

@@ -15,8 +15,9 @@ use Rattle.raft_progress.specs.progress.InOrder.{IsWalkInOrder}
 use Rattle.raft_progress.specs.Inner.Placed.{IsPlaced}
 use Rattle.raft_progress.specs.progress.NewProgress.{IsNew, LearnersFit}
 use Rattle.raft_progress.specs.progress.Walk.{IsFalling, state_of}
-use Rattle.raft_progress.proofs.progress.RecountLemmas.{AtMost-refl}
-use Rattle.raft_progress.proofs.progress.WalkLemmas.{no_value}
+use Rattle.raft_progress.proofs.RecountLemmas.{AtMost-refl}
+use Rattle.raft_progress.proofs.WalkLemmas.{no_value}
+use Rattle.raft_progress.proofs.ListLemmas.{or_right}
 
 -- distinct by the type's own `==`
 pub IsDistinct-from_cmp : {K : Type 0} {eq : K → K → Bool} (cmp : K → K → Ordering) → ((x y : K) → eq x y ≡ eq_by_cmp cmp x y) → (ks : List K) → IsStrictlySortedBy cmp ks → IsDistinct eq ks
@@ -89,10 +90,6 @@ module _ {ID : Type 0} {eq : ID → ID → Bool} (laws : IsEquivalence eq) where
   all_from_members : (k : ID) (ls : List ID) → ((y : ID) → is_member eq ls y ≡ true → eq k y ≡ false) → AllByRecursion (λ y. eq k y ≡ false) ls
   all_from_members k [] h = tt
   all_from_members k (l ∷ ls) h = (h l (ap (λ b. b || is_member eq ls l) (laws.refl l)), all_from_members k ls (λ y m. h y (or_right (eq y l) (is_member eq ls y) m)))
-    where
-      or_right : (b c : Bool) → c ≡ true → (b || c) ≡ true
-      or_right true c e = refl
-      or_right false c e = e
 
   IsDistinct-append : (ks ls : List ID) → IsDistinct eq ks → IsDistinct eq ls → ((y : ID) → is_member eq ls y ≡ true → is_member eq ks y ≡ false) → IsDistinct eq (ks ++ ls)
   unfolding IsDistinct

@@ -20,10 +20,12 @@ use Rattle.raft_progress.specs.progress.ProgressState.{Writes}
 use Rattle.raft_progress.specs.progress.Shown.{Shown, state}
 use Rattle.raft_progress.specs.progress.Statistics.{counted_up}
 use Rattle.raft_progress.specs.progress.Walk.{IsRisen, state_of}
-use Rattle.raft_progress.proofs.progress.RecountLemmas.{AtMost-from_not_lt}
-use Rattle.raft_progress.proofs.progress.MovedLemmas.{is_risen}
-use Rattle.raft_progress.proofs.progress.SettledLemmas as settles
-use Rattle.raft_progress.proofs.progress.UpdateLemmas.{same_keys, lookup_written, writes}
+use Rattle.raft_progress.proofs.RecountLemmas.{AtMost-from_not_lt}
+use Rattle.raft_progress.proofs.MovedLemmas.{is_risen}
+use Rattle.raft_progress.proofs.SettledLemmas as settles
+use Rattle.raft_progress.proofs.UpdateLemmas.{same_keys, lookup_written, writes}
+use Rattle.raft_progress.proofs.ListLemmas.{of_both}
+use Rattle.raft_progress.proofs.StatisticsLemmas.{counted_none}
 
 -- an id's value went from v to w; the walk was ws, and mid has it written
 pub record Outcome {ID V P QS : Type 0} (eq : ID → ID → Bool) (cmp : P → P → Ordering) (part : V → P) (has_quorum : QS → (ID → Bool) → Bool) (mid : Shown ID V P QS) (ws : List (ID × V)) (id : ID) (v w : V) (new : Shown ID V P QS) : Type 0 where
@@ -48,13 +50,6 @@ some_before eq (e ∷ es) (suc n) (suc i) d l m h = rw (some_before eq es n i d 
     or_true : (b : Bool) → (b || true) ≡ true
     or_true true = refl
     or_true false = refl
-
-and_both : (b c : Bool) → (b && c) ≡ true → (b ≡ true) × (c ≡ true)
-and_both true c e = (refl, e)
-and_both false c e = absurd (true≢false (sym e))
-
-none_counted : (old : ℕ) → old < 2 ^ 64 → old ≡ counted_up old 0
-none_counted old l = omega arith
 
 order_alike : {ID V P QS : Type 0} (eq : ID → ID → Bool) (cmp : P → P → Ordering) (part : V → P) (hq : QS → (ID → Bool) → Bool) (qs qs' : QS) (ws : List (ID × V)) (n n' : ℕ) (d d' g g' : P) → qs' ≡ qs → n' ≡ n → d' ≡ d → g' ≡ g → IsWalkInOrder eq cmp part hq qs ws n d g → IsWalkInOrder eq cmp part hq qs' ws n' d' g'
 order_alike {ID} {V} {P} {QS} eq cmp part hq qs qs' ws n n' d d' g g' a b c f r =
@@ -105,7 +100,7 @@ module _ {ID V P QS : Type 0} {eq : ID → ID → Bool} (laws : IsEquivalence eq
         rises = λ h. absurd (true≢false (sym h ∙ down));
         stays = λ h. (wrote, refl);
         tests = 0;
-        counts_tests = none_counted mid.stat.is_quorum_count fits;
+        counts_tests = counted_none mid.stat.is_quorum_count fits;
         at_most_voters = omega arith;
         tested_to_rise = λ h. absurd (true≢false (sym h ∙ ap is_lt (tied_itself o mid.granted)));
         not_tested = λ h. (refl, refl);
@@ -129,10 +124,10 @@ module _ {ID V P QS : Type 0} {eq : ID → ID → Bool} (laws : IsEquivalence eq
 
   module _ (rise : raises ≡ true) where
     voter : i < mid.voter_count
-    voter = ltb-true i mid.voter_count (sym member_is ∙ (and_both _ _ rise).0)
+    voter = ltb-true i mid.voter_count (sym member_is ∙ (of_both _ _ rise).0)
 
     high : is_lt (cmp mid.granted (part w)) ≡ true
-    high = (and_both _ _ (and_both _ _ rise).1).1
+    high = (of_both _ _ (of_both _ _ rise).1).1
 
     abbrev raised : IsRaised eq cmp part has_quorum mid i (is_le (cmp before mid.granted)) new
     raised = put.raised (sym raises_is ∙ rise)
@@ -175,7 +170,7 @@ module _ {ID V P QS : Type 0} {eq : ID → ID → Bool} (laws : IsEquivalence eq
           rises = λ h. (walk_risen, raised.moves);
           stays = λ h. absurd (true≢false (sym rise ∙ h));
           tests = 0;
-          counts_tests = raised.tests ∙ none_counted mid.stat.is_quorum_count fits;
+          counts_tests = raised.tests ∙ counted_none mid.stat.is_quorum_count fits;
           at_most_voters = omega arith;
           tested_to_rise = λ h. absurd (true≢false (sym h ∙ ap (λ (x : P). is_lt (cmp mid.granted x)) raised.granted ∙ ap is_lt (tied_itself o mid.granted)));
           not_tested = λ h. (refl, raised.granted);
@@ -221,7 +216,7 @@ module _ {ID V P QS : Type 0} {eq : ID → ID → Bool} (laws : IsEquivalence eq
             let l = length_take_le (m.walk) mid.voter_count in
             omega arith;
         tested_to_rise = tested s.found refl;
-        not_tested = λ h. absurd (true≢false (sym (passed (and_both _ _ rise).0 (ap (λ (x : P). is_le (cmp x mid.granted)) (sym before_is) ∙ t) high) ∙ h));
+        not_tested = λ h. absurd (true≢false (sym (passed (of_both _ _ rise).0 (ap (λ (x : P). is_le (cmp x mid.granted)) (sym before_is) ∙ t) high) ∙ h));
       }
         where
           length_take_le : (xs : List (ID × V)) (n : ℕ) → length (take n xs) ≤ n

@@ -9,9 +9,10 @@ use Rattle.std.specs.Map.{keys_of, lookup}
 use Rattle.std.specs.Set.{is_member}
 use Rattle.std.proofs.Common.{arith, sym, ap, refl, ◌∙◌, true≢false, suc, zero, get_or, append_assoc, length-append}
 use Rattle.std.proofs.lemmas.List.{append-nil}
-use Rattle.raft_progress.proofs.progress.RisingLemmas.{get_at}
+use Rattle.raft_progress.proofs.RisingLemmas.{get_at}
 use Rattle.raft_progress.specs.Inner.Rises.{RisesTo}
 use Rattle.raft_progress.specs.progress.Walk.{IsRisen, LastAtLeast, put_after_last, risen}
+use Rattle.raft_progress.proofs.ListLemmas.{or_right}
 
 pub take_add : {X : Type 0} (xs ys : List X) (k n : ℕ) → n ≡ length xs + k → take n (xs ++ ys) ≡ xs ++ take k ys
 take_add [] ys k n e = let z : n ≡ k = omega arith in ap (λ m. take m ys) z
@@ -95,10 +96,6 @@ module _ {ID V P : Type 0} {cmp : P → P → Ordering} (o : IsTotalOrder cmp) (
   any_last : (e : ID × V) (f : ID × V) (fs xs : List (ID × V)) → LastAtLeast cmp part (part e.1) (f ∷ fs) → list_any (λ h. is_le (cmp (part e.1) (part h.1))) ((f ∷ fs) ++ xs) ≡ true
   any_last e f [] xs l = rw l refl
   any_last e f (h ∷ hs) xs l = or_right (is_le (cmp (part e.1) (part f.1))) _ (any_last e h hs xs l)
-    where
-      or_right : (b c : Bool) → c ≡ true → (b || c) ≡ true
-      or_right true c q = refl
-      or_right false c q = q
 
   put_moved : (e : ID × V) (front xs : List (ID × V)) → LastAtLeast cmp part (part e.1) front → AllByRecursion (λ f. is_lt (cmp (part f.1) (part e.1)) ≡ true) xs → put_after_last cmp part e (front ++ xs) ≡ front ++ (e ∷ xs)
   put_moved e [] xs l a = put_first e xs a

@@ -18,11 +18,11 @@ use Rattle.raft_progress.specs.progress.Answered.{IsAnswered}
 use Rattle.raft_progress.specs.progress.Steps.{IsIncreased, IsWritten}
 use Rattle.raft_progress.specs.tracked.TrackedState.{Configs, IsReady, TrackedShown, has_quorum}
 use Rattle.raft_progress.specs.declared.progress.steps.Reply.{Reply}
-use Rattle.raft_progress.proofs.progress.CountedAfreshLemmas.{IsCounted-from_greatest}
-use Rattle.raft_progress.proofs.progress.InOrderLemmas.{counted_once, counted_tied, distinct_from_test, equal_from_test, falling_from_test, lowest_from_test, test_from_distinct, test_from_falling, test_from_lowest}
-use Rattle.raft_progress.proofs.progress.RecountLemmas.{AtMost-from_not_lt, greatest_keeps, greatest_none, greatest_rises}
-use Rattle.raft_progress.proofs.tracked.TrackedLemmas.{counts_increased, counts_written}
-use Rattle.raft_progress.proofs.progress.UpdateLemmas.{lookup_alike}
+use Rattle.raft_progress.proofs.CountedAfreshLemmas.{IsCounted-from_greatest}
+use Rattle.raft_progress.proofs.InOrderLemmas.{counted_once, counted_tied, distinct_from_test, equal_from_test, falling_from_test, lowest_from_test, test_from_distinct, test_from_falling, test_from_lowest}
+use Rattle.raft_progress.proofs.RecountLemmas.{AtMost-from_not_lt, greatest_keeps, greatest_none, greatest_rises}
+use Rattle.raft_progress.proofs.TrackedLemmas.{counts_increased, counts_written}
+use Rattle.raft_progress.proofs.UpdateLemmas.{lookup_alike}
 
 -- the item at a place
 item_at : {X : Type 0} (xs : List X) (i : ℕ) → i < length xs → (x : X) × (x ≡ get_or xs i x)

@@ -8,8 +8,8 @@ use Rattle.raft_progress.specs.progress.Statistics.{CountsGoOn}
 use Rattle.raft_progress.specs.progress.Updated.{IsUpdated}
 use Rattle.raft_progress.specs.progress.UpgradeFold.{BeginsAnew, IsFold, TakesOverEach}
 use Rattle.raft_progress.specs.declared.progress.stat.Stat.{Stat}
-use Rattle.raft_progress.proofs.progress.LearnersPlaceLemmas.{learners_first, learners_stay}
-use Rattle.raft_progress.proofs.progress.StatisticsLemmas.{counts_more}
+use Rattle.raft_progress.proofs.LearnersPlaceLemmas.{learners_first, learners_stay}
+use Rattle.raft_progress.proofs.StatisticsLemmas.{counts_more}
 
 module _ {ID V P QS : Type 0} (eq : ID → ID → Bool) (cmp : P → P → Ordering) (part : V → P) where
   -- an update is one by whatever follows of its value

@@ -12,7 +12,7 @@ use Rattle.raft_progress.specs.progress.Steps.{IsIncreased, IsWritten, falls, st
 use Rattle.raft_progress.specs.progress.Updated.{IsUpdated}
 use Rattle.raft_progress.specs.declared.progress.steps.Reply.{Reply}
 use Rattle.raft_progress.specs.declared.progress.steps.Reply.TheVariants.{Granted}
-use Rattle.raft_progress.proofs.progress.UpdateLemmas.{lookup_alike}
+use Rattle.raft_progress.proofs.UpdateLemmas.{lookup_alike}
 
 module _ {ID V P QS : Type 0} where
   -- what is the same everywhere is the same

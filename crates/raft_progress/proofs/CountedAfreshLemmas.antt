@@ -14,14 +14,7 @@ use Rattle.std.proofs.lemmas.List.Elements.{All-contains, All-take, All-from_rec
 use Rattle.raft_progress.specs.progress.CountedValue.{AtMost, IsCounted, has_part, reached}
 use Rattle.raft_progress.specs.Inner.Counts.{IsGreatest, at_least, reaches}
 use Rattle.raft_progress.specs.progress.Walk.{state_of}
-
-all_weaker : {X : Type 0} (P Q : X → Type 0) → ((x : X) → P x → Q x) → (xs : List X) → AllByRecursion P xs → AllByRecursion Q xs
-all_weaker P Q h [] a = tt
-all_weaker P Q h (x ∷ xs) a = (h x a.0, all_weaker P Q h xs a.1)
-
-or_true : (b c : Bool) → c ≡ true → (b || c) ≡ true
-or_true true c e = refl
-or_true false c e = e
+use Rattle.raft_progress.proofs.ListLemmas.{all_weaker, or_right}
 
 module _ {ID : Type 0} {eq : ID → ID → Bool} (laws : IsEquivalence eq) where
   -- a key that is apart from all keys is not among the first of them
@@ -50,7 +43,7 @@ module _ {ID : Type 0} {eq : ID → ID → Bool} (laws : IsEquivalence eq) where
   members [] (suc n) = tt
   members {V} (e ∷ es) (suc n) = (
     ap (λ b. b || is_member eq (take n (keys_of es)) e.0) (laws.refl e.0),
-    all_weaker _ (λ (f : ID × V). (eq f.0 e.0 || is_member eq (take n (keys_of es)) f.0) ≡ true) (λ f h. or_true _ _ h) (take n es) (members es n),
+    all_weaker _ (λ (f : ID × V). (eq f.0 e.0 || is_member eq (take n (keys_of es)) f.0) ≡ true) (λ f h. or_right _ _ h) (take n es) (members es n),
   )
 
   -- what holds of each voter's value holds of the value that is looked up at a voter's id

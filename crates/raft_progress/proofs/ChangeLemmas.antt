@@ -12,7 +12,7 @@ use Rattle.raft_progress.specs.tracked.TrackedState.{Configs, TrackedState}
 use Rattle.raft_progress.specs.tracked.TrackedSteps.{GoesOver, IsChanged}
 use Rattle.raft_progress.specs.declared.progress.steps.Reply.{Reply}
 use Rattle.raft_progress.specs.declared.progress.steps.Reply.TheVariants.{Granted, Unknown, WouldFall, Refused, BelowDefault, BadLearners, OutOfMemory}
-use Rattle.raft_progress.proofs.tracked.TrackedLemmas.{says_configs, says_learners}
+use Rattle.raft_progress.proofs.TrackedLemmas.{says_configs, says_learners}
 
 module _ {K N V P : Type 0} (eq : K → K → Bool) (id_cmp : K → K → Ordering) (same : N → N → Bool) (cmp : P → P → Ordering) (part : V → P) (IsClone : V → V → Type 0) where
   -- going over to what says the same

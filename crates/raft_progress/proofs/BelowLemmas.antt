@@ -10,10 +10,12 @@ use Rattle.std.specs.List.{AllByRecursion, list_any}
 use Rattle.std.proofs.Common.{sym, ap, refl, ◌∙◌, true≢false}
 use Rattle.raft_progress.specs.progress.Upgrade.{CanUpgrade, IsBelow, IsLeastBelow}
 use Rattle.raft_progress.specs.Inner.Tests.{IsLeastPassing, among, comes_before, is_value_below}
-use Rattle.raft_progress.proofs.progress.FallingLemmas.{all_both, all_weaker}
-use Rattle.raft_progress.proofs.progress.RecountLemmas.{AtMost-refl, AtMost-trans, AtMost-from_lt, AtMost-from_not_lt}
-use Rattle.raft_progress.proofs.progress.CountedValueLemmas.{not_both}
-use Rattle.raft_progress.proofs.progress.UpdateLemmas.{lookup_alike}
+use Rattle.raft_progress.proofs.FallingLemmas.{all_both}
+use Rattle.raft_progress.proofs.RecountLemmas.{AtMost-refl, AtMost-trans, AtMost-from_lt, AtMost-from_not_lt}
+use Rattle.raft_progress.proofs.CountedValueLemmas.{not_both}
+use Rattle.raft_progress.proofs.UpdateLemmas.{lookup_alike}
+use Rattle.raft_progress.proofs.ListLemmas.{all_weaker, both, member_flipped}
+use Rattle.raft_members.proofs.CallerLemmas.{is_member-alike}
 
 -- ---- one entry more
 
@@ -46,26 +48,18 @@ module _ {ID V : Type 0} {cmp : ID → ID → Ordering} (o : IsTotalOrder cmp) (
 -- ---- what the least one says
 
 module _ {ID V P : Type 0} {eq : ID → ID → Bool} (laws : IsEquivalence eq) (id_cmp : ID → ID → Ordering) (io : IsTotalOrder id_cmp) (ties : (x y : ID) → eq x y ≡ eq_by_cmp id_cmp x y) {cmp : P → P → Ordering} (o : IsTotalOrder cmp) (part : V → P) (is_voter : ID → Bool) (voters learners : List ID) (known : (x : ID) → is_member eq voters x ≡ is_voter x) (default : V) (walk : List (ID × V)) where
-  flipped : (xs : List ID) (k : ID) → list_any (λ y. eq y k) xs ≡ is_member eq xs k
-  flipped [] k = refl
-  flipped (x ∷ xs) k = rw (laws.symm x k, flipped xs k) refl
-
   abbrev is_inherited : ID → Bool
   is_inherited x = is_voter x || is_member eq learners x
 
   among_is : (x : ID) → among eq voters learners x ≡ is_inherited x
-  among_is x = rw (flipped voters x, flipped learners x, known x) refl
+  among_is x = rw (member_flipped laws voters x, member_flipped laws learners x, known x) refl
 
   -- whether an id is inherited and its value is below the default's part
   abbrev pub test : ID → Bool
   test x = among eq voters learners x && is_value_below cmp part (part default) (lookup (eq x) walk)
 
-  member_alike : (xs : List ID) (x y : ID) → eq x y ≡ true → is_member eq xs x ≡ is_member eq xs y
-  member_alike [] x y e = refl
-  member_alike (k ∷ ks) x y e = rw (laws.congr x y k e, member_alike ks x y e) refl
-
   test_alike : (x y : ID) → eq x y ≡ true → test x ≡ test y
-  test_alike x y e = rw (among_is x, among_is y, sym (known x), sym (known y), member_alike voters x y e, member_alike learners x y e, lookup_alike laws x y e walk) refl
+  test_alike x y e = rw (among_is x, among_is y, sym (known x), sym (known y), is_member-alike laws x y e voters, is_member-alike laws x y e learners, lookup_alike laws x y e walk) refl
 
   is_value : (x : ID) (v : V) → lookup (eq x) walk ≡ Some v → test x ≡ (is_inherited x && is_lt (cmp (part v) (part default)))
   is_value x v h = rw (among_is x, h) refl
@@ -81,9 +75,6 @@ module _ {ID V P : Type 0} {eq : ID → ID → Bool} (laws : IsEquivalence eq) (
       by : (b : Bool) → eq x e.0 ≡ b → Rattle.std.specs.Prelude.cond b (Some e.1) (lookup (eq x) es) ≡ Some v → (lookup (eq x) es ≡ Some v → (k : ID) × (eq x k ≡ true) × R k) → (k : ID) × (eq x k ≡ true) × R k
       by true t k r = (e.0, t, a.0)
       by false t k r = r k
-
-  both_true : (a b : Bool) → a ≡ true → b ≡ true → (a && b) ≡ true
-  both_true a b h k = λ i. h i && k i
 
   pub none_is_below : IsLeastPassing id_cmp test walk None → CanUpgrade eq cmp part is_voter learners default (λ x. lookup (eq x) walk)
   none_is_below a x v h i =
@@ -105,7 +96,7 @@ module _ {ID V P : Type 0} {eq : ID → ID → Bool} (laws : IsEquivalence eq) (
     is_below = value_there id (lookup (eq id) walk) refl a.0;
     least = λ x b.
         let k = entry_of {R = λ y. test y ≡ true → is_le (id_cmp id y) ≡ true} walk x b.value b.present a.1 in
-        let passes : test x ≡ true = is_value x b.value b.present ∙ both_true _ _ b.inherited b.below in
+        let passes : test x ≡ true = is_value x b.value b.present ∙ both _ _ b.inherited b.below in
         AtMost-trans io id k.0 x (k.2 (sym (test_alike x k.0 k.1) ∙ passes)) (tied_back x k.0 k.1);
   }
     where

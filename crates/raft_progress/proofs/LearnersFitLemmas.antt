@@ -6,12 +6,10 @@ use Rattle.std.specs.List.{IsDistinct, AllByRecursion, list_any}
 use Rattle.std.proofs.Common.{sym, ap, refl, ◌∙◌, true≢false}
 use Rattle.raft_progress.specs.Inner.Tests.{apart}
 use Rattle.raft_progress.specs.progress.NewProgress.{LearnersFit}
+use Rattle.raft_progress.proofs.ListLemmas.{member_flipped, or_right}
+use Rattle.raft_members.proofs.CallerLemmas.{is_member-alike}
 
 module _ {ID : Type 0} {eq : ID → ID → Bool} (laws : IsEquivalence eq) where
-  flipped : (xs : List ID) (k : ID) → list_any (λ y. eq y k) xs ≡ is_member eq xs k
-  flipped [] k = refl
-  flipped (x ∷ xs) k = rw (laws.symm x k, flipped xs k) refl
-
   none_alike : (xs : List ID) (k : ID) → list_any (λ y. eq y k) xs ≡ false → AllByRecursion (λ y. eq k y ≡ false) xs
   none_alike [] k h = tt
   none_alike (x ∷ xs) k h = by (eq x k) refl h (none_alike xs k)
@@ -23,10 +21,6 @@ module _ {ID : Type 0} {eq : ID → ID → Bool} (laws : IsEquivalence eq) where
   some_alike : (xs : List ID) (k : ID) → AllByRecursion (λ y. eq k y ≡ false) xs → list_any (λ y. eq y k) xs ≡ false
   some_alike [] k a = refl
   some_alike (x ∷ xs) k a = rw (laws.symm x k, a.0) (some_alike xs k a.1)
-
-  member_alike' : (xs : List ID) (x y : ID) → eq x y ≡ true → is_member eq xs x ≡ is_member eq xs y
-  member_alike' [] x y e = refl
-  member_alike' (k ∷ ks) x y e = rw (laws.congr x y k e, member_alike' ks x y e) refl
 
   pub apart_fits : (voters : List ID) (is_voter : ID → Bool) → ((x : ID) → is_member eq voters x ≡ is_voter x) → (learners : List ID) → apart eq voters learners ≡ true → LearnersFit eq is_voter learners
   unfolding IsDistinct
@@ -41,16 +35,12 @@ module _ {ID : Type 0} {eq : ID → ID → Bool} (laws : IsEquivalence eq) where
           record { distinct = (none_alike ks k t, f.distinct); no_voters = λ x m. at x m (eq x k) refl f.no_voters }
         where
           at : (x : ID) → (eq x k || is_member eq ks x) ≡ true → (c : Bool) → eq x k ≡ c → ((y : ID) → is_member eq ks y ≡ true → is_voter y ≡ false) → is_voter x ≡ false
-          at x m true s g = sym (v x) ∙ member_alike' voters x k s ∙ sym (flipped voters k) ∙ u
+          at x m true s g = sym (v x) ∙ is_member-alike laws x k s voters ∙ sym (member_flipped laws voters k) ∙ u
           at x m false s g = g x (sym (ap (λ c. c || is_member eq ks x) s) ∙ m)
 
   pub fits_apart : (voters : List ID) (is_voter : ID → Bool) → ((x : ID) → is_member eq voters x ≡ is_voter x) → (learners : List ID) → LearnersFit eq is_voter learners → apart eq voters learners ≡ true
   unfolding IsDistinct
   fits_apart voters is_voter v [] f = refl
   fits_apart voters is_voter v (k ∷ ks) f =
-      rw (some_alike ks k f.distinct.0, flipped voters k ∙ v k ∙ f.no_voters k (ap (λ b. b || is_member eq ks k) (laws.refl k)))
+      rw (some_alike ks k f.distinct.0, member_flipped laws voters k ∙ v k ∙ f.no_voters k (ap (λ b. b || is_member eq ks k) (laws.refl k)))
       (fits_apart voters is_voter v ks record { distinct = f.distinct.1; no_voters = λ x m. f.no_voters x (or_right (eq x k) (is_member eq ks x) m) })
-    where
-      or_right : (b c : Bool) → c ≡ true → (b || c) ≡ true
-      or_right true c e = refl
-      or_right false c e = e

@@ -16,13 +16,13 @@ use Rattle.raft_progress.specs.progress.InOrder.{IsWalkInOrder}
 use Rattle.raft_progress.specs.Inner.Counts.{exceeds, front_test}
 use Rattle.raft_progress.specs.Inner.Rises.{IsLeastFront, Passed, RisesTo}
 use Rattle.raft_progress.specs.progress.Walk.{IsFalling}
-use Rattle.raft_progress.proofs.progress.RecountLemmas.{AtMost-from_not_lt}
-use Rattle.raft_progress.proofs.progress.FallingLemmas.{falling_risen, falling_set, falling_weaker, lt_le}
-use Rattle.raft_progress.proofs.progress.FrontLemmas.{front_fails}
-use Rattle.raft_progress.proofs.progress.RisingLemmas.{get_at, set_at}
-use Rattle.raft_progress.proofs.progress.MovedLemmas.{take_add, take_within, distinct_moved, member_moved, lookup_moved}
-use Rattle.raft_progress.proofs.progress.CountedValueLemmas.{counted_still, counted_none, counted_front, not_below_still, lead_fails, in_lead, not_both}
-use Rattle.raft_progress.proofs.progress.UpdateLemmas.{keys_take}
+use Rattle.raft_progress.proofs.RecountLemmas.{AtMost-from_not_lt}
+use Rattle.raft_progress.proofs.FallingLemmas.{falling_risen, falling_set, falling_weaker, lt_le}
+use Rattle.raft_progress.proofs.FrontLemmas.{front_fails}
+use Rattle.raft_progress.proofs.RisingLemmas.{get_at, set_at}
+use Rattle.raft_progress.proofs.MovedLemmas.{take_add, take_within, distinct_moved, member_moved, lookup_moved}
+use Rattle.raft_progress.proofs.CountedValueLemmas.{counted_still, counted_none, counted_front, not_below_still, lead_fails, in_lead, not_both}
+use Rattle.raft_progress.proofs.UpdateLemmas.{keys_take}
 
 tied : {P : Type 0} {cmp : P → P → Ordering} (o : IsTotalOrder cmp) (a b : P) → AtMost cmp a b → AtMost cmp b a → cmp a b ≡ Equal
 tied {P} {cmp} o a b h k = by (cmp a b) refl

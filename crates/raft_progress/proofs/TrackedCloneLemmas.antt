@@ -12,8 +12,8 @@ use Rattle.raft_members.specs.Members.{node_at, same_members, same_nodes}
 use Rattle.raft_progress.specs.progress.Equal.{IsCloned}
 use Rattle.raft_progress.specs.progress.Shown.{Shown}
 use Rattle.raft_progress.specs.tracked.TrackedState.{Configs, HasSameConfigs, IsReady, TrackedShown, has_quorum}
-use Rattle.raft_progress.proofs.tracked.HeadlineLemmas.{list_all-mapped}
-use Rattle.raft_progress.proofs.progress.KeptLemmas.{order_alike, voters_alike}
+use Rattle.raft_progress.proofs.HeadlineLemmas.{list_all-mapped}
+use Rattle.raft_progress.proofs.KeptLemmas.{order_alike, voters_alike}
 
 module _ {ID V : Type 0} (IsClone : V → V → Type 0) where
   zip_keys : (es fs : List (ID × V)) → AllZip (λ d e. (e.0 ≡ d.0) × IsClone d.1 e.1) es fs → keys_of fs ≡ keys_of es

@@ -11,7 +11,7 @@ use Rattle.raft_progress.specs.declared.progress.stat.Stat.{Stat}
 counted_twice : (old a b : ℕ) → counted_up (counted_up old a) b ≡ counted_up old (a + b)
 counted_twice old a b = omega arith
 
-counted_none : (old : ℕ) → old < 2 ^ 64 → old ≡ counted_up old 0
+pub counted_none : (old : ℕ) → old < 2 ^ 64 → old ≡ counted_up old 0
 counted_none old l = omega arith
 
 one_more : (n v : ℕ) → (n + 1) * v ≡ n * v + v

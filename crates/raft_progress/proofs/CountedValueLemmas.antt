@@ -15,21 +15,19 @@ use Rattle.raft_progress.specs.progress.CountedValue.{AtMost, IsCounted, IsReach
 use Rattle.raft_progress.specs.Inner.Counts.{at_least, exceeds, front_test, reaches}
 use Rattle.raft_progress.specs.progress.ProgressState.{ProgressState}
 use Rattle.raft_progress.specs.progress.Walk.{IsFalling, state_of}
-use Rattle.raft_progress.proofs.progress.RecountLemmas.{AtMost-refl, AtMost-trans, AtMost-from_lt, AtMost-from_not_lt}
-use Rattle.raft_progress.proofs.progress.CountedAfreshLemmas.{absent, members, found, same_test, voter_value}
-use Rattle.raft_progress.proofs.progress.FallingLemmas.{filter_is_front, in_front, all_get, lt_le, le_lt}
-use Rattle.raft_progress.proofs.progress.FrontLemmas.{front_grows}
-use Rattle.raft_progress.proofs.progress.RisingLemmas.{split_at}
-use Rattle.raft_progress.proofs.progress.UpdateLemmas.{lookup_alike}
+use Rattle.raft_progress.proofs.RecountLemmas.{AtMost-refl, AtMost-trans, AtMost-from_lt, AtMost-from_not_lt}
+use Rattle.raft_progress.proofs.CountedAfreshLemmas.{absent, members, found, same_test, voter_value}
+use Rattle.raft_progress.proofs.FallingLemmas.{filter_is_front, in_front, all_get, lt_le, le_lt}
+use Rattle.raft_progress.proofs.FrontLemmas.{front_grows}
+use Rattle.raft_progress.proofs.RisingLemmas.{split_at}
+use Rattle.raft_progress.proofs.UpdateLemmas.{lookup_alike}
+use Rattle.raft_progress.proofs.ListLemmas.{of_both}
+use Rattle.raft_members.proofs.CallerLemmas.{is_member-alike}
 
 -- whether a value is there and passes
 abbrev pub has : {V : Type 0} → (V → Bool) → Option V → Bool
 has t None = false
 has t (Some v) = t v
-
-and_both : (b c : Bool) → (b && c) ≡ true → (b ≡ true) × (c ≡ true)
-and_both true c e = (refl, e)
-and_both false c e = absurd (true≢false (sym e))
 
 tied_le : (r : Ordering) → r ≡ Equal → is_le r ≡ true
 tied_le r e = ap is_le e
@@ -40,10 +38,6 @@ not_both {P} {cmp} o g p h k = true≢false (sym (le_lt o p g p k h) ∙ ap is_l
 above_one : {X : Type 0} (is_in : List X → Bool) → is_in [] ≡ false → (xs : List X) (m : ℕ) → is_in (take m xs) ≡ true → 1 ≤ m
 above_one is_in e xs zero h = absurd (true≢false (sym h ∙ e))
 above_one is_in e xs (suc m) h = omega arith
-
-member_alike : {ID : Type 0} {eq : ID → ID → Bool} → IsEquivalence eq → (ks : List ID) (x y : ID) → eq x y ≡ true → is_member eq ks x ≡ is_member eq ks y
-member_alike laws [] x y e = refl
-member_alike laws (k ∷ ks) x y e = rw (laws.congr x y k e, member_alike laws ks x y e) refl
 
 module _ {ID V : Type 0} {eq : ID → ID → Bool} (laws : IsEquivalence eq) where
   -- the kept ids are those of the voters whose value passes
@@ -161,7 +155,7 @@ module _ {ID V P QS : Type 0} {eq : ID → ID → Bool} (laws : IsEquivalence eq
         by false t = (u, written y ∙ ap (λ b. cond b (Some w) (lookup (eq y) walk)) t ∙ h, AtMost-refl o (part u))
 
     reached_up : (p p' : P) → AtMost cmp p' p → (y : ID) → reached cmp part (St walk) p y ≡ true → reached cmp part (St walk') p' y ≡ true
-    reached_up p p' l y h = by (lookup (eq y) walk) refl (and_both _ _ h)
+    reached_up p p' l y h = by (lookup (eq y) walk) refl (of_both _ _ h)
       where
         by : (u : Option V) → lookup (eq y) walk ≡ u → (is_member eq (take n (keys_of walk)) y ≡ true) × (has_part cmp part p (lookup (eq y) walk) ≡ true) → reached cmp part (St walk') p' y ≡ true
         by None t a = absurd (true≢false (sym (rw t at a.1)))
@@ -191,7 +185,7 @@ module _ {ID V P QS : Type 0} {eq : ID → ID → Bool} (laws : IsEquivalence eq
         by true false t h = rw (same_voters x, h) refl
         by true true t h =
             let at : lookup (eq x) walk ≡ Some v = sym (lookup_alike laws id x t walk) ∙ was in
-            rw (same_voters x, h, written x, t, at) (same (member_alike laws (take n (keys_of walk)) id x t ∙ h))
+            rw (same_voters x, h, written x, t, at) (same (is_member-alike laws id x t (take n (keys_of walk)) ∙ h))
 
     -- granted stays where no voter passes it
     pub counted_still : (g : P) → IsDistinct eq (keys_of walk) → IsFalling cmp part g (take n walk) → (is_member eq (take n (keys_of walk)) id ≡ true → is_lt (cmp g (part w)) ≡ is_lt (cmp g (part v))) → (is_member eq (take n (keys_of walk)) id ≡ true → cmp (part v) g ≡ Equal → cmp (part w) g ≡ Equal) → IsCounted cmp part has_quorum (St walk) g → IsCounted cmp part has_quorum (St walk') g
@@ -211,7 +205,7 @@ module _ {ID V P QS : Type 0} {eq : ID → ID → Bool} (laws : IsEquivalence eq
             by false q = (x, u, record { voter = same_voters x ∙ r.voter; value = written x ∙ ap (λ b. cond b (Some w) (lookup (eq x) walk)) q ∙ r.value; quorum = superset (reached cmp part (St walk) (part u)) (reached cmp part (St walk') (part u)) (reached_up (part u) (part u) (AtMost-refl o (part u))) r.quorum }, t)
             by true q =
                 let is : v ≡ u = let e = sym was ∙ lookup_alike laws id x q walk ∙ r.value in cc in
-                let t' : cmp (part w) g ≡ Equal = tie (member_alike laws (take n (keys_of walk)) id x q ∙ r.voter) (ap (λ y. cmp (part y) g) is ∙ t) in
+                let t' : cmp (part w) g ≡ Equal = tie (is_member-alike laws id x q (take n (keys_of walk)) ∙ r.voter) (ap (λ y. cmp (part y) g) is ∙ t) in
                 let less : AtMost cmp (part w) (part u) = tied_le _ (alike_right o (part u) g (part w) t ∙ t') in
                 (x, w, record { voter = same_voters x ∙ r.voter; value = written x ∙ ap (λ b. cond b (Some w) (lookup (eq x) walk)) q; quorum = superset (reached cmp part (St walk) (part u)) (reached cmp part (St walk') (part w)) (reached_up (part u) (part w) less) r.quorum }, t')
 

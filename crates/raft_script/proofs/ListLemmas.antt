@@ -9,6 +9,7 @@ use Rattle.std.proofs.Common.{refl, sym, ap, ◌∙◌, subst, get_or}
 use Rattle.std.proofs.lemmas.Bool.{true≢false}
 use Rattle.std.proofs.lemmas.List.Folds.{list_any-append}
 use Rattle.raft_script.specs.Word.{IsNumber, lists, parts}
+use Rattle.std.proofs.lemmas.Slice.Zip.{all_zipped_more}
 
 either_way : (a b : Bool) → cond a true b ≡ (b || (a || false))
 either_way true true = refl
@@ -24,17 +25,10 @@ one_more_number added n was now words word updated before is =
     ∙ either_way (digits_value 10 word == n) (list_any (λ part. digits_value 10 part == n) words)
     ∙ sym (list_any-append (λ part. digits_value 10 part == n) words (word ∷ []))
 
--- one more pair
-zip_more : {A B : Type 0} (R : A → B → Type 0) (xs : List A) (ys : List B) (x : A) (y : B) → AllZip R xs ys → R x y → AllZip R (xs ++ x ∷ []) (ys ++ y ∷ [])
-zip_more R [] [] x y all last = (last, tt)
-zip_more R (v ∷ vs) (w ∷ ws) x y all last = (all.0, zip_more R vs ws x y all.1 last)
-zip_more R [] (w ∷ ws) x y all last = absurd all
-zip_more R (v ∷ vs) [] x y all last = absurd all
-
 -- one more pair, where both lists are known by equations
 pub zip_pushed : {A B : Type 0} (R : A → B → Type 0) (xs new : List A) (ys more : List B) (x : A) (y : B) → new ≡ xs ++ x ∷ [] → more ≡ ys ++ y ∷ [] → AllZip R xs ys → R x y → AllZip R new more
 zip_pushed {A} R xs new ys more x y pushed read all last =
-    subst (λ (l : List A). AllZip R l more) (sym pushed) (subst (AllZip R (xs ++ x ∷ [])) (sym read) (zip_more R xs ys x y all last))
+    subst (λ (l : List A). AllZip R l more) (sym pushed) (subst (AllZip R (xs ++ x ∷ [])) (sym read) (all_zipped_more R xs ys x y all last))
 
 -- of a word that isn't a dash
 pub parts_of_other : (word : List ℕ) → false ≡ pointwise nat_eq word (codes "-") → parts word ≡ slice_split (λ byte. byte == 44) word

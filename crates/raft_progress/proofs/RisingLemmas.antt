@@ -11,7 +11,7 @@ use Rattle.std.specs.Cmp.{IsTotalOrder}
 use Rattle.raft_progress.specs.progress.CountedValue.{AtMost}
 use Rattle.raft_progress.specs.Inner.Rises.{Passed, RisesTo}
 use Rattle.raft_progress.specs.progress.Walk.{LastAtLeast}
-use Rattle.raft_progress.proofs.progress.RecountLemmas.{AtMost-from_not_lt}
+use Rattle.raft_progress.proofs.RecountLemmas.{AtMost-from_not_lt}
 
 pub get_at : {X : Type 0} (xs : List X) (x : X) (ys : List X) (d : X) → get_or (xs ++ x ∷ ys) (length xs) d ≡ x
 get_at [] x ys d = refl
