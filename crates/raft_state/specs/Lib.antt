@@ -4,4 +4,5 @@ pub mod LogReads
 pub mod LogEdits
 pub mod LogConditions
 pub mod Keys
+pub mod Entry
 pub mod Inner
