@@ -2,4 +2,5 @@
 
 mod calls;
 mod standard;
+mod texts;
 mod values;
