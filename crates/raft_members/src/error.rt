@@ -1,4 +1,5 @@
-//! Why a node refuses what it is asked for: a change of the membership, the start of a cluster, a log entry.
+//! Why a node refuses what it is asked for: a change of the membership, the start of a cluster, a
+//! log entry.
 ghost use Rattle.std.specs.Prelude.{◌≡◌};
 
 use raft_base::{CommittedLeaderId, LeaderAdv, LeaderKind, LogIdOf, NodeId, VoteIn};

@@ -2,6 +2,7 @@
 //! quorum of the voters has reached.
 
 mod conditions;
+mod display;
 mod part;
 mod recount;
 mod replay_any_steps;

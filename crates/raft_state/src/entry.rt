@@ -128,7 +128,10 @@ impl<C: Copy + fmt::Debug + fmt::Display, NID: NodeId, N: Node, D> RaftEntryOf<
     }
 
     fn new_membership(log_id: LogIdOf<C>, membership: Membership<NID, N>) -> Self
-        ensures { result ≡ record { log_id = log_id; payload = EntryPayload.Membership membership } }
+        ensures { result ≡ record {
+          log_id = log_id;
+          payload = EntryPayload.Membership membership;
+        } }
     {
         EntryOf {
             log_id,

@@ -1,7 +1,7 @@
 //! What a log entry offers, for entry types of a caller's own.
 //!
-//! The traits that end in `Of` are over any type of memberships and any leader ids. A type implements
-//! them, and has the others with them at `Membership<NID, N>` and `LogId<NID>`.
+//! The traits that end in `Of` are over any type of memberships and any leader ids. A type
+//! implements them, and has the others with them at `Membership<NID, N>` and `LogId<NID>`.
 ghost use Rattle.std.specs.Prelude.{◌≡◌, Bool, Some, true};
 ghost use Rattle.std.specs.declared.option.Option.{Option};
 ghost use Rattle.std.specs.Option.{option_copied};
