@@ -8,6 +8,7 @@ ghost use Rattle.raft_progress.specs.progress.VecProgress.{shown};
 mod callers;
 mod calls;
 mod counting;
+mod texts;
 mod tracked;
 
 use raft_members::quorum::QuorumSet;
