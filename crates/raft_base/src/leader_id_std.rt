@@ -5,6 +5,7 @@ ghost use Rattle.raft_base.specs.LeaderIdStd.{std_leader_cmp, voted_cmp};
 ghost use Rattle.raft_base.specs.LeaderIdStdLaws.{alike_above, alike_below, first_decides, term_not_above, term_then_voted-partial};
 ghost use Rattle.raft_base.specs.LeaderIdLaws.{apart};
 
+use crate::display_ext::DisplayOption;
 use crate::kind::{LeaderIdentity, LeaderKind};
 use crate::node::NodeId;
 use std::cmp::Ordering;
@@ -112,11 +113,9 @@ fn compare_voted<NID: NodeId>(a: Option<NID>, b: Option<NID>) -> Option<Ordering
 
 impl<NID: NodeId> fmt::Display for LeaderId<NID> {
     fn fmt<W: fmt::Write>(&self, f: &mut fmt::Formatter<W>) -> fmt::Result {
-        let term = self.term;
-        match self.voted_for {
-            Some(node_id) => write!(f, "T{term}-N{node_id}"),
-            None => write!(f, "T{term}"),
-        }
+        let LeaderId { term, voted_for } = self;
+        let voted_for = DisplayOption(voted_for);
+        write!(f, "T{term}-N{voted_for}")
     }
 }
 

@@ -11,6 +11,7 @@ pub mod log_id;
 pub mod node;
 pub mod order;
 pub mod server_state;
+pub mod summary;
 pub mod utime;
 pub mod vote;
 
@@ -23,7 +24,8 @@ pub use log_id::{
     Invalid, LogId, LogIdOf, LogIdOptionExt, LogIdRange, LogIdRangeOf, LogIndexOptionExt,
     LogStateReader, RaftLogId, RaftLogIdOf, Validate,
 };
-pub use node::{EmptyNode, Node, NodeDefault, NodeEssential, NodeId, NodeIdEssential};
+pub use node::{BasicNode, EmptyNode, Node, NodeDefault, NodeEssential, NodeId, NodeIdEssential};
 pub use server_state::ServerState;
+pub use summary::MessageSummary;
 pub use utime::UTime;
 pub use vote::{Vote, VoteIn, VoteOf};

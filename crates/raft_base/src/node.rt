@@ -1,5 +1,5 @@
 //! What identifies a node, and what is known of it.
-ghost use Rattle.std.specs.Prelude.{◌≡◌, true, IfOk, refl};
+ghost use Rattle.std.specs.Prelude.{◌≡◌, [], true, IfOk, IsOkAnd, refl, string_bytes};
 
 use std::alloc::{AllocError, Global};
 use std::fmt;
@@ -94,5 +94,43 @@ impl NodeDefault for EmptyNode {
 impl Display for EmptyNode {
     fn fmt<W: fmt::Write>(&self, f: &mut fmt::Formatter<W>) -> fmt::Result {
         f.write_str("{}")
+    }
+}
+
+/// A node of which its address is known.
+#[derive(Debug, Clone, PartialEq, Eq, Drop)]
+pub struct BasicNode {
+    /// Where the network reaches the node, in the network's own words.
+    pub addr: String,
+}
+
+impl BasicNode {
+    /// The node at an address.
+    pub fn new(alloc: Global, addr: &str) -> Result<Self, AllocError>
+        ensures { IfOk result (λ node. string_bytes node.addr ≡ addr.now) }
+    {
+        let addr = addr.to_string(alloc)?;
+        Ok(BasicNode { addr })
+    }
+}
+
+/// The default node has the empty address. It takes no memory.
+impl NodeDefault for BasicNode {
+    ghost is_default_node = { λ node. string_bytes node.addr ≡ [] };
+
+    fn default_node(alloc: Global) -> Result<BasicNode, AllocError>
+        ensures { IsOkAnd result (λ node. string_bytes node.addr ≡ []) }
+    {
+        Ok(BasicNode {
+            addr: String::new(alloc),
+        })
+    }
+
+    ghost one_default = { λ a b h k. rw (h, k) refl };
+}
+
+impl Display for BasicNode {
+    fn fmt<W: fmt::Write>(&self, f: &mut fmt::Formatter<W>) -> fmt::Result {
+        f.write_str(&self.addr)
     }
 }

@@ -12,6 +12,7 @@ pub mod SameChange
 pub mod Refusal
 pub mod Reached
 pub mod Defaults
+pub mod InitializeError
 pub mod Learners
 pub mod Stored
 pub mod StoredLaws

@@ -1,10 +1,12 @@
-//! Why a change of a membership is refused.
+//! Why a node refuses what it is asked for: a change of the membership, the start of a cluster, a
+//! log entry.
 ghost use Rattle.std.specs.Prelude.{◌≡◌};
 
-use raft_base::{CommittedLeaderId, LogIdOf, NodeId};
+use raft_base::{CommittedLeaderId, LeaderAdv, LeaderKind, LogIdOf, NodeId, VoteIn};
 use std::alloc::AllocError;
+use std::collections::BTreeSet;
 use std::fmt;
-use std::fmt::Debug;
+use std::fmt::{Debug, Display};
 use thiserror::Error;
 
 /// Why a change of a membership is refused.
@@ -103,5 +105,67 @@ impl<C: Ord + Copy + Default + Debug, NID: NodeId> From<AllocError>
 
     fn from(_refused: AllocError) -> Self {
         ChangeMembershipErrorOf::OutOfMemory
+    }
+}
+
+/// A log has no entry at an index: it is purged, or not written yet.
+#[derive(Clone, PartialEq, Eq, Drop, Error)]
+#[error("store has no log at: {index:?}, last purged: {last_purged_log_id:?}")]
+pub struct LackEntryOf<C: Ord + Copy + Default + Debug> {
+    /// The index, if the log says which.
+    pub index: Option<u64>,
+    /// The log id of the last entry that is purged.
+    pub last_purged_log_id: Option<LogIdOf<C>>,
+}
+
+/// A log has no entry at an index, with the default leader ids.
+pub type LackEntry<NID> = LackEntryOf<CommittedLeaderId<NID>>;
+
+// By hand, for the name that the type goes by.
+impl<C: Ord + Copy + Default + Debug> Debug for LackEntryOf<C> {
+    fn fmt<W: fmt::Write>(&self, f: &mut fmt::Formatter<W>) -> fmt::Result {
+        f.debug_struct("LackEntry")
+            .field("index", &self.index)
+            .field("last_purged_log_id", &self.last_purged_log_id)
+            .finish()
+    }
+}
+
+/// The nodes that answered are no quorum of the cluster.
+#[derive(Debug, Clone, PartialEq, Eq, Drop, Error)]
+#[error("not enough for a quorum, cluster: {cluster}, got: {got:?}")]
+pub struct QuorumNotEnough<NID: NodeId> {
+    /// The cluster's membership, as a text.
+    pub cluster: String,
+    /// The nodes that answered.
+    pub got: BTreeSet<NID>,
+}
+
+/// A node starts a new cluster only while it has no log and has not voted.
+#[derive(Clone, PartialEq, Eq, Drop, Error)]
+#[error("not allowed to initialize due to current raft state: last_log_id: {last_log_id:?} vote: {vote}")]
+pub struct NotAllowedIn<L: Eq + Copy + Debug + Display, C: Ord + Copy + Default + Debug> {
+    /// The log id of the node's last log entry.
+    pub last_log_id: Option<LogIdOf<C>>,
+    /// The node's vote.
+    pub vote: VoteIn<L>,
+}
+
+/// A node may not start a new cluster, over a kind of leader ids.
+pub type NotAllowedOf<NID, K> = NotAllowedIn<
+    <K as LeaderKind<NID>>::Leader,
+    <K as LeaderKind<NID>>::Committed,
+>;
+
+/// A node may not start a new cluster, with the default leader ids.
+pub type NotAllowed<NID> = NotAllowedOf<NID, LeaderAdv>;
+
+// By hand, for the name that the type goes by.
+impl<L: Eq + Copy + Debug + Display, C: Ord + Copy + Default + Debug> Debug for NotAllowedIn<L, C> {
+    fn fmt<W: fmt::Write>(&self, f: &mut fmt::Formatter<W>) -> fmt::Result {
+        f.debug_struct("NotAllowed")
+            .field("last_log_id", &self.last_log_id)
+            .field("vote", &self.vote)
+            .finish()
     }
 }

@@ -10,10 +10,12 @@ pub mod quorum;
 pub use change_members::ChangeMembers;
 pub use error::{
     ChangeMembershipError, ChangeMembershipErrorOf, EmptyMembership, InProgress, InProgressOf,
-    LearnerNotFound,
+    LackEntry, LackEntryOf, LearnerNotFound, NotAllowed, NotAllowedIn, NotAllowedOf,
+    QuorumNotEnough,
 };
 pub use membership::{
-    EffectiveMembership, EffectiveMembershipOf, IntoNodes, LearnerIds, Membership,
-    StoredMembership, StoredMembershipOf,
+    EffectiveMembership, EffectiveMembershipOf, InitializeError, InitializeErrorIn,
+    InitializeErrorOf, IntoNodes, LearnerIds, Membership, NotInMembers, StoredMembership,
+    StoredMembershipOf,
 };
 pub use quorum::{AsJoint, Coherent, FindCoherent, Joint, QuorumSet};

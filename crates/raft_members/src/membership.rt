@@ -22,6 +22,7 @@ mod configs;
 mod defaults;
 mod effective;
 pub(crate) mod ids;
+mod initialize_error;
 mod into_nodes;
 pub mod laws;
 mod learner_ids;
@@ -31,12 +32,14 @@ mod stored;
 use crate::error::{ChangeMembershipError, EmptyMembership, LearnerNotFound};
 use crate::quorum::Joint;
 pub use effective::{EffectiveMembership, EffectiveMembershipOf};
+pub use initialize_error::{InitializeError, InitializeErrorIn, InitializeErrorOf, NotInMembers};
 pub use into_nodes::IntoNodes;
 pub use learner_ids::LearnerIds;
-use raft_base::{Node, NodeId};
+use raft_base::{MessageSummary, Node, NodeId};
 use std::alloc::{AllocError, Global};
 use std::collections::btree_map::Iter;
 use std::collections::{BTreeMap, BTreeSet};
+use std::fmt;
 use std::marker::Model;
 pub use stored::{StoredMembership, StoredMembershipOf};
 
@@ -273,4 +276,52 @@ impl<NID: NodeId, N: Node> PartialEq for Membership<NID, N> {
 
 impl<NID: NodeId, N: Node> Eq for Membership<NID, N> {
     ghost laws = { same_members-equiv NID.Eq.laws N.Eq.laws };
+}
+
+impl<NID: NodeId, N: Node> Membership<NID, N> {
+    /// Writes an id and its node, or that it has none, with a comma before all but the first.
+    fn fmt_node<W: fmt::Write>(
+        &self,
+        id: &NID,
+        is_first: bool,
+        f: &mut fmt::Formatter<W>,
+    ) -> fmt::Result {
+        if !is_first {
+            f.write_str(",")?;
+        }
+        match self.get_node(id) {
+            Some(node) => write!(f, "{id}:{node:?}"),
+            None => write!(f, "{id}:None"),
+        }
+    }
+}
+
+impl<NID: NodeId, N: Node> fmt::Display for Membership<NID, N> {
+    fn fmt<W: fmt::Write>(&self, f: &mut fmt::Formatter<W>) -> fmt::Result {
+        f.write_str("{voters:[")?;
+        let mut is_first_config = true;
+        for config in self.configs.iter() {
+            f.write_str(if is_first_config { "{" } else { ",{" })?;
+            let mut is_first = true;
+            for id in config.iter() {
+                self.fmt_node(id, is_first, f)?;
+                is_first = false;
+            }
+            f.write_str("}")?;
+            is_first_config = false;
+        }
+        f.write_str("], learners:[")?;
+        let mut is_first = true;
+        for id in self.learner_ids() {
+            self.fmt_node(&id, is_first, f)?;
+            is_first = false;
+        }
+        f.write_str("]}")
+    }
+}
+
+impl<NID: NodeId, N: Node> MessageSummary<Membership<NID, N>> for Membership<NID, N> {
+    fn summary(&self, alloc: Global) -> Result<String, AllocError> {
+        self.to_string(alloc)
+    }
 }

@@ -2,6 +2,7 @@
 //! quorum of the voters has reached.
 
 mod conditions;
+mod display;
 mod part;
 mod places;
 mod recount;

@@ -6,6 +6,7 @@ pub mod FirstDenied
 pub mod FullLog
 pub mod FullLogLaws
 pub mod IOState
+pub mod Entry
 pub mod Inner
 pub mod Keys
 pub mod Leads

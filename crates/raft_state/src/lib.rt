@@ -4,6 +4,7 @@
 
 pub mod accepted;
 pub mod catch_up;
+pub mod entry;
 pub mod error;
 pub mod io_state;
 pub mod laws;
@@ -14,6 +15,9 @@ pub mod snapshot_meta;
 pub mod vote_state_reader;
 
 pub use accepted::{Accepted, AcceptedIn, AcceptedOf};
+pub use entry::{
+    Entry, EntryOf, EntryPayload, FromAppData, RaftEntry, RaftEntryOf, RaftPayload, RaftPayloadOf,
+};
 pub use error::ForwardToLeader;
 pub use io_state::{IOState, IOStateIn, IOStateOf, LogIOId, LogIOIdOf};
 pub use log_id_list::{LogIdList, LogIdListOf, is_key_list};

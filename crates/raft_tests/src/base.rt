@@ -4,4 +4,5 @@ mod calls;
 mod logs;
 mod moments;
 mod standard;
+mod texts;
 mod values;

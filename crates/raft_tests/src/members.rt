@@ -6,4 +6,5 @@ mod compared;
 mod effective;
 mod memberships;
 mod quorums;
+mod texts;
 pub(crate) mod words;

@@ -12,6 +12,7 @@ mod entry;
 mod events;
 mod inflight;
 mod search;
+mod texts;
 mod tracked;
 
 use raft_members::quorum::QuorumSet;

@@ -17,7 +17,7 @@ use super::learner_ids::LearnerIds;
 use super::stored::StoredMembershipOf;
 use super::{Membership, configs};
 use crate::quorum::{Joint, QuorumSet};
-use raft_base::{CommittedLeaderId, LogIdOf, Node, NodeId, RaftLogIdOf};
+use raft_base::{CommittedLeaderId, LogIdOf, MessageSummary, Node, NodeId, RaftLogIdOf};
 use std::alloc::{AllocError, Global};
 use std::collections::{BTreeSet, btree_map, btree_set};
 use std::fmt;
@@ -264,5 +264,14 @@ impl<C: fmt::Debug, NID: NodeId, N: Node> fmt::Debug for EffectiveMembershipOf<C
             .field("membership", &self.stored_membership.membership)
             .field("voter_ids", &self.voter_ids)
             .finish()
+    }
+}
+
+impl<C: fmt::Debug, NID: NodeId, N: Node> MessageSummary<EffectiveMembershipOf<C, NID, N>>
+    for EffectiveMembershipOf<C, NID, N> {
+    fn summary(&self, alloc: Global) -> Result<String, AllocError> {
+        let log_id = &self.stored_membership.log_id;
+        let membership = &self.stored_membership.membership;
+        format!(in alloc; "{{log_id:{log_id:?} membership:{membership}}}")
     }
 }

@@ -8,7 +8,7 @@ ghost use Rattle.raft_members.specs.Members.{same_members};
 ghost use Rattle.raft_members.specs.Stored.{log_id_of, membership_of};
 
 use super::Membership;
-use raft_base::{CommittedLeaderId, LogIdOf, Node, NodeId};
+use raft_base::{CommittedLeaderId, DisplayOption, LogIdOf, MessageSummary, Node, NodeId};
 use std::alloc::{AllocError, Global};
 use std::collections::btree_map::Iter;
 use std::fmt;
@@ -94,5 +94,20 @@ impl<C: fmt::Debug, NID: NodeId, N: Node> fmt::Debug for StoredMembershipOf<C, N
             .field("log_id", &self.log_id)
             .field("membership", &self.membership)
             .finish()
+    }
+}
+
+impl<C: fmt::Display, NID: NodeId, N: Node> fmt::Display for StoredMembershipOf<C, NID, N> {
+    fn fmt<W: fmt::Write>(&self, f: &mut fmt::Formatter<W>) -> fmt::Result {
+        let StoredMembershipOf { log_id, membership } = self;
+        let log_id = DisplayOption(log_id);
+        write!(f, "{{log_id:{log_id}, {membership}}}")
+    }
+}
+
+impl<C: fmt::Display, NID: NodeId, N: Node> MessageSummary<StoredMembershipOf<C, NID, N>>
+    for StoredMembershipOf<C, NID, N> {
+    fn summary(&self, alloc: Global) -> Result<String, AllocError> {
+        self.to_string(alloc)
     }
 }

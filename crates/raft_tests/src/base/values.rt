@@ -1,7 +1,8 @@
-//! Worked values and texts.
+//! Worked values.
 
-use crate::text::{debugs, displays};
-use raft_base::{CommittedLeaderId, EmptyNode, LeaderId, LogId, NodeDefault, RaftLogIdOf, Vote};
+use raft_base::{
+    BasicNode, CommittedLeaderId, EmptyNode, LeaderId, LogId, NodeDefault, RaftLogIdOf, Vote,
+};
 use std::alloc::{AllocError, Global};
 use std::cmp::Ordering;
 use std::test::Fail;
@@ -117,7 +118,9 @@ fn defaults_are_zero(alloc: Global) -> Result<bool, AllocError> {
             && u64::default_node(alloc)? == 0
             && <()>::default_node(alloc)? == ()
             && EmptyNode::default_node(alloc)? == EmptyNode::new()
-            && EmptyNode::default() == EmptyNode {},
+            && EmptyNode::default() == EmptyNode {}
+            && BasicNode::default_node(alloc)? == BasicNode::new(alloc, "")?
+            && BasicNode::new(alloc, "here")? != BasicNode::new(alloc, "there")?,
     )
 }
 
@@ -134,42 +137,5 @@ fn a_log_id_takes_another(rt: HostRuntime) -> Result<(), Fail> {
     assert!(rt; *id.committed_leader_id() == LeaderId::new(1, 2));
     id.set_log_id(&next);
     assert!(rt; *id.get_log_id() == next);
-    Ok(())
-}
-
-/// Whether leaders, votes, log ids and nodes display as they should.
-fn display(alloc: Global) -> Result<bool, AllocError> {
-    let leader = LeaderId::new(1, 2u64);
-    Ok(
-        displays(alloc, &leader, "T1-N2")?
-            && displays(alloc, &Vote::new(1, 2u64), "T1-N2:uncommitted")?
-            && displays(alloc, &Vote::new_committed(1, 2u64), "T1-N2:committed")?
-            && displays(alloc, &LogId::new(leader, 3), "T1-N2-3")?
-            && displays(alloc, &LogId::new(leader, 0), "T1-N2-0")?
-            && displays(alloc, &EmptyNode::new(), "{}")?,
-    )
-}
-
-/// Whether their debug forms are those of the original.
-fn debug(alloc: Global) -> Result<bool, AllocError> {
-    let leader = LeaderId::new(1, 2u64);
-    let uncommitted = "Vote { leader_id: LeaderId { term: 1, node_id: 2 }, committed: false }";
-    let committed = "Vote { leader_id: LeaderId { term: 1, node_id: 2 }, committed: true }";
-    let id = "LogId { leader_id: LeaderId { term: 1, node_id: 2 }, index: 3 }";
-    let first = "Some(LogId { leader_id: LeaderId { term: 1, node_id: 2 }, index: 0 })";
-    Ok(
-        debugs(alloc, &leader, "LeaderId { term: 1, node_id: 2 }")?
-            && debugs(alloc, &Vote::new(1, 2u64), uncommitted)?
-            && debugs(alloc, &Vote::new_committed(1, 2u64), committed)?
-            && debugs(alloc, &LogId::new(leader, 3), id)?
-            && debugs(alloc, &Some(LogId::new(leader, 0)), first)?
-            && debugs(alloc, &EmptyNode::new(), "EmptyNode")?,
-    )
-}
-
-#[test]
-fn texts(rt: HostRuntime) -> Result<(), Fail> {
-    assert!(rt; display(rt.alloc())?);
-    assert!(rt; debug(rt.alloc())?);
     Ok(())
 }

@@ -1,0 +1,11 @@
+-- What a copy of the refusal to start a cluster has to say.
+use Rattle.std.specs.Prelude.{◌≡◌, Bool, IsTrue}
+use Rattle.raft_members.specs.Members.{same_members}
+use Rattle.raft_members.specs.declared.membership.initialize_error.InitializeErrorIn.{InitializeErrorIn}
+use Rattle.raft_members.specs.declared.membership.initialize_error.InitializeErrorIn.TheVariants.{NotAllowed, NotInMembers}
+
+-- the same refusal, by the same log id and vote, or of the same node and an equal membership
+abbrev pub IsCopyOf : {L C K N : Type 0} → (K → K → Bool) → (N → N → Bool) → InitializeErrorIn L C K N → InitializeErrorIn L C K N → Type 0
+IsCopyOf eq same (NotAllowed refused) copy = copy ≡ NotAllowed refused
+IsCopyOf eq same (NotInMembers refused) (NotAllowed copy) = ⊥
+IsCopyOf eq same (NotInMembers refused) (NotInMembers copy) = (copy.node_id ≡ refused.node_id) × IsTrue (same_members eq same refused.membership copy.membership)

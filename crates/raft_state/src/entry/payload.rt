@@ -1,0 +1,85 @@
+//! What log entries hold.
+ghost use Rattle.std.specs.Prelude.{◌≡◌, IfOk, IsTrue};
+ghost use Rattle.std.specs.Set.{ClonesAreEqual};
+ghost use Rattle.raft_state.specs.Entry.{same_payload};
+
+use super::traits::RaftPayloadOf;
+use raft_base::{MessageSummary, Node, NodeId};
+use raft_members::Membership;
+use std::alloc::{AllocError, Global};
+use std::fmt;
+
+/// What a log entry holds.
+#[derive(Clone, PartialEq, Drop)]
+pub enum EntryPayload<NID: NodeId, N: Node, D> {
+    /// Nothing: a new leader commits such an entry, and with it all entries before it.
+    Blank,
+    /// The program's own data.
+    Normal(D),
+    /// A change of the membership, as the membership that it leads to.
+    Membership(Membership<NID, N>),
+}
+
+impl<NID: NodeId, N: Node, D: Clone + PartialEq + Drop> EntryPayload<NID, N, D> {
+    /// An equal payload, with a clone of the data or of the nodes.
+    pub fn try_clone(&self) -> Result<Self, AllocError>
+        requires nodes { ClonesAreEqual N.eq N.is_clone }
+        requires data { ClonesAreEqual D.eq D.is_clone }
+        ensures { IfOk result (λ copy.
+            IsTrue (same_payload NID.eq N.eq D.eq self.now copy)) }
+    {
+        Ok(match self {
+            EntryPayload::Blank => EntryPayload::Blank,
+            EntryPayload::Normal(data) => EntryPayload::Normal(data.clone()?),
+            EntryPayload::Membership(membership) => {
+                EntryPayload::Membership(membership.try_clone()?)
+            }
+        })
+    }
+}
+
+impl<NID: NodeId, N: Node, D> RaftPayloadOf<Membership<NID, N>> for EntryPayload<NID, N, D> {
+    ghost use Rattle.raft_state.specs.Entry.{is_blank_payload, payload_membership};
+
+    ghost blank = { is_blank_payload };
+
+    ghost membership = { payload_membership };
+
+    fn is_blank(&self) -> bool {
+        matches!(self, EntryPayload::Blank)
+    }
+
+    fn get_membership(&self) -> Option<&Membership<NID, N>> {
+        match self {
+            EntryPayload::Membership(membership) => Some(membership),
+            _ => None,
+        }
+    }
+}
+
+// By hand, for the program's data need not have a text.
+impl<NID: NodeId, N: Node, D> fmt::Debug for EntryPayload<NID, N, D> {
+    fn fmt<W: fmt::Write>(&self, f: &mut fmt::Formatter<W>) -> fmt::Result {
+        match self {
+            EntryPayload::Blank => f.write_str("blank"),
+            EntryPayload::Normal(_) => f.write_str("normal"),
+            EntryPayload::Membership(membership) => write!(f, "membership:{membership:?}"),
+        }
+    }
+}
+
+impl<NID: NodeId, N: Node, D> fmt::Display for EntryPayload<NID, N, D> {
+    fn fmt<W: fmt::Write>(&self, f: &mut fmt::Formatter<W>) -> fmt::Result {
+        match self {
+            EntryPayload::Blank => f.write_str("blank"),
+            EntryPayload::Normal(_) => f.write_str("normal"),
+            EntryPayload::Membership(membership) => write!(f, "membership: {membership}"),
+        }
+    }
+}
+
+impl<NID: NodeId, N: Node, D> MessageSummary<EntryPayload<NID, N, D>> for EntryPayload<NID, N, D> {
+    fn summary(&self, alloc: Global) -> Result<String, AllocError> {
+        self.to_string(alloc)
+    }
+}
