@@ -13,7 +13,8 @@ use crate::inflight::InflightOf;
 use raft_base::order::{log_id_at_most, same_optional_log_ids};
 use raft_base::{LogIdOf, LogIdOptionExt, LogIdRangeOf, LogStateReader};
 
-/// Whether `catch_up_entry` may be called, over a log that has all its log ids from the purge point on.
+/// Whether `catch_up_entry` may be called, over a log that has all its log ids from the purge point
+/// on.
 ///
 /// Nothing is in flight and a send may be made; the follower agrees up to the match and the purge
 /// point at least, and no further than the search goes; a send takes an entry at least; there are
@@ -52,9 +53,9 @@ pub fn can_catch_up_entry<C: Ord + Copy, L: LogStateReader<C>>(
 /// nothing is left to send. Answers how many conflicts came, and how many acks.
 ///
 /// The follower replies honestly: with a conflict where it does not agree before the logs that were
-/// sent, else with an ack of them all. At the end it has all. Conflicts are at most the binary digits
-/// of a sixteenth of the stretch from the match to the end of the search, acks at most what is left of
-/// the log by `max_entries`, rounded up.
+/// sent, else with an ack of them all. At the end it has all. Conflicts are at most the binary
+/// digits of a sixteenth of the stretch from the match to the end of the search, acks at most what
+/// is left of the log by `max_entries`, rounded up.
 pub fn catch_up_entry<C: Ord + Copy, L: LogStateReader<C>>(
     log: &L,
     entry: &mut ProgressEntryOf<C>,
@@ -62,13 +63,15 @@ pub fn catch_up_entry<C: Ord + Copy, L: LogStateReader<C>>(
     max_entries: u64,
 ) -> (u64, u64)
     requires logged { Logged C.cmp (L.log_view log.now) }
-    requires can { IsTrue (can_catch_up C.eq C.cmp (L.log_view log.now) entry.old agree max_entries) }
+    requires can { IsTrue
+        (can_catch_up C.eq C.cmp (L.log_view log.now) entry.old agree max_entries) }
     ensures run { HonestRunEnds C.cmp (L.log_view log.now) max_entries
         entry.old agree entry.new result.0 result.1 }
     ensures caught_up { CaughtUp C.eq (L.log_view log.now) entry.new }
     ensures not_lowered { IsTrue (id_le C.cmp entry.old.matching entry.new.matching) }
     ensures conflicts { (k : ℕ) → stretch entry.old / 16 < 2 ^ k → result.0 ≤ k }
-    ensures acks { let left = next_index (L.log_view log.now).last - next_index entry.old.matching in
+    ensures acks { let left =
+        next_index (L.log_view log.now).last - next_index entry.old.matching in
         result.1 * max_entries < left + max_entries }
 {
     let mut agreed = agree;

@@ -33,11 +33,11 @@ pub enum SearchEvent<'a, L> {
 
 /// Takes events one after another, and answers how many conflicts were accepted.
 ///
-/// A send is skipped where `can_send` is false, and where its purge point is before that of an earlier
-/// send that was not skipped. A reply that is refused changes nothing. Each probe halves the stretch
-/// that is left, so the accepted conflicts are few: at most the binary digits of the stretch from the
-/// match to the end of the search, and at most those of a sixteenth of it, or one more where a purge
-/// point lies past the match.
+/// A send is skipped where `can_send` is false, and where its purge point is before that of an
+/// earlier send that was not skipped. A reply that is refused changes nothing. Each probe halves
+/// the stretch that is left, so the accepted conflicts are few: at most the binary digits of the
+/// stretch from the match to the end of the search, and at most those of a sixteenth of it, or one
+/// more where a purge point lies past the match.
 pub fn search_run<C: Ord + Copy, L: LogStateReader<C>>(
     entry: &mut ProgressEntryOf<C>,
     events: &[SearchEvent<'_, L>],

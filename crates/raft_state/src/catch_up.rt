@@ -37,8 +37,9 @@ impl<
             && can_catch_up_entry(self, entry, agree, max_entries)
     }
 
-    /// Sends to a follower whose log agrees with this one below an index, and takes its replies, until
-    /// it has all. Answers how many conflicts came, and how many acks; see [`catch_up_entry`].
+    /// Sends to a follower whose log agrees with this one below an index, and takes its replies,
+    /// until it has all. Answers how many conflicts came, and how many acks; see
+    /// [`catch_up_entry`].
     pub fn catch_up(
         &self,
         entry: &mut ProgressEntryOf<C>,
@@ -51,7 +52,8 @@ impl<
         ensures caught_up { CaughtUp C.eq (view_of self.now) entry.new }
         ensures not_lowered { IsTrue (id_le C.cmp entry.old.matching entry.new.matching) }
         ensures conflicts { (k : ℕ) → stretch entry.old / 16 < 2 ^ k → result.0 ≤ k }
-        ensures acks { let left = next_index (view_of self.now).last - next_index entry.old.matching in
+        ensures acks { let left =
+            next_index (view_of self.now).last - next_index entry.old.matching in
             result.1 * max_entries < left + max_entries }
     {
         // Its contract says that the log has all that is sent.
@@ -59,8 +61,8 @@ impl<
         catch_up_entry(self, entry, agree, max_entries)
     }
 
-    /// Catches up followers one after another, each with the index below which it agrees, and answers
-    /// how many were. One that is unknown or that `can_catch_up` denies is passed over.
+    /// Catches up followers one after another, each with the index below which it agrees, and
+    /// answers how many were. One that is unknown or that `can_catch_up` denies is passed over.
     ///
     /// Where at least one voter was caught up, and those that were are a quorum, the last log id is
     /// granted, or more where a voter's match was past it before.

@@ -38,7 +38,8 @@ fn conflict<'a, C>(request_id: u64, conflict: u64) -> SearchEvent<'a, PlainLog<C
     }
 }
 
-/// Whether searches over a log from 0 to 99 halve the stretch, with a heartbeat in between and without.
+/// Whether searches over a log from 0 to 99 halve the stretch, with a heartbeat in between and
+/// without.
 fn halves<C: Numbered>(log: &PlainLog<C>) -> bool {
     let probes = [
         send(log, 10),
@@ -97,8 +98,8 @@ fn ends_with_a_snapshot<C: Numbered>(purged: &PlainLog<C>, whole: &PlainLog<C>) 
         && accepts(ProgressEntryOf::empty(10), &gone_back, 1, end)
 }
 
-/// Whether followers can be caught up from where they can, over a log from 0 to 99, and over one from
-/// 0 to 20 that is to be purged up to index 4.
+/// Whether followers can be caught up from where they can, over a log from 0 to 99, and over one
+/// from 0 to 20 that is to be purged up to index 4.
 fn can_be_caught_up<C: Numbered>(log: &PlainLog<C>, purged: &PlainLog<C>) -> bool {
     let entry = ProgressEntryOf::empty(100);
     let done = at(id(1, 99), 100, u64::MAX - 165, InflightOf::None);

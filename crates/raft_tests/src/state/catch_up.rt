@@ -24,8 +24,8 @@ fn hundred<K: LeaderKind<u64>>(alloc: Global) -> Result<State<K>, AllocError> {
     Ok(state)
 }
 
-/// Whether a follower of which only the length of the log is known is caught up by so many conflicts
-/// and acks, or cannot be.
+/// Whether a follower of which only the length of the log is known is caught up by so many
+/// conflicts and acks, or cannot be.
 fn catches_up<K: LeaderKind<u64>>(
     state: &State<K>,
     length: u64,
