@@ -4,6 +4,7 @@ ghost use Rattle.std.specs.Ordering.{is_ge};
 ghost use Rattle.std.specs.Option.{option_cmp};
 
 use crate::instant::Instant;
+use std::fmt;
 
 /// A value, and the moment of its last update, if there was one.
 ///
@@ -84,5 +85,15 @@ impl<T: Drop, I: Instant> UTime<T, I> {
         ensures value { result.now ≡ data_of self.old }
     {
         &mut self.data
+    }
+}
+
+impl<T: fmt::Display, I: Instant> fmt::Display for UTime<T, I> {
+    fn fmt<W: fmt::Write>(&self, f: &mut fmt::Formatter<W>) -> fmt::Result {
+        let UTime { data, utime } = self;
+        match utime {
+            Some(moment) => write!(f, "{data}@{}", moment.ticks()),
+            None => write!(f, "{data}"),
+        }
     }
 }

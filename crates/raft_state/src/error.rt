@@ -1,7 +1,10 @@
 //! Why a node does not serve a request.
-ghost use Rattle.std.specs.Prelude.{◌≡◌, Some, None};
+ghost use Rattle.std.specs.Prelude.{◌≡◌, Some, None, IfOk, IsTrue};
+ghost use Rattle.std.specs.Option.{option_eq};
+ghost use Rattle.std.specs.Set.{ClonesAreEqual};
 
 use raft_base::{Node, NodeId};
+use std::alloc::AllocError;
 use thiserror::Error;
 
 /// The request belongs to the leader: the node that leads, as far as it is known.
@@ -33,5 +36,18 @@ impl<NID: NodeId, N: Node> ForwardToLeader<NID, N> {
             leader_id: Some(leader_id),
             leader_node: Some(node),
         }
+    }
+
+    /// An equal error, with a clone of the node.
+    pub fn try_clone(&self) -> Result<Self, AllocError>
+        requires { ClonesAreEqual N.eq N.is_clone }
+        ensures leader_id { IfOk result (λ copy. copy.leader_id ≡ self.now.leader_id) }
+        ensures leader_node { IfOk result (λ copy.
+            IsTrue (option_eq N.eq self.now.leader_node copy.leader_node)) }
+    {
+        Ok(ForwardToLeader {
+            leader_id: self.leader_id,
+            leader_node: self.leader_node.clone()?,
+        })
     }
 }

@@ -16,7 +16,9 @@ mod change_handler;
 
 pub use change_handler::{ChangeHandler, ChangeHandlerOf};
 use raft_base::order::{index_at_most, index_below, log_id_at_most, log_id_below};
-use raft_base::{CommittedLeaderId, Invalid, LogIdOf, LogIdOptionExt, Node, NodeId, Validate};
+use raft_base::{
+    CommittedLeaderId, Invalid, LogIdOf, LogIdOptionExt, MessageSummary, Node, NodeId, Validate,
+};
 use raft_members::EffectiveMembershipOf;
 use std::alloc::{AllocError, Global};
 use std::fmt;
@@ -312,5 +314,14 @@ impl<C: fmt::Debug, NID: NodeId, N: Node> fmt::Debug for MembershipStateOf<C, NI
             .field("committed", &self.committed)
             .field("effective", &self.effective)
             .finish()
+    }
+}
+
+impl<C: fmt::Debug, NID: NodeId, N: Node> MessageSummary<MembershipStateOf<C, NID, N>>
+    for MembershipStateOf<C, NID, N> {
+    fn summary(&self, alloc: Global) -> Result<String, AllocError> {
+        let committed = self.committed.summary(alloc)?;
+        let effective = self.effective.summary(alloc)?;
+        format!(in alloc; "MembershipState{{committed: {committed}, effective: {effective}}}")
     }
 }

@@ -1,7 +1,7 @@
 //! How far a log has been written.
 ghost use Rattle.std.specs.Prelude.{◌≡◌};
 
-use raft_base::{CommittedLeaderId, LogIdOf};
+use raft_base::{CommittedLeaderId, DisplayOption, LogIdOf};
 use std::fmt;
 
 /// How far a log has been written: the last log id that is on disk, and the leader whose log it is.
@@ -38,5 +38,16 @@ impl<C: fmt::Debug> fmt::Debug for LogIOIdOf<C> {
             .field("committed_leader_id", &self.committed_leader_id)
             .field("log_id", &self.log_id)
             .finish()
+    }
+}
+
+impl<C: fmt::Display> fmt::Display for LogIOIdOf<C> {
+    fn fmt<W: fmt::Write>(&self, f: &mut fmt::Formatter<W>) -> fmt::Result {
+        let LogIOIdOf {
+            committed_leader_id,
+            log_id,
+        } = self;
+        let log_id = DisplayOption(log_id);
+        write!(f, "by_leader({committed_leader_id}):{log_id}")
     }
 }

@@ -1,9 +1,9 @@
-//! What leaders, votes, log ids and nodes print.
+//! What leaders, votes, log ids, nodes, stamped values and broken relations print.
 
 use crate::text::{debugs, displays, sums_up};
 use raft_base::{
-    BasicNode, DisplayOption, EmptyNode, LeaderId, LeaderStd, LogId, LogIdOf, Vote, VoteOf,
-    leader_id_std,
+    BasicNode, DisplayOption, EmptyNode, Invalid, LeaderId, LeaderStd, LogId, LogIdOf, UTime, Vote,
+    VoteOf, leader_id_std,
 };
 use std::alloc::{AllocError, Global};
 use std::test::Fail;
@@ -27,7 +27,10 @@ fn display(alloc: Global) -> Result<bool, AllocError> {
             && sums_up(alloc, &id, "T1-N2-3")?
             && sums_up(alloc, &Vote::new(1, 2u64), "T1-N2:uncommitted")?
             && displays(alloc, &EmptyNode::new(), "{}")?
-            && displays(alloc, &BasicNode::new(alloc, "10.0.0.1:80")?, "10.0.0.1:80")?,
+            && displays(alloc, &BasicNode::new(alloc, "10.0.0.1:80")?, "10.0.0.1:80")?
+            && displays(alloc, &BasicNode::new(alloc, "")?, "")?
+            && displays(alloc, &UTime::new(9u64, id), "T1-N2-3@9")?
+            && displays(alloc, &UTime::<_, u64>::without_utime(id), "T1-N2-3")?,
     )
 }
 
@@ -71,10 +74,42 @@ fn debug(alloc: Global) -> Result<bool, AllocError> {
     )
 }
 
+/// Whether each broken relation prints its name.
+fn invalid_displays(alloc: Global) -> Result<bool, AllocError> {
+    let texts = [
+        (Invalid::RangeOrder, "invalid: RangeOrder"),
+        (Invalid::MatchingPastEnd, "invalid: MatchingPastEnd"),
+        (Invalid::MatchingPastPrev, "invalid: MatchingPastPrev"),
+        (Invalid::PrevPastEnd, "invalid: PrevPastEnd"),
+        (
+            Invalid::SnapshotNotPastMatching,
+            "invalid: SnapshotNotPastMatching",
+        ),
+        (Invalid::PurgedNext, "invalid: PurgedNext"),
+        (Invalid::LastPurgedPastUpto, "invalid: LastPurgedPastUpto"),
+        (Invalid::UptoPastCommitted, "invalid: UptoPastCommitted"),
+        (Invalid::UptoPastSnapshot, "invalid: UptoPastSnapshot"),
+        (
+            Invalid::SnapshotPastCommitted,
+            "invalid: SnapshotPastCommitted",
+        ),
+        (Invalid::CommittedPastLast, "invalid: CommittedPastLast"),
+        (Invalid::MembershipLogId, "invalid: MembershipLogId"),
+        (Invalid::MembershipIndex, "invalid: MembershipIndex"),
+    ];
+    for (broken, text) in &texts {
+        if !displays(alloc, broken, text)? {
+            return Ok(false);
+        }
+    }
+    Ok(true)
+}
+
 #[test]
 fn texts(rt: HostRuntime) -> Result<(), Fail> {
     assert!(rt; display(rt.alloc())?);
     assert!(rt; display_standard(rt.alloc())?);
     assert!(rt; debug(rt.alloc())?);
+    assert!(rt; invalid_displays(rt.alloc())?);
     Ok(())
 }

@@ -196,6 +196,13 @@ fn refusals_display(alloc: Global) -> Result<bool, AllocError> {
             },
             "got invalid request id, mine=Some(1), received=9",
         ),
+        (
+            InflightError::InvalidRequestId {
+                mine: None,
+                received: 0,
+            },
+            "got invalid request id, mine=None, received=0",
+        ),
     ];
     for (refusal, text) in &texts {
         if !displays(alloc, refusal, text)? {

@@ -391,13 +391,16 @@ fn print(alloc: Global) -> Result<bool, AllocError> {
     )
 }
 
-/// Whether the error that forwards a request says where.
+/// Whether the error that forwards a request says where, and equals its clone.
 fn forwards(alloc: Global) -> Result<bool, AllocError> {
     let to: ForwardToLeader<u64, u64> = ForwardToLeader::new(3, 6);
     let to_none: ForwardToLeader<u64, u64> = ForwardToLeader::empty();
     Ok(
         displays(alloc, &to, "has to forward request to: Some(3), Some(6)")?
-            && displays(alloc, &to_none, "has to forward request to: None, None")?,
+            && displays(alloc, &to_none, "has to forward request to: None, None")?
+            && to.try_clone()? == to
+            && to_none.try_clone()? == to_none
+            && to.try_clone()? != to_none,
     )
 }
 
