@@ -1,15 +1,10 @@
 -- When a change is refused.
-use Rattle.std.specs.Prelude.{◌≡◌, Bool, true, false, Option, Some, None, Result, Ok, Err}
+use Rattle.std.specs.Prelude.{◌≡◌, Bool, true, false, Some}
 use Rattle.std.specs.declared.cmp.Ordering.{Ordering}
 use Rattle.raft_members.specs.Members.{Members}
 use Rattle.raft_members.specs.Valid.{has_empty_config, FirstWithoutNode}
 use Rattle.raft_members.specs.declared.error.ChangeMembershipErrorOf.{ChangeMembershipErrorOf}
 use Rattle.raft_members.specs.declared.error.ChangeMembershipErrorOf.TheVariants.{InProgress, EmptyMembership, LearnerNotFound, OutOfMemory}
-
--- the error, where there is one
-abbrev pub err_of : {T E : Type 0} → Result T E → Option E
-err_of (Ok _) = None
-err_of (Err e) = Some e
 
 -- why these members are refused: a config is empty; else the first voter without a node. Want of memory may come in place of either
 abbrev pub IsRefusal : {C K N : Type 0} → (K → K → Bool) → (K → K → Ordering) → Members K N → ChangeMembershipErrorOf C K → Type 0

@@ -1,6 +1,6 @@
 -- What a stored membership says, and when two are equal. This file and no other reads its private fields.
-use Rattle.std.specs.Prelude.{◌&&◌, Bool, Option, nat_eq}
-use Rattle.std.specs.Option.{option_eq}
+use Rattle.std.specs.Prelude.{◌&&◌, Bool, Option}
+use Rattle.raft_base.specs.LogId.{same_ids}
 use Rattle.raft_base.specs.declared.log_id.LogIdOf.{LogIdOf}
 use Rattle.raft_members.specs.Members.{MemberList, same_members}
 use Rattle.raft_members.specs.declared.membership.stored.StoredMembershipOf.{StoredMembershipOf}
@@ -13,10 +13,6 @@ log_id_of stored = stored.log_id
 abbrev pub membership_of : {C K N : Type 0} → StoredMembershipOf C K N → MemberList K N
 membership_of stored = stored.membership
 
--- equal log ids: equal leaders and the same index
-abbrev pub log_id_eq : {C : Type 0} → (C → C → Bool) → LogIdOf C → LogIdOf C → Bool
-log_id_eq leader a b = leader a.leader_id b.leader_id && nat_eq a.index b.index
-
 -- two stored memberships are equal: equal log ids, or none, and equal memberships
 abbrev pub same_stored : {C K N : Type 0} → (C → C → Bool) → (K → K → Bool) → (N → N → Bool) → StoredMembershipOf C K N → StoredMembershipOf C K N → Bool
-same_stored leader eq same a b = option_eq (log_id_eq leader) (log_id_of a) (log_id_of b) && same_members eq same (membership_of a) (membership_of b)
+same_stored leader eq same a b = same_ids leader (log_id_of a) (log_id_of b) && same_members eq same (membership_of a) (membership_of b)

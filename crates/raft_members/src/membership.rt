@@ -1,6 +1,7 @@
 //! Memberships: which nodes vote, in one config or in several, and which nodes are known.
 ghost use Rattle.std.specs.Prelude.{◌≡◌, Bool, List, [], ◌∷◌, IfOk, IfErr, IsOk, IsOkAnd, IsTrue, true, false, map, None, not, is_some, is_err, ◌&&◌, nat_lt, length};
 ghost use Rattle.std.specs.Option.{option_copied, option_eq, option_or};
+ghost use Rattle.std.specs.Result.{result_err};
 ghost use Rattle.std.specs.List.{list_any, list_all};
 ghost use Rattle.std.specs.List.Sorted.{IsStrictlySortedBy};
 ghost use Rattle.std.specs.Set.{ClonesAreEqual, is_member};
@@ -12,7 +13,7 @@ ghost use Rattle.raft_members.specs.MembersLaws.{same_members-equiv};
 ghost use Rattle.raft_members.specs.Majority.{is_majority, is_joint_majority, is_voter_of};
 ghost use Rattle.raft_members.specs.Members.{MemberList, node_at, members_of, same_members, AddsNoId, HasNodes};
 ghost use Rattle.raft_members.specs.Valid.{has_empty_config, FirstWithoutNode, IsValid};
-ghost use Rattle.raft_members.specs.Refusal.{err_of, IsRefusal};
+ghost use Rattle.raft_members.specs.Refusal.{IsRefusal};
 ghost use Rattle.raft_members.specs.Defaults.{HasDefaults};
 ghost use Rattle.raft_members.specs.Learners.{learners_of, learners_ahead, is_learner};
 ghost use Rattle.raft_members.specs.declared.error.ChangeMembershipErrorOf.TheVariants.{OutOfMemory};
@@ -242,7 +243,7 @@ impl<NID: NodeId, N: Node> Membership<NID, N> {
     /// Refuses a membership of which a voter has no node, and answers the least such voter. No
     /// memory is taken.
     pub fn ensure_voter_nodes(&self) -> Result<(), NID>
-        ensures { FirstWithoutNode NID.eq NID.cmp (members_of NID.cmp self.now) (err_of result) }
+        ensures { FirstWithoutNode NID.eq NID.cmp (members_of NID.cmp self.now) (result_err result) }
     {
         match nodes::least_missing(&self.configs, &self.nodes) {
             Some(id) => Err(id),

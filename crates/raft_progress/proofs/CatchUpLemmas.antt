@@ -13,6 +13,7 @@ use Rattle.std.specs.Result.{is_err}
 use Rattle.raft_base.specs.LogId.{id_le, id_lt, log_id_cmp, next_index, same_ids}
 use Rattle.raft_base.specs.LogView.{LogView, prev_id}
 use Rattle.raft_base.specs.Logged.{Logged}
+use Rattle.raft_base.proofs.LoggedLemmas.{prev_at, prev_rises}
 use Rattle.raft_base.specs.declared.log_id.LogIdOf.{LogIdOf}
 use Rattle.raft_base.specs.declared.log_id.log_id_range.LogIdRangeOf.{LogIdRangeOf}
 use Rattle.raft_progress.specs.catch_up.CatchUp.{CaughtUp, can_agree, can_catch_up, has_request_ids, match_fits}
@@ -28,7 +29,7 @@ use Rattle.raft_progress.specs.declared.inflight.InflightError.{InflightError}
 use Rattle.raft_progress.specs.declared.inflight.InflightOf.{InflightOf}
 use Rattle.raft_progress.specs.declared.inflight.InflightOf.TheVariants.{Logs}
 use Rattle.raft_progress.proofs.HalvingLemmas.{Near}
-use Rattle.raft_progress.proofs.HonestRunLemmas.{Acked, Refused, Sends, at_end, ids_total, le_lt, le_true, lt_true, prev_at, prev_rises, ready_acked, ready_refused, sends, turn_acked, turn_refused}
+use Rattle.raft_progress.proofs.HonestRunLemmas.{Acked, Refused, Sends, at_end, ids_total, le_lt, le_true, lt_true, ready_acked, ready_refused, sends, turn_acked, turn_refused}
 use Rattle.raft_progress.proofs.HonestTurnLemmas.{Stands, ack_falls, ack_near, conflict_falls, conflict_halves, measure}
 
 -- a send that is no error is the table's
@@ -190,7 +191,7 @@ module _ {C : Type 0} (eq : C → C → Bool) (cmp : C → C → Ordering) (tota
         let ids = here.ids in
         let l0 = lt.0 in let l1 = lt.1 in let l2 = lt.2 in
         let r2 = ready.agreed in let r4 = ready.kept in
-        let at1 : next_index (prev_id log.id_at (end_of entry log n)) ≡ end_of entry log n = prev_at eq cmp total reflexive log logged (end_of entry log n) (omega arith) (omega arith) in
+        let at1 : next_index (prev_id log.id_at (end_of entry log n)) ≡ end_of entry log n = prev_at cmp log logged (end_of entry log n) (omega arith) (omega arith) in
         let times = more_times k n in
         let part = here.part l1 in
         let first = here.first in
@@ -275,7 +276,7 @@ module _ {C : Type 0} (eq : C → C → Bool) (cmp : C → C → Ordering) (tota
       le_same entry.matching log.last new.matching (elim ready.left [
         | inl same ↦ le_of_eq (option_cmp (log_id_cmp cmp) entry.matching log.last) (tied entry.matching log.last same)
         | inr way ↦ (let from = max (next_index entry.matching) (next_index log.purge_upto) in
-            let rises : id_lt cmp (prev_id log.id_at from) (prev_id log.id_at (next_index log.last)) ≡ true = prev_rises eq cmp total reflexive log logged from (next_index log.last) (omega arith) (omega (arith, way.0, way.1)) (omega arith) in
+            let rises : id_lt cmp (prev_id log.id_at from) (prev_id log.id_at (next_index log.last)) ≡ true = prev_rises cmp log logged from (next_index log.last) (omega arith) (omega (arith, way.0, way.1)) (omega arith) in
             let rises2 : id_lt cmp (prev_id log.id_at from) log.last ≡ true = rw (← logged.at_end) rises in
             le_of_lt (option_cmp (log_id_cmp cmp) entry.matching log.last) (le_lt eq cmp total reflexive entry.matching (prev_id log.id_at from) log.last way.2 rises2))
       ]) caught.last

@@ -1,5 +1,5 @@
 -- The turns of an honest run over a log that has all from the purge point on.
-use Rattle.std.proofs.Common.{◌≡◌, ℕ, zero, suc, ◌+◌, ◌-◌, ◌^◌, ◌<◌, ◌≤◌, max, Bool, true, false, nat_eq, nat_lt, nat_le, ◌==◌, Option, Some, None, Ok, Err, IsTrue, refl, arith, ◌⊎◌, inl, inr, ap}
+use Rattle.std.proofs.Common.{◌≡◌, ℕ, ◌+◌, ◌-◌, ◌^◌, ◌<◌, ◌≤◌, max, Bool, true, false, nat_eq, nat_lt, nat_le, ◌==◌, Option, Some, None, Ok, Err, IsTrue, refl, arith, ◌⊎◌, inl, inr, ap}
 use Rattle.std.proofs.lemmas.Bool.{cases_lt}
 use Rattle.std.proofs.lemmas.Bool.Decides.{nat_tests}
 use Rattle.std.specs.declared.cmp.Ordering.{Ordering}
@@ -12,6 +12,7 @@ use Rattle.raft_base.specs.LogId.{id_le, id_lt, index_of, log_id_cmp, next_index
 use Rattle.raft_base.specs.LogIdLaws.{optional-log_id_cmp-total}
 use Rattle.raft_base.specs.LogView.{LogView, prev_id}
 use Rattle.raft_base.specs.Logged.{Logged}
+use Rattle.raft_base.proofs.LoggedLemmas.{prev_at, prev_rises}
 use Rattle.raft_base.specs.declared.log_id.LogIdOf.{LogIdOf}
 use Rattle.raft_base.specs.declared.log_id.log_id_range.LogIdRangeOf.{LogIdRangeOf}
 use Rattle.raft_progress.specs.catch_up.CatchUp.{CaughtUp}
@@ -117,17 +118,6 @@ module _ {C : Type 0} (eq : C → C → Bool) (cmp : C → C → Ordering) (tota
   same_itself (Some a) = rw (reflexive a.leader_id, same_number a.index) refl
 
   module _ (log : LogView C) (logged : Logged cmp log) where
-    -- the id before index a, for an index between the ends
-    pub prev_at : (a : ℕ) → next_index log.purge_upto ≤ a → a ≤ next_index log.last → next_index (prev_id log.id_at a) ≡ a
-    prev_at zero low high = refl
-    prev_at (suc i) low high = let h = logged.there i (omega arith) (omega arith) in rw h.1 (let e = h.2 in omega arith)
-
-    pub prev_rises : (a b : ℕ) → next_index log.purge_upto ≤ a → a < b → b ≤ next_index log.last → id_lt cmp (prev_id log.id_at a) (prev_id log.id_at b) ≡ true
-    prev_rises zero zero low lt high = absurd (omega arith)
-    prev_rises (suc i) zero low lt high = absurd (omega arith)
-    prev_rises zero (suc j) low lt high = let h = logged.there j (omega arith) (omega arith) in rw h.1 refl
-    prev_rises (suc i) (suc j) low lt high = logged.rises i j (omega arith) (omega arith) (omega arith)
-
     module _ (n : ℕ) where
       -- the entry after a send of logs
       abbrev pub sending : ProgressEntryOf C → ProgressEntryOf C
@@ -138,7 +128,7 @@ module _ {C : Type 0} (eq : C → C → Bool) (cmp : C → C → Ordering) (tota
       sent_logs entry idle long lt =
           let t : nat_lt entry.searching_end (next_index log.purge_upto) ≡ false = grind (arith, nat_tests) in
           let u : (start_of entry log == end_of entry log n) ≡ false = grind (arith, nat_tests) in
-          let v : id_lt cmp (prev_id log.id_at (start_of entry log)) (prev_id log.id_at (end_of entry log n)) ≡ true = prev_rises (start_of entry log) (end_of entry log n) (omega arith) lt (omega arith) in
+          let v : id_lt cmp (prev_id log.id_at (start_of entry log)) (prev_id log.id_at (end_of entry log n)) ≡ true = prev_rises cmp log logged (start_of entry log) (end_of entry log n) (omega arith) lt (omega arith) in
           rw (idle, t, u, v) refl
 
       -- a follower that doesn't agree before the start
@@ -147,7 +137,7 @@ module _ {C : Type 0} (eq : C → C → Bool) (cmp : C → C → Ordering) (tota
       refused_turn entry agree ready lt past =
           let r1 = ready.matched in let r2 = ready.agreed in let r3 = ready.logged in let r4 = ready.kept in
           let id = entry.curr_inflight_id + 1 in
-          let at = prev_at (start_of entry log) (omega arith) (omega arith) in
+          let at = prev_at cmp log logged (start_of entry log) (omega arith) (omega arith) in
           let index = index_from_next (prev_id log.id_at (start_of entry log)) (start_of entry log) at (omega arith) in
           let t : (id == id) ≡ true = eq_self id in
           let u : option_eq nat_eq (index_of (prev_id log.id_at (start_of entry log))) (Some (start_of entry log - 1)) ≡ true = rw (index, same_number (start_of entry log - 1)) refl in
@@ -164,9 +154,9 @@ module _ {C : Type 0} (eq : C → C → Bool) (cmp : C → C → Ordering) (tota
           let to = end_of entry log n in
           let prev = prev_id log.id_at from in
           let last = prev_id log.id_at to in
-          let at0 : next_index prev ≡ from = prev_at from (omega arith) (omega arith) in
-          let at1 : next_index last ≡ to = prev_at to (omega arith) (omega arith) in
-          let less : id_lt cmp prev last ≡ true = prev_rises from to (omega arith) lt (omega arith) in
+          let at0 : next_index prev ≡ from = prev_at cmp log logged from (omega arith) (omega arith) in
+          let at1 : next_index last ≡ to = prev_at cmp log logged to (omega arith) (omega arith) in
+          let less : id_lt cmp prev last ≡ true = prev_rises cmp log logged from to (omega arith) lt (omega arith) in
           let t : (id == id) ≡ true = eq_self id in
           let b1 : id_le cmp prev last ≡ true = lt_le prev last less in
           let b2 : id_le cmp last last ≡ true = le_itself last in
@@ -176,7 +166,7 @@ module _ {C : Type 0} (eq : C → C → Bool) (cmp : C → C → Ordering) (tota
           let forward : id_lt cmp last entry.matching ≡ false = elim ready.left [
             | inl same ↦ absurd (let e = same_next entry.matching log.last same in omega arith)
             | inr more ↦ not_back entry.matching last (lt_le entry.matching last (le_lt entry.matching (prev_id log.id_at (max (next_index entry.matching) (next_index log.purge_upto))) last more.2
-                (prev_rises (max (next_index entry.matching) (next_index log.purge_upto)) to (omega arith) (omega arith) (omega arith))))
+                (prev_rises cmp log logged (max (next_index entry.matching) (next_index log.purge_upto)) to (omega arith) (omega arith) (omega arith))))
           ] in
           let small : nat_lt (next_index last) (2 ^ 64) ≡ true = lt_true (next_index last) (2 ^ 64) (let f = ready.fits in omega arith) in
           let end_is : max entry.searching_end (next_index last) ≡ max entry.searching_end to = rw at1 refl in
@@ -209,7 +199,7 @@ module _ {C : Type 0} (eq : C → C → Bool) (cmp : C → C → Ordering) (tota
           let r1 = ready.matched in let r2 = ready.agreed in let r3 = ready.logged in let r4 = ready.kept in
           let l0 = lt.0 in
           let sent_is = sent_logs entry ready.idle (omega arith) lt.0 in
-          let at = prev_at (start_of entry log) (omega arith) (omega arith) in
+          let at = prev_at cmp log logged (start_of entry log) (omega arith) (omega arith) in
           let t : nat_lt agree (next_index (prev_id log.id_at (start_of entry log))) ≡ true = lt_true agree (next_index (prev_id log.id_at (start_of entry log))) (omega arith) in
           let r = refused_turn entry agree ready lt.0 past in
           rw (sent_is, t, at, r) refl
@@ -220,8 +210,8 @@ module _ {C : Type 0} (eq : C → C → Bool) (cmp : C → C → Ordering) (tota
           let r1 = ready.matched in let r2 = ready.agreed in let r3 = ready.logged in let r4 = ready.kept in
           let l0 = lt.0 in
           let sent_is = sent_logs entry ready.idle (omega arith) lt.0 in
-          let at = prev_at (start_of entry log) (omega arith) (omega arith) in
-          let at1 = prev_at (end_of entry log n) (omega arith) (omega arith) in
+          let at = prev_at cmp log logged (start_of entry log) (omega arith) (omega arith) in
+          let at1 = prev_at cmp log logged (end_of entry log n) (omega arith) (omega arith) in
           let t : nat_lt agree (next_index (prev_id log.id_at (start_of entry log))) ≡ false = lt_false agree (next_index (prev_id log.id_at (start_of entry log))) (omega arith) in
           let r = acked_turn entry agree ready lt.0 past in
           rw (sent_is, t, r, at1) refl
@@ -233,7 +223,7 @@ module _ {C : Type 0} (eq : C → C → Bool) (cmp : C → C → Ordering) (tota
         | inr lt ↦ (let r2 = ready.agreed in let r4 = ready.kept in let l0 = lt.0 in let l1 = lt.1 in
             let sent_is = sent_logs entry ready.idle (omega arith) lt.0 in
             let last_is : range.last ≡ prev_id log.id_at (end_of entry log n) = cc in
-            let at1 = prev_at (end_of entry log n) (omega arith) (omega arith) in
+            let at1 = prev_at cmp log logged (end_of entry log n) (omega arith) (omega arith) in
             let f = ready.fits in
             let is : next_index range.last ≡ end_of entry log n = rw last_is at1 in omega arith)
       ]
@@ -267,7 +257,7 @@ module _ {C : Type 0} (eq : C → C → Bool) (cmp : C → C → Ordering) (tota
       ready_acked entry agree ready lt past =
           let r1 = ready.matched in let r2 = ready.agreed in let r3 = ready.logged in let r4 = ready.kept in
           let l0 = lt.0 in let l1 = lt.1 in let l2 = lt.2 in
-          let at1 = prev_at (end_of entry log n) (omega arith) (omega arith) in
+          let at1 = prev_at cmp log logged (end_of entry log n) (omega arith) (omega arith) in
           record {
             idle = refl;
             some = ready.some;

@@ -1,6 +1,7 @@
 //! What is in flight to a follower, and what its replies make of it.
 ghost use Rattle.std.specs.Prelude.{◌≡◌, ◌↔◌, Some, IsSome, IsTrue};
-ghost use Rattle.raft_base.specs.Validate.{first_false, refusal_of};
+ghost use Rattle.std.specs.Result.{result_err};
+ghost use Rattle.raft_base.specs.Validate.{first_false};
 ghost use Rattle.raft_progress.specs.inflight.Inflight.{id_of, is_idle, is_sending_log, is_sending_snapshot, logs_from, request_of, with_id, wrong_id};
 ghost use Rattle.raft_progress.specs.inflight.InflightTable.{FollowsTable, acked, conflicted};
 ghost use Rattle.raft_progress.specs.inflight.InflightValid.{inflight_relations};
@@ -134,7 +135,7 @@ impl<C: Ord + Copy> InflightOf<C> {
 
     /// Refuses the reply to another request than the one in flight.
     pub fn assert_my_id(&self, request_id: u64) -> Result<(), InflightError>
-        ensures { refusal_of result ≡ wrong_id self.now request_id }
+        ensures { result_err result ≡ wrong_id self.now request_id }
     {
         let mine = self.get_id();
         if mine == Some(request_id) {

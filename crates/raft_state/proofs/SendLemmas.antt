@@ -1,11 +1,12 @@
 -- What is sent over a log that has all its log ids from the purge point on.
-use Rattle.std.proofs.Common.{◌≡◌, ℕ, zero, suc, ◌+◌, ◌^◌, ◌<◌, ◌≤◌, Bool, true, false, ◌&&◌, nat_lt, nat_le, ◌==◌, Result, Ok, Err, IsTrue, refl, sym, subst, arith, inl, inr, ◌∙◌}
+use Rattle.std.proofs.Common.{◌≡◌, ℕ, ◌+◌, ◌^◌, ◌<◌, ◌≤◌, Bool, true, false, ◌&&◌, nat_lt, nat_le, ◌==◌, Result, Ok, Err, IsTrue, refl, sym, subst, arith, inl, inr, ◌∙◌}
 use Rattle.std.proofs.lemmas.Bool.{cases_lt}
 use Rattle.std.proofs.lemmas.Bool.Decides.{nat_tests}
 use Rattle.std.specs.declared.cmp.Ordering.{Ordering}
 use Rattle.raft_base.specs.LogId.{id_lt, next_index}
 use Rattle.raft_base.specs.LogView.{LogView, prev_id}
 use Rattle.raft_base.specs.Logged.{Logged}
+use Rattle.raft_base.proofs.LoggedLemmas.{prev_at, prev_rises}
 use Rattle.raft_progress.specs.entry.Send.{can_be_sent, end_of, sent, start_of}
 use Rattle.raft_progress.specs.inflight.Inflight.{is_idle}
 use Rattle.raft_progress.specs.declared.entry.ProgressEntryOf.{ProgressEntryOf}
@@ -41,18 +42,6 @@ not_both : {S E : Type 0} (e : E) (x : S) → (let r : Result S E = Err e in r) 
 not_both e x h = cc
 
 module _ {C : Type 0} (cmp : C → C → Ordering) (log : LogView C) (logged : Logged cmp log) where
-  -- the log id before index a, for an index from the purge point's to the last one
-  prev_at : (a : ℕ) → next_index log.purge_upto ≤ a → a ≤ next_index log.last → next_index (prev_id log.id_at a) ≡ a
-  prev_at zero low high = refl
-  prev_at (suc i) low high = let h = logged.there i (omega arith) (omega arith) in rw h.1 (let e = h.2 in omega arith)
-
-  -- they rise
-  prev_rises : (a b : ℕ) → next_index log.purge_upto ≤ a → a < b → b ≤ next_index log.last → id_lt cmp (prev_id log.id_at a) (prev_id log.id_at b) ≡ true
-  prev_rises zero zero low lt high = absurd (omega arith)
-  prev_rises (suc i) zero low lt high = absurd (omega arith)
-  prev_rises zero (suc j) low lt high = let h = logged.there j (omega arith) (omega arith) in rw h.1 refl
-  prev_rises (suc i) (suc j) low lt high = logged.rises i j (omega arith) (omega arith) (omega arith)
-
   module _ (n : ℕ) where
     -- the entry once logs are sent from the start to the end
     abbrev with_logs : ProgressEntryOf C → ProgressEntryOf C
@@ -69,7 +58,7 @@ module _ {C : Type 0} (cmp : C → C → Ordering) (log : LogView C) (logged : L
     sent_logs entry idle long lt =
         let t : nat_lt entry.searching_end (next_index log.purge_upto) ≡ false = lt_false entry.searching_end (next_index log.purge_upto) long in
         let u : (start_of entry log == end_of entry log n) ≡ false = eq_false (start_of entry log) (end_of entry log n) lt in
-        let v : id_lt cmp (prev_id log.id_at (start_of entry log)) (prev_id log.id_at (end_of entry log n)) ≡ true = prev_rises (start_of entry log) (end_of entry log n) (omega arith) lt (omega arith) in
+        let v : id_lt cmp (prev_id log.id_at (start_of entry log)) (prev_id log.id_at (end_of entry log n)) ≡ true = prev_rises cmp log logged (start_of entry log) (end_of entry log n) (omega arith) lt (omega arith) in
         rw (idle, t, u, v) refl
 
     -- what is sent is from the log
@@ -84,7 +73,7 @@ module _ {C : Type 0} (cmp : C → C → Ordering) (log : LogView C) (logged : L
               let s : sent cmp entry log n ≡ Ok (with_snapshot entry) = rw (idle, t) refl in
               subst (λ (x : ProgressEntryOf C). FromLog log n entry x.inflight) (ok_inside _ _ (sym s ∙ ok)) refl)
           | inr long ↦ elim (cases_lt (start_of entry log) (end_of entry log n)) [
-            | inl lt ↦ subst (λ (x : ProgressEntryOf C). FromLog log n entry x.inflight) (ok_inside _ _ (sym (sent_logs entry idle long lt) ∙ ok)) (refl, prev_at (start_of entry log) (omega arith) (omega arith), refl, prev_at (end_of entry log n) (omega arith) (omega arith))
+            | inl lt ↦ subst (λ (x : ProgressEntryOf C). FromLog log n entry x.inflight) (ok_inside _ _ (sym (sent_logs entry idle long lt) ∙ ok)) (refl, prev_at cmp log logged (start_of entry log) (omega arith) (omega arith), refl, prev_at cmp log logged (end_of entry log n) (omega arith) (omega arith))
             | inr past ↦ (let t : nat_lt entry.searching_end (next_index log.purge_upto) ≡ false = lt_false entry.searching_end (next_index log.purge_upto) long in
                 let u : (start_of entry log == end_of entry log n) ≡ true = eq_true (start_of entry log) (end_of entry log n) (omega arith) in
                 elim (cases_lt (next_index entry.matching) entry.searching_end) [

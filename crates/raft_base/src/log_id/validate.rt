@@ -1,6 +1,6 @@
 //! Values that may break the relations between their parts.
 ghost use Rattle.std.specs.Prelude.{◌≡◌, Option};
-ghost use Rattle.raft_base.specs.Validate.{refusal_of};
+ghost use Rattle.std.specs.Result.{result_err};
 ghost use Rattle.raft_base.specs.declared.log_id.validate.Invalid.{Invalid};
 
 use thiserror::Error;
@@ -56,5 +56,5 @@ pub trait Validate {
 
     /// Refuses a value by the first relation that it breaks, in the order of its type.
     fn validate(&self) -> Result<(), Invalid>
-        ensures { refusal_of result ≡ broken self.now };
+        ensures { result_err result ≡ broken self.now };
 }

@@ -1,10 +1,10 @@
 //! What changes the membership in effect.
 ghost use Rattle.std.specs.Prelude.{◌≡◌, ◌<◌, None, IfOk, IfErr, true, length};
+ghost use Rattle.std.specs.Result.{result_err};
 ghost use Rattle.std.specs.Set.{ClonesAreEqual};
 ghost use Rattle.raft_members.specs.Change.{changed};
 ghost use Rattle.raft_members.specs.Coherence.{is_coherent};
 ghost use Rattle.raft_members.specs.Members.{members_of, Says};
-ghost use Rattle.raft_members.specs.Refusal.{err_of};
 ghost use Rattle.raft_members.specs.ReplaceAll.{OnlyMemory, TwoChanges};
 ghost use Rattle.raft_members.specs.Valid.{IsValid};
 ghost use Rattle.raft_state.specs.Apply.{effective_members, in_progress, IsApplyRefusal};
@@ -78,7 +78,7 @@ impl<'m, C: Ord + Copy + Default + Debug + Drop, NID: NodeId, N: Node> ChangeHan
 
     /// Refuses while the membership in effect is not committed. No memory is taken.
     pub fn ensure_committed(&self) -> Result<(), InProgressOf<C>>
-        ensures { err_of result ≡ in_progress C.eq self.now.state.now }
+        ensures { result_err result ≡ in_progress C.eq self.now.state.now }
     {
         let effective = *self.state.effective().log_id();
         let committed = *self.state.committed().log_id();
