@@ -3,7 +3,7 @@ ghost use Rattle.std.specs.Prelude.{◌≡◌, ◌↔◌, Some, IsSome, IsTrue};
 ghost use Rattle.std.specs.Result.{result_err};
 ghost use Rattle.raft_base.specs.Validate.{first_false};
 ghost use Rattle.raft_progress.specs.inflight.Inflight.{id_of, is_idle, is_sending_log, is_sending_snapshot, logs_from, request_of, with_id, wrong_id};
-ghost use Rattle.raft_progress.specs.inflight.InflightTable.{FollowsTable, acked, conflicted};
+ghost use Rattle.raft_progress.specs.inflight.InflightTable.{FollowsTable, acked, conflicted, is_within};
 ghost use Rattle.raft_progress.specs.inflight.InflightValid.{inflight_relations};
 ghost use Rattle.raft_progress.specs.declared.inflight.InflightOf.TheVariants.{Snapshot};
 
@@ -199,12 +199,10 @@ impl<C: Ord + Copy> InflightOf<C> {
             }),
             InflightOf::Logs { id, log_id_range } => {
                 self.assert_my_id(request_id)?;
-                let LogIdRangeOf { prev, last } = log_id_range;
-                let is_in_order = prev <= upto && upto <= last;
-                if !(is_in_order && prev.index() <= upto.index() && upto.index() <= last.index()) {
+                if !is_within(&log_id_range, upto) {
                     return Err(InflightError::AckOutOfRange);
                 }
-                *self = InflightOf::logs(upto, last).with_id(id);
+                *self = InflightOf::logs(upto, log_id_range.last).with_id(id);
                 Ok(())
             }
             InflightOf::Snapshot { last_log_id, .. } => {
@@ -242,6 +240,15 @@ impl<C: Ord + Copy> InflightOf<C> {
             }
         }
     }
+}
+
+/// Whether a log id lies between the ends of a range, by order and by index.
+fn is_within<C: Ord + Copy>(range: &LogIdRangeOf<C>, upto: Option<LogIdOf<C>>) -> bool
+    ensures { result ≡ is_within C.cmp range.now upto }
+{
+    let LogIdRangeOf { prev, last } = *range;
+    let index = upto.index();
+    prev <= upto && upto <= last && prev.index() <= index && index <= last.index()
 }
 
 impl<C: Ord + Copy> Validate for InflightOf<C> {

@@ -15,6 +15,7 @@ pub mod snapshot_meta;
 pub mod vote_state_reader;
 
 pub use accepted::{Accepted, AcceptedIn, AcceptedOf};
+pub use catch_up::FollowersOf;
 pub use entry::{
     Entry, EntryOf, EntryPayload, FromAppData, RaftEntry, RaftEntryOf, RaftPayload, RaftPayloadOf,
 };

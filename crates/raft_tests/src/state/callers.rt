@@ -19,15 +19,12 @@ use raft_base::{
     LogStateReader, Node, NodeId, Validate,
 };
 use raft_members::quorum::QuorumSet;
-use raft_progress::{InflightOf, ProgressEntryOf, VecProgress};
-use raft_state::RaftStateIn;
+use raft_progress::{InflightOf, ProgressEntryOf};
+use raft_state::{FollowersOf, RaftStateIn};
 use raft_state::laws::sends_from_log;
 use std::alloc::{AllocError, Global};
 use std::process::Abort;
 use std::test::Fail;
-
-/// What a quorum of a leader's followers has.
-type Followers<NID, C, QS> = VecProgress<NID, ProgressEntryOf<C>, Option<LogIdOf<C>>, QS>;
 
 /// A leader with a valid state commits what a quorum of its followers has, if that is in its log
 /// and more than is committed.
@@ -40,7 +37,7 @@ fn commit_granted<
     QS: QuorumSet<NID> + Drop,
 >(
     state: &mut RaftStateIn<NID, N, I, L, C>,
-    followers: &Followers<NID, C, QS>,
+    followers: &FollowersOf<C, NID, QS>,
 ) -> Result<bool, AllocError>
     ensures valid { IfOk result (λ more. IsTrue more → broken_relation C.cmp state.old ≡ None) }
     ensures in_log { IfOk result (λ more. IsTrue more → IsTrue (id_le C.cmp
@@ -106,7 +103,7 @@ fn sends_right<K: LeaderKind<u64>>(state: &State<K>) -> bool {
 fn followers<K: LeaderKind<u64>>(
     rt: &impl Abort,
     alloc: Global,
-) -> Result<Followers<u64, K::Committed, Vec<u64>>, AllocError> {
+) -> Result<FollowersOf<K::Committed, u64, Vec<u64>>, AllocError> {
     let ids = vec![in alloc; 1, 2, 3]?;
     let mut followers = made(rt, alloc, ids, &[], ProgressEntryOf::empty(5))?;
     for id in [1, 2] {
@@ -117,12 +114,11 @@ fn followers<K: LeaderKind<u64>>(
 }
 
 /// Whether a leader commits its followers' match once.
-fn commits_right<K: LeaderKind<u64>>(
-    mut state: State<K>,
-    followers: &Followers<u64, K::Committed, Vec<u64>>,
-) -> Result<bool, AllocError> {
-    let first = commit_granted(&mut state, followers)?;
-    let second = commit_granted(&mut state, followers)?;
+fn commits_right<K: LeaderKind<u64>>(rt: &impl Abort, alloc: Global) -> Result<bool, AllocError> {
+    let mut state = valid_state::<K>(alloc)?;
+    let followers = followers::<K>(rt, alloc)?;
+    let first = commit_granted(&mut state, &followers)?;
+    let second = commit_granted(&mut state, &followers)?;
     Ok(first && !second && state.committed == id::<K>(Some((3, 4))))
 }
 
@@ -131,7 +127,7 @@ fn a_leader_sends_and_commits(rt: HostRuntime) -> Result<(), Fail> {
     let alloc = rt.alloc();
     assert!(rt; sends_right::<LeaderAdv>(&valid_state::<LeaderAdv>(alloc)?));
     assert!(rt; sends_right::<LeaderStd>(&valid_state::<LeaderStd>(alloc)?));
-    let granted = followers::<LeaderAdv>(&rt, alloc)?;
-    assert!(rt; commits_right::<LeaderAdv>(valid_state::<LeaderAdv>(alloc)?, &granted)?);
+    assert!(rt; commits_right::<LeaderAdv>(&rt, alloc)?);
+    assert!(rt; commits_right::<LeaderStd>(&rt, alloc)?);
     Ok(())
 }
