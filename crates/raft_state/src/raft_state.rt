@@ -42,7 +42,7 @@ use std::fmt;
 ///
 /// A node decides by this state and not by what is on disk, which may be behind: `io_state` says
 /// how far storage has got.
-#[derive(Clone, PartialEq, Eq, Drop)]
+#[derive(PartialEq, Eq, Drop)]
 pub struct RaftStateIn<NID: NodeId, N: Node, I: Instant, L, C: Ord + Copy> {
     /// The vote, and the moment of its last update.
     pub vote: UTime<VoteIn<L>, I>,
@@ -243,25 +243,7 @@ impl<
         ensures rest { IfOk result (λ copy.
             copy ≡ record self.now { snapshot_meta = copy.snapshot_meta }) }
     {
-        let vote = *self.vote.get();
-        Ok(RaftStateIn {
-            vote: match self.vote.utime() {
-                Some(moment) => UTime::new(moment, vote),
-                None => UTime::without_utime(vote),
-            },
-            committed: self.committed,
-            purged_next: self.purged_next,
-            log_ids: self.log_ids.try_clone()?,
-            membership_state: self.membership_state.try_clone()?,
-            snapshot_meta: self.snapshot_meta.try_clone()?,
-            server_state: self.server_state,
-            accepted: AcceptedIn {
-                leader_id: self.accepted.leader_id,
-                log_id: self.accepted.log_id,
-            },
-            io_state: self.io_state,
-            purge_upto: self.purge_upto,
-        })
+        self.with_snapshot_meta(self.snapshot_meta.try_clone()?)
     }
 
     /// The vote.
@@ -533,6 +515,48 @@ impl<
                 Some(node) => Ok(ForwardToLeader::new(id, node.clone()?)),
             },
         }
+    }
+}
+
+impl<NID: NodeId, N: Node, I: Instant, L: Copy, C: Ord + Copy + Drop> RaftStateIn<NID, N, I, L, C> {
+    /// The same state with another snapshot. The memberships are shared.
+    fn with_snapshot_meta(
+        &self,
+        snapshot_meta: SnapshotMetaOf<C, NID, N>,
+    ) -> Result<Self, AllocError>
+        ensures { IfOk result (λ copy. copy ≡ record self.now { snapshot_meta = snapshot_meta }) }
+    {
+        let vote = *self.vote.get();
+        Ok(RaftStateIn {
+            vote: match self.vote.utime() {
+                Some(moment) => UTime::new(moment, vote),
+                None => UTime::without_utime(vote),
+            },
+            committed: self.committed,
+            purged_next: self.purged_next,
+            log_ids: self.log_ids.try_clone()?,
+            membership_state: self.membership_state.try_clone()?,
+            snapshot_meta,
+            server_state: self.server_state,
+            accepted: AcceptedIn {
+                leader_id: self.accepted.leader_id,
+                log_id: self.accepted.log_id,
+            },
+            io_state: self.io_state,
+            purge_upto: self.purge_upto,
+        })
+    }
+}
+
+/// The memberships are shared, and the nodes in the snapshot's are cloned.
+impl<NID: NodeId, N: Node, I: Instant, L: Copy, C: Ord + Copy + Drop> Clone
+    for RaftStateIn<NID, N, I, L, C> {
+    ghost is_clone = { λ state copy.
+        ⟦<SnapshotMetaOf<C, NID, N> as Clone>⟧.is_clone state.snapshot_meta copy.snapshot_meta
+        × (copy ≡ record state { snapshot_meta = copy.snapshot_meta }) };
+
+    fn clone(&self) -> Result<Self, AllocError> {
+        self.with_snapshot_meta(self.snapshot_meta.clone()?)
     }
 }
 
