@@ -1,5 +1,5 @@
 -- What a copy of the refusal to start a cluster has to say.
-use Rattle.std.specs.Prelude.{◌≡◌, Bool, IsTrue}
+use Rattle.std.specs.Prelude.{◌≡◌, Bool, true, false, IsTrue}
 use Rattle.raft_members.specs.Members.{same_members}
 use Rattle.raft_members.specs.declared.membership.initialize_error.InitializeErrorIn.{InitializeErrorIn}
 use Rattle.raft_members.specs.declared.membership.initialize_error.InitializeErrorIn.TheVariants.{NotAllowed, NotInMembers}
@@ -9,3 +9,8 @@ abbrev pub IsCopyOf : {L C K N : Type 0} → (K → K → Bool) → (N → N →
 IsCopyOf eq same (NotAllowed refused) copy = copy ≡ NotAllowed refused
 IsCopyOf eq same (NotInMembers refused) (NotAllowed copy) = ⊥
 IsCopyOf eq same (NotInMembers refused) (NotInMembers copy) = (copy.node_id ≡ refused.node_id) × IsTrue (same_members eq same refused.membership copy.membership)
+
+-- the refusal is that the node belongs to a cluster, and has no membership
+abbrev pub is_not_allowed : {L C K N : Type 0} → InitializeErrorIn L C K N → Bool
+is_not_allowed (NotAllowed refused) = true
+is_not_allowed (NotInMembers refused) = false

@@ -1,5 +1,5 @@
 -- What a commit, an append, a truncation and a snapshot make of the two memberships. Log ids are ordered by leader, then by index, and an absent one is below each that is there.
-use Rattle.std.specs.Prelude.{ℕ, Bool, true, not, ◌&&◌, Option, Some, None, if◌then◌else◌}
+use Rattle.std.specs.Prelude.{ℕ, Bool, true, not, ◌&&◌, ◌||◌, Option, Some, None, if◌then◌else◌}
 use Rattle.std.specs.declared.cmp.Ordering.{Ordering}
 use Rattle.raft_base.specs.declared.log_id.LogIdOf.{LogIdOf}
 use Rattle.raft_base.specs.LogId.{id_le, id_lt, index_of, same_ids}
@@ -49,6 +49,11 @@ after_update_committed cmp new upto m =
       committed = if id_lt cmp (log_id_of m.committed) (log_id_of new) then new else m.committed;
       effective = if index_le (index_at m.effective) (index_at new) then new else m.effective;
     }
+
+-- the new one takes the place of both
+abbrev pub replaces_both : {C K N : Type 0} → (C → C → Ordering) → StoredMembershipOf C K N → ℕ → Memberships C K N → Bool
+replaces_both cmp new upto m =
+    is_covered upto m || (index_le (index_at m.effective) (index_at new) && id_lt cmp (log_id_of m.committed) (log_id_of new))
 
 -- another membership is in effect than before
 abbrev pub effect_changes : {C K N : Type 0} → (K → K → Bool) → (N → N → Bool) → Memberships C K N → Memberships C K N → Bool

@@ -1,7 +1,7 @@
 //! Log entries.
-ghost use Rattle.std.specs.Prelude.{◌≡◌, IfOk, IsTrue, refl};
+ghost use Rattle.std.specs.Prelude.{◌≡◌, IfOk, IsOk, IsTrue, refl};
 ghost use Rattle.std.specs.Set.{ClonesAreEqual};
-ghost use Rattle.raft_state.specs.Entry.{same_payload, IsDefaultLogId};
+ghost use Rattle.raft_state.specs.Entry.{is_blank_payload, same_payload, IsDefaultLogId};
 
 pub mod payload;
 mod traits;
@@ -35,7 +35,7 @@ impl<C: Copy, NID: NodeId, N: Node, D> EntryOf<C, NID, N, D> {
         self
     }
 
-    /// An equal entry, with clones of the data and of the nodes.
+    /// An equal entry, with clones of the data and of the nodes. A blank one takes no memory.
     pub fn try_clone(&self) -> Result<Self, AllocError>
     where
         D: Clone + PartialEq + Drop,
@@ -44,6 +44,7 @@ impl<C: Copy, NID: NodeId, N: Node, D> EntryOf<C, NID, N, D> {
         ensures log_id { IfOk result (λ copy. copy.log_id ≡ self.now.log_id) }
         ensures payload { IfOk result (λ copy.
             IsTrue (same_payload NID.eq N.eq D.eq self.now.payload copy.payload)) }
+        ensures no_memory { IsTrue (is_blank_payload self.now.payload) → IsOk result }
     {
         Ok(EntryOf {
             log_id: self.log_id,

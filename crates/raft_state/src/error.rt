@@ -1,5 +1,5 @@
 //! Why a node does not serve a request.
-ghost use Rattle.std.specs.Prelude.{◌≡◌, Some, None, IfOk, IsTrue};
+ghost use Rattle.std.specs.Prelude.{◌≡◌, Some, None, IfOk, IsOk, IsTrue};
 ghost use Rattle.std.specs.Option.{option_eq};
 ghost use Rattle.std.specs.Set.{ClonesAreEqual};
 
@@ -38,12 +38,13 @@ impl<NID: NodeId, N: Node> ForwardToLeader<NID, N> {
         }
     }
 
-    /// An equal error, with a clone of the node.
+    /// An equal error, with a clone of the node. Without one no memory is taken.
     pub fn try_clone(&self) -> Result<Self, AllocError>
         requires { ClonesAreEqual N.eq N.is_clone }
         ensures leader_id { IfOk result (λ copy. copy.leader_id ≡ self.now.leader_id) }
         ensures leader_node { IfOk result (λ copy.
             IsTrue (option_eq N.eq self.now.leader_node copy.leader_node)) }
+        ensures no_memory { self.now.leader_node ≡ None → IsOk result }
     {
         Ok(ForwardToLeader {
             leader_id: self.leader_id,

@@ -1,5 +1,5 @@
 //! The memberships of a node: the last committed one, and the one in effect.
-ghost use Rattle.std.specs.Prelude.{◌≡◌, IsTrue, IfOk, OnOk, OnErr, MatchResult, Some, is_some};
+ghost use Rattle.std.specs.Prelude.{◌≡◌, IsTrue, IfOk, IsOk, OnOk, OnErr, MatchResult, Some, false, is_some};
 ghost use Rattle.std.specs.Option.{option_map};
 ghost use Rattle.std.specs.Cmp.{partial_equiv_from_equiv};
 ghost use Rattle.raft_base.specs.Validate.{first_false};
@@ -9,7 +9,7 @@ ghost use Rattle.raft_members.specs.Members.{node_at};
 ghost use Rattle.raft_members.specs.Stored.{membership_of};
 ghost use Rattle.raft_state.specs.Memberships.{index_at, same_memberships, IsNoMembership};
 ghost use Rattle.raft_state.specs.MembershipsLaws.{same_memberships-equiv};
-ghost use Rattle.raft_state.specs.MembershipMoves.{after_commit, may_commit, after_append, may_append, after_truncate, is_cut, after_update_committed, effect_changes, effective_where};
+ghost use Rattle.raft_state.specs.MembershipMoves.{after_commit, commits, may_commit, after_append, may_append, after_truncate, is_cut, after_update_committed, effect_changes, effective_where, replaces_both};
 ghost use Rattle.raft_state.specs.MembershipRelations.{membership_relations};
 
 mod change_handler;
@@ -134,13 +134,14 @@ impl<C: Ord + Copy + Drop, NID: NodeId, N: Node> MembershipStateOf<C, NID, N> {
     }
 
     /// Takes the log as committed up to a log id. The membership in effect is committed with it, if
-    /// it is not past it.
+    /// it is not past it; else no memory is taken.
     ///
     /// After an error nothing has changed.
     pub fn commit(&mut self, log_id: &Option<LogIdOf<C>>) -> Result<(), AllocError>
         requires { IsTrue (may_commit C.cmp log_id.now self.old) }
         ensures ok { OnOk result (self.new ≡ after_commit C.cmp log_id.now self.old) }
         ensures err { OnErr result (self.new ≡ self.old) }
+        ensures no_memory { commits C.cmp log_id.now self.old ≡ false → IsOk result }
     {
         if log_id_at_most(*self.effective.log_id(), *log_id) {
             self.committed = self.effective.clone()?;
@@ -153,7 +154,8 @@ impl<C: Ord + Copy + Drop, NID: NodeId, N: Node> MembershipStateOf<C, NID, N> {
     ///
     /// Where the snapshot has the membership in effect in it, only the new one is left. Else that
     /// one may be of a log that conflicts with the leader's, so their indexes are compared and not
-    /// their log ids. After an error nothing has changed.
+    /// their log ids. Unless the new one takes the place of both, no memory is taken. After an error
+    /// nothing has changed.
     pub fn update_committed(
         &mut self,
         membership: Rc<EffectiveMembershipOf<C, NID, N>>,
@@ -166,6 +168,8 @@ impl<C: Ord + Copy + Drop, NID: NodeId, N: Node> MembershipStateOf<C, NID, N> {
             self.old) × (option_map (λ r. r.now.value) answer
             ≡ effective_where (effect_changes NID.eq N.eq self.old new) new))
             (λ _. new ≡ self.old))) }
+        ensures no_memory { replaces_both C.cmp membership.value snapshot_last_log_index self.old
+            ≡ false → IsOk result }
     {
         if self.take_over(membership, snapshot_last_log_index)? {
             Ok(Some(&self.effective))
@@ -185,6 +189,8 @@ impl<C: Ord + Copy + Drop, NID: NodeId, N: Node> MembershipStateOf<C, NID, N> {
         ensures changed { IfOk result (λ changed. changed ≡ effect_changes NID.eq N.eq self.old
             (after_update_committed C.cmp membership.value upto self.old)) }
         ensures err { OnErr result (self.new ≡ self.old) }
+        ensures no_memory { replaces_both C.cmp membership.value upto self.old ≡ false
+            → IsOk result }
     {
         let present = *self.effective.log_id();
         let new = *membership.log_id();
@@ -230,7 +236,7 @@ impl<C: Ord + Copy + Drop, NID: NodeId, N: Node> MembershipStateOf<C, NID, N> {
 
     /// Takes the log as cut off from an index on, which is past the committed membership. Where the
     /// membership in effect is cut off with it, the committed one is in effect again and is
-    /// answered.
+    /// answered; else no memory is taken.
     ///
     /// After an error nothing has changed.
     pub fn truncate(
@@ -244,6 +250,7 @@ impl<C: Ord + Copy + Drop, NID: NodeId, N: Node> MembershipStateOf<C, NID, N> {
             (λ answer. (new ≡ after_truncate since self.old) × (option_map (λ r. r.now.value) answer
             ≡ effective_where (is_cut since self.old) new))
             (λ _. new ≡ self.old))) }
+        ensures no_memory { is_cut since self.old ≡ false → IsOk result }
     {
         if self.revert(since)? {
             Ok(Some(&self.effective))
@@ -257,6 +264,7 @@ impl<C: Ord + Copy + Drop, NID: NodeId, N: Node> MembershipStateOf<C, NID, N> {
         ensures ok { OnOk result (self.new ≡ after_truncate since self.old) }
         ensures reverted { IfOk result (λ reverted. reverted ≡ is_cut since self.old) }
         ensures err { OnErr result (self.new ≡ self.old) }
+        ensures no_memory { is_cut since self.old ≡ false → IsOk result }
     {
         if index_at_most(Some(since), self.effective.log_id().index()) {
             self.effective = self.committed.clone()?;

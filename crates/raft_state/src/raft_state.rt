@@ -1,5 +1,5 @@
 //! The whole state of a node.
-ghost use Rattle.std.specs.Prelude.{◌≡◌, ◌+◌, ◌&&◌, true, IsTrue, IfOk, OnOk, OnErr, Some, None, [], map};
+ghost use Rattle.std.specs.Prelude.{◌≡◌, ◌+◌, ◌&&◌, true, false, IsTrue, IfOk, IsOk, OnOk, OnErr, Some, None, [], map};
 ghost use Rattle.std.specs.List.{list_all};
 ghost use Rattle.std.specs.Option.{option_copied};
 ghost use Rattle.std.specs.Ordering.{partial_ge};
@@ -10,7 +10,7 @@ ghost use Rattle.raft_base.specs.UTime.{data_of, moment_of};
 ghost use Rattle.raft_members.specs.Majority.{is_voter_of};
 ghost use Rattle.raft_members.specs.Stored.{membership_of};
 ghost use Rattle.raft_state.specs.Accepted.{leader_of, accepted_id, after_accept};
-ghost use Rattle.raft_state.specs.Commit.{state_after_commit, committed_before, state_may_commit};
+ghost use Rattle.raft_state.specs.Commit.{state_after_commit, committed_before, state_commits, state_may_commit};
 ghost use Rattle.raft_state.specs.FirstDenied.{first_denied};
 ghost use Rattle.raft_state.specs.FullLog.{full_log, same_log};
 ghost use Rattle.raft_state.specs.Leads.{is_initialized, is_leading, server_state_of, leading_node, ForwardsTo};
@@ -340,7 +340,8 @@ impl<
     }
 
     /// Takes a greater committed log id, commits the membership in effect if it is not past it, and
-    /// answers the log id of before. Another log id changes nothing, and nothing is answered.
+    /// answers the log id of before. Another log id changes nothing, and nothing is answered. Only
+    /// a membership that is committed wants memory.
     ///
     /// After an error nothing has changed.
     pub fn update_committed(
@@ -352,6 +353,7 @@ impl<
             before ≡ committed_before C.cmp committed.now self.old) }
         ensures ok { OnOk result (self.new ≡ state_after_commit C.cmp committed.now self.old) }
         ensures err { OnErr result (self.new ≡ self.old) }
+        ensures no_memory { state_commits C.cmp committed.now self.old ≡ false → IsOk result }
     {
         if *committed > self.committed {
             let before = self.committed;
@@ -498,11 +500,14 @@ impl<
     }
 
     /// The node that requests belong to: the one that a committed vote is for, if the membership in
-    /// effect has it.
+    /// effect has it. Where there is none, no memory is taken.
     pub fn forward_to_leader(&self) -> Result<ForwardToLeader<NID, N>, AllocError>
         requires { ClonesAreEqual N.eq N.is_clone }
-        ensures { IfOk result (ForwardsTo N.eq (leading_node NID.cmp L.voted
+        ensures node { IfOk result (ForwardsTo N.eq (leading_node NID.cmp L.voted
             (membership_of self.now.membership_state.effective) (data_of self.now.vote))) }
+        ensures no_memory { leading_node NID.cmp L.voted
+            (membership_of self.now.membership_state.effective) (data_of self.now.vote)
+            ≡ None → IsOk result }
     {
         let vote = self.vote.get();
         if !vote.is_committed() {

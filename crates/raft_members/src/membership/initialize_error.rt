@@ -1,8 +1,8 @@
 //! Why a node does not start a new cluster.
-ghost use Rattle.std.specs.Prelude.{◌≡◌, IfOk, IsTrue};
+ghost use Rattle.std.specs.Prelude.{◌≡◌, IfOk, IsOk, IsTrue};
 ghost use Rattle.std.specs.Set.{ClonesAreEqual};
 ghost use Rattle.raft_members.specs.Members.{same_members};
-ghost use Rattle.raft_members.specs.InitializeError.{IsCopyOf};
+ghost use Rattle.raft_members.specs.InitializeError.{IsCopyOf, is_not_allowed};
 
 use super::Membership;
 use crate::error::NotAllowedIn;
@@ -69,10 +69,11 @@ impl<
     NID: NodeId,
     N: Node,
 > InitializeErrorIn<L, C, NID, N> {
-    /// An equal error, with clones of the nodes.
+    /// An equal error, with clones of the nodes. Where it has no membership, no memory is taken.
     pub fn try_clone(&self) -> Result<Self, AllocError>
         requires { ClonesAreEqual N.eq N.is_clone }
-        ensures { IfOk result (IsCopyOf NID.eq N.eq self.now) }
+        ensures equal { IfOk result (IsCopyOf NID.eq N.eq self.now) }
+        ensures no_memory { IsTrue (is_not_allowed self.now) → IsOk result }
     {
         Ok(match self {
             InitializeErrorIn::NotAllowed(refused) => {

@@ -1,7 +1,7 @@
 //! What log entries hold.
-ghost use Rattle.std.specs.Prelude.{◌≡◌, IfOk, IsTrue};
+ghost use Rattle.std.specs.Prelude.{◌≡◌, IfOk, IsOk, IsTrue};
 ghost use Rattle.std.specs.Set.{ClonesAreEqual};
-ghost use Rattle.raft_state.specs.Entry.{same_payload};
+ghost use Rattle.raft_state.specs.Entry.{is_blank_payload, same_payload};
 
 use super::traits::RaftPayloadOf;
 use raft_base::{MessageSummary, Node, NodeId};
@@ -21,12 +21,13 @@ pub enum EntryPayload<NID: NodeId, N: Node, D> {
 }
 
 impl<NID: NodeId, N: Node, D: Clone + PartialEq + Drop> EntryPayload<NID, N, D> {
-    /// An equal payload, with a clone of the data or of the nodes.
+    /// An equal payload, with a clone of the data or of the nodes. A blank one takes no memory.
     pub fn try_clone(&self) -> Result<Self, AllocError>
         requires nodes { ClonesAreEqual N.eq N.is_clone }
         requires data { ClonesAreEqual D.eq D.is_clone }
-        ensures { IfOk result (λ copy.
+        ensures equal { IfOk result (λ copy.
             IsTrue (same_payload NID.eq N.eq D.eq self.now copy)) }
+        ensures no_memory { IsTrue (is_blank_payload self.now) → IsOk result }
     {
         Ok(match self {
             EntryPayload::Blank => EntryPayload::Blank,

@@ -1,4 +1,4 @@
-use Rattle.std.proofs.Common.{◌≡◌, ◌-◌, suc, sym, arith, ◌∙◌, length, get_or}
+use Rattle.std.proofs.Common.{◌≡◌, ◌-◌, suc, sym, ap, arith, ◌∙◌, length, get_or, set}
 use Rattle.raft_state.proofs.AppendLemmas.{gives_way, comes_after}
 use Rattle.raft_state.proofs.log_id_list.keys.append.Goals as goal
 use Rattle.raft_state.proofs.log_id_list.keys.append.Goals.{else-count-ge2-via-then-count-ge2+else-eq, else-count-ge2-via-else-count-ge2}
@@ -9,7 +9,8 @@ returns-then-eq-clause-ok g c =
     let len : length c.args.keys.now.items ≡ suc (suc n) = omega (arith, c.len-count.ensures, c.args.keys.now.ok.0) in
     let place : c.len-count.result - 1 ≡ suc n = omega arith in
     let y = c.index-then-count-ge2.result.now in
-    rw place (gives_way g.C.PartialEq.eq g.met.C.Eq.laws.refl c.args.keys.now.items n c.args.id c.index.result.now y len c.index.ensures (rw place at c.index-then-count-ge2.ensures) (sym c.eq.ensures ∙ c.if-eq.true))
+    ap (λ at. set c.args.keys.now.items at c.args.id) place
+    ∙ gives_way g.C.PartialEq.eq g.met.C.Eq.laws.refl c.args.keys.now.items n c.args.id c.index.result.now y len c.index.ensures (rw place at c.index-then-count-ge2.ensures) (sym c.eq.ensures ∙ c.if-eq.true)
 
 pub returns-in_ok-push-clause-ok : goal.returns-in_ok-push-clause-ok
 returns-in_ok-push-clause-ok g c =
