@@ -53,6 +53,20 @@ impl<L: Eq + Copy, C: Copy> AcceptedIn<L, C> {
     }
 }
 
+impl<L: Eq + Copy, C: Ord + Copy> AcceptedIn<L, C> {
+    ghost use Rattle.raft_state.specs.Accepted.{after_accept};
+
+    /// Takes a log id that was accepted of a leader, if it is greater than the last one of this
+    /// leader.
+    pub(crate) fn update(&mut self, leader_id: L, log_id: Option<LogIdOf<C>>)
+        ensures { self.new ≡ after_accept L.eq C.cmp self.old leader_id log_id }
+    {
+        if log_id.as_ref() > self.last_accepted_log_id(&leader_id) {
+            *self = AcceptedIn::new(leader_id, log_id);
+        }
+    }
+}
+
 // By hand, for the name that the type goes by.
 impl<L: fmt::Debug, C: fmt::Debug> fmt::Debug for AcceptedIn<L, C> {
     fn fmt<W: fmt::Write>(&self, f: &mut fmt::Formatter<W>) -> fmt::Result {

@@ -292,9 +292,7 @@ impl<
         } }
     {
         let leader_id = self.vote.get().leader_id;
-        if accepted.as_ref() > self.accepted.last_accepted_log_id(&leader_id) {
-            self.accepted = AcceptedIn::new(leader_id, accepted);
-        }
+        self.accepted.update(leader_id, accepted);
     }
 
     /// Appends log ids of one leader to the log, as `LogIdListOf::extend_from_same_leader`.
