@@ -17,9 +17,12 @@ fn id() -> LogId<u64> {
     LogId::new(CommittedLeaderId::new(1, 2), 3)
 }
 
+fn membership(alloc: Global) -> Result<Membership<u64, u64>, AllocError> {
+    members(alloc, "1,2/2,4", "1=10,2=20,3=30,5=50")
+}
+
 fn stored(alloc: Global) -> Result<Stored, AllocError> {
-    let membership = members(alloc, "1,2/2,4", "1=10,2=20,3=30,5=50")?;
-    Ok(Stored::new(Some(id()), membership))
+    Ok(Stored::new(Some(id()), membership(alloc)?))
 }
 
 fn effective(alloc: Global) -> Result<Effective, AllocError> {
@@ -50,10 +53,13 @@ fn an_effective_membership_asks_each_config(rt: HostRuntime) -> Result<(), Fail>
 }
 
 /// Whether a stored membership reads back.
-fn stored_reads(stored: &Stored) -> bool {
-    *stored.log_id() == Some(id())
-        && stored.nodes().count() == 4
-        && stored.membership().is_in_joint_consensus()
+fn stored_reads(stored: &Stored) -> Result<bool, AllocError> {
+    Ok(
+        *stored.log_id() == Some(id())
+            && stored.nodes().count() == 4
+            && stored.membership().is_in_joint_consensus()
+            && stored.voter_ids()?.as_slice() == [1, 2, 4].as_slice(),
+    )
 }
 
 /// Whether an effective membership reads as its stored one.
@@ -66,23 +72,32 @@ fn effective_reads(effective: &Effective, stored: &Stored) -> bool {
 }
 
 /// Whether its voters and learners are 1, 2, 4 and 3, 5, with the nodes of the last.
-fn ids_read(effective: &Effective) -> bool {
-    effective.voter_ids().eq([1, 2, 4].iter())
-        && effective.learner_ids().eq([3, 5].iter().copied())
-        && effective.is_voter(&4)
-        && !effective.is_voter(&3)
-        && effective.get_node(&5) == Some(&50)
-        && effective.get_node(&4).is_none()
+fn ids_read(alloc: Global, effective: &Effective) -> Result<bool, AllocError> {
+    Ok(
+        effective.voter_ids().eq([1, 2, 4].iter())
+            && effective.learner_ids().eq([3, 5].iter().copied())
+            && effective.is_voter(&4)
+            && !effective.is_voter(&3)
+            && effective.get_node(&5) == Some(&50)
+            && effective.get_node(&4).is_none()
+            && effective.ids(alloc)?.as_slice() == [1, 2, 4].as_slice(),
+    )
+}
+
+/// Whether a stored and an effective membership read back.
+fn both_read(alloc: Global) -> Result<bool, AllocError> {
+    let stored = stored(alloc)?;
+    let effective = effective(alloc)?;
+    Ok(
+        stored_reads(&stored)?
+            && effective_reads(&effective, &stored)
+            && ids_read(alloc, &effective)?,
+    )
 }
 
 #[test]
 fn stored_and_effective_memberships_read_back(rt: HostRuntime) -> Result<(), Fail> {
-    let stored = stored(rt.alloc())?;
-    assert!(rt; stored_reads(&stored));
-    assert!(rt; stored.voter_ids()?.as_slice() == [1, 2, 4].as_slice());
-    let effective = effective(rt.alloc())?;
-    assert!(rt; effective_reads(&effective, &stored) && ids_read(&effective));
-    assert!(rt; effective.ids(rt.alloc())?.as_slice() == [1, 2, 4].as_slice());
+    assert!(rt; both_read(rt.alloc())?);
     Ok(())
 }
 
@@ -104,23 +119,26 @@ fn clones_are_equal(rt: HostRuntime) -> Result<(), Fail> {
     Ok(())
 }
 
-/// An effective membership of the same membership, with another log id or none.
-fn with_log_id(alloc: Global, log_id: Option<LogId<u64>>) -> Result<Effective, AllocError> {
-    Effective::new(log_id, stored(alloc)?.membership().try_clone()?)
+/// Whether an effective membership equals one of the same configs and nodes, under a log id or none.
+fn equals(alloc: Global, made: &Effective, log_id: Option<LogId<u64>>) -> Result<bool, AllocError> {
+    Ok(*made == Effective::new(log_id, membership(alloc)?)?)
 }
 
-/// Whether three effective memberships are two equal ones and another.
-fn are_two_alike(a: &Effective, b: &Effective, other: &Effective) -> bool {
-    *a == *b && *a != *other
+/// Whether one from the log equals one under its log id, and none under another.
+fn is_of_its_log_id(alloc: Global) -> Result<bool, AllocError> {
+    let made = Effective::from_log(&id(), membership(alloc)?)?;
+    Ok(equals(alloc, &made, Some(id()))? && !equals(alloc, &made, None)?)
+}
+
+/// Whether one without configs, nodes and log id equals the default, and none with nodes.
+fn is_default(alloc: Global) -> Result<bool, AllocError> {
+    let made = Effective::new(None, Membership::try_default(alloc)?)?;
+    Ok(made == Effective::try_default(alloc)? && !equals(alloc, &made, None)?)
 }
 
 #[test]
 fn log_ids_make_a_difference(rt: HostRuntime) -> Result<(), Fail> {
-    let made = Effective::from_log(&id(), stored(rt.alloc())?.membership().try_clone()?)?;
-    let without = with_log_id(rt.alloc(), None)?;
-    assert!(rt; are_two_alike(&made, &with_log_id(rt.alloc(), Some(id()))?, &without));
-    let none = Effective::new(None, Membership::try_default(rt.alloc())?)?;
-    assert!(rt; are_two_alike(&none, &Effective::try_default(rt.alloc())?, &without));
+    assert!(rt; is_of_its_log_id(rt.alloc())? && is_default(rt.alloc())?);
     Ok(())
 }
 

@@ -20,8 +20,39 @@ fn id() -> Option<LogId<u64>> {
 /// Its debug form.
 const ID: &str = "Some(LogId { leader_id: LeaderId { term: 1, node_id: 2 }, index: 3 })";
 
-/// Whether a membership prints itself so, alone, as a stored one and as the effective one, under a log id
-/// and under none.
+/// Whether a stored membership prints itself so, under a log id and under none.
+fn stored_prints(
+    alloc: Global,
+    membership: &Membership<u64, u64>,
+    text: &str,
+) -> Result<bool, AllocError> {
+    let without = format!(in alloc; "{{log_id:None, {text}}}")?;
+    let with = format!(in alloc; "{{log_id:T1-N2-3, {text}}}")?;
+    Ok(
+        displays(
+            alloc,
+            &StoredMembership::new(None, membership.try_clone()?),
+            without.as_str(),
+        )? && sums_up(
+            alloc,
+            &StoredMembership::new(id(), membership.try_clone()?),
+            with.as_str(),
+        )?,
+    )
+}
+
+/// Whether an effective membership prints itself so, under a log id.
+fn effective_prints(
+    alloc: Global,
+    membership: &Membership<u64, u64>,
+    text: &str,
+) -> Result<bool, AllocError> {
+    let text = format!(in alloc; "{{log_id:{ID} membership:{text}}}")?;
+    let effective = EffectiveMembership::new(id(), membership.try_clone()?)?;
+    sums_up(alloc, &effective, text.as_str())
+}
+
+/// Whether a membership prints itself so, alone, as a stored one and as the effective one.
 fn membership_prints(
     alloc: Global,
     configs: &str,
@@ -29,16 +60,12 @@ fn membership_prints(
     text: &str,
 ) -> Result<bool, AllocError> {
     let membership = members(alloc, configs, nodes)?;
-    let is_member = displays(alloc, &membership, text)? && sums_up(alloc, &membership, text)?;
-    let without = format!(in alloc; "{{log_id:None, {text}}}")?;
-    let stored = StoredMembership::new(None, membership);
-    let is_stored = displays(alloc, &stored, without.as_str())?;
-    let with = format!(in alloc; "{{log_id:T1-N2-3, {text}}}")?;
-    let stored = StoredMembership::new(id(), stored.membership().try_clone()?);
-    let has_id = sums_up(alloc, &stored, with.as_str())?;
-    let text = format!(in alloc; "{{log_id:{ID} membership:{text}}}")?;
-    let effective = EffectiveMembership::new_from_stored_membership(stored)?;
-    Ok(is_member && is_stored && has_id && sums_up(alloc, &effective, text.as_str())?)
+    Ok(
+        displays(alloc, &membership, text)?
+            && sums_up(alloc, &membership, text)?
+            && stored_prints(alloc, &membership, text)?
+            && effective_prints(alloc, &membership, text)?,
+    )
 }
 
 /// Whether a membership with nodes of addresses prints them.
@@ -104,8 +131,8 @@ fn change_errors_print(alloc: Global) -> Result<bool, AllocError> {
     )
 }
 
-/// Whether the errors of a log and of a quorum print themselves.
-fn log_and_quorum_errors_print(alloc: Global) -> Result<bool, AllocError> {
+/// Whether the error of a log that lacks an entry prints itself.
+fn lack_entry_prints(alloc: Global) -> Result<bool, AllocError> {
     let lack = LackEntry::<u64> {
         index: Some(7),
         last_purged_log_id: None,
@@ -119,29 +146,42 @@ fn log_and_quorum_errors_print(alloc: Global) -> Result<bool, AllocError> {
         last_purged_log_id: id(),
     };
     let purged = format!(in alloc; "store has no log at: None, last purged: {ID}")?;
+    Ok(prints(alloc, &lack, lacks)? && displays(alloc, &unknown, purged.as_str())?)
+}
+
+/// Whether the error of too few nodes for a quorum prints itself.
+fn quorum_not_enough_prints(alloc: Global) -> Result<bool, AllocError> {
     let mut got = BTreeSet::new(alloc);
     got.insert(1u64)?;
     let cluster = members(alloc, "1,2", "1=4,2=5")?.to_string(alloc)?;
-    let few = QuorumNotEnough { cluster, got };
-    let fews = (
+    let texts = (
         "not enough for a quorum, cluster: {voters:[{1:4,2:5}], learners:[]}, got: {1}",
         "QuorumNotEnough { cluster: \"{voters:[{1:4,2:5}], learners:[]}\", got: {1} }",
     );
-    Ok(
-        prints(alloc, &lack, lacks)?
-            && displays(alloc, &unknown, purged.as_str())?
-            && prints(alloc, &few, fews)?,
-    )
+    prints(alloc, &QuorumNotEnough { cluster, got }, texts)
 }
 
-/// Whether the errors of the start of a cluster print themselves, also behind the wrapping error.
-fn initialize_errors_print(alloc: Global) -> Result<bool, AllocError> {
-    let refused: InitializeError<u64, u64> = NotAllowed {
+/// The error of a node that belongs to a cluster already.
+fn not_allowed() -> InitializeError<u64, u64> {
+    NotAllowed {
         last_log_id: None,
         vote: Vote::new(1, 2),
     }
-    .into();
-    let refuses = (
+    .into()
+}
+
+/// The error of a node that is no member.
+fn not_in_members(alloc: Global) -> Result<InitializeError<u64, u64>, AllocError> {
+    Ok(NotInMembers {
+        node_id: 9,
+        membership: members(alloc, "1,2", "1=4,3=6")?,
+    }
+    .into())
+}
+
+/// Whether the first of them prints itself, over both kinds of leaders.
+fn not_allowed_prints(alloc: Global) -> Result<bool, AllocError> {
+    let texts = (
         "not allowed to initialize due to current raft state: last_log_id: None vote: T1-N2:uncommitted",
         "NotAllowed(NotAllowed { last_log_id: None, vote: Vote { leader_id: LeaderId { term: 1, node_id: 2 }, committed: false } })",
     );
@@ -151,29 +191,39 @@ fn initialize_errors_print(alloc: Global) -> Result<bool, AllocError> {
     };
     let text =
         "not allowed to initialize due to current raft state: last_log_id: Some(LogId { leader_id: CommittedLeaderId { term: 1 }, index: 3 }) vote: T0-NNone:uncommitted";
-    let outside: InitializeError<u64, u64> = NotInMembers {
-        node_id: 9,
-        membership: members(alloc, "1,2", "1=4,3=6")?,
-    }
-    .into();
-    let outsides = (
+    Ok(prints(alloc, &not_allowed(), texts)? && displays(alloc, &standard, text)?)
+}
+
+/// Whether the second prints itself.
+fn not_in_members_prints(alloc: Global) -> Result<bool, AllocError> {
+    let texts = (
         "node 9 has to be a member. membership:Membership { configs: [{1, 2}], nodes: {1: 4, 3: 6} }",
         "NotInMembers(NotInMembers { node_id: 9, membership: Membership { configs: [{1, 2}], nodes: {1: 4, 3: 6} } })",
     );
-    Ok(
-        prints(alloc, &refused, refuses)?
-            && displays(alloc, &standard, text)?
-            && prints(alloc, &outside, outsides)?
-            && refused.try_clone()? == refused
-            && outside.try_clone()? == outside
-            && outside.clone()? != refused,
-    )
+    prints(alloc, &not_in_members(alloc)?, texts)
+}
+
+/// Whether an error of the start of a cluster equals its clones, and another one doesn't.
+fn equals_its_clones(
+    error: &InitializeError<u64, u64>,
+    other: &InitializeError<u64, u64>,
+) -> Result<bool, AllocError> {
+    Ok(error.try_clone()? == *error && error.clone()? != *other)
+}
+
+/// Whether the two are cloned.
+fn initialize_errors_are_cloned(alloc: Global) -> Result<bool, AllocError> {
+    let (refused, outside) = (not_allowed(), not_in_members(alloc)?);
+    Ok(equals_its_clones(&refused, &outside)? && equals_its_clones(&outside, &refused)?)
 }
 
 #[test]
 fn errors_print(rt: HostRuntime) -> Result<(), Fail> {
     assert!(rt; change_errors_print(rt.alloc())?);
-    assert!(rt; log_and_quorum_errors_print(rt.alloc())?);
-    assert!(rt; initialize_errors_print(rt.alloc())?);
+    assert!(rt; lack_entry_prints(rt.alloc())?);
+    assert!(rt; quorum_not_enough_prints(rt.alloc())?);
+    assert!(rt; not_allowed_prints(rt.alloc())?);
+    assert!(rt; not_in_members_prints(rt.alloc())?);
+    assert!(rt; initialize_errors_are_cloned(rt.alloc())?);
     Ok(())
 }

@@ -20,8 +20,8 @@ use raft_base::{
 };
 use raft_members::quorum::QuorumSet;
 use raft_progress::{InflightOf, ProgressEntryOf};
-use raft_state::{FollowersOf, RaftStateIn};
 use raft_state::laws::sends_from_log;
+use raft_state::{FollowersOf, RaftStateIn};
 use std::alloc::{AllocError, Global};
 use std::process::Abort;
 use std::test::Fail;
