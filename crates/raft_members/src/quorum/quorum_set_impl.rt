@@ -168,6 +168,6 @@ fn sorted_copies<ID: Copy + Ord>(alloc: Global, ids: &[ID]) -> Result<Vec<ID>, A
     ensures members { IfOk result (λ found.
         (x : ID) → is_member ID.eq found.items x ≡ is_member ID.eq ids.now x) }
 {
-    let copies: Vec<ID> = ids.iter().copied().collect(alloc)?;
+    let copies = Vec::from_slice(alloc, ids)?;
     Ok(sorted(copies))
 }
