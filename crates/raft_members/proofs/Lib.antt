@@ -14,3 +14,4 @@ pub mod KeptLemmas
 pub mod DefaultLemmas
 pub mod LearnerLemmas
 pub mod CallerLemmas
+pub mod ChunkLemmas

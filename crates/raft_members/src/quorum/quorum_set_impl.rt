@@ -1,9 +1,9 @@
 //! Lists and sets of voters as quorum sets: a quorum has more than half of the voters. Shared quorum
 //! sets.
-ghost use Rattle.std.specs.Prelude.{◌≡◌, IfOk, count_by, nat_lt};
+ghost use Rattle.std.specs.Prelude.{◌≡◌, Bool, IfOk, count_by, nat_lt};
 ghost use Rattle.std.specs.List.{IsDistinct, list_any};
 ghost use Rattle.std.specs.Set.{is_member};
-ghost use Rattle.std.specs.BTreeSet.{contains_by};
+ghost use Rattle.std.specs.Fn.{AnyResult};
 ghost use Rattle.std.specs.List.Sorted.{IsStrictlySortedBy};
 ghost use Rattle.raft_members.specs.Majority.{is_majority};
 ghost use Rattle.raft_members.specs.MajorityLaws.{is_majority-superset};
@@ -12,6 +12,9 @@ use super::quorum_set::QuorumSet;
 use std::alloc::{AllocError, Global};
 use std::collections::BTreeSet;
 use std::rc::Rc;
+
+/// How many voters of a long list are compared with an id before the answers are looked at.
+const CHUNK: usize = 8;
 
 /// More than half of the vector's length; a repeated voter adds to the length and counts once.
 impl<ID: Copy + Ord> QuorumSet<ID> for Vec<ID> {
@@ -56,7 +59,7 @@ impl<ID: Copy + Ord> QuorumSet<ID> for BTreeSet<ID> {
     ghost superset = { λ c. is_majority-superset ID.eq c.keys };
 
     fn is_quorum(&self, ids: &[ID]) -> bool {
-        exceeds_in_set(self, ids, self.len() / 2)
+        exceeds(ids, self.len() / 2, |id| self.contains(&id))
     }
 
     fn ids(&self, alloc: Global) -> Result<Vec<ID>, AllocError> {
@@ -87,21 +90,23 @@ fn has_majority<ID: Copy + Ord>(voters: &[ID], ids: &[ID]) -> bool
     ensures { IsDistinct ID.eq ids.now →
         result ≡ is_majority ID.eq voters.now (is_member ID.eq ids.now) }
 {
-    exceeds_in_list(voters, ids, voters.len() / 2)
+    exceeds(ids, voters.len() / 2, |id| has(voters, id))
 }
 
-/// Whether more than `limit` of the ids are among the voters, repeated ones each time. It stops at
-/// the first id that is one too many, and does not begin where the ids are too few.
-fn exceeds_in_list<ID: Copy + Ord>(voters: &[ID], ids: &[ID], limit: usize) -> bool
-    ensures { result ≡
-        nat_lt limit (count_by (λ x. list_any (λ y. ID.eq y x) voters.now) ids.now) }
+/// Whether more than `limit` of the ids are voters, repeated ones each time. It stops at the first
+/// id that is one too many, and does not begin where the ids are too few.
+fn exceeds<ID: Copy + Ord, F: Fn(ID) -> bool>(ids: &[ID], limit: usize, is_voter: F) -> bool
+    requires { F.IsAlwaysCallable is_voter }
+    ensures { (voter : ID → Bool) →
+        ((x : ID) → AnyResult F.Fn is_voter (x, tt) (λ b. b ≡ voter x)) →
+        result ≡ nat_lt limit (count_by voter ids.now) }
 {
     if ids.len() <= limit {
         return false;
     }
     let mut found = 0;
     for id in ids {
-        if voters.contains(id) {
+        if is_voter(*id) {
             if found == limit {
                 return true;
             }
@@ -111,23 +116,40 @@ fn exceeds_in_list<ID: Copy + Ord>(voters: &[ID], ids: &[ID], limit: usize) -> b
     false
 }
 
-/// The same, where the voters are a set.
-fn exceeds_in_set<ID: Copy + Ord>(voters: &BTreeSet<ID>, ids: &[ID], limit: usize) -> bool
-    ensures { result ≡ nat_lt limit (count_by (λ x. contains_by (ID.cmp x) voters.now) ids.now) }
+/// Whether the id is among the voters.
+// A short list goes its own way, since to set up its chunks takes as long as its comparisons.
+fn has<ID: Copy + Ord>(voters: &[ID], id: ID) -> bool
+    ensures { result ≡ list_any (λ y. ID.eq y id) voters.now }
 {
-    if ids.len() <= limit {
-        return false;
+    if voters.len() < CHUNK {
+        return has_singly(voters, id);
     }
-    let mut found = 0;
-    for id in ids {
-        if voters.contains(id) {
-            if found == limit {
-                return true;
-            }
-            found += 1;
+    let (chunks, rest) = voters.as_chunks::<CHUNK>();
+    for chunk in chunks {
+        if chunk_has(chunk, id) {
+            return true;
         }
     }
-    false
+    has_singly(rest, id)
+}
+
+/// The same, by one comparison after another.
+fn has_singly<ID: Copy + Ord>(voters: &[ID], id: ID) -> bool
+    ensures { result ≡ list_any (λ y. ID.eq y id) voters.now }
+{
+    voters.iter().any(|voter| *voter == id)
+}
+
+/// The same for a chunk.
+// All are compared, with no stop at the one that is found: so the compiler uses vector instructions.
+fn chunk_has<ID: Copy + Ord>(chunk: &[ID; CHUNK], id: ID) -> bool
+    ensures { result ≡ list_any (λ y. ID.eq y id) chunk.now }
+{
+    let mut found = false;
+    for voter in chunk {
+        found |= *voter == id;
+    }
+    found
 }
 
 /// The ids in order, each once.
@@ -146,6 +168,6 @@ fn sorted_copies<ID: Copy + Ord>(alloc: Global, ids: &[ID]) -> Result<Vec<ID>, A
     ensures members { IfOk result (λ found.
         (x : ID) → is_member ID.eq found.items x ≡ is_member ID.eq ids.now x) }
 {
-    let copies: Vec<ID> = ids.iter().copied().collect(alloc)?;
+    let copies = Vec::from_slice(alloc, ids)?;
     Ok(sorted(copies))
 }

@@ -1,4 +1,4 @@
-use Rattle.std.proofs.Common.{ltb, ap, ◌∙◌, ◌/◌}
+use Rattle.std.proofs.Common.{rules, ltb, ap, ◌∙◌, ◌/◌}
 use Rattle.std.specs.List.{count_by}
 use Rattle.std.specs.BTreeSet.{contains_by}
 use Rattle.raft_members.proofs.MajorityLemmas.{set_majority}
@@ -7,7 +7,7 @@ use Rattle.raft_members.proofs.quorum.quorum_set_impl.BTreeSetQuorumSet.is_quoru
 pub returns : goal.returns
 returns g c = record {
   quorum = λ d.
-      c.exceeds_in_set.ensures
+      c.exceeds.ensures (λ x. contains_by (g.ID.Ord.cmp x) c.args.self.now) (λ x b e. search rules)
       ∙ ap (λ n. ltb (n / 2) (count_by (λ x. contains_by (g.ID.Ord.cmp x) c.args.self.now) c.args.ids.now)) c.len.ensures.len
       ∙ set_majority g.met.ID.Eq.laws g.ID.Ord.cmp g.met.ID.Ord.matches_eq c.args.ids.now c.args.self.now.keys d;
 }
