@@ -7,7 +7,8 @@ ghost use Rattle.std.specs.BTreeSet.{contains};
 ghost use Rattle.raft_members.specs.Coherence.{is_coherent};
 ghost use Rattle.raft_members.specs.Members.{node_at, members_of, Says};
 ghost use Rattle.raft_members.specs.Valid.{IsValid};
-ghost use Rattle.raft_members.specs.Change.{next_members, with_nodes, changed};
+ghost use Rattle.raft_members.specs.Change.{next_members, with_nodes, changed, last_config, united, without};
+ghost use Rattle.raft_members.specs.declared.change_members.ChangeMembers.TheVariants.{AddVoters};
 ghost use Rattle.raft_members.specs.Refusal.{IsRefusal};
 ghost use Rattle.raft_members.specs.ReplaceAll.{OnlyMemory, TwoChanges};
 
@@ -73,28 +74,52 @@ impl<NID: NodeId, N: Node> Membership<NID, N> {
         ensures { IfOk result (λ m. Says N.eq NID.cmp m
             (changed NID.eq NID.cmp (members_of NID.cmp self.now) change retain)) }
     {
-        let alloc = *self.configs.allocator();
         match change {
-            ChangeMembers::AddVoterIds(ids) => {
-                let goal = configs::last_with(alloc, &self.configs, ids)?;
-                self.next_coherent(goal, retain)
-            }
-            ChangeMembers::AddVoters(nodes) => {
-                let added = ids::key_set(alloc, &nodes)?;
-                let goal = configs::last_with(alloc, &self.configs, added)?;
-                let next = self.next_coherent(goal, retain)?;
-                next.with_more(nodes)
-            }
-            ChangeMembers::RemoveVoters(ids) => {
-                let goal = configs::last_without(alloc, &self.configs, &ids)?;
-                self.next_coherent(goal, retain)
-            }
+            ChangeMembers::AddVoterIds(ids) => self.with_voter_ids(ids, retain),
+            ChangeMembers::AddVoters(nodes) => self.with_voters(nodes, retain),
+            ChangeMembers::RemoveVoters(ids) => self.without_voters(&ids, retain),
             ChangeMembers::ReplaceAllVoters(ids) => self.next_coherent(ids, retain),
             ChangeMembers::AddNodes(nodes) => self.with_added(nodes),
             ChangeMembers::SetNodes(nodes) => self.with_set(nodes),
             ChangeMembers::RemoveNodes(ids) => self.without_nodes(&ids),
             ChangeMembers::ReplaceAllNodes(nodes) => self.with_only(nodes),
         }
+    }
+
+    /// What stands next on the way to the voters of the last config and these.
+    fn with_voter_ids(&self, ids: BTreeSet<NID>, retain: bool) -> Result<Self, AllocError>
+        requires { ClonesAreEqual N.eq N.is_clone }
+        ensures { IfOk result (λ m. Says N.eq NID.cmp m
+            (next_members NID.eq (members_of NID.cmp self.now)
+            (united NID.cmp (last_config self.now.configs) ids.keys) retain)) }
+    {
+        let alloc = *self.configs.allocator();
+        let goal = configs::last_with(alloc, &self.configs, ids)?;
+        self.next_coherent(goal, retain)
+    }
+
+    /// The same, with those of the new voters' nodes whose ids have none.
+    fn with_voters(&self, voters: BTreeMap<NID, N>, retain: bool) -> Result<Self, AllocError>
+        requires { ClonesAreEqual N.eq N.is_clone }
+        ensures { IfOk result (λ m. Says N.eq NID.cmp m
+            (changed NID.eq NID.cmp (members_of NID.cmp self.now) (AddVoters voters) retain)) }
+    {
+        let alloc = *self.configs.allocator();
+        let ids = ids::key_set(alloc, &voters)?;
+        let next = self.with_voter_ids(ids, retain)?;
+        next.with_more(voters)
+    }
+
+    /// What stands next on the way to the voters of the last config without these.
+    fn without_voters(&self, ids: &BTreeSet<NID>, retain: bool) -> Result<Self, AllocError>
+        requires { ClonesAreEqual N.eq N.is_clone }
+        ensures { IfOk result (λ m. Says N.eq NID.cmp m
+            (next_members NID.eq (members_of NID.cmp self.now)
+            (without NID.eq (last_config self.now.configs) ids.now.keys) retain)) }
+    {
+        let alloc = *self.configs.allocator();
+        let goal = configs::last_without(alloc, &self.configs, ids)?;
+        self.next_coherent(goal, retain)
     }
 
     /// The same configs, and also those of these nodes whose ids have none. No node is cloned.
