@@ -103,8 +103,8 @@ impl<NID: NodeId, N: Node> Membership<NID, N> {
         ensures { IfOk result (λ m.
             m ≡ record { configs = keys nodes ∷ []; nodes = nodes.entries }) }
     {
-        let mut configs = Vec::with_capacity(alloc, 1)?;
-        configs.push(ids::key_set(alloc, &nodes)?)?;
+        let voters = ids::key_set(alloc, &nodes)?;
+        let configs = vec![in alloc; voters]?;
         Ok(Membership { configs, nodes })
     }
 
