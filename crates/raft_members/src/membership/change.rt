@@ -140,11 +140,8 @@ impl<NID: NodeId, N: Node> Membership<NID, N> {
         ensures { IfOk result (λ m. Says N.eq NID.cmp m (with_nodes (members_of NID.cmp self.now)
             (λ id. option_or (node_at NID.cmp self.now.nodes id) (get NID.cmp more id)))) }
     {
-        let alloc = *self.configs.allocator();
-        let configs = configs::copy(alloc, &self.configs)?;
-        let copies = nodes::copy(alloc, &self.nodes)?;
-        let nodes = nodes::merged(copies, more)?;
-        Ok(Membership { configs, nodes })
+        let copies = nodes::copy(*self.configs.allocator(), &self.nodes)?;
+        self.with_only(nodes::merged(copies, more)?)
     }
 
     /// The same configs, and the nodes of `more` added or put in place.
@@ -153,10 +150,7 @@ impl<NID: NodeId, N: Node> Membership<NID, N> {
         ensures { IfOk result (λ m. Says N.eq NID.cmp m (with_nodes (members_of NID.cmp self.now)
             (λ id. option_or (get NID.cmp more id) (node_at NID.cmp self.now.nodes id)))) }
     {
-        let alloc = *self.configs.allocator();
-        let configs = configs::copy(alloc, &self.configs)?;
-        let nodes = nodes::added(more, &self.nodes)?;
-        Ok(Membership { configs, nodes })
+        self.with_only(nodes::added(more, &self.nodes)?)
     }
 
     /// The same configs, without the nodes at the ids.
@@ -165,11 +159,9 @@ impl<NID: NodeId, N: Node> Membership<NID, N> {
         ensures { IfOk result (λ m. Says N.eq NID.cmp m (with_nodes (members_of NID.cmp self.now)
             (λ id. cond (contains NID.cmp ids.now id) None (node_at NID.cmp self.now.nodes id)))) }
     {
-        let alloc = *self.configs.allocator();
-        let configs = configs::copy(alloc, &self.configs)?;
-        let mut nodes = nodes::copy(alloc, &self.nodes)?;
+        let mut nodes = nodes::copy(*self.configs.allocator(), &self.nodes)?;
         nodes::remove_all(&mut nodes, ids);
-        Ok(Membership { configs, nodes })
+        self.with_only(nodes)
     }
 
     /// The same configs with these nodes.
