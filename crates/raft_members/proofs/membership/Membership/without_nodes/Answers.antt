@@ -1,4 +1,4 @@
-use Rattle.std.proofs.Common.{Bool, true, false, List, cond, None, IsTrue, refl, ap, subst}
+use Rattle.std.proofs.Common.{true, false, List, cond, None, IsTrue, refl, ap, subst}
 use Rattle.std.specs.BTreeMap.{get}
 use Rattle.std.specs.BTreeSet.{contains}
 use Rattle.std.specs.Option.{option_eq}

@@ -11,8 +11,8 @@ invariant_of-result g c =
       configs = c.in_ok-quorum_set.ensures.configs ∙ ap (λ m. m.configs) stored_is;
       ascending = c.in_ok-voter_ids-2.ensures.ascending;
       voters = λ id.
-        c.in_ok-voter_ids-2.ensures.members id
-        ∙ ap (λ ids. is_member g.NID.PartialEq.eq ids id) c.deref-2.ensures.value
-        ∙ c.in_ok-voter_ids.ensures.voters id
-        ∙ ap (λ m. is_voter_of g.NID.PartialEq.eq m.configs id) stored_is;
+          c.in_ok-voter_ids-2.ensures.members id
+          ∙ ap (λ ids. is_member g.NID.PartialEq.eq ids id) c.deref-2.ensures.value
+          ∙ c.in_ok-voter_ids.ensures.voters id
+          ∙ ap (λ m. is_voter_of g.NID.PartialEq.eq m.configs id) stored_is;
     }
