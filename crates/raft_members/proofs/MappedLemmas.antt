@@ -1,9 +1,9 @@
 -- Configs that are seen by their keys.
 use Rattle.std.specs.Prelude.{◌≡◌, ℕ, Bool, true, false, ◌||◌, List, [], ◌∷◌, map, length, ◌-◌, Some, None, refl}
 use Rattle.std.proofs.Common.{sym, ◌∙◌, ap}
-use Rattle.std.specs.Prelude.{◌+◌, ◌<◌, take}
+use Rattle.std.specs.Prelude.{◌+◌, ◌<◌, ◌++◌, take}
 use Rattle.std.proofs.Common.{get_or}
-use Rattle.std.proofs.lemmas.List.{take_more}
+use Rattle.std.proofs.lemmas.List.{map-append, map_more, take_more}
 use Rattle.std.proofs.lemmas.List.Folds.{list_any-append}
 use Rattle.std.specs.List.{list_any, list_all, slice_get}
 use Rattle.std.specs.Option.{option_map, unwrap_or}
@@ -44,6 +44,11 @@ any_more p xs i d h e =
     or_false : (b : Bool) → (b || false) ≡ b
     or_false true = refl
     or_false false = refl
+
+-- one more item is pushed
+pub map_pushed : {X Y B : Type 0} (f : X → B) (g : Y → B) (xs : List X) (ys : List Y) (i : ℕ) (x : X) (y : Y) → i < length xs → x ≡ get_or xs i x → map g ys ≡ map f (take i xs) → g y ≡ f x → map g (ys ++ y ∷ []) ≡ map f (take (i + 1) xs)
+map_pushed f g xs ys i x y h is so_far here =
+    map-append g ys (y ∷ []) ∙ (λ k. so_far k ++ here k ∷ []) ∙ ap (λ v. map f (take i xs) ++ f v ∷ []) is ∙ sym (map_more f xs i x h)
 
 -- the last config of some sets
 pub last_config-some : {K X : Type 0} (f : X → List K) (xs : List X) (x : X) → Some x ≡ slice_get xs (length xs - 1) → last_config (map f xs) ≡ f x

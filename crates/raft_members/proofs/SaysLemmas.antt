@@ -15,13 +15,13 @@ use Rattle.raft_members.proofs.NextLemmas.{next_shares, next_has_goal, right_tru
 use Rattle.raft_members.proofs.MajorityLemmas.{in_set}
 use Rattle.raft_members.proofs.MeetingLemmas.{voter_there}
 use Rattle.raft_members.proofs.UnionLemmas.{is_member-united}
-use Rattle.raft_members.proofs.AddedLemmas.{or_none, option_or_alike}
+use Rattle.raft_members.proofs.AddedLemmas.{or_none, option_or_alike, option_trans}
 use Rattle.raft_members.proofs.ReachedLemmas.{self_coherent, quorum_reaches}
 use Rattle.raft_members.specs.Reached.{ChangeKeepsReached}
 use Rattle.raft_members.specs.Members.{MemberList, node_at, members_of, Says, Members}
 use Rattle.raft_members.specs.Refusal.{IsRefusal}
 use Rattle.raft_members.specs.Valid.{has_empty_config, FirstWithoutNode, FirstUnknown, IsValid}
-use Rattle.raft_members.specs.Change.{changed, next_members, united, last_config, keeps_node}
+use Rattle.raft_members.specs.Change.{changed, next_members, with_nodes, united, last_config, keeps_node}
 use Rattle.raft_members.specs.declared.change_members.ChangeMembers.{ChangeMembers}
 use Rattle.raft_members.specs.declared.change_members.ChangeMembers.TheVariants.{AddVoterIds, AddVoters, RemoveVoters, ReplaceAllVoters, AddNodes, SetNodes, RemoveNodes, ReplaceAllNodes}
 use Rattle.raft_members.specs.declared.error.ChangeMembershipErrorOf.{ChangeMembershipErrorOf}
@@ -94,6 +94,11 @@ module _ {K N : Type 0} {eq : K → K → Bool} (laws : IsEquivalence eq) (cmp :
   more_says n r s c u =
       let next : List (List K) = next_configs eq m.configs (united cmp (last_config m.configs) (keys more)) in
       (c ∙ s.0, λ id. rw (u id) (more_by alike (node_at cmp n.nodes id) (m.node id) (get cmp more id) (keeps_node eq m.configs next retain id) (λ h. ap (λ v. retain || (not (is_voter_of eq m.configs id) || v)) (added_votes id h) ∙ or_true retain (not (is_voter_of eq m.configs id))) (s.1 id)))
+
+-- the same configs with nodes that equal the given ones
+pub if_says : {K N E : Type 0} {same : N → N → Bool} → IsEquivalence same → (cmp : K → K → Ordering) (m : Members K N) (given node : K → Option N) (r : Result (MemberList K N) E) → ((id : K) → IsTrue (option_eq same (given id) (node id))) → IfOk r (λ n. Says same cmp n (with_nodes m given)) → IfOk r (λ n. Says same cmp n (with_nodes m node))
+if_says alike cmp m given node (Ok n) e s = (s.0, λ id. option_trans alike (node_at cmp n.nodes id) (given id) (node id) (s.1 id) (e id))
+if_says alike cmp m given node (Err _) e s = tt
 
 -- what follows from two facts of an answer holds of it
 pub in_both : {T E : Type 0} (r : Result T E) (P Q R : T → Type 0) → ((x : T) → P x → Q x → R x) → IfOk r P → IfOk r Q → IfOk r R

@@ -38,7 +38,7 @@ impl<NID: NodeId, N: Node> ChangeMembers<NID, N> {
     pub fn replace_all(alloc: Global, voters: &[NID]) -> Result<Self, AllocError>
         ensures { IfOk result (λ change. ReplacesAllBy NID.eq voters.now change) }
     {
-        let ids = voters.iter().copied().collect(alloc)?;
+        let ids = ids::set_of(alloc, voters)?;
         Ok(ChangeMembers::ReplaceAllVoters(ids))
     }
 

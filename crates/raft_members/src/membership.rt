@@ -104,8 +104,8 @@ impl<NID: NodeId, N: Node> Membership<NID, N> {
         ensures { IfOk result (λ m.
             m ≡ record { configs = keys nodes ∷ []; nodes = nodes.entries }) }
     {
-        let mut configs = Vec::with_capacity(alloc, 1)?;
-        configs.push(ids::key_set(alloc, &nodes)?)?;
+        let voters = ids::key_set(alloc, &nodes)?;
+        let configs = vec![in alloc; voters]?;
         Ok(Membership { configs, nodes })
     }
 
@@ -295,28 +295,52 @@ impl<NID: NodeId, N: Node> Membership<NID, N> {
             None => write!(f, "{id}:None"),
         }
     }
-}
 
-impl<NID: NodeId, N: Node> fmt::Display for Membership<NID, N> {
-    fn fmt<W: fmt::Write>(&self, f: &mut fmt::Formatter<W>) -> fmt::Result {
-        f.write_str("{voters:[")?;
-        let mut is_first_config = true;
-        for config in self.configs.iter() {
-            f.write_str(if is_first_config { "{" } else { ",{" })?;
-            let mut is_first = true;
-            for id in config.iter() {
-                self.fmt_node(id, is_first, f)?;
-                is_first = false;
-            }
-            f.write_str("}")?;
-            is_first_config = false;
+    /// Writes a config in braces, each id with its node.
+    fn fmt_config<W: fmt::Write>(
+        &self,
+        config: &BTreeSet<NID>,
+        f: &mut fmt::Formatter<W>,
+    ) -> fmt::Result {
+        f.write_str("{")?;
+        let mut is_first = true;
+        for id in config.iter() {
+            self.fmt_node(id, is_first, f)?;
+            is_first = false;
         }
-        f.write_str("], learners:[")?;
+        f.write_str("}")
+    }
+
+    /// Writes the configs, with a comma before all but the first.
+    fn fmt_configs<W: fmt::Write>(&self, f: &mut fmt::Formatter<W>) -> fmt::Result {
+        let mut is_first = true;
+        for config in self.configs.iter() {
+            if !is_first {
+                f.write_str(",")?;
+            }
+            self.fmt_config(config, f)?;
+            is_first = false;
+        }
+        Ok(())
+    }
+
+    /// Writes the learners, each with its node.
+    fn fmt_learners<W: fmt::Write>(&self, f: &mut fmt::Formatter<W>) -> fmt::Result {
         let mut is_first = true;
         for id in self.learner_ids() {
             self.fmt_node(&id, is_first, f)?;
             is_first = false;
         }
+        Ok(())
+    }
+}
+
+impl<NID: NodeId, N: Node> fmt::Display for Membership<NID, N> {
+    fn fmt<W: fmt::Write>(&self, f: &mut fmt::Formatter<W>) -> fmt::Result {
+        f.write_str("{voters:[")?;
+        self.fmt_configs(f)?;
+        f.write_str("], learners:[")?;
+        self.fmt_learners(f)?;
         f.write_str("]}")
     }
 }

@@ -7,7 +7,8 @@ ghost use Rattle.std.specs.BTreeSet.{contains};
 ghost use Rattle.raft_members.specs.Coherence.{is_coherent};
 ghost use Rattle.raft_members.specs.Members.{node_at, members_of, Says};
 ghost use Rattle.raft_members.specs.Valid.{IsValid};
-ghost use Rattle.raft_members.specs.Change.{next_members, with_nodes, changed};
+ghost use Rattle.raft_members.specs.Change.{next_members, with_nodes, changed, last_config, united, without};
+ghost use Rattle.raft_members.specs.declared.change_members.ChangeMembers.TheVariants.{AddVoters};
 ghost use Rattle.raft_members.specs.Refusal.{IsRefusal};
 ghost use Rattle.raft_members.specs.ReplaceAll.{OnlyMemory, TwoChanges};
 
@@ -73,28 +74,52 @@ impl<NID: NodeId, N: Node> Membership<NID, N> {
         ensures { IfOk result (λ m. Says N.eq NID.cmp m
             (changed NID.eq NID.cmp (members_of NID.cmp self.now) change retain)) }
     {
-        let alloc = *self.configs.allocator();
         match change {
-            ChangeMembers::AddVoterIds(ids) => {
-                let goal = configs::last_with(alloc, &self.configs, ids)?;
-                self.next_coherent(goal, retain)
-            }
-            ChangeMembers::AddVoters(nodes) => {
-                let added = ids::key_set(alloc, &nodes)?;
-                let goal = configs::last_with(alloc, &self.configs, added)?;
-                let next = self.next_coherent(goal, retain)?;
-                next.with_more(nodes)
-            }
-            ChangeMembers::RemoveVoters(ids) => {
-                let goal = configs::last_without(alloc, &self.configs, &ids)?;
-                self.next_coherent(goal, retain)
-            }
+            ChangeMembers::AddVoterIds(ids) => self.with_voter_ids(ids, retain),
+            ChangeMembers::AddVoters(nodes) => self.with_voters(nodes, retain),
+            ChangeMembers::RemoveVoters(ids) => self.without_voters(&ids, retain),
             ChangeMembers::ReplaceAllVoters(ids) => self.next_coherent(ids, retain),
             ChangeMembers::AddNodes(nodes) => self.with_added(nodes),
             ChangeMembers::SetNodes(nodes) => self.with_set(nodes),
             ChangeMembers::RemoveNodes(ids) => self.without_nodes(&ids),
             ChangeMembers::ReplaceAllNodes(nodes) => self.with_only(nodes),
         }
+    }
+
+    /// What stands next on the way to the voters of the last config and these.
+    fn with_voter_ids(&self, ids: BTreeSet<NID>, retain: bool) -> Result<Self, AllocError>
+        requires { ClonesAreEqual N.eq N.is_clone }
+        ensures { IfOk result (λ m. Says N.eq NID.cmp m
+            (next_members NID.eq (members_of NID.cmp self.now)
+            (united NID.cmp (last_config self.now.configs) ids.keys) retain)) }
+    {
+        let alloc = *self.configs.allocator();
+        let goal = configs::last_with(alloc, &self.configs, ids)?;
+        self.next_coherent(goal, retain)
+    }
+
+    /// The same, with those of the new voters' nodes whose ids have none.
+    fn with_voters(&self, voters: BTreeMap<NID, N>, retain: bool) -> Result<Self, AllocError>
+        requires { ClonesAreEqual N.eq N.is_clone }
+        ensures { IfOk result (λ m. Says N.eq NID.cmp m
+            (changed NID.eq NID.cmp (members_of NID.cmp self.now) (AddVoters voters) retain)) }
+    {
+        let alloc = *self.configs.allocator();
+        let ids = ids::key_set(alloc, &voters)?;
+        let next = self.with_voter_ids(ids, retain)?;
+        next.with_more(voters)
+    }
+
+    /// What stands next on the way to the voters of the last config without these.
+    fn without_voters(&self, ids: &BTreeSet<NID>, retain: bool) -> Result<Self, AllocError>
+        requires { ClonesAreEqual N.eq N.is_clone }
+        ensures { IfOk result (λ m. Says N.eq NID.cmp m
+            (next_members NID.eq (members_of NID.cmp self.now)
+            (without NID.eq (last_config self.now.configs) ids.now.keys) retain)) }
+    {
+        let alloc = *self.configs.allocator();
+        let goal = configs::last_without(alloc, &self.configs, ids)?;
+        self.next_coherent(goal, retain)
     }
 
     /// The same configs, and also those of these nodes whose ids have none. No node is cloned.
@@ -115,11 +140,8 @@ impl<NID: NodeId, N: Node> Membership<NID, N> {
         ensures { IfOk result (λ m. Says N.eq NID.cmp m (with_nodes (members_of NID.cmp self.now)
             (λ id. option_or (node_at NID.cmp self.now.nodes id) (get NID.cmp more id)))) }
     {
-        let alloc = *self.configs.allocator();
-        let configs = configs::copy(alloc, &self.configs)?;
-        let copies = nodes::copy(alloc, &self.nodes)?;
-        let nodes = nodes::merged(copies, more)?;
-        Ok(Membership { configs, nodes })
+        let copies = nodes::copy(*self.configs.allocator(), &self.nodes)?;
+        self.with_only(nodes::merged(copies, more)?)
     }
 
     /// The same configs, and the nodes of `more` added or put in place.
@@ -128,10 +150,7 @@ impl<NID: NodeId, N: Node> Membership<NID, N> {
         ensures { IfOk result (λ m. Says N.eq NID.cmp m (with_nodes (members_of NID.cmp self.now)
             (λ id. option_or (get NID.cmp more id) (node_at NID.cmp self.now.nodes id)))) }
     {
-        let alloc = *self.configs.allocator();
-        let configs = configs::copy(alloc, &self.configs)?;
-        let nodes = nodes::added(more, &self.nodes)?;
-        Ok(Membership { configs, nodes })
+        self.with_only(nodes::added(more, &self.nodes)?)
     }
 
     /// The same configs, without the nodes at the ids.
@@ -140,11 +159,9 @@ impl<NID: NodeId, N: Node> Membership<NID, N> {
         ensures { IfOk result (λ m. Says N.eq NID.cmp m (with_nodes (members_of NID.cmp self.now)
             (λ id. cond (contains NID.cmp ids.now id) None (node_at NID.cmp self.now.nodes id)))) }
     {
-        let alloc = *self.configs.allocator();
-        let configs = configs::copy(alloc, &self.configs)?;
-        let mut nodes = nodes::copy(alloc, &self.nodes)?;
+        let mut nodes = nodes::copy(*self.configs.allocator(), &self.nodes)?;
         nodes::remove_all(&mut nodes, ids);
-        Ok(Membership { configs, nodes })
+        self.with_only(nodes)
     }
 
     /// The same configs with these nodes.

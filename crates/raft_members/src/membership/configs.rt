@@ -90,14 +90,13 @@ pub fn next<ID: Copy + Ord>(
     ensures { IfOk result (λ next.
         ids_of_configs next.items ≡ next_configs ID.eq (ids_of_configs configs.now) goal.keys) }
 {
-    let mut next = Vec::with_capacity(alloc, 2)?;
-    if !has_config(configs, &goal) {
-        if let Some(last) = configs.last() {
-            next.push(ids::copy(alloc, last)?)?;
+    match configs.last() {
+        Some(last) if !has_config(configs, &goal) => {
+            let last = ids::copy(alloc, last)?;
+            Ok(vec![in alloc; last, goal]?)
         }
+        _ => Ok(vec![in alloc; goal]?),
     }
-    next.push(goal)?;
-    Ok(next)
 }
 
 /// The ids of either set.

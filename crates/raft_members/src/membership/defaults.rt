@@ -7,12 +7,12 @@ ghost use Rattle.raft_members.specs.Inner.Configs.{ids_of_configs};
 ghost use Rattle.raft_members.specs.Defaults.{HasDefaults};
 
 use super::configs;
-use raft_base::{Node, NodeId};
+use raft_base::NodeDefault;
 use std::alloc::{AllocError, Global};
 use std::collections::{BTreeMap, BTreeSet};
 
 /// The nodes, and the default one at each voter that has none.
-pub fn with_voters<NID: NodeId, N: Node>(
+pub fn with_voters<NID: Copy + Ord, N: NodeDefault + Drop>(
     nodes: BTreeMap<NID, N>,
     alloc: Global,
     configs: &[BTreeSet<NID>],
@@ -26,7 +26,7 @@ pub fn with_voters<NID: NodeId, N: Node>(
 }
 
 /// The nodes, and the default one at each of the ids that has none.
-pub fn with_defaults<NID: NodeId, N: Node>(
+pub fn with_defaults<NID: Copy + Ord, N: NodeDefault + Drop>(
     nodes: BTreeMap<NID, N>,
     alloc: Global,
     ids: &[NID],
@@ -45,7 +45,7 @@ pub fn with_defaults<NID: NodeId, N: Node>(
 }
 
 /// Puts the default node at the id.
-fn put_default<NID: NodeId, N: Node>(
+fn put_default<NID: Copy + Ord, N: NodeDefault + Drop>(
     nodes: &mut BTreeMap<NID, N>,
     alloc: Global,
     id: NID,

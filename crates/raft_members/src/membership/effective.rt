@@ -15,7 +15,7 @@ ghost use Rattle.raft_members.specs.Stored.{log_id_of, membership_of};
 
 use super::learner_ids::LearnerIds;
 use super::stored::StoredMembershipOf;
-use super::{Membership, configs};
+use super::{Membership, configs, ids};
 use crate::quorum::{Joint, QuorumSet};
 use raft_base::{CommittedLeaderId, LogIdOf, MessageSummary, Node, NodeId, RaftLogIdOf};
 use std::alloc::{AllocError, Global};
@@ -75,7 +75,7 @@ impl<C: Copy + Drop, NID: NodeId, N: Node> EffectiveMembershipOf<C, NID, N> {
         let membership = stored.membership();
         let alloc = *membership.get_joint_config().allocator();
         let quorum_set = membership.to_quorum_set()?;
-        let voter_ids = membership.voter_ids()?.into_iter().collect(alloc)?;
+        let voter_ids = ids::set_of(alloc, &membership.voter_ids()?)?;
         Ok(EffectiveMembershipOf {
             stored_membership: stored,
             quorum_set,

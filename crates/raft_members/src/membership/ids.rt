@@ -1,6 +1,8 @@
 //! Sets of ids, copied id by id: the order of a set carries over, and only `Copy` is asked of ids.
 ghost use Rattle.std.specs.Prelude.{◌≡◌, IfOk};
 ghost use Rattle.std.specs.BTreeMap.{keys};
+ghost use Rattle.std.specs.List.Sorted.{IsStrictlySortedBy};
+ghost use Rattle.std.specs.Set.{is_member};
 
 use std::alloc::{AllocError, Global};
 use std::collections::{BTreeMap, BTreeSet};
@@ -28,6 +30,15 @@ pub fn key_set<ID: Copy + Ord, N>(
         set.insert(*id)?;
     }
     Ok(set)
+}
+
+/// The set of these ids.
+pub fn set_of<ID: Copy + Ord>(alloc: Global, ids: &[ID]) -> Result<BTreeSet<ID>, AllocError>
+    ensures ascending { IfOk result (λ set. IsStrictlySortedBy ID.cmp set.keys) }
+    ensures members { IfOk result (λ set. (id : ID) →
+        is_member ID.eq set.keys id ≡ is_member ID.eq ids.now id) }
+{
+    ids.iter().copied().collect(alloc)
 }
 
 /// The ids of a set, in order.

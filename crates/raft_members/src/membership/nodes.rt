@@ -13,12 +13,11 @@ ghost use Rattle.raft_members.specs.Valid.{FirstWithoutNode};
 ghost use Rattle.raft_members.specs.Change.{keeps_node};
 
 use super::configs::has_id;
-use raft_base::{Node, NodeId};
 use std::alloc::{AllocError, Global};
 use std::collections::{BTreeMap, BTreeSet};
 
 /// The nodes, without those of voters that are lost, unless they are retained.
-pub fn kept<NID: NodeId, N: Node>(
+pub fn kept<NID: Copy + Ord, N: Eq + Clone + Drop>(
     alloc: Global,
     nodes: &BTreeMap<NID, N>,
     old: &[BTreeSet<NID>],
@@ -44,7 +43,7 @@ pub fn kept<NID: NodeId, N: Node>(
 }
 
 /// Whether the node at an id stays.
-fn is_kept<NID: NodeId>(
+fn is_kept<NID: Copy + Ord>(
     old: &[BTreeSet<NID>],
     new: &[BTreeSet<NID>],
     retain: bool,
@@ -59,7 +58,7 @@ fn is_kept<NID: NodeId>(
 }
 
 /// Puts a copy of the node at the id.
-fn put_copy<NID: NodeId, N: Node>(
+fn put_copy<NID: Copy + Ord, N: Eq + Clone + Drop>(
     kept: &mut BTreeMap<NID, N>,
     id: NID,
     node: &N,
@@ -73,7 +72,7 @@ fn put_copy<NID: NodeId, N: Node>(
 }
 
 /// Copies of the nodes.
-pub fn copy<NID: NodeId, N: Node>(
+pub fn copy<NID: Copy + Ord, N: Eq + Clone + Drop>(
     alloc: Global,
     nodes: &BTreeMap<NID, N>,
 ) -> Result<BTreeMap<NID, N>, AllocError>
@@ -87,7 +86,7 @@ pub fn copy<NID: NodeId, N: Node>(
 }
 
 /// The nodes, and copies of those of `more` whose ids are absent.
-pub fn added<NID: NodeId, N: Node>(
+pub fn added<NID: Copy + Ord, N: Eq + Clone + Drop>(
     nodes: BTreeMap<NID, N>,
     more: &BTreeMap<NID, N>,
 ) -> Result<BTreeMap<NID, N>, AllocError>
@@ -106,7 +105,7 @@ pub fn added<NID: NodeId, N: Node>(
 }
 
 /// The nodes of the first map, and those of the second whose ids have none there. None is cloned.
-pub fn merged<NID: NodeId, N: Node>(
+pub fn merged<NID: Copy + Ord, N: Drop>(
     mut first: BTreeMap<NID, N>,
     mut second: BTreeMap<NID, N>,
 ) -> Result<BTreeMap<NID, N>, AllocError>
@@ -119,7 +118,7 @@ pub fn merged<NID: NodeId, N: Node>(
 }
 
 /// Takes the nodes at the ids away.
-pub fn remove_all<NID: NodeId, N: Node>(nodes: &mut BTreeMap<NID, N>, ids: &BTreeSet<NID>)
+pub fn remove_all<NID: Copy + Ord, N: Drop>(nodes: &mut BTreeMap<NID, N>, ids: &BTreeSet<NID>)
     ensures { (q : NID) →
         get NID.cmp nodes.new q ≡ cond (contains NID.cmp ids.now q) None (get NID.cmp nodes.old q) }
 {
@@ -140,7 +139,7 @@ fn lesser<ID: Copy + Ord>(a: Option<ID>, b: Option<ID>) -> Option<ID>
 }
 
 /// The first id of a config that has no node.
-fn first_missing<NID: NodeId, N: Node>(
+fn first_missing<NID: Copy + Ord, N: Drop>(
     config: &BTreeSet<NID>,
     nodes: &BTreeMap<NID, N>,
 ) -> Option<NID>
@@ -152,7 +151,7 @@ fn first_missing<NID: NodeId, N: Node>(
 }
 
 /// The least voter that has no node.
-pub fn least_missing<NID: NodeId, N: Node>(
+pub fn least_missing<NID: Copy + Ord, N: Drop>(
     configs: &[BTreeSet<NID>],
     nodes: &BTreeMap<NID, N>,
 ) -> Option<NID>

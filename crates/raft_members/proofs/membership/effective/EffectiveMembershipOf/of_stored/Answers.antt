@@ -1,16 +1,18 @@
-use Rattle.std.proofs.Common.{IfOk, rules, ◌∙◌}
-use Rattle.std.specs.BTreeSet.{IsFromIterResult}
-use Rattle.std.proofs.lemmas.Result.{IfOk-at_ok}
-use Rattle.raft_members.proofs.MajorityLemmas.{is_member-collected}
+use Rattle.std.proofs.Common.{◌≡◌, ◌∙◌, ap}
+use Rattle.std.specs.Set.{is_member}
+use Rattle.raft_members.specs.Majority.{is_voter_of}
+use Rattle.raft_members.specs.Stored.{membership_of}
 use Rattle.raft_members.proofs.membership.effective.EffectiveMembershipOf.of_stored.Goals as goal
 
 pub invariant_of-result : goal.invariant_of-result
 invariant_of-result g c =
-    let voters = c.in_ok-voter_ids.field-0.items in
-    let made : IfOk c.collect.result (IsFromIterResult g.NID.Ord.cmp voters) = search rules in
-    let set = IfOk-at_ok (IsFromIterResult g.NID.Ord.cmp voters) c.in_ok-voter_ids-2.was made in
+    let stored_is : c.membership-membership.result.now ≡ membership_of c.args.stored.value = c.membership-membership.ensures ∙ ap membership_of c.deref.ensures in
     record {
-      configs = search rules;
-      ascending = set.1;
-      voters = λ id. is_member-collected g.met.NID.Eq.laws g.NID.Ord.cmp g.met.NID.Ord.matches_eq voters c.in_ok-voter_ids-2.voter_ids set id ∙ search rules;
+      configs = c.in_ok-quorum_set.ensures.configs ∙ ap (λ m. m.configs) stored_is;
+      ascending = c.in_ok-voter_ids-2.ensures.ascending;
+      voters = λ id.
+          c.in_ok-voter_ids-2.ensures.members id
+          ∙ ap (λ ids. is_member g.NID.PartialEq.eq ids id) c.deref-2.ensures.value
+          ∙ c.in_ok-voter_ids.ensures.voters id
+          ∙ ap (λ m. is_voter_of g.NID.PartialEq.eq m.configs id) stored_is;
     }
