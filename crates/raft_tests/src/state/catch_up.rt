@@ -57,28 +57,37 @@ fn rounds<K: LeaderKind<u64>>(
     state.catch_up_all(progress, followers, 10) == want && *progress.granted() == id::<K>(granted)
 }
 
+/// Whether a follower alone is caught up as it should be, over a log of a hundred and over a purged
+/// one.
+fn catches_up_right<K: LeaderKind<u64>>(state: &State<K>, purged: &State<K>) -> bool {
+    catches_up::<K>(state, 100, 70, Some((1, 6)))
+        && catches_up::<K>(state, 100, 0, Some((2, 10)))
+        && catches_up::<K>(state, 100, 101, None)
+        && catches_up::<K>(purged, 5, 3, Some((0, 1)))
+        && catches_up::<K>(purged, 5, 1, None)
+}
+
+/// Whether rounds over the voters 1, 2 and 3 and the learner 4 lead where they should.
+fn rounds_right<K: LeaderKind<u64>>(state: &State<K>, progress: &mut Followers<K>) -> bool {
+    rounds::<K>(state, progress, &[(1, 70), (4, 0), (9, 3)], 2, None)
+        && rounds::<K>(
+            state,
+            progress,
+            &[(2, 101), (2, 0), (1, 100)],
+            2,
+            Some((1, 99)),
+        )
+        && progress.try_get(&3) == Some(&ProgressEntryOf::empty(100))
+}
+
 /// Whether followers are caught up as they should be, one alone and in rounds.
 fn is_as_worked<K: LeaderKind<u64>>(rt: &impl Abort, alloc: Global) -> Result<bool, AllocError> {
-    let state = hundred::<K>(alloc)?;
-    let purged = valid_state::<K>(alloc)?;
     let voters = vec![in alloc; 1, 2, 3]?;
     let mut progress = made(rt, alloc, voters, &[4], ProgressEntryOf::empty(100))?;
-    let last = Some((1, 99));
+    let state = hundred::<K>(alloc)?;
     Ok(
-        catches_up::<K>(&state, 100, 70, Some((1, 6)))
-            && catches_up::<K>(&state, 100, 0, Some((2, 10)))
-            && catches_up::<K>(&state, 100, 101, None)
-            && catches_up::<K>(&purged, 5, 3, Some((0, 1)))
-            && catches_up::<K>(&purged, 5, 1, None)
-            && rounds::<K>(&state, &mut progress, &[(1, 70), (4, 0), (9, 3)], 2, None)
-            && rounds::<K>(
-                &state,
-                &mut progress,
-                &[(2, 101), (2, 0), (1, 100)],
-                2,
-                last,
-            )
-            && progress.try_get(&3) == Some(&ProgressEntryOf::empty(100)),
+        rounds_right::<K>(&state, &mut progress)
+            && catches_up_right::<K>(&state, &valid_state::<K>(alloc)?),
     )
 }
 

@@ -35,13 +35,14 @@ fn answers<K: LeaderKind<u64>>(answer: Option<&Rc<Effective<K>>>, want: Row) -> 
 /// Whether a snapshot up to an index, with a membership at leader 10, index 5, leads where it
 /// should.
 fn snapshot_leads<K: LeaderKind<u64>>(
-    mut state: State<K>,
+    from: &State<K>,
     voters: &[u64],
     upto: u64,
     answer: Row,
     leads: (Row, Row),
     valid: Result<(), Invalid>,
 ) -> Result<bool, AllocError> {
+    let mut state = from.try_clone()?;
     let alloc = *state.effective().get_joint_config().allocator();
     let new = effective::<K>(alloc, Some((10, 5)), voters)?;
     let answered = answers::<K>(state.update_committed(new, upto)?, answer);
@@ -50,11 +51,12 @@ fn snapshot_leads<K: LeaderKind<u64>>(
 
 /// Whether a log that is cut off from an index on leads where it should.
 fn cut_leads<K: LeaderKind<u64>>(
-    mut state: State<K>,
+    from: &State<K>,
     since: u64,
     answer: Row,
     effective: Row,
 ) -> Result<bool, AllocError> {
+    let mut state = from.try_clone()?;
     if !index_below(state.committed().log_id().index(), Some(since)) {
         return Ok(false);
     }
@@ -64,10 +66,11 @@ fn cut_leads<K: LeaderKind<u64>>(
 
 /// Whether a committed log id leads where it should, or may not be given.
 fn commit_leads<K: LeaderKind<u64>>(
-    mut state: State<K>,
+    from: &State<K>,
     upto: Row,
     committed: Option<Row>,
 ) -> Result<bool, AllocError> {
+    let mut state = from.clone()?;
     let upto = id::<K>(upto);
     if !state.can_commit(&upto) {
         return Ok(committed.is_none());
@@ -81,10 +84,11 @@ fn commit_leads<K: LeaderKind<u64>>(
 
 /// Whether a membership may be appended as wanted, and is then in effect.
 fn append_leads<K: LeaderKind<u64>>(
-    mut state: State<K>,
+    from: &State<K>,
     new: Row,
     want: bool,
 ) -> Result<bool, AllocError> {
+    let mut state = from.try_clone()?;
     let alloc = *state.effective().get_joint_config().allocator();
     let membership = effective::<K>(alloc, new, &[3])?;
     if !state.can_append(&membership) {
@@ -101,19 +105,19 @@ fn move_right<K: LeaderKind<u64>>(alloc: Global, from: &State<K>) -> Result<bool
     let new = Some((10, 5));
     let over = Err(Invalid::MembershipLogId);
     Ok(
-        snapshot_leads::<K>(from.try_clone()?, &[3], 4, None, (new, second), over)?
-            && snapshot_leads::<K>(from.try_clone()?, &[3], 10, new, (new, new), Ok(()))?
+        snapshot_leads::<K>(from, &[3], 4, None, (new, second), over)?
+            && snapshot_leads::<K>(from, &[3], 10, new, (new, new), Ok(()))?
             // Equal memberships under another log id are no news.
-            && snapshot_leads::<K>(from.try_clone()?, &[2, 3], 10, None, (new, new), Ok(()))?
-            && cut_leads::<K>(from.try_clone()?, 10, first, first)?
-            && cut_leads::<K>(from.try_clone()?, 2, first, first)?
-            && cut_leads::<K>(from.try_clone()?, 11, None, second)?
-            && commit_leads::<K>(from.try_clone()?, second, Some(second))?
-            && commit_leads::<K>(from.try_clone()?, Some((2, 9)), Some(first))?
-            && commit_leads::<K>(from.try_clone()?, Some((3, 9)), None)?
-            && append_leads::<K>(from.try_clone()?, Some((2, 11)), true)?
-            && append_leads::<K>(from.try_clone()?, Some((3, 10)), false)?
-            && append_leads::<K>(from.clone()?, Some((1, 11)), false)?
+            && snapshot_leads::<K>(from, &[2, 3], 10, None, (new, new), Ok(()))?
+            && cut_leads::<K>(from, 10, first, first)?
+            && cut_leads::<K>(from, 2, first, first)?
+            && cut_leads::<K>(from, 11, None, second)?
+            && commit_leads::<K>(from, second, Some(second))?
+            && commit_leads::<K>(from, Some((2, 9)), Some(first))?
+            && commit_leads::<K>(from, Some((3, 9)), None)?
+            && append_leads::<K>(from, Some((2, 11)), true)?
+            && append_leads::<K>(from, Some((3, 10)), false)?
+            && append_leads::<K>(from, Some((1, 11)), false)?
             && *from == state::<K>(alloc)?
             && from.validate() == Ok(()),
     )

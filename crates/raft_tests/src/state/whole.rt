@@ -97,7 +97,7 @@ fn relations_right<K: LeaderKind<u64>>(alloc: Global) -> Result<bool, AllocError
 }
 
 /// Whether a valid state reads as it should, and tells whether its purge point is in its log.
-fn reads_right<K: LeaderKind<u64>>(state: &State<K>, other: &State<K>) -> bool {
+fn reads<K: LeaderKind<u64>>(state: &State<K>, other: &State<K>) -> bool {
     state.get_log_id(2) == id::<K>(Some((1, 2)))
         && state.prev_log_id(5) == id::<K>(Some((3, 4)))
         && state.get_log_id(0) == None
@@ -112,6 +112,12 @@ fn reads_right<K: LeaderKind<u64>>(state: &State<K>, other: &State<K>) -> bool {
         && state.io_purged() == None
         && state.purge_upto_is_logged()
         && !other.purge_upto_is_logged()
+}
+
+/// The same, of the first valid state and of one whose purge point is not in its log.
+fn reads_right<K: LeaderKind<u64>>(alloc: Global) -> Result<bool, AllocError> {
+    let other = state::<K>(alloc, (2, Some((3, 0)), Some((3, 4)), None, None, None))?;
+    Ok(reads::<K>(&valid_state::<K>(alloc)?, &other))
 }
 
 /// Whether the first of two entries that the log does not have is at a place.
@@ -178,12 +184,12 @@ fn extend<K: LeaderKind<u64>>(
 }
 
 /// Whether a log id is committed once, with the answer of before, and the log grows and is purged.
-fn moves_right<K: LeaderKind<u64>>(alloc: Global, mut state: State<K>) -> Result<bool, AllocError> {
+fn moves<K: LeaderKind<u64>>(alloc: Global, state: &mut State<K>) -> Result<bool, AllocError> {
     let last = Some((3, 4));
-    let before = committed_before::<K>(&mut state, last)?;
-    let again = committed_before::<K>(&mut state, last)?;
-    extend::<K>(&mut state, &ids_of::<K>(alloc, &[(4, 6), (4, 8)])?)?;
-    extend::<K>(&mut state, &ids_of::<K>(alloc, &[(5, 9), (6, 10)])?)?;
+    let before = committed_before::<K>(state, last)?;
+    let again = committed_before::<K>(state, last)?;
+    extend::<K>(state, &ids_of::<K>(alloc, &[(4, 6), (4, 8)])?)?;
+    extend::<K>(state, &ids_of::<K>(alloc, &[(5, 9), (6, 10)])?)?;
     let upto = log_id::<K>(3, 5);
     if state.can_purge_log(&upto) {
         state.purge_log(&upto)?;
@@ -201,8 +207,7 @@ fn moves_right<K: LeaderKind<u64>>(alloc: Global, mut state: State<K>) -> Result
 }
 
 /// Whether storage's progress is written and read, and nothing else changes.
-fn io_right<K: LeaderKind<u64>>(mut state: State<K>) -> Result<bool, AllocError> {
-    let before = state.try_clone()?;
+fn writes_io<K: LeaderKind<u64>>(state: &mut State<K>, before: &State<K>) -> bool {
     let last = id::<K>(Some((3, 4)));
     let io_state = state.io_state_mut();
     io_state.update_vote(VoteOf::<u64, K>::new(2, 1));
@@ -222,9 +227,15 @@ fn io_right<K: LeaderKind<u64>>(mut state: State<K>) -> Result<bool, AllocError>
         written.update_snapshot(last);
     }
     let is_written = written.applied() == last.as_ref() && written.snapshot() == last.as_ref();
-    let is_other = state != before;
+    let is_other = *state != *before;
     state.io_state = before.io_state;
-    Ok(is_read && is_written && written.flushed == flushed && is_other && state == before)
+    is_read && is_written && written.flushed == flushed && is_other && *state == *before
+}
+
+/// The same, of a state and its clone.
+fn io_right<K: LeaderKind<u64>>(mut state: State<K>) -> Result<bool, AllocError> {
+    let before = state.try_clone()?;
+    Ok(writes_io::<K>(&mut state, &before))
 }
 
 /// Whether what was accepted is known of its leader alone.
@@ -261,20 +272,20 @@ fn accept<K: LeaderKind<u64>>(state: &mut State<K>, log_id: Option<LogIdOf<K::Co
 }
 
 /// Whether a new node's vote, and what it has accepted of the leader, read as they should.
-fn accepted_right<K: LeaderKind<u64>>(mut state: State<K>) -> bool {
+fn accepts<K: LeaderKind<u64>>(state: &mut State<K>) -> bool {
     let log_id = Some(log_id::<K>(6, 3));
     let want = AcceptedOf::<u64, K>::new(K::new_leader(5, 10), log_id);
     let vote = VoteOf::<u64, K>::new_committed(5, 10);
     let unset = state.accepted().is_none() && !state.is_initialized();
     state.vote = UTime::new(7, vote);
-    accept::<K>(&mut state, log_id);
+    accept::<K>(state, log_id);
     is_of_its_leader::<K>(&want, log_id)
         && unset
         && state.accepted == want
         && state.accepted().copied() == log_id
         && state.is_initialized()
         && state.vote_last_modified() == Some(7)
-        && *VoteStateReader::vote_ref(&state) == vote
+        && *VoteStateReader::vote_ref(state) == vote
 }
 
 /// Whether with a vote requests are forwarded as wanted, and the nodes 1, 3 and 9 are what they
@@ -340,18 +351,23 @@ fn nobody_leads(state: &mut State<LeaderStd>) -> Result<bool, AllocError> {
     leads::<LeaderStd>(state, vote, ForwardToLeader::empty(), want)
 }
 
+/// Whether a valid state moves and leads as it should, and a new one takes what is accepted.
+fn moves_right<K: LeaderKind<u64>>(alloc: Global) -> Result<bool, AllocError> {
+    Ok(
+        moves::<K>(alloc, &mut valid_state::<K>(alloc)?)?
+            && leads_right::<K>(&mut valid_state::<K>(alloc)?)?
+            && accepts::<K>(&mut State::<K>::try_default(alloc)?),
+    )
+}
+
 /// Whether a whole state validates, reads and moves as it should.
 fn state_right<K: LeaderKind<u64>>(alloc: Global) -> Result<bool, AllocError> {
-    let first = valid_state::<K>(alloc)?;
-    let other = state::<K>(alloc, (2, Some((3, 0)), Some((3, 4)), None, None, None))?;
     Ok(
         relations_right::<K>(alloc)?
-            && reads_right::<K>(&first, &other)
-            && conflicts_right::<K>(alloc, &first)?
-            && moves_right::<K>(alloc, first.try_clone()?)?
-            && io_right::<K>(first.clone()?)?
-            && accepted_right::<K>(State::<K>::try_default(alloc)?)
-            && leads_right::<K>(&mut valid_state::<K>(alloc)?)?,
+            && reads_right::<K>(alloc)?
+            && conflicts_right::<K>(alloc, &valid_state::<K>(alloc)?)?
+            && moves_right::<K>(alloc)?
+            && io_right::<K>(valid_state::<K>(alloc)?.clone()?)?,
     )
 }
 
