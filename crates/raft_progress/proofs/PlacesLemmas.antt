@@ -47,7 +47,8 @@ pub place_within : {X : Type 0} (p : X → Bool) (xs : List X) (i : ℕ) → pos
 place_within p [] i h = absurd (cc)
 place_within p (x ∷ xs) i h = (position-Some p (x ∷ xs) i x h).0
 
-any_default : {X : Type 0} (xs : List X) (i : ℕ) (d e : X) → i < length xs → get_or xs i d ≡ get_or xs i e
+-- within a list the default does not matter
+pub any_default : {X : Type 0} (xs : List X) (i : ℕ) (d e : X) → i < length xs → get_or xs i d ≡ get_or xs i e
 any_default [] i d e l = absurd (omega arith)
 any_default (x ∷ xs) zero d e l = refl
 any_default (x ∷ xs) (suc i) d e l = any_default xs i d e (omega arith)
