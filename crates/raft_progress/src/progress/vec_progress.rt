@@ -111,7 +111,7 @@ impl<
     {
         let room = quorum_set.ids(alloc)?;
         let voter_count = room.len();
-        let mut walk = Vec::new(alloc);
+        let mut walk = Vec::with_capacity(alloc, voter_count.saturating_add(learners.len()))?;
         place_all(&mut walk, &room, &default)?;
         place_all(&mut walk, learners, &default)?;
         let places = places_of(alloc, &walk)?;
