@@ -1,5 +1,5 @@
 -- Fronts of the voters.
-use Rattle.std.specs.Prelude.{◌≡◌, ℕ, ◌+◌, ◌-◌, ◌/◌, ◌^◌, ◌<◌, ◌≤◌, Bool, true, false, ◌||◌, Option, Some, None, List, [], ◌∷◌, length, min, take}
+use Rattle.std.specs.Prelude.{◌≡◌, ℕ, ◌+◌, ◌-◌, ◌/◌, ◌^◌, ◌<◌, ◌≤◌, Bool, true, false, ◌||◌, Some, None, List, [], ◌∷◌, length, min, take}
 use Rattle.std.specs.Cmp.{IsEquivalence}
 use Rattle.std.specs.List.{IsDistinct}
 use Rattle.std.specs.Map.{keys_of}
@@ -36,35 +36,31 @@ fewer_digits left zero one l = absurd (omega arith)
 fewer_digits left (suc i) one l = let e = two-pow-succ i in (i, refl, omega arith)
 
 module _ {ID V : Type 0} (eq : ID → ID → Bool) (is_quorum : (ID → Bool) → Bool) (voters : List (ID × V)) (low high : ℕ) where
-  -- no front up to `failed` is a quorum; the least one, where one was found, ends past `end`; between these at most `left` fronts are left, and for each that halving leaves a test of a front may still be made
-  pub record Halves (failed end left : ℕ) (found : Option ℕ) (tests : ℕ) : Type 0 where
+  -- no front up to `failed` is a quorum, and where a test has passed, the front directly past `end` is; between these at most `left` fronts are left, and for each that halving leaves a test of a front may still be made
+  pub record Halves (failed end left tests : ℕ) : Type 0 where
     pub fails : (k : ℕ) → low < k → k ≤ failed → front_test eq is_quorum voters k ≡ false
     pub above : low ≤ failed
     pub within : end ≤ high
     pub covers : end ≤ failed + left
-    pub none : found ≡ None → end ≡ high
-    pub ends : (k : ℕ) → found ≡ Some k → (k ≡ end + 1) × (k ≤ high)
-    pub holds : (k : ℕ) → found ≡ Some k → front_test eq is_quorum voters k ≡ true
-    pub exceeds : (k : ℕ) → found ≡ Some k → low < k
-    pub tested : (k : ℕ) → found ≡ Some k → 1 ≤ tests
+    pub holds : end < high → front_test eq is_quorum voters (end + 1) ≡ true
+    pub exceeds : end < high → low ≤ end
+    pub tested : end < high → 1 ≤ tests
     pub few : (k : ℕ) → length voters < 2 ^ k → (j : ℕ) × (tests + j ≡ k) × (left < 2 ^ j)
 
   -- before the first test
-  pub halves_none : high ≤ length voters → Halves low high (length voters) None 0
+  pub halves_none : high ≤ length voters → Halves low high (length voters) 0
   halves_none fits = record {
     fails = λ k l m. absurd (omega arith);
     above = omega arith;
     within = omega arith;
     covers = omega arith;
-    none = λ e. refl;
-    ends = λ k e. cc;
-    holds = λ k e. cc;
-    exceeds = λ k e. cc;
-    tested = λ k e. cc;
+    holds = λ l. absurd (omega arith);
+    exceeds = λ l. absurd (omega arith);
+    tested = λ l. absurd (omega arith);
     few = λ k l. (k, omega arith, l);
   }
 
-  module _ (failed end left : ℕ) (found : Option ℕ) (tests : ℕ) (h : Halves failed end left found tests) where
+  module _ (failed end left tests : ℕ) (h : Halves failed end left tests) where
     -- at most 64 tests are made, since a length has at most 64 binary digits
     pub tests_fit : length voters < 2 ^ 64 → tests ≤ 64
     tests_fit l = let q = h.few 64 l in let e = q.1 in omega arith
@@ -80,25 +76,24 @@ module _ {ID V : Type 0} (eq : ID → ID → Bool) (is_quorum : (ID → Bool) �
 
     module _ (goes : failed < end) (front : ℕ) (is : front ≡ failed + 1 + min (left / 2) (end - failed - 1)) where
       -- the front that was tested is a quorum
-      pub halves_passed : front_test eq is_quorum voters front ≡ true → Halves failed (front - 1) (left / 2) (Some front) (tests + 1)
+      pub halves_passed : front_test eq is_quorum voters front ≡ true → Halves failed (front - 1) (left / 2) (tests + 1)
       halves_passed passed =
           let a = h.above in
           let w = h.within in
+          let same : front - 1 + 1 ≡ front = omega arith in
           record {
             fails = h.fails;
             above = a;
             within = omega arith;
             covers = omega arith;
-            none = λ e. cc;
-            ends = λ k e. let same : front ≡ k = cc in (omega arith, omega arith);
-            holds = λ k e. let same : front ≡ k = cc in ap (front_test eq is_quorum voters) (sym same) ∙ passed;
-            exceeds = λ k e. let same : front ≡ k = cc in omega arith;
-            tested = λ k e. omega arith;
+            holds = λ l. ap (front_test eq is_quorum voters) same ∙ passed;
+            exceeds = λ l. omega arith;
+            tested = λ l. omega arith;
             few = few_more goes;
           }
 
       -- the front that was tested is no quorum
-      pub halves_failed : (superset : (s t : ID → Bool) → ((x : ID) → s x ≡ true → t x ≡ true) → is_quorum s ≡ true → is_quorum t ≡ true) → front_test eq is_quorum voters front ≡ false → Halves front end (left / 2) found (tests + 1)
+      pub halves_failed : (superset : (s t : ID → Bool) → ((x : ID) → s x ≡ true → t x ≡ true) → is_quorum s ≡ true → is_quorum t ≡ true) → front_test eq is_quorum voters front ≡ false → Halves front end (left / 2) (tests + 1)
       halves_failed superset missed =
           let a = h.above in
           let c = h.covers in
@@ -107,25 +102,38 @@ module _ {ID V : Type 0} (eq : ID → ID → Bool) (is_quorum : (ID → Bool) �
             above = omega arith;
             within = h.within;
             covers = omega arith;
-            none = h.none;
-            ends = h.ends;
             holds = h.holds;
             exceeds = h.exceeds;
-            tested = λ k e. omega arith;
+            tested = λ l. omega arith;
             few = few_more goes;
           }
 
     -- no front is left
-    pub halves_all : end ≤ failed → IsLeastFront eq is_quorum voters low high found tests
-    halves_all over = record {
-      none = λ e k l m. let n = h.none e in h.fails k l (omega arith);
-      above = h.exceeds;
-      within = λ k e. (h.ends k e).1;
-      holds = h.holds;
-      least = λ k l e m n. let q = (h.ends k e).0 in h.fails l m (omega arith);
-      tested = h.tested;
-      few = λ k l. let q = h.few k l in let e = q.1 in omega arith;
-    }
+    module _ (over : end ≤ failed) where
+      few_all : (k : ℕ) → length voters < 2 ^ k → tests ≤ k
+      few_all k l = let q = h.few k l in let e = q.1 in omega arith
+
+      pub halves_found : end < high → IsLeastFront eq is_quorum voters low high (Some (end + 1)) tests
+      halves_found some = record {
+        none = λ e. cc;
+        above = λ k e. let same : end + 1 ≡ k = cc in let q = h.exceeds some in omega arith;
+        within = λ k e. let same : end + 1 ≡ k = cc in omega arith;
+        holds = λ k e. let same : end + 1 ≡ k = cc in ap (front_test eq is_quorum voters) (sym same) ∙ h.holds some;
+        least = λ k l e m n. let same : end + 1 ≡ k = cc in h.fails l m (omega arith);
+        tested = λ k e. h.tested some;
+        few = few_all;
+      }
+
+      pub halves_missed : high ≤ end → IsLeastFront eq is_quorum voters low high None tests
+      halves_missed all = record {
+        none = λ e k l m. h.fails k l (omega arith);
+        above = λ k e. cc;
+        within = λ k e. cc;
+        holds = λ k e. cc;
+        least = λ k l e. cc;
+        tested = λ k e. cc;
+        few = few_all;
+      }
 
 -- the first of the ids that were gathered
 front_of : {ID V : Type 0} (voters : List (ID × V)) (room : List ID) (high k : ℕ) → k ≤ high → take high room ≡ keys_of (take high voters) → take k room ≡ keys_of (take k voters)

@@ -4,18 +4,19 @@ use Rattle.std.specs.Cmp.{IsEquivalence}
 use Rattle.std.specs.Map.{keys_of}
 use Rattle.std.specs.Set.{is_member}
 use Rattle.std.specs.List.{IsDistinct}
-use Rattle.std.specs.Option.{is_some}
+use Rattle.std.specs.Option.{is_some, option_map}
 use Rattle.std.proofs.Common.{arith, sym, ap, refl, ◌∙◌, true≢false, get_or, set, subst, suc, zero, ltb, ltb-true, ltb-false, length-append}
 use Rattle.std.proofs.Math.Seq.{get_or-append_seam}
 use Rattle.std.proofs.lemmas.List.{get_or-append-add, get_or_append_left, length-take}
 use Rattle.std.proofs.lemmas.List.Folds.{list_any-append}
+use Rattle.std.proofs.lemmas.Bool.Decides.{nat_tests}
 use Rattle.std.proofs.lemmas.List.Quantifiers.{position-Some}
 use Rattle.std.proofs.lemmas.Option.{get_or_from_slice_get}
 use Rattle.std.proofs.lemmas.Map.Entries.{length-keys_of}
 use Rattle.std.proofs.lemmas.Map.Keys.{apart_from_distinct}
 use Rattle.std.proofs.lemmas.Map.Made.{is_some-lookup}
 use Rattle.std.specs.declared.cmp.Ordering.{Ordering}
-use Rattle.raft_progress.specs.Inner.Places.{TellsPlaces, TellsPlacesBut}
+use Rattle.raft_progress.specs.Inner.Places.{TellsPlaces, TellsPlacesBefore, TellsPlacesBut, place_after}
 use Rattle.raft_progress.specs.Inner.Rises.{Passed}
 use Rattle.raft_progress.proofs.ListLemmas.{or_right}
 use Rattle.raft_progress.proofs.MovedLemmas.{member_moved}
@@ -46,7 +47,8 @@ pub place_within : {X : Type 0} (p : X → Bool) (xs : List X) (i : ℕ) → pos
 place_within p [] i h = absurd (cc)
 place_within p (x ∷ xs) i h = (position-Some p (x ∷ xs) i x h).0
 
-any_default : {X : Type 0} (xs : List X) (i : ℕ) (d e : X) → i < length xs → get_or xs i d ≡ get_or xs i e
+-- within a list the default does not matter
+pub any_default : {X : Type 0} (xs : List X) (i : ℕ) (d e : X) → i < length xs → get_or xs i d ≡ get_or xs i e
 any_default [] i d e l = absurd (omega arith)
 any_default (x ∷ xs) zero d e l = refl
 any_default (x ∷ xs) (suc i) d e l = any_default xs i d e (omega arith)
@@ -66,6 +68,20 @@ passed_nothing {ID} {V} cmp part old from new to p l = by p.passed refl
     by : (passed : List (ID × V)) → p.passed ≡ passed → new ≡ old
     by [] none = p.now ∙ ap (λ (es : List (ID × V)). p.front ++ (p.entry ∷ (es ++ p.rest))) none ∙ sym (p.was ∙ ap (λ (es : List (ID × V)). p.front ++ (es ++ (p.entry ∷ p.rest))) none)
     by (e ∷ es) some = let q = p.now_at in let w = p.was_at in let n = ap length some in absurd (omega arith)
+
+-- where an entry has moved up: the places before it and behind it stay, its own is the new one, and those that it passed are one more
+module _ (first last : ℕ) where
+  after_before : (k : ℕ) → first ≤ last → k < first → place_after first last k ≡ k
+  after_before k up l = grind (arith, nat_tests)
+
+  after_behind : (k : ℕ) → last < k → place_after first last k ≡ k
+  after_behind k l = grind (arith, nat_tests)
+
+  after_moved : place_after first last last ≡ first
+  after_moved = grind (arith, nat_tests)
+
+  after_passed : (k : ℕ) → first ≤ k → k < last → place_after first last k ≡ k + 1
+  after_passed k l m = grind (arith, nat_tests)
 
 module _ {ID : Type 0} {eq : ID → ID → Bool} (laws : IsEquivalence eq) where
   pub member_at : (ids : List ID) (k : ℕ) (d x : ID) → k < length ids → eq x (get_or ids k d) ≡ true → is_member eq ids x ≡ true
@@ -209,7 +225,46 @@ module _ {ID : Type 0} {eq : ID → ID → Bool} (laws : IsEquivalence eq) where
           by true v = t.before x k m at (ltb-true k from v)
           by false v = let h = ltb-false k from v in t.behind x k m at (omega arith)
 
-  -- an entry has moved up, and the places of those that it passed and its own are not told yet
+  -- what is told from before a move is some place, from which the move leads to the present one
+  module _ (ids : List ID) (first last : ℕ) (up : first ≤ last) (found : ID → Option ℕ) (t : TellsPlacesBefore eq ids first last found) where
+    told_before : (x : ID) (k : ℕ) → k < length ids → eq x (get_or ids k x) ≡ true → (j : ℕ) × (found x ≡ Some j) × (place_after first last j ≡ k)
+    told_before x k l at = by (ltb k first) refl (ltb last k) refl
+      where
+        within : (k : ℕ) → k < length ids → eq x (get_or ids k x) ≡ true → first ≤ k → k ≤ last → (j : ℕ) × (found x ≡ Some j) × (place_after first last j ≡ k)
+        within k l at m n = here (ltb first k) refl
+          where
+            here : (b : Bool) → ltb first k ≡ b → (j : ℕ) × (found x ≡ Some j) × (place_after first last j ≡ k)
+            here true u =
+                let h = ltb-true first k u in
+                let same : k ≡ k - 1 + 1 = omega arith in
+                (k - 1, t.passed x (k - 1) (omega arith) (ap (λ n. eq x (get_or ids n x)) (sym same) ∙ at) (omega arith) (omega arith), after_passed first last (k - 1) (omega arith) (omega arith) ∙ sym same)
+            here false u =
+                let h = ltb-false first k u in
+                let same : k ≡ first = omega arith in
+                (last, t.moved x (omega arith) (ap (λ n. eq x (get_or ids n x)) (sym same) ∙ at), after_moved first last ∙ sym same)
+
+        by : (b : Bool) → ltb k first ≡ b → (c : Bool) → ltb last k ≡ c → (j : ℕ) × (found x ≡ Some j) × (place_after first last j ≡ k)
+        by true u c v = let h = ltb-true k first u in (k, t.before x k l at h, after_before first last k up h)
+        by false u true v = let h = ltb-true last k v in (k, t.behind x k l at h, after_behind first last k h)
+        by false u false v = within k l at (ltb-false k first u) (ltb-false last k v)
+
+    -- so the places that the move has not touched are the present ones
+    pub but_before : TellsPlacesBut eq ids first (last + 1) found
+    but_before = record {
+      before = t.before;
+      behind = λ x k l at m. t.behind x k l at (omega arith);
+      known = λ x m. let r = place_of_member ids x m in ap is_some (told_before x r.0 r.1 r.2).1;
+      unknown = t.unknown;
+    }
+
+    -- and a map that is moved along tells the present ones
+    pub tells_after : (found' : ID → Option ℕ) → ((x : ID) → found' x ≡ option_map (place_after first last) (found x)) → TellsPlaces eq ids found'
+    tells_after found' is = record {
+      here = λ x k l at. let r = told_before x k l at in is x ∙ ap (option_map (place_after first last)) r.1 ∙ ap (λ (n : ℕ). Some n) r.2;
+      unknown = λ x m. is x ∙ ap (option_map (place_after first last)) (t.unknown x m);
+    }
+
+  -- an entry has moved up, and the map tells the places from before
   module _ {V : Type 0} (front passed : List (ID × V)) (e : ID × V) (rest : List (ID × V)) (found : ID → Option ℕ) (t : TellsPlaces eq (keys_of (front ++ (passed ++ (e ∷ rest)))) found) where
     abbrev Old : List ID
     Old = keys_of (front ++ (passed ++ (e ∷ rest)))
@@ -248,20 +303,47 @@ module _ {ID : Type 0} {eq : ID → ID → Bool} (laws : IsEquivalence eq) where
         ap (λ ks. get_or ks k x) new_is ∙ ap (λ n. get_or (keys_of front ++ (e.0 ∷ (keys_of passed ++ keys_of rest))) n x) to_new ∙ get_or-append-add (keys_of front) (e.0 ∷ (keys_of passed ++ keys_of rest)) (suc (length (keys_of passed) + j)) x ∙ get_or-append-add (keys_of passed) (keys_of rest) j x
         ∙ sym (ap (λ ks. get_or ks k x) old_is ∙ ap (λ n. get_or (keys_of front ++ (keys_of passed ++ (e.0 ∷ keys_of rest))) n x) to_old ∙ get_or-append-add (keys_of front) (keys_of passed ++ (e.0 ∷ keys_of rest)) (length (keys_of passed) + suc j) x ∙ get_or-append-add (keys_of passed) (e.0 ∷ keys_of rest) (suc j) x)
 
-    pub but_moved : TellsPlacesBut eq New (length front) (length front + length passed + 1) found
-    but_moved = record {
-      before = λ x k m at l. t.here x k (rw as_long m) (ap (eq x) (sym (same_before k x l)) ∙ at);
-      behind = λ x k m at l. t.here x k (rw as_long m) (ap (eq x) (sym (same_behind k x l)) ∙ at);
-      known = λ x m. let r = place_of_member Old x (sym (member_moved laws front passed e rest x) ∙ m) in ap is_some (t.here x r.0 r.1 r.2);
-      unknown = λ x m. t.unknown x (sym (member_moved laws front passed e rest x) ∙ m);
-    }
+    same_moved : (x : ID) → get_or New (length front) x ≡ get_or Old (length front + length passed) x
+    same_moved x =
+        let f = length-keys_of front in
+        let p = length-keys_of passed in
+        let to_new : length front ≡ length (keys_of front) + 0 = omega arith in
+        let to_old : length front + length passed ≡ length (keys_of front) + (length (keys_of passed) + 0) = omega arith in
+        ap (λ ks. get_or ks (length front) x) new_is ∙ ap (λ n. get_or (keys_of front ++ (e.0 ∷ (keys_of passed ++ keys_of rest))) n x) to_new ∙ get_or-append-add (keys_of front) (e.0 ∷ (keys_of passed ++ keys_of rest)) 0 x
+        ∙ sym (ap (λ ks. get_or ks (length front + length passed) x) old_is ∙ ap (λ n. get_or (keys_of front ++ (keys_of passed ++ (e.0 ∷ keys_of rest))) n x) to_old ∙ get_or-append-add (keys_of front) (keys_of passed ++ (e.0 ∷ keys_of rest)) (length (keys_of passed) + 0) x ∙ get_or-append-add (keys_of passed) (e.0 ∷ keys_of rest) 0 x)
 
-  pub but_passed : {V P : Type 0} (cmp : P → P → Ordering) (part : V → P) (old : List (ID × V)) (from : ℕ) (new : List (ID × V)) (to : ℕ) → Passed cmp part old from new to → (found : ID → Option ℕ) → TellsPlaces eq (keys_of old) found → TellsPlacesBut eq (keys_of new) to (from + 1) found
-  but_passed {V} {P} cmp part old from new to p found t =
-      let b = but_moved p.front p.passed p.entry p.rest found (subst (λ (es : List (ID × V)). TellsPlaces eq (keys_of es) found) p.was t) in
-      subst (λ (es : List (ID × V)). TellsPlacesBut eq (keys_of es) to (from + 1) found) (sym p.now)
-      (subst (λ (n : ℕ). TellsPlacesBut eq (keys_of (p.front ++ (p.entry ∷ (p.passed ++ p.rest)))) n (from + 1) found) p.now_at
-      (subst (λ (n : ℕ). TellsPlacesBut eq (keys_of (p.front ++ (p.entry ∷ (p.passed ++ p.rest)))) (length p.front) (n + 1) found) p.was_at b))
+    same_passed : (k : ℕ) (x : ID) → length front ≤ k → k < length front + length passed → get_or New (k + 1) x ≡ get_or Old k x
+    same_passed k x l m =
+        let j : ℕ = k - length front in
+        let f = length-keys_of front in
+        let p = length-keys_of passed in
+        let near : j < length (keys_of passed) = omega arith in
+        let to_new : k + 1 ≡ length (keys_of front) + suc j = omega arith in
+        let to_old : k ≡ length (keys_of front) + j = omega arith in
+        ap (λ ks. get_or ks (k + 1) x) new_is ∙ ap (λ n. get_or (keys_of front ++ (e.0 ∷ (keys_of passed ++ keys_of rest))) n x) to_new ∙ get_or-append-add (keys_of front) (e.0 ∷ (keys_of passed ++ keys_of rest)) (suc j) x ∙ get_or_append_left (keys_of passed) (keys_of rest) x j near
+        ∙ sym (ap (λ ks. get_or ks k x) old_is ∙ ap (λ n. get_or (keys_of front ++ (keys_of passed ++ (e.0 ∷ keys_of rest))) n x) to_old ∙ get_or-append-add (keys_of front) (keys_of passed ++ (e.0 ∷ keys_of rest)) j x ∙ get_or_append_left (keys_of passed) (e.0 ∷ keys_of rest) x j near)
+
+    pub before_move : TellsPlacesBefore eq New (length front) (length front + length passed) found
+    before_move =
+        let a = length-append (keys_of front) (keys_of passed ++ (e.0 ∷ keys_of rest)) in
+        let b = length-append (keys_of passed) (e.0 ∷ keys_of rest) in
+        let n : length Old ≡ length (keys_of front) + (length (keys_of passed) + suc (length (keys_of rest))) = ap length old_is ∙ omega arith in
+        let f = length-keys_of front in
+        let p = length-keys_of passed in
+        record {
+          before = λ x k m at l. t.here x k (rw as_long m) (ap (eq x) (sym (same_before k x l)) ∙ at);
+          moved = λ x m at. t.here x (length front + length passed) (omega arith) (ap (eq x) (sym (same_moved x)) ∙ at);
+          passed = λ x k m at l u. t.here x k (omega arith) (ap (eq x) (sym (same_passed k x l u)) ∙ at);
+          behind = λ x k m at l. t.here x k (rw as_long m) (ap (eq x) (sym (same_behind k x (omega arith))) ∙ at);
+          unknown = λ x m. t.unknown x (sym (member_moved laws front passed e rest x) ∙ m);
+        }
+
+  pub before_passed : {V P : Type 0} (cmp : P → P → Ordering) (part : V → P) (old : List (ID × V)) (from : ℕ) (new : List (ID × V)) (to : ℕ) → Passed cmp part old from new to → (found : ID → Option ℕ) → TellsPlaces eq (keys_of old) found → TellsPlacesBefore eq (keys_of new) to from found
+  before_passed {V} {P} cmp part old from new to p found t =
+      let b = before_move p.front p.passed p.entry p.rest found (subst (λ (es : List (ID × V)). TellsPlaces eq (keys_of es) found) p.was t) in
+      subst (λ (es : List (ID × V)). TellsPlacesBefore eq (keys_of es) to from found) (sym p.now)
+      (subst (λ (n : ℕ). TellsPlacesBefore eq (keys_of (p.front ++ (p.entry ∷ (p.passed ++ p.rest)))) n from found) p.now_at
+      (subst (λ (n : ℕ). TellsPlacesBefore eq (keys_of (p.front ++ (p.entry ∷ (p.passed ++ p.rest)))) (length p.front) n found) p.was_at b))
 
   -- the same ids, and a map that tells the same
   pub tells_alike : (ids ids' : List ID) (found found' : ID → Option ℕ) → ids' ≡ ids → ((x : ID) → found' x ≡ found x) → TellsPlaces eq ids found → TellsPlaces eq ids' found'

@@ -1,22 +1,22 @@
 //! How a voter moves up in the walk.
-ghost use Rattle.std.specs.Prelude.{◌≡◌, ◌<◌, ◌+◌, length, ◌&&◌};
+ghost use Rattle.std.specs.Prelude.{◌≡◌, ◌<◌, length, ◌&&◌};
 ghost use Rattle.std.specs.Ordering.{is_lt};
 ghost use Rattle.std.proofs.Common.{get_or};
 ghost use Rattle.raft_progress.specs.Inner.Rises.{RisesTo};
 
 use super::part::ProgressPart;
 
-/// Whether an entry's part is less than that of the next.
-fn is_below_next<ID: Copy, V: ProgressPart<P>, P: Copy + Ord>(
+/// Whether the part of the entry at a place is less than another part.
+fn is_below<ID: Copy, V: ProgressPart<P>, P: Copy + Ord>(
     walk: &[(ID, V)],
     place: usize,
+    part: P,
 ) -> bool
-    requires { place + 1 < length walk.now }
+    requires { place < length walk.now }
     ensures { (d : ID × V) →
-        result ≡ is_lt (P.cmp (V.part_of (get_or walk.now place d).1)
-        (V.part_of (get_or walk.now (place + 1) d).1)) }
+        result ≡ is_lt (P.cmp (V.part_of (get_or walk.now place d).1) part) }
 {
-    walk[place].1.part().cmp(&walk[place + 1].1.part()).is_lt()
+    walk[place].1.part().cmp(&part).is_lt()
 }
 
 /// Whether a part has risen to one that exceeds granted.
@@ -34,9 +34,10 @@ pub(crate) fn move_up<ID: Copy, V: ProgressPart<P>, P: Copy + Ord>(
     requires { place < length walk.old.items }
     ensures { RisesTo P.cmp V.part_of walk.old.items place walk.new.items result }
 {
+    let part = walk[place].1.part();
     let mut at = place;
     while at > 0 {
-        if !is_below_next(walk, at - 1) {
+        if !is_below(walk, at - 1, part) {
             return at;
         }
         walk.swap(at - 1, at);

@@ -8,15 +8,26 @@ ghost use Rattle.raft_progress.specs.Inner.Rises.{IsLeastFront};
 use super::part::ProgressPart;
 use raft_members::quorum::QuorumSet;
 
-/// Writes the ids of the first voters to the front of `room`.
-fn gather_front<ID: Copy, V>(voters: &[(ID, V)], front: usize, room: &mut [ID])
-    requires within { front ≤ length voters.now }
-    requires room { length voters.now ≤ length room.old }
-    ensures { take front room.new ≡ keys_of (take front voters.now) }
+/// Writes the ids of the first voters, those whose part exceeds `least`, to the front of `room`, and
+/// answers how many they are.
+pub(crate) fn gather_leading<ID: Copy, V: ProgressPart<P>, P: Copy + Ord>(
+    voters: &[(ID, V)],
+    least: P,
+    room: &mut [ID],
+) -> usize
+    requires { length voters.now ≤ length room.old }
+    ensures count { result ≡ prefix_len (exceeds P.cmp V.part_of least) voters.now }
+    ensures front { take result room.new ≡ keys_of (take result voters.now) }
 {
-    for place in 0..front {
-        room[place] = voters[place].0;
+    let mut n = 0;
+    for entry in voters {
+        if !least.cmp(&entry.1.part()).is_lt() {
+            return n;
+        }
+        room[n] = entry.0;
+        n += 1;
     }
+    n
 }
 
 /// What a scan of fronts has found.
@@ -28,7 +39,8 @@ pub(crate) struct Scan {
     pub tests: u64,
 }
 
-/// The least front above `low` and up to `high` that is a quorum, found by halving.
+/// The least front above `low` and up to `high` that is a quorum, found by halving. The room begins
+/// with the ids of the front up to `high`.
 ///
 /// A front that contains a quorum is one, so a test halves the fronts that are left, and there are at
 /// most as many tests as the number of voters has binary digits. Within this bound the longest front
@@ -38,17 +50,16 @@ pub(crate) fn least_front<ID: Copy + Ord, V, QS: QuorumSet<ID>>(
     voters: &[(ID, V)],
     low: usize,
     high: usize,
-    room: &mut [ID],
+    room: &[ID],
 ) -> Scan
     requires within { high ≤ length voters.now }
-    requires room { length voters.now ≤ length room.old }
+    requires room { length voters.now ≤ length room.now }
+    requires gathered { take high room.now ≡ keys_of (take high voters.now) }
     requires distinct { IsDistinct ID.eq (keys_of voters.now) }
     ensures { IsLeastFront ID.eq (QS.has_quorum quorum_set.now) voters.now
         low high result.front result.tests }
 {
-    gather_front(voters, high, room);
     let mut tests = 0;
-    let mut least = None;
     let mut failed = low;
     let mut end = high;
     let mut left = voters.len();
@@ -57,31 +68,12 @@ pub(crate) fn least_front<ID: Copy + Ord, V, QS: QuorumSet<ID>>(
         let front = failed + 1 + left.min(end - failed - 1);
         tests += 1;
         if quorum_set.is_quorum(&room[..front]) {
-            least = Some(front);
             end = front - 1;
         } else {
             failed = front;
         }
     }
-    Scan {
-        front: least,
-        tests,
-    }
-}
-
-/// How many of the first voters have a part that exceeds `least`.
-pub(crate) fn leading<ID: Copy, V: ProgressPart<P>, P: Copy + Ord>(
-    voters: &[(ID, V)],
-    least: P,
-) -> usize
-    ensures { result ≡ prefix_len (exceeds P.cmp V.part_of least) voters.now }
-{
-    let mut n = 0;
-    for entry in voters {
-        if !least.cmp(&entry.1.part()).is_lt() {
-            return n;
-        }
-        n += 1;
-    }
-    n
+    // A test that passed has left the fronts that are shorter.
+    let front = if end < high { Some(end + 1) } else { None };
+    Scan { front, tests }
 }

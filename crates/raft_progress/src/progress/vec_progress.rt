@@ -13,7 +13,7 @@ use super::part::ProgressPart;
 use super::places::{copy_places, places_of, write_places};
 use super::recount::count;
 use super::rise::{is_raised, move_up};
-use super::scan::{leading, least_front};
+use super::scan::{gather_leading, least_front};
 use super::stat::Stat;
 use super::walk::{clone_walk, copy_ids, place_all, write_at};
 use raft_members::quorum::QuorumSet;
@@ -111,7 +111,7 @@ impl<
     {
         let room = quorum_set.ids(alloc)?;
         let voter_count = room.len();
-        let mut walk = Vec::new(alloc);
+        let mut walk = Vec::with_capacity(alloc, voter_count.saturating_add(learners.len()))?;
         place_all(&mut walk, &room, &default)?;
         place_all(&mut walk, learners, &default)?;
         let places = places_of(alloc, &walk)?;
@@ -527,23 +527,24 @@ impl<
         self.stat.update_count = self.stat.update_count.saturating_add(1);
         match found {
             Some(place) => {
-                let before = self.walk[place].1.part();
-                write_at(&mut self.walk, place, f);
-                self.settle(place, before);
+                let (before, after) = write_at(&mut self.walk, place, f);
+                self.settle(place, before, after);
                 true
             }
             None => false,
         }
     }
 
-    /// Puts the progress in order again, after the value at a place went from a part `before`.
-    fn settle(&mut self, place: usize, before: P)
+    /// Puts the progress in order again, where the part of the value at a place went from `before` to
+    /// `after`.
+    fn settle(&mut self, place: usize, before: P, after: P)
         requires within { place < length (shown self.old).walk }
+        requires at { (e : ID × V) → slice_get (shown self.old).walk place ≡ Some e →
+            after ≡ V.part_of e.1 }
         requires distinct { IsDistinct ID.eq (keys_of (shown self.old).walk) }
         ensures { IsPutInOrder ID.eq P.cmp V.part_of QS.has_quorum
             (shown self.old) place before (shown self.new) }
     {
-        let after = self.walk[place].1.part();
         let granted = self.granted;
         if place < self.voter_count && is_raised(before, after, granted) {
             self.raise(place, before.cmp(&granted).is_le());
@@ -574,8 +575,8 @@ impl<
             (shown self.old) place (shown self.new) }
     {
         let voters = &self.walk[..self.voter_count];
-        let high = leading(voters, self.granted);
-        let found = least_front(&self.quorum_set, voters, place, high, &mut self.room);
+        let high = gather_leading(voters, self.granted, &mut self.room);
+        let found = least_front(&self.quorum_set, voters, place, high, &self.room);
         self.stat.is_quorum_count = self.stat.is_quorum_count.saturating_add(found.tests);
         if let Some(front) = found.front {
             self.granted = self.walk[front - 1].1.part();

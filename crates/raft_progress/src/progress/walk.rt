@@ -6,6 +6,7 @@ ghost use Rattle.std.specs.Option.{ForSome};
 ghost use Rattle.raft_progress.specs.Inner.Placed.{IsPlaced, IsWrittenAt};
 ghost use Rattle.raft_progress.specs.progress.Lends.{Leaves};
 
+use super::part::ProgressPart;
 use std::alloc::{AllocError, Global};
 
 /// Puts the ids at the end, each with a clone of the default.
@@ -22,15 +23,23 @@ pub(crate) fn place_all<ID: Copy, V: Clone>(
     Ok(())
 }
 
-/// Runs `f` on the value at a place.
-pub(crate) fn write_at<ID: Copy, V, F: FnOnce(&mut V)>(walk: &mut Vec<(ID, V)>, place: usize, f: F)
+/// Runs `f` on the value at a place, and answers its part before and afterwards.
+pub(crate) fn write_at<ID: Copy, V: ProgressPart<P>, P: Copy, F: FnOnce(&mut V)>(
+    walk: &mut Vec<(ID, V)>,
+    place: usize,
+    f: F,
+) -> (P, P)
     requires within { place < length walk.old.items }
     requires callable { ForSome (slice_get walk.old.items place)
         (λ e. FnOnceTakesAtMut F.FnOnce f e.1) }
-    ensures { IsWrittenAt (Leaves F.FnOnce f) place walk.old.items walk.new.items }
+    ensures { IsWrittenAt V.part_of (Leaves F.FnOnce f) place walk.old.items walk.new.items
+        result.0 result.1 }
 {
     let entry = &mut walk[place];
+    let before = entry.1.part();
     f(&mut entry.1);
+    let after = entry.1.part();
+    (before, after)
 }
 
 /// A clone of each entry.

@@ -1,32 +1,42 @@
-use Rattle.std.proofs.Common.{arith, ◌≡◌, ◌+◌, ◌-◌, subst, sym, ◌∙◌, ℕ, ap}
+use Rattle.std.proofs.Common.{arith, get_or, is_lt, ◌≡◌, ◌+◌, ◌-◌, subst, sym, ◌∙◌, ℕ, ap}
 use Rattle.std.specs.List.{swap}
 use Rattle.raft_progress.specs.Inner.Rises.{Passed, RisesTo}
+use Rattle.raft_progress.proofs.PlacesLemmas.{any_default}
 use Rattle.raft_progress.proofs.RisingLemmas.{passed_none, passed_more, rises_stop, rises_front}
 use Rattle.raft_progress.proofs.progress.rise.move_up.Goals as goal
 
 pub loop-at-init : goal.loop-at-init
-loop-at-init g c = passed_none g.P.Ord.cmp g.V.ProgressPart.part_of c.args.walk.now.items c.args.place c.requires
+loop-at-init g c = record {
+  passes = passed_none g.P.Ord.cmp g.V.ProgressPart.part_of c.args.walk.now.items c.args.place c.requires;
+  carries = λ d.
+      ap (λ (e : g.row.ID.Denot × g.row.V.Denot). g.V.ProgressPart.part_of e.1) (any_default c.args.walk.now.items c.args.place d c.index.result.now c.requires ∙ sym c.index.ensures)
+      ∙ sym c.part-part.ensures;
+}
 
 pub loop-at-preserved : goal.loop-at-preserved
 loop-at-preserved g c =
     let e : c.loop-at.at ≡ c.loop-at.at - 1 + 1 = omega arith in
-    passed_more g.P.Ord.cmp g.V.ProgressPart.part_of c.args.walk.now.items c.args.place c.loop-at.walk.items (c.loop-at.at - 1)
-    (subst (λ (n : ℕ). Passed g.P.Ord.cmp g.V.ProgressPart.part_of c.args.walk.now.items c.args.place c.loop-at.walk.items n) e c.loop-at.invariant)
-    c.swap.new.self.items (c.swap.ensures.items ∙ ap (swap c.loop-at.walk.items (c.loop-at.at - 1)) e)
-    (λ d. sym (rw c.deref.ensures.value at (c.is_below_next.ensures d)) ∙ c.if-not-is_below_next.false)
+    record {
+      passes =
+          passed_more g.P.Ord.cmp g.V.ProgressPart.part_of c.args.walk.now.items c.args.place c.loop-at.walk.items (c.loop-at.at - 1)
+          (subst (λ (n : ℕ). Passed g.P.Ord.cmp g.V.ProgressPart.part_of c.args.walk.now.items c.args.place c.loop-at.walk.items n) e c.loop-at.invariant.passes)
+          c.swap.new.self.items (c.swap.ensures.items ∙ ap (swap c.loop-at.walk.items (c.loop-at.at - 1)) e)
+          (λ d. ap (λ q. is_lt (g.P.Ord.cmp (g.V.ProgressPart.part_of (get_or c.loop-at.walk.items (c.loop-at.at - 1) d).1) q)) (ap (λ (n : ℕ). g.V.ProgressPart.part_of (get_or c.loop-at.walk.items n d).1) (sym e) ∙ c.loop-at.invariant.carries d) ∙ sym (rw c.deref.ensures.value at (c.is_below.ensures d)) ∙ c.if-not-is_below.false);
+      carries = λ d. ap (λ (e : g.row.ID.Denot × g.row.V.Denot). g.V.ProgressPart.part_of e.1) (c.swap.ensures.by_index.0 d) ∙ c.loop-at.invariant.carries d;
+    }
 
-pub returns-then-not-is_below_next : goal.returns-then-not-is_below_next
-returns-then-not-is_below_next g c =
+pub returns-then-not-is_below : goal.returns-then-not-is_below
+returns-then-not-is_below g c =
     let e : c.loop-at.at ≡ c.loop-at.at - 1 + 1 = omega arith in
     subst (λ (n : ℕ). RisesTo g.P.Ord.cmp g.V.ProgressPart.part_of c.args.walk.now.items c.args.place c.loop-at.walk.items n) (sym e)
     (rises_stop g.P.Ord.cmp g.V.ProgressPart.part_of c.args.walk.now.items c.args.place c.loop-at.walk.items (c.loop-at.at - 1)
-    (subst (λ (n : ℕ). Passed g.P.Ord.cmp g.V.ProgressPart.part_of c.args.walk.now.items c.args.place c.loop-at.walk.items n) e c.loop-at.invariant)
+    (subst (λ (n : ℕ). Passed g.P.Ord.cmp g.V.ProgressPart.part_of c.args.walk.now.items c.args.place c.loop-at.walk.items n) e c.loop-at.invariant.passes)
     g.met.P.Ord.total
-    (λ d. sym (rw c.deref.ensures.value at (c.is_below_next.ensures d)) ∙ c.if-not-is_below_next.true))
+    (λ d. ap (λ q. is_lt (g.P.Ord.cmp (g.V.ProgressPart.part_of (get_or c.loop-at.walk.items (c.loop-at.at - 1) d).1) q)) (ap (λ (n : ℕ). g.V.ProgressPart.part_of (get_or c.loop-at.walk.items n d).1) (sym e) ∙ c.loop-at.invariant.carries d) ∙ sym (rw c.deref.ensures.value at (c.is_below.ensures d)) ∙ c.if-not-is_below.true))
 
 pub returns : goal.returns
 returns g c =
     let e : c.loop-at.at ≡ 0 = omega arith in
     subst (λ (n : ℕ). RisesTo g.P.Ord.cmp g.V.ProgressPart.part_of c.args.walk.now.items c.args.place c.loop-at.walk.items n) (sym e)
     (rises_front g.P.Ord.cmp g.V.ProgressPart.part_of c.args.walk.now.items c.args.place c.loop-at.walk.items
-    (subst (λ (n : ℕ). Passed g.P.Ord.cmp g.V.ProgressPart.part_of c.args.walk.now.items c.args.place c.loop-at.walk.items n) e c.loop-at.invariant))
+    (subst (λ (n : ℕ). Passed g.P.Ord.cmp g.V.ProgressPart.part_of c.args.walk.now.items c.args.place c.loop-at.walk.items n) e c.loop-at.invariant.passes))

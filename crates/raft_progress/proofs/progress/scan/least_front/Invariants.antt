@@ -5,7 +5,7 @@ use Rattle.raft_progress.proofs.progress.scan.least_front.Given as goal
 -- the fronts that are left are halved by each test
 abbrev pub invariant-loop-failed : goal.invariant-loop-failed
 invariant-loop-failed g l = record {
-  halves : Halves g.ID.PartialEq.eq (g.QS.QuorumSet.has_quorum l.quorum_set) l.voters l.low l.high l.failed l.end l.left l.least l.tests;
+  halves : Halves g.ID.PartialEq.eq (g.QS.QuorumSet.has_quorum l.quorum_set) l.voters l.low l.high l.failed l.end l.left l.tests;
   fits : length l.voters < 2 ^ 64;
 }
 

@@ -9,4 +9,6 @@ returns g c = (
   slice_get_read _ _ _ _ refl c.requires.within c.index_mut-entry.ensures.value,
   record { shown = _; shows = refl; left = _; met = c.f.ensures; leaves = refl },
   refl,
+  c.part-before.ensures,
+  c.part-after.ensures,
 )

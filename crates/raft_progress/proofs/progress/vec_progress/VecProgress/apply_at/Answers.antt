@@ -13,7 +13,7 @@ use Rattle.raft_progress.proofs.progress.vec_progress.VecProgress.apply_at.Goals
 
 pub invariant_of-self : goal.invariant_of-self
 invariant_of-self g c =
-    let h = c.write_at.ensures in
+    let h = c.write_at-before.ensures in
     let same = ap keys_of h.4 ∙ keys_written c.args.self.now.walk.items c.in-Some.place h.0 h.1 h.2 in
     record {
       voters_fit = subst (λ n. c.args.self.now.voter_count ≤ n) (sym (ap length h.4 ∙ length-set c.args.self.now.walk.items c.in-Some.place (h.0.0, h.1))) c.args.self.now.voters_fit;
@@ -23,18 +23,17 @@ invariant_of-self g c =
 
 pub settle-requires-clause-distinct : goal.settle-requires-clause-distinct
 settle-requires-clause-distinct g c =
-    let h = c.write_at.ensures in
+    let h = c.write_at-before.ensures in
     subst (IsDistinct g.ID.PartialEq.eq) (sym (ap keys_of h.4 ∙ keys_written c.args.self.now.walk.items c.in-Some.place h.0 h.1 h.2)) c.requires.ordered.distinct
 
 pub returns-in-Some-clause-updated : goal.returns-in-Some-clause-updated
 returns-in-Some-clause-updated g c = λ id found.
-    let h = c.write_at.ensures in
+    let h = c.write_at-before.ensures in
     let before = was g.met.ID.Eq.laws c.args.self.now.walk.items id c.in-Some.place h.0 (sym found ∙ c.in-Some.is) h.2 in
     let is = wrote g.met.ID.Eq.laws c.args.self.now.walk.items id c.in-Some.place h.0 (sym found ∙ c.in-Some.is) h.2 h.1 in
     let here : h.0 ≡ get_or c.args.self.now.walk.items c.in-Some.place h.0 = sym (get_or_from_slice_get c.args.self.now.walk.items c.in-Some.place h.0 h.0 h.2) in
-    let read : c.index.result.now ≡ h.0 = c.index.ensures ∙ get_or_from_slice_get c.args.self.now.walk.items c.in-Some.place h.0 c.index.result.now h.2 in
     let fits : c.args.self.now.stat.is_quorum_count < 2 ^ 64 = omega arith in
-    let oc = outcome g.met.ID.Eq.laws g.met.P.Ord.total g.V.ProgressPart.part_of g.QS.QuorumSet.has_quorum g.met.QS.QuorumSet.superset _ (shown c.settle.new.self) c.args.self.now.walk.items c.requires.ordered id c.in-Some.place h.0 (sym found ∙ c.in-Some.is) here h.1 (c.requires.not_lower c.in-Some.place h.0 h.1 c.in-Some.is h.2 h.3) h.4 before (h.4 ∙ is) c.part-before.result (c.part-before.ensures ∙ ap (λ (e : g.row.ID.Denot × g.row.V.Denot). g.V.ProgressPart.part_of e.1) read) fits c.settle.ensures in
+    let oc = outcome g.met.ID.Eq.laws g.met.P.Ord.total g.V.ProgressPart.part_of g.QS.QuorumSet.has_quorum g.met.QS.QuorumSet.superset _ (shown c.settle.new.self) c.args.self.now.walk.items c.requires.ordered id c.in-Some.place h.0 (sym found ∙ c.in-Some.is) here h.1 (c.requires.not_lower c.in-Some.place h.0 h.1 c.in-Some.is h.2 h.3) h.4 before (h.4 ∙ is) c.write_at-before.result.0 h.5 fits c.settle.ensures in
     record {
       counts = oc.updates ∙ c.saturating_add-self.ensures;
       same_voter_count = oc.voter_count;
@@ -51,13 +50,12 @@ returns-in-Some-clause-updated g c = λ id found.
 
 pub returns-in-Some-clause-ordered : goal.returns-in-Some-clause-ordered
 returns-in-Some-clause-ordered g c = λ id found.
-    let h = c.write_at.ensures in
+    let h = c.write_at-before.ensures in
     let before = was g.met.ID.Eq.laws c.args.self.now.walk.items id c.in-Some.place h.0 (sym found ∙ c.in-Some.is) h.2 in
     let is = wrote g.met.ID.Eq.laws c.args.self.now.walk.items id c.in-Some.place h.0 (sym found ∙ c.in-Some.is) h.2 h.1 in
     let here : h.0 ≡ get_or c.args.self.now.walk.items c.in-Some.place h.0 = sym (get_or_from_slice_get c.args.self.now.walk.items c.in-Some.place h.0 h.0 h.2) in
-    let read : c.index.result.now ≡ h.0 = c.index.ensures ∙ get_or_from_slice_get c.args.self.now.walk.items c.in-Some.place h.0 c.index.result.now h.2 in
     let fits : c.args.self.now.stat.is_quorum_count < 2 ^ 64 = omega arith in
-    let oc = outcome g.met.ID.Eq.laws g.met.P.Ord.total g.V.ProgressPart.part_of g.QS.QuorumSet.has_quorum g.met.QS.QuorumSet.superset _ (shown c.settle.new.self) c.args.self.now.walk.items c.requires.ordered id c.in-Some.place h.0 (sym found ∙ c.in-Some.is) here h.1 (c.requires.not_lower c.in-Some.place h.0 h.1 c.in-Some.is h.2 h.3) h.4 before (h.4 ∙ is) c.part-before.result (c.part-before.ensures ∙ ap (λ (e : g.row.ID.Denot × g.row.V.Denot). g.V.ProgressPart.part_of e.1) read) fits c.settle.ensures in
+    let oc = outcome g.met.ID.Eq.laws g.met.P.Ord.total g.V.ProgressPart.part_of g.QS.QuorumSet.has_quorum g.met.QS.QuorumSet.superset _ (shown c.settle.new.self) c.args.self.now.walk.items c.requires.ordered id c.in-Some.place h.0 (sym found ∙ c.in-Some.is) here h.1 (c.requires.not_lower c.in-Some.place h.0 h.1 c.in-Some.is h.2 h.3) h.4 before (h.4 ∙ is) c.write_at-before.result.0 h.5 fits c.settle.ensures in
     oc.ordered
 
 pub returns-in-None-clause-updated : goal.returns-in-None-clause-updated

@@ -5,7 +5,7 @@ use Rattle.std.specs.Map.{keys_of}
 use Rattle.raft_progress.specs.Inner.Rises.{RisesTo}
 use Rattle.raft_progress.specs.progress.VecProgress.{shown}
 use Rattle.raft_progress.proofs.MovedLemmas.{distinct_moved}
-use Rattle.raft_progress.proofs.PlacesLemmas.{but_passed, passed_length, passed_nothing}
+use Rattle.raft_progress.proofs.PlacesLemmas.{before_passed, passed_length, passed_nothing}
 use Rattle.raft_progress.proofs.progress.vec_progress.VecProgress.raise.Goals as goal
 use Rattle.raft_progress.proofs.progress.vec_progress.VecProgress.raise.Goals.{then-to-place+then-not-self, else-to-place, else-to-place-via-then-to-place+else-not-self, else-to-place-via-else-to-place}
 
@@ -21,7 +21,7 @@ write_places-requires g c =
           let l = c.requires.within in
           omega arith;
       distinct = distinct;
-      others = rw c.deref.ensures.value (but_passed g.met.ID.Eq.laws g.P.Ord.cmp g.V.ProgressPart.part_of c.args.self.now.walk.items c.args.place c.move_up-to.new.walk.items c.move_up-to.result p (get g.ID.Ord.cmp c.args.self.now.places) (c.args.self.now.agree c.if-not-self.true));
+      moved = rw c.deref.ensures.value (before_passed g.met.ID.Eq.laws g.P.Ord.cmp g.V.ProgressPart.part_of c.args.self.now.walk.items c.args.place c.move_up-to.new.walk.items c.move_up-to.result p (get g.ID.Ord.cmp c.args.self.now.places) (c.args.self.now.agree c.if-not-self.true));
     }
 
 pub invariant_of-self-else-to-place : goal.invariant_of-self-else-to-place

@@ -2,7 +2,7 @@ use Rattle.std.proofs.Common.{◌+◌}
 use Rattle.std.specs.BTreeMap.{get}
 use Rattle.std.specs.Map.{keys_of}
 use Rattle.raft_progress.specs.Inner.Places.{TellsPlacesBut}
-use Rattle.raft_progress.proofs.progress.places.write_places.Given as goal
+use Rattle.raft_progress.proofs.progress.places.write_each.Given as goal
 
 -- the places from here on are not told yet
 abbrev pub invariant-loop-place : goal.invariant-loop-place
