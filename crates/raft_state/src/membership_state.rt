@@ -154,8 +154,9 @@ impl<C: Ord + Copy + Drop, NID: NodeId, N: Node> MembershipStateOf<C, NID, N> {
     ///
     /// Where the snapshot has the membership in effect in it, only the new one is left. Else that
     /// one may be of a log that conflicts with the leader's, so their indexes are compared and not
-    /// their log ids. Unless the new one takes the place of both, no memory is taken. After an error
-    /// nothing has changed.
+    /// their log ids. Unless the new one takes the place of both, no memory is taken.
+    ///
+    /// After an error nothing has changed.
     pub fn update_committed(
         &mut self,
         membership: Rc<EffectiveMembershipOf<C, NID, N>>,
