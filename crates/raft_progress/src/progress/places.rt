@@ -86,6 +86,7 @@ fn shift<ID: Copy + Ord>(places: &mut BTreeMap<ID, usize>, first: usize, last: u
     ensures { (x : ID) → get ID.cmp places.new x ≡
         option_map (place_after first last) (get ID.cmp places.old x) }
 {
+    // All stay: it is the call that lends each place in turn.
     places.retain(move |_id, place| {
         *place = place_after(*place, first, last);
         true

@@ -206,30 +206,44 @@ fn moves<K: LeaderKind<u64>>(alloc: Global, state: &mut State<K>) -> Result<bool
     )
 }
 
-/// Whether storage's progress is written and read, and nothing else changes.
-fn writes_io<K: LeaderKind<u64>>(state: &mut State<K>, before: &State<K>) -> bool {
-    let last = id::<K>(Some((3, 4)));
-    let io_state = state.io_state_mut();
-    io_state.update_vote(VoteOf::<u64, K>::new(2, 1));
-    io_state.update_purged(id::<K>(Some((1, 1))));
-    io_state.set_building_snapshot(true);
-    let io_state = state.io_state();
-    let is_read = io_state.building_snapshot()
+/// Whether storage's progress reads as it was written.
+fn reads_io<K: LeaderKind<u64>>(io_state: &IOStateOf<u64, K>) -> bool {
+    io_state.building_snapshot()
         && *io_state.vote() == VoteOf::<u64, K>::new(2, 1)
         && io_state.purged() == Some(&log_id::<K>(1, 1))
         && io_state.applied() == None
-        && io_state.snapshot() == None;
+        && io_state.snapshot() == None
+}
+
+/// Whether storage's progress takes what is applied and in a snapshot, and keeps what is flushed.
+fn takes_applied<K: LeaderKind<u64>>() -> bool {
+    let last = id::<K>(Some((3, 4)));
     let flushed = LogIOIdOf::new(K::new_committed(2, 1), last);
     let vote = VoteOf::<u64, K>::new(2, 1);
-    let mut written = IOStateOf::<u64, K>::new(vote, flushed, None, None, None);
-    if log_id_below(written.applied, last) && log_id_below(written.snapshot, last) {
-        written.update_applied(last);
-        written.update_snapshot(last);
+    let mut io_state = IOStateOf::<u64, K>::new(vote, flushed, None, None, None);
+    if log_id_below(io_state.applied, last) && log_id_below(io_state.snapshot, last) {
+        io_state.update_applied(last);
+        io_state.update_snapshot(last);
     }
-    let is_written = written.applied() == last.as_ref() && written.snapshot() == last.as_ref();
+    io_state.applied() == last.as_ref()
+        && io_state.snapshot() == last.as_ref()
+        && io_state.flushed == flushed
+}
+
+/// Writes storage's progress.
+fn write_io<K: LeaderKind<u64>>(io_state: &mut IOStateOf<u64, K>) {
+    io_state.update_vote(VoteOf::<u64, K>::new(2, 1));
+    io_state.update_purged(id::<K>(Some((1, 1))));
+    io_state.set_building_snapshot(true);
+}
+
+/// Whether storage's progress is written and read in a state, and nothing else changes.
+fn writes_io<K: LeaderKind<u64>>(state: &mut State<K>, before: &State<K>) -> bool {
+    write_io::<K>(state.io_state_mut());
+    let is_read = reads_io::<K>(state.io_state());
     let is_other = *state != *before;
     state.io_state = before.io_state;
-    is_read && is_written && written.flushed == flushed && is_other && *state == *before
+    is_read && is_other && *state == *before && takes_applied::<K>()
 }
 
 /// The same, of a state and its clone.
