@@ -3,7 +3,7 @@
 ghost use Rattle.std.specs.Prelude.{◌≡◌, ◌<◌, ◌≤◌, ◌+◌, length};
 ghost use Rattle.std.specs.List.{list_all, list_any};
 ghost use Rattle.raft_progress.specs.Inner.Counts.{at_least};
-ghost use Rattle.raft_progress.specs.Inner.Tests.{among, apart, comes_before, ids_differ, never_rises};
+ghost use Rattle.raft_progress.specs.Inner.Tests.{among, apart, comes_before, ids_differ, is_ordered, never_rises};
 
 use super::part::ProgressPart;
 
@@ -31,7 +31,7 @@ fn has_id<ID: Copy + Ord, V>(walk: &[(ID, V)], id: ID) -> bool
 }
 
 /// Whether no id stands twice.
-pub(crate) fn has_distinct_ids<ID: Copy + Ord, V>(walk: &[(ID, V)]) -> bool
+fn has_distinct_ids<ID: Copy + Ord, V>(walk: &[(ID, V)]) -> bool
     ensures { result ≡ ids_differ ID.eq walk.now }
 {
     for place in 0..walk.len() {
@@ -43,10 +43,7 @@ pub(crate) fn has_distinct_ids<ID: Copy + Ord, V>(walk: &[(ID, V)]) -> bool
 }
 
 /// Whether no voter whose part exceeds `granted` stands directly behind a lesser one.
-pub(crate) fn is_falling<ID: Copy, V: ProgressPart<P>, P: Copy + Ord>(
-    voters: &[(ID, V)],
-    granted: P,
-) -> bool
+fn is_falling<ID: Copy, V: ProgressPart<P>, P: Copy + Ord>(voters: &[(ID, V)], granted: P) -> bool
     ensures { result ≡ never_rises P.cmp V.part_of granted voters.now }
 {
     for place in 1..voters.len() {
@@ -60,15 +57,25 @@ pub(crate) fn is_falling<ID: Copy, V: ProgressPart<P>, P: Copy + Ord>(
 }
 
 /// Whether each voter's part is at least the least that is allowed.
-pub(crate) fn is_at_least<ID: Copy, V: ProgressPart<P>, P: Copy + Ord>(
-    voters: &[(ID, V)],
-    least: P,
-) -> bool
+fn is_at_least<ID: Copy, V: ProgressPart<P>, P: Copy + Ord>(voters: &[(ID, V)], least: P) -> bool
     ensures { result ≡ list_all (at_least P.cmp V.part_of least) voters.now }
 {
     voters
         .iter()
         .all(|entry| least.cmp(&entry.1.part()).is_le())
+}
+
+/// Whether no id of a walk stands twice, no voter past `granted` stands directly behind a lesser one,
+/// and none is below the least part that is allowed.
+pub(crate) fn is_ordered<ID: Copy + Ord, V: ProgressPart<P>, P: Copy + Ord>(
+    walk: &[(ID, V)],
+    voters: &[(ID, V)],
+    granted: P,
+    least: P,
+) -> bool
+    ensures { result ≡ is_ordered ID.eq P.cmp V.part_of granted least voters.now walk.now }
+{
+    has_distinct_ids(walk) && is_falling(voters, granted) && is_at_least(voters, least)
 }
 
 /// Whether an id is one of the voters or one of the learners.

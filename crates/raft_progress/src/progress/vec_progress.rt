@@ -6,9 +6,7 @@ ghost use Rattle.std.proofs.Props.{props};
 ghost use Rattle.raft_progress.specs.Inner.Places.{TellsPlaces};
 
 use super::Progress;
-use super::conditions::{
-    are_apart, has_distinct_ids, is_among, is_at_least, is_before, is_falling,
-};
+use super::conditions::{are_apart, is_among, is_before, is_ordered};
 use super::part::ProgressPart;
 use super::places::{copy_places, places_of, write_places};
 use super::recount::count;
@@ -290,14 +288,8 @@ impl<
             IsInOrder ID.eq P.cmp V.part_of QS.has_quorum (shown self.old) }
         ensures same { shown self.new ≡ shown self.old }
     {
-        if !has_distinct_ids(&self.walk) {
-            return false;
-        }
         let voters = &self.walk[..self.voter_count];
-        if !is_falling(voters, self.granted) {
-            return false;
-        }
-        if !is_at_least(voters, self.default_part) {
+        if !is_ordered(&self.walk, voters, self.granted, self.default_part) {
             return false;
         }
         let counted = count(&self.quorum_set, voters, self.default_part, &mut self.room);
