@@ -195,25 +195,34 @@ impl<C: Ord + Copy + Drop, NID: NodeId, N: Node> MembershipStateOf<C, NID, N> {
     {
         let present = *self.effective.log_id();
         let new = *membership.log_id();
-        if index_at_most(present.index(), Some(upto)) {
-            let changed = membership.membership() != self.effective.membership();
-            self.committed = membership.clone()?;
-            self.effective = membership;
-            return Ok(changed);
-        }
-        let commits = log_id_below(*self.committed.log_id(), new);
-        if !index_at_most(present.index(), new.index()) {
-            if commits {
+        let is_covered = index_at_most(present.index(), Some(upto));
+        if !is_covered && !index_at_most(present.index(), new.index()) {
+            if log_id_below(*self.committed.log_id(), new) {
                 self.committed = membership;
             }
             return Ok(false);
         }
         let changed = membership.membership() != self.effective.membership();
-        if commits {
-            self.committed = membership.clone()?;
+        if is_covered || log_id_below(*self.committed.log_id(), new) {
+            self.replace_both(membership)?;
+        } else {
+            self.effective = membership;
         }
-        self.effective = membership;
         Ok(changed)
+    }
+
+    // The membership takes the place of both.
+    fn replace_both(
+        &mut self,
+        membership: Rc<EffectiveMembershipOf<C, NID, N>>,
+    ) -> Result<(), AllocError>
+        ensures ok { OnOk result (self.new
+            ≡ record { committed = membership.value; effective = membership.value }) }
+        ensures err { OnErr result (self.new ≡ self.old) }
+    {
+        self.committed = membership.clone()?;
+        self.effective = membership;
+        Ok(())
     }
 
     /// Whether `append` may be called with a membership: it has a greater log id and a greater
