@@ -114,12 +114,19 @@ fn followers<K: LeaderKind<u64>>(
 }
 
 /// Whether a leader commits its followers' match once.
-fn commits_right<K: LeaderKind<u64>>(rt: &impl Abort, alloc: Global) -> Result<bool, AllocError> {
-    let mut state = valid_state::<K>(alloc)?;
-    let followers = followers::<K>(rt, alloc)?;
-    let first = commit_granted(&mut state, &followers)?;
-    let second = commit_granted(&mut state, &followers)?;
+fn commits_once<K: LeaderKind<u64>>(
+    state: &mut State<K>,
+    followers: &FollowersOf<K::Committed, u64, Vec<u64>>,
+) -> Result<bool, AllocError> {
+    let first = commit_granted(state, followers)?;
+    let second = commit_granted(state, followers)?;
     Ok(first && !second && state.committed == id::<K>(Some((3, 4))))
+}
+
+/// The same, of a valid state and two followers that match up to its last log id.
+fn commits_right<K: LeaderKind<u64>>(rt: &impl Abort, alloc: Global) -> Result<bool, AllocError> {
+    let followers = followers::<K>(rt, alloc)?;
+    commits_once::<K>(&mut valid_state::<K>(alloc)?, &followers)
 }
 
 #[test]
