@@ -17,8 +17,11 @@ returns-then-not-is_ordered-clause-answer g c =
     let voters = take c.args.self.now.voter_count walk in (
       (λ f. absurd (true≢false (sym f))),
       (λ r.
-          let all = rw (test_from_distinct g.met.ID.Eq.laws walk r.distinct, test_from_falling g.met.P.Ord.total g.V.ProgressPart.part_of c.args.self.now.granted voters r.falling,
-          test_from_lowest g.met.ID.Eq.laws g.met.P.Ord.total g.V.ProgressPart.part_of g.QS.QuorumSet.has_quorum c.args.self.now.quorum_set walk c.args.self.now.voter_count c.args.self.now.default_part r.distinct r.not_below) at told in
+          let all = rw (
+            test_from_distinct g.met.ID.Eq.laws walk r.distinct,
+            test_from_falling g.met.P.Ord.total g.V.ProgressPart.part_of c.args.self.now.granted voters r.falling,
+            test_from_lowest g.met.ID.Eq.laws g.met.P.Ord.total g.V.ProgressPart.part_of g.QS.QuorumSet.has_quorum c.args.self.now.quorum_set walk c.args.self.now.voter_count c.args.self.now.default_part r.distinct r.not_below,
+          ) at told in
           absurd (true≢false (sym all ∙ c.if-not-is_ordered.true))),
     )
 
