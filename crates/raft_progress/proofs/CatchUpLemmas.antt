@@ -16,6 +16,7 @@ use Rattle.raft_base.specs.Logged.{Logged}
 use Rattle.raft_base.proofs.LoggedLemmas.{prev_at, prev_rises}
 use Rattle.raft_base.specs.declared.log_id.LogIdOf.{LogIdOf}
 use Rattle.raft_base.specs.declared.log_id.log_id_range.LogIdRangeOf.{LogIdRangeOf}
+use Rattle.raft_members.proofs.AddedLemmas.{is_equal}
 use Rattle.raft_progress.specs.catch_up.CatchUp.{CaughtUp, can_agree, can_catch_up, has_request_ids, match_fits}
 use Rattle.raft_progress.specs.catch_up.HonestRun.{HonestRun, HonestRunEnds, TurnsLeadTo, new_run, replied, replied_to_logs, turn}
 use Rattle.raft_progress.specs.entry.EntryTable.{matched}
@@ -47,11 +48,6 @@ or_split : (a b : Bool) → (a || b) ≡ true → (a ≡ true) ⊎ (b ≡ true)
 or_split true b h = inl refl
 or_split false b h = inr h
 
-equal_is : (o : Ordering) → is_eq o ≡ true → o ≡ Equal
-equal_is Less h = cc
-equal_is Equal h = refl
-equal_is Greater h = cc
-
 index_tie : (i j : ℕ) → nat_eq i j ≡ true → is_eq (nat_cmp i j) ≡ true
 index_tie i j h = grind (arith, nat_tests)
 
@@ -60,7 +56,7 @@ le_of_lt Less h = refl
 le_of_lt Equal h = cc
 le_of_lt Greater h = cc
 
-le_of_eq : (o : Ordering) → is_eq o ≡ true → is_le o ≡ true
+pub le_of_eq : (o : Ordering) → is_eq o ≡ true → is_le o ≡ true
 le_of_eq Less h = cc
 le_of_eq Equal h = refl
 le_of_eq Greater h = cc
@@ -263,12 +259,12 @@ module _ {C : Type 0} (eq : C → C → Bool) (cmp : C → C → Ordering) (tota
   tied (Some a) None h = cc
   tied (Some a) (Some b) h =
       let l : eq_by_cmp cmp a.leader_id b.leader_id ≡ true = sym (ties a.leader_id b.leader_id) ∙ first_so (eq a.leader_id b.leader_id) (nat_eq a.index b.index) h in
-      rw (equal_is (cmp a.leader_id b.leader_id) l) (index_tie a.index b.index (second_so (eq a.leader_id b.leader_id) (nat_eq a.index b.index) h))
+      rw (is_equal (cmp a.leader_id b.leader_id) l) (index_tie a.index b.index (second_so (eq a.leader_id b.leader_id) (nat_eq a.index b.index) h))
 
   le_same : (a l b : Option (LogIdOf C)) → id_le cmp a l ≡ true → same_ids eq b l ≡ true → id_le cmp a b ≡ true
   le_same a l b h k =
       let t = ids_total eq cmp total reflexive in
-      let s : option_cmp (log_id_cmp cmp) b a ≡ option_cmp (log_id_cmp cmp) l a = t.congr b l a (equal_is (option_cmp (log_id_cmp cmp) b l) (tied b l k)) in
+      let s : option_cmp (log_id_cmp cmp) b a ≡ option_cmp (log_id_cmp cmp) l a = t.congr b l a (is_equal (option_cmp (log_id_cmp cmp) b l) (tied b l k)) in
       rw (t.antisymm a b, s, ← t.antisymm a l) h
 
   pub not_lowered : (log : LogView C) (n : ℕ) (entry new : ProgressEntryOf C) (agree : ℕ) → Logged cmp log → Ready eq cmp log n entry agree → CaughtUp eq log new → id_le cmp entry.matching new.matching ≡ true

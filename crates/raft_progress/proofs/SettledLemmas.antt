@@ -6,7 +6,7 @@ use Rattle.std.specs.declared.cmp.Ordering.TheVariants.{Less, Equal, Greater}
 use Rattle.std.specs.Cmp.{IsEquivalence, IsTotalOrder}
 use Rattle.std.specs.Map.{keys_of, lookup}
 use Rattle.std.specs.Set.{is_member}
-use Rattle.std.specs.List.{IsDistinct, AllByRecursion, prefix_len}
+use Rattle.std.specs.List.{IsDistinct, prefix_len}
 use Rattle.std.proofs.Common.{arith, sym, ap, refl, ◌∙◌, true≢false, get_or, set, subst, suc, zero, ltb, ltb-true, ltb-false, length-append, append_assoc}
 use Rattle.std.proofs.lemmas.List.{take-set-le, set-set, set-get_or, get_or-set_same}
 use Rattle.std.proofs.Math.Seq.{take-set-lt}

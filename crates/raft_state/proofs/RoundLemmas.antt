@@ -4,15 +4,15 @@ use Rattle.std.proofs.lemmas.List.{append_assoc, append-nil}
 use Rattle.std.proofs.lemmas.Cmp.{tied_itself}
 use Rattle.std.specs.Cmp.{IsEquivalence, IsTotalOrder, first_so, second_so}
 use Rattle.std.specs.Option.{option_cmp}
-use Rattle.std.specs.Ordering.{eq_by_cmp, is_eq, is_le, ordering_reverse}
+use Rattle.std.specs.Ordering.{eq_by_cmp, ordering_reverse}
 use Rattle.std.specs.Set.{is_member}
 use Rattle.std.specs.declared.cmp.Ordering.{Ordering}
-use Rattle.std.specs.declared.cmp.Ordering.TheVariants.{Less, Equal, Greater}
 use Rattle.raft_base.specs.LogId.{id_le, log_id_cmp, same_ids}
 use Rattle.raft_base.specs.LogIdLaws.{optional-log_id_cmp-total}
 use Rattle.raft_base.specs.LogView.{LogView}
 use Rattle.raft_base.specs.declared.log_id.LogIdOf.{LogIdOf}
-use Rattle.raft_progress.proofs.CatchUpLemmas.{tied}
+use Rattle.raft_members.proofs.AddedLemmas.{is_equal}
+use Rattle.raft_progress.proofs.CatchUpLemmas.{le_of_eq, tied}
 use Rattle.raft_progress.specs.progress.CountedValue.{AtMost, IsCounted, IsReached, reached}
 use Rattle.raft_progress.specs.progress.ProgressState.{ProgressState}
 use Rattle.raft_progress.specs.declared.entry.ProgressEntryOf.{ProgressEntryOf}
@@ -92,16 +92,6 @@ both false b h k = cc
 some_inside : {A : Type 0} (x y : A) → Some x ≡ Some y → x ≡ y
 some_inside x y h = cc
 
-equal_is : (o : Ordering) → is_eq o ≡ true → o ≡ Equal
-equal_is Less h = cc
-equal_is Equal h = refl
-equal_is Greater h = cc
-
-le_of_eq : (o : Ordering) → is_eq o ≡ true → is_le o ≡ true
-le_of_eq Less h = cc
-le_of_eq Equal h = refl
-le_of_eq Greater h = cc
-
 module _ {ID C P QS : Type 0} {eq : ID → ID → Bool} (e : IsEquivalence eq) (cmp : C → C → Ordering) (log : LogView C) (n : ℕ) (can : ProgressEntryOf C → ℕ → ℕ → Bool) where
   -- a round changes neither quorum set nor voters nor the default
   kept : (old : ProgressState ID (ProgressEntryOf C) P QS) (pairs : List (ID × ℕ)) (ran : List ID) (new : ProgressState ID (ProgressEntryOf C) P QS) → IsRound eq cmp log n can old pairs ran new
@@ -144,7 +134,7 @@ module _ {ID C QS : Type 0} {leader : C → C → Bool} {eq : ID → ID → Bool
 
   -- a match that is the last log id compares as it does
   alike : (a b : Option (LogIdOf C)) → same_ids leader a log.last ≡ true → option_cmp (log_id_cmp cmp) a b ≡ option_cmp (log_id_cmp cmp) log.last b
-  alike a b h = order.congr a log.last b (equal_is (option_cmp (log_id_cmp cmp) a log.last) (tied leader cmp total reflexive ties a log.last h))
+  alike a b h = order.congr a log.last b (is_equal (option_cmp (log_id_cmp cmp) a log.last) (tied leader cmp total reflexive ties a log.last h))
 
   alike_right : (a b : Option (LogIdOf C)) → same_ids leader a log.last ≡ true → option_cmp (log_id_cmp cmp) b a ≡ option_cmp (log_id_cmp cmp) b log.last
   alike_right a b h = order.antisymm b a ∙ ap ordering_reverse (alike a b h) ∙ sym (order.antisymm b log.last)
