@@ -41,3 +41,8 @@ returns-in-IncreaseTo g c =
       values = (refl, c.increase.ensures.step.values);
       answered = answered_pair (IsIncreasedTo g.NID.PartialEq.eq g.P.Ord.cmp g.V.ProgressPart.part_of g.V.PartialOrd.partial_cmp (shown c.args.pair.now.progress) c.in-IncreaseTo.id c.in-IncreaseTo.value) (tracked c.args.pair.now) c.increase.result (record { membership = c.args.pair.now.membership; progress = shown c.increase.new.progress }) refl c.increase.ensures.step.answered;
     }
+
+pub returns-in-Change : goal.returns-in-Change
+returns-in-Change g c =
+    rw c.in-Change.is
+    record { values = c.change_members.ensures.values; answered = c.change_members.ensures.answered; }
