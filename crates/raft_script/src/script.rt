@@ -36,24 +36,37 @@ fn run_lines<R: Read + Drop, W: Write>(alloc: Global, reader: R, writer: &mut W)
     let replies = BufWriter::with_capacity(alloc, BUFFER_SIZE, writer)?;
     let dialogue = Dialogue { reader, replies };
     let mut lines = BufReader::with_capacity(alloc, BUFFER_SIZE, dialogue)?;
+    let status = answer_lines(alloc, &mut lines)?;
+    lines.get_mut().replies.flush()?;
+    Ok(status)
+}
+
+/// Answers one line after another, and gives the status.
+fn answer_lines<R: Read, W: Write + Drop>(
+    alloc: Global,
+    lines: &mut BufReader<Dialogue<R, W>>,
+) -> io::Result<u8> {
     let mut line = Vec::new(alloc);
     let mut engine = Engine::new();
     for passed in 0..u64::MAX {
-        line.clear();
-        lines.read_until(b'\n', &mut line)?;
-        // Only the last line has no line feed. An empty one says nothing.
-        let is_last = line.pop_if(|byte| *byte == b'\n').is_none();
+        let is_last = read_line(lines, &mut line)?;
         let replies = &mut lines.get_mut().replies;
         if !answer_line(alloc, &mut engine, passed + 1, &line, replies)? {
-            replies.flush()?;
             return Ok(2);
         }
         if is_last {
-            replies.flush()?;
             return Ok(0);
         }
     }
     Ok(1)
+}
+
+/// Reads a line without its line feed, and answers whether it is the last one.
+fn read_line<B: BufRead>(lines: &mut B, line: &mut Vec<u8>) -> io::Result<bool> {
+    line.clear();
+    lines.read_until(b'\n', line)?;
+    // Only the last line has no line feed. An empty one says nothing.
+    Ok(line.pop_if(|byte| *byte == b'\n').is_none())
 }
 
 /// Runs the line of a number, or names it where it can't be run. Answers whether it could.
