@@ -24,6 +24,7 @@ impl<ID: Copy + Ord> QuorumSet<ID> for Vec<ID> {
 
     ghost superset = { λ c. is_majority-superset ID.eq c.items };
 
+    #[inline(always)]
     fn is_quorum(&self, ids: &[ID]) -> bool {
         has_majority(self, ids)
     }
@@ -41,6 +42,7 @@ impl<'a, ID: Copy + Ord> QuorumSet<ID> for &'a [ID] {
 
     ghost superset = { λ c. is_majority-superset ID.eq c.now };
 
+    #[inline(always)]
     fn is_quorum(&self, ids: &[ID]) -> bool {
         has_majority(self, ids)
     }
@@ -85,7 +87,9 @@ impl<ID: Copy + Ord, T: QuorumSet<ID> + Drop> QuorumSet<ID> for Rc<T> {
 }
 
 /// Whether more than half of the voters are among the ids.
-// Half of the length, and not twice the count: the count could not be doubled at every length.
+// Half of the length, and not twice the count: the count could not be doubled at every length. It is
+// inlined, since a call takes half as long as the test of a short list.
+#[inline(always)]
 fn has_majority<ID: Copy + Ord>(voters: &[ID], ids: &[ID]) -> bool
     ensures { IsDistinct ID.eq ids.now →
         result ≡ is_majority ID.eq voters.now (is_member ID.eq ids.now) }
@@ -95,6 +99,7 @@ fn has_majority<ID: Copy + Ord>(voters: &[ID], ids: &[ID]) -> bool
 
 /// Whether more than `limit` of the ids are voters, repeated ones each time. It stops at the first
 /// id that is one too many, and does not begin where the ids are too few.
+#[inline(always)]
 fn exceeds<ID: Copy + Ord, F: Fn(ID) -> bool>(ids: &[ID], limit: usize, is_voter: F) -> bool
     requires { F.IsAlwaysCallable is_voter }
     ensures { (voter : ID → Bool) →

@@ -316,9 +316,18 @@ impl<
         ensures { result ≡ position (λ e. ID.eq id.now e.0) ((shown self.now).walk) }
     {
         if self.stale {
-            return self.walk.iter().position(|entry| *id == entry.0);
+            return self.search(id);
         }
         self.places.get(id).copied()
+    }
+
+    /// The same, searched for in the walk.
+    // Marked as cold, so that a look-up in the map is not held up by what the search needs.
+    #[cold]
+    fn search(&self, id: &ID) -> Option<usize>
+        ensures { result ≡ position (λ e. ID.eq id.now e.0) ((shown self.now).walk) }
+    {
+        self.walk.iter().position(|entry| *id == entry.0)
     }
 
     /// The value of an id.

@@ -45,4 +45,4 @@ returns-in-IncreaseTo g c =
 pub returns-in-Change : goal.returns-in-Change
 returns-in-Change g c =
     rw c.in-Change.is
-    record { values = c.change_members.ensures.values; answered = c.change_members.ensures.answered; }
+    record { values = c.change_members.ensures.values; answered = c.change_members.ensures.answered }
