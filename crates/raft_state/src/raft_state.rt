@@ -30,7 +30,7 @@ use crate::log_id_list::LogIdListOf;
 use crate::membership_state::MembershipStateOf;
 use crate::snapshot_meta::SnapshotMetaOf;
 use crate::vote_state_reader::VoteStateReader;
-use raft_base::order::{log_id_at_most, same_optional_log_ids};
+use raft_base::order::{log_id_at_most, log_id_below, same_optional_log_ids};
 use raft_base::{
     Instant, Invalid, LeaderAdv, LeaderIdentity, LeaderKind, LogIdOf, LogStateReader, Node, NodeId,
     RaftLogIdOf, ServerState, UTime, Validate, VoteIn,
@@ -330,7 +330,7 @@ impl<
     pub fn can_commit(&self, log_id: &Option<LogIdOf<C>>) -> bool
         ensures { result ≡ state_may_commit C.cmp log_id.now self.now }
     {
-        if *log_id > self.committed {
+        if log_id_below(self.committed, *log_id) {
             self.membership_state.can_commit(log_id)
         } else {
             true
@@ -353,7 +353,7 @@ impl<
         ensures err { OnErr result (self.new ≡ self.old) }
         ensures no_memory { state_commits C.cmp committed.now self.old ≡ false → IsOk result }
     {
-        if *committed > self.committed {
+        if log_id_below(self.committed, *committed) {
             let before = self.committed;
             self.membership_state.commit(committed)?;
             self.committed = *committed;
@@ -511,13 +511,8 @@ impl<
         if !vote.is_committed() {
             return Ok(ForwardToLeader::empty());
         }
-        match L::voted_for(vote.leader_id()) {
-            None => Ok(ForwardToLeader::empty()),
-            Some(id) => match self.membership_state.effective().get_node(&id) {
-                None => Ok(ForwardToLeader::empty()),
-                Some(node) => Ok(ForwardToLeader::new(id, node.clone()?)),
-            },
-        }
+        self.membership_state
+            .forward_to(L::voted_for(vote.leader_id()))
     }
 }
 
