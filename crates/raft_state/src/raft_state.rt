@@ -391,11 +391,19 @@ impl<
             entries.now }
     {
         for (place, entry) in entries.iter().enumerate() {
-            if !self.has_log_id(entry.get_log_id()) {
+            if !self.has_entry(entry) {
                 return place;
             }
         }
         entries.len()
+    }
+
+    // Whether the log has the id of an entry.
+    fn has_entry<Ent: RaftLogIdOf<C>>(&self, entry: &Ent) -> bool
+        requires { IsTrue (may_ask C.cmp (view_of self.now) (Ent.id_of entry.now)) }
+        ensures { result ≡ has_id C.eq (view_of self.now) (Ent.id_of entry.now) }
+    {
+        self.has_log_id(entry.get_log_id())
     }
 
     /// Whether `purge_log` may be called with a log id: the list may be purged to it, its index is
