@@ -532,12 +532,8 @@ impl<NID: NodeId, N: Node, I: Instant, L: Copy, C: Ord + Copy + Drop> RaftStateI
     ) -> Result<Self, AllocError>
         ensures { IfOk result (λ copy. copy ≡ record self.now { snapshot_meta = snapshot_meta }) }
     {
-        let vote = *self.vote.get();
         Ok(RaftStateIn {
-            vote: match self.vote.utime() {
-                Some(moment) => UTime::new(moment, vote),
-                None => UTime::without_utime(vote),
-            },
+            vote: same_vote(&self.vote),
             committed: self.committed,
             purged_next: self.purged_next,
             log_ids: self.log_ids.try_clone()?,
@@ -551,6 +547,16 @@ impl<NID: NodeId, N: Node, I: Instant, L: Copy, C: Ord + Copy + Drop> RaftStateI
             io_state: self.io_state,
             purge_upto: self.purge_upto,
         })
+    }
+}
+
+// The same vote, with its moment.
+fn same_vote<L: Copy, I: Instant>(vote: &UTime<VoteIn<L>, I>) -> UTime<VoteIn<L>, I>
+    ensures { result ≡ vote.now }
+{
+    match vote.utime() {
+        Some(moment) => UTime::new(moment, *vote.get()),
+        None => UTime::without_utime(*vote.get()),
     }
 }
 
