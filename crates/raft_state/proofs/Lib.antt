@@ -11,3 +11,5 @@ pub mod LoggedLemmas
 pub mod SendLemmas
 pub mod CatchUpLemmas
 pub mod RoundLemmas
+pub mod RefusalLemmas
+pub mod DeniedLemmas

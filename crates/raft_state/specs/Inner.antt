@@ -1,3 +1,4 @@
 -- Words that only private functions and invariants cite.
 pub mod KeyList
 pub mod KeyEdits
+pub mod Refusal

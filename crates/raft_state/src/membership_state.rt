@@ -1,12 +1,14 @@
 //! The memberships of a node: the last committed one, and the one in effect.
-ghost use Rattle.std.specs.Prelude.{◌≡◌, IsTrue, IfOk, IsOk, OnOk, OnErr, MatchResult, Some, false, is_some};
+ghost use Rattle.std.specs.Prelude.{◌≡◌, IsTrue, IfOk, IsOk, OnOk, OnErr, MatchResult, None, Some, false, is_some};
 ghost use Rattle.std.specs.Option.{option_map};
 ghost use Rattle.std.specs.Cmp.{partial_equiv_from_equiv};
+ghost use Rattle.std.specs.Set.{ClonesAreEqual};
 ghost use Rattle.raft_base.specs.Validate.{first_false};
 ghost use Rattle.raft_base.specs.LogIndex.{index_lt};
 ghost use Rattle.raft_members.specs.Majority.{is_voter_of};
 ghost use Rattle.raft_members.specs.Members.{node_at};
 ghost use Rattle.raft_members.specs.Stored.{membership_of};
+ghost use Rattle.raft_state.specs.Leads.{ForwardsTo, known_node};
 ghost use Rattle.raft_state.specs.Memberships.{index_at, same_memberships, IsNoMembership};
 ghost use Rattle.raft_state.specs.MembershipsLaws.{same_memberships-equiv};
 ghost use Rattle.raft_state.specs.MembershipMoves.{after_commit, commits, may_commit, after_append, may_append, after_truncate, is_cut, after_update_committed, effect_changes, effective_where, replaces_both};
@@ -14,6 +16,7 @@ ghost use Rattle.raft_state.specs.MembershipRelations.{membership_relations};
 
 mod change_handler;
 
+use crate::error::ForwardToLeader;
 pub use change_handler::{ChangeHandler, ChangeHandlerOf};
 use raft_base::order::{index_at_most, index_below, log_id_at_most, log_id_below};
 use raft_base::{
@@ -95,6 +98,27 @@ impl<C: Copy + Drop, NID: NodeId, N: Node> MembershipStateOf<C, NID, N> {
         ensures { result ≡ is_voter_of NID.eq (membership_of self.now.effective).configs id.now }
     {
         self.effective.is_voter(id)
+    }
+
+    /// Where the requests for a leader go: to its node, if the membership in effect has it. Where
+    /// there is none, no memory is taken.
+    pub(crate) fn forward_to(
+        &self,
+        leader: Option<NID>,
+    ) -> Result<ForwardToLeader<NID, N>, AllocError>
+        requires { ClonesAreEqual N.eq N.is_clone }
+        ensures node { IfOk result (ForwardsTo N.eq
+            (known_node NID.cmp (membership_of self.now.effective) leader)) }
+        ensures no_memory { known_node NID.cmp (membership_of self.now.effective) leader
+            ≡ None → IsOk result }
+    {
+        match leader {
+            None => Ok(ForwardToLeader::empty()),
+            Some(id) => match self.effective.get_node(&id) {
+                None => Ok(ForwardToLeader::empty()),
+                Some(node) => Ok(ForwardToLeader::new(id, node.clone()?)),
+            },
+        }
     }
 
     /// The last committed membership.

@@ -30,7 +30,7 @@ use crate::log_id_list::LogIdListOf;
 use crate::membership_state::MembershipStateOf;
 use crate::snapshot_meta::SnapshotMetaOf;
 use crate::vote_state_reader::VoteStateReader;
-use raft_base::order::{log_id_at_most, same_optional_log_ids};
+use raft_base::order::{log_id_at_most, log_id_below, same_optional_log_ids};
 use raft_base::{
     Instant, Invalid, LeaderAdv, LeaderIdentity, LeaderKind, LogIdOf, LogStateReader, Node, NodeId,
     RaftLogIdOf, ServerState, UTime, Validate, VoteIn,
@@ -330,7 +330,7 @@ impl<
     pub fn can_commit(&self, log_id: &Option<LogIdOf<C>>) -> bool
         ensures { result ≡ state_may_commit C.cmp log_id.now self.now }
     {
-        if *log_id > self.committed {
+        if log_id_below(self.committed, *log_id) {
             self.membership_state.can_commit(log_id)
         } else {
             true
@@ -353,7 +353,7 @@ impl<
         ensures err { OnErr result (self.new ≡ self.old) }
         ensures no_memory { state_commits C.cmp committed.now self.old ≡ false → IsOk result }
     {
-        if *committed > self.committed {
+        if log_id_below(self.committed, *committed) {
             let before = self.committed;
             self.membership_state.commit(committed)?;
             self.committed = *committed;
@@ -391,11 +391,19 @@ impl<
             entries.now }
     {
         for (place, entry) in entries.iter().enumerate() {
-            if !self.has_log_id(entry.get_log_id()) {
+            if !self.has_entry(entry) {
                 return place;
             }
         }
         entries.len()
+    }
+
+    // Whether the log has the id of an entry.
+    fn has_entry<Ent: RaftLogIdOf<C>>(&self, entry: &Ent) -> bool
+        requires { IsTrue (may_ask C.cmp (view_of self.now) (Ent.id_of entry.now)) }
+        ensures { result ≡ has_id C.eq (view_of self.now) (Ent.id_of entry.now) }
+    {
+        self.has_log_id(entry.get_log_id())
     }
 
     /// Whether `purge_log` may be called with a log id: the list may be purged to it, its index is
@@ -511,13 +519,8 @@ impl<
         if !vote.is_committed() {
             return Ok(ForwardToLeader::empty());
         }
-        match L::voted_for(vote.leader_id()) {
-            None => Ok(ForwardToLeader::empty()),
-            Some(id) => match self.membership_state.effective().get_node(&id) {
-                None => Ok(ForwardToLeader::empty()),
-                Some(node) => Ok(ForwardToLeader::new(id, node.clone()?)),
-            },
-        }
+        self.membership_state
+            .forward_to(L::voted_for(vote.leader_id()))
     }
 }
 
@@ -529,12 +532,8 @@ impl<NID: NodeId, N: Node, I: Instant, L: Copy, C: Ord + Copy + Drop> RaftStateI
     ) -> Result<Self, AllocError>
         ensures { IfOk result (λ copy. copy ≡ record self.now { snapshot_meta = snapshot_meta }) }
     {
-        let vote = *self.vote.get();
         Ok(RaftStateIn {
-            vote: match self.vote.utime() {
-                Some(moment) => UTime::new(moment, vote),
-                None => UTime::without_utime(vote),
-            },
+            vote: same_vote(&self.vote),
             committed: self.committed,
             purged_next: self.purged_next,
             log_ids: self.log_ids.try_clone()?,
@@ -548,6 +547,16 @@ impl<NID: NodeId, N: Node, I: Instant, L: Copy, C: Ord + Copy + Drop> RaftStateI
             io_state: self.io_state,
             purge_upto: self.purge_upto,
         })
+    }
+}
+
+// The same vote, with its moment.
+fn same_vote<L: Copy, I: Instant>(vote: &UTime<VoteIn<L>, I>) -> UTime<VoteIn<L>, I>
+    ensures { result ≡ vote.now }
+{
+    match vote.utime() {
+        Some(moment) => UTime::new(moment, *vote.get()),
+        None => UTime::without_utime(*vote.get()),
     }
 }
 

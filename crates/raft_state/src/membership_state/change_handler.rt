@@ -8,10 +8,13 @@ ghost use Rattle.raft_members.specs.Members.{members_of, Says};
 ghost use Rattle.raft_members.specs.ReplaceAll.{OnlyMemory, TwoChanges};
 ghost use Rattle.raft_members.specs.Valid.{IsValid};
 ghost use Rattle.raft_state.specs.Apply.{effective_members, in_progress, IsApplyRefusal};
+ghost use Rattle.raft_state.specs.Inner.Refusal.{refusal_of};
 
 use super::MembershipStateOf;
 use raft_base::{CommittedLeaderId, Node, NodeId};
-use raft_members::{ChangeMembers, ChangeMembershipErrorOf, InProgressOf, Membership};
+use raft_members::{
+    ChangeMembers, ChangeMembershipError, ChangeMembershipErrorOf, InProgressOf, Membership,
+};
 use std::fmt::Debug;
 
 /// Changes the membership in effect, once it is committed.
@@ -62,17 +65,7 @@ impl<'m, C: Ord + Copy + Default + Debug + Drop, NID: NodeId, N: Node> ChangeHan
         self.ensure_committed()?;
         match self.state.effective().membership().change(change, retain) {
             Ok(changed) => Ok(changed),
-            Err(refused) => match refused {
-                ChangeMembershipErrorOf::EmptyMembership(e) => {
-                    Err(ChangeMembershipErrorOf::EmptyMembership(e))
-                }
-                ChangeMembershipErrorOf::LearnerNotFound(e) => {
-                    Err(ChangeMembershipErrorOf::LearnerNotFound(e))
-                }
-                // A change of a membership alone is never in progress.
-                ChangeMembershipErrorOf::InProgress(_) => Err(ChangeMembershipErrorOf::OutOfMemory),
-                ChangeMembershipErrorOf::OutOfMemory => Err(ChangeMembershipErrorOf::OutOfMemory),
-            },
+            Err(refused) => Err(refusal_of(refused)),
         }
     }
 
@@ -90,5 +83,18 @@ impl<'m, C: Ord + Copy + Default + Debug + Drop, NID: NodeId, N: Node> ChangeHan
                 membership_log_id: effective,
             })
         }
+    }
+}
+
+// The refusal of a change of a membership alone, which is never in progress.
+fn refusal_of<C: Ord + Copy + Default + Debug, NID: NodeId>(
+    refused: ChangeMembershipError<NID>,
+) -> ChangeMembershipErrorOf<C, NID>
+    ensures { result ≡ refusal_of refused }
+{
+    match refused {
+        ChangeMembershipErrorOf::EmptyMembership(e) => ChangeMembershipErrorOf::EmptyMembership(e),
+        ChangeMembershipErrorOf::LearnerNotFound(e) => ChangeMembershipErrorOf::LearnerNotFound(e),
+        _ => ChangeMembershipErrorOf::OutOfMemory,
     }
 }
