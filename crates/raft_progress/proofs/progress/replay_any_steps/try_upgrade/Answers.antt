@@ -1,14 +1,8 @@
-use Rattle.std.proofs.Common.{refl, sym, ◌∙◌, subst, true≢false, Result, Ok, Err}
-use Rattle.std.specs.Result.{IfOk, IsErr}
+use Rattle.std.proofs.Common.{refl, sym, ◌∙◌, subst, true≢false}
 use Rattle.raft_progress.specs.progress.CountedValue.{IsCounted}
 use Rattle.raft_progress.specs.progress.Shown.{state}
 use Rattle.raft_progress.specs.progress.VecProgress.{shown}
 use Rattle.raft_progress.proofs.progress.replay_any_steps.try_upgrade.Goals as goal
-
--- nothing is asked of a value that is not there
-not_ok : {T E : Type 0} (P : T → Type 0) (r : Result T E) → IsErr r → IfOk r P
-not_ok P (Ok x) h = absurd (true≢false (sym h))
-not_ok P (Err e) h = tt
 
 pub returns-in-Some-clause-step : goal.returns-in-Some-clause-step
 returns-in-Some-clause-step g c = record {
@@ -30,15 +24,6 @@ returns-in_ok-upgraded-in-None-clause-step g c = record {
   );
   answered = record { refused = λ r. absurd (true≢false (sym r)); done = λ r. c.in_ok-upgraded-in-None.ensures.fold; tells = c.granted.ensures };
 }
-
-pub returns-in_err-fits-clause-step : goal.returns-in_err-fits-clause-step
-returns-in_err-fits-clause-step g c = not_ok _ c.from_residual.result c.from_residual.ensures.0
-
-pub returns-in_err-id-clause-step : goal.returns-in_err-id-clause-step
-returns-in_err-id-clause-step g c = not_ok _ c.from_residual-in_err-id.result c.from_residual-in_err-id.ensures.0
-
-pub returns-in_err-upgraded-in-None-clause-step : goal.returns-in_err-upgraded-in-None-clause-step
-returns-in_err-upgraded-in-None-clause-step g c = not_ok _ c.from_residual-in_err-upgraded-in-None.result c.from_residual-in_err-upgraded-in-None.ensures.0
 
 pub returns-then-not-fits-clause-step : goal.returns-then-not-fits-clause-step
 returns-then-not-fits-clause-step g c = record {
