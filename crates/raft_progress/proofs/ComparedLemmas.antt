@@ -1,5 +1,5 @@
 -- Log ids and indexes, of which each may be absent, always compare.
-use Rattle.std.proofs.Common.{◌≡◌, ℕ, Bool, Option, Some, None, refl, ap}
+use Rattle.std.proofs.Common.{◌≡◌, ℕ, Option, Some, None, refl, ap}
 use Rattle.std.specs.Option.{option_cmp, option_partial_cmp}
 use Rattle.std.specs.Ordering.{is_le, is_lt, nat_cmp, ordering_then, partial_le, partial_lt, partial_ordering_then, is_some_and}
 use Rattle.std.specs.declared.cmp.Ordering.{Ordering}

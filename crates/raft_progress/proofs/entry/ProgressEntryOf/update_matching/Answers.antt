@@ -1,4 +1,4 @@
-use Rattle.std.proofs.Common.{◌≡◌, true, false, nat_lt, is_lt, refl, sym, ap, ◌∙◌, rules, ◌^◌, max, Result, Ok}
+use Rattle.std.proofs.Common.{◌≡◌, true, false, nat_lt, is_lt, refl, sym, ap, ◌∙◌, rules, ◌^◌, max}
 use Rattle.raft_base.specs.LogId.{id_lt, next_index}
 use Rattle.raft_progress.specs.inflight.InflightTable.{acked}
 use Rattle.raft_progress.proofs.EntryLemmas.{table_of_refused, table_of_taken}

@@ -67,15 +67,3 @@ returns-in-None-clause-updated g c = λ id found.
       known = λ v e. absurd (no_value _ _ gone e);
       unknown = λ e. (record { quorum_set = refl; is_voter = λ x. refl; value = λ x. refl; default_part = refl }, refl, refl, refl, refl);
     }
-
-pub invariant_of-self-in-None : goal.invariant_of-self-in-None
-invariant_of-self-in-None g c = record { voters_fit = c.args.self.now.voters_fit; room_fits = c.args.self.now.room_fits; agree = c.args.self.now.agree }
-
-pub returns-in-Some-clause-known : goal.returns-in-Some-clause-known
-returns-in-Some-clause-known g c = rw c.in-Some.is refl
-
-pub returns-in-None-clause-known : goal.returns-in-None-clause-known
-returns-in-None-clause-known g c = rw c.in-None.is refl
-
-pub returns-in-None-clause-ordered : goal.returns-in-None-clause-ordered
-returns-in-None-clause-ordered g c = λ id found. c.requires.ordered

@@ -1,7 +1,5 @@
-use Rattle.std.proofs.Common.{arith, refl, sym, ap, ◌≡◌, Vec, get_or, List, [], ◌∷◌, zero, suc, ◌∙◌, subst, ◌≤◌, ◌-◌, length, take, ℕ}
+use Rattle.std.proofs.Common.{arith, refl, sym, ap, ◌≡◌, get_or, List, [], ◌∷◌, zero, suc, ◌∙◌, subst, ◌≤◌, ◌-◌, length, take, ℕ}
 use Rattle.std.proofs.lemmas.List.{length-take}
-use Rattle.std.specs.List.{length_refill}
-use Rattle.std.specs.Vec.{with_items}
 use Rattle.std.proofs.lemmas.List.Sums.{prefix_len-le-length}
 use Rattle.raft_progress.specs.Inner.Counts.{exceeds}
 use Rattle.raft_progress.specs.Inner.Rises.{IsLeastFront}
@@ -13,10 +11,6 @@ length_take_le : {X : Type 0} (xs : List X) (n : ℕ) → length (take n xs) ≤
 length_take_le xs zero = omega arith
 length_take_le [] (suc n) = omega arith
 length_take_le (x ∷ xs) (suc n) = let h = length_take_le xs n in omega arith
-
--- new items leave a vector as long as it was
-refilled : {X Z : Type 0} (v : Vec X Z) (items : List X) → length (with_items v items).items ≡ length v.items
-refilled v items = sym (length_refill v.len v.items items v.ok.0) ∙ v.ok.0
 
 pub least_front-found-requires-clause-within : goal.least_front-found-requires-clause-within
 least_front-found-requires-clause-within g c =
@@ -72,18 +66,4 @@ returns-in_default g c = record {
   counts = c.saturating_add-self.ensures;
   stays = λ e. refl;
   rises = λ k e. cc;
-}
-
-pub invariant_of-self : goal.invariant_of-self
-invariant_of-self g c = record {
-  voters_fit = c.args.self.now.voters_fit;
-  room_fits = refilled c.args.self.now.room c.gather_leading-high.new.room ∙ c.args.self.now.room_fits;
-  agree = c.args.self.now.agree;
-}
-
-pub invariant_of-self-in_default : goal.invariant_of-self-in_default
-invariant_of-self-in_default g c = record {
-  voters_fit = c.args.self.now.voters_fit;
-  room_fits = refilled c.args.self.now.room c.gather_leading-high.new.room ∙ c.args.self.now.room_fits;
-  agree = c.args.self.now.agree;
 }
