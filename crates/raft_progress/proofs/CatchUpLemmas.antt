@@ -124,7 +124,7 @@ none_if : (t : Bool) (x : ℕ) → (if t then Some x else None) ≡ None → t �
 none_if true x h = cc
 none_if false x h = refl
 
-kept_after : {S E U : Type 0} (r : Result S E) (old : S) (result : Result U E) (new : S) → FollowsTable r old result new → after_reply old r ≡ new
+pub kept_after : {S E U : Type 0} (r : Result S E) (old : S) (result : Result U E) (new : S) → FollowsTable r old result new → after_reply old r ≡ new
 kept_after (Ok s) old (Ok u) new h = sym h
 kept_after (Ok s) old (Err e) new h = absurd h
 kept_after (Err e) old (Ok u) new h = absurd h

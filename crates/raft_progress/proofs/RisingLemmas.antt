@@ -84,6 +84,10 @@ module _ {ID V P : Type 0} (cmp : P → P → Ordering) (part : V → P) where
   last_from_get p (x ∷ y ∷ ys) zero d l h = absurd (omega arith)
   last_from_get p (x ∷ y ∷ ys) (suc n) d l h = last_from_get p (y ∷ ys) n d (omega arith) h
 
+  -- the place that it has passed down to is in the list
+  pub passed_within : (old : List (ID × V)) (from : ℕ) (new : List (ID × V)) (to : ℕ) → Passed cmp part old from new to → to < length new
+  passed_within old from new to r = rw (r.now, ← r.now_at) (length_less r.front r.entry (r.passed ++ r.rest))
+
   -- nothing has been passed yet
   pub passed_none : (xs : List (ID × V)) (n : ℕ) → n < length xs → Passed cmp part xs n xs n
   passed_none xs n l =

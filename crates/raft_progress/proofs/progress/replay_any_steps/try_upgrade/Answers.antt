@@ -1,4 +1,4 @@
-use Rattle.std.proofs.Common.{refl, sym, subst, true≢false}
+use Rattle.std.proofs.Common.{refl, sym, ◌∙◌, subst, true≢false}
 use Rattle.raft_progress.specs.progress.CountedValue.{IsCounted}
 use Rattle.raft_progress.specs.progress.Shown.{state}
 use Rattle.raft_progress.specs.progress.VecProgress.{shown}
@@ -23,4 +23,13 @@ returns-in_ok-upgraded-in-None-clause-step g c = record {
     subst (λ (p : g.row.P.Denot). IsCounted g.P.Ord.cmp g.V.ProgressPart.part_of g.QS.QuorumSet.has_quorum (state g.ID.PartialEq.eq (shown c.in_ok-upgraded-in-None.upgraded)) p) (sym c.granted.ensures) c.in_ok-upgraded-in-None.ensures.ordered.counted,
   );
   answered = record { refused = λ r. absurd (true≢false (sym r)); done = λ r. c.in_ok-upgraded-in-None.ensures.fold; tells = c.granted.ensures };
+}
+
+pub returns-then-not-fits-clause-step : goal.returns-then-not-fits-clause-step
+returns-then-not-fits-clause-step g c = record {
+  values = (
+    λ fit. true≢false (sym (c.in_ok-fits.ensures.1 fit) ∙ c.if-not-fits.true),
+    record { quorum_set = refl; is_voter = λ x. refl; value = λ x. refl; default_part = refl },
+  );
+  answered = record { refused = λ r. refl; done = λ r. absurd (true≢false r); tells = tt };
 }

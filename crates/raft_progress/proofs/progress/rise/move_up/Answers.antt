@@ -1,9 +1,13 @@
-use Rattle.std.proofs.Common.{arith, get_or, is_lt, ◌≡◌, ◌+◌, ◌-◌, subst, sym, ◌∙◌, ℕ, ap}
+use Rattle.std.proofs.Common.{arith, get_or, is_lt, ◌≡◌, ◌+◌, ◌-◌, ◌<◌, subst, sym, ◌∙◌, ℕ, ap}
 use Rattle.std.specs.List.{swap}
 use Rattle.raft_progress.specs.Inner.Rises.{Passed, RisesTo}
 use Rattle.raft_progress.proofs.PlacesLemmas.{any_default}
-use Rattle.raft_progress.proofs.RisingLemmas.{passed_none, passed_more, rises_stop, rises_front}
+use Rattle.raft_progress.proofs.RisingLemmas.{passed_none, passed_more, passed_within, rises_stop, rises_front}
 use Rattle.raft_progress.proofs.progress.rise.move_up.Goals as goal
+
+-- the place before a place in a list is in it too
+before_within : {n : ℕ} (m : ℕ) → n < m → n - 1 < m
+before_within m h = omega arith
 
 pub loop-at-init : goal.loop-at-init
 loop-at-init g c = record {
@@ -40,3 +44,12 @@ returns g c =
     subst (λ (n : ℕ). RisesTo g.P.Ord.cmp g.V.ProgressPart.part_of c.args.walk.now.items c.args.place c.loop-at.walk.items n) (sym e)
     (rises_front g.P.Ord.cmp g.V.ProgressPart.part_of c.args.walk.now.items c.args.place c.loop-at.walk.items
     (subst (λ (n : ℕ). Passed g.P.Ord.cmp g.V.ProgressPart.part_of c.args.walk.now.items c.args.place c.loop-at.walk.items n) e c.loop-at.invariant.passes))
+
+pub is_below-requires : goal.is_below-requires
+is_below-requires g c = rw c.deref.ensures.value (before_within _ (passed_within g.P.Ord.cmp g.V.ProgressPart.part_of c.args.walk.now.items c.args.place c.loop-at.walk.items c.loop-at.at c.loop-at.invariant.passes))
+
+pub swap-requires-clause-i_in_bounds : goal.swap-requires-clause-i_in_bounds
+swap-requires-clause-i_in_bounds g c = rw c.loop-at.walk.ok.0 (before_within _ (passed_within g.P.Ord.cmp g.V.ProgressPart.part_of c.args.walk.now.items c.args.place c.loop-at.walk.items c.loop-at.at c.loop-at.invariant.passes))
+
+pub swap-requires-clause-j_in_bounds : goal.swap-requires-clause-j_in_bounds
+swap-requires-clause-j_in_bounds g c = rw c.loop-at.walk.ok.0 (passed_within g.P.Ord.cmp g.V.ProgressPart.part_of c.args.walk.now.items c.args.place c.loop-at.walk.items c.loop-at.at c.loop-at.invariant.passes)
