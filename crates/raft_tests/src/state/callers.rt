@@ -35,7 +35,8 @@ fn may_commit<
     L: LeaderIdentity<Id = NID, Committed = C> + Drop,
 >(state: &RaftStateIn<NID, N, I, L, C>, granted: Option<LogIdOf<C>>) -> bool
     ensures valid { IsTrue result → broken_relation C.cmp state.now ≡ None }
-    ensures in_log { IsTrue result → IsTrue (id_le C.cmp granted (last_id (full_log state.now.log_ids))) }
+    ensures in_log { IsTrue result →
+        IsTrue (id_le C.cmp granted (last_id (full_log state.now.log_ids))) }
     ensures allowed { IsTrue result → IsTrue (state_may_commit C.cmp granted state.now) }
 {
     state.validate().is_ok()
