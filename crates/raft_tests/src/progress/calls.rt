@@ -3,6 +3,7 @@
 use super::{first_ids, made, replied, updated};
 use raft_progress::{AnyStep, Progress, ProgressPart, Reply, VecProgress, replay_any};
 use std::alloc::{AllocError, Global};
+use std::process::Abort;
 use std::test::Fail;
 
 type Numbers = VecProgress<u64, u64, u64, Vec<u64>>;
@@ -194,32 +195,78 @@ fn always_out_of_memory(rt: HostRuntime) -> Result<(), Fail> {
     Ok(())
 }
 
-#[test]
-fn upgrades_are_refused(rt: HostRuntime) -> Result<(), Fail> {
-    let alloc = rt.alloc();
-    let mut progress: Numbers = made(&rt, alloc, first_ids(alloc, 3)?, &[5], 0)?;
-    for (id, value, granted) in [(0, 5, 0), (1, 6, 5), (5, 9, 5)] {
-        assert_eq!(rt; updated(&rt, &mut progress, id, value), Ok(granted));
-    }
-    let before = progress.clone()?;
+/// Whether an upgrade to the same voters is answered as wanted.
+fn is_answered(
+    rt: &impl Abort,
+    alloc: Global,
+    progress: &mut Numbers,
+    learners: &[u64],
+    default: u64,
+    want: Reply<u64, u64>,
+) -> Result<bool, AllocError> {
+    let quorum_set = first_ids(alloc, 3)?;
+    let upgrade = AnyStep::Upgrade {
+        quorum_set,
+        learners: learners.to_vec(alloc)?,
+        default,
+    };
+    Ok(replied(rt, alloc, progress, upgrade)? == Some(want))
+}
+
+/// Whether upgrades are refused, and each leaves the progress as before.
+fn are_refused(
+    rt: &impl Abort,
+    alloc: Global,
+    progress: &mut Numbers,
+    before: &Numbers,
+) -> Result<bool, AllocError> {
     let rows: [(&[u64], u64, Reply<u64, u64>); 3] = [
         (&[5], 1, Reply::BelowDefault(2)),
         (&[5, 5], 1, Reply::BadLearners),
         (&[2], 0, Reply::BadLearners),
     ];
     for (learners, default, reply) in rows {
-        let upgrade = AnyStep::Upgrade {
-            quorum_set: first_ids(alloc, 3)?,
-            learners: learners.to_vec(alloc)?,
-            default,
-        };
-        assert_eq!(rt; replied(&rt, alloc, &mut progress, upgrade)?, Some(reply));
-        assert_eq!(rt; progress, before);
+        if !is_answered(rt, alloc, progress, learners, default, reply)? || *progress != *before {
+            return Ok(false);
+        }
     }
+    Ok(true)
+}
+
+/// Whether an upgrade to the same voters may be made exactly where it lowers no value.
+fn may_upgrade(alloc: Global, progress: &Numbers) -> Result<bool, AllocError> {
     let voters = first_ids(alloc, 3)?;
-    assert!(rt; progress.can_upgrade(&voters, &[5], &0)?);
-    assert!(rt; !progress.can_upgrade(&voters, &[5], &1)?);
-    assert!(rt; progress.can_upgrade(&voters, &[], &0)?);
+    Ok(
+        progress.can_upgrade(&voters, &[5], &0)?
+            && !progress.can_upgrade(&voters, &[5], &1)?
+            && progress.can_upgrade(&voters, &[], &0)?,
+    )
+}
+
+/// Whether three updates are granted.
+fn are_granted(rt: &impl Abort, progress: &mut Numbers) -> bool {
+    for (id, value, granted) in [(0, 5, 0), (1, 6, 5), (5, 9, 5)] {
+        if updated(rt, progress, id, value) != Ok(granted) {
+            return false;
+        }
+    }
+    true
+}
+
+/// Whether upgrades are refused after them.
+fn refuses(rt: &impl Abort, alloc: Global, progress: &mut Numbers) -> Result<bool, AllocError> {
+    if !are_granted(rt, progress) {
+        return Ok(false);
+    }
+    let before = progress.clone()?;
+    Ok(are_refused(rt, alloc, progress, &before)? && may_upgrade(alloc, progress)?)
+}
+
+#[test]
+fn upgrades_are_refused(rt: HostRuntime) -> Result<(), Fail> {
+    let alloc = rt.alloc();
+    let mut progress: Numbers = made(&rt, alloc, first_ids(alloc, 3)?, &[5], 0)?;
+    assert!(rt; refuses(&rt, alloc, &mut progress)?);
     Ok(())
 }
 

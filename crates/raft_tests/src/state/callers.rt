@@ -3,7 +3,7 @@ ghost use Rattle.std.specs.Prelude.{◌≡◌, false, None, IfOk, OnErr, IsTrue}
 ghost use Rattle.raft_base.specs.LogId.{id_le, id_lt};
 ghost use Rattle.raft_progress.specs.inflight.Inflight.{is_idle};
 ghost use Rattle.raft_progress.specs.progress.VecProgress.{shown};
-ghost use Rattle.raft_state.specs.Commit.{state_after_commit};
+ghost use Rattle.raft_state.specs.Commit.{state_after_commit, state_may_commit};
 ghost use Rattle.raft_state.specs.FullLog.{full_log};
 ghost use Rattle.raft_state.specs.LogReads.{last_id};
 ghost use Rattle.raft_state.specs.Sending.{FromLog};
@@ -25,6 +25,24 @@ use raft_state::{FollowersOf, RaftStateIn};
 use std::alloc::{AllocError, Global};
 use std::process::Abort;
 use std::test::Fail;
+
+/// Whether a state is valid, and what is granted is in its log and may be committed.
+fn may_commit<
+    NID: NodeId,
+    N: Node,
+    I: Instant,
+    C: Ord + Copy + Default + Drop + 'static,
+    L: LeaderIdentity<Id = NID, Committed = C> + Drop,
+>(state: &RaftStateIn<NID, N, I, L, C>, granted: Option<LogIdOf<C>>) -> bool
+    ensures valid { IsTrue result → broken_relation C.cmp state.now ≡ None }
+    ensures in_log { IsTrue result →
+        IsTrue (id_le C.cmp granted (last_id (full_log state.now.log_ids))) }
+    ensures allowed { IsTrue result → IsTrue (state_may_commit C.cmp granted state.now) }
+{
+    state.validate().is_ok()
+        && log_id_at_most(granted, state.last_log_id().copied())
+        && state.can_commit(&granted)
+}
 
 /// A leader with a valid state commits what a quorum of its followers has, if that is in its log
 /// and more than is committed.
@@ -50,10 +68,7 @@ fn commit_granted<
     ensures err { OnErr result (state.new ≡ state.old) }
 {
     let granted = *followers.granted();
-    if state.validate().is_err()
-        || !log_id_at_most(granted, state.last_log_id().copied())
-        || !state.can_commit(&granted)
-    {
+    if !may_commit(state, granted) {
         return Ok(false);
     }
     let before = state.update_committed(&granted)?;
@@ -73,10 +88,16 @@ fn send<
         FromLog (view_of state.now) max_entries follower.old follower.new.inflight }
 {
     sends_from_log::<C>();
-    if state.validate().is_err() || !state.purge_upto_is_logged() {
+    if state.validate().is_err() {
         return false;
     }
-    if !follower.inflight.is_none() || !follower.can_send(state) {
+    if !state.purge_upto_is_logged() {
+        return false;
+    }
+    if !follower.inflight.is_none() {
+        return false;
+    }
+    if !follower.can_send(state) {
         return false;
     }
     follower.next_send(state, max_entries).is_ok()
@@ -123,18 +144,27 @@ fn commits_once<K: LeaderKind<u64>>(
     Ok(first && !second && state.committed == id::<K>(Some((3, 4))))
 }
 
-/// The same, of a valid state and two followers that match up to its last log id.
-fn commits_right<K: LeaderKind<u64>>(rt: &impl Abort, alloc: Global) -> Result<bool, AllocError> {
-    let followers = followers::<K>(rt, alloc)?;
-    commits_once::<K>(&mut valid_state::<K>(alloc)?, &followers)
+/// Whether a leader sends as it should, and commits what two followers match up to.
+fn sends_and_commits<K: LeaderKind<u64>>(
+    rt: &impl Abort,
+    alloc: Global,
+    state: &mut State<K>,
+) -> Result<bool, AllocError> {
+    if !sends_right::<K>(state) {
+        return Ok(false);
+    }
+    commits_once::<K>(state, &followers::<K>(rt, alloc)?)
+}
+
+/// The same, of a valid state.
+fn leads_right<K: LeaderKind<u64>>(rt: &impl Abort, alloc: Global) -> Result<bool, AllocError> {
+    sends_and_commits::<K>(rt, alloc, &mut valid_state::<K>(alloc)?)
 }
 
 #[test]
 fn a_leader_sends_and_commits(rt: HostRuntime) -> Result<(), Fail> {
     let alloc = rt.alloc();
-    assert!(rt; sends_right::<LeaderAdv>(&valid_state::<LeaderAdv>(alloc)?));
-    assert!(rt; sends_right::<LeaderStd>(&valid_state::<LeaderStd>(alloc)?));
-    assert!(rt; commits_right::<LeaderAdv>(&rt, alloc)?);
-    assert!(rt; commits_right::<LeaderStd>(&rt, alloc)?);
+    assert!(rt; leads_right::<LeaderAdv>(&rt, alloc)?);
+    assert!(rt; leads_right::<LeaderStd>(&rt, alloc)?);
     Ok(())
 }

@@ -11,6 +11,8 @@ use std::test::Fail;
 
 type Members = Membership<u64, u64>;
 
+type Data = Entry<u64, u64, u64>;
+
 /// Whether a blank entry and one with a membership are what they are made as, over any entry type.
 fn are_as_made<C: Copy + Eq, E: RaftEntryOf<C, Members> + Drop>(
     log_id: LogIdOf<C>,
@@ -31,37 +33,45 @@ fn are_made<E: RaftEntry<u64, u64> + Drop>(log_id: LogId<u64>, membership: Membe
     are_as_made::<CommittedLeaderId<u64>, E>(log_id, membership)
 }
 
+/// Whether an entry of a program's data has the default log id, and then the one that it is given.
+fn takes_log_id(data: &mut Data, log_id: LogId<u64>) -> bool {
+    let is_new = *data.get_log_id() == LogId::default();
+    data.set_log_id(&log_id);
+    is_new
+        && !data.is_blank()
+        && data.get_membership().is_none()
+        && data.payload == EntryPayload::Normal(7)
+        && *data.as_ref().get_log_id() == log_id
+}
+
+/// Whether the default entry is blank, and it, one of data and one of a membership equal their clones
+/// alone.
+fn are_cloned(data: &Data, stores: &Data, blank: &Data) -> Result<bool, AllocError> {
+    Ok(
+        *stores != *data
+            && *blank != *data
+            && *blank == Data::new_blank(LogId::default())
+            && data.try_clone()? == *data
+            && stores.try_clone()? == *stores
+            && blank.clone()? == *blank,
+    )
+}
+
 /// Whether entries of a program's data, and the default entry, are as they should be.
 fn data_is_kept(alloc: Global, log_id: LogId<u64>) -> Result<bool, AllocError> {
-    let mut entry: Entry<u64, u64, u64> = Entry::from_app_data(7);
-    let is_new = *entry.get_log_id() == LogId::default();
-    entry.set_log_id(&log_id);
-    let membership = EntryPayload::Membership(members(alloc, "1,2", "1=4,3=6")?);
-    let stores: Entry<u64, u64, u64> = Entry {
-        log_id,
-        payload: membership,
-    };
-    let blank: Entry<u64, u64, u64> = Entry::default();
-    Ok(
-        is_new
-            && !entry.is_blank()
-            && entry.get_membership().is_none()
-            && entry.payload == EntryPayload::Normal(7)
-            && *entry.as_ref().get_log_id() == log_id
-            && blank == Entry::new_blank(LogId::default())
-            && entry.try_clone()? == entry
-            && stores.try_clone()? == stores
-            && blank.clone()? == blank
-            && stores != entry
-            && blank != entry,
-    )
+    let mut data = Data::from_app_data(7);
+    if !takes_log_id(&mut data, log_id) {
+        return Ok(false);
+    }
+    let payload = EntryPayload::Membership(members(alloc, "1,2", "1=4,3=6")?);
+    are_cloned(&data, &Data { log_id, payload }, &Data::default())
 }
 
 #[test]
 fn entries_are_as_made(rt: HostRuntime) -> Result<(), Fail> {
     let log_id = LogId::new(CommittedLeaderId::new(1, 2u64), 3);
     let membership = members(rt.alloc(), "1,2", "1=4,3=6")?;
-    assert!(rt; are_made::<Entry<u64, u64, u64>>(log_id, membership));
+    assert!(rt; are_made::<Data>(log_id, membership));
     let standard = LogIdOf::new(leader_id_std::CommittedLeaderId { term: 1 }, 3);
     let membership = members(rt.alloc(), "none", "-")?;
     assert!(rt; are_as_made::<_, EntryOf<_, u64, u64, u64>>(standard, membership));
