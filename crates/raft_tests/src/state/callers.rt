@@ -3,7 +3,7 @@ ghost use Rattle.std.specs.Prelude.{◌≡◌, false, None, IfOk, OnErr, IsTrue}
 ghost use Rattle.raft_base.specs.LogId.{id_le, id_lt};
 ghost use Rattle.raft_progress.specs.inflight.Inflight.{is_idle};
 ghost use Rattle.raft_progress.specs.progress.VecProgress.{shown};
-ghost use Rattle.raft_state.specs.Commit.{state_after_commit, state_may_commit};
+ghost use Rattle.raft_state.specs.Commit.{state_after_commit};
 ghost use Rattle.raft_state.specs.FullLog.{full_log};
 ghost use Rattle.raft_state.specs.LogReads.{last_id};
 ghost use Rattle.raft_state.specs.Sending.{FromLog};
@@ -25,24 +25,6 @@ use raft_state::{FollowersOf, RaftStateIn};
 use std::alloc::{AllocError, Global};
 use std::process::Abort;
 use std::test::Fail;
-
-/// Whether a state is valid, and what is granted is in its log and may be committed.
-fn may_commit<
-    NID: NodeId,
-    N: Node,
-    I: Instant,
-    C: Ord + Copy + Default + Drop + 'static,
-    L: LeaderIdentity<Id = NID, Committed = C> + Drop,
->(state: &RaftStateIn<NID, N, I, L, C>, granted: Option<LogIdOf<C>>) -> bool
-    ensures valid { IsTrue result → broken_relation C.cmp state.now ≡ None }
-    ensures in_log { IsTrue result →
-        IsTrue (id_le C.cmp granted (last_id (full_log state.now.log_ids))) }
-    ensures allowed { IsTrue result → IsTrue (state_may_commit C.cmp granted state.now) }
-{
-    state.validate().is_ok()
-        && log_id_at_most(granted, state.last_log_id().copied())
-        && state.can_commit(&granted)
-}
 
 /// A leader with a valid state commits what a quorum of its followers has, if that is in its log
 /// and more than is committed.
@@ -68,7 +50,10 @@ fn commit_granted<
     ensures err { OnErr result (state.new ≡ state.old) }
 {
     let granted = *followers.granted();
-    if !may_commit(state, granted) {
+    if state.validate().is_err()
+        || !log_id_at_most(granted, state.last_log_id().copied())
+        || !state.can_commit(&granted)
+    {
         return Ok(false);
     }
     let before = state.update_committed(&granted)?;

@@ -9,13 +9,6 @@ returns-in_err-ack g c =
     let table = table_of_refused (Unit {0}) (acked g.C.Ord.cmp c.args.self.now.inflight c.args.request_id c.args.matching) _ _ _ c.in_err-ack.ensures in
     rw table (search rules)
 
-pub returns-then-is_lt : goal.returns-then-is_lt
-returns-then-is_lt g c =
-    let entry = c.args.self.now in
-    let table = table_of_taken (Unit {0}) (acked g.C.Ord.cmp entry.inflight c.args.request_id c.args.matching) entry.inflight c.ack.new.self c.in_ok-ack.field-0 c.in_ok-ack.ensures in
-    let below : id_lt g.C.Ord.cmp c.args.matching entry.matching ≡ true = sym (ap is_lt c.cmp.ensures) ∙ sym c.is_lt.ensures ∙ c.if-is_lt.true in
-    rw (table, below) (refl, refl)
-
 pub returns-then-not-has_next_index : goal.returns-then-not-has_next_index
 returns-then-not-has_next_index g c =
     let entry = c.args.self.now in
