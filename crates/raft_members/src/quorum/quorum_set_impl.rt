@@ -88,7 +88,7 @@ impl<ID: Copy + Ord, T: QuorumSet<ID> + Drop> QuorumSet<ID> for Rc<T> {
 
 /// Whether more than half of the voters are among the ids.
 // Half of the length, and not twice the count: the count could not be doubled at every length. It is
-// inlined, since a call takes half as long as the test of a short list.
+// inlined, since a call adds a third to the test of a short list.
 #[inline(always)]
 fn has_majority<ID: Copy + Ord>(voters: &[ID], ids: &[ID]) -> bool
     ensures { IsDistinct ID.eq ids.now →
