@@ -316,15 +316,15 @@ impl<
         ensures { result ≡ position (λ e. ID.eq id.now e.0) ((shown self.now).walk) }
     {
         if self.stale {
-            return self.search(id);
+            return self.place_in_walk(id);
         }
         self.places.get(id).copied()
     }
 
-    /// The same, searched for in the walk.
+    /// The same, searched for in the walk, whatever the map says.
     // Marked as cold, so that a look-up in the map is not held up by what the search needs.
     #[cold]
-    fn search(&self, id: &ID) -> Option<usize>
+    fn place_in_walk(&self, id: &ID) -> Option<usize>
         ensures { result ≡ position (λ e. ID.eq id.now e.0) ((shown self.now).walk) }
     {
         self.walk.iter().position(|entry| *id == entry.0)
