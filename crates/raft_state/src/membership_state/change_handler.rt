@@ -95,6 +95,8 @@ fn refusal_of<C: Ord + Copy + Default + Debug, NID: NodeId>(
     match refused {
         ChangeMembershipErrorOf::EmptyMembership(e) => ChangeMembershipErrorOf::EmptyMembership(e),
         ChangeMembershipErrorOf::LearnerNotFound(e) => ChangeMembershipErrorOf::LearnerNotFound(e),
-        _ => ChangeMembershipErrorOf::OutOfMemory,
+        ChangeMembershipErrorOf::InProgress(_) | ChangeMembershipErrorOf::OutOfMemory => {
+            ChangeMembershipErrorOf::OutOfMemory
+        }
     }
 }
