@@ -1,0 +1,7 @@
+use Rattle.std.specs.Cmp.{upto}
+use Rattle.raft_base.specs.LogIdLaws.{optional-log_id_cmp-total}
+use Rattle.raft_base_tests.proofs.calls.in_turn.Goals as goal
+
+pub returns : goal.returns
+returns g c =
+    rw c.compare_optional_log_ids.ensures (upto (optional-log_id_cmp-total g.met.C.Ord.total) _ _ _ c.requires.first c.requires.second)

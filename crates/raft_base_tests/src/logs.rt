@@ -1,0 +1,77 @@
+//! Ranges of logs, and what a log answers to its readers.
+
+use crate::plain_log::{PlainLog, id, log_below};
+use crate::printing::{debugs, displays};
+use raft_base::leader_id_std::CommittedLeaderId;
+use raft_base::{Invalid, LeaderId, LogId, LogIdOf, LogIdRange, LogStateReader, Validate};
+use std::alloc::{AllocError, Global};
+use std::test::Fail;
+
+/// Whether a range from index 5 on is valid exactly where it does not end before it begins.
+fn ranges_are_tested() -> bool {
+    let after = |last: Option<LogIdOf<LeaderId<u64>>>| LogIdRange::new(id(1, 5), last).validate();
+    after(None) == Err(Invalid::RangeOrder)
+        && after(id(1, 4)) == Err(Invalid::RangeOrder)
+        && after(id(0, 9)) == Err(Invalid::RangeOrder)
+        && after(id(1, 5)) == Ok(())
+        && after(id(2, 4)) == Ok(())
+        && LogIdRange::<u64>::new(None, None).validate() == Ok(())
+}
+
+/// Whether ranges have as many logs as indexes.
+fn ranges_are_measured() -> bool {
+    LogIdRange::<u64>::new(id(1, 5), id(3, 10)).len() == 5
+        && LogIdRange::<u64>::new(None, id(1, 0)).len() == 1
+        && LogIdRange::<u64>::new(None, None).len() == 0
+}
+
+/// Whether ranges display as they should.
+fn display(alloc: Global) -> Result<bool, AllocError> {
+    let from = Some(LogId::new(LeaderId::new(1, 2u64), 3));
+    let to = Some(LogId::new(LeaderId::new(1, 2u64), 9));
+    let debug = "LogIdRange { prev: None, last: None }";
+    Ok(
+        displays(alloc, &LogIdRange::new(from, to), "(T1-N2-3, T1-N2-9]")?
+            && displays(alloc, &LogIdRange::new(None, from), "(None, T1-N2-3]")?
+            && debugs(alloc, &LogIdRange::<u64>::new(None, None), debug)?,
+    )
+}
+
+#[test]
+fn ranges(rt: HostRuntime) -> Result<(), Fail> {
+    assert!(rt; ranges_are_tested() && ranges_are_measured());
+    assert!(rt; display(rt.alloc())?);
+    Ok(())
+}
+
+/// Whether a log that is committed up to index 3 says that it has an id: with none, it may not be
+/// asked.
+fn says(log: &PlainLog<CommittedLeaderId>, leader: u64, index: u64) -> Option<bool> {
+    let log_id = LogIdOf::new(CommittedLeaderId { term: leader }, index);
+    if log.can_ask(&log_id) {
+        Some(log.has_log_id(&log_id))
+    } else {
+        None
+    }
+}
+
+/// Whether a log of leader 1 that is committed up to index 3 answers as it should.
+fn answers(log: &PlainLog<CommittedLeaderId>) -> bool {
+    says(log, 1, 2) == Some(true)
+        && says(log, 0, 3) == Some(true)
+        && says(log, 2, 3) == None
+        && says(log, 1, 4) == Some(true)
+        && says(log, 2, 4) == Some(false)
+        && says(log, 1, 9) == Some(false)
+        && log.prev_log_id(0) == None
+        && log.prev_log_id(5) == id(1, 4)
+        && log.prev_log_id(7) == None
+}
+
+#[test]
+fn a_log_answers_its_readers(rt: HostRuntime) -> Result<(), Fail> {
+    let mut log = log_below(rt.alloc(), 6, None)?;
+    log.committed = id(1, 3);
+    assert!(rt; answers(&log));
+    Ok(())
+}

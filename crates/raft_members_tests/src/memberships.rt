@@ -1,0 +1,197 @@
+//! Memberships: reads, tests, steps, and what they are made of.
+
+use super::lines::{read_is_right, step_is_right, test_is_right};
+use super::words::{configs, ids, members, nodes};
+use raft_members::membership::laws;
+use raft_members::quorum::QuorumSet;
+use raft_members::{EmptyMembership, Membership};
+use std::alloc::{AllocError, Global};
+use std::collections::BTreeSet;
+use std::test::Fail;
+
+/// A membership whose nodes are numbers.
+type Members = Membership<u64, u64>;
+
+const READS: &str = "
+1,2/2,4 1=10,2=20,3=30,5=50 4 1,2,4 3,5 false true - true
+1,2/2,4 1=10,2=20,3=30,5=50 3 1,2,4 3,5 true false 30 true
+1 1=10 1 1 - true true 10 false
+none 1=10 1 - 1 true false 10 false
+";
+
+const TESTS: &str = "
+1 1=1 ok
+none - ok
+1,2 1=1 err LearnerNotFound 2
+5,7/4,9/3 3=3 err LearnerNotFound 4
+1/- - err EmptyMembership
+";
+
+const STEPS: &str = "
+1,2 1=1,2=2,3=3 3 drop 1,2/3 1=1,2=2,3=3
+1,2/3 1=1,2=2,3=3 3 drop 3 3=3
+1,2/3 1=1,2=2,3=3 3 retain 3 1=1,2=2,3=3
+1,2/3 1=1,2=2,3=3 2 drop 3/2 2=2,3=3
+none 1=1 1 drop 1 1=1
+";
+
+#[test]
+fn memberships_read_back(rt: HostRuntime) -> Result<(), Fail> {
+    for line in READS.trim().lines() {
+        assert!(rt; read_is_right(rt.alloc(), line)?, "at {line}");
+    }
+    Ok(())
+}
+
+#[test]
+fn an_invalid_membership_is_refused(rt: HostRuntime) -> Result<(), Fail> {
+    for line in TESTS.trim().lines() {
+        assert!(rt; test_is_right(rt.alloc(), line)?, "at {line}");
+    }
+    Ok(())
+}
+
+#[test]
+fn a_step_leads_towards_the_goal(rt: HostRuntime) -> Result<(), Fail> {
+    for line in STEPS.trim().lines() {
+        assert!(rt; step_is_right(rt.alloc(), line)?, "at {line}");
+    }
+    Ok(())
+}
+
+/// Whether each test of a valid and of an invalid membership answers by itself.
+fn each_answers(valid: &Members, lacking: &Members) -> bool {
+    lacking.ensure_voter_nodes() == Err(2)
+        && lacking.ensure_non_empty_config() == Err(EmptyMembership {})
+        && valid.ensure_voter_nodes().is_ok()
+        && valid.ensure_non_empty_config().is_ok()
+}
+
+#[test]
+fn each_test_answers_by_itself(rt: HostRuntime) -> Result<(), Fail> {
+    let lacking = members(rt.alloc(), "1,2/-", "1=1")?;
+    let valid = members(rt.alloc(), "1", "1=1")?;
+    assert!(rt; each_answers(&valid, &lacking));
+    Ok(())
+}
+
+/// Whether the learners are 3 and 5, and no more come after them.
+fn learners_end(members: &Members) -> bool {
+    let mut learners = members.learner_ids();
+    let first = learners.next() == Some(3) && learners.next() == Some(5);
+    first && learners.next().is_none() && learners.next().is_none()
+}
+
+#[test]
+fn configs_nodes_and_learners_are_lent(rt: HostRuntime) -> Result<(), Fail> {
+    let members = members(rt.alloc(), "1,2/2,4", "1=10,2=20,3=30,5=50")?;
+    assert!(rt; learners_end(&members));
+    assert!(rt; members.get_joint_config().len() == 2 && members.nodes().count() == 4);
+    Ok(())
+}
+
+/// Whether the quorum set of some configs answers a set of ids as wanted.
+fn answers(alloc: Global, configs: &str, ids: &[u64], want: bool) -> Result<bool, AllocError> {
+    let quorums = members(alloc, configs, "-")?.to_quorum_set()?;
+    Ok(quorums.is_quorum(ids) == want)
+}
+
+#[test]
+fn configs_are_a_quorum_set(rt: HostRuntime) -> Result<(), Fail> {
+    let rows: [(&str, &[u64], bool); 5] = [
+        ("1,2/2,4", &[1, 2], false),
+        ("1,2/2,4", &[1, 2, 4], true),
+        ("1/1,2/1,2,3", &[1, 2], true),
+        ("1/1,2/1,2,3", &[1, 3], false),
+        ("none", &[], true),
+    ];
+    for (configs, ids, want) in rows {
+        assert!(rt; answers(rt.alloc(), configs, ids, want)?, "of {configs}");
+    }
+    Ok(())
+}
+
+/// Whether a membership is that of the two words.
+fn is(made: &Members, alloc: Global, configs: &str, nodes: &str) -> Result<bool, AllocError> {
+    Ok(*made == members(alloc, configs, nodes)?)
+}
+
+/// Whether voters without a node get the default one, whatever gives the others.
+fn voters_have_nodes(alloc: Global) -> Result<bool, AllocError> {
+    let alone = Membership::new(configs(alloc, "1,2")?, ())?;
+    let with_ids = Membership::new(configs(alloc, "1")?, ids(alloc, "3")?)?;
+    Ok(is(&alone, alloc, "1,2", "1=0,2=0")? && is(&with_ids, alloc, "1", "1=0,3=0")?)
+}
+
+/// The same where a set of ids may be absent, and of nodes.
+fn voters_keep_nodes(alloc: Global) -> Result<bool, AllocError> {
+    let some = Membership::new(configs(alloc, "1")?, Some(ids(alloc, "1,3")?))?;
+    let with_nodes = Membership::new(configs(alloc, "1,2")?, nodes(alloc, "1=7")?)?;
+    let absent: Option<BTreeSet<u64>> = None;
+    let none = Membership::new(configs(alloc, "1")?, absent)?;
+    Ok(
+        is(&some, alloc, "1", "1=0,3=0")?
+            && is(&with_nodes, alloc, "1,2", "1=7,2=0")?
+            && is(&none, alloc, "1", "1=0")?,
+    )
+}
+
+#[test]
+fn voters_get_default_nodes(rt: HostRuntime) -> Result<(), Fail> {
+    assert!(rt; voters_have_nodes(rt.alloc())?);
+    assert!(rt; voters_keep_nodes(rt.alloc())?);
+    Ok(())
+}
+
+/// Whether memberships are made of what is given.
+fn made_as_given(alloc: Global) -> Result<bool, AllocError> {
+    let unchecked = Membership::new_unchecked(configs(alloc, "1,2")?, ())?;
+    let voters = Members::from_nodes(alloc, nodes(alloc, "1=7,2=8")?)?;
+    Ok(
+        is(&unchecked, alloc, "1,2", "-")?
+            && is(&voters, alloc, "1,2", "1=7,2=8")?
+            && is(
+                &Members::from_nodes(alloc, nodes(alloc, "-")?)?,
+                alloc,
+                "-",
+                "-",
+            )?
+            && is(&Members::try_default(alloc)?, alloc, "none", "-")?,
+    )
+}
+
+#[test]
+fn memberships_are_made_of_what_is_given(rt: HostRuntime) -> Result<(), Fail> {
+    assert!(rt; made_as_given(rt.alloc())?);
+    Ok(())
+}
+
+/// Whether clones of a membership equal it, and it differs from another.
+fn clones(members: &Members, other: &Members) -> Result<bool, AllocError> {
+    Ok(members.try_clone()? == *members && members.clone()? == *members && *members != *other)
+}
+
+#[test]
+fn clones_are_equal(rt: HostRuntime) -> Result<(), Fail> {
+    let first = members(rt.alloc(), "1,2/2,4", "1=10,2=20")?;
+    for (configs, nodes) in [("1,2/2,4", "1=10,2=21"), ("1,2", "1=10,2=20")] {
+        let other = members(rt.alloc(), configs, nodes)?;
+        assert!(rt; clones(&first, &other)?, "and {configs} {nodes}");
+    }
+    Ok(())
+}
+
+#[test]
+fn old_nodes_win(rt: HostRuntime) -> Result<(), Fail> {
+    let new = nodes(rt.alloc(), "1=8,2=9")?;
+    let made = Members::extend_nodes(nodes(rt.alloc(), "1=7")?, &new)?;
+    assert!(rt; made == nodes(rt.alloc(), "1=7,2=9")?);
+    Ok(())
+}
+
+// The law is generic; here it stands at one id and node type.
+#[test]
+fn the_law_of_changes_holds_of_plain_ids(_rt: HostRuntime) -> Result<(), Fail> {
+    laws::change_keeps_reached::<u64, u64>();
+    Ok(())
+}

@@ -1,0 +1,229 @@
+//! What memberships and errors print.
+
+use super::words::members;
+use raft_base::{BasicNode, CommittedLeaderId, LeaderStd, LogId, LogIdOf, Vote, leader_id_std};
+use raft_base_tests::printing::{debugs, displays, sums_up};
+use raft_members::{
+    ChangeMembershipError, EffectiveMembership, EmptyMembership, InProgress, InitializeError,
+    LackEntry, LearnerNotFound, Membership, NotAllowed, NotAllowedOf, NotInMembers,
+    QuorumNotEnough, StoredMembership,
+};
+use std::alloc::{AllocError, Global};
+use std::collections::{BTreeMap, BTreeSet};
+use std::test::Fail;
+
+/// A log id that is there.
+fn id() -> Option<LogId<u64>> {
+    Some(LogId::new(CommittedLeaderId::new(1, 2u64), 3))
+}
+
+/// Its debug form.
+const ID: &str = "Some(LogId { leader_id: LeaderId { term: 1, node_id: 2 }, index: 3 })";
+
+/// Whether a stored membership prints itself so, under a log id and under none.
+fn stored_prints(
+    alloc: Global,
+    membership: &Membership<u64, u64>,
+    text: &str,
+) -> Result<bool, AllocError> {
+    let without = format!(in alloc; "{{log_id:None, {text}}}")?;
+    let with = format!(in alloc; "{{log_id:T1-N2-3, {text}}}")?;
+    Ok(
+        displays(
+            alloc,
+            &StoredMembership::new(None, membership.try_clone()?),
+            without.as_str(),
+        )? && sums_up(
+            alloc,
+            &StoredMembership::new(id(), membership.try_clone()?),
+            with.as_str(),
+        )?,
+    )
+}
+
+/// Whether an effective membership prints itself so, under a log id.
+fn effective_prints(
+    alloc: Global,
+    membership: &Membership<u64, u64>,
+    text: &str,
+) -> Result<bool, AllocError> {
+    let text = format!(in alloc; "{{log_id:{ID} membership:{text}}}")?;
+    let effective = EffectiveMembership::new(id(), membership.try_clone()?)?;
+    sums_up(alloc, &effective, text.as_str())
+}
+
+/// Whether a membership prints itself so, alone, as a stored one and as the effective one.
+fn membership_prints(
+    alloc: Global,
+    configs: &str,
+    nodes: &str,
+    text: &str,
+) -> Result<bool, AllocError> {
+    let membership = members(alloc, configs, nodes)?;
+    Ok(
+        displays(alloc, &membership, text)?
+            && sums_up(alloc, &membership, text)?
+            && stored_prints(alloc, &membership, text)?
+            && effective_prints(alloc, &membership, text)?,
+    )
+}
+
+/// Whether a membership with nodes of addresses prints them.
+fn addresses_print(alloc: Global) -> Result<bool, AllocError> {
+    let mut nodes = BTreeMap::new(alloc);
+    nodes.insert(1u64, BasicNode::new(alloc, "here")?)?;
+    let membership = Membership::from_nodes(alloc, nodes)?;
+    let text = "{voters:[{1:BasicNode { addr: \"here\" }}], learners:[]}";
+    displays(alloc, &membership, text)
+}
+
+#[test]
+fn memberships_print(rt: HostRuntime) -> Result<(), Fail> {
+    let rows = [
+        ("1,2", "1=4,2=5,3=6", "{voters:[{1:4,2:5}], learners:[3:6]}"),
+        (
+            "1,2/2,5",
+            "1=4,2=5,3=6,7=8",
+            "{voters:[{1:4,2:5},{2:5,5:None}], learners:[3:6,7:8]}",
+        ),
+        ("-", "-", "{voters:[{}], learners:[]}"),
+        ("none", "1=4", "{voters:[], learners:[1:4]}"),
+    ];
+    for (configs, nodes, text) in rows {
+        assert!(rt;
+            membership_prints(rt.alloc(), configs, nodes, text)?,
+            "{text}"
+        );
+    }
+    assert!(rt; addresses_print(rt.alloc())?);
+    Ok(())
+}
+
+/// Whether an error prints itself so, and has the debug form.
+fn prints<T: std::fmt::Debug + std::fmt::Display>(
+    alloc: Global,
+    error: &T,
+    texts: (&str, &str),
+) -> Result<bool, AllocError> {
+    Ok(displays(alloc, error, texts.0)? && debugs(alloc, error, texts.1)?)
+}
+
+/// Whether the errors of a change have their debug forms.
+fn change_errors_print(alloc: Global) -> Result<bool, AllocError> {
+    let progress: ChangeMembershipError<u64> = InProgress {
+        committed: None,
+        membership_log_id: id(),
+    }
+    .into();
+    let empty: ChangeMembershipError<u64> = EmptyMembership {}.into();
+    let missing: ChangeMembershipError<u64> = LearnerNotFound { node_id: 4 }.into();
+    let text = format!(in alloc;
+        "InProgress(InProgress {{ committed: None, membership_log_id: {ID} }})"
+    )?;
+    Ok(
+        debugs(alloc, &progress, text.as_str())?
+            && debugs(alloc, &empty, "EmptyMembership(EmptyMembership)")?
+            && debugs(
+                alloc,
+                &missing,
+                "LearnerNotFound(LearnerNotFound { node_id: 4 })",
+            )?,
+    )
+}
+
+/// Whether the error of a log that lacks an entry prints itself.
+fn lack_entry_prints(alloc: Global) -> Result<bool, AllocError> {
+    let lack = LackEntry::<u64> {
+        index: Some(7),
+        last_purged_log_id: None,
+    };
+    let lacks = (
+        "store has no log at: Some(7), last purged: None",
+        "LackEntry { index: Some(7), last_purged_log_id: None }",
+    );
+    let unknown = LackEntry {
+        index: None,
+        last_purged_log_id: id(),
+    };
+    let purged = format!(in alloc; "store has no log at: None, last purged: {ID}")?;
+    Ok(prints(alloc, &lack, lacks)? && displays(alloc, &unknown, purged.as_str())?)
+}
+
+/// Whether the error of too few nodes for a quorum prints itself.
+fn quorum_not_enough_prints(alloc: Global) -> Result<bool, AllocError> {
+    let mut got = BTreeSet::new(alloc);
+    got.insert(1u64)?;
+    let cluster = members(alloc, "1,2", "1=4,2=5")?.to_string(alloc)?;
+    let texts = (
+        "not enough for a quorum, cluster: {voters:[{1:4,2:5}], learners:[]}, got: {1}",
+        "QuorumNotEnough { cluster: \"{voters:[{1:4,2:5}], learners:[]}\", got: {1} }",
+    );
+    prints(alloc, &QuorumNotEnough { cluster, got }, texts)
+}
+
+/// The error of a node that belongs to a cluster already.
+fn not_allowed() -> InitializeError<u64, u64> {
+    NotAllowed {
+        last_log_id: None,
+        vote: Vote::new(1, 2),
+    }
+    .into()
+}
+
+/// The error of a node that is no member.
+fn not_in_members(alloc: Global) -> Result<InitializeError<u64, u64>, AllocError> {
+    Ok(NotInMembers {
+        node_id: 9,
+        membership: members(alloc, "1,2", "1=4,3=6")?,
+    }
+    .into())
+}
+
+/// Whether the first of them prints itself, over both kinds of leaders.
+fn not_allowed_prints(alloc: Global) -> Result<bool, AllocError> {
+    let texts = (
+        "not allowed to initialize due to current raft state: last_log_id: None vote: T1-N2:uncommitted",
+        "NotAllowed(NotAllowed { last_log_id: None, vote: Vote { leader_id: LeaderId { term: 1, node_id: 2 }, committed: false } })",
+    );
+    let standard = NotAllowedOf::<u64, LeaderStd> {
+        last_log_id: Some(LogIdOf::new(leader_id_std::CommittedLeaderId { term: 1 }, 3)),
+        vote: Default::default(),
+    };
+    let text =
+        "not allowed to initialize due to current raft state: last_log_id: Some(LogId { leader_id: CommittedLeaderId { term: 1 }, index: 3 }) vote: T0-NNone:uncommitted";
+    Ok(prints(alloc, &not_allowed(), texts)? && displays(alloc, &standard, text)?)
+}
+
+/// Whether the second prints itself.
+fn not_in_members_prints(alloc: Global) -> Result<bool, AllocError> {
+    let texts = (
+        "node 9 has to be a member. membership:Membership { configs: [{1, 2}], nodes: {1: 4, 3: 6} }",
+        "NotInMembers(NotInMembers { node_id: 9, membership: Membership { configs: [{1, 2}], nodes: {1: 4, 3: 6} } })",
+    );
+    prints(alloc, &not_in_members(alloc)?, texts)
+}
+
+/// Whether an error of the start of a cluster equals its clones, and another one doesn't.
+fn equals_its_clones(
+    error: &InitializeError<u64, u64>,
+    other: &InitializeError<u64, u64>,
+) -> Result<bool, AllocError> {
+    Ok(error.try_clone()? == *error && error.clone()? != *other)
+}
+
+/// Whether the two are cloned.
+fn initialize_errors_are_cloned(alloc: Global) -> Result<bool, AllocError> {
+    let (refused, outside) = (not_allowed(), not_in_members(alloc)?);
+    Ok(equals_its_clones(&refused, &outside)? && equals_its_clones(&outside, &refused)?)
+}
+
+#[test]
+fn errors_print(rt: HostRuntime) -> Result<(), Fail> {
+    assert!(rt; change_errors_print(rt.alloc())?);
+    assert!(rt; lack_entry_prints(rt.alloc())?);
+    assert!(rt; quorum_not_enough_prints(rt.alloc())?);
+    assert!(rt; not_allowed_prints(rt.alloc())?);
+    assert!(rt; not_in_members_prints(rt.alloc())?);
+    assert!(rt; initialize_errors_are_cloned(rt.alloc())?);
+    Ok(())
+}

@@ -1,0 +1,414 @@
+//! Progress entries: worked replies and sends, validity, and entries as values of a progress.
+ghost use Rattle.std.specs.Prelude.{◌≡◌};
+
+use super::callers::sent_next;
+use super::inflight::{logs, snapshot, wrong_id};
+use super::steps::{made, updated};
+use raft_base::leader_id_std::CommittedLeaderId;
+use raft_base::{Invalid, LeaderId, LogId, LogIdOf, Validate};
+use raft_base_tests::plain_log::{Numbered, PlainLog, id, log_below};
+use raft_base_tests::printing::{debugs, displays};
+use raft_members::quorum::QuorumSet;
+use raft_progress::entry::{ProgressEntry, ProgressEntryOf};
+use raft_progress::inflight::{InflightError, InflightOf};
+use raft_progress::progress::{ProgressPart, VecProgress};
+use std::alloc::{AllocError, Global};
+use std::process::Abort;
+use std::test::Fail;
+
+/// A call on an entry: a send of so many logs at most, an ack up to a log id, a conflict at an index.
+#[derive(Clone, Copy)]
+pub enum Call<C> {
+    Send(u64),
+    Ack(u64, Option<LogIdOf<C>>),
+    Conflict(Option<u64>, u64),
+}
+
+/// What a call answers.
+#[derive(Clone, Copy, PartialEq)]
+pub enum Answer<C> {
+    /// A send whose condition does not hold.
+    NotAllowed,
+    Sent(Result<InflightOf<C>, InflightOf<C>>),
+    Taken(Result<(), InflightError>),
+}
+
+/// Makes a call, where it is allowed.
+pub fn answer_of<C: Numbered>(
+    entry: &mut ProgressEntryOf<C>,
+    log: &PlainLog<C>,
+    call: Call<C>,
+) -> Answer<C> {
+    match call {
+        Call::Send(max_entries) => {
+            if !entry.can_send(log) {
+                return Answer::NotAllowed;
+            }
+            match entry.next_send(log, max_entries) {
+                Ok(sending) => Answer::Sent(Ok(*sending)),
+                Err(sending) => Answer::Sent(Err(*sending)),
+            }
+        }
+        Call::Ack(id, matching) => Answer::Taken(entry.update_matching(id, matching)),
+        Call::Conflict(id, index) => Answer::Taken(entry.update_conflicting(id, index)),
+    }
+}
+
+/// An entry by its match, the end of the search, the last request and what is in flight.
+pub fn at<C: Numbered>(
+    matching: Option<LogIdOf<C>>,
+    searching_end: u64,
+    curr_inflight_id: u64,
+    inflight: InflightOf<C>,
+) -> ProgressEntryOf<C> {
+    ProgressEntryOf {
+        matching,
+        curr_inflight_id,
+        inflight,
+        searching_end,
+    }
+}
+
+/// Whether a call answers as wanted and leaves the entry as wanted.
+fn leads<C: Numbered>(
+    log: &PlainLog<C>,
+    from: ProgressEntryOf<C>,
+    call: Call<C>,
+    want: Answer<C>,
+    to: ProgressEntryOf<C>,
+) -> bool {
+    let mut entry = from;
+    answer_of(&mut entry, log, call) == want && entry == to
+}
+
+/// Whether a call is refused, and leaves the entry as it was.
+fn refuses<C: Numbered>(
+    log: &PlainLog<C>,
+    entry: ProgressEntryOf<C>,
+    call: Call<C>,
+    want: Result<(), InflightError>,
+) -> bool {
+    leads(log, entry, call, Answer::Taken(want), entry)
+}
+
+/// Whether a reply is taken, and leaves the entry as wanted.
+fn takes<C: Numbered>(
+    log: &PlainLog<C>,
+    from: ProgressEntryOf<C>,
+    call: Call<C>,
+    to: ProgressEntryOf<C>,
+) -> bool {
+    leads(log, from, call, Answer::Taken(Ok(())), to)
+}
+
+/// Whether a send puts this in flight, and changes nothing else but the last request.
+fn sends<C: Numbered>(
+    log: &PlainLog<C>,
+    from: ProgressEntryOf<C>,
+    max_entries: u64,
+    want: InflightOf<C>,
+) -> bool {
+    let to = at(
+        from.matching,
+        from.searching_end,
+        from.curr_inflight_id.saturating_add(1),
+        want,
+    );
+    leads(
+        log,
+        from,
+        Call::Send(max_entries),
+        Answer::Sent(Ok(want)),
+        to,
+    )
+}
+
+/// Whether the search in a log of 100 goes by probes, each half of the way on.
+fn searches<C: Numbered>(log: &PlainLog<C>) -> bool {
+    let none = InflightOf::None;
+    let first = logs(1, id(1, 47), id(1, 57));
+    let second = logs(2, id(1, 15), id(1, 25));
+    let third = logs(3, None, id(1, 9));
+    sends(log, ProgressEntryOf::empty(100), 10, first)
+        && takes(
+            log,
+            at(None, 100, 1, first),
+            Call::Conflict(Some(1), 47),
+            at(None, 47, 1, none),
+        )
+        && sends(log, at(None, 47, 1, none), 10, second)
+        && takes(
+            log,
+            at(None, 47, 2, second),
+            Call::Conflict(Some(2), 15),
+            at(None, 15, 2, none),
+        )
+        && sends(log, at(None, 15, 2, none), 10, third)
+        && refuses(
+            log,
+            at(None, 15, 3, third),
+            Call::Conflict(Some(3), 0),
+            Err(InflightError::ConflictNotAtPrev),
+        )
+}
+
+/// Whether sends over a log of ten, with nothing to be purged and no snapshot, are as worked.
+fn sends_what_is_left<C: Numbered>(log: &PlainLog<C>) -> bool {
+    let none = InflightOf::None;
+    let behind = at(id(1, 4), 5, 0, none);
+    let full = at(id(1, 9), 10, 0, none);
+    let sending = at(id(1, 4), 5, 1, logs(1, id(1, 4), id(1, 7)));
+    sends(log, behind, 3, logs(1, id(1, 4), id(1, 7)))
+        && sends(log, behind, u64::MAX, logs(1, id(1, 4), id(1, 9)))
+        && sends(log, ProgressEntryOf::empty(10), 0, snapshot(1, None))
+        && leads(log, full, Call::Send(3), Answer::Sent(Err(none)), full)
+        && leads(
+            log,
+            sending,
+            Call::Send(3),
+            Answer::Sent(Err(sending.inflight)),
+            sending,
+        )
+        && leads(
+            log,
+            at(None, 11, 0, none),
+            Call::Send(3),
+            Answer::NotAllowed,
+            at(None, 11, 0, none),
+        )
+}
+
+/// Whether the search in a log of 21, to be purged up to index 4, ends with a snapshot.
+fn ends_at_the_purge_point<C: Numbered>(log: &PlainLog<C>) -> bool {
+    let sending = logs(1, id(1, 4), id(1, 14));
+    let short = at(None, 4, 1, InflightOf::None);
+    sends(log, ProgressEntryOf::empty(10), 10, sending)
+        && takes(
+            log,
+            at(None, 10, 1, sending),
+            Call::Conflict(Some(1), 4),
+            short,
+        )
+        && sends(log, short, 10, snapshot(2, log.snapshot))
+}
+
+/// Whether a send puts nothing in flight and yet takes a request id, where the ids do not rise.
+fn sends_nothing<C: Numbered>(log: &PlainLog<C>) -> bool {
+    let none = InflightOf::None;
+    let entry = at(id(5, 4), 5, 0, none);
+    sends(log, entry, 10, none) && sends(log, at(id(5, 4), 5, 1, none), 10, none)
+}
+
+/// Whether heartbeats shorten the search, and no further than the match.
+fn takes_heartbeats<C: Numbered>(log: &PlainLog<C>) -> bool {
+    let none = InflightOf::None;
+    let matched = |end: u64| at(id(1, 4), end, 0, none);
+    let below = Err(InflightError::ConflictBelowMatching);
+    takes(log, matched(20), Call::Conflict(None, 10), matched(10))
+        && refuses(log, matched(10), Call::Conflict(None, 3), below)
+        && takes(log, matched(10), Call::Conflict(None, 10), matched(10))
+        && takes(log, matched(10), Call::Conflict(None, 5), matched(5))
+}
+
+/// Whether replies of a stranger to logs are refused, and a heartbeat leaves an entry that is invalid
+/// until the reply.
+fn stands_strangers<C: Numbered>(log: &PlainLog<C>) -> bool {
+    let sending = logs(1, id(1, 47), id(1, 57));
+    let entry = at(None, 100, 1, sending);
+    let outside = Err(InflightError::AckOutOfRange);
+    let short = at(None, 30, 1, sending);
+    let answered = at(None, 30, 1, InflightOf::None);
+    refuses(log, entry, Call::Ack(2, id(1, 50)), wrong_id(Some(1), 2))
+        && refuses(log, entry, Call::Ack(1, id(1, 46)), outside)
+        && refuses(log, entry, Call::Ack(1, id(1, 58)), outside)
+        && refuses(log, entry, Call::Ack(1, None), outside)
+        && refuses(
+            log,
+            entry,
+            Call::Conflict(Some(1), 46),
+            Err(InflightError::ConflictNotAtPrev),
+        )
+        && takes(log, entry, Call::Conflict(None, 30), short)
+        && short.validate() == Err(Invalid::PrevPastEnd)
+        && takes(log, short, Call::Conflict(Some(1), 47), answered)
+        && answered.validate() == Ok(())
+}
+
+/// Whether replies below the match are refused, and what is in flight stays.
+fn stands_regress<C: Numbered>(log: &PlainLog<C>) -> bool {
+    let entry = ProgressEntryOf::new(id(1, 8)).with_inflight(logs(0, id(1, 2), id(1, 9)));
+    let regress = Err(InflightError::MatchingRegress);
+    let below = Err(InflightError::ConflictBelowMatching);
+    let idle = at::<C>(None, 9, 0, InflightOf::None);
+    refuses(log, entry, Call::Ack(0, id(1, 5)), regress)
+        && refuses(log, entry, Call::Conflict(Some(0), 2), below)
+        && refuses(log, idle, Call::Ack(0, None), wrong_id(None, 0))
+}
+
+/// Whether a caller who asks first sends this next.
+fn sends_next<C: Numbered>(
+    log: &PlainLog<C>,
+    from: ProgressEntryOf<C>,
+    want: Option<InflightOf<C>>,
+) -> bool {
+    let mut entry = from;
+    sent_next(&mut entry, log) == want
+}
+
+/// Whether replies to a snapshot are taken up to the greatest index but one, in a log that ends at 9.
+fn stands_snapshots<C: Numbered>(log: &PlainLog<C>) -> bool {
+    let entry = at(None, 9, 0, snapshot(2, id(1, 8)));
+    let matched = at(id(1, 12), 13, 0, InflightOf::None);
+    refuses(
+        log,
+        entry,
+        Call::Ack(2, id(1, 7)),
+        Err(InflightError::SnapshotAckRegress),
+    ) && refuses(
+        log,
+        entry,
+        Call::Ack(2, id(1, u64::MAX)),
+        Err(InflightError::IndexTooLarge),
+    ) && refuses(
+        log,
+        entry,
+        Call::Conflict(Some(2), 3),
+        Err(InflightError::ConflictOnSnapshot),
+    ) && takes(log, entry, Call::Ack(2, id(1, 12)), matched)
+        && !matched.can_send(log)
+        && sends_next(log, at(None, 9, u64::MAX, InflightOf::None), None)
+        && sends_next(
+            log,
+            at(id(1, 8), 9, 0, InflightOf::None),
+            Some(logs(1, id(1, 8), id(1, 9))),
+        )
+}
+
+/// Whether all worked calls over a kind of leaders are as they should be.
+fn is_as_worked<C: Numbered>(alloc: Global) -> Result<bool, AllocError> {
+    let hundred = log_below::<C>(alloc, 100, None)?;
+    let ten = log_below::<C>(alloc, 10, None)?;
+    let eight = log_below::<C>(alloc, 8, id(5, 4))?;
+    let mut purged = log_below::<C>(alloc, 21, None)?;
+    purged.purge_upto = id(1, 4);
+    purged.snapshot = id(1, 6);
+    let mut far = log_below::<C>(alloc, 10, None)?;
+    far.purge_upto = id(1, u64::MAX);
+    Ok(
+        searches(&hundred)
+            && sends_what_is_left(&ten)
+            && ends_at_the_purge_point(&purged)
+            && sends_nothing(&eight)
+            && takes_heartbeats(&hundred)
+            && stands_strangers(&hundred)
+            && stands_regress(&ten)
+            && stands_snapshots(&ten)
+            && !ProgressEntryOf::empty(9).can_send(&far),
+    )
+}
+
+#[test]
+fn replies_and_sends_are_as_worked(rt: HostRuntime) -> Result<(), Fail> {
+    assert!(rt; is_as_worked::<LeaderId<u64>>(rt.alloc())?);
+    assert!(rt; is_as_worked::<CommittedLeaderId>(rt.alloc())?);
+    Ok(())
+}
+
+/// Whether entries are refused by the first relation that they break.
+fn is_validated() -> bool {
+    let none = InflightOf::None;
+    let first = |entry: ProgressEntry<u64>| entry.validate();
+    first(at(id(1, 5), 5, 0, none)) == Err(Invalid::MatchingPastEnd)
+        && first(at(id(1, u64::MAX), u64::MAX, 0, none)) == Err(Invalid::MatchingPastEnd)
+        && first(at(None, 9, 0, logs(1, id(1, 5), id(1, 4)))) == Err(Invalid::RangeOrder)
+        && first(at(id(1, 5), 9, 0, logs(1, id(1, 4), id(1, 8)))) == Err(Invalid::MatchingPastPrev)
+        && first(at(None, u64::MAX, 0, logs(1, id(1, u64::MAX), id(2, 0))))
+            == Err(Invalid::PrevPastEnd)
+        && first(at(id(1, 8), 9, 0, snapshot(2, id(1, 8)))) == Err(Invalid::SnapshotNotPastMatching)
+        && first(at(None, 9, 0, snapshot(2, None))) == Err(Invalid::SnapshotNotPastMatching)
+        && first(at(id(1, 4), 20, 0, none)) == Ok(())
+        && first(at(id(1, 4), 5, 1, logs(1, id(1, 4), id(1, 7)))) == Ok(())
+        && first(at(None, 9, 2, snapshot(2, id(1, 8)))) == Ok(())
+}
+
+/// Whether entries read back.
+fn reads_back() -> bool {
+    let matched = ProgressEntry::<u64>::new(id(1, 4)).with_curr_inflight_id(7);
+    let sending = matched.with_inflight(logs(1, id(1, 5), id(1, 9)));
+    let shipping = matched.with_inflight(snapshot(1, id(1, 9)));
+    let upto = |leader: u64, index: u64| LogId::new(LeaderId::new(leader, 0), index);
+    matched == at(id(1, 4), 5, 7, InflightOf::None)
+        && ProgressEntry::<u64>::new(None) == ProgressEntry::empty(0)
+        && sending == at(id(1, 4), 5, 7, logs(1, id(1, 5), id(1, 9)))
+        && sending.is_log_range_inflight(&upto(1, 6))
+        && sending.is_log_range_inflight(&upto(2, 3))
+        && !sending.is_log_range_inflight(&upto(1, 5))
+        && !matched.is_log_range_inflight(&upto(1, 6))
+        && !shipping.is_log_range_inflight(&upto(1, 6))
+        && ProgressEntry::<u64>::empty(32).sending_start() == (16, 32)
+        && ProgressEntry::<u64>::empty(15).sending_start() == (0, 15)
+        && ProgressEntry::<u64>::empty(0).sending_start() == (0, 0)
+}
+
+/// Whether entries display as they should.
+fn display(alloc: Global) -> Result<bool, AllocError> {
+    let matched = ProgressEntry::<u64>::new(id(1, 4));
+    let empty = ProgressEntry::<u64>::empty(3).with_inflight(snapshot(2, None));
+    let debug =
+        "ProgressEntry { matching: None, curr_inflight_id: 0, inflight: None, searching_end: 0 }";
+    Ok(
+        displays(alloc, &matched, "{[T1-N0-4, 5), inflight:None}")?
+            && displays(alloc, &empty, "{[None, 3), inflight:Snapshot(id=2):None}")?
+            && debugs(alloc, &ProgressEntry::<u64>::empty(0), debug)?,
+    )
+}
+
+#[test]
+fn entries_read_back_and_are_validated(rt: HostRuntime) -> Result<(), Fail> {
+    assert!(rt; is_validated() && reads_back());
+    assert!(rt; display(rt.alloc())?);
+    Ok(())
+}
+
+/// The progress of a leader's followers.
+type Followers = VecProgress<u64, ProgressEntry<u64>, Option<LogId<u64>>, Vec<u64>>;
+
+/// What is granted once a progress has gone over to another quorum set, without learners.
+fn granted_over<
+    ID: Copy + Ord,
+    V: ProgressPart<P> + Clone + Drop,
+    P: Copy + Ord,
+    QS: QuorumSet<ID> + Drop,
+>(
+    rt: &impl Abort,
+    alloc: Global,
+    progress: &mut VecProgress<ID, V, P, QS>,
+    quorum_set: QS,
+    default: V,
+) -> Result<P, AllocError>
+    requires { (v w : V) → V.is_clone v w → V.part_of w ≡ V.part_of v }
+{
+    let ordered = progress.is_in_order();
+    assert!(rt; ordered);
+    let fits = VecProgress::<ID, V, P, QS>::learners_fit(alloc, &quorum_set, &[])?;
+    assert!(rt; fits);
+    let is_allowed = progress.can_upgrade(&quorum_set, &[], &default)?;
+    assert!(rt; is_allowed);
+    let upgraded = progress.upgrade_quorum_set(quorum_set, &[], default)?;
+    Ok(*upgraded.granted())
+}
+
+#[test]
+fn followers_grant_what_a_quorum_matches(rt: HostRuntime) -> Result<(), Fail> {
+    let alloc = rt.alloc();
+    let voters = [1, 2, 3].to_vec(alloc)?;
+    let mut progress: Followers = made(&rt, alloc, voters, &[], ProgressEntry::empty(10))?;
+    for (follower, index, granted) in [(1, 5, None), (2, 3, id(1, 3)), (3, 4, id(1, 4))] {
+        let entry = at(id(1, index), 10, 1, InflightOf::None);
+        assert!(rt; updated(&rt, &mut progress, follower, entry) == Ok(granted));
+    }
+    let kept = [1, 2].to_vec(alloc)?;
+    let granted = granted_over(&rt, alloc, &mut progress, kept, ProgressEntry::empty(10))?;
+    assert!(rt; granted == id(1, 3));
+    Ok(())
+}

@@ -1,0 +1,220 @@
+//! What is in flight: worked replies, reads and texts.
+
+use raft_base::leader_id_std::CommittedLeaderId;
+use raft_base::{Invalid, LeaderId, LogIdOf, LogIdRangeOf, Validate};
+use raft_base_tests::plain_log::{Numbered, id};
+use raft_base_tests::printing::{debugs, displays};
+use raft_progress::inflight::{Inflight, InflightError, InflightOf, RequestId};
+use std::alloc::{AllocError, Global};
+use std::test::Fail;
+
+/// Logs in flight.
+pub fn logs<C: Numbered>(
+    id: u64,
+    prev: Option<LogIdOf<C>>,
+    last: Option<LogIdOf<C>>,
+) -> InflightOf<C> {
+    InflightOf::Logs {
+        id,
+        log_id_range: LogIdRangeOf { prev, last },
+    }
+}
+
+/// A snapshot in flight.
+pub fn snapshot<C: Numbered>(id: u64, last_log_id: Option<LogIdOf<C>>) -> InflightOf<C> {
+    InflightOf::Snapshot { id, last_log_id }
+}
+
+/// The refusal of a reply to another request.
+pub fn wrong_id(mine: Option<u64>, received: u64) -> Result<(), InflightError> {
+    Err(InflightError::InvalidRequestId { mine, received })
+}
+
+/// Whether an ack is answered as wanted, and what it leaves in flight.
+fn acks<C: Numbered>(
+    from: InflightOf<C>,
+    request_id: u64,
+    upto: Option<LogIdOf<C>>,
+    want: Result<(), InflightError>,
+    left: InflightOf<C>,
+) -> bool {
+    let mut inflight = from;
+    inflight.ack(request_id, upto) == want && inflight == left
+}
+
+/// Whether a conflict is answered as wanted, and what it leaves in flight.
+fn conflicts<C: Numbered>(
+    from: InflightOf<C>,
+    request_id: u64,
+    index: u64,
+    want: Result<(), InflightError>,
+    left: InflightOf<C>,
+) -> bool {
+    let mut inflight = from;
+    inflight.conflict(request_id, index) == want && inflight == left
+}
+
+/// Whether acks of logs from (1,5) to (3,10), of a snapshot of (1,8) and of nothing are answered.
+fn acks_are_answered<C: Numbered>() -> bool {
+    let from = logs::<C>(1, id(1, 5), id(3, 10));
+    let shipped = snapshot::<C>(2, id(1, 8));
+    let outside = Err(InflightError::AckOutOfRange);
+    let behind = Err(InflightError::SnapshotAckRegress);
+    acks(from, 9, id(3, 10), wrong_id(Some(1), 9), from)
+        && acks(from, 1, id(2, 20), outside, from)
+        && acks(from, 1, id(2, 4), outside, from)
+        && acks(from, 1, id(1, 4), outside, from)
+        && acks(from, 1, id(3, 11), outside, from)
+        && acks(from, 1, None, outside, from)
+        && acks(from, 1, id(3, 10), Ok(()), InflightOf::None)
+        && acks(from, 1, id(2, 7), Ok(()), logs(1, id(2, 7), id(3, 10)))
+        && acks(from, 1, id(1, 5), Ok(()), from)
+        && acks(shipped, 1, id(1, 8), wrong_id(Some(2), 1), shipped)
+        && acks(shipped, 2, id(1, 7), behind, shipped)
+        && acks(shipped, 2, id(1, 12), Ok(()), InflightOf::None)
+        && acks(
+            InflightOf::<C>::None,
+            0,
+            None,
+            wrong_id(None, 0),
+            InflightOf::None,
+        )
+}
+
+/// Whether conflicts with the same are answered.
+fn conflicts_are_answered<C: Numbered>() -> bool {
+    let from = logs::<C>(1, id(1, 5), id(3, 10));
+    let first = logs::<C>(3, None, id(1, 9));
+    let shipped = snapshot::<C>(2, id(1, 8));
+    let elsewhere = Err(InflightError::ConflictNotAtPrev);
+    let on_snapshot = Err(InflightError::ConflictOnSnapshot);
+    conflicts(from, 1, 5, Ok(()), InflightOf::None)
+        && conflicts(from, 1, 4, elsewhere, from)
+        && conflicts(from, 2, 5, wrong_id(Some(1), 2), from)
+        && conflicts(first, 3, 0, elsewhere, first)
+        && conflicts(shipped, 2, 3, on_snapshot, shipped)
+        && conflicts(shipped, 3, 3, wrong_id(Some(2), 3), shipped)
+        && conflicts(
+            InflightOf::<C>::None,
+            0,
+            0,
+            wrong_id(None, 0),
+            InflightOf::None,
+        )
+}
+
+/// Whether logs in flight read back.
+fn logs_read_back() -> bool {
+    let logs = Inflight::<u64>::logs(id(1, 2), id(1, 5)).with_id(7);
+    logs.get_id() == Some(7)
+        && logs.id() == 7
+        && !logs.is_none()
+        && logs.is_sending_log()
+        && !logs.is_sending_snapshot()
+        && logs.is_my_id(RequestId::AppendEntries { id: 7 })
+        && !logs.is_my_id(RequestId::AppendEntries { id: 8 })
+        && !logs.is_my_id(RequestId::Snapshot { id: 7 })
+        && logs.assert_my_id(7) == Ok(())
+        && logs.assert_my_id(8) == wrong_id(Some(7), 8)
+        && logs.validate() == Ok(())
+        && Inflight::<u64>::logs(id(1, 5), id(1, 5)).is_none()
+}
+
+/// Whether a snapshot in flight, and nothing, read back.
+fn others_read_back() -> bool {
+    let snapshot = Inflight::<u64>::snapshot(None).with_id(7);
+    let none = Inflight::<u64>::None;
+    snapshot.get_id() == Some(7)
+        && snapshot.is_sending_snapshot()
+        && !snapshot.is_sending_log()
+        && snapshot.is_my_id(RequestId::Snapshot { id: 7 })
+        && snapshot.validate() == Ok(())
+        && none.get_id() == None
+        && none.with_id(7) == none
+        && none.is_none()
+        && !none.is_my_id(RequestId::Snapshot { id: 0 })
+        && none.assert_my_id(0) == wrong_id(None, 0)
+        && none.validate() == Ok(())
+        && logs::<LeaderId<u64>>(1, id(1, 5), id(1, 4)).validate() == Err(Invalid::RangeOrder)
+}
+
+#[test]
+fn replies_are_answered_case_by_case(rt: HostRuntime) -> Result<(), Fail> {
+    assert!(rt; acks_are_answered::<LeaderId<u64>>() && acks_are_answered::<CommittedLeaderId>());
+    assert!(rt; conflicts_are_answered::<LeaderId<u64>>());
+    assert!(rt; logs_read_back() && others_read_back());
+    Ok(())
+}
+
+/// Whether what is in flight displays as it should.
+fn display(alloc: Global) -> Result<bool, AllocError> {
+    let none = Inflight::<u64>::None;
+    let debug = "Snapshot { id: 2, last_log_id: None }";
+    Ok(
+        displays(alloc, &none, "None")?
+            && displays(
+                alloc,
+                &logs::<LeaderId<u64>>(7, None, id(1, 3)),
+                "Logs(id=7):(None, T1-N0-3]",
+            )?
+            && displays(
+                alloc,
+                &snapshot::<LeaderId<u64>>(7, id(1, 3)),
+                "Snapshot(id=7):T1-N0-3",
+            )?
+            && displays(
+                alloc,
+                &snapshot::<CommittedLeaderId>(7, id(1, 3)),
+                "Snapshot(id=7):1-3",
+            )?
+            && displays(
+                alloc,
+                &snapshot::<LeaderId<u64>>(7, None),
+                "Snapshot(id=7):None",
+            )?
+            && debugs(alloc, &snapshot::<LeaderId<u64>>(2, None), debug)?,
+    )
+}
+
+/// Whether refusals display as they should.
+fn refusals_display(alloc: Global) -> Result<bool, AllocError> {
+    let texts = [
+        (InflightError::AckOutOfRange, "ack out of range"),
+        (InflightError::SnapshotAckRegress, "snapshot ack regresses"),
+        (InflightError::MatchingRegress, "matching regresses"),
+        (InflightError::ConflictNotAtPrev, "conflict is not at prev"),
+        (InflightError::ConflictOnSnapshot, "conflict on a snapshot"),
+        (
+            InflightError::ConflictBelowMatching,
+            "conflict below matching",
+        ),
+        (InflightError::IndexTooLarge, "index too large"),
+        (
+            InflightError::InvalidRequestId {
+                mine: Some(1),
+                received: 9,
+            },
+            "got invalid request id, mine=Some(1), received=9",
+        ),
+        (
+            InflightError::InvalidRequestId {
+                mine: None,
+                received: 0,
+            },
+            "got invalid request id, mine=None, received=0",
+        ),
+    ];
+    for (refusal, text) in &texts {
+        if !displays(alloc, refusal, text)? {
+            return Ok(false);
+        }
+    }
+    Ok(true)
+}
+
+#[test]
+fn texts(rt: HostRuntime) -> Result<(), Fail> {
+    assert!(rt; display(rt.alloc())?);
+    assert!(rt; refusals_display(rt.alloc())?);
+    Ok(())
+}

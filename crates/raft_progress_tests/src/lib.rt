@@ -1,0 +1,23 @@
+//! The tests of `raft_progress`, through its public calls alone. It ships nothing.
+#![tactic(auto)]
+
+#[cfg(test)]
+mod callers;
+#[cfg(test)]
+mod calls;
+#[cfg(test)]
+mod counting;
+#[cfg(test)]
+mod entry;
+#[cfg(test)]
+mod events;
+#[cfg(test)]
+mod inflight;
+#[cfg(test)]
+mod search;
+#[cfg(test)]
+mod steps;
+#[cfg(test)]
+mod texts;
+#[cfg(test)]
+mod tracked;

@@ -1,0 +1,141 @@
+//! Searches over whole lists of events, and when a follower can be caught up.
+
+use super::entry::at;
+use super::inflight::{logs, snapshot};
+use raft_base::LeaderId;
+use raft_base::leader_id_std::CommittedLeaderId;
+use raft_base_tests::plain_log::{Numbered, PlainLog, id, log_below};
+use raft_progress::catch_up::can_catch_up_entry;
+use raft_progress::entry::ProgressEntryOf;
+use raft_progress::inflight::InflightOf;
+use raft_progress::search::{SearchEvent, search_run};
+use std::alloc::{AllocError, Global};
+use std::test::Fail;
+
+type Events<'a, 'e, C> = &'e [SearchEvent<'a, PlainLog<C>>];
+
+/// Whether a search accepts so many conflicts and leaves the entry as wanted.
+fn accepts<C: Numbered>(
+    from: ProgressEntryOf<C>,
+    events: Events<'_, '_, C>,
+    want: u64,
+    to: ProgressEntryOf<C>,
+) -> bool {
+    let mut entry = from;
+    search_run(&mut entry, events) == want && entry == to
+}
+
+/// A send of at most so many logs.
+fn send<C>(log: &PlainLog<C>, max_entries: u64) -> SearchEvent<'_, PlainLog<C>> {
+    SearchEvent::Send { log, max_entries }
+}
+
+/// A conflict under a request.
+fn conflict<'a, C>(request_id: u64, conflict: u64) -> SearchEvent<'a, PlainLog<C>> {
+    SearchEvent::Conflict {
+        request_id,
+        conflict,
+    }
+}
+
+/// Whether searches over a log from 0 to 99 halve the stretch, with a heartbeat in between and
+/// without.
+fn halves<C: Numbered>(log: &PlainLog<C>) -> bool {
+    let probes = [
+        send(log, 10),
+        conflict(1, 47),
+        send(log, 10),
+        conflict(2, 15),
+        send(log, 10),
+        conflict(3, 0),
+    ];
+    let shortened = [
+        send(log, 10),
+        SearchEvent::Heartbeat { conflict: 30 },
+        conflict(1, 47),
+        send(log, 10),
+        conflict(2, 7),
+        send(log, 10),
+        conflict(3, 0),
+    ];
+    let first = logs(3, None, id::<C>(1, 9));
+    accepts(
+        ProgressEntryOf::empty(100),
+        &probes,
+        2,
+        at(None, 15, 3, first),
+    ) && accepts(
+        ProgressEntryOf::empty(100),
+        &shortened,
+        2,
+        at(None, 7, 3, first),
+    ) && accepts::<C>(
+        ProgressEntryOf::empty(100),
+        &[],
+        0,
+        ProgressEntryOf::empty(100),
+    )
+}
+
+/// Whether searches at a purge point end with a snapshot, also where a send is skipped since its
+/// purge point has gone back.
+fn ends_with_a_snapshot<C: Numbered>(purged: &PlainLog<C>, whole: &PlainLog<C>) -> bool {
+    let probe = [
+        send(purged, u64::MAX),
+        conflict(1, 4),
+        send(purged, u64::MAX),
+    ];
+    let gone_back = [
+        send(purged, 3),
+        conflict(1, 4),
+        send(whole, 3),
+        conflict(1, 4),
+        send(purged, 3),
+        conflict(2, 4),
+    ];
+    let end = at(None, 4, 2, snapshot(2, id(1, 6)));
+    accepts(ProgressEntryOf::empty(10), &probe, 1, end)
+        && accepts(ProgressEntryOf::empty(10), &gone_back, 1, end)
+}
+
+/// Whether followers can be caught up from where they can, over a log from 0 to 99, and over one
+/// from 0 to 20 that is to be purged up to index 4.
+fn can_be_caught_up<C: Numbered>(log: &PlainLog<C>, purged: &PlainLog<C>) -> bool {
+    let entry = ProgressEntryOf::empty(100);
+    let done = at(id(1, 99), 100, u64::MAX - 165, InflightOf::None);
+    let late = at(id(1, 99), 100, u64::MAX - 164, InflightOf::None);
+    let sending = at(None, 100, 1, logs(1, id(1, 47), id(1, 57)));
+    let other = at(id(2, 30), 100, 1, InflightOf::None);
+    can_catch_up_entry(log, &entry, 0, 10)
+        && can_catch_up_entry(log, &entry, 100, u64::MAX)
+        && can_catch_up_entry(log, &done, 100, 1)
+        && !can_catch_up_entry(log, &late, 100, 1)
+        && !can_catch_up_entry(log, &entry, 101, 10)
+        && !can_catch_up_entry(log, &entry, 70, 0)
+        && !can_catch_up_entry(log, &sending, 70, 10)
+        && !can_catch_up_entry(log, &other, 70, 10)
+        && !can_catch_up_entry(log, &ProgressEntryOf::empty(101), 70, 10)
+        && can_catch_up_entry(purged, &ProgressEntryOf::empty(10), 5, 10)
+        && !can_catch_up_entry(purged, &ProgressEntryOf::empty(10), 4, 10)
+}
+
+/// Whether all worked searches over a kind of leaders are as they should be.
+fn is_as_worked<C: Numbered>(alloc: Global) -> Result<bool, AllocError> {
+    let hundred = log_below::<C>(alloc, 100, None)?;
+    let whole = log_below::<C>(alloc, 21, None)?;
+    let mut purged = log_below::<C>(alloc, 21, None)?;
+    purged.purge_upto = id(1, 4);
+    purged.snapshot = id(1, 6);
+    Ok(
+        halves(&hundred)
+            && ends_with_a_snapshot(&purged, &whole)
+            && can_be_caught_up(&hundred, &purged),
+    )
+}
+
+#[test]
+fn searches_are_as_worked(rt: HostRuntime) -> Result<(), Fail> {
+    assert!(rt; is_as_worked::<LeaderId<u64>>(rt.alloc())?);
+    assert!(rt; is_as_worked::<CommittedLeaderId>(rt.alloc())?);
+    Ok(())
+}

@@ -1,0 +1,142 @@
+//! Callers, whose contracts show how much those of `raft_state` tell them.
+ghost use Rattle.std.specs.Prelude.{◌≡◌, false, None, IfOk, OnErr, IsTrue};
+ghost use Rattle.raft_base.specs.LogId.{id_le, id_lt};
+ghost use Rattle.raft_progress.specs.inflight.Inflight.{is_idle};
+ghost use Rattle.raft_progress.specs.progress.VecProgress.{shown};
+ghost use Rattle.raft_state.specs.Commit.{state_after_commit};
+ghost use Rattle.raft_state.specs.FullLog.{full_log};
+ghost use Rattle.raft_state.specs.LogReads.{last_id};
+ghost use Rattle.raft_state.specs.Sending.{FromLog};
+ghost use Rattle.raft_state.specs.StateView.{view_of};
+ghost use Rattle.raft_state.specs.Valid.{broken_relation};
+
+use super::followers::{Followers, caught_up, followers};
+use super::rows::id;
+use super::whole::{State, valid_state};
+use raft_base::order::log_id_at_most;
+use raft_base::{
+    Instant, LeaderAdv, LeaderIdentity, LeaderKind, LeaderStd, LogIdOf, LogIdRangeOf,
+    LogStateReader, Node, NodeId, Validate,
+};
+use raft_members::quorum::QuorumSet;
+use raft_progress::{InflightOf, ProgressEntryOf};
+use raft_state::laws::sends_from_log;
+use raft_state::{FollowersOf, RaftStateIn};
+use std::alloc::{AllocError, Global};
+use std::process::Abort;
+use std::test::Fail;
+
+/// A leader with a valid state commits what a quorum of its followers has, if that is in its log
+/// and more than is committed.
+fn commit_granted<
+    NID: NodeId,
+    N: Node,
+    I: Instant,
+    C: Ord + Copy + Default + Drop + 'static,
+    L: LeaderIdentity<Id = NID, Committed = C> + Drop,
+    QS: QuorumSet<NID> + Drop,
+>(
+    state: &mut RaftStateIn<NID, N, I, L, C>,
+    followers: &FollowersOf<C, NID, QS>,
+) -> Result<bool, AllocError>
+    ensures valid { IfOk result (λ more. IsTrue more → broken_relation C.cmp state.old ≡ None) }
+    ensures in_log { IfOk result (λ more. IsTrue more → IsTrue (id_le C.cmp
+        (shown followers.now).granted (last_id (full_log state.new.log_ids)))) }
+    ensures committed { IfOk result (λ more. IsTrue more →
+        state.new ≡ state_after_commit C.cmp (shown followers.now).granted state.old) }
+    ensures greater { IfOk result (λ more. IsTrue more →
+        IsTrue (id_lt C.cmp state.old.committed state.new.committed)) }
+    ensures kept { IfOk result (λ more. more ≡ false → state.new ≡ state.old) }
+    ensures err { OnErr result (state.new ≡ state.old) }
+{
+    let granted = *followers.granted();
+    if state.validate().is_err()
+        || !log_id_at_most(granted, state.last_log_id().copied())
+        || !state.can_commit(&granted)
+    {
+        return Ok(false);
+    }
+    let before = state.update_committed(&granted)?;
+    Ok(before.is_some())
+}
+
+/// A leader with a valid state, whose purge point is in its log, sends to a follower to which
+/// nothing is in flight. What is sent is from the full log.
+fn send<
+    NID: NodeId,
+    N: Node,
+    I: Instant,
+    C: Ord + Copy + Default + Drop + 'static,
+    L: LeaderIdentity<Id = NID, Committed = C> + Drop,
+>(state: &RaftStateIn<NID, N, I, L, C>, follower: &mut ProgressEntryOf<C>, max_entries: u64) -> bool
+    ensures { IsTrue result →
+        FromLog (view_of state.now) max_entries follower.old follower.new.inflight }
+{
+    sends_from_log::<C>();
+    if state.validate().is_err() {
+        return false;
+    }
+    if !state.purge_upto_is_logged() {
+        return false;
+    }
+    if !follower.inflight.is_none() {
+        return false;
+    }
+    if !follower.can_send(state) {
+        return false;
+    }
+    follower.next_send(state, max_entries).is_ok()
+}
+
+/// Whether a send, the conflict that answers it and the next send lead where they should.
+fn sends_right<K: LeaderKind<u64>>(state: &State<K>) -> bool {
+    let mut follower = ProgressEntryOf::empty(5);
+    let is_sent = send(state, &mut follower, 10);
+    let log_id_range = LogIdRangeOf::new(id::<K>(Some((1, 1))), id::<K>(Some((3, 4))));
+    let are_logs = follower.inflight
+        == InflightOf::Logs {
+            id: 1,
+            log_id_range,
+        };
+    let is_taken = follower.update_conflicting(Some(1), 1).is_ok() && follower.searching_end == 1;
+    let is_sent_again = send(state, &mut follower, 10);
+    let last_log_id = None;
+    let is_snapshot = follower.inflight == InflightOf::Snapshot { id: 2, last_log_id };
+    is_sent && are_logs && is_taken && is_sent_again && is_snapshot
+}
+
+/// Whether a leader commits once what two followers of three match, that it has caught up.
+fn commits_once<K: LeaderKind<u64>>(
+    state: &mut State<K>,
+    followers: &mut Followers<K>,
+) -> Result<bool, AllocError> {
+    let caught_up = caught_up::<K>(state, followers, &[(1, 3), (2, 3)]);
+    let first = commit_granted(state, followers)?;
+    let second = commit_granted(state, followers)?;
+    Ok(caught_up == Some(2) && first && !second && state.committed == id::<K>(Some((3, 4))))
+}
+
+/// Whether a leader sends as it should, and commits what two followers match up to.
+fn sends_and_commits<K: LeaderKind<u64>>(
+    rt: &impl Abort,
+    alloc: Global,
+    state: &mut State<K>,
+) -> Result<bool, AllocError> {
+    if !sends_right::<K>(state) {
+        return Ok(false);
+    }
+    commits_once::<K>(state, &mut followers::<K>(rt, alloc, &[], 5)?)
+}
+
+/// The same, of a valid state.
+fn leads_right<K: LeaderKind<u64>>(rt: &impl Abort, alloc: Global) -> Result<bool, AllocError> {
+    sends_and_commits::<K>(rt, alloc, &mut valid_state::<K>(alloc)?)
+}
+
+#[test]
+fn a_leader_sends_and_commits(rt: HostRuntime) -> Result<(), Fail> {
+    let alloc = rt.alloc();
+    assert!(rt; leads_right::<LeaderAdv>(&rt, alloc)?);
+    assert!(rt; leads_right::<LeaderStd>(&rt, alloc)?);
+    Ok(())
+}

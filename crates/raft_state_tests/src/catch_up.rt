@@ -1,0 +1,92 @@
+//! Followers that are caught up with a leader's state.
+
+use super::followers::{Followers, caught_up, followers};
+use super::rows::{Row, id, ids as ids_of};
+use super::whole::{State, valid_state};
+use raft_base::{LeaderAdv, LeaderKind, LeaderStd, LogStateReader};
+use raft_progress::ProgressEntryOf;
+use raft_state::{LogIdListOf, is_key_list};
+use std::alloc::{AllocError, Global};
+use std::process::Abort;
+use std::test::Fail;
+
+/// A valid state with a log of leader 1 from 0 to 99, of which nothing was purged.
+fn hundred<K: LeaderKind<u64>>(alloc: Global) -> Result<State<K>, AllocError> {
+    let mut state = State::<K>::try_default(alloc)?;
+    let keys = ids_of::<K>(alloc, &[(1, 0), (1, 99)])?;
+    if is_key_list(&keys) {
+        state.log_ids = LogIdListOf::new(keys);
+    }
+    Ok(state)
+}
+
+/// Whether a follower of which only the length of the log is known is caught up by so many
+/// conflicts and acks, or cannot be.
+fn catches_up<K: LeaderKind<u64>>(
+    state: &State<K>,
+    length: u64,
+    agree: u64,
+    want: Option<(u64, u64)>,
+) -> bool {
+    let mut follower = ProgressEntryOf::empty(length);
+    if !state.can_catch_up(&follower, agree, 10) {
+        return want == None;
+    }
+    let counts = state.catch_up(&mut follower, agree, 10);
+    want == Some(counts)
+        && follower.matching == state.last_log_id().copied()
+        && follower.searching_end == length
+        && follower.inflight.is_none()
+}
+
+/// Whether a round catches up so many followers, after which this is granted.
+fn rounds<K: LeaderKind<u64>>(
+    state: &State<K>,
+    progress: &mut Followers<K>,
+    followers: &[(u64, u64)],
+    want: u64,
+    granted: Row,
+) -> bool {
+    caught_up::<K>(state, progress, followers) == Some(want)
+        && *progress.granted() == id::<K>(granted)
+}
+
+/// Whether a follower alone is caught up as it should be, over a log of a hundred and over a purged
+/// one.
+fn catches_up_right<K: LeaderKind<u64>>(state: &State<K>, purged: &State<K>) -> bool {
+    catches_up::<K>(state, 100, 70, Some((1, 6)))
+        && catches_up::<K>(state, 100, 0, Some((2, 10)))
+        && catches_up::<K>(state, 100, 101, None)
+        && catches_up::<K>(purged, 5, 3, Some((0, 1)))
+        && catches_up::<K>(purged, 5, 1, None)
+}
+
+/// Whether rounds over the voters 1, 2 and 3 and the learner 4 lead where they should.
+fn rounds_right<K: LeaderKind<u64>>(state: &State<K>, progress: &mut Followers<K>) -> bool {
+    rounds::<K>(state, progress, &[(1, 70), (4, 0), (9, 3)], 2, None)
+        && rounds::<K>(
+            state,
+            progress,
+            &[(2, 101), (2, 0), (1, 100)],
+            2,
+            Some((1, 99)),
+        )
+        && progress.try_get(&3) == Some(&ProgressEntryOf::empty(100))
+}
+
+/// Whether followers are caught up as they should be, one alone and in rounds.
+fn is_as_worked<K: LeaderKind<u64>>(rt: &impl Abort, alloc: Global) -> Result<bool, AllocError> {
+    let mut progress = followers::<K>(rt, alloc, &[4], 100)?;
+    let state = hundred::<K>(alloc)?;
+    Ok(
+        rounds_right::<K>(&state, &mut progress)
+            && catches_up_right::<K>(&state, &valid_state::<K>(alloc)?),
+    )
+}
+
+#[test]
+fn followers_are_caught_up(rt: HostRuntime) -> Result<(), Fail> {
+    assert!(rt; is_as_worked::<LeaderAdv>(&rt, rt.alloc())?);
+    assert!(rt; is_as_worked::<LeaderStd>(&rt, rt.alloc())?);
+    Ok(())
+}

@@ -1,0 +1,80 @@
+//! Calls of log entries.
+
+use raft_base::{CommittedLeaderId, LogId, LogIdOf, RaftLogIdOf, leader_id_std};
+use raft_members::Membership;
+use raft_members_tests::words::members;
+use raft_state::{
+    Entry, EntryOf, EntryPayload, FromAppData, RaftEntry, RaftEntryOf, RaftPayloadOf,
+};
+use std::alloc::{AllocError, Global};
+use std::test::Fail;
+
+type Members = Membership<u64, u64>;
+
+type Data = Entry<u64, u64, u64>;
+
+/// Whether a blank entry and one with a membership are what they are made as, over any entry type.
+fn are_as_made<C: Copy + Eq, E: RaftEntryOf<C, Members> + Drop>(
+    log_id: LogIdOf<C>,
+    membership: Members,
+) -> bool {
+    let blank = E::new_blank(log_id);
+    let stores = E::new_membership(log_id, membership);
+    blank.is_blank()
+        && blank.get_membership().is_none()
+        && *blank.get_log_id() == log_id
+        && !stores.is_blank()
+        && stores.get_membership().is_some()
+        && *stores.get_log_id() == log_id
+}
+
+/// The same, over an entry type with the default leader ids.
+fn are_made<E: RaftEntry<u64, u64> + Drop>(log_id: LogId<u64>, membership: Members) -> bool {
+    are_as_made::<CommittedLeaderId<u64>, E>(log_id, membership)
+}
+
+/// Whether an entry of a program's data has the default log id, and then the one that it is given.
+fn takes_log_id(data: &mut Data, log_id: LogId<u64>) -> bool {
+    let is_new = *data.get_log_id() == LogId::default();
+    data.set_log_id(&log_id);
+    is_new
+        && !data.is_blank()
+        && data.get_membership().is_none()
+        && data.payload == EntryPayload::Normal(7)
+        && *data.as_ref().get_log_id() == log_id
+}
+
+/// Whether the default entry is blank, and it, one of data and one of a membership equal their clones
+/// alone.
+fn are_cloned(data: &Data, stores: &Data, blank: &Data) -> Result<bool, AllocError> {
+    Ok(
+        *stores != *data
+            && *blank != *data
+            && *blank == Data::new_blank(LogId::default())
+            && data.try_clone()? == *data
+            && stores.try_clone()? == *stores
+            && blank.clone()? == *blank,
+    )
+}
+
+/// Whether entries of a program's data, and the default entry, are as they should be.
+fn data_is_kept(alloc: Global, log_id: LogId<u64>) -> Result<bool, AllocError> {
+    let mut data = Data::from_app_data(7);
+    if !takes_log_id(&mut data, log_id) {
+        return Ok(false);
+    }
+    let payload = EntryPayload::Membership(members(alloc, "1,2", "1=4,3=6")?);
+    are_cloned(&data, &Data { log_id, payload }, &Data::default())
+}
+
+#[test]
+fn entries_are_as_made(rt: HostRuntime) -> Result<(), Fail> {
+    let log_id = LogId::new(CommittedLeaderId::new(1, 2u64), 3);
+    let membership = members(rt.alloc(), "1,2", "1=4,3=6")?;
+    assert!(rt; are_made::<Data>(log_id, membership));
+    let standard = LogIdOf::new(leader_id_std::CommittedLeaderId { term: 1 }, 3);
+    let membership = members(rt.alloc(), "none", "-")?;
+    assert!(rt; are_as_made::<_, EntryOf<_, u64, u64, u64>>(standard, membership));
+    assert!(rt; data_is_kept(rt.alloc(), log_id)?);
+    Ok(())
+}

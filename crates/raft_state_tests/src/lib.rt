@@ -1,0 +1,25 @@
+//! The tests of `raft_state`, through its public calls alone. It ships nothing.
+#![tactic(auto)]
+
+#[cfg(test)]
+mod callers;
+#[cfg(test)]
+mod catch_up;
+#[cfg(test)]
+mod compared;
+#[cfg(test)]
+mod entries;
+#[cfg(test)]
+mod followers;
+#[cfg(test)]
+mod log_id_list;
+#[cfg(test)]
+mod memberships;
+#[cfg(test)]
+mod rows;
+#[cfg(test)]
+mod texts;
+#[cfg(test)]
+mod whole;
+#[cfg(test)]
+mod words;

@@ -1,0 +1,141 @@
+//! The list of log ids, and a caller whose contract shows how much those of `raft_state` tell it.
+ghost use Rattle.std.specs.Prelude.{◌≡◌, IfOk, OnErr, IsTrue, false};
+ghost use Rattle.raft_state.specs.FullLog.{full_log, same_log};
+ghost use Rattle.raft_state.specs.LogEdits.{appended, front};
+
+use super::words::{call_is_right, log_ids};
+use raft_base::leader_id_std::LeaderId as StdLeaderId;
+use raft_base::{LeaderId, LogIdOf};
+use raft_base_tests::printing::debugs;
+use raft_state::log_id_list::laws::{have_equal_keys, truncate_twice};
+use raft_state::{LogIdList, LogIdListOf, is_key_list};
+use std::alloc::{AllocError, Global};
+use std::test::Fail;
+
+/// A follower takes a leader's log id in place of its own from that index on, if it may come there.
+fn replace_from<C: Ord + Copy>(
+    list: &mut LogIdListOf<C>,
+    id: LogIdOf<C>,
+) -> Result<bool, AllocError>
+    ensures replaced { IfOk result (λ taken. IsTrue taken → IsTrue (same_log C.eq (full_log list.new)
+        (appended (front (full_log list.old) id.index) id))) }
+    ensures refused { IfOk result (λ taken. taken ≡ false →
+        full_log list.new ≡ front (full_log list.old) id.index) }
+    ensures err { OnErr result (full_log list.new ≡ front (full_log list.old) id.index) }
+{
+    list.truncate(id.index);
+    if !list.can_append(id) {
+        return Ok(false);
+    }
+    list.append(id)?;
+    Ok(true)
+}
+
+/// The call, the keys, its argument, the answer.
+const ROWS: &str = "
+truncate 1.1,2.3,2.9 3 1.1,1.2
+truncate 1.1,2.3,2.9 4 1.1,2.3
+truncate 1.1,2.3,2.9 9 1.1,2.3,2.8
+truncate 1.1,2.3,2.9 1 -
+truncate 1.1,2.3,2.9 0 -
+truncate 1.1,2.3,2.9 10 1.1,2.3,2.9
+truncate - 18446744073709551615 -
+purge 1.1,2.3,2.9 2.5 2.5,2.9
+purge 1.1,2.3,2.9 9.2 1.2,2.3,2.9
+purge 1.1,2.3,2.9 2.9 2.9
+purge 1.1,2.3,2.9 3.12 3.12
+purge 1.1,2.3,2.9 1.0 1.1,2.3,2.9
+purge - 4.18446744073709551615 4.18446744073709551615
+can_purge 1.1,2.3,2.9 1.12 false
+can_purge 1.1,2.3,2.9 2.12 true
+can_purge 1.1,2.3,2.9 0.9 true
+append 2.3,2.9 5.12 2.3,5.12
+append - 0.18446744073709551615 0.18446744073709551615
+append 2.3,2.9 2.18446744073709551615 2.3,2.18446744073709551615
+can_append 1.1,2.3,2.9 3.9 false
+can_append 1.1,2.3,2.9 1.10 false
+can_append 1.1,2.3,2.9 2.10 true
+extend - 1.0,1.1,2.2,2.3 1.0,2.2,2.3
+extend 1.1,2.3,2.9 - 1.1,2.3,2.9
+extend 1.1,2.3,2.9 2.10,4.11,4.12,7.20 1.1,2.3,4.11,7.20
+can_extend 1.1,2.3,2.9 2.10,1.11 false
+can_extend 1.1,2.3,2.9 2.9,2.10 false
+extend_same 1.1,2.3,2.9 2.10,2.12 1.1,2.3,2.12
+extend_same 1.1,2.3,2.9 3.11,3.14 1.1,2.3,3.11,3.14
+extend_same 1.1,2.3,2.9 3.11 1.1,2.3,3.11
+extend_same 1.1,2.3,2.9 - 1.1,2.3,2.9
+extend_same - 3.11,3.12,3.14 3.11,3.14
+can_extend_same 1.1,2.3,2.9 2.10,3.11 false
+can_extend_same 1.1,2.3,2.9 3.10,3.10 false
+get 1.1,2.3,3.11,3.14 10 2.10
+get 2.3,5.12 11 2.11
+get 2.3,5.12 2 -
+get 2.3,5.12 13 -
+get - 18446744073709551615 -
+first 1.1,2.3,2.9 - 1.1
+first - - -
+last 1.1,2.3,2.9 - 2.9
+last - - -
+by_last_leader 1.0,2.2,2.3 - 2.2,2.3
+by_last_leader 1.0,2.2 - 2.2
+by_last_leader 1.0 - 1.0
+is_key_list 1.1,1.2,2.3 - false
+is_key_list 1.1,2.1 - false
+is_key_list 2.1,1.2 - false
+is_key_list 1.1,3.2,2.3 - false
+";
+
+#[test]
+fn calls_are_right(rt: HostRuntime) -> Result<(), Fail> {
+    for line in ROWS.trim().lines() {
+        assert!(rt; call_is_right::<LeaderId<u64>>(rt.alloc(), line)?);
+        assert!(rt; call_is_right::<StdLeaderId<u64>>(rt.alloc(), line)?);
+    }
+    Ok(())
+}
+
+/// The list with these keys, or the empty one where they are no keys.
+fn list_of(alloc: Global, word: &str) -> Result<LogIdList<u64>, AllocError> {
+    let keys = log_ids::<LeaderId<u64>>(alloc, word)?;
+    if is_key_list(&keys) {
+        Ok(LogIdList::new(keys))
+    } else {
+        LogIdList::try_default(alloc)
+    }
+}
+
+/// Whether lists with equal logs are equal, and no others, and whether a caller is answered.
+fn lists_compare(alloc: Global) -> Result<bool, AllocError> {
+    let list = list_of(alloc, "1.1,2.3,2.9")?;
+    let mut cut = list.try_clone()?;
+    truncate_twice(&mut cut, 9);
+    let shorter = list_of(alloc, "1.1,2.3,2.8")?;
+    let mut taken = list.clone()?;
+    let id = LogIdOf::new(LeaderId::new(3, 0), 6);
+    let is_taken = replace_from(&mut taken, id)?;
+    Ok(
+        list == list.clone()?
+            && list != cut
+            && cut == shorter
+            && have_equal_keys(&cut, &shorter)
+            && !have_equal_keys(&list, &cut)
+            && list != list_of(alloc, "1.1,3.3,3.9")?
+            && is_taken
+            && taken == list_of(alloc, "1.1,2.3,3.6")?
+            && LogIdList::try_default(alloc)? == list_of(alloc, "-")?,
+    )
+}
+
+#[test]
+fn lists_are_their_logs(rt: HostRuntime) -> Result<(), Fail> {
+    assert!(rt; lists_compare(rt.alloc())?);
+    let list = list_of(rt.alloc(), "1.2.3")?;
+    assert!(rt;
+        debugs(
+            rt.alloc(),
+            &list,
+            "LogIdList { key_log_ids: [LogId { leader_id: LeaderId { term: 1, node_id: 2 }, index: 3 }] }",
+        )?
+    );
+    Ok(())
+}

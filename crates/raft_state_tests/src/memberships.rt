@@ -1,0 +1,161 @@
+//! The memberships of a node, and a change of the one in effect.
+
+use super::rows::{Effective, Row, effective, id};
+use raft_base::order::index_below;
+use raft_base::{Invalid, LeaderAdv, LeaderKind, LeaderStd, LogIdOptionExt, Validate};
+use raft_members::{ChangeMembers, ChangeMembershipErrorOf, InProgressOf};
+use raft_members_tests::words::ids;
+use raft_state::MembershipStateOf;
+use std::alloc::{AllocError, Global};
+use std::rc::Rc;
+use std::test::Fail;
+
+type State<K> = MembershipStateOf<<K as LeaderKind<u64>>::Committed, u64, u64>;
+
+/// The committed membership at leader 1, index 1, and the one in effect at leader 2, index 10.
+fn state<K: LeaderKind<u64>>(alloc: Global) -> Result<State<K>, AllocError> {
+    let committed = effective::<K>(alloc, Some((1, 1)), &[1, 2])?;
+    Ok(MembershipStateOf::new(committed, effective::<K>(alloc, Some((2, 10)), &[2, 3])?))
+}
+
+/// Whether the two memberships are those at these log ids.
+fn are_at<K: LeaderKind<u64>>(state: &State<K>, committed: Row, effective: Row) -> bool {
+    *state.committed().log_id() == id::<K>(committed)
+        && *state.effective().log_id() == id::<K>(effective)
+}
+
+/// Whether an answer is the membership at a log id, or nothing.
+fn answers<K: LeaderKind<u64>>(answer: Option<&Rc<Effective<K>>>, want: Row) -> bool {
+    match answer {
+        Some(effective) => want.is_some() && *effective.log_id() == id::<K>(want),
+        None => want.is_none(),
+    }
+}
+
+/// Whether a snapshot up to an index, with a membership at leader 10, index 5, leads where it
+/// should.
+fn snapshot_leads<K: LeaderKind<u64>>(
+    from: &State<K>,
+    voters: &[u64],
+    upto: u64,
+    answer: Row,
+    leads: (Row, Row),
+    valid: Result<(), Invalid>,
+) -> Result<bool, AllocError> {
+    let mut state = from.try_clone()?;
+    let alloc = *state.effective().get_joint_config().allocator();
+    let new = effective::<K>(alloc, Some((10, 5)), voters)?;
+    let answered = answers::<K>(state.update_committed(new, upto)?, answer);
+    Ok(answered && are_at::<K>(&state, leads.0, leads.1) && state.validate() == valid)
+}
+
+/// Whether a log that is cut off from an index on leads where it should.
+fn cut_leads<K: LeaderKind<u64>>(
+    from: &State<K>,
+    since: u64,
+    answer: Row,
+    effective: Row,
+) -> Result<bool, AllocError> {
+    let mut state = from.try_clone()?;
+    if !index_below(state.committed().log_id().index(), Some(since)) {
+        return Ok(false);
+    }
+    let answered = answers::<K>(state.truncate(since)?, answer);
+    Ok(answered && are_at::<K>(&state, Some((1, 1)), effective))
+}
+
+/// Whether a committed log id leads where it should, or may not be given.
+fn commit_leads<K: LeaderKind<u64>>(
+    from: &State<K>,
+    upto: Row,
+    committed: Option<Row>,
+) -> Result<bool, AllocError> {
+    let mut state = from.clone()?;
+    let upto = id::<K>(upto);
+    if !state.can_commit(&upto) {
+        return Ok(committed.is_none());
+    }
+    state.commit(&upto)?;
+    Ok(match committed {
+        Some(committed) => are_at::<K>(&state, committed, Some((2, 10))),
+        None => false,
+    })
+}
+
+/// Whether a membership may be appended as wanted, and is then in effect.
+fn append_leads<K: LeaderKind<u64>>(
+    from: &State<K>,
+    new: Row,
+    want: bool,
+) -> Result<bool, AllocError> {
+    let mut state = from.try_clone()?;
+    let alloc = *state.effective().get_joint_config().allocator();
+    let membership = effective::<K>(alloc, new, &[3])?;
+    if !state.can_append(&membership) {
+        return Ok(!want);
+    }
+    state.append(membership);
+    Ok(want && are_at::<K>(&state, Some((2, 10)), new))
+}
+
+/// Whether each move leads where it should.
+fn move_right<K: LeaderKind<u64>>(alloc: Global, from: &State<K>) -> Result<bool, AllocError> {
+    let first = Some((1, 1));
+    let second = Some((2, 10));
+    let new = Some((10, 5));
+    let over = Err(Invalid::MembershipLogId);
+    Ok(
+        snapshot_leads::<K>(from, &[3], 4, None, (new, second), over)?
+            && snapshot_leads::<K>(from, &[3], 10, new, (new, new), Ok(()))?
+            // Equal memberships under another log id are no news.
+            && snapshot_leads::<K>(from, &[2, 3], 10, None, (new, new), Ok(()))?
+            && cut_leads::<K>(from, 10, first, first)?
+            && cut_leads::<K>(from, 2, first, first)?
+            && cut_leads::<K>(from, 11, None, second)?
+            && commit_leads::<K>(from, second, Some(second))?
+            && commit_leads::<K>(from, Some((2, 9)), Some(first))?
+            && commit_leads::<K>(from, Some((3, 9)), None)?
+            && append_leads::<K>(from, Some((2, 11)), true)?
+            && append_leads::<K>(from, Some((3, 10)), false)?
+            && append_leads::<K>(from, Some((1, 11)), false)?
+            && *from == state::<K>(alloc)?
+            && from.validate() == Ok(()),
+    )
+}
+
+/// Whether a change is refused while the membership in effect is not committed, and made
+/// afterwards.
+fn apply_right<K: LeaderKind<u64>>(alloc: Global, mut state: State<K>) -> Result<bool, AllocError> {
+    let change = ChangeMembers::AddVoterIds(ids(alloc, "1")?);
+    let early = state.change_handler().apply(change.try_clone(alloc)?, true);
+    let want = InProgressOf {
+        committed: id::<K>(Some((1, 1))),
+        membership_log_id: id::<K>(Some((2, 10))),
+    };
+    let is_refused = early == Err(ChangeMembershipErrorOf::InProgress(want));
+    let upto = id::<K>(Some((2, 10)));
+    if state.can_commit(&upto) {
+        state.commit(&upto)?;
+    }
+    let none = ChangeMembers::RemoveVoters(ids(alloc, "2,3")?);
+    let is_empty = matches!(
+        state.change_handler().apply(none, true),
+        Err(ChangeMembershipErrorOf::EmptyMembership(_))
+    );
+    let made = state.change_handler().apply(change, true);
+    Ok(is_refused && is_empty && made.is_ok_and(|made| made.is_voter(&1) && made.is_voter(&3)))
+}
+
+/// Whether the memberships of a node move, and the one in effect is changed, as they should.
+fn memberships_right<K: LeaderKind<u64>>(alloc: Global) -> Result<bool, AllocError> {
+    let from = state::<K>(alloc)?;
+    Ok(move_right::<K>(alloc, &from)? && apply_right::<K>(alloc, from)?)
+}
+
+#[test]
+fn memberships_move(rt: HostRuntime) -> Result<(), Fail> {
+    let alloc = rt.alloc();
+    assert!(rt; memberships_right::<LeaderAdv>(alloc)?);
+    assert!(rt; memberships_right::<LeaderStd>(alloc)?);
+    Ok(())
+}

@@ -1,0 +1,70 @@
+//! What log entries, the memberships of a node and its written log print.
+
+use raft_base::{CommittedLeaderId, LogId, leader_id_std};
+use raft_base_tests::printing::{debugs, displays, sums_up};
+use raft_members::EffectiveMembership;
+use raft_members_tests::words::members;
+use raft_state::{Entry, EntryPayload, LogIOId, LogIOIdOf, MembershipState};
+use std::alloc::{AllocError, Global};
+use std::test::Fail;
+
+/// Whether an entry with a payload prints itself with the payload's summary, and its debug form has the
+/// payload's.
+fn entry_prints(
+    alloc: Global,
+    payload: EntryPayload<u64, u64, u64>,
+    texts: (&str, &str),
+) -> Result<bool, AllocError> {
+    let has_summary = sums_up(alloc, &payload, texts.0)? && debugs(alloc, &payload, texts.1)?;
+    let log_id = LogId::new(CommittedLeaderId::new(1, 2u64), 3);
+    let entry: Entry<u64, u64, u64> = Entry { log_id, payload };
+    let text = format!(in alloc; "T1-N2-3:{}", texts.0)?;
+    let debug = format!(in alloc; "Entry {{ log_id: {log_id:?}, payload: {} }}", texts.1)?;
+    Ok(
+        has_summary
+            && displays(alloc, &entry, text.as_str())?
+            && sums_up(alloc, &entry, text.as_str())?
+            && debugs(alloc, &entry, debug.as_str())?,
+    )
+}
+
+/// Whether the memberships of a node sum up each with its log id, where there is one.
+fn memberships_sum_up(alloc: Global) -> Result<bool, AllocError> {
+    let new: MembershipState<u64, u64> = MembershipState::try_default(alloc)?;
+    let log_id = LogId::new(CommittedLeaderId::new(1, 2u64), 3);
+    let membership = members(alloc, "1,2", "1=4,2=5,3=6")?;
+    let effective = EffectiveMembership::new_arc(Some(log_id), membership)?;
+    let state = MembershipState::new(new.committed().clone()?, effective);
+    let empty = "{log_id:None membership:{voters:[], learners:[]}}";
+    let none = format!(in alloc; "MembershipState{{committed: {empty}, effective: {empty}}}")?;
+    let id = "Some(LogId { leader_id: LeaderId { term: 1, node_id: 2 }, index: 3 })";
+    let voters = "{voters:[{1:4,2:5}], learners:[3:6]}";
+    let voters = format!(in alloc; "{{log_id:{id} membership:{voters}}}")?;
+    let text = format!(in alloc; "MembershipState{{committed: {empty}, effective: {voters}}}")?;
+    Ok(sums_up(alloc, &new, none.as_str())? && sums_up(alloc, &state, text.as_str())?)
+}
+
+/// Whether a written log prints its leader and its last log id, where there is one.
+fn written_log_prints(alloc: Global) -> Result<bool, AllocError> {
+    let leader = CommittedLeaderId::new(1, 2u64);
+    let written = LogIOId::new(leader, Some(LogId::new(leader, 3)));
+    let standard = LogIOIdOf::new(leader_id_std::CommittedLeaderId { term: 1 }, None);
+    Ok(
+        displays(alloc, &written, "by_leader(T1-N2):T1-N2-3")?
+            && displays(alloc, &LogIOId::new(leader, None), "by_leader(T1-N2):None")?
+            && displays(alloc, &standard, "by_leader(1):None")?,
+    )
+}
+
+#[test]
+fn texts(rt: HostRuntime) -> Result<(), Fail> {
+    let alloc = rt.alloc();
+    assert!(rt; entry_prints(alloc, EntryPayload::Blank, ("blank", "blank"))?);
+    assert!(rt; entry_prints(alloc, EntryPayload::Normal(7), ("normal", "normal"))?);
+    let membership = EntryPayload::Membership(members(alloc, "1,2", "1=4,2=5,3=6")?);
+    let text = "membership: {voters:[{1:4,2:5}], learners:[3:6]}";
+    let debug = "membership:Membership { configs: [{1, 2}], nodes: {1: 4, 2: 5, 3: 6} }";
+    assert!(rt; entry_prints(alloc, membership, (text, debug))?);
+    assert!(rt; memberships_sum_up(alloc)? && written_log_prints(alloc)?);
+    Ok(())
+}

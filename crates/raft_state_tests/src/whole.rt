@@ -1,0 +1,441 @@
+//! The whole state of a node.
+
+use super::rows::{Row, effective, id, ids as ids_of, log_id};
+use raft_base::order::log_id_below;
+use raft_base::{
+    Invalid, LeaderAdv, LeaderKind, LeaderStd, LogIdOf, LogStateReader, ServerState, UTime,
+    Validate, VoteIn, VoteOf, leader_id_std,
+};
+use raft_base_tests::printing::{debugs, displays};
+use raft_state::{
+    AcceptedOf, ForwardToLeader, IOStateOf, LogIOIdOf, LogIdListOf, MembershipStateOf, RaftState,
+    RaftStateOf, SnapshotMeta, VoteStateReader, is_key_list,
+};
+use std::alloc::{AllocError, Global};
+use std::test::Fail;
+
+pub type State<K> = RaftStateOf<u64, u64, u64, K>;
+
+/// `purged_next`, the purge point, what is committed, the snapshot's last log id, and the log ids
+/// of the committed and of the effective membership.
+type Ids = (u64, Row, Row, Row, Row, Row);
+
+const NO_MEMBERSHIP: Row = None;
+
+/// A state with the log of the keys (1,1) and (3,4), voters 1 and 2, and a node 3.
+fn state<K: LeaderKind<u64>>(alloc: Global, ids: Ids) -> Result<State<K>, AllocError> {
+    let mut state = State::<K>::try_default(alloc)?;
+    let keys = ids_of::<K>(alloc, &[(1, 1), (3, 4)])?;
+    if is_key_list(&keys) {
+        state.log_ids = LogIdListOf::new(keys);
+    }
+    state.purged_next = ids.0;
+    state.purge_upto = id::<K>(ids.1);
+    state.committed = id::<K>(ids.2);
+    state.snapshot_meta.last_log_id = id::<K>(ids.3);
+    state.membership_state = MembershipStateOf::new(
+        effective::<K>(alloc, ids.4, &[1, 2])?,
+        effective::<K>(alloc, ids.5, &[1, 2])?,
+    );
+    Ok(state)
+}
+
+/// The valid state that the rows start from.
+pub fn valid_state<K: LeaderKind<u64>>(alloc: Global) -> Result<State<K>, AllocError> {
+    let first = Some((1, 1));
+    state::<K>(alloc, (2, first, first, None, NO_MEMBERSHIP, NO_MEMBERSHIP))
+}
+
+/// Whether each relation is told where it alone is broken, and the first one where two are.
+fn relations_right<K: LeaderKind<u64>>(alloc: Global) -> Result<bool, AllocError> {
+    let first = Some((1, 1));
+    let last = Some((3, 4));
+    let rows: [(Ids, Result<(), Invalid>); 12] = [
+        ((2, first, first, None, None, None), Ok(())),
+        ((2, Some((3, 0)), last, None, None, None), Ok(())),
+        ((2, first, last, last, first, last), Ok(())),
+        (
+            (3, first, first, None, None, None),
+            Err(Invalid::PurgedNext),
+        ),
+        (
+            (2, None, first, None, None, None),
+            Err(Invalid::LastPurgedPastUpto),
+        ),
+        (
+            (2, last, first, None, None, None),
+            Err(Invalid::UptoPastCommitted),
+        ),
+        (
+            (2, last, last, first, None, None),
+            Err(Invalid::UptoPastSnapshot),
+        ),
+        (
+            (2, first, first, last, None, None),
+            Err(Invalid::SnapshotPastCommitted),
+        ),
+        (
+            (2, first, Some((3, 5)), None, None, None),
+            Err(Invalid::CommittedPastLast),
+        ),
+        (
+            (2, first, first, None, last, Some((1, 4))),
+            Err(Invalid::MembershipLogId),
+        ),
+        (
+            (2, first, first, None, Some((1, 5)), last),
+            Err(Invalid::MembershipIndex),
+        ),
+        ((3, None, first, None, None, None), Err(Invalid::PurgedNext)),
+    ];
+    for (ids, want) in rows {
+        if state::<K>(alloc, ids)?.validate() != want {
+            return Ok(false);
+        }
+    }
+    Ok(true)
+}
+
+/// Whether a valid state reads as it should, and tells whether its purge point is in its log.
+fn reads<K: LeaderKind<u64>>(state: &State<K>, other: &State<K>) -> bool {
+    state.get_log_id(2) == id::<K>(Some((1, 2)))
+        && state.prev_log_id(5) == id::<K>(Some((3, 4)))
+        && state.get_log_id(0) == None
+        && state.get_log_id(5) == None
+        && state.last_log_id() == Some(&log_id::<K>(3, 4))
+        && state.last_purged_log_id() == Some(&log_id::<K>(1, 1))
+        && LogStateReader::committed(state) == Some(&log_id::<K>(1, 1))
+        && LogStateReader::purge_upto(state) == Some(&log_id::<K>(1, 1))
+        && state.snapshot_last_log_id() == None
+        && state.io_applied() == None
+        && state.io_snapshot_last_log_id() == None
+        && state.io_purged() == None
+        && state.purge_upto_is_logged()
+        && !other.purge_upto_is_logged()
+}
+
+/// The same, of the first valid state and of one whose purge point is not in its log.
+fn reads_right<K: LeaderKind<u64>>(alloc: Global) -> Result<bool, AllocError> {
+    let other = state::<K>(alloc, (2, Some((3, 0)), Some((3, 4)), None, None, None))?;
+    Ok(reads::<K>(&valid_state::<K>(alloc)?, &other))
+}
+
+/// Whether the first of two entries that the log does not have is at a place.
+fn conflicts_at<K: LeaderKind<u64>>(
+    alloc: Global,
+    state: &State<K>,
+    first: (u64, u64),
+    second: (u64, u64),
+    want: usize,
+) -> Result<bool, AllocError> {
+    let (first, second) = (
+        log_id::<K>(first.0, first.1),
+        log_id::<K>(second.0, second.1),
+    );
+    if !state.can_ask(&first) || !state.can_ask(&second) {
+        return Ok(false);
+    }
+    let mut entries = Vec::new(alloc);
+    entries.push(first)?;
+    entries.push(second)?;
+    Ok(state.first_conflicting_index(&entries) == want)
+}
+
+/// Whether a state finds the first entry that is not in its log.
+fn conflicts_right<K: LeaderKind<u64>>(
+    alloc: Global,
+    state: &State<K>,
+) -> Result<bool, AllocError> {
+    Ok(
+        conflicts_at::<K>(alloc, state, (1, 1), (3, 4), 2)?
+            && conflicts_at::<K>(alloc, state, (1, 1), (3, 3), 1)?
+            && conflicts_at::<K>(alloc, state, (1, 5), (1, 1), 0)?
+            // What is committed each log has, but no log has it under a greater leader.
+            && conflicts_at::<K>(alloc, state, (1, 0), (1, 2), 2)?
+            && !state.can_ask(&log_id::<K>(2, 1)),
+    )
+}
+
+/// Commits up to a row, if that may be, and answers what was committed before.
+fn committed_before<K: LeaderKind<u64>>(
+    state: &mut State<K>,
+    upto: Row,
+) -> Result<Option<Option<LogIdOf<K::Committed>>>, AllocError> {
+    let upto = id::<K>(upto);
+    if state.can_commit(&upto) {
+        state.update_committed(&upto)
+    } else {
+        Ok(None)
+    }
+}
+
+/// Appends log ids, of one leader or of several, if that may be.
+fn extend<K: LeaderKind<u64>>(
+    state: &mut State<K>,
+    ids: &[LogIdOf<K::Committed>],
+) -> Result<(), AllocError> {
+    if state.log_ids.can_extend_from_same_leader(ids) {
+        state.extend_log_ids_from_same_leader(ids)
+    } else if state.log_ids.can_extend(ids) {
+        state.extend_log_ids(ids)
+    } else {
+        Ok(())
+    }
+}
+
+/// Whether a log id is committed once, with the answer of before, and the log grows and is purged.
+fn moves<K: LeaderKind<u64>>(alloc: Global, state: &mut State<K>) -> Result<bool, AllocError> {
+    let last = Some((3, 4));
+    let before = committed_before::<K>(state, last)?;
+    let again = committed_before::<K>(state, last)?;
+    extend::<K>(state, &ids_of::<K>(alloc, &[(4, 6), (4, 8)])?)?;
+    extend::<K>(state, &ids_of::<K>(alloc, &[(5, 9), (6, 10)])?)?;
+    let upto = log_id::<K>(3, 5);
+    if state.can_purge_log(&upto) {
+        state.purge_log(&upto)?;
+    }
+    let keys = ids_of::<K>(alloc, &[(3, 5), (4, 6), (5, 9), (6, 10)])?;
+    Ok(
+        before == Some(id::<K>(Some((1, 1))))
+            && again == None
+            && state.committed == id::<K>(last)
+            && state.purged_next == 6
+            && state.log_ids.key_log_ids() == keys.as_slice()
+            && !state.can_purge_log(&log_id::<K>(3, 4))
+            && !state.can_purge_log(&log_id::<K>(9, u64::MAX)),
+    )
+}
+
+/// Whether storage's progress reads as it was written.
+fn reads_io<K: LeaderKind<u64>>(io_state: &IOStateOf<u64, K>) -> bool {
+    io_state.building_snapshot()
+        && *io_state.vote() == VoteOf::<u64, K>::new(2, 1)
+        && io_state.purged() == Some(&log_id::<K>(1, 1))
+        && io_state.applied() == None
+        && io_state.snapshot() == None
+}
+
+/// Whether storage's progress takes what is applied and in a snapshot, and keeps what is flushed.
+fn takes_applied<K: LeaderKind<u64>>() -> bool {
+    let last = id::<K>(Some((3, 4)));
+    let flushed = LogIOIdOf::new(K::new_committed(2, 1), last);
+    let vote = VoteOf::<u64, K>::new(2, 1);
+    let mut io_state = IOStateOf::<u64, K>::new(vote, flushed, None, None, None);
+    if log_id_below(io_state.applied, last) && log_id_below(io_state.snapshot, last) {
+        io_state.update_applied(last);
+        io_state.update_snapshot(last);
+    }
+    io_state.applied() == last.as_ref()
+        && io_state.snapshot() == last.as_ref()
+        && io_state.flushed == flushed
+}
+
+/// Writes storage's progress.
+fn write_io<K: LeaderKind<u64>>(io_state: &mut IOStateOf<u64, K>) {
+    io_state.update_vote(VoteOf::<u64, K>::new(2, 1));
+    io_state.update_purged(id::<K>(Some((1, 1))));
+    io_state.set_building_snapshot(true);
+}
+
+/// Whether storage's progress is written and read in a state, and nothing else changes.
+fn writes_io<K: LeaderKind<u64>>(state: &mut State<K>, before: &State<K>) -> bool {
+    write_io::<K>(state.io_state_mut());
+    let is_read = reads_io::<K>(state.io_state());
+    let is_other = *state != *before;
+    state.io_state = before.io_state;
+    is_read && is_other && *state == *before && takes_applied::<K>()
+}
+
+/// The same, of a state and its clone.
+fn io_right<K: LeaderKind<u64>>(mut state: State<K>) -> Result<bool, AllocError> {
+    let before = state.try_clone()?;
+    Ok(writes_io::<K>(&mut state, &before))
+}
+
+/// Whether what was accepted is known of its leader alone.
+fn is_of_its_leader<K: LeaderKind<u64>>(
+    accepted: &AcceptedOf<u64, K>,
+    want: Option<LogIdOf<K::Committed>>,
+) -> bool {
+    accepted
+        .last_accepted_log_id(&K::new_leader(5, 10))
+        .copied()
+        == want
+        && accepted
+            .last_accepted_log_id(&K::new_leader(6, 10))
+            .is_none()
+        && accepted
+            .last_accepted_log_id(&K::new_leader(4, 10))
+            .is_none()
+        && accepted
+            .last_accepted_log_id(&K::new_leader(5, 9))
+            .is_none()
+}
+
+/// Takes what is accepted of the vote's leader, if that may be.
+fn accept<K: LeaderKind<u64>>(state: &mut State<K>, log_id: Option<LogIdOf<K::Committed>>) {
+    let leader_id = state.vote_ref().leader_id;
+    let before = *state.accepted.leader_id();
+    let is_no_lesser = match K::compare(&leader_id, &before) {
+        Some(order) => order.is_ge(),
+        None => false,
+    };
+    if is_no_lesser && state.vote_ref().is_committed() {
+        state.update_accepted(log_id);
+    }
+}
+
+/// Whether a new node's vote, and what it has accepted of the leader, read as they should.
+fn accepts<K: LeaderKind<u64>>(state: &mut State<K>) -> bool {
+    let log_id = Some(log_id::<K>(6, 3));
+    let want = AcceptedOf::<u64, K>::new(K::new_leader(5, 10), log_id);
+    let vote = VoteOf::<u64, K>::new_committed(5, 10);
+    let unset = state.accepted().is_none() && !state.is_initialized();
+    state.vote = UTime::new(7, vote);
+    accept::<K>(state, log_id);
+    is_of_its_leader::<K>(&want, log_id)
+        && unset
+        && state.accepted == want
+        && state.accepted().copied() == log_id
+        && state.is_initialized()
+        && state.vote_last_modified() == Some(7)
+        && *VoteStateReader::vote_ref(state) == vote
+}
+
+/// Whether with a vote requests are forwarded as wanted, and the nodes 1, 3 and 9 are what they
+/// should be.
+fn leads<K: LeaderKind<u64>>(
+    state: &mut State<K>,
+    vote: VoteOf<u64, K>,
+    to: ForwardToLeader<u64, u64>,
+    want: [ServerState; 3],
+) -> Result<bool, AllocError> {
+    state.vote = UTime::without_utime(vote);
+    let are = [
+        state.calc_server_state(&1),
+        state.calc_server_state(&3),
+        state.calc_server_state(&9),
+    ];
+    Ok(
+        state.forward_to_leader()? == to
+            && are == want
+            && state.is_leading(&3) == (want[1] != ServerState::Learner)
+            && state.is_leader(&3) == want[1].is_leader()
+            && state.is_voter(&1)
+            && !state.is_voter(&3),
+    )
+}
+
+/// Whether requests go to the node that a committed vote is for.
+fn leads_right<K: LeaderKind<u64>>(state: &mut State<K>) -> Result<bool, AllocError> {
+    let (follower, learner) = (ServerState::Follower, ServerState::Learner);
+    let granted = VoteOf::<u64, K>::new_committed(1, 3);
+    let asking = VoteOf::<u64, K>::new(1, 3);
+    let unknown = VoteOf::<u64, K>::new_committed(1, 9);
+    let none = ForwardToLeader::empty();
+    Ok(
+        leads::<K>(
+            state,
+            granted,
+            ForwardToLeader::new(3, 6),
+            [follower, ServerState::Leader, learner],
+        )? && leads::<K>(
+            state,
+            asking,
+            none.clone()?,
+            [follower, ServerState::Candidate, learner],
+        )? && leads::<K>(state, unknown, none, [follower, learner, learner])?,
+    )
+}
+
+/// Whether a committed vote of term 1 for nobody leads no one.
+fn nobody_leads(state: &mut State<LeaderStd>) -> Result<bool, AllocError> {
+    let vote = VoteIn {
+        leader_id: leader_id_std::LeaderId {
+            term: 1,
+            voted_for: None,
+        },
+        committed: true,
+    };
+    let want = [
+        ServerState::Follower,
+        ServerState::Learner,
+        ServerState::Learner,
+    ];
+    leads::<LeaderStd>(state, vote, ForwardToLeader::empty(), want)
+}
+
+/// Whether a valid state moves and leads as it should, and a new one takes what is accepted.
+fn moves_right<K: LeaderKind<u64>>(alloc: Global) -> Result<bool, AllocError> {
+    Ok(
+        moves::<K>(alloc, &mut valid_state::<K>(alloc)?)?
+            && leads_right::<K>(&mut valid_state::<K>(alloc)?)?
+            && accepts::<K>(&mut State::<K>::try_default(alloc)?),
+    )
+}
+
+/// Whether a whole state validates, reads and moves as it should.
+fn state_right<K: LeaderKind<u64>>(alloc: Global) -> Result<bool, AllocError> {
+    Ok(
+        relations_right::<K>(alloc)?
+            && reads_right::<K>(alloc)?
+            && conflicts_right::<K>(alloc, &valid_state::<K>(alloc)?)?
+            && moves_right::<K>(alloc)?
+            && io_right::<K>(valid_state::<K>(alloc)?.clone()?)?,
+    )
+}
+
+#[test]
+fn a_state_validates_reads_and_moves(rt: HostRuntime) -> Result<(), Fail> {
+    let alloc = rt.alloc();
+    assert!(rt; state_right::<LeaderAdv>(alloc)?);
+    assert!(rt; state_right::<LeaderStd>(alloc)?);
+    assert!(rt; nobody_leads(&mut valid_state::<LeaderStd>(alloc)?)?);
+    Ok(())
+}
+
+/// Whether the state of a new node prints so, and is valid.
+fn print(alloc: Global) -> Result<bool, AllocError> {
+    let leader = "LeaderId { term: 0, node_id: 0 }";
+    let vote = format!(in alloc; "Vote {{ leader_id: {leader}, committed: false }}")?;
+    let members = "log_id: None, membership: Membership { configs: [], nodes: {} }";
+    let effective = format!(in alloc; "EffectiveMembership {{ {members}, voter_ids: {{}} }}")?;
+    let memberships = format!(in alloc;
+        "MembershipState {{ committed: {effective}, effective: {effective} }}"
+    )?;
+    let snapshot = format!(in alloc;
+        "SnapshotMeta {{ last_log_id: None, last_membership: StoredMembership {{ {members} }}, snapshot_id: \"\" }}"
+    )?;
+    let flushed = format!(in alloc; "LogIOId {{ committed_leader_id: {leader}, log_id: None }}")?;
+    let io_state = format!(in alloc;
+        "IOState {{ building_snapshot: false, vote: {vote}, flushed: {flushed}, applied: None, snapshot: None, purged: None }}"
+    )?;
+    let text = format!(in alloc;
+        "RaftState {{ vote: UTime {{ data: {vote}, utime: None }}, committed: None, purged_next: 0, log_ids: LogIdList {{ key_log_ids: [] }}, membership_state: {memberships}, snapshot_meta: {snapshot}, server_state: Learner, accepted: Accepted {{ leader_id: {leader}, log_id: None }}, io_state: {io_state}, purge_upto: None }}"
+    )?;
+    let state = RaftState::<u64, u64, u64>::try_default(alloc)?;
+    Ok(
+        debugs(alloc, &state, text.as_str())?
+            && state.validate() == Ok(())
+            && state.snapshot_meta == SnapshotMeta::try_default(alloc)?,
+    )
+}
+
+/// Whether the error that forwards a request says where, and equals its clone.
+fn forwards(alloc: Global) -> Result<bool, AllocError> {
+    let to: ForwardToLeader<u64, u64> = ForwardToLeader::new(3, 6);
+    let to_none: ForwardToLeader<u64, u64> = ForwardToLeader::empty();
+    Ok(
+        displays(alloc, &to, "has to forward request to: Some(3), Some(6)")?
+            && displays(alloc, &to_none, "has to forward request to: None, None")?
+            && to.try_clone()? == to
+            && to_none.try_clone()? == to_none
+            && to.try_clone()? != to_none,
+    )
+}
+
+#[test]
+fn a_new_state_prints(rt: HostRuntime) -> Result<(), Fail> {
+    assert!(rt; print(rt.alloc())? && forwards(rt.alloc())?);
+    Ok(())
+}
