@@ -96,22 +96,37 @@ fn relations_right<K: LeaderKind<u64>>(alloc: Global) -> Result<bool, AllocError
     Ok(true)
 }
 
+/// Whether a log id is that of the row.
+fn is<K: LeaderKind<u64>>(read: Option<LogIdOf<K::Committed>>, want: Row) -> bool {
+    read == id::<K>(want)
+}
+
+/// Whether a lent log id is that of the row.
+fn is_lent<K: LeaderKind<u64>>(read: Option<&LogIdOf<K::Committed>>, want: Row) -> bool {
+    read.copied() == id::<K>(want)
+}
+
 /// Whether a valid state reads as it should, and tells whether its purge point is in its log.
 fn reads<K: LeaderKind<u64>>(state: &State<K>, other: &State<K>) -> bool {
-    state.get_log_id(2) == id::<K>(Some((1, 2)))
-        && state.prev_log_id(5) == id::<K>(Some((3, 4)))
-        && state.get_log_id(0) == None
-        && state.get_log_id(5) == None
-        && state.last_log_id() == Some(&log_id::<K>(3, 4))
-        && state.last_purged_log_id() == Some(&log_id::<K>(1, 1))
-        && LogStateReader::committed(state) == Some(&log_id::<K>(1, 1))
-        && LogStateReader::purge_upto(state) == Some(&log_id::<K>(1, 1))
-        && state.snapshot_last_log_id() == None
-        && state.io_applied() == None
-        && state.io_snapshot_last_log_id() == None
-        && state.io_purged() == None
-        && state.purge_upto_is_logged()
-        && !other.purge_upto_is_logged()
+    let first = Some((1, 1));
+    let last = Some((3, 4));
+    let are_right = [
+        is::<K>(state.get_log_id(2), Some((1, 2))),
+        is::<K>(state.prev_log_id(5), last),
+        is::<K>(state.get_log_id(0), None),
+        is::<K>(state.get_log_id(5), None),
+        is_lent::<K>(state.last_log_id(), last),
+        is_lent::<K>(state.last_purged_log_id(), first),
+        is_lent::<K>(LogStateReader::committed(state), first),
+        is_lent::<K>(LogStateReader::purge_upto(state), first),
+        is_lent::<K>(state.snapshot_last_log_id(), None),
+        is_lent::<K>(state.io_applied(), None),
+        is_lent::<K>(state.io_snapshot_last_log_id(), None),
+        is_lent::<K>(state.io_purged(), None),
+        state.purge_upto_is_logged(),
+        !other.purge_upto_is_logged(),
+    ];
+    !are_right.contains(&false)
 }
 
 /// The same, of the first valid state and of one whose purge point is not in its log.
