@@ -22,21 +22,37 @@ type Ids = (u64, Row, Row, Row, Row, Row);
 
 const NO_MEMBERSHIP: Row = None;
 
-/// A state with the log of the keys (1,1) and (3,4), voters 1 and 2, and a node 3.
-fn state<K: LeaderKind<u64>>(alloc: Global, ids: Ids) -> Result<State<K>, AllocError> {
-    let mut state = State::<K>::try_default(alloc)?;
+/// Memberships of the voters 1 and 2 and a node 3, at these log ids.
+fn memberships<K: LeaderKind<u64>>(
+    alloc: Global,
+    committed: Row,
+    in_effect: Row,
+) -> Result<MembershipStateOf<K::Committed, u64, u64>, AllocError> {
+    let committed = effective::<K>(alloc, committed, &[1, 2])?;
+    Ok(MembershipStateOf::new(committed, effective::<K>(alloc, in_effect, &[1, 2])?))
+}
+
+/// The log of the keys (1,1) and (3,4).
+fn log_ids<K: LeaderKind<u64>>(alloc: Global) -> Result<LogIdListOf<K::Committed>, AllocError> {
     let keys = ids_of::<K>(alloc, &[(1, 1), (3, 4)])?;
     if is_key_list(&keys) {
-        state.log_ids = LogIdListOf::new(keys);
+        Ok(LogIdListOf::new(keys))
+    } else {
+        Ok(LogIdListOf::new(Vec::new(alloc)))
     }
+}
+
+/// A state with that log and such memberships.
+fn state<K: LeaderKind<u64>>(alloc: Global, ids: Ids) -> Result<State<K>, AllocError> {
+    let log_ids = log_ids::<K>(alloc)?;
+    let membership_state = memberships::<K>(alloc, ids.4, ids.5)?;
+    let mut state = State::<K>::try_default(alloc)?;
+    state.log_ids = log_ids;
+    state.membership_state = membership_state;
     state.purged_next = ids.0;
     state.purge_upto = id::<K>(ids.1);
     state.committed = id::<K>(ids.2);
     state.snapshot_meta.last_log_id = id::<K>(ids.3);
-    state.membership_state = MembershipStateOf::new(
-        effective::<K>(alloc, ids.4, &[1, 2])?,
-        effective::<K>(alloc, ids.5, &[1, 2])?,
-    );
     Ok(state)
 }
 
@@ -198,27 +214,40 @@ fn extend<K: LeaderKind<u64>>(
     }
 }
 
-/// Whether a log id is committed once, with the answer of before, and the log grows and is purged.
-fn moves<K: LeaderKind<u64>>(alloc: Global, state: &mut State<K>) -> Result<bool, AllocError> {
+/// Whether a log id is committed once, with the answer of before.
+fn commits<K: LeaderKind<u64>>(state: &mut State<K>) -> Result<bool, AllocError> {
     let last = Some((3, 4));
     let before = committed_before::<K>(state, last)?;
     let again = committed_before::<K>(state, last)?;
+    Ok(before == Some(id::<K>(Some((1, 1)))) && again == None && is::<K>(state.committed, last))
+}
+
+/// Appends log ids of one leader, and then of two.
+fn grow<K: LeaderKind<u64>>(alloc: Global, state: &mut State<K>) -> Result<(), AllocError> {
     extend::<K>(state, &ids_of::<K>(alloc, &[(4, 6), (4, 8)])?)?;
-    extend::<K>(state, &ids_of::<K>(alloc, &[(5, 9), (6, 10)])?)?;
+    extend::<K>(state, &ids_of::<K>(alloc, &[(5, 9), (6, 10)])?)
+}
+
+/// Whether a state has these keys, of a log of which what is below index 6 was purged.
+fn is_purged<K: LeaderKind<u64>>(state: &State<K>, keys: &[LogIdOf<K::Committed>]) -> bool {
+    let are_right = [
+        state.purged_next == 6,
+        state.log_ids.key_log_ids() == keys,
+        !state.can_purge_log(&log_id::<K>(3, 4)),
+        !state.can_purge_log(&log_id::<K>(9, u64::MAX)),
+    ];
+    !are_right.contains(&false)
+}
+
+/// Whether the log grows and is purged.
+fn grows<K: LeaderKind<u64>>(alloc: Global, state: &mut State<K>) -> Result<bool, AllocError> {
+    grow::<K>(alloc, state)?;
     let upto = log_id::<K>(3, 5);
     if state.can_purge_log(&upto) {
         state.purge_log(&upto)?;
     }
     let keys = ids_of::<K>(alloc, &[(3, 5), (4, 6), (5, 9), (6, 10)])?;
-    Ok(
-        before == Some(id::<K>(Some((1, 1))))
-            && again == None
-            && state.committed == id::<K>(last)
-            && state.purged_next == 6
-            && state.log_ids.key_log_ids() == keys.as_slice()
-            && !state.can_purge_log(&log_id::<K>(3, 4))
-            && !state.can_purge_log(&log_id::<K>(9, u64::MAX)),
-    )
+    Ok(is_purged::<K>(state, &keys))
 }
 
 /// Whether storage's progress reads as it was written.
@@ -380,13 +409,31 @@ fn nobody_leads(state: &mut State<LeaderStd>) -> Result<bool, AllocError> {
     leads::<LeaderStd>(state, vote, ForwardToLeader::empty(), want)
 }
 
-/// Whether a valid state moves and leads as it should, and a new one takes what is accepted.
-fn moves_right<K: LeaderKind<u64>>(alloc: Global) -> Result<bool, AllocError> {
-    Ok(
-        moves::<K>(alloc, &mut valid_state::<K>(alloc)?)?
-            && leads_right::<K>(&mut valid_state::<K>(alloc)?)?
-            && accepts::<K>(&mut State::<K>::try_default(alloc)?),
-    )
+/// Whether a valid state commits, and its log grows and is purged, as it should.
+fn moves<K: LeaderKind<u64>>(alloc: Global) -> Result<bool, AllocError> {
+    let mut state = valid_state::<K>(alloc)?;
+    Ok(commits::<K>(&mut state)? && grows::<K>(alloc, &mut state)?)
+}
+
+/// Whether a valid state finds the first entry that is not in its log.
+fn finds<K: LeaderKind<u64>>(alloc: Global) -> Result<bool, AllocError> {
+    conflicts_right::<K>(alloc, &valid_state::<K>(alloc)?)
+}
+
+/// Whether a valid state leads as it should.
+fn leads_as_voted<K: LeaderKind<u64>>(alloc: Global) -> Result<bool, AllocError> {
+    leads_right::<K>(&mut valid_state::<K>(alloc)?)
+}
+
+/// Whether a new state takes what is accepted.
+fn takes_accepted<K: LeaderKind<u64>>(alloc: Global) -> Result<bool, AllocError> {
+    Ok(accepts::<K>(&mut State::<K>::try_default(alloc)?))
+}
+
+/// Whether a valid state and its clone take storage's progress.
+fn takes_io<K: LeaderKind<u64>>(alloc: Global) -> Result<bool, AllocError> {
+    let cloned = valid_state::<K>(alloc)?.clone()?;
+    io_right::<K>(cloned)
 }
 
 /// Whether a whole state validates, reads and moves as it should.
@@ -394,9 +441,11 @@ fn state_right<K: LeaderKind<u64>>(alloc: Global) -> Result<bool, AllocError> {
     Ok(
         relations_right::<K>(alloc)?
             && reads_right::<K>(alloc)?
-            && conflicts_right::<K>(alloc, &valid_state::<K>(alloc)?)?
-            && moves_right::<K>(alloc)?
-            && io_right::<K>(valid_state::<K>(alloc)?.clone()?)?,
+            && finds::<K>(alloc)?
+            && moves::<K>(alloc)?
+            && leads_as_voted::<K>(alloc)?
+            && takes_accepted::<K>(alloc)?
+            && takes_io::<K>(alloc)?,
     )
 }
 
@@ -409,31 +458,32 @@ fn a_state_validates_reads_and_moves(rt: HostRuntime) -> Result<(), Fail> {
     Ok(())
 }
 
+/// What the state of a new node prints.
+const NEW_STATE: &str =
+    "RaftState { vote: UTime { data: Vote { leader_id: LeaderId { term: 0, node_id: 0 }, committed: false }, utime: None }, \
+    committed: None, purged_next: 0, log_ids: LogIdList { key_log_ids: [] }, \
+    membership_state: MembershipState { \
+    committed: EffectiveMembership { log_id: None, membership: Membership { configs: [], nodes: {} }, voter_ids: {} }, \
+    effective: EffectiveMembership { log_id: None, membership: Membership { configs: [], nodes: {} }, voter_ids: {} } }, \
+    snapshot_meta: SnapshotMeta { last_log_id: None, \
+    last_membership: StoredMembership { log_id: None, membership: Membership { configs: [], nodes: {} } }, \
+    snapshot_id: \"\" }, \
+    server_state: Learner, accepted: Accepted { leader_id: LeaderId { term: 0, node_id: 0 }, log_id: None }, \
+    io_state: IOState { building_snapshot: false, \
+    vote: Vote { leader_id: LeaderId { term: 0, node_id: 0 }, committed: false }, \
+    flushed: LogIOId { committed_leader_id: LeaderId { term: 0, node_id: 0 }, log_id: None }, \
+    applied: None, snapshot: None, purged: None }, purge_upto: None }";
+
 /// Whether the state of a new node prints so, and is valid.
 fn print(alloc: Global) -> Result<bool, AllocError> {
-    let leader = "LeaderId { term: 0, node_id: 0 }";
-    let vote = format!(in alloc; "Vote {{ leader_id: {leader}, committed: false }}")?;
-    let members = "log_id: None, membership: Membership { configs: [], nodes: {} }";
-    let effective = format!(in alloc; "EffectiveMembership {{ {members}, voter_ids: {{}} }}")?;
-    let memberships = format!(in alloc;
-        "MembershipState {{ committed: {effective}, effective: {effective} }}"
-    )?;
-    let snapshot = format!(in alloc;
-        "SnapshotMeta {{ last_log_id: None, last_membership: StoredMembership {{ {members} }}, snapshot_id: \"\" }}"
-    )?;
-    let flushed = format!(in alloc; "LogIOId {{ committed_leader_id: {leader}, log_id: None }}")?;
-    let io_state = format!(in alloc;
-        "IOState {{ building_snapshot: false, vote: {vote}, flushed: {flushed}, applied: None, snapshot: None, purged: None }}"
-    )?;
-    let text = format!(in alloc;
-        "RaftState {{ vote: UTime {{ data: {vote}, utime: None }}, committed: None, purged_next: 0, log_ids: LogIdList {{ key_log_ids: [] }}, membership_state: {memberships}, snapshot_meta: {snapshot}, server_state: Learner, accepted: Accepted {{ leader_id: {leader}, log_id: None }}, io_state: {io_state}, purge_upto: None }}"
-    )?;
     let state = RaftState::<u64, u64, u64>::try_default(alloc)?;
-    Ok(
-        debugs(alloc, &state, text.as_str())?
-            && state.validate() == Ok(())
-            && state.snapshot_meta == SnapshotMeta::try_default(alloc)?,
-    )
+    Ok(debugs(alloc, &state, NEW_STATE)? && is_new(alloc, &state)?)
+}
+
+/// Whether a state is valid, and its snapshot is none.
+fn is_new(alloc: Global, state: &RaftState<u64, u64, u64>) -> Result<bool, AllocError> {
+    let none = SnapshotMeta::try_default(alloc)?;
+    Ok(state.validate() == Ok(()) && state.snapshot_meta == none)
 }
 
 /// Whether the error that forwards a request says where, and equals its clone.
