@@ -28,20 +28,37 @@ fn entry_prints(
     )
 }
 
-/// Whether the memberships of a node sum up each with its log id, where there is one.
-fn memberships_sum_up(alloc: Global) -> Result<bool, AllocError> {
-    let new: MembershipState<u64, u64> = MembershipState::try_default(alloc)?;
+/// The memberships of a new node.
+fn new_memberships(alloc: Global) -> Result<MembershipState<u64, u64>, AllocError> {
+    MembershipState::try_default(alloc)
+}
+
+/// Memberships of which the one in effect has a log id.
+fn memberships(alloc: Global) -> Result<MembershipState<u64, u64>, AllocError> {
     let log_id = LogId::new(CommittedLeaderId::new(1, 2u64), 3);
     let membership = members(alloc, "1,2", "1=4,2=5,3=6")?;
     let effective = EffectiveMembership::new_arc(Some(log_id), membership)?;
-    let state = MembershipState::new(new.committed().clone()?, effective);
-    let empty = "{log_id:None membership:{voters:[], learners:[]}}";
-    let none = format!(in alloc; "MembershipState{{committed: {empty}, effective: {empty}}}")?;
-    let id = "Some(LogId { leader_id: LeaderId { term: 1, node_id: 2 }, index: 3 })";
-    let voters = "{voters:[{1:4,2:5}], learners:[3:6]}";
-    let voters = format!(in alloc; "{{log_id:{id} membership:{voters}}}")?;
-    let text = format!(in alloc; "MembershipState{{committed: {empty}, effective: {voters}}}")?;
-    Ok(sums_up(alloc, &new, none.as_str())? && sums_up(alloc, &state, text.as_str())?)
+    let new = new_memberships(alloc)?;
+    Ok(MembershipState::new(new.committed().clone()?, effective))
+}
+
+/// The summary of a new node's memberships.
+const NEW: &str = "MembershipState{\
+    committed: {log_id:None membership:{voters:[], learners:[]}}, \
+    effective: {log_id:None membership:{voters:[], learners:[]}}}";
+
+/// The summary of memberships of which the one in effect has a log id.
+const IN_EFFECT: &str = "MembershipState{\
+    committed: {log_id:None membership:{voters:[], learners:[]}}, \
+    effective: {log_id:Some(LogId { leader_id: LeaderId { term: 1, node_id: 2 }, index: 3 }) \
+    membership:{voters:[{1:4,2:5}], learners:[3:6]}}}";
+
+/// Whether the memberships of a node sum up each with its log id, where there is one.
+fn memberships_sum_up(alloc: Global) -> Result<bool, AllocError> {
+    Ok(
+        sums_up(alloc, &new_memberships(alloc)?, NEW)?
+            && sums_up(alloc, &memberships(alloc)?, IN_EFFECT)?,
+    )
 }
 
 /// Whether a written log prints its leader and its last log id, where there is one.
