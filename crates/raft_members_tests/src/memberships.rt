@@ -4,7 +4,7 @@ use super::lines::{read_is_right, step_is_right, test_is_right};
 use super::words::{configs, ids, members, nodes};
 use raft_members::membership::laws;
 use raft_members::quorum::QuorumSet;
-use raft_members::{EmptyMembership, Membership};
+use raft_members::{EmptyMembership, IntoNodes, Membership};
 use std::alloc::{AllocError, Global};
 use std::collections::BTreeSet;
 use std::test::Fail;
@@ -116,24 +116,30 @@ fn is(made: &Members, alloc: Global, configs: &str, nodes: &str) -> Result<bool,
     Ok(*made == members(alloc, configs, nodes)?)
 }
 
+/// Whether the membership of the configs of a word and of what gives its nodes has the other word's.
+fn has_nodes<T: IntoNodes<u64, u64> + Drop>(
+    alloc: Global,
+    config_word: &str,
+    given: T,
+    node_word: &str,
+) -> Result<bool, AllocError> {
+    let made = Membership::new(configs(alloc, config_word)?, given)?;
+    is(&made, alloc, config_word, node_word)
+}
+
 /// Whether voters without a node get the default one, whatever gives the others.
 fn voters_have_nodes(alloc: Global) -> Result<bool, AllocError> {
-    let alone = Membership::new(configs(alloc, "1,2")?, ())?;
-    let with_ids = Membership::new(configs(alloc, "1")?, ids(alloc, "3")?)?;
-    Ok(is(&alone, alloc, "1,2", "1=0,2=0")? && is(&with_ids, alloc, "1", "1=0,3=0")?)
+    let alone = has_nodes(alloc, "1,2", (), "1=0,2=0")?;
+    Ok(alone && has_nodes(alloc, "1", ids(alloc, "3")?, "1=0,3=0")?)
 }
 
 /// The same where a set of ids may be absent, and of nodes.
 fn voters_keep_nodes(alloc: Global) -> Result<bool, AllocError> {
-    let some = Membership::new(configs(alloc, "1")?, Some(ids(alloc, "1,3")?))?;
-    let with_nodes = Membership::new(configs(alloc, "1,2")?, nodes(alloc, "1=7")?)?;
+    let some = has_nodes(alloc, "1", Some(ids(alloc, "1,3")?), "1=0,3=0")?;
+    let with_nodes = has_nodes(alloc, "1,2", nodes(alloc, "1=7")?, "1=7,2=0")?;
     let absent: Option<BTreeSet<u64>> = None;
-    let none = Membership::new(configs(alloc, "1")?, absent)?;
-    Ok(
-        is(&some, alloc, "1", "1=0,3=0")?
-            && is(&with_nodes, alloc, "1,2", "1=7,2=0")?
-            && is(&none, alloc, "1", "1=0")?,
-    )
+    let none = has_nodes(alloc, "1", absent, "1=0")?;
+    Ok(some && with_nodes && none)
 }
 
 #[test]
@@ -143,20 +149,31 @@ fn voters_get_default_nodes(rt: HostRuntime) -> Result<(), Fail> {
     Ok(())
 }
 
+/// Whether the membership of the configs of a word alone has no nodes.
+fn configs_alone(alloc: Global, config_word: &str) -> Result<bool, AllocError> {
+    let made = Membership::new_unchecked(configs(alloc, config_word)?, ())?;
+    is(&made, alloc, config_word, "-")
+}
+
+/// Whether the membership of the nodes of a word has them, and the configs of the other word.
+fn nodes_vote(alloc: Global, node_word: &str, config_word: &str) -> Result<bool, AllocError> {
+    let made = Members::from_nodes(alloc, nodes(alloc, node_word)?)?;
+    is(&made, alloc, config_word, node_word)
+}
+
+/// Whether the default membership has no configs and no nodes.
+fn default_is_empty(alloc: Global) -> Result<bool, AllocError> {
+    let made = Members::try_default(alloc)?;
+    is(&made, alloc, "none", "-")
+}
+
 /// Whether memberships are made of what is given.
 fn made_as_given(alloc: Global) -> Result<bool, AllocError> {
-    let unchecked = Membership::new_unchecked(configs(alloc, "1,2")?, ())?;
-    let voters = Members::from_nodes(alloc, nodes(alloc, "1=7,2=8")?)?;
     Ok(
-        is(&unchecked, alloc, "1,2", "-")?
-            && is(&voters, alloc, "1,2", "1=7,2=8")?
-            && is(
-                &Members::from_nodes(alloc, nodes(alloc, "-")?)?,
-                alloc,
-                "-",
-                "-",
-            )?
-            && is(&Members::try_default(alloc)?, alloc, "none", "-")?,
+        configs_alone(alloc, "1,2")?
+            && nodes_vote(alloc, "1=7,2=8", "1,2")?
+            && nodes_vote(alloc, "-", "-")?
+            && default_is_empty(alloc)?,
     )
 }
 
