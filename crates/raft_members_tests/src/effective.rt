@@ -124,16 +124,31 @@ fn equals(alloc: Global, made: &Effective, log_id: Option<LogId<u64>>) -> Result
     Ok(*made == Effective::new(log_id, membership(alloc)?)?)
 }
 
+/// Whether an effective membership equals one under the log id, and none under another.
+fn is_under_the_id(alloc: Global, made: &Effective) -> Result<bool, AllocError> {
+    Ok(equals(alloc, made, Some(id()))? && !equals(alloc, made, None)?)
+}
+
 /// Whether one from the log equals one under its log id, and none under another.
 fn is_of_its_log_id(alloc: Global) -> Result<bool, AllocError> {
     let made = Effective::from_log(&id(), membership(alloc)?)?;
-    Ok(equals(alloc, &made, Some(id()))? && !equals(alloc, &made, None)?)
+    is_under_the_id(alloc, &made)
+}
+
+/// Whether an effective membership equals the default.
+fn equals_default(alloc: Global, made: &Effective) -> Result<bool, AllocError> {
+    Ok(*made == Effective::try_default(alloc)?)
+}
+
+/// Whether an effective membership equals the default, and none with nodes.
+fn is_without_nodes(alloc: Global, made: &Effective) -> Result<bool, AllocError> {
+    Ok(equals_default(alloc, made)? && !equals(alloc, made, None)?)
 }
 
 /// Whether one without configs, nodes and log id equals the default, and none with nodes.
 fn is_default(alloc: Global) -> Result<bool, AllocError> {
     let made = Effective::new(None, Membership::try_default(alloc)?)?;
-    Ok(made == Effective::try_default(alloc)? && !equals(alloc, &made, None)?)
+    is_without_nodes(alloc, &made)
 }
 
 #[test]
@@ -142,17 +157,35 @@ fn log_ids_make_a_difference(rt: HostRuntime) -> Result<(), Fail> {
     Ok(())
 }
 
+/// The debug form of a membership without configs and nodes.
+const WITHOUT_CONFIGS: &str = "membership: Membership { configs: [], nodes: {} }";
+
+/// Whether a stored membership without configs prints so, under a log id of that form.
+fn stored_prints(alloc: Global, stored: &Stored, id: &str) -> Result<bool, AllocError> {
+    let text = format!(in alloc; "StoredMembership {{ log_id: {id}, {WITHOUT_CONFIGS} }}")?;
+    debugs(alloc, stored, text.as_str())
+}
+
+/// Whether an effective membership without configs prints so, under a log id of that form.
+fn effective_prints(alloc: Global, effective: &Effective, id: &str) -> Result<bool, AllocError> {
+    let text = format!(in alloc;
+        "EffectiveMembership {{ log_id: {id}, {WITHOUT_CONFIGS}, voter_ids: {{}} }}"
+    )?;
+    debugs(alloc, effective, text.as_str())
+}
+
+/// Whether the effective membership of such a stored one prints so.
+fn once_effective_prints(alloc: Global, stored: Stored, id: &str) -> Result<bool, AllocError> {
+    let effective = Effective::new_from_stored_membership(stored)?;
+    effective_prints(alloc, &effective, id)
+}
+
 /// Whether the stored and the effective membership without configs print so, with a log id or none.
 fn print(alloc: Global, log_id: Option<LogId<u64>>, id: &str) -> Result<bool, AllocError> {
     let stored = Stored::new(log_id, Membership::try_default(alloc)?);
-    let members = "membership: Membership { configs: [], nodes: {} }";
-    let text = format!(in alloc; "StoredMembership {{ log_id: {id}, {members} }}")?;
-    let is_stored = debugs(alloc, &stored, text.as_str())?;
-    let effective = Effective::new_from_stored_membership(stored)?;
-    let text = format!(in alloc;
-        "EffectiveMembership {{ log_id: {id}, {members}, voter_ids: {{}} }}"
-    )?;
-    Ok(is_stored && debugs(alloc, &effective, text.as_str())?)
+    let is_stored = stored_prints(alloc, &stored, id)?;
+    let is_effective = once_effective_prints(alloc, stored, id)?;
+    Ok(is_stored && is_effective)
 }
 
 #[test]

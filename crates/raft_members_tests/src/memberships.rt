@@ -116,7 +116,7 @@ fn is(made: &Members, alloc: Global, configs: &str, nodes: &str) -> Result<bool,
     Ok(*made == members(alloc, configs, nodes)?)
 }
 
-/// Whether the membership of the configs of a word and of what gives its nodes has the other word's.
+/// Whether the membership of a word's configs and of what gives its nodes has the other word's.
 fn has_nodes<T: IntoNodes<u64, u64> + Drop>(
     alloc: Global,
     config_word: &str,
