@@ -160,31 +160,31 @@ fn log_ids_make_a_difference(rt: HostRuntime) -> Result<(), Fail> {
 /// The debug form of a membership without configs and nodes.
 const WITHOUT_CONFIGS: &str = "membership: Membership { configs: [], nodes: {} }";
 
-/// Whether a stored membership without configs prints so, under a log id of that form.
-fn stored_prints(alloc: Global, stored: &Stored, id: &str) -> Result<bool, AllocError> {
+/// Whether a stored membership without configs has its debug form, under a log id of that form.
+fn stored_debugs(alloc: Global, stored: &Stored, id: &str) -> Result<bool, AllocError> {
     let text = format!(in alloc; "StoredMembership {{ log_id: {id}, {WITHOUT_CONFIGS} }}")?;
     debugs(alloc, stored, text.as_str())
 }
 
-/// Whether an effective membership without configs prints so, under a log id of that form.
-fn effective_prints(alloc: Global, effective: &Effective, id: &str) -> Result<bool, AllocError> {
+/// Whether an effective membership without configs has its debug form, under a log id of that form.
+fn effective_debugs(alloc: Global, effective: &Effective, id: &str) -> Result<bool, AllocError> {
     let text = format!(in alloc;
         "EffectiveMembership {{ log_id: {id}, {WITHOUT_CONFIGS}, voter_ids: {{}} }}"
     )?;
     debugs(alloc, effective, text.as_str())
 }
 
-/// Whether the effective membership of such a stored one prints so.
-fn once_effective_prints(alloc: Global, stored: Stored, id: &str) -> Result<bool, AllocError> {
+/// Whether the effective membership of such a stored one has its debug form.
+fn effective_of_stored_debugs(alloc: Global, stored: Stored, id: &str) -> Result<bool, AllocError> {
     let effective = Effective::new_from_stored_membership(stored)?;
-    effective_prints(alloc, &effective, id)
+    effective_debugs(alloc, &effective, id)
 }
 
 /// Whether the stored and the effective membership without configs print so, with a log id or none.
 fn print(alloc: Global, log_id: Option<LogId<u64>>, id: &str) -> Result<bool, AllocError> {
     let stored = Stored::new(log_id, Membership::try_default(alloc)?);
-    let is_stored = stored_prints(alloc, &stored, id)?;
-    let is_effective = once_effective_prints(alloc, stored, id)?;
+    let is_stored = stored_debugs(alloc, &stored, id)?;
+    let is_effective = effective_of_stored_debugs(alloc, stored, id)?;
     Ok(is_stored && is_effective)
 }
 
