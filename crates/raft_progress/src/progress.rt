@@ -143,7 +143,7 @@ pub trait Progress<ID: Copy + Ord, V: ProgressPart<P>, P: Copy + Ord, QS: Quorum
         ensures ordered { IfOk result (λ made.
             IsInOrder ID.eq P.cmp V.part_of QS.has_quorum (shows made)) }
         ensures fold { IfOk result (λ made.
-            IsUpgradeFold ID.eq ID.cmp P.cmp V.part_of V.is_clone QS.is_voter
+            IsUpgradeFold ID.eq ID.cmp P.cmp V.part_of V.is_clone QS.has_quorum QS.is_voter
             (shows self.now) quorum_set learners.now default (shows made)) }
         ensures learners { IfOk result (λ made. learner_ids (shows made) ≡ learners.now) }
         ensures counts { IfOk result (λ made.

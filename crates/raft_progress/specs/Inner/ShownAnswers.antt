@@ -31,7 +31,7 @@ pub record IsShownIncrease {ID V P QS : Type 0} (eq : ID → ID → Bool) (cmp :
 -- the progress goes over to another quorum set, or refuses to
 pub record IsShownUpgrade {ID V P QS : Type 0} (eq : ID → ID → Bool) (id_cmp : ID → ID → Ordering) (cmp : P → P → Ordering) (part : V → P) (IsClone : V → V → Type 0) (has_quorum : QS → (ID → Bool) → Bool) (is_voter : QS → ID → Bool) (old : Shown ID V P QS) (quorum_set : QS) (learners : List ID) (default : V) (reply : Reply ID P) (new : Shown ID V P QS) : Type 0 where
   pub values : IsAnsweredUpgrade eq id_cmp cmp part IsClone has_quorum is_voter (state eq old) quorum_set learners default reply (state eq new)
-  pub answered : Answered (IsUpgradeFold eq id_cmp cmp part IsClone is_voter old quorum_set learners default) old reply new
+  pub answered : Answered (IsUpgradeFold eq id_cmp cmp part IsClone has_quorum is_voter old quorum_set learners default) old reply new
 
 module _ {K N V P : Type 0} (eq : K → K → Bool) (id_cmp : K → K → Ordering) (cmp : P → P → Ordering) (part : V → P) (IsClone : V → V → Type 0) where
   -- a membership and the progress over it take the place of the old ones, or are refused

@@ -3,6 +3,7 @@ use Rattle.std.specs.Prelude.{◌≡◌, Bool, List, Option}
 use Rattle.std.specs.declared.cmp.Ordering.{Ordering}
 use Rattle.raft_progress.specs.progress.Answered.{IsAnswered}
 use Rattle.raft_progress.specs.progress.Comparisons.{Comparisons}
+use Rattle.raft_progress.specs.progress.InOrder.{IsInOrder}
 use Rattle.raft_progress.specs.progress.Run.{Runs}
 use Rattle.raft_progress.specs.progress.Shown.{Shown, state}
 use Rattle.raft_progress.specs.progress.Steps.{IsStep}
@@ -26,12 +27,13 @@ module _ {ID V P QS : Type 0} (by : Comparisons ID V P) (has_quorum : QS → (ID
   abbrev pub IsDone : Shown ID V P QS → AnyStep ID V QS → Shown ID V P QS → Type 0
   IsDone old (Update id value) new = IsUpdatedTo by.eq by.cmp by.part old id value new
   IsDone old (IncreaseTo id value) new = IsIncreasedTo by.eq by.cmp by.part by.partial_cmp old id value new
-  IsDone old (Upgrade quorum_set learners default) new = IsUpgradeFold by.eq by.id_cmp by.cmp by.part by.IsClone is_voter old quorum_set learners.items default new
+  IsDone old (Upgrade quorum_set learners default) new = IsUpgradeFold by.eq by.id_cmp by.cmp by.part by.IsClone has_quorum is_voter old quorum_set learners.items default new
 
-  -- a step of a progress, over all that it shows: its values go on as a step says, it is done or changes nothing, and the reply tells what is granted
+  -- a step of a progress, over all that it shows: its values go on as a step says, it is done or changes nothing, the reply tells what is granted, and it ends in order
   pub record IsShownStep (old : Shown ID V P QS) (step : AnyStep ID V QS) (reply : Reply ID P) (new : Shown ID V P QS) : Type 0 where
     pub values : IsStep by has_quorum is_voter (state by.eq old) step reply (state by.eq new)
     pub answered : IsAnswered (λ p. p.granted) (IsDone old step) old reply new
+    pub ordered : IsInOrder by.eq by.cmp by.part has_quorum new
 
   -- the steps may be answered so, one after another
   abbrev pub IsShownRun : Shown ID V P QS → List (AnyStep ID V QS) → List (Reply ID P) → Shown ID V P QS → Type 0

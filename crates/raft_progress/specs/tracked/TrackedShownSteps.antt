@@ -6,7 +6,7 @@ use Rattle.raft_progress.specs.progress.Answered.{IsAnswered}
 use Rattle.raft_progress.specs.progress.Comparisons.{Comparisons}
 use Rattle.raft_progress.specs.progress.Run.{Runs}
 use Rattle.raft_progress.specs.progress.ShownSteps.{IsIncreasedTo, IsUpdatedTo}
-use Rattle.raft_progress.specs.tracked.TrackedState.{AreLearners, Configs, HasConfigs, TrackedShown, is_voter, tracked_state}
+use Rattle.raft_progress.specs.tracked.TrackedState.{AreLearners, Configs, HasConfigs, IsReady, TrackedShown, has_quorum, is_voter, tracked_state}
 use Rattle.raft_progress.specs.tracked.TrackedSteps.{IsTrackedStep}
 use Rattle.raft_progress.specs.progress.UpgradeFold.{IsUpgradeFold}
 use Rattle.raft_progress.specs.declared.progress.steps.Reply.{Reply}
@@ -19,7 +19,7 @@ pub record IsChangeFold {K N V P : Type 0} (eq : K → K → Bool) (id_cmp : K �
   pub learners : List K
   pub has_configs : HasConfigs (members_of id_cmp new.membership) configs
   pub are_learners : AreLearners eq (members_of id_cmp new.membership) learners
-  pub fold : IsUpgradeFold eq id_cmp cmp part IsClone (is_voter eq) old.progress configs learners default new.progress
+  pub fold : IsUpgradeFold eq id_cmp cmp part IsClone (has_quorum eq) (is_voter eq) old.progress configs learners default new.progress
 
 module _ {K N V P : Type 0} (by : Comparisons K V P) where
   -- a step that is not refused is an update or an increase of the progress, which leaves the membership, or a change of both
@@ -30,10 +30,11 @@ module _ {K N V P : Type 0} (by : Comparisons K V P) where
   IsTrackedDone old (Change change retain default) new = IsChangeFold by.eq by.id_cmp by.cmp by.part by.IsClone old default new
 
 module _ {K N V P : Type 0} (by : Comparisons K V P) (same : N → N → Bool) where
-  -- a step of a membership and its progress, over all that they show
+  -- a step of a membership and its progress, over all that they show; it ends ready
   pub record IsTrackedShownStep (old : TrackedShown K N V P) (step : Step K N V) (reply : Reply K P) (new : TrackedShown K N V P) : Type 0 where
     pub values : IsTrackedStep by same (tracked_state by.eq old) step reply (tracked_state by.eq new)
     pub answered : IsAnswered (λ t. t.progress.granted) (IsTrackedDone by old step) old reply new
+    pub ready : IsReady by.eq by.id_cmp by.cmp by.part new
 
   -- the steps may be answered so, one after another
   abbrev pub IsTrackedShownRun : TrackedShown K N V P → List (Step K N V) → List (Reply K P) → TrackedShown K N V P → Type 0

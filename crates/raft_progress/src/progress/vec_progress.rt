@@ -157,7 +157,7 @@ impl<
         ensures ordered { IfOk result (λ made.
             IsInOrder ID.eq P.cmp V.part_of QS.has_quorum (shown made)) }
         ensures fold { IfOk result (λ made.
-            IsUpgradeFold ID.eq ID.cmp P.cmp V.part_of V.is_clone QS.is_voter
+            IsUpgradeFold ID.eq ID.cmp P.cmp V.part_of V.is_clone QS.has_quorum QS.is_voter
             (shown self.now) quorum_set learners.now default (shown made)) }
         ensures learners { IfOk result (λ made. learner_ids (shown made) ≡ learners.now) }
         ensures counts { IfOk result (λ made.

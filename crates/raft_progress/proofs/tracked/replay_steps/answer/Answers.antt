@@ -32,6 +32,7 @@ returns-in-Update g c =
     record {
       values = (refl, c.write.ensures.step.values);
       answered = answered_pair (IsUpdatedTo g.NID.PartialEq.eq g.P.Ord.cmp g.V.ProgressPart.part_of (shown c.args.pair.now.progress) c.in-Update.id c.in-Update.value) (tracked c.args.pair.now) c.write.result (record { membership = c.args.pair.now.membership; progress = shown c.write.new.progress }) refl c.write.ensures.step.answered;
+      ready = ready_written g.met.NID.Eq.laws g.NID.Ord.cmp g.met.P.Ord.total g.V.ProgressPart.part_of (Coded-set (coded_list (coded_list g.row.NID.coded))) (tracked c.args.pair.now) (record { membership = c.args.pair.now.membership; progress = shown c.write.new.progress }) refl c.args.pair.now.ready c.write.ensures.ordered c.in-Update.id c.in-Update.value c.write.result c.write.ensures.step.values;
     }
 
 pub returns-in-IncreaseTo : goal.returns-in-IncreaseTo
@@ -40,9 +41,14 @@ returns-in-IncreaseTo g c =
     record {
       values = (refl, c.increase.ensures.step.values);
       answered = answered_pair (IsIncreasedTo g.NID.PartialEq.eq g.P.Ord.cmp g.V.ProgressPart.part_of g.V.PartialOrd.partial_cmp (shown c.args.pair.now.progress) c.in-IncreaseTo.id c.in-IncreaseTo.value) (tracked c.args.pair.now) c.increase.result (record { membership = c.args.pair.now.membership; progress = shown c.increase.new.progress }) refl c.increase.ensures.step.answered;
+      ready = ready_increased g.met.NID.Eq.laws g.NID.Ord.cmp g.met.P.Ord.total g.V.ProgressPart.part_of (Coded-set (coded_list (coded_list g.row.NID.coded))) (tracked c.args.pair.now) (record { membership = c.args.pair.now.membership; progress = shown c.increase.new.progress }) refl c.args.pair.now.ready c.increase.ensures.ordered c.in-IncreaseTo.id c.in-IncreaseTo.value c.increase.result g.V.PartialOrd.partial_cmp c.increase.ensures.step.values;
     }
 
 pub returns-in-Change : goal.returns-in-Change
 returns-in-Change g c =
     rw c.in-Change.is
-    record { values = c.change_members.ensures.values; answered = c.change_members.ensures.answered }
+    record {
+      values = c.change_members.ensures.values;
+      answered = c.change_members.ensures.answered;
+      ready = ready_of g.met.NID.Eq.laws g.NID.Ord.cmp g.met.P.Ord.total g.V.ProgressPart.part_of (Coded-set (coded_list (coded_list g.row.NID.coded))) (tracked c.change_members.new.pair) c.change_members.new.pair.ready;
+    }

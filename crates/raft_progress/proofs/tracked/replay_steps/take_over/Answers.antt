@@ -63,7 +63,7 @@ returns-in_ok-upgraded-in-None-clause-step g c =
           learners = c.in_ok-learners.learners.items;
           has_configs = c.in_ok-configs.ensures.configs;
           are_learners = c.in_ok-learners.ensures;
-          fold = subst (λ (ls : List g.row.NID.Denot). IsUpgradeFold g.NID.PartialEq.eq g.NID.Ord.cmp g.P.Ord.cmp g.V.ProgressPart.part_of g.V.Clone.is_clone (is_voter g.NID.PartialEq.eq) (shown c.args.pair.now.progress) c.in_ok-configs.configs ls c.args.default (shown c.in_ok-upgraded-in-None.upgraded)) c.deref-in-None.ensures.value c.in_ok-upgraded-in-None.ensures.fold;
+          fold = subst (λ (ls : List g.row.NID.Denot). IsUpgradeFold g.NID.PartialEq.eq g.NID.Ord.cmp g.P.Ord.cmp g.V.ProgressPart.part_of g.V.Clone.is_clone (has_quorum g.NID.PartialEq.eq) (is_voter g.NID.PartialEq.eq) (shown c.args.pair.now.progress) c.in_ok-configs.configs ls c.args.default (shown c.in_ok-upgraded-in-None.upgraded)) c.deref-in-None.ensures.value c.in_ok-upgraded-in-None.ensures.fold;
         };
         tells = c.granted.ensures;
       };

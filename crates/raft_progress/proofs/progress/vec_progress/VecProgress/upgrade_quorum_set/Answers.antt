@@ -20,8 +20,8 @@ loop-entry-init g c =
           subst (λ (p : Shown g.row.ID.Denot g.row.V.Denot g.row.P.Denot g.row.QS.Denot). IsUpgraded g.ID.PartialEq.eq g.V.Clone.is_clone g.V.ProgressPart.part_of (g.QS.QuorumSet.is_voter c.args.quorum_set) c.args.quorum_set c.args.learners.now c.args.default (λ x. None) (state g.ID.PartialEq.eq p)) (sym same)
           (upgraded_none g.ID.PartialEq.eq g.V.Clone.is_clone g.V.ProgressPart.part_of (g.QS.QuorumSet.is_voter c.args.quorum_set) c.args.quorum_set c.args.learners.now c.args.default (state g.ID.PartialEq.eq (shown c.in_ok-made.made)) c.in_ok-made.ensures.made);
       fold =
-          subst (λ (p : Shown g.row.ID.Denot g.row.V.Denot g.row.P.Denot g.row.QS.Denot). IsFold g.ID.PartialEq.eq g.ID.Ord.cmp g.P.Ord.cmp g.V.ProgressPart.part_of g.V.Clone.is_clone g.QS.QuorumSet.is_voter [] c.args.self.now.stat c.args.quorum_set c.args.learners.now c.args.default p) (sym same)
-          (fold_none g.ID.PartialEq.eq g.ID.Ord.cmp g.P.Ord.cmp g.V.ProgressPart.part_of g.V.Clone.is_clone g.QS.QuorumSet.is_voter c.args.self.now.stat c.args.quorum_set c.args.learners.now c.args.default (record (shown c.in_ok-made.made) { stat = c.args.self.now.stat })
+          subst (λ (p : Shown g.row.ID.Denot g.row.V.Denot g.row.P.Denot g.row.QS.Denot). IsFold g.ID.PartialEq.eq g.ID.Ord.cmp g.P.Ord.cmp g.V.ProgressPart.part_of g.V.Clone.is_clone g.QS.QuorumSet.has_quorum g.QS.QuorumSet.is_voter [] c.args.self.now.stat c.args.quorum_set c.args.learners.now c.args.default p) (sym same)
+          (fold_none g.ID.PartialEq.eq g.ID.Ord.cmp g.P.Ord.cmp g.V.ProgressPart.part_of g.V.Clone.is_clone g.QS.QuorumSet.has_quorum g.QS.QuorumSet.is_voter c.args.self.now.stat c.args.quorum_set c.args.learners.now c.args.default (record (shown c.in_ok-made.made) { stat = c.args.self.now.stat })
           record { values = c.in_ok-made.ensures.made; walk = record { voters = c.in_ok-made.ensures.walk.voters; ascending = c.in_ok-made.ensures.walk.ascending; ids = c.in_ok-made.ensures.walk.ids; first = c.in_ok-made.ensures.walk.first }; granted = c.in_ok-made.ensures.granted; counts = refl });
     }
 
@@ -48,9 +48,10 @@ loop-entry-preserved g c =
           (λ v h. let k = c.take_over.ensures.updated.known v h in (k.0, k.1, k.2))
           (λ h. (c.take_over.ensures.updated.unknown h).0));
       fold =
-          subst (λ (es : List (g.row.ID.Denot × g.row.V.Denot)). IsFold g.ID.PartialEq.eq g.ID.Ord.cmp g.P.Ord.cmp g.V.ProgressPart.part_of g.V.Clone.is_clone g.QS.QuorumSet.is_voter es c.args.self.now.stat c.args.quorum_set c.args.learners.now c.args.default (shown c.take_over.new.self)) (sym more)
-          (fold_more g.ID.PartialEq.eq g.ID.Ord.cmp g.P.Ord.cmp g.V.ProgressPart.part_of g.V.Clone.is_clone g.QS.QuorumSet.is_voter (take c.loop-entry.entry-index c.args.self.now.walk.items) c.args.self.now.stat c.args.quorum_set c.args.learners.now c.args.default (shown c.loop-entry.made) c.loop-entry.invariant.fold c.entry-item.result (shown c.take_over.new.self)
-          (updated_weaker g.ID.PartialEq.eq g.P.Ord.cmp g.V.ProgressPart.part_of (λ v w. w ≡ c.in_ok-value.value) (λ v w. g.V.Clone.is_clone c.entry-item.result.1 w) (λ v w e. subst (g.V.Clone.is_clone c.entry-item.result.1) (sym e) c.in_ok-value.ensures.cases) (shown c.loop-entry.made) c.entry-item.result.0 (shown c.take_over.new.self) c.take_over.ensures.updated));
+          subst (λ (es : List (g.row.ID.Denot × g.row.V.Denot)). IsFold g.ID.PartialEq.eq g.ID.Ord.cmp g.P.Ord.cmp g.V.ProgressPart.part_of g.V.Clone.is_clone g.QS.QuorumSet.has_quorum g.QS.QuorumSet.is_voter es c.args.self.now.stat c.args.quorum_set c.args.learners.now c.args.default (shown c.take_over.new.self)) (sym more)
+          (fold_more g.ID.PartialEq.eq g.ID.Ord.cmp g.P.Ord.cmp g.V.ProgressPart.part_of g.V.Clone.is_clone g.QS.QuorumSet.has_quorum g.QS.QuorumSet.is_voter (take c.loop-entry.entry-index c.args.self.now.walk.items) c.args.self.now.stat c.args.quorum_set c.args.learners.now c.args.default (shown c.loop-entry.made) c.loop-entry.invariant.fold c.entry-item.result (shown c.take_over.new.self)
+          (updated_weaker g.ID.PartialEq.eq g.P.Ord.cmp g.V.ProgressPart.part_of (λ v w. w ≡ c.in_ok-value.value) (λ v w. g.V.Clone.is_clone c.entry-item.result.1 w) (λ v w e. subst (g.V.Clone.is_clone c.entry-item.result.1) (sym e) c.in_ok-value.ensures.cases) (shown c.loop-entry.made) c.entry-item.result.0 (shown c.take_over.new.self) c.take_over.ensures.updated)
+          c.take_over.ensures.ordered);
     }
 
 pub returns-clause-made : goal.returns-clause-made
@@ -61,11 +62,11 @@ returns-clause-made g c =
 pub returns-clause-fold : goal.returns-clause-fold
 returns-clause-fold g c =
     let at_end : length c.args.self.now.walk.items ≤ c.loop-entry.entry-index = rw (← c.deref-entry-items.ensures.value) (omega arith) in
-    subst (λ (es : List (g.row.ID.Denot × g.row.V.Denot)). IsFold g.ID.PartialEq.eq g.ID.Ord.cmp g.P.Ord.cmp g.V.ProgressPart.part_of g.V.Clone.is_clone g.QS.QuorumSet.is_voter es c.args.self.now.stat c.args.quorum_set c.args.learners.now c.args.default (shown c.loop-entry.made)) (take_all c.loop-entry.entry-index c.args.self.now.walk.items at_end) c.loop-entry.invariant.fold
+    subst (λ (es : List (g.row.ID.Denot × g.row.V.Denot)). IsFold g.ID.PartialEq.eq g.ID.Ord.cmp g.P.Ord.cmp g.V.ProgressPart.part_of g.V.Clone.is_clone g.QS.QuorumSet.has_quorum g.QS.QuorumSet.is_voter es c.args.self.now.stat c.args.quorum_set c.args.learners.now c.args.default (shown c.loop-entry.made)) (take_all c.loop-entry.entry-index c.args.self.now.walk.items at_end) c.loop-entry.invariant.fold
 
 pub returns-clause-learners : goal.returns-clause-learners
-returns-clause-learners g c = fold_learners g.ID.PartialEq.eq g.ID.Ord.cmp g.P.Ord.cmp g.V.ProgressPart.part_of g.V.Clone.is_clone g.QS.QuorumSet.is_voter _ c.args.self.now.stat c.args.quorum_set c.args.learners.now c.args.default (shown c.loop-entry.made) c.loop-entry.invariant.fold
+returns-clause-learners g c = fold_learners g.ID.PartialEq.eq g.ID.Ord.cmp g.P.Ord.cmp g.V.ProgressPart.part_of g.V.Clone.is_clone g.QS.QuorumSet.has_quorum g.QS.QuorumSet.is_voter _ c.args.self.now.stat c.args.quorum_set c.args.learners.now c.args.default (shown c.loop-entry.made) c.loop-entry.invariant.fold
 
 pub returns-clause-counts : goal.returns-clause-counts
 returns-clause-counts g c =
-    fold_counts g.ID.PartialEq.eq g.ID.Ord.cmp g.P.Ord.cmp g.V.ProgressPart.part_of g.V.Clone.is_clone g.QS.QuorumSet.is_voter c.args.self.now.walk.items c.args.self.now.stat c.args.quorum_set c.args.learners.now c.args.default (shown c.loop-entry.made) (returns-clause-fold g c) c.go_on_from.ensures.counts
+    fold_counts g.ID.PartialEq.eq g.ID.Ord.cmp g.P.Ord.cmp g.V.ProgressPart.part_of g.V.Clone.is_clone g.QS.QuorumSet.has_quorum g.QS.QuorumSet.is_voter c.args.self.now.walk.items c.args.self.now.stat c.args.quorum_set c.args.learners.now c.args.default (shown c.loop-entry.made) (returns-clause-fold g c) c.go_on_from.ensures.counts
