@@ -10,6 +10,7 @@ use Rattle.std.proofs.Common.{arith, sym, ap, refl, ◌∙◌, true≢false, get
 use Rattle.std.proofs.lemmas.Cmp.{tied_itself}
 use Rattle.std.proofs.lemmas.List.{get_or-set_same}
 use Rattle.std.proofs.lemmas.List.Quantifiers.{position-Some}
+use Rattle.std.proofs.lemmas.List.Sums.{prefix_len_passes}
 use Rattle.raft_progress.specs.progress.CountedValue.{AtMost}
 use Rattle.raft_progress.specs.progress.InOrder.{IsInOrder, IsWalkInOrder}
 use Rattle.raft_progress.specs.Inner.Counts.{exceeds}
@@ -19,7 +20,7 @@ use Rattle.raft_progress.specs.progress.ProgressState.{Writes}
 use Rattle.raft_progress.specs.progress.Shown.{Shown, state}
 use Rattle.raft_progress.specs.progress.Statistics.{counted_up}
 use Rattle.raft_progress.specs.progress.Walk.{IsRisen, state_of}
-use Rattle.raft_progress.proofs.RecountLemmas.{AtMost-from_not_lt}
+use Rattle.raft_progress.proofs.RecountLemmas.{AtMost-from_lt, AtMost-from_not_lt, AtMost-refl}
 use Rattle.raft_progress.proofs.MovedLemmas.{is_risen}
 use Rattle.raft_progress.proofs.SettledLemmas as settles
 use Rattle.raft_progress.proofs.UpdateLemmas.{same_keys, lookup_written, writes}
@@ -32,6 +33,7 @@ pub record Outcome {ID V P QS : Type 0} (eq : ID → ID → Bool) (cmp : P → P
   pub written : Writes eq (state_of eq mid.quorum_set ws mid.voter_count mid.default_part) id w (state eq new)
   pub voter_count : new.voter_count ≡ mid.voter_count
   pub updates : new.stat.update_count ≡ mid.stat.update_count
+  pub not_lower : AtMost cmp mid.granted new.granted
   pub rises : (is_member eq (take mid.voter_count (keys_of ws)) id && (is_lt (cmp (part v) (part w)) && is_lt (cmp mid.granted (part w)))) ≡ true → IsRisen cmp part (eq id) (set_value (eq id) ws w) new.walk × (new.stat.move_count ≡ counted_up mid.stat.move_count 1)
   pub stays : (is_member eq (take mid.voter_count (keys_of ws)) id && (is_lt (cmp (part v) (part w)) && is_lt (cmp mid.granted (part w)))) ≡ false → (new.walk ≡ set_value (eq id) ws w) × (new.stat.move_count ≡ mid.stat.move_count)
   pub tests : ℕ
@@ -96,6 +98,7 @@ module _ {ID V P QS : Type 0} {eq : ID → ID → Bool} (laws : IsEquivalence eq
         written = writes laws ws mid.walk id e0.1 w was wrote mid.quorum_set mid.quorum_set mid.voter_count mid.voter_count mid.default_part mid.default_part refl refl refl;
         voter_count = refl;
         updates = refl;
+        not_lower = AtMost-refl o mid.granted;
         rises = λ h. absurd (true≢false (sym h ∙ down));
         stays = λ h. (wrote, refl);
         tests = 0;
@@ -166,6 +169,7 @@ module _ {ID V P QS : Type 0} {eq : ID → ID → Bool} (laws : IsEquivalence eq
           written = written_m m refl record { quorum_set = refl; voter_count = refl; default_part = refl; updates = refl };
           voter_count = raised.group.voter_count;
           updates = raised.group.updates;
+          not_lower = subst (AtMost cmp mid.granted) (sym raised.granted) (AtMost-refl o mid.granted);
           rises = λ h. (walk_risen, raised.moves);
           stays = λ h. absurd (true≢false (sym rise ∙ h));
           tests = 0;
@@ -194,6 +198,16 @@ module _ {ID V P QS : Type 0} {eq : ID → ID → Bool} (laws : IsEquivalence eq
           subst (λ (x : P). IsWalkInOrder eq cmp part has_quorum mid.quorum_set (m.walk) mid.voter_count mid.default_part x) (sym f.2)
           (settles.order_found laws o part has_quorum mid.quorum_set (superset mid.quorum_set) mid.default_part mid.voter_count ws mid.granted r id i e0 at is w up mid.walk next_is keys_same value_written was voter high (m.walk) raised.to raised.rises s.found s.tests scan k f.0 some (f.1 ∙ ap (λ x. get_or (take x (m.walk)) (k - 1) f.0) raised.group.voter_count))
 
+      never_less : (found : Option ℕ) → s.found ≡ found → AtMost cmp mid.granted new.granted
+      never_less None none = subst (AtMost cmp mid.granted) (sym (s.stays none ∙ raised.granted)) (AtMost-refl o mid.granted)
+      never_less (Some k) some =
+          let f = s.rises k some in
+          let voters = take m.voter_count m.walk in
+          let low = s.scanned.above k some in
+          let far = s.scanned.within k some in
+          let over : is_lt (cmp m.granted (part (get_or voters (k - 1) f.0).1)) ≡ true = prefix_len_passes (exceeds cmp part m.granted) voters (k - 1) f.0 (omega arith) in
+          subst (AtMost cmp mid.granted) (sym f.2) (AtMost-from_lt cmp mid.granted (part f.0.1) (ap (λ (x : P). is_lt (cmp x (part f.0.1))) (sym raised.granted) ∙ ap (λ (e : ID × V). is_lt (cmp m.granted (part e.1))) f.1 ∙ over))
+
       tested : (found : Option ℕ) → s.found ≡ found → is_lt (cmp mid.granted new.granted) ≡ true → 1 ≤ s.tests
       tested None none h = absurd (true≢false (sym h ∙ ap (λ (x : P). is_lt (cmp mid.granted x)) (s.stays none ∙ raised.granted) ∙ ap is_lt (tied_itself o mid.granted)))
       tested (Some k) some h = scan.tested k some
@@ -205,6 +219,7 @@ module _ {ID V P QS : Type 0} {eq : ID → ID → Bool} (laws : IsEquivalence eq
         written = written_m new s.same_walk s.group;
         voter_count = s.group.voter_count ∙ raised.group.voter_count;
         updates = s.group.updates ∙ raised.group.updates;
+        not_lower = never_less s.found refl;
         rises = λ h. (subst (λ (es : List (ID × V)). IsRisen cmp part (eq id) (set_value (eq id) ws w) es) (sym s.same_walk) walk_risen, s.moves ∙ raised.moves);
         stays = λ h. absurd (true≢false (sym rise ∙ h));
         tests = s.tests;

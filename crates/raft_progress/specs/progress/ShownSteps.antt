@@ -1,5 +1,5 @@
 -- What a step does to all that a progress shows: to its walk, to what is granted and to the counts too.
-use Rattle.std.specs.Prelude.{◌≡◌, Bool, List, Option}
+use Rattle.std.specs.Prelude.{◌≡◌, Bool, true, false, List, Option}
 use Rattle.std.specs.declared.cmp.Ordering.{Ordering}
 use Rattle.raft_progress.specs.progress.Answered.{IsAnswered}
 use Rattle.raft_progress.specs.progress.Comparisons.{Comparisons}
@@ -21,6 +21,12 @@ module _ {ID V P QS : Type 0} (eq : ID → ID → Bool) (cmp : P → P → Order
   -- the value of an id is updated to this one where this one is greater, and else to itself
   abbrev pub IsIncreasedTo : (V → V → Option Ordering) → Shown ID V P QS → ID → V → Shown ID V P QS → Type 0
   IsIncreasedTo partial_cmp old id value new = IsUpdated eq cmp part (IsGreaterOf partial_cmp value) old id new
+
+-- whether a step is an upgrade
+abbrev pub is_upgrade : {ID V QS : Type 0} → AnyStep ID V QS → Bool
+is_upgrade (Update id value) = false
+is_upgrade (IncreaseTo id value) = false
+is_upgrade (Upgrade quorum_set learners default) = true
 
 module _ {ID V P QS : Type 0} (by : Comparisons ID V P) (has_quorum : QS → (ID → Bool) → Bool) (is_voter : QS → ID → Bool) where
   -- a step that is not refused is an update, an increase or an upgrade

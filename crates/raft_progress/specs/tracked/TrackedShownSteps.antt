@@ -1,5 +1,5 @@
 -- What a step does to all that a tracked progress shows.
-use Rattle.std.specs.Prelude.{◌≡◌, Bool, List}
+use Rattle.std.specs.Prelude.{◌≡◌, Bool, true, false, List}
 use Rattle.std.specs.declared.cmp.Ordering.{Ordering}
 use Rattle.raft_members.specs.Members.{members_of}
 use Rattle.raft_progress.specs.progress.Answered.{IsAnswered}
@@ -20,6 +20,12 @@ pub record IsChangeFold {K N V P : Type 0} (eq : K → K → Bool) (id_cmp : K �
   pub has_configs : HasConfigs (members_of id_cmp new.membership) configs
   pub are_learners : AreLearners eq (members_of id_cmp new.membership) learners
   pub fold : IsUpgradeFold eq id_cmp cmp part IsClone (has_quorum eq) (is_voter eq) old.progress configs learners default new.progress
+
+-- whether a step is a change of the membership
+abbrev pub is_change : {K N V : Type 0} → Step K N V → Bool
+is_change (Update id value) = false
+is_change (IncreaseTo id value) = false
+is_change (Change change retain default) = true
 
 module _ {K N V P : Type 0} (by : Comparisons K V P) where
   -- a step that is not refused is an update or an increase of the progress, which leaves the membership, or a change of both

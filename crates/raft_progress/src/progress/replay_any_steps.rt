@@ -1,12 +1,13 @@
 //! Steps of a progress, and their replies.
-ghost use Rattle.std.specs.Prelude.{◌≡◌, IfOk, OnErr};
+ghost use Rattle.std.specs.Prelude.{◌≡◌, false, IfOk, OnErr};
+ghost use Rattle.std.specs.List.{list_any};
 ghost use Rattle.std.specs.Option.{option_copied};
 ghost use Rattle.raft_progress.specs.progress.Comparisons.{comparisons};
-ghost use Rattle.raft_progress.specs.progress.CountedValue.{IsCounted};
+ghost use Rattle.raft_progress.specs.progress.CountedValue.{AtMost, IsCounted};
 ghost use Rattle.raft_progress.specs.progress.InOrder.{IsInOrder};
 ghost use Rattle.raft_progress.specs.Inner.ShownAnswers.{IsShownIncrease, IsShownUpgrade, IsShownWrite};
 ghost use Rattle.raft_progress.specs.progress.Shown.{state};
-ghost use Rattle.raft_progress.specs.progress.ShownSteps.{IsShownRun, IsShownStep};
+ghost use Rattle.raft_progress.specs.progress.ShownSteps.{IsShownRun, IsShownStep, is_upgrade};
 ghost use Rattle.raft_progress.specs.progress.VecProgress.{shown};
 ghost use Rattle.raft_progress.specs.progress.Steps.{IsRun, falls, stays};
 
@@ -173,6 +174,8 @@ fn would_fall<V: ProgressPart<P>, P: Copy + Ord>(current: Option<&V>, value: &V)
 }
 
 /// Makes the steps in order, with a reply for each.
+///
+/// Granted never falls where none of the steps is an upgrade.
 pub fn replay_any<
     ID: Copy + Ord,
     V: ProgressPart<P> + PartialOrd + Clone + Drop,
@@ -195,6 +198,8 @@ pub fn replay_any<
     ensures ordered { IsInOrder ID.eq P.cmp V.part_of QS.has_quorum (shown progress.new) }
     ensures granted { IsCounted P.cmp V.part_of QS.has_quorum
         (state ID.eq (shown progress.new)) (shown progress.new).granted }
+    ensures never_falls { list_any is_upgrade steps.items ≡ false →
+        AtMost P.cmp (shown progress.old).granted (shown progress.new).granted }
     ensures err { OnErr result (shown progress.new ≡ shown progress.old) }
 {
     let mut replies = Vec::with_capacity(alloc, steps.len())?;

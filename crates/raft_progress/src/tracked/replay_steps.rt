@@ -1,13 +1,14 @@
 //! A replay of steps on a membership and its progress.
-ghost use Rattle.std.specs.Prelude.{◌≡◌, IfOk, OnErr};
+ghost use Rattle.std.specs.Prelude.{◌≡◌, false, IfOk, OnErr};
+ghost use Rattle.std.specs.List.{list_any};
 ghost use Rattle.std.specs.Set.{ClonesAreEqual};
 ghost use Rattle.raft_progress.specs.progress.Comparisons.{comparisons};
-ghost use Rattle.raft_progress.specs.progress.CountedValue.{IsCounted};
+ghost use Rattle.raft_progress.specs.progress.CountedValue.{AtMost, IsCounted};
 ghost use Rattle.raft_progress.specs.tracked.Headline.{ChangedQuorumsKnowGranted, QuorumsKnowGranted};
 ghost use Rattle.raft_progress.specs.Inner.ShownAnswers.{IsShownChange, IsShownTakeOver};
 ghost use Rattle.raft_progress.specs.progress.Shown.{state};
 ghost use Rattle.raft_progress.specs.tracked.Tracked.{tracked};
-ghost use Rattle.raft_progress.specs.tracked.TrackedShownSteps.{IsTrackedShownRun, IsTrackedShownStep};
+ghost use Rattle.raft_progress.specs.tracked.TrackedShownSteps.{IsTrackedShownRun, IsTrackedShownStep, is_change};
 ghost use Rattle.raft_progress.specs.tracked.TrackedState.{IsReady, has_quorum, tracked_state};
 ghost use Rattle.raft_progress.specs.tracked.TrackedSteps.{IsTrackedRun};
 
@@ -102,7 +103,7 @@ fn take_over<NID: NodeId, N: Node, V: ProgressPart<P> + Clone + Drop, P: Copy + 
 /// refused changes nothing either, and the next one is made.
 ///
 /// What is granted at the end is counted afresh over the values and the membership as they then
-/// stand. Where that membership has a config, every quorum of it, and of each that one change makes of
+/// stand; it never falls where none of the steps is a change. Where that membership has a config, every quorum of it, and of each that one change makes of
 /// it, has a voter whose part is at least granted.
 pub fn replay<NID: NodeId, N: Node, V: ProgressPart<P> + PartialOrd + Clone + Drop, P: Copy + Ord>(
     alloc: Global,
@@ -121,6 +122,8 @@ pub fn replay<NID: NodeId, N: Node, V: ProgressPart<P> + PartialOrd + Clone + Dr
     ensures ready { IsReady NID.eq NID.cmp P.cmp V.part_of (tracked pair.new) }
     ensures granted { IsCounted P.cmp V.part_of (has_quorum NID.eq)
         (state NID.eq (tracked pair.new).progress) (tracked pair.new).progress.granted }
+    ensures never_falls { list_any is_change steps.items ≡ false →
+        AtMost P.cmp (tracked pair.old).progress.granted (tracked pair.new).progress.granted }
     ensures quorums { QuorumsKnowGranted NID.eq P.cmp V.part_of (tracked pair.new) }
     ensures changed_quorums { ChangedQuorumsKnowGranted NID.eq NID.cmp P.cmp V.part_of (tracked pair.new) }
     ensures err { OnErr result (tracked pair.new ≡ tracked pair.old) }

@@ -8,6 +8,8 @@ use Rattle.raft_progress.specs.progress.VecProgress.{shown}
 use Rattle.std.proofs.lemmas.List.{append-nil, nil_from_length}
 use Rattle.raft_progress.specs.declared.progress.steps.AnyStep.{AnyStep}
 use Rattle.raft_progress.specs.declared.progress.steps.Reply.{Reply}
+use Rattle.raft_progress.proofs.GrantedLemmas.{run_not_lower}
+use Rattle.raft_progress.proofs.RecountLemmas.{AtMost-refl}
 use Rattle.raft_progress.proofs.RunLemmas.{run_more, run_seen}
 use Rattle.raft_progress.proofs.Traits.{compared}
 use Rattle.raft_progress.proofs.progress.replay_any_steps.replay_any.Goals as goal
@@ -35,3 +37,11 @@ returns-clause-run g c =
     let by = compared g.ID.PartialEq.eq g.ID.Ord.cmp g.P.Ord.cmp g.V.PartialOrd.partial_cmp g.V.ProgressPart.part_of g.V.Clone.is_clone in
     run_seen (IsShownStep by g.QS.QuorumSet.has_quorum g.QS.QuorumSet.is_voter) (IsStep by g.QS.QuorumSet.has_quorum g.QS.QuorumSet.is_voter) IsSame (state g.ID.PartialEq.eq) (λ old step reply new s. s.values) (λ s. record { quorum_set = refl; is_voter = λ x. refl; value = λ x. refl; default_part = refl })
     (shown c.args.progress.now) c.args.steps.items c.loop-step.replies.items (shown c.loop-step.progress) (returns-clause-shown_run g c)
+
+pub returns-clause-never_falls : goal.returns-clause-never_falls
+returns-clause-never_falls g c = λ none.
+    let by = compared g.ID.PartialEq.eq g.ID.Ord.cmp g.P.Ord.cmp g.V.PartialOrd.partial_cmp g.V.ProgressPart.part_of g.V.Clone.is_clone in
+    run_not_lower by g.met.P.Ord.total g.QS.QuorumSet.has_quorum g.QS.QuorumSet.is_voter (shown c.args.progress.now) c.args.steps.items c.loop-step.replies.items (shown c.loop-step.progress) (returns-clause-shown_run g c) none
+
+pub returns-in_err-replies-clause-never_falls : goal.returns-in_err-replies-clause-never_falls
+returns-in_err-replies-clause-never_falls g c = λ none. AtMost-refl g.met.P.Ord.total c.args.progress.now.granted

@@ -8,8 +8,10 @@ use Rattle.raft_progress.specs.tracked.TrackedState.{tracked_state}
 use Rattle.raft_progress.specs.tracked.TrackedSteps.{IsSamePair, IsTrackedStep}
 use Rattle.raft_progress.specs.declared.progress.steps.Reply.{Reply}
 use Rattle.raft_progress.specs.declared.tracked.step.Step.{Step}
+use Rattle.raft_progress.proofs.GrantedLemmas.{pair_run_not_lower}
 use Rattle.raft_progress.proofs.HeadlineLemmas.{each_quorum_knows}
 use Rattle.raft_progress.proofs.ReadyLemmas.{ready_of}
+use Rattle.raft_progress.proofs.RecountLemmas.{AtMost-refl}
 use Rattle.raft_progress.proofs.RunLemmas.{run_more, run_seen}
 use Rattle.raft_progress.proofs.Traits.{compared}
 use Rattle.raft_progress.proofs.tracked.replay_steps.replay.Goals as goal
@@ -60,3 +62,11 @@ returns-clause-quorums g c = λ some. (each_quorum_knows g.met.NID.Eq.laws g.NID
 
 pub returns-clause-changed_quorums : goal.returns-clause-changed_quorums
 returns-clause-changed_quorums g c = λ some. (each_quorum_knows g.met.NID.Eq.laws g.NID.Ord.cmp g.met.P.Ord.total g.V.ProgressPart.part_of (tracked c.loop-step.pair) (ready_of g.met.NID.Eq.laws g.NID.Ord.cmp g.met.P.Ord.total g.V.ProgressPart.part_of (Coded-set (coded_list (coded_list g.row.NID.coded))) (tracked c.loop-step.pair) c.loop-step.pair.ready) some).1
+
+pub returns-clause-never_falls : goal.returns-clause-never_falls
+returns-clause-never_falls g c = λ none.
+    let by = compared g.NID.PartialEq.eq g.NID.Ord.cmp g.P.Ord.cmp g.V.PartialOrd.partial_cmp g.V.ProgressPart.part_of g.V.Clone.is_clone in
+    pair_run_not_lower by g.met.P.Ord.total g.N.PartialEq.eq (tracked c.args.pair.now) c.args.steps.items c.loop-step.replies.items (tracked c.loop-step.pair) (returns-clause-shown_run g c) none
+
+pub returns-in_err-replies-clause-never_falls : goal.returns-in_err-replies-clause-never_falls
+returns-in_err-replies-clause-never_falls g c = λ none. AtMost-refl g.met.P.Ord.total (tracked c.args.pair.now).progress.granted

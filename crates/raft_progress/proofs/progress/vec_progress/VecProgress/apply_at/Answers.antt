@@ -7,6 +7,7 @@ use Rattle.std.proofs.lemmas.Option.{get_or_from_slice_get}
 use Rattle.raft_progress.proofs.WalkLemmas.{lookup_absent, no_value}
 use Rattle.raft_progress.proofs.UpdateLemmas.{was, wrote}
 use Rattle.raft_progress.proofs.OutcomeLemmas.{outcome}
+use Rattle.raft_progress.proofs.RecountLemmas.{AtMost-refl}
 use Rattle.raft_progress.specs.progress.Updated.{IsSettled}
 use Rattle.raft_progress.specs.progress.VecProgress.{shown}
 use Rattle.raft_progress.proofs.progress.vec_progress.VecProgress.apply_at.Goals as goal
@@ -37,6 +38,7 @@ returns-in-Some-clause-updated g c = λ id found.
     record {
       counts = oc.updates ∙ c.saturating_add-self.ensures;
       same_voter_count = oc.voter_count;
+      not_lower = oc.not_lower;
       known = λ v e.
           let same : h.0.1 ≡ v = cc in (
             h.1,
@@ -64,6 +66,7 @@ returns-in-None-clause-updated g c = λ id found.
     record {
       counts = c.saturating_add-self.ensures;
       same_voter_count = refl;
+      not_lower = AtMost-refl g.met.P.Ord.total c.args.self.now.granted;
       known = λ v e. absurd (no_value _ _ gone e);
       unknown = λ e. (record { quorum_set = refl; is_voter = λ x. refl; value = λ x. refl; default_part = refl }, refl, refl, refl, refl);
     }
