@@ -1,5 +1,6 @@
 //! A membership and the progress that counts by it; both change only together.
 ghost use Rattle.std.specs.Prelude.{◌≡◌, IfOk};
+ghost use Rattle.raft_members.specs.Learners.{learners_of};
 ghost use Rattle.raft_members.specs.Members.{members_of};
 ghost use Rattle.raft_progress.specs.tracked.TrackedState.{AreLearners, IsReady};
 ghost use Rattle.raft_progress.specs.progress.VecProgress.{shown};
@@ -110,12 +111,13 @@ impl<NID: NodeId, N: Node, V: ProgressPart<P> + Clone + Drop, P: Copy + Ord> Tra
     }
 }
 
-/// The learners of a membership.
+/// The learners of a membership, ascending.
 fn learners_of<NID: NodeId, N: Node>(
     alloc: Global,
     membership: &Membership<NID, N>,
 ) -> Result<Vec<NID>, AllocError>
-    ensures { IfOk result (λ ids.
+    ensures same { IfOk result (λ ids. ids.items ≡ learners_of NID.eq membership.now) }
+    ensures learners { IfOk result (λ ids.
         AreLearners NID.eq (members_of NID.cmp membership.now) ids.items) }
 {
     membership.learner_ids().collect(alloc)

@@ -1,25 +1,24 @@
 -- What a step does to all that a tracked progress shows.
 use Rattle.std.specs.Prelude.{◌≡◌, Bool, true, false, List}
 use Rattle.std.specs.declared.cmp.Ordering.{Ordering}
+use Rattle.raft_members.specs.Learners.{learners_of}
 use Rattle.raft_members.specs.Members.{members_of}
 use Rattle.raft_progress.specs.progress.Answered.{IsAnswered}
 use Rattle.raft_progress.specs.progress.Comparisons.{Comparisons}
 use Rattle.raft_progress.specs.progress.Run.{Runs}
 use Rattle.raft_progress.specs.progress.ShownSteps.{IsIncreasedTo, IsUpdatedTo}
-use Rattle.raft_progress.specs.tracked.TrackedState.{AreLearners, Configs, HasConfigs, IsReady, TrackedShown, has_quorum, is_voter, tracked_state}
+use Rattle.raft_progress.specs.tracked.TrackedState.{Configs, HasConfigs, IsReady, TrackedShown, has_quorum, is_voter, tracked_state}
 use Rattle.raft_progress.specs.tracked.TrackedSteps.{IsTrackedStep}
 use Rattle.raft_progress.specs.progress.UpgradeFold.{IsUpgradeFold}
 use Rattle.raft_progress.specs.declared.progress.steps.Reply.{Reply}
 use Rattle.raft_progress.specs.declared.tracked.step.Step.{Step}
 use Rattle.raft_progress.specs.declared.tracked.step.Step.TheVariants.{Update, IncreaseTo, Change}
 
--- the progress goes over to the configs and the learners of the membership that is there now
+-- the progress goes over to the configs and the learners of the membership that is there now, in the membership's order
 pub record IsChangeFold {K N V P : Type 0} (eq : K → K → Bool) (id_cmp : K → K → Ordering) (cmp : P → P → Ordering) (part : V → P) (IsClone : V → V → Type 0) (old : TrackedShown K N V P) (default : V) (new : TrackedShown K N V P) : Type 0 where
   pub configs : Configs K
-  pub learners : List K
   pub has_configs : HasConfigs (members_of id_cmp new.membership) configs
-  pub are_learners : AreLearners eq (members_of id_cmp new.membership) learners
-  pub fold : IsUpgradeFold eq id_cmp cmp part IsClone (has_quorum eq) (is_voter eq) old.progress configs learners default new.progress
+  pub fold : IsUpgradeFold eq id_cmp cmp part IsClone (has_quorum eq) (is_voter eq) old.progress configs (learners_of eq new.membership) default new.progress
 
 -- whether a step is a change of the membership
 abbrev pub is_change : {K N V : Type 0} → Step K N V → Bool
