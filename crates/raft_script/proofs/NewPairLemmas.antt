@@ -60,4 +60,5 @@ module _ (configs : List (List ℕ)) (learners : List ℕ) (default : ℕ) (made
         nodes = nodes;
         values = λ id. value_there (is_voter nat_eq joint id || is_member nat_eq ids id) _ default _ (new.value id) (new.others id) (known id);
         default_part = new.default_part;
+        counts_by = ready.counts_by;
       }

@@ -12,7 +12,7 @@ use Rattle.raft_progress.specs.tracked.Headline.{ChangedQuorumsKnowGranted, Quor
 use Rattle.raft_progress.specs.progress.Shown.{state}
 use Rattle.raft_progress.specs.tracked.Tracked.{tracked}
 use Rattle.raft_progress.specs.tracked.TrackedState as tracked_state
-use Rattle.raft_progress.specs.tracked.TrackedState.{TrackedShown, TrackedState, has_quorum}
+use Rattle.raft_progress.specs.tracked.TrackedState.{CountsBy, TrackedShown, TrackedState, has_quorum}
 use Rattle.raft_progress.specs.tracked.TrackedSteps.{IsTrackedRun}
 use Rattle.raft_progress.specs.declared.progress.steps.Reply.{Reply}
 use Rattle.raft_progress.specs.declared.tracked.step.Step.{Step}
@@ -52,12 +52,13 @@ shown_of engine = option_map tracked engine.tracked
 abbrev pub pair_of : Engine → Option EngineState
 pair_of engine = option_map (λ t. tracked_state.tracked_state nat_eq (tracked t)) engine.tracked
 
--- the membership has the configs, and a node for each voter and learner, which all have the default
+-- the membership has the configs, and a node for each voter and learner, which all have the default; the progress counts by it
 pub record IsStart (configs : List (List ℕ)) (learners : List ℕ) (default : ℕ) (made : EngineState) : Type 0 where
   pub same_configs : made.membership.configs ≡ configs
   pub nodes : (id : ℕ) → is_some (node_at nat_cmp made.membership.nodes id) ≡ (is_voter_of nat_eq configs id || is_member nat_eq learners id)
   pub values : (id : ℕ) → made.progress.value id ≡ (if is_voter_of nat_eq configs id || is_member nat_eq learners id then Some default else None)
   pub default_part : made.progress.default_part ≡ default
+  pub counts_by : CountsBy nat_eq nat_cmp made
 
 -- the step may be answered so, from one pair to another
 abbrev pub IsEngineStep : EngineState → Step ℕ EmptyNode ℕ → Reply ℕ ℕ → EngineState → Type 0
