@@ -67,7 +67,7 @@ module _ {ID V P QS : Type 0} (eq : ID → ID → Bool) (cmp : P → P → Order
   learners_stay u = ap (λ n. drop n (keys_of new.walk)) u.same_voter_count ∙ by ((state eq old).value id) refl
     where
       by : (o : Option V) → (state eq old).value id ≡ o → drop old.voter_count (keys_of new.walk) ≡ drop old.voter_count (keys_of old.walk)
-      by None h = ap (λ (es : List (ID × V)). drop old.voter_count (keys_of es)) (u.unknown h).1
+      by None h = ap (λ (p : Shown ID V P QS). drop old.voter_count (keys_of p.walk)) (u.unknown h)
       by (Some v) h = let k = u.known v h in settled_stay v k.0 k.3
 
 -- in a new progress they stand behind the voters

@@ -36,10 +36,10 @@ module _ {ID V P QS : Type 0} (eq : ID → ID → Bool) (cmp : P → P → Order
   updated_once = u.counts ∙ ap (λ x. counted_up x 1) c.updated ∙ counted_twice s.update_count n 1
 
   -- nothing but the update was counted
-  pub counts_unknown : new.stat.move_count ≡ old.stat.move_count → new.stat.is_quorum_count ≡ old.stat.is_quorum_count → CountsGoOn (n + 1) new.voter_count s new.stat
-  counts_unknown m q = record {
+  counts_unknown : new ≡ record old { stat = record old.stat { update_count = counted_up old.stat.update_count 1 } } → CountsGoOn (n + 1) new.voter_count s new.stat
+  counts_unknown is = record {
     updated = updated_once;
-    moved = let w = c.moved in let l = w.1 in (w.0, omega arith, m ∙ w.2);
+    moved = let w = c.moved in let l = w.1 in (w.0, omega arith, ap (λ p. p.stat.move_count) is ∙ w.2);
     tested =
         let x = c.tested in (
           x.0,
@@ -47,7 +47,7 @@ module _ {ID V P QS : Type 0} (eq : ID → ID → Bool) (cmp : P → P → Order
               let l = x.1 d (fits d h) in
               let e = one_more n d in
               omega arith,
-          q ∙ x.2,
+          ap (λ p. p.stat.is_quorum_count) is ∙ x.2,
         );
   }
 
@@ -75,5 +75,5 @@ module _ {ID V P QS : Type 0} (eq : ID → ID → Bool) (cmp : P → P → Order
   counts_more = by ((state eq old).value id) refl
     where
       by : (o : Option V) → (state eq old).value id ≡ o → CountsGoOn (n + 1) new.voter_count s new.stat
-      by None h = let k = u.unknown h in counts_unknown k.3 k.4
+      by None h = counts_unknown (u.unknown h)
       by (Some v) h = let k = u.known v h in counts_known v k.0 k.3

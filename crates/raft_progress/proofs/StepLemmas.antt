@@ -16,7 +16,7 @@ use Rattle.raft_progress.specs.progress.Updated.{IsUpdated}
 use Rattle.raft_progress.specs.declared.progress.steps.Reply.{Reply}
 use Rattle.raft_progress.specs.declared.progress.steps.Reply.TheVariants.{Granted, Unknown}
 use Rattle.raft_progress.proofs.RecountLemmas.{AtMost-from_not_lt}
-use Rattle.raft_progress.proofs.UpdateLemmas.{lookup_alike}
+use Rattle.raft_progress.proofs.UpdateLemmas.{lookup_alike, unknown_same}
 
 module _ {ID V P QS : Type 0} where
   -- what is the same everywhere is the same
@@ -91,10 +91,10 @@ module _ {ID V P QS : Type 0} {eq : ID → ID → Bool} (laws : IsEquivalence eq
     none = absent ((state eq old).value id) h
 
     counted_before : IsCounted cmp part has_quorum (state eq old) granted
-    counted_before = subst (IsCounted cmp part has_quorum (state eq old)) (sym (is_granted ∙ (u.unknown none).2)) before.counted
+    counted_before = subst (IsCounted cmp part has_quorum (state eq old)) (sym (is_granted ∙ ap (λ p. p.granted) (u.unknown none))) before.counted
 
     pub unknown_values : IsWritten eq cmp part has_quorum (state eq old) id value (Unknown granted) (state eq new)
-    unknown_values = (none, counted_before, (u.unknown none).0)
+    unknown_values = (none, counted_before, unknown_same eq cmp part Left old id new u none)
 
     pub unknown_increase : (partial_cmp : V → V → Option Ordering) → IsIncreased eq cmp partial_cmp part has_quorum (state eq old) id value (Unknown granted) (state eq new)
     unknown_increase partial_cmp =

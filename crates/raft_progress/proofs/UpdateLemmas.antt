@@ -1,5 +1,6 @@
 -- What one written value does to a progress.
-use Rattle.std.specs.Prelude.{◌≡◌, ℕ, Bool, true, false, cond, List, [], ◌∷◌, take, Some, position, slice_get}
+use Rattle.std.specs.Prelude.{◌≡◌, ℕ, Bool, true, false, cond, List, [], ◌∷◌, take, Some, position, slice_get, None}
+use Rattle.std.specs.declared.cmp.Ordering.{Ordering}
 use Rattle.std.specs.Cmp.{IsEquivalence}
 use Rattle.std.specs.Map.{keys_of, lookup, set_value}
 use Rattle.std.specs.List.{IsDistinct, AllByRecursion}
@@ -7,7 +8,9 @@ use Rattle.std.specs.Option.{is_some}
 use Rattle.std.proofs.Common.{sym, ap, refl, ◌∙◌, set, subst, suc, zero}
 use Rattle.std.proofs.lemmas.Option.{get_or_from_slice_get}
 use Rattle.std.proofs.lemmas.Map.{lookup-set_value, keys-set_value}
-use Rattle.raft_progress.specs.progress.ProgressState.{Writes}
+use Rattle.raft_progress.specs.progress.ProgressState.{IsSame, Writes}
+use Rattle.raft_progress.specs.progress.Shown.{Shown, state}
+use Rattle.raft_progress.specs.progress.Updated.{IsUpdated}
 use Rattle.raft_progress.specs.progress.Walk.{state_of}
 use Rattle.raft_progress.proofs.WalkLemmas.{lookup_found, set_found}
 
@@ -57,3 +60,8 @@ module _ {ID : Type 0} {eq : ID → ID → Bool} (laws : IsEquivalence eq) where
       value = lookup_written;
       default_part = c;
     }
+
+-- an update of an unknown id changes no value
+pub unknown_same : {ID V P QS : Type 0} (eq : ID → ID → Bool) (cmp : P → P → Ordering) (part : V → P) (Left : V → V → Type 0) (old : Shown ID V P QS) (id : ID) (new : Shown ID V P QS) → IsUpdated eq cmp part Left old id new → (state eq old).value id ≡ None → IsSame (state eq old) (state eq new)
+unknown_same {ID} {V} {P} {QS} eq cmp part Left old id new u none =
+    subst (λ (p : Shown ID V P QS). IsSame (state eq old) (state eq p)) (sym (u.unknown none)) record { quorum_set = refl; is_voter = λ x. refl; value = λ x. refl; default_part = refl }

@@ -5,7 +5,7 @@ use Rattle.std.specs.Option.{ForSome}
 use Rattle.std.specs.Ordering.{is_le, is_lt, partial_gt}
 use Rattle.std.specs.Map.{set_value}
 use Rattle.raft_progress.specs.progress.CountedValue.{AtMost}
-use Rattle.raft_progress.specs.progress.ProgressState.{Writes, IsSame}
+use Rattle.raft_progress.specs.progress.ProgressState.{Writes}
 use Rattle.raft_progress.specs.progress.Statistics.{counted_up}
 use Rattle.raft_progress.specs.progress.Walk.{IsRisen}
 use Rattle.raft_progress.specs.progress.Shown.{Shown, state}
@@ -29,13 +29,15 @@ module _ {ID V P QS : Type 0} (eq : ID → ID → Bool) (cmp : P → P → Order
     pub tested_to_rise : is_lt (cmp old.granted new.granted) ≡ true → 1 ≤ tests
     pub not_tested : passes_granted old id v w ≡ false → (tests ≡ 0) × (new.granted ≡ old.granted)
 
-  -- after an update of an id, whose value went to another by Left; of an unknown id only the update is counted; granted never falls
+  -- after an update of an id, whose value went to another by Left; of an unknown id nothing but the count of updates has changed; granted never falls
   pub record IsUpdated (Left : V → V → Type 0) (old : Shown ID V P QS) (id : ID) (new : Shown ID V P QS) : Type 0 where
     pub counts : new.stat.update_count ≡ counted_up old.stat.update_count 1
     pub same_voter_count : new.voter_count ≡ old.voter_count
     pub not_lower : AtMost cmp old.granted new.granted
-    pub known : (v : V) → (state eq old).value id ≡ Some v → (w : V) × Left v w × Writes eq (state eq old) id w (state eq new) × IsSettled old id v w new
-    pub unknown : (state eq old).value id ≡ None → IsSame (state eq old) (state eq new) × (new.walk ≡ old.walk) × (new.granted ≡ old.granted) × (new.stat.move_count ≡ old.stat.move_count) × (new.stat.is_quorum_count ≡ old.stat.is_quorum_count)
+    pub known : (v : V) → (state eq old).value id ≡ Some v
+        → (w : V) × Left v w × Writes eq (state eq old) id w (state eq new) × IsSettled old id v w new
+    pub unknown : (state eq old).value id ≡ None
+        → new ≡ record old { stat = record old.stat { update_count = counted_up old.stat.update_count 1 } }
 
 module _ {ID V P QS : Type 0} (eq : ID → ID → Bool) (cmp : P → P → Ordering) (part : V → P) where
   -- the part of the value that an id has is not above that of another value

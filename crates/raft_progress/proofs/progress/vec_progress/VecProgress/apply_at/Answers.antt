@@ -68,5 +68,5 @@ returns-in-None-clause-updated g c = λ id found.
       same_voter_count = refl;
       not_lower = AtMost-refl g.met.P.Ord.total c.args.self.now.granted;
       known = λ v e. absurd (no_value _ _ gone e);
-      unknown = λ e. (record { quorum_set = refl; is_voter = λ x. refl; value = λ x. refl; default_part = refl }, refl, refl, refl, refl);
+      unknown = λ e. ap (λ n. record (shown c.args.self.now) { stat = record c.args.self.now.stat { update_count = n } }) c.saturating_add-self.ensures;
     }

@@ -3,7 +3,7 @@ use Rattle.std.specs.Map.{lookup}
 use Rattle.std.proofs.lemmas.List.{take_more, take_all}
 use Rattle.raft_progress.specs.progress.Shown.{Shown, state}
 use Rattle.raft_progress.specs.progress.Upgrade.{IsUpgraded}
-use Rattle.raft_progress.proofs.UpdateLemmas.{lookup_alike}
+use Rattle.raft_progress.proofs.UpdateLemmas.{lookup_alike, unknown_same}
 use Rattle.raft_progress.proofs.FoldLemmas.{fold_counts, fold_learners, fold_more, fold_none, updated_weaker}
 use Rattle.raft_progress.specs.progress.InOrder.{IsInOrder}
 use Rattle.raft_progress.specs.progress.UpgradeFold.{IsFold}
@@ -46,7 +46,7 @@ loop-entry-preserved g c =
           subst (λ (es : List (g.row.ID.Denot × g.row.V.Denot)). IsUpgraded g.ID.PartialEq.eq g.V.Clone.is_clone g.V.ProgressPart.part_of (g.QS.QuorumSet.is_voter c.args.quorum_set) c.args.quorum_set c.args.learners.now c.args.default (λ x. lookup (g.ID.PartialEq.eq x) es) (state g.ID.PartialEq.eq (shown c.take_over.new.self))) (sym more)
           (step g.met.ID.Eq.laws g.V.Clone.is_clone g.V.ProgressPart.part_of (g.QS.QuorumSet.is_voter c.args.quorum_set) c.args.quorum_set c.args.learners.now c.args.default (take c.loop-entry.entry-index c.args.self.now.walk.items) (state g.ID.PartialEq.eq (shown c.loop-entry.made)) (state g.ID.PartialEq.eq (shown c.take_over.new.self)) c.loop-entry.invariant.made (λ x y h. lookup_alike g.met.ID.Eq.laws x y h c.loop-entry.made.walk.items) c.entry-item.result fresh c.in_ok-value.value c.in_ok-value.ensures.cases
           (λ v h. let k = c.take_over.ensures.updated.known v h in (k.0, k.1, k.2))
-          (λ h. (c.take_over.ensures.updated.unknown h).0));
+          (unknown_same g.ID.PartialEq.eq g.P.Ord.cmp g.V.ProgressPart.part_of _ (shown c.loop-entry.made) c.entry-item.result.0 (shown c.take_over.new.self) c.take_over.ensures.updated));
       fold =
           subst (λ (es : List (g.row.ID.Denot × g.row.V.Denot)). IsFold g.ID.PartialEq.eq g.ID.Ord.cmp g.P.Ord.cmp g.V.ProgressPart.part_of g.V.Clone.is_clone g.QS.QuorumSet.has_quorum g.QS.QuorumSet.is_voter es c.args.self.now.stat c.args.quorum_set c.args.learners.now c.args.default (shown c.take_over.new.self)) (sym more)
           (fold_more g.ID.PartialEq.eq g.ID.Ord.cmp g.P.Ord.cmp g.V.ProgressPart.part_of g.V.Clone.is_clone g.QS.QuorumSet.has_quorum g.QS.QuorumSet.is_voter (take c.loop-entry.entry-index c.args.self.now.walk.items) c.args.self.now.stat c.args.quorum_set c.args.learners.now c.args.default (shown c.loop-entry.made) c.loop-entry.invariant.fold c.entry-item.result (shown c.take_over.new.self)
