@@ -8,7 +8,7 @@ use Rattle.std.specs.Cmp.{IsTotalOrder}
 use Rattle.std.specs.List.{AllByRecursion, prefix_len}
 use Rattle.std.proofs.Common.{arith, sym, ap, refl, ◌∙◌, true≢false, suc, zero, get_or, set}
 use Rattle.raft_progress.specs.progress.CountedValue.{AtMost}
-use Rattle.raft_progress.specs.progress.Walk.{LastAtLeast}
+use Rattle.raft_progress.specs.Inner.Rises.{LastAtLeast}
 use Rattle.raft_progress.specs.progress.Walk.{IsFalling}
 use Rattle.raft_progress.proofs.RecountLemmas.{AtMost-trans, AtMost-from_lt}
 use Rattle.raft_progress.proofs.ListLemmas.{all_weaker}

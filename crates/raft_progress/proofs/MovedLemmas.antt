@@ -10,8 +10,8 @@ use Rattle.std.specs.Set.{is_member}
 use Rattle.std.proofs.Common.{arith, sym, ap, refl, ◌∙◌, true≢false, suc, zero, get_or, append_assoc, length-append}
 use Rattle.std.proofs.lemmas.List.{append-nil}
 use Rattle.raft_progress.proofs.RisingLemmas.{get_at}
-use Rattle.raft_progress.specs.Inner.Rises.{RisesTo}
-use Rattle.raft_progress.specs.progress.Walk.{IsRisen, LastAtLeast, put_after_last, risen}
+use Rattle.raft_progress.specs.Inner.Rises.{LastAtLeast, RisesTo}
+use Rattle.raft_progress.specs.progress.Walk.{put_after_last, risen}
 use Rattle.raft_progress.proofs.ListLemmas.{or_right}
 
 pub take_add : {X : Type 0} (xs ys : List X) (k n : ℕ) → n ≡ length xs + k → take n (xs ++ ys) ≡ xs ++ take k ys
@@ -113,27 +113,16 @@ module _ {ID V P : Type 0} {cmp : P → P → Ordering} (o : IsTotalOrder cmp) (
   all_below is_id [] ys d h = tt
   all_below is_id (x ∷ xs) ys d h = (h 0 (omega arith), all_below is_id xs ys d (λ k l. h (suc k) (omega arith)))
 
-  -- a voter that rises has risen
-  pub is_risen : (is_id : ID → Bool) (old : List (ID × V)) (from : ℕ) (new : List (ID × V)) (to : ℕ) (d : ID × V) → RisesTo cmp part old from new to → is_id (get_or old from d).0 ≡ true → ((k : ℕ) → k < from → is_id (get_or old k d).0 ≡ false) → IsRisen cmp part is_id old new
+  -- an entry that rises has risen in the walk
+  pub is_risen : (is_id : ID → Bool) (old : List (ID × V)) (from : ℕ) (new : List (ID × V)) (to : ℕ) (d : ID × V) → RisesTo cmp part old from new to → is_id (get_or old from d).0 ≡ true → ((k : ℕ) → k < from → is_id (get_or old k d).0 ≡ false) → new ≡ risen cmp part is_id [] old
   is_risen is_id old from new to d r h b =
       let p = r.passes in
       let was : old ≡ (p.front ++ p.passed) ++ (p.entry ∷ p.rest) = p.was ∙ sym (append_assoc p.front p.passed (p.entry ∷ p.rest)) in
       let len : length (p.front ++ p.passed) ≡ from = length-append p.front p.passed ∙ p.was_at in
-      record {
-        front = p.front;
-        passed = p.passed;
-        entry = p.entry;
-        rest = p.rest;
-        is_it = ap (λ (e : ID × V). is_id e.0) (sym (ap (λ xs. get_or xs from d) was ∙ ap (λ n. get_or ((p.front ++ p.passed) ++ (p.entry ∷ p.rest)) n d) (sym len) ∙ get_at (p.front ++ p.passed) p.entry p.rest d)) ∙ h;
-        is_first = all_below is_id (p.front ++ p.passed) (p.entry ∷ p.rest) d (λ k l. ap (λ xs. is_id (get_or xs k d).0) (sym was) ∙ b k (omega arith));
-        was = p.was;
-        stands = p.now;
-        at_least = r.stops;
-        lesser = p.lesser;
-      }
-
-  -- and the walk is the one that is computed
-  pub risen_walk : (is_id : ID → Bool) (old new : List (ID × V)) → IsRisen cmp part is_id old new → new ≡ risen cmp part is_id [] old
-  risen_walk is_id old new r =
-      let was : old ≡ (r.front ++ r.passed) ++ (r.entry ∷ r.rest) = r.was ∙ sym (append_assoc r.front r.passed (r.entry ∷ r.rest)) in
-      r.stands ∙ sym (append_assoc r.front (r.entry ∷ r.passed) r.rest) ∙ ap (λ xs. xs ++ r.rest) (sym (put_moved r.entry r.front r.passed r.at_least r.lesser)) ∙ sym (risen_at is_id [] (r.front ++ r.passed) r.entry r.rest r.is_first r.is_it) ∙ ap (risen cmp part is_id []) (sym was)
+      let is_it : is_id p.entry.0 ≡ true = ap (λ (e : ID × V). is_id e.0) (sym (ap (λ xs. get_or xs from d) was ∙ ap (λ n. get_or ((p.front ++ p.passed) ++ (p.entry ∷ p.rest)) n d) (sym len) ∙ get_at (p.front ++ p.passed) p.entry p.rest d)) ∙ h in
+      let is_first = all_below is_id (p.front ++ p.passed) (p.entry ∷ p.rest) d (λ k l. ap (λ xs. is_id (get_or xs k d).0) (sym was) ∙ b k (omega arith)) in
+      p.now
+      ∙ sym (append_assoc p.front (p.entry ∷ p.passed) p.rest)
+      ∙ ap (λ xs. xs ++ p.rest) (sym (put_moved p.entry p.front p.passed r.stops p.lesser))
+      ∙ sym (risen_at is_id [] (p.front ++ p.passed) p.entry p.rest is_first is_it)
+      ∙ ap (risen cmp part is_id []) (sym was)

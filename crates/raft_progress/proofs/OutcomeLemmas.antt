@@ -19,7 +19,7 @@ use Rattle.raft_progress.specs.Inner.Settled.{IsPutInOrder, IsRaised, IsSameGrou
 use Rattle.raft_progress.specs.progress.ProgressState.{Writes}
 use Rattle.raft_progress.specs.progress.Shown.{Shown, state}
 use Rattle.raft_progress.specs.progress.Statistics.{counted_up}
-use Rattle.raft_progress.specs.progress.Walk.{IsRisen, state_of}
+use Rattle.raft_progress.specs.progress.Walk.{risen, state_of}
 use Rattle.raft_progress.proofs.RecountLemmas.{AtMost-from_lt, AtMost-from_not_lt, AtMost-refl}
 use Rattle.raft_progress.proofs.MovedLemmas.{is_risen}
 use Rattle.raft_progress.proofs.SettledLemmas as settles
@@ -34,7 +34,7 @@ pub record Outcome {ID V P QS : Type 0} (eq : ID → ID → Bool) (cmp : P → P
   pub voter_count : new.voter_count ≡ mid.voter_count
   pub updates : new.stat.update_count ≡ mid.stat.update_count
   pub not_lower : AtMost cmp mid.granted new.granted
-  pub rises : (is_member eq (take mid.voter_count (keys_of ws)) id && (is_lt (cmp (part v) (part w)) && is_lt (cmp mid.granted (part w)))) ≡ true → IsRisen cmp part (eq id) (set_value (eq id) ws w) new.walk × (new.stat.move_count ≡ counted_up mid.stat.move_count 1)
+  pub rises : (is_member eq (take mid.voter_count (keys_of ws)) id && (is_lt (cmp (part v) (part w)) && is_lt (cmp mid.granted (part w)))) ≡ true → (new.walk ≡ risen cmp part (eq id) [] (set_value (eq id) ws w)) × (new.stat.move_count ≡ counted_up mid.stat.move_count 1)
   pub stays : (is_member eq (take mid.voter_count (keys_of ws)) id && (is_lt (cmp (part v) (part w)) && is_lt (cmp mid.granted (part w)))) ≡ false → (new.walk ≡ set_value (eq id) ws w) × (new.stat.move_count ≡ mid.stat.move_count)
   pub tests : ℕ
   pub counts_tests : new.stat.is_quorum_count ≡ counted_up mid.stat.is_quorum_count tests
@@ -149,8 +149,8 @@ module _ {ID V P QS : Type 0} {eq : ID → ID → Bool} (laws : IsEquivalence eq
         get_or-set_below (x ∷ xs) (suc j) a d zero q = refl
         get_or-set_below (x ∷ xs) (suc j) a d (suc h) q = get_or-set_below xs j a d h (omega arith)
 
-    walk_risen : IsRisen cmp part (eq id) (set_value (eq id) ws w) m.walk
-    walk_risen = subst (λ (es : List (ID × V)). IsRisen cmp part (eq id) es m.walk) wrote (is_risen o part (eq id) mid.walk i (m.walk) raised.to e0 raised.rises first_at none_at)
+    walk_risen : m.walk ≡ risen cmp part (eq id) [] (set_value (eq id) ws w)
+    walk_risen = subst (λ (es : List (ID × V)). m.walk ≡ risen cmp part (eq id) [] es) wrote (is_risen o part (eq id) mid.walk i (m.walk) raised.to e0 raised.rises first_at none_at)
 
     written_m : (p : Shown ID V P QS) → p.walk ≡ m.walk → IsSameGroup m p → Writes eq (state_of eq mid.quorum_set ws mid.voter_count mid.default_part) id w (state eq p)
     written_m p s g = record {
@@ -220,7 +220,7 @@ module _ {ID V P QS : Type 0} {eq : ID → ID → Bool} (laws : IsEquivalence eq
         voter_count = s.group.voter_count ∙ raised.group.voter_count;
         updates = s.group.updates ∙ raised.group.updates;
         not_lower = never_less s.found refl;
-        rises = λ h. (subst (λ (es : List (ID × V)). IsRisen cmp part (eq id) (set_value (eq id) ws w) es) (sym s.same_walk) walk_risen, s.moves ∙ raised.moves);
+        rises = λ h. (s.same_walk ∙ walk_risen, s.moves ∙ raised.moves);
         stays = λ h. absurd (true≢false (sym rise ∙ h));
         tests = s.tests;
         counts_tests = s.counts ∙ ap (λ x. counted_up x s.tests) raised.tests;

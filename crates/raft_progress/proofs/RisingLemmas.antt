@@ -9,8 +9,7 @@ use Rattle.std.proofs.lemmas.List.Sums.{prefix_len_passes, prefix_len_stops}
 use Rattle.std.proofs.lemmas.List.Edits.{swap_is}
 use Rattle.std.specs.Cmp.{IsTotalOrder}
 use Rattle.raft_progress.specs.progress.CountedValue.{AtMost}
-use Rattle.raft_progress.specs.Inner.Rises.{Passed, RisesTo}
-use Rattle.raft_progress.specs.progress.Walk.{LastAtLeast}
+use Rattle.raft_progress.specs.Inner.Rises.{LastAtLeast, Passed, RisesTo}
 use Rattle.raft_progress.proofs.RecountLemmas.{AtMost-from_not_lt}
 
 pub get_at : {X : Type 0} (xs : List X) (x : X) (ys : List X) (d : X) → get_or (xs ++ x ∷ ys) (length xs) d ≡ x

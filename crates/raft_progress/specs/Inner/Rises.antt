@@ -1,12 +1,18 @@
 -- How an entry moves up by neighbours, and what a scan of fronts finds.
-use Rattle.std.specs.Prelude.{◌≡◌, ℕ, ◌+◌, ◌^◌, ◌<◌, ◌≤◌, Bool, true, false, Option, Some, None, List, ◌∷◌, ◌++◌, length}
+use Rattle.std.specs.Prelude.{◌≡◌, ℕ, ◌+◌, ◌^◌, ◌<◌, ◌≤◌, Bool, true, false, Option, Some, None, List, [], ◌∷◌, ◌++◌, length, ⊤}
 use Rattle.std.specs.declared.cmp.Ordering.{Ordering}
 use Rattle.std.specs.Ordering.{is_lt}
 use Rattle.std.specs.List.{AllByRecursion}
 use Rattle.raft_progress.specs.Inner.Counts.{front_test}
-use Rattle.raft_progress.specs.progress.Walk.{LastAtLeast}
+use Rattle.raft_progress.specs.progress.CountedValue.{AtMost}
 
 module _ {ID V P : Type 0} (cmp : P → P → Ordering) (part : V → P) where
+  -- the last of the entries, if there is one, has a part of at least p
+  abbrev pub LastAtLeast : P → List (ID × V) → Type 0
+  LastAtLeast p [] = ⊤
+  LastAtLeast p (f ∷ []) = AtMost cmp p (part f.1)
+  LastAtLeast p (f ∷ h ∷ hs) = LastAtLeast p (h ∷ hs)
+
   -- the entry at `from` has passed the entries down to `to`, each with a lesser part
   pub record Passed (old : List (ID × V)) (from : ℕ) (new : List (ID × V)) (to : ℕ) : Type 0 where
     pub front : List (ID × V)
@@ -22,7 +28,7 @@ module _ {ID V P : Type 0} (cmp : P → P → Ordering) (part : V → P) where
   -- and it stands directly after one that isn't lesser, or first
   pub record RisesTo (old : List (ID × V)) (from : ℕ) (new : List (ID × V)) (to : ℕ) : Type 0 where
     pub passes : Passed old from new to
-    pub stops : LastAtLeast cmp part (part passes.entry.1) passes.front
+    pub stops : LastAtLeast (part passes.entry.1) passes.front
 
 -- the least front above low and up to high that is a quorum, if there is one, and the number of fronts that were tested: at most as many as the number of voters has binary digits
 pub record IsLeastFront {ID V : Type 0} (eq : ID → ID → Bool) (is_quorum : (ID → Bool) → Bool) (voters : List (ID × V)) (low high : ℕ) (found : Option ℕ) (tests : ℕ) : Type 0 where

@@ -1,5 +1,5 @@
 -- What an update does to a progress, and what it answers.
-use Rattle.std.specs.Prelude.{◌≡◌, ℕ, ◌^◌, ◌<◌, ◌≤◌, Bool, ◌&&◌, Option, Some, None, if◌then◌else◌, IsOk, IsErr, Result, MatchResult, true, false}
+use Rattle.std.specs.Prelude.{◌≡◌, ℕ, ◌^◌, ◌<◌, ◌≤◌, Bool, ◌&&◌, Option, Some, None, [], if◌then◌else◌, IsOk, IsErr, Result, MatchResult, true, false}
 use Rattle.std.specs.declared.cmp.Ordering.{Ordering}
 use Rattle.std.specs.Option.{ForSome}
 use Rattle.std.specs.Ordering.{is_le, is_lt, partial_gt}
@@ -7,37 +7,53 @@ use Rattle.std.specs.Map.{set_value}
 use Rattle.raft_progress.specs.progress.CountedValue.{AtMost}
 use Rattle.raft_progress.specs.progress.ProgressState.{Writes}
 use Rattle.raft_progress.specs.progress.Statistics.{counted_up}
-use Rattle.raft_progress.specs.progress.Walk.{IsRisen}
+use Rattle.raft_progress.specs.progress.Walk.{risen}
 use Rattle.raft_progress.specs.progress.Shown.{Shown, state}
 
 module _ {ID V P QS : Type 0} (eq : ID → ID → Bool) (cmp : P → P → Ordering) (part : V → P) where
   -- whether the id is a voter whose part has risen to one that exceeds what was granted
   abbrev pub rises_past_granted : Shown ID V P QS → ID → V → V → Bool
-  rises_past_granted old id v w = (state eq old).is_voter id && (is_lt (cmp (part v) (part w)) && is_lt (cmp old.granted (part w)))
+  rises_past_granted old id v w =
+      (state eq old).is_voter id
+      && (is_lt (cmp (part v) (part w)) && is_lt (cmp old.granted (part w)))
 
   -- whether the id is a voter whose part was at most what was granted, and now exceeds it
   abbrev pub passes_granted : Shown ID V P QS → ID → V → V → Bool
-  passes_granted old id v w = (state eq old).is_voter id && (is_le (cmp (part v) old.granted) && is_lt (cmp old.granted (part w)))
+  passes_granted old id v w =
+      (state eq old).is_voter id
+      && (is_le (cmp (part v) old.granted) && is_lt (cmp old.granted (part w)))
 
-  -- the walk, granted and the counts after the value of a known id went from v to w: a voter that rises past what was granted is risen in the walk, and quorums are tested only where granted may rise, at most as many as the number of voters has binary digits: the least k for which the number is below 2 to the power of k
-  pub record IsSettled (old : Shown ID V P QS) (id : ID) (v w : V) (new : Shown ID V P QS) : Type 0 where
-    pub rises : rises_past_granted old id v w ≡ true → IsRisen cmp part (eq id) (set_value (eq id) old.walk w) new.walk × (new.stat.move_count ≡ counted_up old.stat.move_count 1)
-    pub stays : rises_past_granted old id v w ≡ false → (new.walk ≡ set_value (eq id) old.walk w) × (new.stat.move_count ≡ old.stat.move_count)
+  -- The walk, granted and the counts after the value of a known id went from v to w. A voter that
+  -- rises past what was granted is risen in the walk. Quorums are tested only where granted may
+  -- rise, and at most as many as the number of voters has binary digits: the least k for which the
+  -- number is below 2 to the power of k.
+  pub record IsSettled (old : Shown ID V P QS) (id : ID) (v w : V) (new : Shown ID V P QS)
+      : Type 0 where
+    pub rises : rises_past_granted old id v w ≡ true
+        → (new.walk ≡ risen cmp part (eq id) [] (set_value (eq id) old.walk w))
+        × (new.stat.move_count ≡ counted_up old.stat.move_count 1)
+    pub stays : rises_past_granted old id v w ≡ false
+        → (new.walk ≡ set_value (eq id) old.walk w) × (new.stat.move_count ≡ old.stat.move_count)
     pub tests : ℕ
     pub counts_tests : new.stat.is_quorum_count ≡ counted_up old.stat.is_quorum_count tests
     pub few_tests : (k : ℕ) → old.voter_count < 2 ^ k → tests ≤ k
     pub tested_to_rise : is_lt (cmp old.granted new.granted) ≡ true → 1 ≤ tests
     pub not_tested : passes_granted old id v w ≡ false → (tests ≡ 0) × (new.granted ≡ old.granted)
 
-  -- after an update of an id, whose value went to another by Left; of an unknown id nothing but the count of updates has changed; granted never falls
-  pub record IsUpdated (Left : V → V → Type 0) (old : Shown ID V P QS) (id : ID) (new : Shown ID V P QS) : Type 0 where
+  -- After an update of an id, whose value went to another by Left: granted never falls, and of an
+  -- unknown id nothing but the count of updates has changed.
+  pub record IsUpdated (Left : V → V → Type 0) (old : Shown ID V P QS) (id : ID)
+      (new : Shown ID V P QS) : Type 0 where
     pub counts : new.stat.update_count ≡ counted_up old.stat.update_count 1
     pub same_voter_count : new.voter_count ≡ old.voter_count
     pub not_lower : AtMost cmp old.granted new.granted
     pub known : (v : V) → (state eq old).value id ≡ Some v
-        → (w : V) × Left v w × Writes eq (state eq old) id w (state eq new) × IsSettled old id v w new
+        → (w : V) × Left v w × Writes eq (state eq old) id w (state eq new)
+        × IsSettled old id v w new
     pub unknown : (state eq old).value id ≡ None
-        → new ≡ record old { stat = record old.stat { update_count = counted_up old.stat.update_count 1 } }
+        → new ≡ record old {
+          stat = record old.stat { update_count = counted_up old.stat.update_count 1 };
+        }
 
 module _ {ID V P QS : Type 0} (eq : ID → ID → Bool) (cmp : P → P → Ordering) (part : V → P) where
   -- the part of the value that an id has is not above that of another value
