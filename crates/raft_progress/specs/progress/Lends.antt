@@ -1,5 +1,5 @@
 -- What a progress becomes once what it lent has come back.
-use Rattle.std.specs.Prelude.{◌≡◌, Bool, [], ◌∷◌, OnSome, Option, Result}
+use Rattle.std.specs.Prelude.{◌≡◌, ◌↔◌, Bool, [], ◌∷◌, IsOk, IsSome, MatchResult, OnSome, Option, Result}
 use Rattle.std.specs.Borrow.{Array, Bor, Fml, LendsSo, MutBor, RattleType, follows}
 use Rattle.std.specs.Fn.{FnOnceReturnsAtMut, Once}
 use Rattle.std.specs.Io.BufRead.{Rests}
@@ -11,8 +11,8 @@ use base.Fml.{GName}
 use denote.Struct.Tuple.{Tuple}
 use Rattle.raft_progress.specs.progress.InOrder.{IsInOrder}
 use Rattle.raft_progress.specs.progress.Kept.{with_value}
-use Rattle.raft_progress.specs.progress.Shown.{Shown}
-use Rattle.raft_progress.specs.progress.Updated.{Answers, IsUpdated}
+use Rattle.raft_progress.specs.progress.Shown.{Shown, state}
+use Rattle.raft_progress.specs.progress.Updated.{IsUpdated}
 use Rattle.raft_progress.specs.progress.VecProgress.{with_walk}
 use Rattle.raft_progress.specs.contracts.progress.vec_progress.VecProgress.{the_row}
 
@@ -20,11 +20,15 @@ use Rattle.raft_progress.specs.contracts.progress.vec_progress.VecProgress.{the_
 abbrev pub Leaves : {F T : Type 0} → Once F (MutBor T × Unit {0}) (Unit {0} × (MutBor T × Unit {0})) → F → T → T → Type 0
 Leaves call f v w = FnOnceReturnsAtMut call f v tt w
 
--- after an update that was answered: the value went to another by Left, the progress is in order, and the answer is granted
-pub record IsAnsweredUpdate {ID V P QS : Type 0} (eq : ID → ID → Bool) (cmp : P → P → Ordering) (part : V → P) (has_quorum : QS → (ID → Bool) → Bool) (Left : V → V → Type 0) (id : ID) (result : Result (Bor P) (Bor P)) (old new : Shown ID V P QS) : Type 0 where
+-- After an update that was answered: the value went to another by Left, the progress is in order, and
+-- the answer is granted: an Ok for a known id, and an error for an unknown one.
+pub record IsAnsweredUpdate {ID V P QS : Type 0} (eq : ID → ID → Bool) (cmp : P → P → Ordering)
+    (part : V → P) (has_quorum : QS → (ID → Bool) → Bool) (Left : V → V → Type 0) (id : ID)
+    (result : Result (Bor P) (Bor P)) (old new : Shown ID V P QS) : Type 0 where
   pub updated : IsUpdated eq cmp part Left old id new
   pub ordered : IsInOrder eq cmp part has_quorum new
-  pub answers : Answers eq old id result (λ r. r.now) (λ r. r.now) new
+  pub granted : MatchResult result (λ ok. ok.now ≡ new.granted) (λ err. err.now ≡ new.granted)
+  pub known : IsOk result ↔ IsSome ((state eq old).value id)
 
 -- once granted has come back, what p shows is related to what it showed before
 abbrev pub LendsGranted : {ID V P QS : Type 0} (R : RattleType) → (R.Denot → Shown ID V P QS) → MutBor R.Denot → (Shown ID V P QS → Shown ID V P QS → Type 0) → Fml

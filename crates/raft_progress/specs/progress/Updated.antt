@@ -1,5 +1,5 @@
--- What an update does to a progress, and what it answers.
-use Rattle.std.specs.Prelude.{◌≡◌, ℕ, ◌^◌, ◌<◌, ◌≤◌, Bool, ◌&&◌, Option, Some, None, [], if◌then◌else◌, IsOk, IsErr, Result, MatchResult, true, false}
+-- What an update does to a progress.
+use Rattle.std.specs.Prelude.{◌≡◌, ℕ, ◌^◌, ◌<◌, ◌≤◌, Bool, ◌&&◌, Option, Some, None, [], if◌then◌else◌, true, false}
 use Rattle.std.specs.declared.cmp.Ordering.{Ordering}
 use Rattle.std.specs.Option.{ForSome}
 use Rattle.std.specs.Ordering.{is_le, is_lt, partial_gt}
@@ -58,22 +58,20 @@ module _ {ID V P QS : Type 0} (eq : ID → ID → Bool) (cmp : P → P → Order
 module _ {ID V P QS : Type 0} (eq : ID → ID → Bool) (cmp : P → P → Ordering) (part : V → P) where
   -- the part of the value that an id has is not above that of another value
   abbrev pub IsNotLower : Shown ID V P QS → ID → V → Type 0
-  IsNotLower old id value = ForSome ((state eq old).value id) (λ v. AtMost cmp (part v) (part value))
+  IsNotLower old id value =
+      ForSome ((state eq old).value id) (λ v. AtMost cmp (part v) (part value))
 
   -- nor where the other value is greater
   abbrev pub IsNotLowerIfGreater : (V → V → Option Ordering) → Shown ID V P QS → ID → V → Type 0
-  IsNotLowerIfGreater partial_cmp old id value = ForSome ((state eq old).value id) (λ v. partial_gt partial_cmp value v ≡ true → AtMost cmp (part v) (part value))
+  IsNotLowerIfGreater partial_cmp old id value =
+      ForSome ((state eq old).value id)
+      (λ v. partial_gt partial_cmp value v ≡ true → AtMost cmp (part v) (part value))
 
   -- nor is it above that of any value that Left says may be left of it
   abbrev pub NeverFalls : (V → V → Type 0) → Shown ID V P QS → ID → Type 0
-  NeverFalls Left old id = (v w : V) → (state eq old).value id ≡ Some v → Left v w → AtMost cmp (part v) (part w)
+  NeverFalls Left old id =
+      (v w : V) → (state eq old).value id ≡ Some v → Left v w → AtMost cmp (part v) (part w)
 
 -- the greater of a value and one that was there
 abbrev pub IsGreaterOf : {V : Type 0} → (V → V → Option Ordering) → V → V → V → Type 0
 IsGreaterOf partial_cmp value v w = w ≡ (if partial_gt partial_cmp value v then value else v)
-
--- what an update answers: granted, as Ok for a known id and as Err for an unknown one
-pub record Answers {ID V P QS : Type 0} (eq : ID → ID → Bool) (old : Shown ID V P QS) (id : ID) {A B : Type 0} (result : Result A B) (now : A → P) (now' : B → P) (new : Shown ID V P QS) : Type 0 where
-  pub granted : MatchResult result (λ r. now r ≡ new.granted) (λ r. now' r ≡ new.granted)
-  pub known : (v : V) → (state eq old).value id ≡ Some v → IsOk result
-  pub unknown : (state eq old).value id ≡ None → IsErr result
