@@ -180,8 +180,8 @@ module _ (Fits : ℕ → ℕ → Type 0)
         unsent w = (w.0, w.1, (w.2.0, w.2.1, left_purges m purged (next_index log.purge_upto) w.2.0 entry.searching_end entry.inflight later w.2.2))
 
         same_ends : (cmp : C → C → Ordering) (n : ℕ) (t u : Bool) → next_index log.purge_upto ≤ entry.searching_end → (w : Within total m purged accepted entry) → Open m purged w.2.0 entry.searching_end
-            → Within total m (next_index log.purge_upto) accepted (after_send (if t then (if u then Ok (record entry { curr_inflight_id = entry.curr_inflight_id + 1; inflight = Snapshot (entry.curr_inflight_id + 1) log.snapshot }) else Err entry)
-            else Ok (record entry { curr_inflight_id = entry.curr_inflight_id + 1; inflight = logs_from cmp (entry.curr_inflight_id + 1) (prev_id log.id_at (start_of entry log)) (prev_id log.id_at (end_of entry log n)) })))
+            → Within total m (next_index log.purge_upto) accepted (after_send (if t && u then Ok (record entry { curr_inflight_id = entry.curr_inflight_id + 1; inflight = Snapshot (entry.curr_inflight_id + 1) log.snapshot }) else (if t then Err entry
+            else Ok (record entry { curr_inflight_id = entry.curr_inflight_id + 1; inflight = logs_from cmp (entry.curr_inflight_id + 1) (prev_id log.id_at (start_of entry log)) (prev_id log.id_at (end_of entry log n)) }))))
         same_ends cmp n true true long w left = (w.0, w.1, (w.2.0, w.2.1, tt))
         same_ends cmp n true false long w left = unsent w
         same_ends cmp n false u long w left = (w.0, w.1, (w.2.0, w.2.1, logs_left cmp (id_lt cmp (prev_id log.id_at (start_of entry log)) (prev_id log.id_at (end_of entry log n))) w.2.0 entry.searching_end (start_of entry log) (end_of entry log n) (entry.curr_inflight_id + 1) w.1 long left (rw w.0 refl)))

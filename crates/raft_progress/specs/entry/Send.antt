@@ -1,5 +1,5 @@
 -- What is sent next to a follower, case by case.
-use Rattle.std.specs.Prelude.{◌≡◌, ℕ, ◌+◌, ◌-◌, ◌*◌, ◌/◌, ◌^◌, min, max, Bool, true, ◌&&◌, ◌==◌, nat_lt, nat_le, Result, Ok, Err, MatchResult, if◌then◌else◌}
+use Rattle.std.specs.Prelude.{◌≡◌, ℕ, ◌+◌, ◌-◌, ◌*◌, ◌/◌, ◌^◌, min, max, Bool, true, ◌&&◌, ◌||◌, ◌==◌, nat_lt, nat_le, Result, Ok, Err, MatchResult, if◌then◌else◌}
 use Rattle.std.specs.Borrow.{Bor}
 use Rattle.std.specs.declared.cmp.Ordering.{Ordering}
 use Rattle.raft_base.specs.LogId.{next_index}
@@ -21,16 +21,24 @@ start_of entry log = max (calc_mid (next_index entry.matching) entry.searching_e
 abbrev pub end_of : {C : Type 0} → ProgressEntryOf C → LogView C → ℕ → ℕ
 end_of entry log max_entries = min (start_of entry log + max_entries) (next_index log.last)
 
--- a send where nothing is in flight: a snapshot where each match that is still possible is purged, or where there is no log to probe with; else logs, where there are any. It takes the next request id
-abbrev pub sent_idle : {C : Type 0} → (C → C → Ordering) → ProgressEntryOf C → LogView C → ℕ → Result (ProgressEntryOf C) (ProgressEntryOf C)
+-- A send where nothing is in flight, which takes the next request id: a snapshot where each match
+-- that is still possible is purged, or where there is no log to probe with; nothing where all is
+-- sent; else logs.
+abbrev pub sent_idle : {C : Type 0} → (C → C → Ordering) → ProgressEntryOf C → LogView C → ℕ
+    → Result (ProgressEntryOf C) (ProgressEntryOf C)
 sent_idle cmp entry log max_entries =
+    let matched = next_index entry.matching in
+    let end = entry.searching_end in
+    let purged = next_index log.purge_upto in
     let id = entry.curr_inflight_id + 1 in
-    let snapshot = record entry { curr_inflight_id = id; inflight = Snapshot id log.snapshot } in
-    let from = start_of entry log in
-    let to = end_of entry log max_entries in
-    if nat_lt entry.searching_end (next_index log.purge_upto) then Ok snapshot
-    else (if from == to then (if nat_lt (next_index entry.matching) entry.searching_end then Ok snapshot else Err entry)
-    else Ok (record entry { curr_inflight_id = id; inflight = logs_from cmp id (prev_id log.id_at from) (prev_id log.id_at to) }))
+    let start = start_of entry log in
+    let until = end_of entry log max_entries in
+    let snapshot = Snapshot id log.snapshot in
+    let logs = logs_from cmp id (prev_id log.id_at start) (prev_id log.id_at until) in
+    if nat_lt end purged || (start == until && nat_lt matched end)
+    then Ok (record entry { curr_inflight_id = id; inflight = snapshot })
+    else if start == until then Err entry
+    else Ok (record entry { curr_inflight_id = id; inflight = logs })
 
 -- the entry after a send, as Err where nothing was sent: something is in flight already, or all is sent
 abbrev pub sent : {C : Type 0} → (C → C → Ordering) → ProgressEntryOf C → LogView C → ℕ → Result (ProgressEntryOf C) (ProgressEntryOf C)
