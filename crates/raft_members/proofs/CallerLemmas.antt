@@ -8,3 +8,4 @@ pub use Rattle.raft_members.proofs.MajorityLemmas.{is_member-alike}
 pub use Rattle.raft_members.proofs.LearnerLemmas.{learner_in, learner_with_node}
 pub use Rattle.raft_members.proofs.MappedLemmas.{quorums_of_lists, voters_of_lists}
 pub use Rattle.raft_members.proofs.CloneLemmas.{list_clones}
+pub use Rattle.raft_members.proofs.AtLeastLemmas.{at_least_clones}

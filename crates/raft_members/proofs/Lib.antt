@@ -1,6 +1,7 @@
 pub mod MajorityLemmas
 pub mod NextLemmas
 pub mod MeetingLemmas
+pub mod AtLeastLemmas
 pub mod CloneLemmas
 pub mod AscendingLemmas
 pub mod UnionLemmas

@@ -71,7 +71,7 @@ module _ {K : Type 0} {eq : K → K → Bool} (laws : IsEquivalence eq) where
       ∙ and_comm (is_member eq ids q) (is_member eq voters q)
       ∙ ap (λ b. b && is_member eq ids q) (sym (is_member-unique_keys voters q)))
 
-  flipped : (x : K) (ys : List K) → list_any (λ y. eq y x) ys ≡ is_member eq ys x
+  pub flipped : (x : K) (ys : List K) → list_any (λ y. eq y x) ys ≡ is_member eq ys x
   flipped x [] = refl
   flipped x (y ∷ ys) = rw (laws.symm y x, flipped x ys) refl
 

@@ -1,5 +1,6 @@
 pub mod Majority
 pub mod MajorityLaws
+pub mod AtLeast
 pub mod Coherence
 pub mod Meeting
 pub mod MemberList

@@ -1,12 +1,13 @@
 -- A superset of a quorum is a quorum.
-use Rattle.std.specs.Prelude.{◌≡◌, ◌≤◌, Bool, true, false, cond, List, [], ◌∷◌, count_by, refl}
+use Rattle.std.specs.Prelude.{◌≡◌, ◌≤◌, ℕ, Bool, true, false, cond, List, [], ◌∷◌, count_by, refl}
 use Rattle.std.specs.List.{list_all}
 use Rattle.std.specs.Cmp.{first_so, second_so}
 use Rattle.std.specs.Cmp.Derive.{both_true}
 use Rattle.std.specs.Set.{unique_keys}
 use Rattle.std.proofs.Common.{arith, ltb-true, lt-ltb}
+use Rattle.std.proofs.lemmas.Bool.{leb-true, le-leb}
 use Rattle.std.proofs.lemmas.List.Sums.{sum_by-cons}
-use Rattle.raft_members.specs.Majority.{is_majority, is_joint_majority}
+use Rattle.raft_members.specs.Majority.{has_at_least, is_majority, is_joint_majority}
 
 -- a larger set has no fewer members
 pub count_by-le-larger : {K : Type 0} (s t : K → Bool) → ((x : K) → s x ≡ true → t x ≡ true) → (xs : List K) → count_by s xs ≤ count_by t xs
@@ -26,3 +27,8 @@ list_all-weaker p r f (q ∷ qs) h = both_true (f q (first_so _ _ h)) (list_all-
 
 pub is_joint_majority-superset : {K : Type 0} (eq : K → K → Bool) (configs : List (List K)) (s t : K → Bool) → ((x : K) → s x ≡ true → t x ≡ true) → is_joint_majority eq configs s ≡ true → is_joint_majority eq configs t ≡ true
 is_joint_majority-superset eq configs s t h = list_all-weaker (λ c. is_majority eq c s) (λ c. is_majority eq c t) (λ c. is_majority-superset eq c s t h) configs
+
+pub has_at_least-superset : {K : Type 0} (eq : K → K → Bool) (ids : List K) (need : ℕ) (s t : K → Bool)
+    → ((x : K) → s x ≡ true → t x ≡ true) → has_at_least eq ids need s ≡ true → has_at_least eq ids need t ≡ true
+has_at_least-superset eq ids need s t h q =
+    le-leb _ _ (omega (arith, leb-true _ _ q, count_by-le-larger s t h (unique_keys eq ids)))

@@ -1,7 +1,7 @@
 -- How quorums meet: the voters that two of them share.
-use Rattle.std.specs.Prelude.{◌≡◌, ◌<◌, Bool, true, false, List, [], length}
-use Rattle.std.specs.Set.{is_member}
-use Rattle.raft_members.specs.Majority.{is_majority, is_joint_majority, is_voter_of}
+use Rattle.std.specs.Prelude.{◌≡◌, ◌*◌, ◌<◌, ℕ, Bool, true, false, List, [], length}
+use Rattle.std.specs.Set.{distinct_count, is_member}
+use Rattle.raft_members.specs.Majority.{has_at_least, is_majority, is_joint_majority, is_voter_of}
 use Rattle.raft_members.specs.Coherence.{is_coherent}
 
 module _ {K : Type 0} (eq : K → K → Bool) where
@@ -36,3 +36,14 @@ module _ {K : Type 0} (eq : K → K → Bool) where
   -- where there are no configs, every set is a quorum
   abbrev pub NoConfigsTakeEverySet : Type 0
   NoConfigsTakeEverySet = (s : K → Bool) → is_joint_majority eq [] s ≡ true
+
+  -- two quorums of a stated size share one of the ids, where twice that size is more than there are ids,
+  -- equal ones counted once
+  abbrev pub AtLeastQuorumsMeet : Type 0
+  AtLeastQuorumsMeet = (ids : List K) (need : ℕ) (s t : K → Bool) → distinct_count eq ids < 2 * need
+      → has_at_least eq ids need s ≡ true → has_at_least eq ids need t ≡ true → ShareMember ids s t
+
+  -- where more ids are needed than there are, no set is a quorum
+  abbrev pub NeedPastIdsHasNoQuorum : Type 0
+  NeedPastIdsHasNoQuorum = (ids : List K) (need : ℕ) (s : K → Bool) → distinct_count eq ids < need
+      → has_at_least eq ids need s ≡ false

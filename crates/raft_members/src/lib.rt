@@ -18,4 +18,4 @@ pub use membership::{
     InitializeErrorOf, IntoNodes, LearnerIds, Membership, NotInMembers, StoredMembership,
     StoredMembershipOf,
 };
-pub use quorum::{AsJoint, Coherent, FindCoherent, Joint, QuorumSet};
+pub use quorum::{AsJoint, AtLeast, Coherent, FindCoherent, Joint, QuorumSet};

@@ -1,5 +1,6 @@
 //! Quorums: the sets of ids that may decide for all voters.
 
+mod at_least;
 mod coherent;
 mod coherent_impl;
 mod joint;
@@ -8,6 +9,7 @@ pub mod laws;
 mod quorum_set;
 mod quorum_set_impl;
 
+pub use at_least::AtLeast;
 pub use coherent::{Coherent, FindCoherent};
 pub use joint::{AsJoint, Joint};
 pub(crate) use joint_impl::ids_of_each;

@@ -1,6 +1,6 @@
 //! What holds of every quorum, as contracts: a caller that needs one of these facts calls its
 //! function, which does nothing.
-ghost use Rattle.raft_members.specs.Meeting.{MajorityHasVoter, QuorumsMeet, CoherentQuorumsMeet, EmptyConfigHasNoQuorum, NoConfigsTakeEverySet};
+ghost use Rattle.raft_members.specs.Meeting.{MajorityHasVoter, QuorumsMeet, CoherentQuorumsMeet, EmptyConfigHasNoQuorum, NoConfigsTakeEverySet, AtLeastQuorumsMeet, NeedPastIdsHasNoQuorum};
 
 /// A majority of a config has one of its voters.
 pub fn majority_has_voter<ID: Copy + Ord>()
@@ -30,4 +30,15 @@ pub fn empty_config_has_no_quorum<ID: Copy + Ord>()
 /// Where there are no configs, every set is a quorum.
 pub fn no_configs_take_every_set<ID: Copy + Ord>()
     ensures { NoConfigsTakeEverySet ID.eq }
+{}
+
+/// Two quorums of one stated size share one of the ids, where twice that size is more than there are
+/// ids. Where it is not, they need not: {0, 1} and {2, 3} are both quorums of 2 of 0 to 4.
+pub fn at_least_quorums_meet<ID: Copy + Ord>()
+    ensures { AtLeastQuorumsMeet ID.eq }
+{}
+
+/// Where more ids are needed than there are, there is no quorum.
+pub fn need_past_ids_has_no_quorum<ID: Copy + Ord>()
+    ensures { NeedPastIdsHasNoQuorum ID.eq }
 {}

@@ -100,7 +100,11 @@ fn has_majority<ID: Copy + Ord>(voters: &[ID], ids: &[ID]) -> bool
 /// Whether more than `limit` of the ids are voters, repeated ones each time. It stops at the first
 /// id that is one too many, and does not begin where the ids are too few.
 #[inline(always)]
-fn exceeds<ID: Copy + Ord, F: Fn(ID) -> bool>(ids: &[ID], limit: usize, is_voter: F) -> bool
+pub(super) fn exceeds<ID: Copy + Ord, F: Fn(ID) -> bool>(
+    ids: &[ID],
+    limit: usize,
+    is_voter: F,
+) -> bool
     requires { F.IsAlwaysCallable is_voter }
     ensures { (voter : ID → Bool) →
         ((x : ID) → AnyResult F.Fn is_voter (x, tt) (λ b. b ≡ voter x)) →
@@ -123,7 +127,7 @@ fn exceeds<ID: Copy + Ord, F: Fn(ID) -> bool>(ids: &[ID], limit: usize, is_voter
 
 /// Whether the id is among the voters.
 // A short list goes its own way, since to set up its chunks takes as long as its comparisons.
-fn has<ID: Copy + Ord>(voters: &[ID], id: ID) -> bool
+pub(super) fn has<ID: Copy + Ord>(voters: &[ID], id: ID) -> bool
     ensures { result ≡ list_any (λ y. ID.eq y id) voters.now }
 {
     if voters.len() < CHUNK {
@@ -168,7 +172,10 @@ pub(crate) fn sorted<ID: Copy + Ord>(mut ids: Vec<ID>) -> Vec<ID>
 }
 
 /// Copies of the ids, in order, each once.
-fn sorted_copies<ID: Copy + Ord>(alloc: Global, ids: &[ID]) -> Result<Vec<ID>, AllocError>
+pub(super) fn sorted_copies<ID: Copy + Ord>(
+    alloc: Global,
+    ids: &[ID],
+) -> Result<Vec<ID>, AllocError>
     ensures ascending { IfOk result (λ found. IsStrictlySortedBy ID.cmp found.items) }
     ensures members { IfOk result (λ found.
         (x : ID) → is_member ID.eq found.items x ≡ is_member ID.eq ids.now x) }

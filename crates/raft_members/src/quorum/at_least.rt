@@ -1,0 +1,104 @@
+//! Quorums of a stated size.
+ghost use Rattle.std.specs.Prelude.{◌≡◌, ◌≤◌, IfOk};
+ghost use Rattle.std.specs.List.{IsDistinct};
+ghost use Rattle.std.specs.List.Sorted.{IsStrictlySortedBy};
+ghost use Rattle.std.specs.Set.{is_member};
+ghost use Rattle.raft_members.specs.Majority.{has_at_least};
+ghost use Rattle.raft_members.specs.MajorityLaws.{has_at_least-superset};
+
+use super::quorum_set::QuorumSet;
+use super::quorum_set_impl::{exceeds, has, sorted_copies};
+use std::alloc::{AllocError, Global};
+use std::fmt;
+
+/// Some ids, of which a quorum has at least a stated number.
+///
+/// Two quorums share one of the ids where twice that number is more than there are ids
+/// (`laws::at_least_quorums_meet`). Where it is not, they need not share any: {0, 1} and {2, 3} are
+/// both quorums of 2 of 0 to 4.
+#[derive(Debug, PartialEq, Eq, Drop)]
+pub struct AtLeast<ID> {
+    ids: Vec<ID>,
+    need: usize,
+    ghost needs_one: { 1 ≤ need },
+}
+
+impl<ID: Copy + Ord> AtLeast<ID> {
+    ghost use Rattle.raft_members.specs.AtLeast.{ids_of, need_of, IsAlike};
+
+    /// A quorum is at least `need` of these ids, where a repeated one counts once. Where there are
+    /// fewer, there is no quorum.
+    pub fn new(alloc: Global, ids: &[ID], need: usize) -> Result<Self, AllocError>
+        requires { 1 ≤ need }
+        ensures ascending { IfOk result (λ made. IsStrictlySortedBy ID.cmp (ids_of made)) }
+        ensures members { IfOk result (λ made. (x : ID) →
+            is_member ID.eq (ids_of made) x ≡ is_member ID.eq ids.now x) }
+        ensures need { IfOk result (λ made. need_of made ≡ need) }
+    {
+        Ok(AtLeast {
+            ids: sorted_copies(alloc, ids)?,
+            need,
+        })
+    }
+
+    /// How many of its ids a quorum has at least.
+    pub fn need(&self) -> usize
+        ensures { result ≡ need_of self.now }
+    {
+        self.need
+    }
+
+    /// The same ids, of which a quorum has as many.
+    pub fn try_clone(&self) -> Result<Self, AllocError>
+        ensures { IfOk result (IsAlike self.now) }
+    {
+        Ok(AtLeast {
+            ids: Vec::from_slice(*self.ids.allocator(), &self.ids)?,
+            need: self.need,
+        })
+    }
+}
+
+/// At least so many of the ids.
+impl<ID: Copy + Ord> QuorumSet<ID> for AtLeast<ID> {
+    ghost use Rattle.raft_members.specs.AtLeast.{ids_of, need_of};
+
+    ghost has_quorum = { λ q s. has_at_least ID.eq (ids_of q) (need_of q) s };
+
+    ghost is_voter = { λ q. is_member ID.eq (ids_of q) };
+
+    ghost superset = { λ q. has_at_least-superset ID.eq (ids_of q) (need_of q) };
+
+    #[inline(always)]
+    fn is_quorum(&self, ids: &[ID]) -> bool {
+        exceeds(ids, self.need - 1, |id| has(&self.ids, id))
+    }
+
+    fn ids(&self, alloc: Global) -> Result<Vec<ID>, AllocError> {
+        sorted_copies(alloc, &self.ids)
+    }
+}
+
+impl<ID: Copy + Ord> Clone for AtLeast<ID> {
+    ghost use Rattle.raft_members.specs.AtLeast.{IsAlike};
+
+    ghost is_clone = { IsAlike };
+
+    fn clone(&self) -> Result<Self, AllocError> {
+        self.try_clone()
+    }
+}
+
+/// As `2 of {0,1,2,3,4}`.
+impl<ID: fmt::Display> fmt::Display for AtLeast<ID> {
+    fn fmt<W: fmt::Write>(&self, f: &mut fmt::Formatter<W>) -> fmt::Result {
+        write!(f, "{} of {{", self.need)?;
+        for (at, id) in self.ids.iter().enumerate() {
+            if at > 0 {
+                f.write_str(",")?;
+            }
+            write!(f, "{id}")?;
+        }
+        f.write_str("}")
+    }
+}

@@ -1,0 +1,92 @@
+//! Worked values of updates and upgrades with quorums of a stated size.
+
+use super::steps::{first_ids, made, replied};
+use raft_members::quorum::{AtLeast, Joint, QuorumSet};
+use raft_progress::progress::{AnyStep, Reply, VecProgress};
+use std::alloc::{AllocError, Global};
+use std::process::Abort;
+use std::test::Fail;
+
+type Enough = AtLeast<u64>;
+
+type Both = Joint<u64, Enough, Vec<Enough>>;
+
+/// So many of the ids 0 to 4.
+fn of_five(rt: &impl Abort, alloc: Global, need: usize) -> Result<Enough, AllocError> {
+    assert!(rt; need > 0);
+    AtLeast::new(alloc, &first_ids(alloc, 5)?, need)
+}
+
+/// Updates, each with what is granted after it.
+type Updates<'a> = &'a [(u64, u64, u64)];
+
+/// Makes the updates, and compares what each grants.
+fn compare<QS: QuorumSet<u64> + Drop>(
+    rt: &impl Abort,
+    alloc: Global,
+    progress: &mut VecProgress<u64, u64, u64, QS>,
+    updates: Updates<'_>,
+) -> Result<(), AllocError> {
+    for (id, value, granted) in updates {
+        let reply = replied(rt, alloc, progress, AnyStep::Update(*id, *value))?;
+        assert!(rt;
+            reply == Some(Reply::Granted(*granted)),
+            "at ({id}, {value})"
+        );
+    }
+    Ok(())
+}
+
+const TWO_OF_FIVE: Updates<'static> = &[(0, 5, 0), (1, 3, 3), (2, 4, 4), (2, 10, 5), (3, 6, 6)];
+
+const FIVE_OF_FIVE: Updates<'static> = &[(0, 5, 0), (1, 3, 0), (2, 4, 0), (3, 6, 0), (4, 2, 2)];
+
+const SIX_OF_FIVE: Updates<'static> = &[(0, 5, 0), (1, 3, 0), (2, 4, 0), (3, 6, 0), (4, 2, 0)];
+
+#[test]
+fn as_many_as_needed_grant(rt: HostRuntime) -> Result<(), Fail> {
+    let alloc = rt.alloc();
+    for (need, updates) in [(2, TWO_OF_FIVE), (5, FIVE_OF_FIVE), (6, SIX_OF_FIVE)] {
+        let mut progress = made(&rt, alloc, of_five(&rt, alloc, need)?, &[], 0)?;
+        compare(&rt, alloc, &mut progress, updates)?;
+    }
+    Ok(())
+}
+
+#[test]
+fn an_upgrade_may_need_more(rt: HostRuntime) -> Result<(), Fail> {
+    let alloc = rt.alloc();
+    let mut progress = made(&rt, alloc, of_five(&rt, alloc, 2)?, &[], 0)?;
+    compare(&rt, alloc, &mut progress, TWO_OF_FIVE)?;
+    let upgrade = AnyStep::Upgrade {
+        quorum_set: of_five(&rt, alloc, 3)?,
+        learners: Vec::new(alloc),
+        default: 0,
+    };
+    assert!(rt; replied(&rt, alloc, &mut progress, upgrade)? == Some(Reply::Granted(5)));
+    for (id, value) in [(0, 5), (1, 3), (2, 10), (3, 6), (4, 0)] {
+        assert!(rt; progress.try_get(&id) == Some(&value));
+    }
+    Ok(())
+}
+
+// Two of 0 to 2 and three of 2 to 4: what a joint grants is the least of what each grants.
+#[test]
+fn a_joint_of_two(rt: HostRuntime) -> Result<(), Fail> {
+    let alloc = rt.alloc();
+    let mut children = Vec::new(alloc);
+    children.push(AtLeast::new(alloc, &[0, 1, 2], 2)?)?;
+    children.push(AtLeast::new(alloc, &[4, 3, 2, 2], 3)?)?;
+    let both: Both = Joint::from(children);
+    let mut progress = made(&rt, alloc, both, &[], 0)?;
+    let updates: Updates<'_> = &[
+        (0, 5, 0),
+        (2, 4, 0),
+        (3, 2, 0),
+        (4, 3, 2),
+        (3, 9, 3),
+        (4, 9, 4),
+    ];
+    compare(&rt, alloc, &mut progress, updates)?;
+    Ok(())
+}
