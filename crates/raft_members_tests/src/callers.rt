@@ -1,5 +1,5 @@
 //! Callers, with what they prove of the calls.
-ghost use Rattle.std.specs.Prelude.{◌<◌, true, IfOk, IfSome, length};
+ghost use Rattle.std.specs.Prelude.{◌<◌, true, IfOk, IfSome, IsTrue, length};
 ghost use Rattle.std.specs.List.{IsDistinct};
 ghost use Rattle.std.specs.Set.{ClonesAreEqual, is_member};
 ghost use Rattle.raft_members.specs.Reached.{EachQuorumKnows};
@@ -7,8 +7,9 @@ ghost use Rattle.raft_members.specs.Reached.{EachQuorumKnows};
 use super::words::{ids, members};
 use raft_base::{Node, NodeId};
 use raft_members::membership::laws::change_keeps_reached;
-use raft_members::quorum::QuorumSet;
+use raft_members::quorum::{AtLeast, Joint, QuorumSet};
 use raft_members::{ChangeMembers, ChangeMembershipError, Membership};
+use std::alloc::AllocError;
 use std::test::Fail;
 
 /// Changes the members, of one config at least, only where a quorum of them holds an entry. Then
@@ -42,5 +43,25 @@ fn members_change_once_a_quorum_holds_an_entry(rt: HostRuntime) -> Result<(), Fa
     assert!(rt; early.is_none());
     let late = change_once_held(&from, &[1, 3], change, true)?;
     assert!(rt; late.is_some_and(|to| to.is_voter(&4)));
+    Ok(())
+}
+
+/// A clone of a joint of quorums of a stated size is equal to it.
+fn joint_copy_is_equal<ID: Copy + Ord>(
+    joint: &Joint<ID, AtLeast<ID>, Vec<AtLeast<ID>>>,
+) -> Result<bool, AllocError>
+    ensures { IfOk result (λ same. IsTrue same) }
+{
+    let copy = joint.try_clone()?;
+    Ok(*joint == copy)
+}
+
+#[test]
+fn a_joint_of_stated_sizes_is_cloned(rt: HostRuntime) -> Result<(), Fail> {
+    let alloc = rt.alloc();
+    let mut children = Vec::new(alloc);
+    children.push(AtLeast::new(alloc, &[1, 2, 3], 2)?)?;
+    children.push(AtLeast::new(alloc, &[], 1)?)?;
+    assert!(rt; joint_copy_is_equal(&Joint::<u64, _, _>::from(children))?);
     Ok(())
 }

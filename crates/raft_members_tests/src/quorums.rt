@@ -1,6 +1,7 @@
 //! Quorums of lists, sets, joints and shared sets.
+ghost use Rattle.std.specs.Prelude.{◌≤◌};
 
-use raft_members::quorum::{AsJoint, Coherent, FindCoherent, Joint, QuorumSet, laws};
+use raft_members::quorum::{AsJoint, AtLeast, Coherent, FindCoherent, Joint, QuorumSet, laws};
 use std::alloc::{AllocError, Global};
 use std::collections::BTreeSet;
 use std::rc::Rc;
@@ -214,5 +215,60 @@ fn laws_hold_of_plain_ids(_rt: HostRuntime) -> Result<(), Fail> {
     laws::coherent_quorums_meet::<u64>();
     laws::empty_config_has_no_quorum::<u64>();
     laws::no_configs_take_every_set::<u64>();
+    laws::at_least_quorums_meet::<u64>();
+    laws::need_past_ids_has_no_quorum::<u64>();
+    Ok(())
+}
+
+/// Whether the ids are a quorum of so many of 3, 1, 2 and 1 again, and the set shows what it was made of.
+fn is_enough(alloc: Global, need: usize, ids: &[u64]) -> Result<bool, AllocError>
+    requires { 1 ≤ need }
+{
+    let set = AtLeast::new(alloc, &[3, 1, 2, 1], need)?;
+    let is_as_made = set.need() == need && has_ids(alloc, &set, &[1, 2, 3])?;
+    Ok(is_as_made && set.try_clone()?.is_quorum(ids))
+}
+
+// How many are needed, the ids asked, and whether they are a quorum.
+#[test]
+fn a_quorum_has_as_many_as_needed(rt: HostRuntime) -> Result<(), Fail> {
+    let rows: [(usize, &[u64], bool); 7] = [
+        (1, &[], false),
+        (1, &[9, 2], true),
+        (2, &[1], false),
+        (2, &[1, 9, 8], false),
+        (2, &[1, 9, 3], true),
+        (3, &[3, 2, 1], true),
+        (4, &[3, 2, 1, 4], false),
+    ];
+    for (need, ids, want) in rows {
+        assert!(rt;
+            need >= 1 && is_enough(rt.alloc(), need, ids)? == want,
+            "{need} of {ids:?}"
+        );
+    }
+    Ok(())
+}
+
+#[test]
+fn quorums_of_a_stated_size_may_share_no_id(rt: HostRuntime) -> Result<(), Fail> {
+    let two = AtLeast::new(rt.alloc(), &[0, 1, 2, 3, 4], 2)?;
+    assert!(rt; two.is_quorum(&[0, 1]) && two.is_quorum(&[2, 3]));
+    Ok(())
+}
+
+#[test]
+fn no_ids_have_no_quorum_of_a_stated_size(rt: HostRuntime) -> Result<(), Fail> {
+    let none: AtLeast<u64> = AtLeast::new(rt.alloc(), &[], 1)?;
+    assert!(rt; !none.is_quorum(&[]) && !none.is_quorum(&[1]));
+    Ok(())
+}
+
+#[test]
+fn a_stated_size_as_a_text(rt: HostRuntime) -> Result<(), Fail> {
+    let set = AtLeast::new(rt.alloc(), &[2, 0, 4, 1, 3, 1], 2)?;
+    let none: AtLeast<u64> = AtLeast::new(rt.alloc(), &[], 1)?;
+    assert!(rt; set.to_string(rt.alloc())?.as_str() == "2 of {0,1,2,3,4}");
+    assert!(rt; none.to_string(rt.alloc())?.as_str() == "1 of {}");
     Ok(())
 }

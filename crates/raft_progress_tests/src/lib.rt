@@ -2,6 +2,8 @@
 #![tactic(auto)]
 
 #[cfg(test)]
+mod at_least;
+#[cfg(test)]
 mod callers;
 #[cfg(test)]
 mod calls;
