@@ -25,6 +25,22 @@ idle_is Idle h = refl
 idle_is (Logs id range) h = cc
 idle_is (Snapshot id last) h = cc
 
+-- the purge point that was sent over last never goes back
+module _ {L C : Type 0} (cmp : C → C → Ordering) (log_view : L → LogView C) where
+  purged_step : (s : Search C) (event : SearchEvent L) → s.purged ≤ (after_event cmp log_view s event).purged
+  purged_step s (Send log n) = by (can_be_sent s.entry (log_view log.now)) (nat_le s.purged (next_index (log_view log.now).purge_upto)) (λ t. grind (arith, nat_tests))
+    where
+      by : (t u : Bool) → (u ≡ true → s.purged ≤ next_index (log_view log.now).purge_upto) → s.purged ≤ (if t && u then record { entry = after_send (sent cmp s.entry (log_view log.now) n); purged = next_index (log_view log.now).purge_upto; accepted = s.accepted } else s).purged
+      by true true later = later refl
+      by true false later = omega arith
+      by false u later = omega arith
+  purged_step s (Conflict id index) = omega arith
+  purged_step s (Heartbeat index) = omega arith
+
+  purged_rises : (s : Search C) (events : List (SearchEvent L)) → s.purged ≤ (after_events cmp log_view s events).purged
+  purged_rises s [] = omega arith
+  purged_rises s (event ∷ events) = omega (arith, purged_step s event, purged_rises (after_event cmp log_view s event) events)
+
 module _ (Fits : ℕ → ℕ → Type 0)
     (shrinks : (b s t : ℕ) → Fits b s → t ≤ s → Fits b t)
     (halves : (b s k : ℕ) → Fits b s → k ≡ s / 16 → 1 ≤ k → (c : ℕ) × (b ≡ suc c) × Fits c (8 * k - 1))
@@ -202,10 +218,10 @@ module _ (Fits : ℕ → ℕ → Type 0)
         send_keeps cmp n false e w = unsent w
 
     -- one step of a search, and a whole one, keep what is left within total
-    module _ {L C : Type 0} (cmp : C → C → Ordering) (log_view : L → LogView C) (total m : ℕ) where
-      -- each send shows a log whose ids have their indexes, and past the match it has one to spare
+    module _ {L C : Type 0} (cmp : C → C → Ordering) (log_view : L → LogView C) (total m last : ℕ) where
+      -- each send shows a log whose ids have their indexes, and past the match it has one to spare, up to the last purge point
       abbrev pub SoundLog : LogView C → Type 0
-      SoundLog log = ((i : ℕ) → IfSome (log.id_at i) (λ x. x.index ≡ i)) × (m < next_index log.purge_upto → (b s : ℕ) → Fits b s → 1 ≤ s → (a : ℕ) × (b ≡ suc a))
+      SoundLog log = ((i : ℕ) → IfSome (log.id_at i) (λ x. x.index ≡ i)) × (next_index log.purge_upto ≤ last → m < next_index log.purge_upto → (b s : ℕ) → Fits b s → 1 ≤ s → (a : ℕ) × (b ≡ suc a))
 
       abbrev pub Sound : SearchEvent L → Type 0
       Sound (Send log n) = SoundLog (log_view log.now)
@@ -219,25 +235,29 @@ module _ (Fits : ℕ → ℕ → Type 0)
       abbrev pub Keeps-search : Search C → Type 0
       Keeps-search s = Within total m s.purged s.accepted s.entry
 
-      sent_step : (s : Search C) (log : LogView C) (n : ℕ) (t u : Bool) → (u ≡ true → s.purged ≤ next_index log.purge_upto) → SoundLog log → Keeps-search s
+      sent_step : (s : Search C) (log : LogView C) (n : ℕ) (t u : Bool) → (u ≡ true → s.purged ≤ next_index log.purge_upto)
+          → (if t && u then record { entry = after_send (sent cmp s.entry log n); purged = next_index log.purge_upto; accepted = s.accepted } else s).purged ≤ last → SoundLog log → Keeps-search s
           → Keeps-search (if t && u then record { entry = after_send (sent cmp s.entry log n); purged = next_index log.purge_upto; accepted = s.accepted } else s)
-      sent_step s log n true true later sound w = send_keeps total m s.purged s.accepted s.entry log sound.0 (later refl) sound.1 cmp n (is_idle s.entry.inflight) refl w
-      sent_step s log n true false later sound w = w
-      sent_step s log n false u later sound w = w
+      sent_step s log n true true later within sound w = send_keeps total m s.purged s.accepted s.entry log sound.0 (later refl) (sound.1 within) cmp n (is_idle s.entry.inflight) refl w
+      sent_step s log n true false later within sound w = w
+      sent_step s log n false u later within sound w = w
 
-      step_keeps : (s : Search C) (event : SearchEvent L) → Sound event → Keeps-search s → Keeps-search (after_event cmp log_view s event)
-      step_keeps s (Send log n) sound w = sent_step s (log_view log.now) n (can_be_sent s.entry (log_view log.now)) (nat_le s.purged (next_index (log_view log.now).purge_upto)) (λ t. grind (arith, nat_tests)) sound w
-      step_keeps s (Conflict id index) sound w = conflict_keeps total m s.purged s.accepted s.entry id index w
-      step_keeps s (Heartbeat index) sound w = heartbeat_keeps total m s.purged s.accepted s.entry index w
+      step_keeps : (s : Search C) (event : SearchEvent L) → (after_event cmp log_view s event).purged ≤ last → Sound event → Keeps-search s → Keeps-search (after_event cmp log_view s event)
+      step_keeps s (Send log n) within sound w = sent_step s (log_view log.now) n (can_be_sent s.entry (log_view log.now)) (nat_le s.purged (next_index (log_view log.now).purge_upto)) (λ t. grind (arith, nat_tests)) within sound w
+      step_keeps s (Conflict id index) within sound w = conflict_keeps total m s.purged s.accepted s.entry id index w
+      step_keeps s (Heartbeat index) within sound w = heartbeat_keeps total m s.purged s.accepted s.entry index w
 
-      run_keeps : (s : Search C) (events : List (SearchEvent L)) → AllSound events → Keeps-search s → Keeps-search (after_events cmp log_view s events)
-      run_keeps s [] sound w = w
-      run_keeps s (event ∷ events) sound w = run_keeps (after_event cmp log_view s event) events sound.1 (step_keeps s event sound.0 w)
+      run_keeps : (s : Search C) (events : List (SearchEvent L)) → (after_events cmp log_view s events).purged ≤ last → AllSound events → Keeps-search s → Keeps-search (after_events cmp log_view s events)
+      run_keeps s [] within sound w = w
+      run_keeps s (event ∷ events) within sound w =
+          let t = after_event cmp log_view s event in
+          let here : t.purged ≤ last = omega (arith, purged_rises cmp log_view t events, within) in
+          run_keeps t events within sound.1 (step_keeps s event here sound.0 w)
 
       -- from an entry with nothing in flight and an open stretch that fits, at most total conflicts are accepted
-      pub accepted_within : (entry : ProgressEntryOf C) (events : List (SearchEvent L)) → is_idle entry.inflight ≡ true → m ≡ next_index entry.matching → m ≤ entry.searching_end → Fits total (entry.searching_end - m) → AllSound events
+      pub accepted_within : (entry : ProgressEntryOf C) (events : List (SearchEvent L)) → is_idle entry.inflight ≡ true → m ≡ next_index entry.matching → m ≤ entry.searching_end → Fits total (entry.searching_end - m) → (after_events cmp log_view (new_search entry) events).purged ≤ last → AllSound events
           → (after_events cmp log_view (new_search entry) events).accepted ≤ total
-      accepted_within entry events idle is le fits sound =
+      accepted_within entry events idle is le fits within sound =
           let left : Left m 0 total entry.searching_end entry.inflight = subst (λ (f : InflightOf C). Left m 0 total entry.searching_end f) (sym (idle_is entry.inflight idle)) (inr fits) in
-          let w = run_keeps (new_search entry) events sound (is, le, (total, omega arith, left)) in
+          let w = run_keeps (new_search entry) events within sound (is, le, (total, omega arith, left)) in
           let sum = w.2.1 in omega arith

@@ -27,37 +27,40 @@ short_spare (suc b) s h l = (b, refl)
 module _ {L C : Type 0} (cmp : C → C → Ordering) (log_view : L → LogView C) (indexed : (log : L) (i : ℕ) → IfSome ((log_view log).id_at i) (λ x. x.index ≡ i))
     (entry : ProgressEntryOf C) (events : List (SearchEvent L)) (can : CanSearch entry)
   where
+    abbrev pub end : Search C
+    end = after_events cmp log_view (new_search entry) events
+
     abbrev pub count : ℕ
-    count = (after_events cmp log_view (new_search entry) events).accepted
+    count = end.accepted
 
     -- at most the binary digits of the stretch
     pub within_digits : (k : ℕ) → stretch entry < 2 ^ k → count ≤ k
-    within_digits k fits = potential.accepted_within Short short_shrinks short_halves cmp log_view k (next_index entry.matching) entry events can.0 refl can.1 fits (sound events)
+    within_digits k fits = potential.accepted_within Short short_shrinks short_halves cmp log_view k (next_index entry.matching) end.purged entry events can.0 refl can.1 fits (omega arith) (sound events)
       where
-        sound : (es : List (SearchEvent L)) → potential.AllSound Short short_shrinks short_halves cmp log_view k (next_index entry.matching) es
+        sound : (es : List (SearchEvent L)) → potential.AllSound Short short_shrinks short_halves cmp log_view k (next_index entry.matching) end.purged es
         sound [] = tt
-        sound (Send log n ∷ es) = ((indexed log.now, λ past b s f one. short_spare b s f one), sound es)
+        sound (Send log n ∷ es) = ((indexed log.now, λ within past b s f one. short_spare b s f one), sound es)
         sound (Conflict id index ∷ es) = (tt, sound es)
         sound (Heartbeat index ∷ es) = (tt, sound es)
 
-    -- at most the digits of a sixteenth of it, where no purge point lies past the match
-    pub within_near_digits : NonePurgedPast log_view (next_index entry.matching) events → (k : ℕ) → stretch entry / 16 < 2 ^ k → count ≤ k
-    within_near_digits none k fits = potential.accepted_within Near near_shrinks near_halves cmp log_view k (next_index entry.matching) entry events can.0 refl can.1 fits (sound events none)
+    -- at most the digits of a sixteenth of it, where no purge point that was sent over lies past the match
+    pub within_near_digits : NonePurgedPast end (next_index entry.matching) → (k : ℕ) → stretch entry / 16 < 2 ^ k → count ≤ k
+    within_near_digits none k fits = potential.accepted_within Near near_shrinks near_halves cmp log_view k (next_index entry.matching) end.purged entry events can.0 refl can.1 fits (omega arith) (sound events)
       where
-        sound : (es : List (SearchEvent L)) → NonePurgedPast log_view (next_index entry.matching) es → potential.AllSound Near near_shrinks near_halves cmp log_view k (next_index entry.matching) es
-        sound [] u = tt
-        sound (Send log n ∷ es) u = ((indexed log.now, λ past b s f one. absurd (omega (arith, u.0))), sound es u.1)
-        sound (Conflict id index ∷ es) u = (tt, sound es u)
-        sound (Heartbeat index ∷ es) u = (tt, sound es u)
+        sound : (es : List (SearchEvent L)) → potential.AllSound Near near_shrinks near_halves cmp log_view k (next_index entry.matching) end.purged es
+        sound [] = tt
+        sound (Send log n ∷ es) = ((indexed log.now, λ within past b s f one. absurd (omega (arith, none))), sound es)
+        sound (Conflict id index ∷ es) = (tt, sound es)
+        sound (Heartbeat index ∷ es) = (tt, sound es)
 
     -- and one more at most in any case
     pub within_one_more : (k : ℕ) → stretch entry / 16 < 2 ^ k → count ≤ k + 1
     within_one_more k fits =
-        let bound = potential.accepted_within NearAndOne near_one_shrinks near_and_one_halves cmp log_view (suc k) (next_index entry.matching) entry events can.0 refl can.1 (k, refl, fits) (sound events) in omega arith
+        let bound = potential.accepted_within NearAndOne near_one_shrinks near_and_one_halves cmp log_view (suc k) (next_index entry.matching) end.purged entry events can.0 refl can.1 (k, refl, fits) (omega arith) (sound events) in omega arith
       where
-        sound : (es : List (SearchEvent L)) → potential.AllSound NearAndOne near_one_shrinks near_and_one_halves cmp log_view (suc k) (next_index entry.matching) es
+        sound : (es : List (SearchEvent L)) → potential.AllSound NearAndOne near_one_shrinks near_and_one_halves cmp log_view (suc k) (next_index entry.matching) end.purged es
         sound [] = tt
-        sound (Send log n ∷ es) = ((indexed log.now, λ past b s f one. (f.0, f.1)), sound es)
+        sound (Send log n ∷ es) = ((indexed log.now, λ within past b s f one. (f.0, f.1)), sound es)
         sound (Conflict id index ∷ es) = (tt, sound es)
         sound (Heartbeat index ∷ es) = (tt, sound es)
 

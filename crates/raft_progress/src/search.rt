@@ -37,7 +37,7 @@ pub enum SearchEvent<'a, L> {
 /// earlier send that was not skipped. A reply that is refused changes nothing. Each probe halves
 /// the stretch that is left, so the accepted conflicts are few: at most the binary digits of the
 /// stretch from the match to the end of the search, and at most those of a sixteenth of it, or one
-/// more where a purge point lies past the match.
+/// more where a send that was not skipped had its purge point past the match.
 pub fn search_run<C: Ord + Copy, L: LogStateReader<C>>(
     entry: &mut ProgressEntryOf<C>,
     events: &[SearchEvent<'_, L>],
@@ -46,7 +46,8 @@ pub fn search_run<C: Ord + Copy, L: LogStateReader<C>>(
         (result ≡ search.accepted) × (entry.new ≡ search.entry) }
     ensures digits { CanSearch entry.old → (k : ℕ) → stretch entry.old < 2 ^ k → result ≤ k }
     ensures near_digits { CanSearch entry.old
-        → NonePurgedPast L.log_view (next_index entry.old.matching) events.now
+        → NonePurgedPast (after_events C.cmp L.log_view (new_search entry.old) events.now)
+        (next_index entry.old.matching)
         → (k : ℕ) → stretch entry.old / 16 < 2 ^ k → result ≤ k }
     ensures one_more { CanSearch entry.old
         → (k : ℕ) → stretch entry.old / 16 < 2 ^ k → result ≤ k + 1 }

@@ -56,13 +56,10 @@ module _ {L C : Type 0} (cmp : C → C → Ordering) (log_view : L → LogView C
   after_events search [] = search
   after_events search (event ∷ events) = after_events (after_event search event) events
 
-module _ {L C : Type 0} (log_view : L → LogView C) (index : ℕ) where
-  -- no send has a purge point at or past an index
-  abbrev pub NonePurgedPast : List (SearchEvent L) → Type 0
-  NonePurgedPast [] = Unit {0}
-  NonePurgedPast (Send log max_entries ∷ events) = (next_index (log_view log.now).purge_upto ≤ index) × NonePurgedPast events
-  NonePurgedPast (Conflict request_id conflict ∷ events) = NonePurgedPast events
-  NonePurgedPast (Heartbeat conflict ∷ events) = NonePurgedPast events
+-- no send that was not skipped had a purge point at or past an index: the last of them had the
+-- furthest, as one whose purge point goes back is skipped
+abbrev pub NonePurgedPast : {C : Type 0} → Search C → ℕ → Type 0
+NonePurgedPast search index = search.purged ≤ index
 
 -- a search can begin: nothing is in flight, and the match is below the end of the search
 abbrev pub CanSearch : {C : Type 0} → ProgressEntryOf C → Type 0
