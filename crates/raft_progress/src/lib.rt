@@ -5,6 +5,7 @@
 pub mod catch_up;
 pub mod entry;
 pub mod inflight;
+pub mod laws;
 pub mod progress;
 pub mod search;
 pub mod tracked;

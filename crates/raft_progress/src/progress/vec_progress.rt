@@ -394,7 +394,8 @@ impl<
     /// The value of an id, to be written.
     ///
     /// Nothing is counted and nothing moves. Where the part of a voter changes, the progress may be
-    /// out of order afterwards: `is_in_order` tells.
+    /// out of order afterwards: `is_in_order` tells. Else it stays in order
+    /// (`laws::kept_parts_keep_order`).
     pub fn get_mut(&mut self, id: &ID) -> Option<&mut V>
         ensures* writes_back { sem 𝓛 (LendsValue
             (the_row ID.row V.row P.row QS.row ID.Ord.own ID.PartialEq
@@ -414,7 +415,8 @@ impl<
     /// The ids and their values, to be written.
     ///
     /// Nothing is counted and nothing moves. Where an id or the part of a voter changes, the progress
-    /// may be out of order afterwards: `is_in_order` tells.
+    /// may be out of order afterwards: `is_in_order` tells. Else it stays in order
+    /// (`laws::kept_parts_keep_order`).
     pub fn iter_mut(&mut self) -> std::slice::IterMut<(ID, V)>
         ensures* writes_back { sem 𝓛 (LendsWalk ID.row V.row P.row QS.row ID.Ord.own ID.PartialEq ID.PartialOrd.own
             self.entry (iter_mut_name result)) }
