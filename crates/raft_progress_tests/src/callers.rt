@@ -2,14 +2,17 @@
 ghost use Rattle.raft_progress.specs.entry.Send.{sent};
 ghost use Rattle.raft_progress.specs.progress.Comparisons.{comparisons};
 ghost use Rattle.raft_progress.specs.progress.CountedValue.{IsCounted};
+ghost use Rattle.raft_progress.specs.progress.InOrder.{IsInOrder};
+ghost use Rattle.raft_progress.specs.progress.Shown.{state};
 ghost use Rattle.raft_progress.specs.tracked.Headline.{QuorumsKnowGranted};
+ghost use Rattle.raft_progress.specs.tracked.Tracked.{tracked};
 ghost use Rattle.raft_progress.specs.progress.NewProgress.{IsNew};
 ghost use Rattle.raft_progress.specs.progress.ProgressState.{ProgressState};
 ghost use Rattle.raft_progress.specs.progress.Steps.{IsRun};
 ghost use Rattle.raft_progress.specs.tracked.TrackedState.{TrackedShown, tracked_state};
 ghost use Rattle.raft_progress.specs.tracked.TrackedSteps.{IsTrackedRun};
 ghost use Rattle.std.specs.Ordering.{nat_cmp};
-ghost use Rattle.std.specs.Prelude.{◌≡◌, IfOk, IfSome, List, Ok, ℕ, length};
+ghost use Rattle.std.specs.Prelude.{◌≡◌, IfOk, IfSome, List, Ok, Some, ℕ, length};
 ghost use Rattle.std.specs.Set.{ClonesAreEqual};
 ghost use Rattle.raft_progress.specs.progress.VecProgress.{shown};
 
@@ -19,6 +22,7 @@ use raft_members::membership::Membership;
 use raft_members::quorum::QuorumSet;
 use raft_progress::entry::ProgressEntryOf;
 use raft_progress::inflight::InflightOf;
+use raft_progress::laws::{kept_parts_keep_order, quorums_know_granted};
 use raft_progress::progress::{AnyStep, ProgressPart, Reply, VecProgress, replay_any};
 use raft_progress::tracked::{Step, Tracked, replay};
 use std::alloc::{AllocError, Global};
@@ -73,6 +77,38 @@ pub fn granted_of<NID: NodeId, N: Node>(
     Ok(*pair.progress().granted())
 }
 
+/// What is granted of a membership and its progress, whether or not a replay has touched them: each
+/// quorum of the membership has a voter with at least that value.
+pub fn granted_now<NID: NodeId, N: Node>(pair: &Tracked<NID, N, u64, u64>) -> u64
+    ensures quorums { QuorumsKnowGranted NID.eq nat_cmp (λ v. v) (tracked pair.now) }
+    ensures granted { result ≡ (tracked pair.now).progress.granted }
+{
+    quorums_know_granted(pair);
+    *pair.progress().granted()
+}
+
+/// Writes another value of the same part at an id, and answers whether the id is known. The progress
+/// stays in order, so that updates may follow.
+pub fn replaced<ID: Copy + Ord, V: ProgressPart<P> + Drop, P: Copy + Ord, QS: QuorumSet<ID> + Drop>(
+    progress: &mut VecProgress<ID, V, P, QS>,
+    id: &ID,
+    value: V,
+) -> bool
+    requires ordered { IsInOrder ID.eq P.cmp V.part_of QS.has_quorum (shown progress.old) }
+    requires same_part { (v : V) → (state ID.eq (shown progress.old)).value id.now ≡ Some v →
+        V.part_of value ≡ V.part_of v }
+    ensures { IsInOrder ID.eq P.cmp V.part_of QS.has_quorum (shown progress.new) }
+{
+    kept_parts_keep_order::<ID, V, P, QS>();
+    match progress.get_mut(id) {
+        Some(current) => {
+            *current = value;
+            true
+        }
+        None => false,
+    }
+}
+
 /// What is sent next to a follower, no more than 64 logs, where a send is allowed.
 pub fn sent_next<C: Ord + Copy, L: LogStateReader<C>>(
     entry: &mut ProgressEntryOf<C>,
@@ -122,6 +158,29 @@ fn a_caller_of_a_membership_grants(rt: HostRuntime) -> Result<(), Fail> {
         Step::IncreaseTo(7, 1),
     ]?;
     assert_eq!(rt; granted_of(alloc, membership, steps)?, 4);
+    Ok(())
+}
+
+#[test]
+fn a_caller_grants_before_any_step(rt: HostRuntime) -> Result<(), Fail> {
+    let alloc = rt.alloc();
+    let mut nodes = BTreeMap::new(alloc);
+    nodes.insert(1u64, EmptyNode::new())?;
+    let pair = Tracked::new(Membership::from_nodes(alloc, nodes)?, 7u64)?;
+    assert_eq!(rt; granted_now(&pair), 7);
+    Ok(())
+}
+
+#[test]
+fn a_caller_replaces(rt: HostRuntime) -> Result<(), Fail> {
+    let alloc = rt.alloc();
+    let mut progress = made(&rt, alloc, first_ids(alloc, 2)?, &[5], 0u64)?;
+    let same = match progress.try_get(&1) {
+        Some(current) => *current == 0,
+        None => false,
+    };
+    assert!(rt; same);
+    assert!(rt; replaced(&mut progress, &1, 0));
     Ok(())
 }
 
