@@ -1,6 +1,7 @@
--- A round of catching up: followers, each with the index below which its log agrees, one after the other.
-use Rattle.std.specs.Prelude.{◌≡◌, ◌⊎◌, ℕ, Bool, true, false, ◌&&◌, List, [], ◌∷◌, length, Option, Some, None, IsTrue}
-use Rattle.std.specs.Option.{option_cmp}
+-- A round of catching up: followers, one after the other.
+use Rattle.std.specs.Prelude.{◌≡◌, ℕ, Bool, true, false, ◌&&◌, if◌then◌else◌, IsTrue}
+use Rattle.std.specs.Prelude.{List, [], ◌∷◌, length, Option, Some}
+use Rattle.std.specs.Option.{ForSome, option_cmp}
 use Rattle.std.specs.Set.{is_member}
 use Rattle.std.specs.declared.cmp.Ordering.{Ordering}
 use Rattle.raft_base.specs.LogId.{id_le, log_id_cmp}
@@ -9,52 +10,90 @@ use Rattle.raft_base.specs.declared.log_id.LogIdOf.{LogIdOf}
 use Rattle.raft_progress.specs.catch_up.CatchUp.{CaughtUp}
 use Rattle.raft_progress.specs.catch_up.HonestRun.{HonestRunEnds}
 use Rattle.raft_progress.specs.progress.InOrder.{IsInOrder}
-use Rattle.raft_progress.specs.progress.ProgressState.{IsSame, ProgressState, Writes}
-use Rattle.raft_progress.specs.progress.Shown.{Shown}
+use Rattle.raft_progress.specs.progress.Shown.{Shown, state}
+use Rattle.raft_progress.specs.progress.Updated.{IsUpdated}
 use Rattle.raft_progress.specs.declared.entry.ProgressEntryOf.{ProgressEntryOf}
 
--- a progress of entries is in order by their matches
-abbrev pub IsInOrderByMatch : {ID C QS : Type 0} → (ID → ID → Bool) → (C → C → Ordering) → (QS → (ID → Bool) → Bool) → Shown ID (ProgressEntryOf C) (Option (LogIdOf C)) QS → Type 0
-IsInOrderByMatch eq cmp has_quorum p = IsInOrder eq (option_cmp (log_id_cmp cmp)) (λ entry. entry.matching) has_quorum p
+-- the followers of a leader: a progress of entries, by their matches
+abbrev pub Followers : Type 0 → Type 0 → Type 0 → Type 0
+Followers ID C QS = Shown ID (ProgressEntryOf C) (Option (LogIdOf C)) QS
 
--- a follower is passed over where it is unknown or can't be caught up
-abbrev pub IsPassedOver : {E : Type 0} → (E → ℕ → ℕ → Bool) → Option E → ℕ → ℕ → Type 0
-IsPassedOver can None agree max_entries = Unit {0}
-IsPassedOver can (Some entry) agree max_entries = can entry agree max_entries ≡ false
+module _ {ID C QS : Type 0} (eq : ID → ID → Bool) (cmp : C → C → Ordering)
+    (has_quorum : QS → (ID → Bool) → Bool) where
+  -- they are in order by their matches
+  abbrev pub IsInOrderByMatch : Followers ID C QS → Type 0
+  IsInOrderByMatch p = IsInOrder eq (option_cmp (log_id_cmp cmp)) (λ e. e.matching) has_quorum p
 
-module _ {ID C P QS : Type 0} (eq : ID → ID → Bool) (cmp : C → C → Ordering) (log : LogView C) (max_entries : ℕ) (can : ProgressEntryOf C → ℕ → ℕ → Bool) where
-  -- a follower with the index below which it agrees: it is passed over, or runs, and then its entry is the end of its honest run
-  abbrev pub Visits : ProgressState ID (ProgressEntryOf C) P QS → ID → ℕ → Bool → ProgressState ID (ProgressEntryOf C) P QS → Type 0
-  Visits old id agree false new = IsPassedOver can (old.value id) agree max_entries × IsSame old new
-  Visits old id agree true new =
-      (entry : ProgressEntryOf C) × (end : ProgressEntryOf C) × (conflicts : ℕ) × (acks : ℕ) × (old.value id ≡ Some entry) × (can entry agree max_entries ≡ true)
-      × HonestRunEnds cmp log max_entries entry agree end conflicts acks × Writes eq old id end new
+module _ {ID C QS : Type 0} (eq : ID → ID → Bool) (cmp : C → C → Ordering)
+    (has_quorum : QS → (ID → Bool) → Bool) (log : LogView C) (max_entries : ℕ)
+    (can : ProgressEntryOf C → ℕ → ℕ → Bool) where
+  -- a follower is passed over: it is unknown or cannot be caught up, and what is shown stays:
+  -- walk, granted and counts too
+  pub record IsPassedOver (old : Followers ID C QS) (id : ID) (agree : ℕ)
+      (new : Followers ID C QS) : Type 0 where
+    pub cannot : ForSome ((state eq old).value id) (λ entry. can entry agree max_entries ≡ false)
+    pub same : new ≡ old
 
-  -- the followers one after the other, and the list of those that ran
-  abbrev pub IsRound : ProgressState ID (ProgressEntryOf C) P QS → List (ID × ℕ) → List ID → ProgressState ID (ProgressEntryOf C) P QS → Type 0
-  IsRound old [] ran new = (ran ≡ []) × IsSame old new
-  IsRound old (pair ∷ pairs) ran new = (middle : ProgressState ID (ProgressEntryOf C) P QS) × ((Visits old pair.0 pair.1 false middle × IsRound middle pairs ran new)
-      ⊎ ((rest : List ID) × (ran ≡ pair.0 ∷ rest) × Visits old pair.0 pair.1 true middle × IsRound middle pairs rest new))
+  -- a follower runs: it can be caught up, and one update writes the end of its honest run
+  pub record HasRun (old : Followers ID C QS) (id : ID) (agree : ℕ)
+      (new : Followers ID C QS) : Type 0 where
+    pub entry : ProgressEntryOf C
+    pub end : ProgressEntryOf C
+    pub conflicts : ℕ
+    pub acks : ℕ
+    pub known : (state eq old).value id ≡ Some entry
+    pub can_run : can entry agree max_entries ≡ true
+    pub run : HonestRunEnds cmp log max_entries entry agree end conflicts acks
+    pub updated : IsUpdated eq (option_cmp (log_id_cmp cmp)) (λ e. e.matching) (λ v w. w ≡ end)
+        old id new
+    pub ordered : IsInOrderByMatch eq cmp has_quorum new
 
--- the follower has all
-abbrev pub IsCaughtUp : {ID C P QS : Type 0} → (C → C → Bool) → LogView C → ProgressState ID (ProgressEntryOf C) P QS → ID → Type 0
-IsCaughtUp {C = C} leader log s id = (entry : ProgressEntryOf C) × (s.value id ≡ Some entry) × CaughtUp leader log entry
+  -- a follower with the index below which it agrees, and whether it ran
+  abbrev pub Visits : Followers ID C QS → ID → ℕ → Bool → Followers ID C QS → Type 0
+  Visits old id agree true new = HasRun old id agree new
+  Visits old id agree false new = IsPassedOver old id agree new
 
--- at least one voter ran, and the voters that ran are a quorum
-abbrev pub QuorumRan : {ID V P QS : Type 0} → (ID → ID → Bool) → (QS → (ID → Bool) → Bool) → ProgressState ID V P QS → List ID → Type 0
-QuorumRan {ID = ID} eq has_quorum s ran = ((id : ID) × (s.is_voter id ≡ true) × (is_member eq ran id ≡ true)) × (has_quorum s.quorum_set (λ id. s.is_voter id && is_member eq ran id) ≡ true)
+  -- followers one after the other, and the list of those that ran
+  abbrev pub IsRound : Followers ID C QS → List (ID × ℕ) → List ID → Followers ID C QS → Type 0
+  IsRound old [] ran new = (ran ≡ []) × (new ≡ old)
+  IsRound old (pair ∷ pairs) ran new =
+      (did : Bool) × (rest : List ID) × (middle : Followers ID C QS)
+      × (ran ≡ (if did then pair.0 ∷ rest else rest))
+      × Visits old pair.0 pair.1 did middle × IsRound middle pairs rest new
 
--- no voter's match is past the last log id
-abbrev pub NonePastLast : {ID C P QS : Type 0} → (C → C → Ordering) → LogView C → ProgressState ID (ProgressEntryOf C) P QS → Type 0
-NonePastLast {ID = ID} {C = C} cmp log s = (id : ID) (entry : ProgressEntryOf C) → s.is_voter id ≡ true → s.value id ≡ Some entry → IsTrue (id_le cmp entry.matching log.last)
+module _ {ID C QS : Type 0} (eq : ID → ID → Bool) where
+  -- a follower has all
+  abbrev pub IsCaughtUp : (C → C → Bool) → LogView C → Followers ID C QS → ID → Type 0
+  IsCaughtUp same_leader log p id = (entry : ProgressEntryOf C)
+      × ((state eq p).value id ≡ Some entry) × CaughtUp same_leader log entry
 
--- after a round of so many followers that ran: each of them has all, quorum set and default part are as they were, and where a quorum ran, the last log id is granted, or more where a voter's match was past it before
-pub record IsRoundEnd {ID C QS : Type 0} (leader : C → C → Bool) (eq : ID → ID → Bool) (cmp : C → C → Ordering) (has_quorum : QS → (ID → Bool) → Bool) (log : LogView C) (max_entries : ℕ) (can : ProgressEntryOf C → ℕ → ℕ → Bool)
-    (old : ProgressState ID (ProgressEntryOf C) (Option (LogIdOf C)) QS) (pairs : List (ID × ℕ)) (count : ℕ) (new : ProgressState ID (ProgressEntryOf C) (Option (LogIdOf C)) QS) (granted : Option (LogIdOf C)) (ran : List ID) : Type 0 where
-  pub counted : count ≡ length ran
-  pub round : IsRound eq cmp log max_entries can old pairs ran new
-  pub caught_up : (id : ID) → is_member eq ran id ≡ true → IsCaughtUp leader log new id
-  pub quorum_set : new.quorum_set ≡ old.quorum_set
-  pub default_part : new.default_part ≡ old.default_part
-  pub last_at_most : QuorumRan eq has_quorum old ran → IsTrue (id_le cmp log.last granted)
-  pub last_at_least : QuorumRan eq has_quorum old ran → NonePastLast cmp log old → IsTrue (id_le cmp granted log.last)
+  -- at least one voter ran, and the voters that ran are a quorum
+  abbrev pub QuorumRan : (QS → (ID → Bool) → Bool) → Followers ID C QS → List ID → Type 0
+  QuorumRan has_quorum p ran =
+      ((id : ID) × ((state eq p).is_voter id ≡ true) × (is_member eq ran id ≡ true))
+      × (has_quorum p.quorum_set (λ id. (state eq p).is_voter id && is_member eq ran id) ≡ true)
+
+  -- no voter's match is past the last log id
+  abbrev pub NonePastLast : (C → C → Ordering) → LogView C → Followers ID C QS → Type 0
+  NonePastLast cmp log p = (id : ID) (entry : ProgressEntryOf C) → (state eq p).is_voter id ≡ true
+      → (state eq p).value id ≡ Some entry → IsTrue (id_le cmp entry.matching log.last)
+
+module _ {ID C QS : Type 0} (eq : ID → ID → Bool) (same_leader : C → C → Bool)
+    (cmp : C → C → Ordering) (has_quorum : QS → (ID → Bool) → Bool) (log : LogView C)
+    (max_entries : ℕ) (can : ProgressEntryOf C → ℕ → ℕ → Bool) where
+  -- after a round in which so many ran: each of those has all, every other value stays, and so do
+  -- voters, quorum set and default part; where a quorum ran, the last log id is granted, or more
+  -- where a voter's match was past it before
+  pub record IsRoundEnd (old : Followers ID C QS) (pairs : List (ID × ℕ)) (count : ℕ)
+      (new : Followers ID C QS) (ran : List ID) : Type 0 where
+    pub counted : count ≡ length ran
+    pub round : IsRound eq cmp has_quorum log max_entries can old pairs ran new
+    pub caught_up : (id : ID) → is_member eq ran id ≡ true → IsCaughtUp eq same_leader log new id
+    pub others : (id : ID) → is_member eq ran id ≡ false
+        → (state eq new).value id ≡ (state eq old).value id
+    pub voters : (id : ID) → (state eq new).is_voter id ≡ (state eq old).is_voter id
+    pub quorum_set : new.quorum_set ≡ old.quorum_set
+    pub default_part : new.default_part ≡ old.default_part
+    pub last_at_most : QuorumRan eq has_quorum old ran → IsTrue (id_le cmp log.last new.granted)
+    pub last_at_least : QuorumRan eq has_quorum old ran → NonePastLast eq cmp log old
+        → IsTrue (id_le cmp new.granted log.last)

@@ -3,7 +3,6 @@ ghost use Rattle.std.specs.Prelude.{◌≡◌, ◌+◌, ◌-◌, ◌*◌, ◌/�
 ghost use Rattle.raft_base.specs.LogId.{id_le, next_index};
 ghost use Rattle.raft_progress.specs.catch_up.CatchUp.{CaughtUp};
 ghost use Rattle.raft_progress.specs.catch_up.HonestRun.{HonestRunEnds};
-ghost use Rattle.raft_progress.specs.progress.Shown.{state};
 ghost use Rattle.raft_progress.specs.progress.VecProgress.{shown};
 ghost use Rattle.raft_progress.specs.search.Search.{stretch};
 ghost use Rattle.raft_state.specs.CatchUp.{state_can_catch_up};
@@ -62,7 +61,9 @@ impl<
     }
 
     /// Catches up followers one after another, each with the index below which it agrees, and
-    /// answers how many were. One that is unknown or that `can_catch_up` denies is passed over.
+    /// answers how many were. Each of those is one update, to the end of its honest run. One that
+    /// is unknown or that `can_catch_up` denies is passed over: nothing that the progress shows
+    /// changes, neither walk nor granted nor counts.
     ///
     /// Where at least one voter was caught up, and those that were are a quorum, the last log id is
     /// granted, or more where a voter's match was past it before.
@@ -75,9 +76,8 @@ impl<
         requires { IsInOrderByMatch NID.eq C.cmp QS.has_quorum (shown progress.old) }
         ensures ordered { IsInOrderByMatch NID.eq C.cmp QS.has_quorum (shown progress.new) }
         ensures round { let can = state_can_catch_up C.eq C.cmp self.now in
-            (ran : List NID) × IsRoundEnd C.eq NID.eq C.cmp QS.has_quorum (view_of self.now)
-            max_entries can (state NID.eq (shown progress.old)) followers.now result
-            (state NID.eq (shown progress.new)) (shown progress.new).granted ran }
+            (ran : List NID) × IsRoundEnd NID.eq C.eq C.cmp QS.has_quorum (view_of self.now)
+            max_entries can (shown progress.old) followers.now result (shown progress.new) ran }
     {
         let mut count = 0;
         for follower in followers {
@@ -99,11 +99,10 @@ impl<
         requires { IsInOrderByMatch NID.eq C.cmp QS.has_quorum (shown progress.old) }
         ensures ordered { IsInOrderByMatch NID.eq C.cmp QS.has_quorum (shown progress.new) }
         ensures visited { let can = state_can_catch_up C.eq C.cmp self.now in
-            Visits NID.eq C.cmp (view_of self.now) max_entries can
-            (state NID.eq (shown progress.old)) id.now agree result
-            (state NID.eq (shown progress.new)) }
+            Visits NID.eq C.cmp QS.has_quorum (view_of self.now) max_entries can
+            (shown progress.old) id.now agree result (shown progress.new) }
         ensures caught_up { IsTrue result →
-            IsCaughtUp C.eq (view_of self.now) (state NID.eq (shown progress.new)) id.now }
+            IsCaughtUp NID.eq C.eq (view_of self.now) (shown progress.new) id.now }
     {
         match progress.try_get(id).copied() {
             None => false,

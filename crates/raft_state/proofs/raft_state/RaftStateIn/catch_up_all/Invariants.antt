@@ -1,5 +1,4 @@
 use Rattle.std.proofs.Common.{◌≤◌, drop}
-use Rattle.raft_progress.specs.progress.Shown.{state}
 use Rattle.raft_progress.specs.progress.VecProgress.{shown}
 use Rattle.raft_state.specs.CatchUp.{state_can_catch_up}
 use Rattle.raft_state.specs.Round.{IsInOrderByMatch}
@@ -11,6 +10,6 @@ abbrev pub invariant-loop-follower : goal.invariant-loop-follower
 invariant-loop-follower g l = record {
   small : l.count ≤ l.follower-index;
   ordered : IsInOrderByMatch g.NID.PartialEq.eq g.C.Ord.cmp g.QS.QuorumSet.has_quorum (shown l.progress);
-  along : Along g.C.PartialEq.eq g.NID.PartialEq.eq g.C.Ord.cmp (view_of l.self) l.max_entries (state_can_catch_up g.C.PartialEq.eq g.C.Ord.cmp l.self)
-      (state g.NID.PartialEq.eq (shown l.fn.progress)) l.followers l.count (state g.NID.PartialEq.eq (shown l.progress)) (drop l.follower-index l.followers);
+  along : Along g.met.NID.Eq.laws g.C.Ord.cmp g.QS.QuorumSet.has_quorum (view_of l.self) l.max_entries (state_can_catch_up g.C.PartialEq.eq g.C.Ord.cmp l.self) g.C.PartialEq.eq
+      (shown l.fn.progress) l.followers l.count (shown l.progress) (drop l.follower-index l.followers);
 }
