@@ -2,6 +2,7 @@
 pub mod Counts
 pub mod Placed
 pub mod Places
+pub mod Refusal
 pub mod Rises
 pub mod Settled
 pub mod ShownAnswers

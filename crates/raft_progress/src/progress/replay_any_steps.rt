@@ -1,10 +1,13 @@
 //! Steps of a progress, and their replies.
-ghost use Rattle.std.specs.Prelude.{◌≡◌, false, IfOk, OnErr};
+ghost use Rattle.std.specs.Prelude.{◌≡◌, false, IfOk, None, Ok, OnErr, Some};
 ghost use Rattle.std.specs.List.{list_any};
-ghost use Rattle.std.specs.Option.{option_copied};
+ghost use Rattle.std.specs.Option.{ForSome, option_copied};
 ghost use Rattle.raft_progress.specs.progress.Comparisons.{comparisons};
 ghost use Rattle.raft_progress.specs.progress.CountedValue.{AtMost, IsCounted};
 ghost use Rattle.raft_progress.specs.progress.InOrder.{IsInOrder};
+ghost use Rattle.raft_progress.specs.progress.NewProgress.{LearnersFit};
+ghost use Rattle.raft_progress.specs.progress.Upgrade.{CanUpgrade};
+ghost use Rattle.raft_progress.specs.Inner.Refusal.{RefusesUpgrade};
 ghost use Rattle.raft_progress.specs.Inner.ShownAnswers.{IsShownIncrease, IsShownUpgrade, IsShownWrite};
 ghost use Rattle.raft_progress.specs.progress.Shown.{state};
 ghost use Rattle.raft_progress.specs.progress.ShownSteps.{IsShownRun, IsShownStep, is_upgrade};
@@ -66,7 +69,7 @@ fn upgrade<
     }
 }
 
-/// Asks first whether the learners fit, then whether a value is below the new default.
+/// Goes over, or finds why not.
 fn try_upgrade<
     ID: Copy + Ord,
     V: ProgressPart<P> + Clone + Drop,
@@ -86,13 +89,66 @@ fn try_upgrade<
     ensures err { OnErr result (shown progress.new ≡ shown progress.old) }
     ensures ordered { IsInOrder ID.eq P.cmp V.part_of QS.has_quorum (shown progress.new) }
 {
+    let found = find_refusal(progress, &quorum_set, learners, &default)?;
+    go_over(progress, found, quorum_set, learners, default)
+}
+
+/// Asks first whether the learners fit, then whether a value is below the new default.
+fn find_refusal<ID: Copy + Ord, V: ProgressPart<P> + Drop, P: Copy + Ord, QS: QuorumSet<ID> + Drop>(
+    progress: &VecProgress<ID, V, P, QS>,
+    quorum_set: &QS,
+    learners: &[ID],
+    default: &V,
+) -> Result<Option<Reply<ID, P>>, AllocError>
+    ensures none { IfOk result (λ found. found ≡ None →
+        LearnersFit ID.eq (QS.is_voter quorum_set.now) learners.now
+        × CanUpgrade ID.eq P.cmp V.part_of (QS.is_voter quorum_set.now) learners.now default.now
+        (state ID.eq (shown progress.now)).value) }
+    ensures some { IfOk result (λ found. ForSome found
+        (RefusesUpgrade ID.eq ID.cmp P.cmp V.part_of (QS.is_voter quorum_set.now) learners.now
+        default.now (state ID.eq (shown progress.now)).value)) }
+{
     let alloc = progress.allocator();
-    let fits = VecProgress::<ID, V, P, QS>::learners_fit(alloc, &quorum_set, learners)?;
+    let fits = VecProgress::<ID, V, P, QS>::learners_fit(alloc, quorum_set, learners)?;
     if !fits {
-        return Ok(Reply::BadLearners);
+        return Ok(Some(Reply::BadLearners));
     }
-    match progress.least_below(&quorum_set, learners, &default)? {
-        Some(id) => Ok(Reply::BelowDefault(id)),
+    match progress.least_below(quorum_set, learners, default)? {
+        Some(id) => Ok(Some(Reply::BelowDefault(id))),
+        None => Ok(None),
+    }
+}
+
+/// Goes over to another quorum set, unless a refusal was found: then it is what is answered.
+fn go_over<
+    ID: Copy + Ord,
+    V: ProgressPart<P> + Clone + Drop,
+    P: Copy + Ord,
+    QS: QuorumSet<ID> + Drop,
+>(
+    progress: &mut VecProgress<ID, V, P, QS>,
+    found: Option<Reply<ID, P>>,
+    quorum_set: QS,
+    learners: &[ID],
+    default: V,
+) -> Result<Reply<ID, P>, AllocError>
+    requires ordered { IsInOrder ID.eq P.cmp V.part_of QS.has_quorum (shown progress.old) }
+    requires clones_have_the_part { (v w : V) → V.is_clone v w → V.part_of w ≡ V.part_of v }
+    requires none { found ≡ None → LearnersFit ID.eq (QS.is_voter quorum_set) learners.now
+        × CanUpgrade ID.eq P.cmp V.part_of (QS.is_voter quorum_set) learners.now default
+        (state ID.eq (shown progress.old)).value }
+    requires some { ForSome found
+        (RefusesUpgrade ID.eq ID.cmp P.cmp V.part_of (QS.is_voter quorum_set) learners.now
+        default (state ID.eq (shown progress.old)).value) }
+    ensures found { (reply : Reply ID P) → found ≡ Some reply → result ≡ Ok reply }
+    ensures step { IfOk result (λ reply.
+        IsShownUpgrade ID.eq ID.cmp P.cmp V.part_of V.is_clone QS.has_quorum QS.is_voter
+        (shown progress.old) quorum_set learners.now default reply (shown progress.new)) }
+    ensures err { OnErr result (shown progress.new ≡ shown progress.old) }
+    ensures ordered { IsInOrder ID.eq P.cmp V.part_of QS.has_quorum (shown progress.new) }
+{
+    match found {
+        Some(refusal) => Ok(refusal),
         None => {
             let upgraded = progress.upgrade_quorum_set(quorum_set, learners, default)?;
             *progress = upgraded;
