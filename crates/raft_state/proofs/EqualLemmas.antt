@@ -13,11 +13,11 @@ use Rattle.raft_state.proofs.AppendLemmas.{ids_split, one_id}
 use Rattle.std.specs.Cmp.{both_ways}
 use Rattle.raft_state.proofs.CutLemmas.{full_begins, one_key}
 
-tail_keys : {C : Type 0} (cmp : C → C → Ordering) (k l : LogIdOf C) (ks : List (LogIdOf C)) → IsKeyList cmp (k ∷ l ∷ ks) → IsKeyList cmp (l ∷ ks)
+pub tail_keys : {C : Type 0} (cmp : C → C → Ordering) (k l : LogIdOf C) (ks : List (LogIdOf C)) → IsKeyList cmp (k ∷ l ∷ ks) → IsKeyList cmp (l ∷ ks)
 tail_keys cmp k l [] s = tt
 tail_keys cmp k l (m ∷ ks) s = s.2
 
-rises_once : {C : Type 0} (cmp : C → C → Ordering) (k l : LogIdOf C) (ks : List (LogIdOf C)) → IsKeyList cmp (k ∷ l ∷ ks) → k.index < l.index
+pub rises_once : {C : Type 0} (cmp : C → C → Ordering) (k l : LogIdOf C) (ks : List (LogIdOf C)) → IsKeyList cmp (k ∷ l ∷ ks) → k.index < l.index
 rises_once cmp k l [] s = s.0
 rises_once cmp k l (m ∷ ks) s = s.0
 

@@ -1,7 +1,8 @@
 -- What appending several ids does to the full log.
-use Rattle.std.proofs.Common.{◌≡◌, ℕ, zero, suc, ◌+◌, ◌-◌, ◌<◌, ◌≤◌, Bool, true, false, List, [], ◌∷◌, ◌++◌, if◌then◌else◌, IsTrue, nat_lt, refl, arith, length, get_or, drop, drop-cons, add-one, ◌∙◌, Some}
+use Rattle.std.proofs.Common.{◌≡◌, ℕ, zero, suc, ◌+◌, ◌-◌, ◌<◌, ◌≤◌, Bool, true, false, List, [], ◌∷◌, ◌++◌, if◌then◌else◌, IsTrue, nat_lt, refl, arith, length, get_or, drop, drop-cons, add-one, ◌∙◌, Option, Some}
 use Rattle.std.specs.declared.cmp.Ordering.{Ordering}
 use Rattle.std.specs.Ordering.{is_le, is_lt}
+use Rattle.std.specs.Option.{option_or}
 use Rattle.std.proofs.lemmas.Bool.Decides.{nat_tests}
 use Rattle.raft_base.specs.declared.log_id.LogIdOf.{LogIdOf}
 use Rattle.raft_state.specs.FullLog.{full_log}
@@ -13,6 +14,7 @@ use Rattle.raft_state.specs.LogEdits.{appended, extended, missing}
 use Rattle.raft_state.specs.LogReads.{last_id}
 use Rattle.raft_state.proofs.AppendLemmas.{CanAppend, same_append, same_ids, same_refl}
 use Rattle.raft_state.proofs.SameLogLemmas.{SameLog, both, both_true}
+use Rattle.raft_state.proofs.EndsLemmas.{last_of_some}
 use Rattle.raft_state.proofs.AppendLemmas.{full_after, stays_key_list}
 
 -- what the tests mean
@@ -61,6 +63,15 @@ last_after_added eq k (l ∷ m ∷ ks) id = last_cons l (added_after eq l (m ∷
 pub last_added : {C : Type 0} (eq : C → C → Bool) (ks : List (LogIdOf C)) (id : LogIdOf C) → last_id (added eq ks id) ≡ Some id
 last_added eq [] id = refl
 last_added eq (k ∷ ks) id = last_cons k (added_after eq k ks id) id (last_after_added eq k ks id)
+
+last_or_new : {C : Type 0} (id : LogIdOf C) (ids : List (LogIdOf C)) (o : Option (LogIdOf C)) → option_or (last_id ids) (Some id) ≡ option_or (last_id (id ∷ ids)) o
+last_or_new id [] o = refl
+last_or_new id (x ∷ xs) o = rw (last_of_some x xs) refl
+
+-- and after several ones that of the last one
+pub last_added_all : {C : Type 0} (eq : C → C → Bool) (ks ids : List (LogIdOf C)) → last_id (added_all eq ks ids) ≡ option_or (last_id ids) (last_id ks)
+last_added_all eq ks [] = refl
+last_added_all eq ks (id ∷ ids) = last_added_all eq (added eq ks id) ids ∙ rw (last_added eq ks id) (last_or_new id ids (last_id ks))
 
 module _ {C : Type 0} (eq : C → C → Bool) (same : (c : C) → eq c c ≡ true) (trans : (a b c : C) → eq a b ≡ true → eq b c ≡ true → eq a c ≡ true) where
   same_trans : (xs ys zs : List (LogIdOf C)) → SameLog eq xs ys → SameLog eq ys zs → SameLog eq xs zs

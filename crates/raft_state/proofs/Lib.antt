@@ -5,6 +5,7 @@ pub mod CutLemmas
 pub mod ExtendLemmas
 pub mod EndsLemmas
 pub mod EqualLemmas
+pub mod LastTwoLemmas
 pub mod ListLemmas
 pub mod EffectLemmas
 pub mod LoggedLemmas

@@ -1,13 +1,13 @@
 -- What the calls of a list do, from the laws of leaders.
-use Rattle.std.proofs.Common.{◌≡◌, suc, ◌+◌, ◌-◌, ◌<◌, ◌≤◌, Bool, true, List, [], ◌∷◌, Some, IsTrue, length, map, ap, sym, arith, ◌∙◌}
+use Rattle.std.proofs.Common.{◌≡◌, suc, ◌+◌, ◌-◌, ◌<◌, ◌≤◌, Bool, true, List, [], ◌∷◌, Some, IfSome, IsTrue, length, map, ap, sym, arith, ◌∙◌}
 use Rattle.std.specs.Prelude.{slice_get}
-use Rattle.std.specs.Option.{option_map}
+use Rattle.std.specs.Option.{option_map, option_or}
 use Rattle.std.specs.declared.cmp.Ordering.{Ordering}
 use Rattle.std.specs.Ordering.{is_eq}
 use Rattle.std.specs.Cmp.{IsTotalOrder, IsEquivalence}
 use Rattle.raft_base.specs.declared.log_id.LogIdOf.{LogIdOf}
 use Rattle.raft_state.specs.FullLog.{full_log, same_log}
-use Rattle.raft_state.specs.LogReads.{last_id, leader_count}
+use Rattle.raft_state.specs.LogReads.{last_id, last_two_share_leader, leader_count}
 use Rattle.raft_state.specs.LogEdits.{appended, extended}
 use Rattle.raft_state.specs.LogConditions.{follows, all_follow, ends_share_leader}
 use Rattle.raft_state.specs.Inner.KeyList.{IsKeyList}
@@ -15,8 +15,9 @@ use Rattle.raft_state.specs.Inner.KeyEdits.{added, added_all}
 use Rattle.raft_state.proofs.SameLogLemmas.{both, is_same}
 use Rattle.raft_state.proofs.AppendLemmas.{apart, full_after, stays_key_list, strictly_less, upto_equal}
 use Rattle.raft_state.proofs.CutLemmas.{last_full}
-use Rattle.raft_state.proofs.ExtendLemmas.{all_stay, can_append, full_after_all}
+use Rattle.raft_state.proofs.ExtendLemmas.{all_stay, can_append, full_after_all, last_added, last_added_all}
 use Rattle.raft_state.proofs.EndsLemmas.{added_by_ends, last_of_map, last_of_some, last_or, one_leader, same_some}
+use Rattle.raft_state.proofs.LastTwoLemmas.{two_added, two_full}
 use Rattle.raft_state.proofs.EqualLemmas as Equal
 
 module _ {C : Type 0} (cmp : C → C → Ordering) (eq : C → C → Bool) (total : IsTotalOrder cmp) (law : (x y : C) → eq x y ≡ is_eq (cmp x y)) (eqs : IsEquivalence eq) where
@@ -36,6 +37,15 @@ module _ {C : Type 0} (cmp : C → C → Ordering) (eq : C → C → Bool) (tota
   append_fills ks id s h =
       is_same eq (full_log (added eq ks id)) (appended (full_log ks) id) (full_after eq eqs.refl cmp ks id s (can_append cmp ks id (rw (last_full cmp ks s) at h)))
 
+  -- which is the last one then
+  pub append_ends : (ks : List (LogIdOf C)) (id : LogIdOf C) → IsKeyList cmp ks → IsTrue (follows cmp (last_id (full_log ks)) id) → last_id (full_log (added eq ks id)) ≡ Some id
+  append_ends ks id s h = last_full cmp (added eq ks id) (append_keeps ks id s h) ∙ last_added eq ks id
+
+  -- and shares its leader with the one before it exactly where it shares that of the last one before the append
+  pub append_shares : (ks : List (LogIdOf C)) (id : LogIdOf C) → IsKeyList cmp ks → IsTrue (follows cmp (last_id (full_log ks)) id) → IfSome (last_id (full_log ks)) (λ last. last_two_share_leader eq (full_log (added eq ks id)) ≡ eq last.leader_id id.leader_id)
+  append_shares [] id s h = tt
+  append_shares (k ∷ ks) id s h = rw (last_full cmp (k ∷ ks) s, two_full eq cmp (added eq (k ∷ ks) id) (append_keeps (k ∷ ks) id s h)) (two_added eq eqs.refl eqs.congr k ks id)
+
   -- several appends leave keys
   pub extend_keeps : (ks ids : List (LogIdOf C)) → IsKeyList cmp ks → IsTrue (all_follow cmp (last_id (full_log ks)) ids) → IsKeyList cmp (added_all eq ks ids)
   extend_keeps ks ids s h =
@@ -46,6 +56,10 @@ module _ {C : Type 0} (cmp : C → C → Ordering) (eq : C → C → Bool) (tota
   extend_fills ks ids s h =
       is_same eq (full_log (added_all eq ks ids)) (extended (full_log ks) ids)
       (full_after_all eq eqs.refl trans cmp (strictly_less cmp eq total law) (upto_equal cmp eq total law) ks ids s (rw (last_full cmp ks s) at h))
+
+  -- of which the last one is the last one then, if there are any
+  pub extend_ends : (ks ids : List (LogIdOf C)) → IsKeyList cmp ks → IsTrue (all_follow cmp (last_id (full_log ks)) ids) → last_id (full_log (added_all eq ks ids)) ≡ option_or (last_id ids) (last_id (full_log ks))
+  extend_ends ks ids s h = last_full cmp (added_all eq ks ids) (extend_keeps ks ids s h) ∙ last_added_all eq ks ids ∙ ap (option_or (last_id ids)) (sym (last_full cmp ks s))
 
   -- two key lists are equal exactly where their full logs are
   pub keys_decide : (ks ls : List (LogIdOf C)) → IsKeyList cmp ks → IsKeyList cmp ls → same_log eq ks ls ≡ same_log eq (full_log ks) (full_log ls)

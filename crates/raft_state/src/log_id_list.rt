@@ -1,8 +1,8 @@
 //! The log ids of a whole log, kept by few of them.
-ghost use Rattle.std.specs.Prelude.{◌≡◌, ◌+◌, ◌≤◌, length, map, [], IsOkAnd, IfOk, OnOk, OnErr, IsTrue};
-ghost use Rattle.std.specs.Option.{option_copied};
+ghost use Rattle.std.specs.Prelude.{◌≡◌, ◌+◌, ◌≤◌, length, map, [], Some, IsOkAnd, IfOk, IfSome, IsOk, OnOk, OnErr, IsTrue, nat_eq};
+ghost use Rattle.std.specs.Option.{option_copied, option_or};
 ghost use Rattle.raft_state.specs.FullLog.{full_log, same_log};
-ghost use Rattle.raft_state.specs.LogReads.{id_at, first_id, last_id, leader_count};
+ghost use Rattle.raft_state.specs.LogReads.{id_at, first_id, last_id, last_two_share_leader, leader_count};
 ghost use Rattle.raft_state.specs.LogEdits.{appended, extended, front, purged};
 ghost use Rattle.raft_state.specs.LogConditions.{follows, all_follow, all_follow_of_one_leader, may_be_purged_to};
 ghost use Rattle.raft_state.specs.Keys.{may_be_keys, by_last_leader};
@@ -73,7 +73,7 @@ impl<C: Ord + Copy> LogIdListOf<C> {
     }
 
     /// Appends log ids of one leader, one after the other. It looks at the first and the last one
-    /// alone, and takes room for two keys at most.
+    /// alone, and takes room for two keys at most, for no log ids none.
     pub fn extend_from_same_leader<LID: RaftLogIdOf<C>>(
         &mut self,
         new_ids: &[LID],
@@ -82,7 +82,10 @@ impl<C: Ord + Copy> LogIdListOf<C> {
             (map LID.id_of new_ids.now)) }
         ensures ok { OnOk result (IsTrue (same_log C.eq (full_log self.new)
             (extended (full_log self.old) (map LID.id_of new_ids.now)))) }
+        ensures last { OnOk result (last_id (full_log self.new)
+            ≡ option_or (last_id (map LID.id_of new_ids.now)) (last_id (full_log self.old))) }
         ensures err { OnErr result (self.new ≡ self.old) }
+        ensures nothing { new_ids.now ≡ [] → IsOk result }
     {
         keys::extend_by_ends(&mut self.key_log_ids, new_ids)?;
         Ok(())
@@ -96,13 +99,16 @@ impl<C: Ord + Copy> LogIdListOf<C> {
         self.can_extend(new_ids) && keys::share_leader(new_ids)
     }
 
-    /// Appends log ids, one after the other. Room for a key each is taken first.
+    /// Appends log ids, one after the other. Room for a key each is taken first, for none no memory.
     pub fn extend<LID: RaftLogIdOf<C>>(&mut self, new_ids: &[LID]) -> Result<(), AllocError>
         requires { IsTrue (all_follow C.cmp (last_id (full_log self.old))
             (map LID.id_of new_ids.now)) }
         ensures ok { OnOk result (IsTrue (same_log C.eq (full_log self.new)
             (extended (full_log self.old) (map LID.id_of new_ids.now)))) }
+        ensures last { OnOk result (last_id (full_log self.new)
+            ≡ option_or (last_id (map LID.id_of new_ids.now)) (last_id (full_log self.old))) }
         ensures err { OnErr result (self.new ≡ self.old) }
+        ensures nothing { new_ids.now ≡ [] → IsOk result }
     {
         keys::extend(&mut self.key_log_ids, new_ids)?;
         Ok(())
@@ -117,11 +123,19 @@ impl<C: Ord + Copy> LogIdListOf<C> {
     }
 
     /// Appends a log id. The indexes that are missing before it go to the leader of the last one.
+    ///
+    /// Where the last two log ids share a leader it moves the last key, and takes no memory. So of a
+    /// row of log ids of one leader, each after the second is appended.
     pub fn append(&mut self, new_log_id: LogIdOf<C>) -> Result<(), AllocError>
         requires { IsTrue (follows C.cmp (last_id (full_log self.old)) new_log_id) }
         ensures ok { OnOk result (IsTrue (same_log C.eq (full_log self.new)
             (appended (full_log self.old) new_log_id))) }
+        ensures last { OnOk result (last_id (full_log self.new) ≡ Some new_log_id) }
+        ensures again { IfSome (last_id (full_log self.old)) (λ last. OnOk result
+            (last_two_share_leader C.eq (full_log self.new)
+            ≡ C.eq last.leader_id new_log_id.leader_id)) }
         ensures err { OnErr result (self.new ≡ self.old) }
+        ensures in_place { IsTrue (last_two_share_leader C.eq (full_log self.old)) → IsOk result }
     {
         keys::append(&mut self.key_log_ids, new_log_id)?;
         Ok(())
@@ -198,8 +212,11 @@ impl<C: Ord + Copy> LogIdListOf<C> {
     }
 
     /// The keys of the last leader: the last two keys where they share a leader, else the last one.
+    /// Two there are exactly where the last two log ids share a leader.
     pub fn by_last_leader(&self) -> &[LogIdOf<C>]
-        ensures { result.now ≡ by_last_leader C.eq self.now }
+        ensures keys { result.now ≡ by_last_leader C.eq self.now }
+        ensures two { nat_eq (length result.now) 2
+            ≡ last_two_share_leader C.eq (full_log self.now) }
     {
         keys::by_last_leader(&self.key_log_ids)
     }

@@ -2,7 +2,7 @@
 ghost use Rattle.std.specs.Prelude.{◌≡◌, ◌+◌, ◌<◌, ◌≤◌, length, map, IsOk, OnOk, OnErr, IsTrue, [], vec_len};
 ghost use Rattle.std.specs.Vec.{vec_capacity};
 ghost use Rattle.raft_state.specs.FullLog.{full_log, end_index};
-ghost use Rattle.raft_state.specs.LogReads.{id_at, last_id};
+ghost use Rattle.raft_state.specs.LogReads.{id_at, last_id, last_two_share_leader};
 ghost use Rattle.raft_state.specs.LogConditions.{follows, all_follow, ends_share_leader};
 ghost use Rattle.raft_state.specs.Keys.{key_follows, may_be_keys, by_last_leader as last_leader_keys};
 ghost use Rattle.raft_state.specs.Inner.KeyList.{IsKeyList, Rises, keys_to};
@@ -78,6 +78,7 @@ pub fn append<C: Ord + Copy>(keys: &mut Vec<LogIdOf<C>>, id: LogIdOf<C>) -> Resu
     ensures ok { OnOk result (keys.new.items ≡ added C.eq keys.old.items id) }
     ensures err { OnErr result (keys.new.items ≡ keys.old.items) }
     ensures room { vec_len keys.old < vec_capacity keys.old → IsOk result }
+    ensures in_place { IsTrue (last_two_share_leader C.eq keys.old.items) → IsOk result }
     ensures len { vec_len keys.new ≤ vec_len keys.old + 1 }
     ensures capacity { vec_capacity keys.old ≤ vec_capacity keys.new }
 {
@@ -98,6 +99,7 @@ pub fn extend<C: Ord + Copy, LID: RaftLogIdOf<C>>(
     ensures ok { OnOk result
         (keys.new.items ≡ added_all C.eq keys.old.items (map LID.id_of ids.now)) }
     ensures err { OnErr result (keys.new.items ≡ keys.old.items) }
+    ensures nothing { ids.now ≡ [] → IsOk result }
 {
     keys.reserve(ids.len())?;
     for id in ids {
@@ -116,6 +118,7 @@ pub fn extend_by_ends<C: Ord + Copy, LID: RaftLogIdOf<C>>(
     ensures ok { OnOk result
         (keys.new.items ≡ added_all C.eq keys.old.items (map LID.id_of ids.now)) }
     ensures err { OnErr result (keys.new.items ≡ keys.old.items) }
+    ensures nothing { ids.now ≡ [] → IsOk result }
 {
     if let (Some(first), Some(last)) = (ids.first(), ids.last()) {
         keys.reserve(ids.len().min(2))?;

@@ -4,7 +4,7 @@ use Rattle.raft_state.specs.LogReads.{last_id}
 use Rattle.raft_state.specs.LogConditions.{all_follow, ends_share_leader}
 use Rattle.raft_state.proofs.SameLogLemmas.{both}
 use Rattle.raft_state.proofs.CutLemmas.{last_full}
-use Rattle.raft_state.proofs.ListLemmas.{extend_fills, extend_keeps}
+use Rattle.raft_state.proofs.ListLemmas.{extend_ends, extend_fills, extend_keeps}
 use Rattle.raft_state.proofs.log_id_list.LogIdListOf.extend_from_same_leader.Goals as goal
 
 pub extend_by_ends-requires-clause-follow : goal.extend_by_ends-requires-clause-follow
@@ -32,3 +32,10 @@ returns-clause-ok g c =
     let can = rw (← c.self.view_is) at c.requires in
     let follow = (both (all_follow g.C.Ord.cmp (last_id (full_log c.self.inside.key_log_ids.items)) ids) (ends_share_leader g.C.PartialEq.eq ids) can).0 in
     rw (c.in_ok-extend_by_ends.ensures.ok, ← c.self.view_is) (extend_fills g.C.Ord.cmp g.C.PartialEq.eq g.met.C.Ord.total g.met.C.Ord.matches_eq g.met.C.Eq.laws c.self.inside.key_log_ids.items ids c.self.invariant follow)
+
+pub returns-clause-last : goal.returns-clause-last
+returns-clause-last g c =
+    let ids = (map g.LID.RaftLogIdOf.id_of c.args.new_ids.now) in
+    let can = rw (← c.self.view_is) at c.requires in
+    let follow = (both (all_follow g.C.Ord.cmp (last_id (full_log c.self.inside.key_log_ids.items)) ids) (ends_share_leader g.C.PartialEq.eq ids) can).0 in
+    rw (c.in_ok-extend_by_ends.ensures.ok, ← c.self.view_is) (extend_ends g.C.Ord.cmp g.C.PartialEq.eq g.met.C.Ord.total g.met.C.Ord.matches_eq g.met.C.Eq.laws c.self.inside.key_log_ids.items ids c.self.invariant follow)

@@ -1,5 +1,6 @@
 use Rattle.std.proofs.Common.{◌≡◌, ◌-◌, suc, sym, ap, arith, ◌∙◌, length, get_or, set}
 use Rattle.raft_state.proofs.AppendLemmas.{gives_way, comes_after}
+use Rattle.raft_state.proofs.LastTwoLemmas.{two_differ}
 use Rattle.raft_state.proofs.log_id_list.keys.append.Goals as goal
 use Rattle.raft_state.proofs.log_id_list.keys.append.Goals.{else-count-ge2-via-then-count-ge2+else-eq, else-count-ge2-via-else-count-ge2}
 
@@ -24,3 +25,17 @@ returns-in_ok-push-clause-ok g c =
           (w.index.result.now, w.index-then-count-ge2.result.now, at2, at1, sym w.eq.ensures ∙ w.if-eq.false))
       | else-count-ge2-via-else-count-ge2 w ↦ absurd (omega (arith, c.len-count.ensures, c.args.keys.now.ok.0))
     ])
+
+pub returns-in_err-push-clause-in_place : goal.returns-in_err-push-clause-in_place
+returns-in_err-push-clause-in_place g c shared =
+    let none = two_differ g.C.PartialEq.eq g.met.C.Eq.laws.refl c.args.keys.now.items
+    (λ n len. elim c.else-count-ge2.branch [
+      | else-count-ge2-via-then-count-ge2+else-eq w ↦
+          (let at1 : w.index-then-count-ge2.result.now ≡ get_or c.args.keys.now.items (suc n) w.index-then-count-ge2.result.now =
+          (let p : c.len-count.result - 1 ≡ suc n = omega (arith, c.len-count.ensures, c.args.keys.now.ok.0) in rw p at w.index-then-count-ge2.ensures) in
+          let at2 : w.index.result.now ≡ get_or c.args.keys.now.items n w.index.result.now =
+          (let p : c.len-count.result - 2 ≡ n = omega (arith, c.len-count.ensures, c.args.keys.now.ok.0) in rw p at w.index.ensures) in
+          (w.index.result.now, w.index-then-count-ge2.result.now, at2, at1, sym w.eq.ensures ∙ w.if-eq.false))
+      | else-count-ge2-via-else-count-ge2 w ↦ absurd (omega (arith, c.len-count.ensures, c.args.keys.now.ok.0))
+    ])
+    in cc
