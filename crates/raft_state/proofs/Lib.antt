@@ -14,3 +14,4 @@ pub mod CatchUpLemmas
 pub mod RoundLemmas
 pub mod RefusalLemmas
 pub mod DeniedLemmas
+pub mod CommitLemmas

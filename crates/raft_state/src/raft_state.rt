@@ -5,6 +5,7 @@ ghost use Rattle.std.specs.Option.{option_copied};
 ghost use Rattle.std.specs.Ordering.{partial_ge};
 ghost use Rattle.std.specs.Set.{ClonesAreEqual};
 ghost use Rattle.raft_base.specs.Logged.{Logged};
+ghost use Rattle.raft_base.specs.LogId.{id_le};
 ghost use Rattle.raft_base.specs.LogView.{has_id, may_ask};
 ghost use Rattle.raft_base.specs.UTime.{data_of, moment_of};
 ghost use Rattle.raft_members.specs.Majority.{is_voter_of};
@@ -339,7 +340,8 @@ impl<
 
     /// Takes a greater committed log id, commits the membership in effect if it is not past it, and
     /// answers the log id of before. Another log id changes nothing, and nothing is answered. Only
-    /// a membership that is committed wants memory.
+    /// a membership that is committed wants memory. Where the log id is not past the log, a valid
+    /// state stays valid.
     ///
     /// After an error nothing has changed.
     pub fn update_committed(
@@ -351,6 +353,9 @@ impl<
             before ≡ committed_before C.cmp committed.now self.old) }
         ensures ok { OnOk result (self.new ≡ state_after_commit C.cmp committed.now self.old) }
         ensures err { OnErr result (self.new ≡ self.old) }
+        ensures valid { broken_relation C.cmp self.old ≡ None →
+            IsTrue (id_le C.cmp committed.now (last_id (full_log self.old.log_ids))) →
+            broken_relation C.cmp self.new ≡ None }
         ensures no_memory { state_commits C.cmp committed.now self.old ≡ false → IsOk result }
     {
         if log_id_below(self.committed, *committed) {
