@@ -41,11 +41,13 @@ fn commit_granted<
 ) -> Result<bool, AllocError>
     ensures valid { IfOk result (λ more. IsTrue more → broken_relation C.cmp state.old ≡ None) }
     ensures in_log { IfOk result (λ more. IsTrue more → IsTrue (id_le C.cmp
-        (shown followers.now).granted (last_id (full_log state.new.log_ids)))) }
+        (shown followers.now).granted (last_id (full_log state.old.log_ids)))) }
     ensures committed { IfOk result (λ more. IsTrue more →
         state.new ≡ state_after_commit C.cmp (shown followers.now).granted state.old) }
     ensures greater { IfOk result (λ more. IsTrue more →
         IsTrue (id_lt C.cmp state.old.committed state.new.committed)) }
+    ensures stays_valid { broken_relation C.cmp state.old ≡ None →
+        broken_relation C.cmp state.new ≡ None }
     ensures kept { IfOk result (λ more. more ≡ false → state.new ≡ state.old) }
     ensures err { OnErr result (state.new ≡ state.old) }
 {
