@@ -1,11 +1,16 @@
 -- One step has one reply.
 use Rattle.std.specs.Prelude.{◌≡◌, ◌<◌, ◌-◌, ℕ, List, [], ◌∷◌, Option, Some, length, slice_index_or}
-use Rattle.std.proofs.Common.{arith, refl, sym, subst, ap, ◌∙◌}
+use Rattle.std.proofs.Common.{arith, refl, sym, subst, ap, inl, inr, ◌∙◌}
 use Rattle.raft_base.specs.declared.node.EmptyNode.{EmptyNode}
 use Rattle.raft_progress.specs.tracked.TrackedSteps.{IsTrackedRun}
 use Rattle.raft_progress.specs.declared.progress.steps.Reply.{Reply}
 use Rattle.raft_progress.specs.declared.tracked.step.Step.{Step}
 use Rattle.raft_script.specs.Engine.{EngineState, IsEngineStep, AnswersStep, by_number, same_node}
+use Rattle.raft_script.specs.LineRun.{IsLeftByFault, RunsCommand, RunsLine}
+use Rattle.raft_script.specs.Line.{SaysCommand}
+use Rattle.raft_script.specs.ReplyText.{reply_text}
+use Rattle.raft_script.specs.declared.script.command.Command.{Command}
+use Rattle.raft_script.specs.declared.script.command.Command.TheVariants as command
 
 abbrev IsReplay : EngineState → List (Step ℕ EmptyNode ℕ) → List (Reply ℕ ℕ) → EngineState → Type 0
 IsReplay = IsTrackedRun by_number same_node
@@ -23,3 +28,13 @@ answered first old step steps replies last new n is one run many ends =
     let first_reply : last ≡ Some found.0 =
     ends found.0 (omega arith) ∙ ap (λ k. Some (slice_index_or replies (k - 1) found.0)) single ∙ ap (λ rs. Some (slice_index_or rs 0 found.0)) found.1 in
     subst (λ (f : Option EngineState). AnswersStep f step last (Some new)) (sym is) (subst (λ (l : Option (Reply ℕ ℕ)). AnswersStep (Some old) step l (Some new)) (sym first_reply) (new, refl, found.2))
+
+-- a step that was answered is left where its reply is not written
+pub left_by_step : (old : Option EngineState) (said : Command) (step : Step ℕ EmptyNode ℕ) (answer : Option (Reply ℕ ℕ)) (reply : Reply ℕ ℕ) (new : Option EngineState) → said ≡ command.Step step → answer ≡ Some reply → AnswersStep old step answer new → IsLeftByFault (RunsCommand old said) old new
+left_by_step old said step answer reply new is one answers =
+    subst (λ (c : Command). IsLeftByFault (RunsCommand old c) old new) (sym is) (inr (reply_text reply, (reply, subst (λ (a : Option (Reply ℕ ℕ)). AnswersStep old step a new) one answers, refl)))
+
+-- what a fault leaves of a command, it leaves of the line that says the command
+pub left_by_line : (old : Option EngineState) (line : List ℕ) (said : Command) (new : Option EngineState) → SaysCommand line said → IsLeftByFault (RunsCommand old said) old new → IsLeftByFault (RunsLine old line) old new
+left_by_line old line said new says (inl same) = inl same
+left_by_line old line said new says (inr (text, runs)) = inr (text, inr (said, says, runs))

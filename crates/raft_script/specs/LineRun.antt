@@ -36,10 +36,16 @@ abbrev pub CannotRun : Option EngineState → List ℕ → Type 0
 CannotRun held line =
     IsBadLine line ⊎ ((said : Command) × SaysCommand line said × IsStepTooEarly held said)
 
--- a line is run, or it can't be run and its number is printed
+-- a line is run, or it can't be run, changes nothing and has its number printed
 abbrev pub AnswersLine : ℕ → Option EngineState → List ℕ → Bool → Option EngineState → List ℕ → Type 0
 AnswersLine number old line true new text = RunsLine old line new text
-AnswersLine number old line false new text = CannotRun old line × (text ≡ bad_line_text number)
+AnswersLine number old line false new text =
+    CannotRun old line × (new ≡ old) × (text ≡ bad_line_text number)
+
+-- what a fault leaves: all as it was, or what the run made whose text was not written
+abbrev pub IsLeftByFault : (Option EngineState → List ℕ → Type 0)
+    → Option EngineState → Option EngineState → Type 0
+IsLeftByFault Runs old new = (new ≡ old) ⊎ ((text : List ℕ) × Runs new text)
 
 -- a text that fits is written
 abbrev pub Prints : Option (List ℕ) → Option (List ℕ) → (List ℕ → Type 0) → Type 0

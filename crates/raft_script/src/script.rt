@@ -5,10 +5,10 @@ mod dialogue;
 mod engine;
 pub(crate) mod reply;
 
-ghost use Rattle.std.specs.Prelude.{◌≡◌, IfOk};
+ghost use Rattle.std.specs.Prelude.{◌≡◌, IfOk, OnErr};
 ghost use Rattle.std.specs.Bool.{OnFalse, OnTrue};
 ghost use Rattle.raft_script.specs.Engine.{pair_of};
-ghost use Rattle.raft_script.specs.LineRun.{AnswersLine, IsStepTooEarly, Prints, RunsCommand};
+ghost use Rattle.raft_script.specs.LineRun.{AnswersLine, IsLeftByFault, IsStepTooEarly, Prints, RunsCommand, RunsLine};
 
 use command::{Command, LineError};
 use dialogue::Dialogue;
@@ -77,8 +77,12 @@ fn answer_line<W: Write>(
     line: &[u8],
     replies: &mut W,
 ) -> io::Result<bool>
-    ensures { IfOk result (λ runs. Prints (W.contents replies.old) (W.contents replies.new)
+    ensures answered { IfOk result (λ runs.
+        Prints (W.contents replies.old) (W.contents replies.new)
         (AnswersLine number (pair_of engine.old) line.now runs (pair_of engine.new))) }
+    ensures unchanged { IfOk result (λ runs. OnFalse runs (engine.new ≡ engine.old)) }
+    ensures fault { OnErr result (IsLeftByFault (RunsLine (pair_of engine.old) line.now)
+        (pair_of engine.old) (pair_of engine.new)) }
 {
     match command::parse(alloc, line) {
         Ok(None) => Ok(true),
@@ -110,6 +114,9 @@ fn run_command<W: Write>(
     ensures too_early { IfOk result (λ runs. OnFalse runs
         (IsStepTooEarly (pair_of engine.old) command)) }
     ensures silent { IfOk result (λ runs. OnFalse runs (replies.new ≡ replies.old)) }
+    ensures unchanged { IfOk result (λ runs. OnFalse runs (engine.new ≡ engine.old)) }
+    ensures fault { OnErr result (IsLeftByFault (RunsCommand (pair_of engine.old) command)
+        (pair_of engine.old) (pair_of engine.new)) }
 {
     match command {
         Command::Init {
