@@ -3,10 +3,9 @@ ghost use Rattle.std.specs.Prelude.{◌≡◌, ◌↔◌, IsTrue};
 ghost use Rattle.raft_base.specs.declared.server_state.ServerState.TheVariants.{Candidate, Follower, Leader, Learner};
 
 /// What a node is to its cluster.
-#[derive(Debug, Clone, Copy, Default, PartialEq, Eq)]
+#[derive(Debug, Clone, Copy, PartialEq, Eq)]
 pub enum ServerState {
-    /// It receives logs and has no say.
-    #[default]
+    /// It receives logs and has no say. This is the default.
     Learner,
     /// It receives logs and votes.
     Follower,
@@ -16,6 +15,15 @@ pub enum ServerState {
     Leader,
     /// It has stopped.
     Shutdown,
+}
+
+// By hand, so that its contract names the default.
+impl Default for ServerState {
+    ghost is_default = { λ state. state ≡ Learner };
+
+    fn default() -> Self {
+        ServerState::Learner
+    }
 }
 
 impl ServerState {
