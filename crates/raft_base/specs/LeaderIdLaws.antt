@@ -1,7 +1,7 @@
 -- The laws of the order of leader ids.
-use Rattle.std.specs.Prelude.{◌≡◌, ◌≢◌, ℕ, Bool, false, Some, None, ◌&&◌, nat_eq, IsTrue}
+use Rattle.std.specs.Prelude.{◌≡◌, ◌≢◌, ℕ, Bool, Some, None, ◌&&◌, nat_eq}
 use Rattle.std.specs.Cmp.{IsPartialOrder, IsTotalOrder, then_total, on_total, nat_cmp_total, po, both_tied, unsigned_ties, ranked}
-use Rattle.std.specs.Ordering.{ordering_then, nat_cmp, eq_by_cmp, is_some_and, is_le, is_gt}
+use Rattle.std.specs.Ordering.{ordering_then, nat_cmp, eq_by_cmp}
 use Rattle.std.proofs.Common.{refl, sym}
 use Rattle.std.specs.declared.cmp.Ordering.{Ordering}
 use Rattle.std.specs.declared.cmp.Ordering.TheVariants.{Less, Equal, Greater}
@@ -19,11 +19,6 @@ term_then_node-partial {N} {cmp} {same} o ties term node =
 -- an order that always answers has no leaders that do not compare
 pub never_none : {G : Type 0} (o : Ordering) → Some o ≡ None → G
 never_none o h = cc
-
-pub le_not_gt : (o : Ordering) → IsTrue (is_some_and is_le (Some o)) → is_gt o ≡ false
-le_not_gt Less h = refl
-le_not_gt Equal h = refl
-le_not_gt Greater h = cc
 
 -- numbers that differ do not tie
 pub apart : (x y : ℕ) → x ≢ y → nat_cmp x y ≡ Equal → ⊥

@@ -3,7 +3,7 @@ use Rattle.std.specs.Prelude.{◌≡◌, ℕ, Bool, true, false, Option, Some, N
 use Rattle.std.specs.Bool.{Decides}
 use Rattle.std.specs.Cmp.{IsEquivalence, IsPartialOrder, po, then_po, on_po, nat_cmp_total, unsigned_ties}
 use Rattle.std.specs.Option.{option_eq, option_map}
-use Rattle.std.specs.Ordering.{nat_cmp, ordering_reverse, partial_ordering_then, is_gt, is_le, is_some_and}
+use Rattle.std.specs.Ordering.{nat_cmp, ordering_reverse, partial_ordering_then, is_le, is_some_and}
 use Rattle.std.proofs.Common.{refl, sym, ap, ◌∙◌, subst}
 use Rattle.std.specs.declared.cmp.Ordering.{Ordering}
 use Rattle.std.specs.declared.cmp.Ordering.TheVariants.{Less, Equal, Greater}
@@ -106,8 +106,9 @@ first_decides Less p h = refl
 first_decides Equal p h = absurd (h refl)
 first_decides Greater p h = refl
 
--- what is not above has no greater term
-pub term_not_above : (o : Ordering) (p : Option Ordering) → IsTrue (is_some_and is_le (partial_ordering_then (Some o) p)) → is_gt o ≡ false
-term_not_above Less p h = refl
-term_not_above Equal p h = refl
-term_not_above Greater p h = cc
+-- what is at most another has at most its term
+pub term_at_most : (o : Ordering) (p : Option Ordering)
+    → IsTrue (is_some_and is_le (partial_ordering_then (Some o) p)) → IsTrue (is_le o)
+term_at_most Less p h = refl
+term_at_most Equal p h = refl
+term_at_most Greater p h = cc

@@ -3,11 +3,11 @@
 //! Votes, and all that holds a vote, are generic over the kind. A leader type says by
 //! `LeaderIdentity` what votes have to know of it, and a kind names the leader type that goes with
 //! a type of node ids.
-ghost use Rattle.std.specs.Prelude.{◌≡◌, ◌≢◌, ℕ, Some, IsTrue, false, refl};
+ghost use Rattle.std.specs.Prelude.{◌≡◌, ◌≢◌, ℕ, Some, IsTrue, refl};
 ghost use Rattle.std.specs.declared.option.Option.{Option};
 ghost use Rattle.std.specs.declared.cmp.Ordering.{Ordering};
 ghost use Rattle.std.specs.Cmp.{IsPartialOrder};
-ghost use Rattle.std.specs.Ordering.{nat_cmp, is_gt, partial_le};
+ghost use Rattle.std.specs.Ordering.{nat_cmp, is_le, partial_le};
 ghost use Rattle.raft_base.specs.LeaderOrder.{IncomparableAlike};
 
 use crate::leader_id::{CommittedLeaderId, LeaderId};
@@ -75,9 +75,9 @@ pub trait LeaderIdentity: Eq + Copy + Default + Debug + Display + 'static {
     ghost by_term: { (a b : Self) → term_of a ≢ term_of b
         → order a b ≡ Some (nat_cmp (term_of a) (term_of b)) };
 
-    /// What is kept of a leader is not above what is kept of a leader that is no lesser one.
+    /// Where a leader is at most another one, so is what is kept of it.
     ghost rises: { (a b : Self) → IsTrue (partial_le order a b)
-        → is_gt (Self.Committed.cmp (committed a) (committed b)) ≡ false };
+        → IsTrue (is_le (Self.Committed.cmp (committed a) (committed b))) };
 
     /// The leader that a node is in a term has that term and is that node's.
     ghost made: { (t : ℕ) (n : Self.Id)
@@ -160,7 +160,7 @@ impl<NID: NodeId> LeaderIdentity for LeaderId<NID> {
     type Committed = CommittedLeaderId<NID>;
 
     ghost use Rattle.raft_base.specs.LeaderId.{leader_id_cmp};
-    ghost use Rattle.raft_base.specs.LeaderIdLaws.{term_then_node-partial, first_decides, apart, le_not_gt, never_none};
+    ghost use Rattle.raft_base.specs.LeaderIdLaws.{term_then_node-partial, first_decides, apart, never_none};
 
     ghost order = { λ a b. Some (leader_id_cmp NID.cmp a b) };
 
@@ -205,7 +205,7 @@ impl<NID: NodeId> LeaderIdentity for LeaderId<NID> {
 
     ghost by_term = { λ a b h. first_decides (nat_cmp a.term b.term) _ (apart a.term b.term h) };
 
-    ghost rises = { λ a b h. le_not_gt _ h };
+    ghost rises = { λ a b h. h };
 
     ghost made = { λ t n. (refl, refl) };
 

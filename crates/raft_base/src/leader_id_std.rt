@@ -2,7 +2,7 @@
 ghost use Rattle.std.specs.Prelude.{◌≡◌, Some, nat_eq, refl};
 ghost use Rattle.std.specs.Ordering.{nat_cmp};
 ghost use Rattle.raft_base.specs.LeaderIdStd.{std_leader_cmp, voted_cmp};
-ghost use Rattle.raft_base.specs.LeaderIdStdLaws.{alike_above, alike_below, first_decides, term_not_above, term_then_voted-partial};
+ghost use Rattle.raft_base.specs.LeaderIdStdLaws.{alike_above, alike_below, first_decides, term_at_most, term_then_voted-partial};
 ghost use Rattle.raft_base.specs.LeaderIdLaws.{apart};
 
 use crate::display_ext::DisplayOption;
@@ -176,7 +176,7 @@ impl<NID: NodeId> LeaderIdentity for LeaderId<NID> {
 
     ghost by_term = { λ a b h. first_decides (nat_cmp a.term b.term) _ (apart a.term b.term h) };
 
-    ghost rises = { λ a b h. term_not_above (nat_cmp a.term b.term) _ h };
+    ghost rises = { λ a b h. term_at_most (nat_cmp a.term b.term) _ h };
 
     ghost made = { λ t n. (refl, refl) };
 
