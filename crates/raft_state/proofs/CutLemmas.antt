@@ -15,7 +15,7 @@ use Rattle.raft_state.specs.Inner.KeyList.{IsKeyList, Rises, keys_to}
 use Rattle.raft_state.specs.Keys.{by_last_leader}
 use Rattle.raft_state.specs.LogEdits.{front, purged, rest}
 use Rattle.raft_state.specs.LogReads.{first_id, last_id}
-use Rattle.raft_state.proofs.FullLogLemmas.{key_list_rises, next_by_place}
+use Rattle.raft_state.proofs.FullLogLemmas.{key_list_rises, key_list_rises_zero, next_by_place, rises_end}
 use Rattle.raft_state.proofs.AppendLemmas.{ids_split, one_id}
 
 -- ids of one leader below and from an index on
@@ -259,6 +259,27 @@ full_purged cmp ks upto s =
     by_test ks s true e = one_key upto
     by_test [] s false e = let t : nat_lt upto.index 0 ≡ false = grind (arith, nat_tests) in rw t refl
     by_test (k ∷ ks) s false e = by_place k ks s (grind (arith, nat_tests))
+
+-- a purge leaves a log from the greater of the two indexes on
+kept_first : {C : Type 0} (k : LogIdOf C) (ks : List (LogIdOf C)) (a : ℕ) → first_index_or (kept_after k ks a) 0 ≡ a
+kept_first k [] a = refl
+kept_first {C} k (l ∷ ks) a = by_test (nat_le l.index a) (kept_first l ks a)
+  where
+    by_test : (t : Bool) → first_index_or (kept_after l ks a) 0 ≡ a → first_index_or (if t then kept_after l ks a else record { leader_id = k.leader_id; index = a } ∷ l ∷ ks) 0 ≡ a
+    by_test true e = e
+    by_test false e = refl
+
+pub purged_first : {C : Type 0} (cmp : C → C → Ordering) (ks : List (LogIdOf C)) (upto : LogIdOf C) → IsKeyList cmp ks → first_index_or (purged_keys ks upto) 0 ≡ max (first_index_or ks 0) upto.index
+purged_first cmp [] upto s = let t : nat_le 0 upto.index ≡ true = grind (arith, nat_tests) in rw t (omega arith)
+purged_first {C} cmp (k ∷ ks) upto s = elim (cases_lt upto.index (end_index (k ∷ ks))) [
+  | inr past ↦ (let t : nat_le (end_index (k ∷ ks)) upto.index ≡ true = grind (arith, nat_tests) in
+      let up = rises_end 0 (k ∷ ks) (end_index (k ∷ ks)) (key_list_rises_zero cmp (k ∷ ks) s) in
+      rw t (omega arith))
+  | inl within ↦ (let t : nat_le (end_index (k ∷ ks)) upto.index ≡ false = grind (arith, nat_tests) in rw t (elim (cases_lt upto.index k.index) [
+    | inl below ↦ (let u : nat_le k.index upto.index ≡ false = grind (arith, nat_tests) in rw u (omega arith))
+    | inr from ↦ (let u : nat_le k.index upto.index ≡ true = grind (arith, nat_tests) in rw (u, kept_first k ks upto.index) (omega arith))
+  ]))
+]
 
 -- the edits by place
 cut_test : {C : Type 0} (t : Bool) (k l : LogIdOf C) (ks : List (LogIdOf C)) (j n : ℕ) (d : LogIdOf C) → (if t then suc (keys_to ks j) else 0) ≡ n → n < suc (length ks) → ((m : ℕ) → keys_to ks j ≡ m → m < length ks → cut_after l ks j ≡ take m ks ++ end_at (get_or (l ∷ ks) m d) j)

@@ -1,8 +1,8 @@
 -- Look-ups in a full log.
-use Rattle.std.proofs.Common.{◌≡◌, ℕ, zero, suc, ◌+◌, ◌-◌, ◌<◌, ◌≤◌, ◌==◌, Bool, true, false, cond, List, [], ◌∷◌, Option, Some, None, find, if◌then◌else◌, nat_lt, nat_le, refl, subst, sym, ◌∙◌, arith, length, get_or}
+use Rattle.std.proofs.Common.{◌≡◌, ℕ, zero, suc, ◌+◌, ◌-◌, ◌<◌, ◌≤◌, ◌==◌, ◌&&◌, Bool, true, false, cond, List, [], ◌∷◌, Option, Some, None, find, if◌then◌else◌, nat_lt, nat_le, refl, subst, sym, ◌∙◌, arith, length, get_or}
 use Rattle.std.proofs.lemmas.Bool.{cases_lt}
 use Rattle.std.proofs.Common.{◌⊎◌, inl, inr}
-use Rattle.std.specs.Option.{option_or, option_map}
+use Rattle.std.specs.Option.{is_some, option_or, option_map}
 use Rattle.std.specs.declared.cmp.Ordering.{Ordering}
 use Rattle.std.specs.List.{AllWithin}
 use Rattle.std.specs.List.Sorted.{IsPartitionedBy}
@@ -179,3 +179,30 @@ some_found {C} cmp ks j (suc n) key s some b e place h =
     ] in
     let below = below_next cmp ks j key s (omega arith) (omega arith) last in
     rw (← here) at (some_here cmp ks j n key s (sym e) below)
+
+-- a key covers each index from the first on
+pub covers : {C : Type 0} (k : LogIdOf C) (ks : List (LogIdOf C)) (j : ℕ) → k.index ≤ j → (c : LogIdOf C) × (covering (k ∷ ks) j ≡ Some c)
+covers {C} k ks j le = let t : nat_le k.index j ≡ true = grind (arith, nat_tests) in let q = either (covering ks j) in (q.0, rw t q.1)
+  where
+    either : (o : Option (LogIdOf C)) → (c : LogIdOf C) × (option_or o (Some k) ≡ Some c)
+    either None = (k, refl)
+    either (Some c) = (c, refl)
+
+pub covers_none : {C : Type 0} (k : LogIdOf C) (ks : List (LogIdOf C)) (j : ℕ) → j < k.index → covering (k ∷ ks) j ≡ None
+covers_none k ks j lt = let t : nat_le k.index j ≡ false = grind (arith, nat_tests) in rw t refl
+
+there_if : {A : Type 0} (t : Bool) (x : A) → is_some (if t then Some x else None) ≡ t
+there_if true x = refl
+there_if false x = refl
+
+-- an index has a log id exactly from the first key's index to the last key's
+pub there_within : {C : Type 0} (cmp : C → C → Ordering) (ks : List (LogIdOf C)) (j : ℕ) → IsKeyList cmp ks → is_some (id_at (full_log ks) j) ≡ (nat_le (first_index_or ks 0) j && nat_lt j (end_index ks))
+there_within cmp [] j s = grind (arith, nat_tests)
+there_within {C} cmp (k ∷ ks) j s = elim (cases_lt j k.index) [
+  | inl below ↦ (let t : nat_le k.index j ≡ false = grind (arith, nat_tests) in
+      rw (at_full cmp (k ∷ ks) j s, covers_none k ks j below, cond_same {A = Option (LogIdOf C)} (nat_lt j (end_index (k ∷ ks))) None, t) refl)
+  | inr past ↦ (let t : nat_le k.index j ≡ true = grind (arith, nat_tests) in
+      let c = covers k ks j past in
+      let id : LogIdOf C = record { leader_id = c.0.leader_id; index = j } in
+      rw (at_full cmp (k ∷ ks) j s, c.1, t) (there_if (nat_lt j (end_index (k ∷ ks))) id))
+]

@@ -9,6 +9,7 @@ pub mod LastTwoLemmas
 pub mod ListLemmas
 pub mod EffectLemmas
 pub mod LoggedLemmas
+pub mod OrderLemmas
 pub mod SendLemmas
 pub mod CatchUpLemmas
 pub mod RoundLemmas

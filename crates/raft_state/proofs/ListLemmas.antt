@@ -1,20 +1,20 @@
 -- What the calls of a list do, from the laws of leaders.
-use Rattle.std.proofs.Common.{◌≡◌, suc, ◌+◌, ◌-◌, ◌<◌, ◌≤◌, Bool, true, List, [], ◌∷◌, Some, IfSome, IsTrue, length, map, ap, sym, arith, ◌∙◌}
+use Rattle.std.proofs.Common.{◌≡◌, suc, ◌+◌, ◌-◌, ◌<◌, ◌≤◌, max, Bool, true, List, [], ◌∷◌, Some, IfSome, IsTrue, length, map, ap, sym, arith, ◌∙◌}
 use Rattle.std.specs.Prelude.{slice_get}
 use Rattle.std.specs.Option.{option_map, option_or}
 use Rattle.std.specs.declared.cmp.Ordering.{Ordering}
 use Rattle.std.specs.Ordering.{is_eq}
 use Rattle.std.specs.Cmp.{IsTotalOrder, IsEquivalence}
 use Rattle.raft_base.specs.declared.log_id.LogIdOf.{LogIdOf}
-use Rattle.raft_state.specs.FullLog.{full_log, same_log}
+use Rattle.raft_state.specs.FullLog.{first_index_or, full_log, same_log}
 use Rattle.raft_state.specs.LogReads.{last_id, last_two_share_leader, leader_count}
-use Rattle.raft_state.specs.LogEdits.{appended, extended}
+use Rattle.raft_state.specs.LogEdits.{appended, extended, purged}
 use Rattle.raft_state.specs.LogConditions.{follows, all_follow, ends_share_leader}
 use Rattle.raft_state.specs.Inner.KeyList.{IsKeyList}
-use Rattle.raft_state.specs.Inner.KeyEdits.{added, added_all}
+use Rattle.raft_state.specs.Inner.KeyEdits.{added, added_all, purged_keys}
 use Rattle.raft_state.proofs.SameLogLemmas.{both, is_same}
-use Rattle.raft_state.proofs.AppendLemmas.{apart, full_after, stays_key_list, strictly_less, upto_equal}
-use Rattle.raft_state.proofs.CutLemmas.{last_full}
+use Rattle.raft_state.proofs.AppendLemmas.{apart, full_after, itself, stays_key_list, strictly_less, upto_equal}
+use Rattle.raft_state.proofs.CutLemmas.{first_full, full_purged, last_full, purge_stays, purged_first}
 use Rattle.raft_state.proofs.ExtendLemmas.{all_stay, can_append, full_after_all, last_added, last_added_all}
 use Rattle.raft_state.proofs.EndsLemmas.{added_by_ends, last_of_map, last_of_some, last_or, one_leader, same_some}
 use Rattle.raft_state.proofs.LastTwoLemmas.{two_added, two_full}
@@ -60,6 +60,15 @@ module _ {C : Type 0} (cmp : C → C → Ordering) (eq : C → C → Bool) (tota
   -- of which the last one is the last one then, if there are any
   pub extend_ends : (ks ids : List (LogIdOf C)) → IsKeyList cmp ks → IsTrue (all_follow cmp (last_id (full_log ks)) ids) → last_id (full_log (added_all eq ks ids)) ≡ option_or (last_id ids) (last_id (full_log ks))
   extend_ends ks ids s h = last_full cmp (added_all eq ks ids) (extend_keeps ks ids s h) ∙ last_added_all eq ks ids ∙ ap (option_or (last_id ids)) (sym (last_full cmp ks s))
+
+  -- a purge leaves a log from the greater of the two indexes on
+  pub purge_begins : (ks : List (LogIdOf C)) (upto : LogIdOf C) → IsKeyList cmp ks → first_index_or (full_log (purged_keys ks upto)) 0 ≡ max (first_index_or (full_log ks) 0) upto.index
+  purge_begins ks upto s =
+      first_full cmp (purged_keys ks upto) 0 (purge_stays cmp (itself cmp eq total law) ks upto s)
+      ∙ purged_first cmp ks upto s ∙ ap (λ i. max i upto.index) (sym (first_full cmp ks 0 s))
+
+  pub purged_begins : (ks : List (LogIdOf C)) (upto : LogIdOf C) → IsKeyList cmp ks → first_index_or (purged (full_log ks) upto) 0 ≡ max (first_index_or (full_log ks) 0) upto.index
+  purged_begins ks upto s = ap (λ log. first_index_or log 0) (sym (full_purged cmp ks upto s)) ∙ purge_begins ks upto s
 
   -- two key lists are equal exactly where their full logs are
   pub keys_decide : (ks ls : List (LogIdOf C)) → IsKeyList cmp ks → IsKeyList cmp ls → same_log eq ks ls ≡ same_log eq (full_log ks) (full_log ls)

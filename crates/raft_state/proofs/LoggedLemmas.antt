@@ -12,7 +12,7 @@ use Rattle.raft_base.specs.declared.log_id.LogIdOf.{LogIdOf}
 use Rattle.raft_state.specs.FullLog.{full_log, first_index_or, end_index}
 use Rattle.raft_state.specs.LogReads.{id_at, first_id, last_id}
 use Rattle.raft_state.specs.Inner.KeyList.{IsKeyList}
-use Rattle.raft_state.proofs.FullLogLemmas.{at_full, covering}
+use Rattle.raft_state.proofs.FullLogLemmas.{at_full, covering, covers, covers_none}
 use Rattle.raft_state.proofs.CutLemmas.{last_full, first_full}
 use Rattle.raft_base.specs.LogId.{next_index, id_le, index_of, same_ids}
 use Rattle.raft_base.specs.LogIndex.{index_le}
@@ -33,7 +33,7 @@ tail_keys : {C : Type 0} (cmp : C → C → Ordering) (k l : LogIdOf C) (ks : Li
 tail_keys cmp k l [] s = tt
 tail_keys cmp k l (m ∷ ks) s = s.2
 
-step_keys : {C : Type 0} (cmp : C → C → Ordering) (k l : LogIdOf C) (ks : List (LogIdOf C)) → IsKeyList cmp (k ∷ l ∷ ks) → (k.index < l.index) × IsTrue (is_le (cmp k.leader_id l.leader_id))
+pub step_keys : {C : Type 0} (cmp : C → C → Ordering) (k l : LogIdOf C) (ks : List (LogIdOf C)) → IsKeyList cmp (k ∷ l ∷ ks) → (k.index < l.index) × IsTrue (is_le (cmp k.leader_id l.leader_id))
 step_keys cmp k l [] s = s
 step_keys cmp k l (m ∷ ks) s = (s.0, lt_le (cmp k.leader_id l.leader_id) s.1)
   where
@@ -46,17 +46,6 @@ next_last : {C : Type 0} (ks : List (LogIdOf C)) → next_index (last_id ks) ≡
 next_last [] = refl
 next_last (k ∷ []) = refl
 next_last (k ∷ l ∷ ks) = next_last (l ∷ ks)
-
--- a key covers each index from the first on
-covers : {C : Type 0} (k : LogIdOf C) (ks : List (LogIdOf C)) (j : ℕ) → k.index ≤ j → (c : LogIdOf C) × (covering (k ∷ ks) j ≡ Some c)
-covers {C} k ks j le = let t : nat_le k.index j ≡ true = grind (arith, nat_tests) in let q = either (covering ks j) in (q.0, rw t q.1)
-  where
-    either : (o : Option (LogIdOf C)) → (c : LogIdOf C) × (option_or o (Some k) ≡ Some c)
-    either None = (k, refl)
-    either (Some c) = (c, refl)
-
-covers_none : {C : Type 0} (k : LogIdOf C) (ks : List (LogIdOf C)) (j : ℕ) → j < k.index → covering (k ∷ ks) j ≡ None
-covers_none k ks j lt = let t : nat_le k.index j ≡ false = grind (arith, nat_tests) in rw t refl
 
 whole : {C : Type 0} (k : LogIdOf C) (ks : List (LogIdOf C)) (j : ℕ) → k.index ≤ j → covering (k ∷ ks) j ≡ option_or (covering ks j) (Some k)
 whole k ks j le = let t : nat_le k.index j ≡ true = grind (arith, nat_tests) in rw t refl
@@ -86,7 +75,7 @@ le_split Equal h = inr refl
 le_split Greater h = cc
 
 module _ {C : Type 0} (cmp : C → C → Ordering) (total : IsTotalOrder cmp) where
-  le_trans : (a b c : C) → is_le (cmp a b) ≡ true → is_le (cmp b c) ≡ true → is_le (cmp a c) ≡ true
+  pub le_trans : (a b c : C) → is_le (cmp a b) ≡ true → is_le (cmp b c) ≡ true → is_le (cmp a c) ≡ true
   le_trans a b c h g = elim (le_split (cmp a b) h) [
     | inr same ↦ rw (total.congr a b c same) g
     | inl less ↦ elim (le_split (cmp b c) g) [
@@ -109,7 +98,7 @@ module _ {C : Type 0} (cmp : C → C → Ordering) (total : IsTotalOrder cmp) wh
       by_rest more None is e = let f : l ≡ c = cc in subst (λ (x : LogIdOf C). is_le (cmp k.leader_id x.leader_id) ≡ true) f (step_keys cmp k l ks s).1
       by_rest more (Some d) is e = let f : d ≡ c = cc in subst (λ (x : LogIdOf C). is_le (cmp k.leader_id x.leader_id) ≡ true) f (le_trans k.leader_id l.leader_id d.leader_id (step_keys cmp k l ks s).1 (more d (sym is)))
 
-  itself : (c : C) → is_le (cmp c c) ≡ true
+  pub itself : (c : C) → is_le (cmp c c) ≡ true
   itself c = rw (tied_itself total c) refl
 
   rising_le : (ks : List (LogIdOf C)) (i j : ℕ) (a b : LogIdOf C) → IsKeyList cmp ks → covering ks i ≡ Some a → covering ks j ≡ Some b → i < j → is_le (cmp a.leader_id b.leader_id) ≡ true

@@ -12,6 +12,7 @@ pub mod Keys
 pub mod Leads
 pub mod LogConditions
 pub mod LogEdits
+pub mod LogOrder
 pub mod LogReads
 pub mod LogReadsLaws
 pub mod MembershipMoves

@@ -1,7 +1,7 @@
 //! The log ids of a whole log, kept by few of them.
-ghost use Rattle.std.specs.Prelude.{◌≡◌, ◌+◌, ◌≤◌, length, map, [], Some, IsOkAnd, IfOk, IfSome, IsOk, OnOk, OnErr, IsTrue, nat_eq};
-ghost use Rattle.std.specs.Option.{option_copied, option_or};
-ghost use Rattle.raft_state.specs.FullLog.{full_log, same_log};
+ghost use Rattle.std.specs.Prelude.{◌≡◌, ◌+◌, ◌≤◌, ◌&&◌, max, length, map, [], Some, IsOkAnd, IfOk, IfSome, IsOk, OnOk, OnErr, IsTrue, nat_eq, nat_le, nat_lt};
+ghost use Rattle.std.specs.Option.{is_some, option_copied, option_or};
+ghost use Rattle.raft_state.specs.FullLog.{full_log, first_index_or, end_index, same_log};
 ghost use Rattle.raft_state.specs.LogReads.{id_at, first_id, last_id, last_two_share_leader, leader_count};
 ghost use Rattle.raft_state.specs.LogEdits.{appended, extended, front, purged};
 ghost use Rattle.raft_state.specs.LogConditions.{follows, all_follow, all_follow_of_one_leader, may_be_purged_to};
@@ -159,10 +159,12 @@ impl<C: Ord + Copy> LogIdListOf<C> {
     /// Removes the log ids below `upto`. What remains keeps its leaders, also at the index of `upto`.
     ///
     /// Of an empty list, or past the last index, `upto` alone remains; below the first index nothing
-    /// changes. Only an empty list wants memory.
+    /// changes, else the first index is then that of `upto`. Only an empty list wants memory.
     pub fn purge(&mut self, upto: &LogIdOf<C>) -> Result<(), AllocError>
         requires { IsTrue (may_be_purged_to C.cmp (last_id (full_log self.old)) upto.now) }
         ensures ok { OnOk result (full_log self.new ≡ purged (full_log self.old) upto.now) }
+        ensures first { OnOk result (first_index_or (full_log self.new) 0
+            ≡ max (first_index_or (full_log self.old) 0) upto.now.index) }
         ensures was_empty { OnErr result (full_log self.old ≡ []) }
         ensures err { OnErr result (self.new ≡ self.old) }
     {
@@ -181,9 +183,11 @@ impl<C: Ord + Copy> LogIdListOf<C> {
         }
     }
 
-    /// The log id at an index, if it is there.
+    /// The log id at an index, if it is there: from the first one's index to the last one's it is.
     pub fn get(&self, index: u64) -> Option<LogIdOf<C>>
-        ensures { result ≡ id_at (full_log self.now) index }
+        ensures id { result ≡ id_at (full_log self.now) index }
+        ensures there { is_some result ≡ (nat_le (first_index_or (full_log self.now) 0) index
+            && nat_lt index (end_index (full_log self.now))) }
     {
         keys::get(&self.key_log_ids, index)
     }
