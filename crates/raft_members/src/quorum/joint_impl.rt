@@ -1,5 +1,5 @@
 //! A joint as a quorum set: a quorum is a quorum in every child.
-ghost use Rattle.std.specs.Prelude.{◌≡◌, IfOk};
+ghost use Rattle.std.specs.Prelude.{◌≡◌, ◌||◌, IfOk, OnOk};
 ghost use Rattle.std.specs.List.{IsDistinct, list_any, list_all};
 ghost use Rattle.std.specs.List.Sorted.{IsStrictlySortedBy};
 ghost use Rattle.std.specs.Set.{is_member};
@@ -72,8 +72,21 @@ pub(crate) fn ids_of_each<ID: Copy + Ord, QS: QuorumSet<ID>>(
 {
     let mut all: Vec<ID> = Vec::new(alloc);
     for child in children {
-        let mut ids = child.ids(alloc)?;
-        all.append(&mut ids)?;
+        append_ids(alloc, &mut all, child)?;
     }
     Ok(sorted(all))
+}
+
+/// Appends the voters of a child.
+fn append_ids<ID: Copy + Ord, QS: QuorumSet<ID>>(
+    alloc: Global,
+    all: &mut Vec<ID>,
+    child: &QS,
+) -> Result<(), AllocError>
+    ensures { OnOk result ((x : ID) → is_member ID.eq all.new.items x
+        ≡ (is_member ID.eq all.old.items x || QS.is_voter child.now x)) }
+{
+    let mut ids = child.ids(alloc)?;
+    all.append(&mut ids)?;
+    Ok(())
 }
