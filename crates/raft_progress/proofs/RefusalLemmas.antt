@@ -1,11 +1,22 @@
 -- A step that was refused has changed nothing.
-use Rattle.std.specs.Prelude.{◌≡◌, Bool, List, refl}
+use Rattle.std.specs.Prelude.{◌≡◌, ◌⊎◌, Bool, true, Err, IfErr, IfOk, List, None, Ok, Result, Some, refl}
 use Rattle.std.specs.declared.cmp.Ordering.{Ordering}
-use Rattle.std.proofs.Common.{true≢false}
-use Rattle.raft_progress.specs.Inner.Refusal.{RefusesUpgrade}
-use Rattle.raft_progress.specs.Inner.ShownAnswers.{IsShownUpgrade}
+use Rattle.std.proofs.Common.{inl, inr, subst, sym, true≢false, ◌∙◌}
+use Rattle.raft_members.specs.Change.{changed}
+use Rattle.raft_members.specs.Members.{MemberList, Members, Says, members_of}
+use Rattle.raft_members.specs.Refusal.{IsRefusal}
+use Rattle.raft_members.specs.Valid.{IsValid}
+use Rattle.raft_members.specs.declared.change_members.ChangeMembers.{ChangeMembers}
+use Rattle.raft_members.specs.declared.error.ChangeMembershipErrorOf.{ChangeMembershipErrorOf}
+use Rattle.raft_members.specs.declared.error.ChangeMembershipErrorOf.TheVariants.{InProgress, EmptyMembership, LearnerNotFound, OutOfMemory as WantOfMemory}
+use Rattle.raft_progress.specs.Inner.Refusal.{RefusesUpgrade, refusal_reply}
+use Rattle.raft_progress.specs.Inner.ShownAnswers.{IsShownChange, IsShownTakeOver, IsShownUpgrade}
+use Rattle.raft_progress.specs.progress.Answered.{Tells, is_refused}
 use Rattle.raft_progress.specs.progress.ProgressState.{IsSame}
 use Rattle.raft_progress.specs.progress.Shown.{Shown, state}
+use Rattle.raft_progress.specs.tracked.TrackedState.{TrackedShown, tracked_state}
+use Rattle.raft_progress.specs.tracked.TrackedSteps.{IsChanged, IsSamePair}
+use Rattle.raft_progress.proofs.ChangeLemmas.{changed_step}
 use Rattle.raft_progress.specs.declared.progress.steps.Reply.{Reply}
 use Rattle.raft_progress.specs.declared.progress.steps.Reply.TheVariants.{Granted, Unknown, WouldFall, Refused, BelowDefault, BadLearners, OutOfMemory}
 
@@ -25,3 +36,36 @@ module _ {ID V P QS : Type 0} (eq : ID → ID → Bool) (id_cmp : ID → ID → 
     refused_upgrade WouldFall r = absurd r
     refused_upgrade (Refused why) r = absurd r
     refused_upgrade OutOfMemory r = absurd r
+
+module _ {K N V P : Type 0} (eq : K → K → Bool) (id_cmp : K → K → Ordering) (same : N → N → Bool) (cmp : P → P → Ordering) (part : V → P) (IsClone : V → V → Type 0)
+    (old new : TrackedShown K N V P) (change : ChangeMembers K N) (retain : Bool) (default : V)
+  where
+    abbrev pub after : Members K N
+    after = changed eq id_cmp (members_of id_cmp old.membership) change retain
+
+    same_pair : IsSamePair (tracked_state eq old) (tracked_state eq old)
+    same_pair = record { membership = refl; progress = record { quorum_set = refl; is_voter = λ x. refl; value = λ x. refl; default_part = refl } }
+
+    -- a reply that may answer the change with nothing changed does
+    unchanged : (reply given : Reply K P) → reply ≡ given → new ≡ old → IsChanged eq id_cmp same cmp part IsClone (tracked_state eq old) change retain default given (tracked_state eq old) → is_refused given ≡ true → Tells given old.progress.granted
+        → IsShownChange eq id_cmp same cmp part IsClone old change retain default reply new
+    unchanged reply given is kept values refused tells =
+        subst (λ (n : TrackedShown K N V P). IsShownChange eq id_cmp same cmp part IsClone old change retain default reply n) (sym kept)
+        (subst (λ (r : Reply K P). IsShownChange eq id_cmp same cmp part IsClone old change retain default r old) (sym is)
+        record { values = values; answered = record { refused = λ h. refl; done = λ h. absurd (true≢false (sym refused ∙ h)); tells = tells } })
+
+    -- a change is answered by what is made of the membership, or by why it is refused
+    pub change_answered : {C : Type 0} (made : Result (MemberList K N) (ChangeMembershipErrorOf C K)) (reply : Reply K P)
+        → IfOk made (λ m. IsValid eq after) → IfOk made (λ m. Says same id_cmp m after) → IfErr made (IsRefusal eq id_cmp after)
+        → IfErr made (λ e. (reply ≡ refusal_reply e) × (new ≡ old))
+        → IfOk made (λ next. ((reply ≡ OutOfMemory) × (new ≡ old)) ⊎ IsShownTakeOver eq id_cmp cmp part IsClone old next default reply new)
+        → IsShownChange eq id_cmp same cmp part IsClone old change retain default reply new
+    change_answered (Ok next) reply valid says why refused (inl kept) = unchanged reply OutOfMemory kept.0 kept.1 same_pair refl tt
+    change_answered (Ok next) reply valid says why refused (inr taken) = record {
+      values = changed_step eq id_cmp same cmp part IsClone (tracked_state eq old) change retain default next (tracked_state eq new) valid says reply taken.values;
+      answered = taken.answered;
+    }
+    change_answered (Err (InProgress e)) reply valid says why refused taken = absurd why
+    change_answered (Err (EmptyMembership e)) reply valid says why refused taken = unchanged reply (Refused None) refused.0 refused.1 (why, same_pair) refl tt
+    change_answered (Err (LearnerNotFound e)) reply valid says why refused taken = unchanged reply (Refused (Some e.node_id)) refused.0 refused.1 (why.0, why.1, same_pair) refl tt
+    change_answered (Err WantOfMemory) reply valid says why refused taken = unchanged reply OutOfMemory refused.0 refused.1 same_pair refl tt

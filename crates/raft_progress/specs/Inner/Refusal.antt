@@ -1,6 +1,8 @@
 -- Why the private steps of a replay refuse.
-use Rattle.std.specs.Prelude.{Bool, List, Option}
+use Rattle.std.specs.Prelude.{Bool, List, None, Option, Some, ⊤}
 use Rattle.std.specs.declared.cmp.Ordering.{Ordering}
+use Rattle.raft_members.specs.declared.error.ChangeMembershipErrorOf.{ChangeMembershipErrorOf}
+use Rattle.raft_members.specs.declared.error.ChangeMembershipErrorOf.TheVariants.{InProgress, EmptyMembership, LearnerNotFound, OutOfMemory as WantOfMemory}
 use Rattle.raft_progress.specs.progress.NewProgress.{LearnersFit}
 use Rattle.raft_progress.specs.progress.Upgrade.{IsLeastBelow}
 use Rattle.raft_progress.specs.declared.progress.steps.Reply.{Reply}
@@ -18,3 +20,17 @@ RefusesUpgrade eq id_cmp cmp part is_voter learners default old (Unknown p) = �
 RefusesUpgrade eq id_cmp cmp part is_voter learners default old WouldFall = ⊥
 RefusesUpgrade eq id_cmp cmp part is_voter learners default old (Refused why) = ⊥
 RefusesUpgrade eq id_cmp cmp part is_voter learners default old OutOfMemory = ⊥
+
+-- a change of a membership alone is refused for itself, and not for an earlier one in progress
+abbrev pub IsOwnRefusal : {C K : Type 0} → ChangeMembershipErrorOf C K → Type 0
+IsOwnRefusal (InProgress _) = ⊥
+IsOwnRefusal (EmptyMembership _) = ⊤
+IsOwnRefusal (LearnerNotFound _) = ⊤
+IsOwnRefusal WantOfMemory = ⊤
+
+-- the reply to such a refusal: it names the voter without a node, or none for an empty config
+abbrev pub refusal_reply : {C K P : Type 0} → ChangeMembershipErrorOf C K → Reply K P
+refusal_reply (InProgress _) = OutOfMemory
+refusal_reply (EmptyMembership _) = Refused None
+refusal_reply (LearnerNotFound e) = Refused (Some e.node_id)
+refusal_reply WantOfMemory = OutOfMemory

@@ -1,11 +1,13 @@
 //! A replay of steps on a membership and its progress.
-ghost use Rattle.std.specs.Prelude.{◌≡◌, false, IfOk, OnErr};
+ghost use Rattle.std.specs.Prelude.{◌≡◌, ◌⊎◌, false, IfErr, IfOk, OnErr};
 ghost use Rattle.std.specs.List.{list_any};
 ghost use Rattle.std.specs.Set.{ClonesAreEqual};
 ghost use Rattle.raft_progress.specs.progress.Comparisons.{comparisons};
 ghost use Rattle.raft_progress.specs.progress.CountedValue.{AtMost, IsCounted};
 ghost use Rattle.raft_progress.specs.tracked.Headline.{ChangedQuorumsKnowGranted, QuorumsKnowGranted};
+ghost use Rattle.raft_progress.specs.Inner.Refusal.{IsOwnRefusal, refusal_reply};
 ghost use Rattle.raft_progress.specs.Inner.ShownAnswers.{IsShownChange, IsShownTakeOver};
+ghost use Rattle.raft_progress.specs.declared.progress.steps.Reply.TheVariants.{OutOfMemory};
 ghost use Rattle.raft_progress.specs.progress.Shown.{state};
 ghost use Rattle.raft_progress.specs.tracked.Tracked.{tracked};
 ghost use Rattle.raft_progress.specs.tracked.TrackedShownSteps.{IsTrackedShownRun, IsTrackedShownStep, is_change};
@@ -54,7 +56,26 @@ fn change_members<NID: NodeId, N: Node, V: ProgressPart<P> + Clone + Drop, P: Co
     ensures { IsShownChange NID.eq NID.cmp N.eq P.cmp V.part_of V.is_clone
         (tracked pair.old) change retain default result (tracked pair.new) }
 {
-    match pair.membership.change(change, retain) {
+    let made = pair.membership.change(change, retain);
+    go_on_with(pair, made, default)
+}
+
+/// Goes over to the changed membership. Where the change was refused, this is what is answered.
+fn go_on_with<NID: NodeId, N: Node, V: ProgressPart<P> + Clone + Drop, P: Copy + Ord>(
+    pair: &mut Tracked<NID, N, V, P>,
+    made: Result<Membership<NID, N>, ChangeMembershipError<NID>>,
+    default: V,
+) -> Reply<NID, P>
+    requires clones_have_the_part { (v w : V) → V.is_clone v w → V.part_of w ≡ V.part_of v }
+    requires own_refusal { IfErr made IsOwnRefusal }
+    ensures refused { IfErr made (λ e. (result ≡ refusal_reply e)
+        × (tracked pair.new ≡ tracked pair.old)) }
+    ensures changed { IfOk made (λ next.
+        ((result ≡ OutOfMemory) × (tracked pair.new ≡ tracked pair.old))
+        ⊎ IsShownTakeOver NID.eq NID.cmp P.cmp V.part_of V.is_clone
+        (tracked pair.old) next default result (tracked pair.new)) }
+{
+    match made {
         Ok(next) => match take_over(pair, next, default) {
             Ok(reply) => reply,
             Err(_) => Reply::OutOfMemory,
