@@ -1,5 +1,5 @@
 //! The search for the last log that a leader and a follower share, over whole lists of events.
-ghost use Rattle.std.specs.Prelude.{◌≡◌, ◌+◌, ◌/◌, ◌^◌, ◌<◌, ◌≤◌, ℕ, if◌then◌else◌};
+ghost use Rattle.std.specs.Prelude.{◌≡◌, ◌+◌, ◌/◌, ◌^◌, ◌<◌, ◌≤◌, ℕ};
 ghost use Rattle.raft_base.specs.LogId.{next_index};
 ghost use Rattle.raft_base.specs.LogIndex.{next_index_of};
 ghost use Rattle.raft_progress.specs.search.Search.{CanSearch, NonePurgedPast, after_event, after_events, new_search, stretch};
@@ -55,27 +55,28 @@ pub fn search_run<C: Ord + Copy, L: LogStateReader<C>>(
     let mut purged = None;
     let mut accepted = 0;
     for event in events {
-        if take_event(entry, event, &mut purged) {
-            accepted += 1;
-        }
+        take_event(entry, event, &mut purged, &mut accepted);
     }
     accepted
 }
 
-/// Takes an event, and answers whether it is a conflict that was accepted.
+/// Takes an event, and counts it where it is a conflict that was accepted.
 fn take_event<C: Ord + Copy, L: LogStateReader<C>>(
     entry: &mut ProgressEntryOf<C>,
     event: &SearchEvent<'_, L>,
     purged: &mut Option<u64>,
-) -> bool
-    ensures { (n : ℕ) →
-        after_event C.cmp L.log_view
-        (record { entry = entry.old; purged = next_index_of purged.old; accepted = n }) event.now
+    accepted: &mut u64,
+)
+    requires { accepted.old + 1 < 2 ^ 64 }
+    ensures taken { after_event C.cmp L.log_view
+        (record { entry = entry.old; purged = next_index_of purged.old; accepted = accepted.old })
+        event.now
         ≡ record {
           entry = entry.new;
           purged = next_index_of purged.new;
-          accepted = n + (if result then 1 else 0);
+          accepted = accepted.new;
         } }
+    ensures one_at_most { accepted.new ≤ accepted.old + 1 }
 {
     match event {
         SearchEvent::Send { log, max_entries } => {
@@ -84,17 +85,20 @@ fn take_event<C: Ord + Copy, L: LogStateReader<C>>(
                 *purged = purge_upto;
                 let _ = entry.next_send(*log, *max_entries);
             }
-            false
         }
         SearchEvent::Conflict {
             request_id,
             conflict,
-        } => entry
-            .update_conflicting(Some(*request_id), *conflict)
-            .is_ok(),
+        } => {
+            if entry
+                .update_conflicting(Some(*request_id), *conflict)
+                .is_ok()
+            {
+                *accepted += 1;
+            }
+        }
         SearchEvent::Heartbeat { conflict } => {
             let _ = entry.update_conflicting(None, *conflict);
-            false
         }
     }
 }

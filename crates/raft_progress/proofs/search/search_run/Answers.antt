@@ -1,20 +1,12 @@
-use Rattle.std.proofs.Common.{◌≡◌, ◌+◌, arith, ◌∙◌, if◌then◌else◌, add-zero}
+use Rattle.std.proofs.Common.{arith, ◌∙◌}
 use Rattle.raft_progress.proofs.SearchLemmas.{accepted_at_end, next_event, within_digits, within_near_digits, within_one_more}
 use Rattle.raft_progress.proofs.search.search_run.Goals as goal
-use Rattle.raft_progress.proofs.search.search_run.Goals.{then-take_event, else-take_event}
 
 pub loop-event-preserved : goal.loop-event-preserved
-loop-event-preserved g c =
-    let taken = c.take_event.ensures c.loop-event.accepted in
-    let sum : c.if-take_event.accepted ≡ c.loop-event.accepted + (if c.take_event.result then 1 else 0) =
-    elim c.if-take_event.branch [
-      | then-take_event w ↦ rw w.if-take_event.true w.accepted-is
-      | else-take_event w ↦ rw (w.if-take_event.false, add-zero) w.accepted-is
-    ] in
-    record {
-      small = elim c.if-take_event.branch [ then-take_event w ↦ omega (arith, c.loop-event.invariant.small) | else-take_event w ↦ omega (arith, c.loop-event.invariant.small) ];
-      same_end = rw sum (next_event g.C.Ord.cmp g.L.LogStateReader.log_view _ _ c.args.events.now c.loop-event.event-index c.event-item.result c.loop-event-test.true c.event-item.is taken ∙ c.loop-event.invariant.same_end);
-    }
+loop-event-preserved g c = record {
+  small = omega (arith, c.take_event.ensures.one_at_most, c.loop-event.invariant.small);
+  same_end = next_event g.C.Ord.cmp g.L.LogStateReader.log_view _ _ c.args.events.now c.loop-event.event-index c.event-item.result c.loop-event-test.true c.event-item.is c.take_event.ensures.taken ∙ c.loop-event.invariant.same_end;
+}
 
 pub returns-clause-digits : goal.returns-clause-digits
 returns-clause-digits g c can k fits =
