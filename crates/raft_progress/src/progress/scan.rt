@@ -1,7 +1,8 @@
 //! The least front of the walk that is a quorum.
-ghost use Rattle.std.specs.Prelude.{◌≡◌, ◌≤◌, length, take};
+ghost use Rattle.std.specs.Prelude.{◌≡◌, ◌+◌, ◌^◌, ◌<◌, ◌≤◌, length, take};
 ghost use Rattle.std.specs.List.{IsDistinct, prefix_len};
 ghost use Rattle.std.specs.Map.{keys_of};
+ghost use Rattle.std.specs.Set.{is_member};
 ghost use Rattle.raft_progress.specs.Inner.Counts.{exceeds};
 ghost use Rattle.raft_progress.specs.Inner.Rises.{IsLeastFront};
 
@@ -66,8 +67,7 @@ pub(crate) fn least_front<ID: Copy + Ord, V, QS: QuorumSet<ID>>(
     while failed < end {
         left /= 2;
         let front = failed + 1 + left.min(end - failed - 1);
-        tests += 1;
-        if quorum_set.is_quorum(&room[..front]) {
+        if test_front(quorum_set, &room[..front], &mut tests) {
             end = front - 1;
         } else {
             failed = front;
@@ -76,4 +76,19 @@ pub(crate) fn least_front<ID: Copy + Ord, V, QS: QuorumSet<ID>>(
     // A test that passed has left the fronts that are shorter.
     let front = if end < high { Some(end + 1) } else { None };
     Scan { front, tests }
+}
+
+/// Tests whether a front is a quorum, and counts the test.
+fn test_front<ID: Copy + Ord, QS: QuorumSet<ID>>(
+    quorum_set: &QS,
+    front: &[ID],
+    tests: &mut u64,
+) -> bool
+    requires { tests.old + 1 < 2 ^ 64 }
+    ensures quorum { IsDistinct ID.eq front.now →
+        result ≡ QS.has_quorum quorum_set.now (is_member ID.eq front.now) }
+    ensures counted { tests.new ≡ tests.old + 1 }
+{
+    *tests += 1;
+    quorum_set.is_quorum(front)
 }

@@ -2,8 +2,8 @@ use Rattle.std.proofs.Common.{arith, sym, ◌∙◌, ◌+◌, ◌≤◌}
 use Rattle.raft_progress.proofs.FrontLemmas.{front_tested, halves_failed, halves_found, halves_missed, halves_none, halves_passed, tests_fit}
 use Rattle.raft_progress.proofs.progress.scan.least_front.Goals as goal
 
-pub overflow_add-tests : goal.overflow_add-tests
-overflow_add-tests g c =
+pub test_front-requires : goal.test_front-requires
+test_front-requires g c =
     let t = tests_fit g.ID.PartialEq.eq (g.QS.QuorumSet.has_quorum c.args.quorum_set.now) c.args.voters.now c.args.low c.args.high c.loop-failed.failed c.loop-failed.end c.loop-failed.left c.loop-failed.tests c.loop-failed.invariant.halves c.loop-failed.invariant.fits in
     omega arith
 
@@ -13,13 +13,13 @@ loop-failed-init g c = record {
   fits = omega arith;
 }
 
-pub loop-failed-preserved-then-is_quorum : goal.loop-failed-preserved-then-is_quorum
-loop-failed-preserved-then-is_quorum g c =
+pub loop-failed-preserved-then-test_front : goal.loop-failed-preserved-then-test_front
+loop-failed-preserved-then-test_front g c =
     let e = c.min.ensures in
     let l : c.loop-failed.failed + 1 + c.min.result ≤ c.args.high = let w = c.loop-failed.invariant.halves.within in omega arith in
-    let tested = front_tested g.met.ID.Eq.laws (g.QS.QuorumSet.has_quorum c.args.quorum_set.now) c.args.voters.now c.requires.distinct c.args.room.now c.args.high (c.loop-failed.failed + 1 + c.min.result) l c.requires.gathered c.is_quorum.result c.is_quorum.ensures.quorum in
+    let tested = front_tested g.met.ID.Eq.laws (g.QS.QuorumSet.has_quorum c.args.quorum_set.now) c.args.voters.now c.requires.distinct c.args.room.now c.args.high (c.loop-failed.failed + 1 + c.min.result) l c.requires.gathered c.test_front.result c.test_front.ensures.quorum in
     record {
-      halves = halves_passed g.ID.PartialEq.eq (g.QS.QuorumSet.has_quorum c.args.quorum_set.now) c.args.voters.now c.args.low c.args.high c.loop-failed.failed c.loop-failed.end c.loop-failed.left c.loop-failed.tests c.loop-failed.invariant.halves c.loop-failed-test.true (c.loop-failed.failed + 1 + c.min.result) (omega arith) (sym tested ∙ c.if-is_quorum.true);
+      halves = rw c.test_front.ensures.counted (halves_passed g.ID.PartialEq.eq (g.QS.QuorumSet.has_quorum c.args.quorum_set.now) c.args.voters.now c.args.low c.args.high c.loop-failed.failed c.loop-failed.end c.loop-failed.left c.loop-failed.tests c.loop-failed.invariant.halves c.loop-failed-test.true (c.loop-failed.failed + 1 + c.min.result) (omega arith) (sym tested ∙ c.if-test_front.true));
       fits = c.loop-failed.invariant.fits;
     }
 
@@ -27,9 +27,9 @@ pub loop-failed-preserved : goal.loop-failed-preserved
 loop-failed-preserved g c =
     let e = c.min.ensures in
     let l : c.loop-failed.failed + 1 + c.min.result ≤ c.args.high = let w = c.loop-failed.invariant.halves.within in omega arith in
-    let tested = front_tested g.met.ID.Eq.laws (g.QS.QuorumSet.has_quorum c.args.quorum_set.now) c.args.voters.now c.requires.distinct c.args.room.now c.args.high (c.loop-failed.failed + 1 + c.min.result) l c.requires.gathered c.is_quorum.result c.is_quorum.ensures.quorum in
+    let tested = front_tested g.met.ID.Eq.laws (g.QS.QuorumSet.has_quorum c.args.quorum_set.now) c.args.voters.now c.requires.distinct c.args.room.now c.args.high (c.loop-failed.failed + 1 + c.min.result) l c.requires.gathered c.test_front.result c.test_front.ensures.quorum in
     record {
-      halves = halves_failed g.ID.PartialEq.eq (g.QS.QuorumSet.has_quorum c.args.quorum_set.now) c.args.voters.now c.args.low c.args.high c.loop-failed.failed c.loop-failed.end c.loop-failed.left c.loop-failed.tests c.loop-failed.invariant.halves c.loop-failed-test.true (c.loop-failed.failed + 1 + c.min.result) (omega arith) (g.met.QS.QuorumSet.superset c.args.quorum_set.now) (sym tested ∙ c.if-is_quorum.false);
+      halves = rw c.test_front.ensures.counted (halves_failed g.ID.PartialEq.eq (g.QS.QuorumSet.has_quorum c.args.quorum_set.now) c.args.voters.now c.args.low c.args.high c.loop-failed.failed c.loop-failed.end c.loop-failed.left c.loop-failed.tests c.loop-failed.invariant.halves c.loop-failed-test.true (c.loop-failed.failed + 1 + c.min.result) (omega arith) (g.met.QS.QuorumSet.superset c.args.quorum_set.now) (sym tested ∙ c.if-test_front.false));
       fits = c.loop-failed.invariant.fits;
     }
 
