@@ -91,10 +91,10 @@ module _ {C : Type 0} (eq : C → C → Bool) (same : (c : C) → eq c c ≡ tru
   same_missing (x ∷ w ∷ xs) (y ∷ []) i h = absurd h.2
   same_missing (x ∷ w ∷ xs) (y ∷ z ∷ ys) i h = same_missing (w ∷ xs) (z ∷ ys) i h.2
 
-  same_appended : (xs ys : List (LogIdOf C)) (id : LogIdOf C) → SameLog eq xs ys → SameLog eq (appended xs id) (appended ys id)
+  pub same_appended : (xs ys : List (LogIdOf C)) (id : LogIdOf C) → SameLog eq xs ys → SameLog eq (appended xs id) (appended ys id)
   same_appended xs ys id h = same_append eq same (xs ++ missing xs id.index) (ys ++ missing ys id.index) (id ∷ []) (id ∷ []) (same_append eq same xs ys (missing xs id.index) (missing ys id.index) h (same_missing xs ys id.index h)) (same_refl eq same (id ∷ []))
 
-  same_extended : (xs ys ids : List (LogIdOf C)) → SameLog eq xs ys → SameLog eq (extended xs ids) (extended ys ids)
+  pub same_extended : (xs ys ids : List (LogIdOf C)) → SameLog eq xs ys → SameLog eq (extended xs ids) (extended ys ids)
   same_extended xs ys [] h = h
   same_extended xs ys (id ∷ ids) h = same_extended (appended xs id) (appended ys id) ids (same_appended xs ys id h)
 

@@ -10,6 +10,7 @@ pub mod ListLemmas
 pub mod EffectLemmas
 pub mod LoggedLemmas
 pub mod OrderLemmas
+pub mod SameEditsLemmas
 pub mod SendLemmas
 pub mod CatchUpLemmas
 pub mod RoundLemmas

@@ -23,6 +23,7 @@ pub mod NewState
 pub mod Purge
 pub mod Sending
 pub mod Round
+pub mod SameLog
 pub mod SnapshotMeta
 pub mod StateView
 pub mod Valid

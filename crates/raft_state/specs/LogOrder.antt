@@ -13,4 +13,5 @@ AreConsecutive {C} log = (n : ℕ) (id : LogIdOf C) →
 -- leaders never fall: the one of a log id is at most that of each later one
 abbrev pub LeadersNeverFall : {C : Type 0} → (C → C → Ordering) → List (LogIdOf C) → Type 0
 LeadersNeverFall {C} cmp log = (m n : ℕ) (a b : LogIdOf C) → m < n →
-    slice_get log m ≡ Some a → slice_get log n ≡ Some b → IsTrue (is_le (cmp a.leader_id b.leader_id))
+    slice_get log m ≡ Some a → slice_get log n ≡ Some b →
+    IsTrue (is_le (cmp a.leader_id b.leader_id))

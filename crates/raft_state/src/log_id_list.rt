@@ -99,7 +99,7 @@ impl<C: Ord + Copy> LogIdListOf<C> {
         self.can_extend(new_ids) && keys::share_leader(new_ids)
     }
 
-    /// Appends log ids, one after the other. Room for a key each is taken first, for none no memory.
+    /// Appends log ids, one after the other. Room for a key each is taken first.
     pub fn extend<LID: RaftLogIdOf<C>>(&mut self, new_ids: &[LID]) -> Result<(), AllocError>
         requires { IsTrue (all_follow C.cmp (last_id (full_log self.old))
             (map LID.id_of new_ids.now)) }
@@ -124,8 +124,8 @@ impl<C: Ord + Copy> LogIdListOf<C> {
 
     /// Appends a log id. The indexes that are missing before it go to the leader of the last one.
     ///
-    /// Where the last two log ids share a leader it moves the last key, and takes no memory. So of a
-    /// row of log ids of one leader, each after the second is appended.
+    /// Where the last two log ids share a leader it moves the last key, and takes no memory. So in
+    /// a row of log ids of one leader, none after the second can fail.
     pub fn append(&mut self, new_log_id: LogIdOf<C>) -> Result<(), AllocError>
         requires { IsTrue (follows C.cmp (last_id (full_log self.old)) new_log_id) }
         ensures ok { OnOk result (IsTrue (same_log C.eq (full_log self.new)

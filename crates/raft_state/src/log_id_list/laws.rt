@@ -1,7 +1,11 @@
 //! What holds of every list of log ids, as the contracts of calls.
-ghost use Rattle.std.specs.Prelude.{◌≡◌, max};
+ghost use Rattle.std.specs.Prelude.{◌≡◌, ℕ, List, max};
+ghost use Rattle.std.specs.Cmp.{IsEquivalence};
+ghost use Rattle.raft_base.specs.declared.log_id.LogIdOf.{LogIdOf};
 ghost use Rattle.raft_state.specs.FullLog.{full_log, first_index_or, same_log};
-ghost use Rattle.raft_state.specs.LogEdits.{front, purged};
+ghost use Rattle.raft_state.specs.LogEdits.{appended, extended, front, purged};
+ghost use Rattle.raft_state.specs.LogReads.{first_id, id_at, last_id};
+ghost use Rattle.raft_state.specs.SameLog.{FindsSame, KeepsSame};
 ghost use Rattle.raft_state.specs.LogOrder.{AreConsecutive, LeadersNeverFall};
 
 use super::LogIdListOf;
@@ -32,8 +36,8 @@ pub fn log_is_in_order<C: Ord + Copy>(list: &LogIdListOf<C>)
     let _keys = list.key_log_ids();
 }
 
-/// Tells of what a purge leaves of a list that it begins at the greater of the first index and that of
-/// `upto`. It does nothing.
+/// Tells of what a purge leaves of a list that it begins at the greater of the first index and
+/// that of `upto`. It does nothing.
 pub fn purged_begins<C: Ord + Copy>(list: &LogIdListOf<C>, upto: &LogIdOf<C>)
     ensures { first_index_or (purged (full_log list.now) upto.now) 0
         ≡ max (first_index_or (full_log list.now) 0) upto.now.index }
@@ -41,3 +45,21 @@ pub fn purged_begins<C: Ord + Copy>(list: &LogIdListOf<C>, upto: &LogIdOf<C>)
     let _keys = list.key_log_ids();
     let _upto = *upto;
 }
+
+/// Tells that logs which are the same stay so under each call of a list, so that what is said of
+/// one call after another composes. It does nothing.
+pub fn same_logs_stay_same<C: Ord + Copy>()
+    ensures equality { IsEquivalence (same_log C.eq) }
+    ensures appended { (id : LogIdOf C) → KeepsSame C.eq (λ log. appended log id) }
+    ensures extended { (ids : List (LogIdOf C)) → KeepsSame C.eq (λ log. extended log ids) }
+    ensures front { (at : ℕ) → KeepsSame C.eq (λ log. front log at) }
+    ensures purged { (upto : LogIdOf C) → KeepsSame C.eq (λ log. purged log upto) }
+{}
+
+/// Tells that logs which are the same have equal log ids at each index, first and last. It does
+/// nothing.
+pub fn same_logs_read_same<C: Ord + Copy>()
+    ensures at_index { (index : ℕ) → FindsSame C.eq (λ log. id_at log index) }
+    ensures first { FindsSame C.eq first_id }
+    ensures last { FindsSame C.eq last_id }
+{}
