@@ -6,6 +6,8 @@ mod callers;
 #[cfg(test)]
 mod catch_up;
 #[cfg(test)]
+mod clones;
+#[cfg(test)]
 mod compared;
 #[cfg(test)]
 mod entries;
