@@ -23,6 +23,7 @@ pub use error::ForwardToLeader;
 pub use io_state::{IOState, IOStateIn, IOStateOf, LogIOId, LogIOIdOf};
 pub use log_id_list::{LogIdList, LogIdListOf, is_key_list};
 pub use membership_state::{ChangeHandler, ChangeHandlerOf, MembershipState, MembershipStateOf};
+pub use raft_base::LogStateReader;
 pub use raft_state::{RaftState, RaftStateIn, RaftStateOf};
 pub use snapshot_meta::{SnapshotMeta, SnapshotMetaOf};
 pub use vote_state_reader::VoteStateReader;
