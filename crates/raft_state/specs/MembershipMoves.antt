@@ -5,9 +5,9 @@ use Rattle.raft_base.specs.declared.log_id.LogIdOf.{LogIdOf}
 use Rattle.raft_base.specs.LogId.{id_le, id_lt, index_of, same_ids}
 use Rattle.raft_base.specs.LogIndex.{index_le, index_lt}
 use Rattle.raft_members.specs.Members.{same_members}
-use Rattle.raft_members.specs.Stored.{log_id_of, membership_of}
+use Rattle.raft_members.specs.Stored.{log_id_of}
 use Rattle.raft_members.specs.declared.membership.stored.StoredMembershipOf.{StoredMembershipOf}
-use Rattle.raft_state.specs.Memberships.{Memberships, index_at}
+use Rattle.raft_state.specs.Memberships.{Memberships, in_effect, index_at}
 
 -- a log that is committed up to a log id has the effective membership in it
 abbrev pub commits : {C K N : Type 0} → (C → C → Ordering) → Option (LogIdOf C) → Memberships C K N → Bool
@@ -56,8 +56,9 @@ replaces_both cmp new upto m =
     is_covered upto m || (index_le (index_at m.effective) (index_at new) && id_lt cmp (log_id_of m.committed) (log_id_of new))
 
 -- another membership is in effect than before
-abbrev pub effect_changes : {C K N : Type 0} → (K → K → Bool) → (N → N → Bool) → Memberships C K N → Memberships C K N → Bool
-effect_changes eq same old new = not (same_members eq same (membership_of new.effective) (membership_of old.effective))
+abbrev pub effect_changes : {C K N : Type 0} → (K → K → Bool) → (N → N → Bool)
+    → Memberships C K N → Memberships C K N → Bool
+effect_changes eq same old new = not (same_members eq same (in_effect new) (in_effect old))
 
 -- the effective membership is the committed one: their log ids are equal
 abbrev pub is_effective_committed : {C K N : Type 0} → (C → C → Bool) → Memberships C K N → Bool

@@ -1,12 +1,13 @@
 -- The state of a new node.
 use Rattle.std.specs.Prelude.{◌≡◌, false, [], None}
-use Rattle.raft_base.specs.UTime.{data_of, moment_of}
+use Rattle.raft_base.specs.UTime.{moment_of}
 use Rattle.raft_base.specs.declared.server_state.ServerState.TheVariants.{Learner}
 use Rattle.raft_state.specs.Accepted.{accepted_from}
 use Rattle.raft_state.specs.FullLog.{full_log}
 use Rattle.raft_state.specs.IOState.{io_state}
 use Rattle.raft_state.specs.Memberships.{IsNoMembership}
 use Rattle.raft_state.specs.SnapshotMeta.{IsNoSnapshot}
+use Rattle.raft_state.specs.StateView.{vote_of}
 use Rattle.raft_state.specs.declared.raft_state.RaftStateIn.{RaftStateIn}
 
 -- a learner without log, membership and snapshot, whose vote was never updated
@@ -23,6 +24,6 @@ pub record IsNewState {K N I L C : Type 0} (s : RaftStateIn K N I L C) : Type 0 
 
 -- its votes are for the leader that is the default, and not committed; nothing is accepted of that leader, and storage has done nothing
 pub record HasNewVote {K N I L C : Type 0} (leader : L) (granted : C) (s : RaftStateIn K N I L C) : Type 0 where
-  pub vote : data_of s.vote ≡ record { leader_id = leader; committed = false }
+  pub vote : vote_of s ≡ record { leader_id = leader; committed = false }
   pub accepted : s.accepted ≡ accepted_from leader None
   pub io_state : s.io_state ≡ io_state false (record { leader_id = leader; committed = false }) (record { committed_leader_id = granted; log_id = None }) None None None

@@ -1,10 +1,16 @@
--- What a state shows of its log.
+-- What a state shows of its vote and of its log.
 use Rattle.std.specs.Prelude.{Option, None, ◌==◌, if◌then◌else◌}
 use Rattle.raft_base.specs.LogView.{LogView}
+use Rattle.raft_base.specs.UTime.{data_of}
 use Rattle.raft_base.specs.declared.log_id.LogIdOf.{LogIdOf}
+use Rattle.raft_base.specs.declared.vote.VoteIn.{VoteIn}
 use Rattle.raft_state.specs.FullLog.{full_log}
 use Rattle.raft_state.specs.LogReads.{id_at, first_id, last_id}
 use Rattle.raft_state.specs.declared.raft_state.RaftStateIn.{RaftStateIn}
+
+-- the vote of a state
+abbrev pub vote_of : {K N I L C : Type 0} → RaftStateIn K N I L C → VoteIn L
+vote_of s = data_of s.vote
 
 -- the last log id that was purged is still known: where any was, it is the first one of the log
 abbrev pub last_purged : {K N I L C : Type 0} → RaftStateIn K N I L C → Option (LogIdOf C)

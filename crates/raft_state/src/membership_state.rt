@@ -7,9 +7,8 @@ ghost use Rattle.raft_base.specs.Validate.{first_false};
 ghost use Rattle.raft_base.specs.LogIndex.{index_lt};
 ghost use Rattle.raft_members.specs.Majority.{is_voter_of};
 ghost use Rattle.raft_members.specs.Members.{node_at};
-ghost use Rattle.raft_members.specs.Stored.{membership_of};
 ghost use Rattle.raft_state.specs.Leads.{ForwardsTo, known_node};
-ghost use Rattle.raft_state.specs.Memberships.{index_at, same_memberships, IsNoMembership};
+ghost use Rattle.raft_state.specs.Memberships.{in_effect, index_at, same_memberships, IsNoMembership};
 ghost use Rattle.raft_state.specs.MembershipsLaws.{same_memberships-equiv};
 ghost use Rattle.raft_state.specs.MembershipMoves.{after_commit, commits, may_commit, after_append, may_append, after_truncate, is_cut, after_update_committed, effect_changes, effective_where, replaces_both};
 ghost use Rattle.raft_state.specs.MembershipRelations.{membership_relations};
@@ -88,14 +87,14 @@ impl<C: Copy + Drop, NID: NodeId, N: Node> MembershipStateOf<C, NID, N> {
     /// Whether the id has a node in the membership in effect, as a voter or as a learner.
     pub fn contains(&self, id: &NID) -> bool
         ensures { result
-            ≡ is_some (node_at NID.cmp (membership_of self.now.effective).nodes id.now) }
+            ≡ is_some (node_at NID.cmp (in_effect self.now).nodes id.now) }
     {
         self.effective.membership().contains(id)
     }
 
     /// Whether the id is a voter of the membership in effect.
     pub fn is_voter(&self, id: &NID) -> bool
-        ensures { result ≡ is_voter_of NID.eq (membership_of self.now.effective).configs id.now }
+        ensures { result ≡ is_voter_of NID.eq (in_effect self.now).configs id.now }
     {
         self.effective.is_voter(id)
     }
@@ -108,8 +107,8 @@ impl<C: Copy + Drop, NID: NodeId, N: Node> MembershipStateOf<C, NID, N> {
     ) -> Result<ForwardToLeader<NID, N>, AllocError>
         requires { ClonesAreEqual N.eq N.is_clone }
         ensures node { IfOk result (ForwardsTo N.eq
-            (known_node NID.cmp (membership_of self.now.effective) leader)) }
-        ensures no_memory { known_node NID.cmp (membership_of self.now.effective) leader
+            (known_node NID.cmp (in_effect self.now) leader)) }
+        ensures no_memory { known_node NID.cmp (in_effect self.now) leader
             ≡ None → IsOk result }
     {
         match leader {

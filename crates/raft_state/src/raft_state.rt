@@ -7,9 +7,8 @@ ghost use Rattle.std.specs.Set.{ClonesAreEqual};
 ghost use Rattle.raft_base.specs.Logged.{Logged};
 ghost use Rattle.raft_base.specs.LogId.{id_le};
 ghost use Rattle.raft_base.specs.LogView.{has_id, may_ask};
-ghost use Rattle.raft_base.specs.UTime.{data_of, moment_of};
+ghost use Rattle.raft_base.specs.UTime.{moment_of};
 ghost use Rattle.raft_members.specs.Majority.{is_voter_of};
-ghost use Rattle.raft_members.specs.Stored.{membership_of};
 ghost use Rattle.raft_state.specs.Accepted.{leader_of, accepted_id, after_accept};
 ghost use Rattle.raft_state.specs.Commit.{state_after_commit, committed_before, state_commits, state_may_commit};
 ghost use Rattle.raft_state.specs.FirstDenied.{first_denied};
@@ -18,10 +17,11 @@ ghost use Rattle.raft_state.specs.Leads.{is_initialized, is_leading, server_stat
 ghost use Rattle.raft_state.specs.LogConditions.{all_follow, all_follow_of_one_leader};
 ghost use Rattle.raft_state.specs.LogEdits.{extended, purged};
 ghost use Rattle.raft_state.specs.LogReads.{last_id};
+ghost use Rattle.raft_state.specs.Memberships.{in_effect};
 ghost use Rattle.raft_state.specs.NewState.{IsNewState, HasNewVote};
 ghost use Rattle.raft_state.specs.Purge.{may_purge};
 ghost use Rattle.raft_state.specs.SnapshotMeta.{IsSnapshotCopy};
-ghost use Rattle.raft_state.specs.StateView.{view_of};
+ghost use Rattle.raft_state.specs.StateView.{view_of, vote_of};
 ghost use Rattle.raft_state.specs.Valid.{broken_relation, fits_purged_next, is_logged, upto_relation};
 
 use crate::accepted::AcceptedIn;
@@ -130,7 +130,7 @@ impl<NID: NodeId, N: Node, I: Instant, L: Drop, C: Ord + Copy + Drop> LogStateRe
 
 impl<NID: NodeId, N: Node, I: Instant, L: Drop, C: Ord + Copy> VoteStateReader<L>
     for RaftStateIn<NID, N, I, L, C> {
-    ghost vote_of = { λ s. data_of s.vote };
+    ghost vote_of = { vote_of };
 
     fn vote_ref(&self) -> &VoteIn<L> {
         self.vote.get()
@@ -249,7 +249,7 @@ impl<
 
     /// The vote.
     pub fn vote_ref(&self) -> &VoteIn<L>
-        ensures { result.now ≡ data_of self.now.vote }
+        ensures { result.now ≡ vote_of self.now }
     {
         self.vote.get()
     }
@@ -265,7 +265,7 @@ impl<
     /// a new cluster.
     pub fn is_initialized(&self) -> bool
         ensures { (unset : L) × L.Default.is_default unset × (result
-            ≡ is_initialized L.eq (full_log self.now.log_ids) (data_of self.now.vote) unset) }
+            ≡ is_initialized L.eq (full_log self.now.log_ids) (vote_of self.now) unset) }
     {
         let unset = L::default();
         let vote = self.vote.get();
@@ -275,7 +275,7 @@ impl<
     /// The last log id that was accepted of the vote's leader.
     pub fn accepted(&self) -> Option<&LogIdOf<C>>
         ensures { option_copied result
-            ≡ accepted_id L.eq self.now.accepted (data_of self.now.vote).leader_id }
+            ≡ accepted_id L.eq self.now.accepted (vote_of self.now).leader_id }
     {
         self.accepted
             .last_accepted_log_id(self.vote.get().leader_id())
@@ -284,12 +284,12 @@ impl<
     /// Takes a log id that was accepted of the vote's leader, if it is greater than the last one.
     /// The vote is committed, and its leader is no lesser one than that of before.
     pub fn update_accepted(&mut self, accepted: Option<LogIdOf<C>>)
-        requires committed { (data_of self.old.vote).committed ≡ true }
-        requires no_lesser_leader { IsTrue (partial_ge L.order (data_of self.old.vote).leader_id
+        requires committed { (vote_of self.old).committed ≡ true }
+        requires no_lesser_leader { IsTrue (partial_ge L.order (vote_of self.old).leader_id
             (leader_of self.old.accepted)) }
         ensures { self.new ≡ record self.old {
           accepted = after_accept L.eq C.cmp
-              self.old.accepted (data_of self.old.vote).leader_id accepted;
+              self.old.accepted (vote_of self.old).leader_id accepted;
         } }
     {
         let leader_id = self.vote.get().leader_id;
@@ -471,7 +471,7 @@ impl<
     /// What the node of an id is, as its vote and the membership in effect say.
     pub fn calc_server_state(&self, id: &NID) -> ServerState
         ensures { result ≡ server_state_of NID.eq NID.cmp L.voted
-            (membership_of self.now.membership_state.effective) (data_of self.now.vote) id.now }
+            (in_effect self.now.membership_state) (vote_of self.now) id.now }
     {
         if self.is_leader(id) {
             ServerState::Leader
@@ -487,7 +487,7 @@ impl<
     /// Whether the id is a voter of the membership in effect.
     pub fn is_voter(&self, id: &NID) -> bool
         ensures { result ≡ is_voter_of NID.eq
-            (membership_of self.now.membership_state.effective).configs id.now }
+            (in_effect self.now.membership_state).configs id.now }
     {
         self.membership_state.is_voter(id)
     }
@@ -496,7 +496,7 @@ impl<
     /// and the vote is for it. A learner that was a voter may lead until its removal is committed.
     pub fn is_leading(&self, id: &NID) -> bool
         ensures { result ≡ is_leading NID.eq NID.cmp L.voted
-            (membership_of self.now.membership_state.effective) (data_of self.now.vote) id.now }
+            (in_effect self.now.membership_state) (vote_of self.now) id.now }
     {
         self.membership_state.contains(id) && L::voted_for(self.vote.get().leader_id()) == Some(*id)
     }
@@ -504,8 +504,8 @@ impl<
     /// Whether the node of an id is the leader: it is leading, and its vote is committed.
     pub fn is_leader(&self, id: &NID) -> bool
         ensures { result ≡ (is_leading NID.eq NID.cmp L.voted
-            (membership_of self.now.membership_state.effective) (data_of self.now.vote) id.now
-            && (data_of self.now.vote).committed) }
+            (in_effect self.now.membership_state) (vote_of self.now) id.now
+            && (vote_of self.now).committed) }
     {
         self.is_leading(id) && self.vote.get().is_committed()
     }
@@ -515,9 +515,9 @@ impl<
     pub fn forward_to_leader(&self) -> Result<ForwardToLeader<NID, N>, AllocError>
         requires { ClonesAreEqual N.eq N.is_clone }
         ensures node { IfOk result (ForwardsTo N.eq (leading_node NID.cmp L.voted
-            (membership_of self.now.membership_state.effective) (data_of self.now.vote))) }
+            (in_effect self.now.membership_state) (vote_of self.now))) }
         ensures no_memory { leading_node NID.cmp L.voted
-            (membership_of self.now.membership_state.effective) (data_of self.now.vote)
+            (in_effect self.now.membership_state) (vote_of self.now)
             ≡ None → IsOk result }
     {
         let vote = self.vote.get();

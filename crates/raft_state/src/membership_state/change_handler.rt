@@ -2,12 +2,12 @@
 ghost use Rattle.std.specs.Prelude.{◌≡◌, ◌<◌, None, IfOk, IfErr, true, length};
 ghost use Rattle.std.specs.Result.{result_err};
 ghost use Rattle.std.specs.Set.{ClonesAreEqual};
-ghost use Rattle.raft_members.specs.Change.{changed};
 ghost use Rattle.raft_members.specs.Coherence.{is_coherent};
 ghost use Rattle.raft_members.specs.Members.{members_of, Says};
 ghost use Rattle.raft_members.specs.ReplaceAll.{OnlyMemory, TwoChanges};
 ghost use Rattle.raft_members.specs.Valid.{IsValid};
-ghost use Rattle.raft_state.specs.Apply.{effective_members, in_progress, IsApplyRefusal};
+ghost use Rattle.raft_state.specs.Apply.{applied, in_progress, IsApplyRefusal};
+ghost use Rattle.raft_state.specs.Memberships.{in_effect};
 ghost use Rattle.raft_state.specs.Inner.Refusal.{refusal_of};
 
 use super::MembershipStateOf;
@@ -45,22 +45,21 @@ impl<'m, C: Ord + Copy + Default + Debug + Drop, NID: NodeId, N: Node> ChangeHan
     ) -> Result<Membership<NID, N>, ChangeMembershipErrorOf<C, NID>>
         requires { ClonesAreEqual N.eq N.is_clone }
         ensures committed { IfOk result (λ _. in_progress C.eq self.now.state.now ≡ None) }
-        ensures valid { IfOk result (λ _. IsValid NID.eq (changed NID.eq NID.cmp
-            (effective_members NID.cmp self.now.state.now) change retain)) }
+        ensures valid { IfOk result (λ _. IsValid NID.eq
+            (applied NID.eq NID.cmp self.now.state.now change retain)) }
         ensures valid_itself { IfOk result (λ m. IsValid NID.eq (members_of NID.cmp m)) }
-        ensures changed { IfOk result (λ m. Says N.eq NID.cmp m (changed NID.eq NID.cmp
-            (effective_members NID.cmp self.now.state.now) change retain)) }
-        ensures coherent { IfOk result (λ m. let old = effective_members NID.cmp self.now.state.now
-            in 0 < length old.configs → is_coherent NID.eq old.configs m.configs ≡ true) }
+        ensures changed { IfOk result (λ m. Says N.eq NID.cmp m
+            (applied NID.eq NID.cmp self.now.state.now change retain)) }
+        ensures coherent { IfOk result (λ m. let old = in_effect self.now.state.now in
+            0 < length old.configs → is_coherent NID.eq old.configs m.configs ≡ true) }
         ensures two_changes { IfOk result (TwoChanges NID.eq NID.cmp
-            (effective_members NID.cmp self.now.state.now) change) }
+            (members_of NID.cmp (in_effect self.now.state.now)) change) }
 
         // An earlier change comes first. Without one, the refusals are those of a change.
         ensures refused { IfErr result (IsApplyRefusal C.eq NID.eq NID.cmp self.now.state.now
-            (changed NID.eq NID.cmp
-            (effective_members NID.cmp self.now.state.now) change retain)) }
+            (applied NID.eq NID.cmp self.now.state.now change retain)) }
         ensures only_memory { IfErr result (λ e. in_progress C.eq self.now.state.now ≡ None →
-            OnlyMemory NID.eq (effective_members NID.cmp self.now.state.now) change e) }
+            OnlyMemory NID.eq (members_of NID.cmp (in_effect self.now.state.now)) change e) }
     {
         self.ensure_committed()?;
         match self.state.effective().membership().change(change, retain) {
