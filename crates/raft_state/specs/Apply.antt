@@ -21,8 +21,10 @@ applied eq cmp m change retain = changed eq cmp (members_of cmp (in_effect m)) c
 abbrev pub in_progress : {C K N : Type 0} → (C → C → Bool) → Memberships C K N
     → Option (InProgressOf C)
 in_progress leader m =
-    if is_effective_committed leader m then None
-    else Some (record { committed = log_id_of m.committed; membership_log_id = log_id_of m.effective })
+    if is_effective_committed leader m then None else Some (record {
+      committed = log_id_of m.committed;
+      membership_log_id = log_id_of m.effective;
+    })
 
 -- why a change that makes these members is refused: an earlier change is in progress; or none is,
 -- and the members are refused
