@@ -3,13 +3,13 @@
 use super::rows::{Row, effective, id, ids as ids_of, log_id};
 use raft_base::order::log_id_below;
 use raft_base::{
-    Invalid, LeaderAdv, LeaderKind, LeaderStd, LogIdOf, LogStateReader, ServerState, UTime,
-    Validate, VoteIn, VoteOf, leader_id_std,
+    Invalid, LeaderAdv, LeaderKind, LeaderStd, LogIdOf, ServerState, UTime, Validate, VoteIn,
+    VoteOf, leader_id_std,
 };
 use raft_base_tests::printing::{debugs, displays};
 use raft_state::{
-    AcceptedOf, ForwardToLeader, IOStateOf, LogIOIdOf, LogIdListOf, MembershipStateOf, RaftState,
-    RaftStateOf, SnapshotMeta, VoteStateReader, is_key_list,
+    AcceptedOf, ForwardToLeader, IOStateOf, LogIOIdOf, LogIdListOf, LogStateReader,
+    MembershipStateOf, RaftState, RaftStateOf, SnapshotMeta, VoteStateReader, is_key_list,
 };
 use std::alloc::{AllocError, Global};
 use std::test::Fail;
