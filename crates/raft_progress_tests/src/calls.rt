@@ -310,6 +310,21 @@ fn clones_are_equal(rt: HostRuntime) -> Result<(), Fail> {
     Ok(())
 }
 
+/// Whether learners fit the voters 0 to 2 as wanted.
+fn is_fit(alloc: Global, learners: &[u64], want: bool) -> Result<bool, AllocError> {
+    let voters = first_ids(alloc, 3)?;
+    Ok(Numbers::learners_fit(alloc, &voters, learners)? == want)
+}
+
+#[test]
+fn learners_stand_once_and_are_no_voters(rt: HostRuntime) -> Result<(), Fail> {
+    let rows: [(&[u64], bool); 3] = [(&[6, 6], false), (&[0], false), (&[], true)];
+    for (learners, want) in rows {
+        assert!(rt; is_fit(rt.alloc(), learners, want)?, "{learners:?}");
+    }
+    Ok(())
+}
+
 /// What is granted, by the trait alone.
 fn granted_by<P: Progress<u64, u64, u64, Vec<u64>>>(progress: &P) -> u64 {
     *progress.granted()
