@@ -23,3 +23,5 @@ mod steps;
 mod texts;
 #[cfg(test)]
 mod tracked;
+#[cfg(test)]
+mod turned;

@@ -1,0 +1,126 @@
+//! An id type whose order is that of whole numbers turned round: what goes by the order of ids goes
+//! by it.
+ghost use Rattle.std.proofs.Common.{rules};
+ghost use Rattle.std.specs.Cmp.{partial_order_from_own_ties};
+ghost use Rattle.std.specs.Cmp.Rules.{comparing};
+ghost use Rattle.std.specs.Ordering.{as_partial_cmp, flip_args, nat_cmp, on};
+
+use super::steps::{made, updated};
+use raft_base::EmptyNode;
+use raft_members::Membership;
+use raft_progress::progress::VecProgress;
+use std::alloc::{AllocError, Global};
+use std::cmp::Ordering;
+use std::collections::BTreeSet;
+use std::fmt;
+use std::test::Fail;
+
+/// An id of which the greater number comes first.
+#[derive(Debug, Clone, Copy, Default, PartialEq, Eq, Hash)]
+struct Turned {
+    number: u64,
+}
+
+impl Ord for Turned {
+    ghost cmp = { flip_args (on (λ id. id.number) nat_cmp) };
+
+    ghost total = { Prim.search (comparing, rules) };
+
+    ghost matches_partial_cmp = { Prim.search (comparing, rules) };
+
+    ghost matches_eq = { Prim.search (comparing, rules) };
+
+    fn cmp(&self, other: &Turned) -> Ordering {
+        other.number.cmp(&self.number)
+    }
+}
+
+impl PartialOrd for Turned {
+    ghost partial_cmp = { as_partial_cmp (flip_args (on (λ id. id.number) nat_cmp)) };
+
+    ghost laws = { partial_order_from_own_ties
+        (Prim.search (comparing, rules)) (Prim.search (comparing, rules)) };
+
+    fn partial_cmp(&self, other: &Turned) -> Option<Ordering> {
+        Some(self.cmp(other))
+    }
+}
+
+impl fmt::Display for Turned {
+    fn fmt<W: fmt::Write>(&self, f: &mut fmt::Formatter<W>) -> fmt::Result {
+        write!(f, "{}", self.number)
+    }
+}
+
+/// The ids of some numbers.
+fn ids(alloc: Global, numbers: &[u64]) -> Result<Vec<Turned>, AllocError> {
+    let mut ids = Vec::new(alloc);
+    for number in numbers {
+        ids.push(Turned { number: *number })?;
+    }
+    Ok(ids)
+}
+
+/// The membership of the voters 1 and 2, of which none has a node.
+fn lacking(alloc: Global) -> Result<Membership<Turned, EmptyNode>, AllocError> {
+    let mut config = BTreeSet::new(alloc);
+    for id in ids(alloc, &[1, 2])? {
+        config.insert(id)?;
+    }
+    let mut configs = Vec::new(alloc);
+    configs.push(config)?;
+    Membership::new_unchecked(configs, ())
+}
+
+#[test]
+fn the_first_voter_without_a_node_is_the_greatest_number(rt: HostRuntime) -> Result<(), Fail> {
+    let lacking = lacking(rt.alloc())?;
+    assert!(rt; lacking.ensure_voter_nodes() == Err(Turned { number: 2 }));
+    Ok(())
+}
+
+/// A progress over such ids.
+type Progress = VecProgress<Turned, u64, u64, Vec<Turned>>;
+
+/// Whether a progress walks the ids of these numbers, in turn.
+fn walks(progress: &Progress, want: &[u64]) -> bool {
+    progress
+        .iter()
+        .map(|entry| entry.0.number)
+        .eq(want.iter().copied())
+}
+
+#[test]
+fn a_new_progress_walks_the_greatest_number_first(rt: HostRuntime) -> Result<(), Fail> {
+    let alloc = rt.alloc();
+    let progress: Progress = made(&rt, alloc, ids(alloc, &[1, 2])?, &[], 0)?;
+    assert!(rt; walks(&progress, &[2, 1]));
+    Ok(())
+}
+
+/// Updates of voters 0 to 4 and a learner 6, each with what it answers: granted, as an error where
+/// the id is unknown.
+const FIRST_RUN: [(u64, u64, Result<u64, u64>); 10] = [
+    (6, 9, Ok(0)),
+    (1, 2, Ok(0)),
+    (2, 3, Ok(0)),
+    (3, 1, Ok(1)),
+    (4, 5, Ok(2)),
+    (0, 4, Ok(3)),
+    (3, 2, Ok(3)),
+    (3, 3, Ok(3)),
+    (1, 4, Ok(4)),
+    (9, 1, Err(4)),
+];
+
+#[test]
+fn the_order_of_ids_grants_nothing(rt: HostRuntime) -> Result<(), Fail> {
+    let alloc = rt.alloc();
+    let voters = ids(alloc, &[0, 1, 2, 3, 4])?;
+    let mut progress: Progress = made(&rt, alloc, voters, &[Turned { number: 6 }], 0)?;
+    for (number, value, want) in FIRST_RUN {
+        let answer = updated(&rt, &mut progress, Turned { number }, value);
+        assert!(rt; answer == want, "at ({number}, {value})");
+    }
+    Ok(())
+}
