@@ -58,6 +58,7 @@ init 0 1 - -
 init - 1 -
 init 0 1,,2 -
 init 0 1, -
+init 0 ,1 -
 init 0 , -
 init 0 -- -
 init 0 1 x
@@ -71,6 +72,7 @@ init 0 /1 -
 init 0 1//2 -
 init 0 1 1/2
 init 0 1 none
+upd
 update
 update 1
 update 1 2 3
