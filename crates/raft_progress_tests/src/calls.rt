@@ -296,6 +296,35 @@ fn replay_always_alloc_error(rt: HostRuntime) -> Result<(), Fail> {
     Ok(())
 }
 
+/// Whether voters 1, 2 and 3, which were learners, stand by their values, and each was moved up past
+/// those before it.
+fn has_risen(progress: &Numbers) -> bool {
+    let walk = [(3, 7), (2, 6), (1, 5)];
+    progress.iter().copied().eq(walk.iter().copied())
+        && progress.stat().update_count == 7
+        && progress.stat().move_count == 3
+        && *progress.granted() == 6
+}
+
+#[test]
+fn an_upgrade_takes_learners_over_one_by_one(rt: HostRuntime) -> Result<(), Fail> {
+    let alloc = rt.alloc();
+    let mut progress: Numbers = made(&rt, alloc, [9].to_vec(alloc)?, &[1, 2, 3], 0)?;
+    let steps = vec![in alloc;
+        AnyStep::Update(1, 5),
+        AnyStep::Update(2, 6),
+        AnyStep::Update(3, 7),
+        AnyStep::Upgrade {
+            quorum_set: [1, 2, 3].to_vec(alloc)?,
+            learners: Vec::new(alloc),
+            default: 0,
+        },
+    ]?;
+    let _replies = replay_any(alloc, &mut progress, steps)?;
+    assert!(rt; has_risen(&progress));
+    Ok(())
+}
+
 /// Whether a clone of a progress equals it.
 fn has_equal_clone(progress: &Numbers) -> Result<bool, AllocError> {
     Ok(progress.try_clone()? == *progress)
