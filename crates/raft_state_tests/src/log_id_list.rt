@@ -1,13 +1,15 @@
-//! The list of log ids, and a caller whose contract shows how much those of `raft_state` tell it.
-ghost use Rattle.std.specs.Prelude.{◌≡◌, IfOk, OnErr, IsTrue, false};
+//! The list of log ids, and callers whose contracts show how much those of `raft_state` tell them.
+ghost use Rattle.std.specs.Prelude.{◌≡◌, IfOk, OnOk, OnErr, IsTrue, Some, false};
 ghost use Rattle.raft_state.specs.FullLog.{full_log, same_log};
+ghost use Rattle.raft_state.specs.LogReads.{last_id};
 ghost use Rattle.raft_state.specs.LogEdits.{appended, front};
+ghost use Rattle.raft_state.specs.LogConditions.{follows};
 
 use super::words::{call_is_right, log_ids};
 use raft_base::leader_id_std::LeaderId as StdLeaderId;
 use raft_base::{LeaderId, LogIdOf};
 use raft_base_tests::printing::debugs;
-use raft_state::log_id_list::laws::{have_equal_keys, truncate_twice};
+use raft_state::log_id_list::laws::{have_equal_keys, same_logs_stay_same, truncate_twice};
 use raft_state::{LogIdList, LogIdListOf, is_key_list};
 use std::alloc::{AllocError, Global};
 use std::test::Fail;
@@ -29,6 +31,23 @@ fn replace_from<C: Ord + Copy>(
     }
     list.append(id)?;
     Ok(true)
+}
+
+/// A follower takes two log ids of a leader, the one after the other.
+fn take_both<C: Ord + Copy>(
+    list: &mut LogIdListOf<C>,
+    first: LogIdOf<C>,
+    second: LogIdOf<C>,
+) -> Result<(), AllocError>
+    requires first { IsTrue (follows C.cmp (last_id (full_log list.old)) first) }
+    requires second { IsTrue (follows C.cmp (Some first) second) }
+    ensures both { OnOk result (IsTrue (same_log C.eq (full_log list.new)
+        (appended (appended (full_log list.old) first) second))) }
+    ensures last { OnOk result (last_id (full_log list.new) ≡ Some second) }
+{
+    same_logs_stay_same::<C>();
+    list.append(first)?;
+    list.append(second)
 }
 
 /// The call, the keys, its argument, the answer.
@@ -113,6 +132,8 @@ fn lists_compare(alloc: Global) -> Result<bool, AllocError> {
     let mut taken = list.clone()?;
     let id = LogIdOf::new(LeaderId::new(3, 0), 6);
     let is_taken = replace_from(&mut taken, id)?;
+    let mut both = LogIdList::try_default(alloc)?;
+    take_both(&mut both, id, LogIdOf::new(LeaderId::new(3, 0), 8))?;
     Ok(
         list == list.clone()?
             && list != cut
@@ -122,6 +143,7 @@ fn lists_compare(alloc: Global) -> Result<bool, AllocError> {
             && list != list_of(alloc, "1.1,3.3,3.9")?
             && is_taken
             && taken == list_of(alloc, "1.1,2.3,3.6")?
+            && both == list_of(alloc, "3.6,3.8")?
             && LogIdList::try_default(alloc)? == list_of(alloc, "-")?,
     )
 }
