@@ -1,18 +1,25 @@
 //! A replay of steps on a membership and its progress.
-ghost use Rattle.std.specs.Prelude.{◌≡◌, ◌⊎◌, false, IfErr, IfOk, OnErr};
+ghost use Rattle.std.specs.Prelude.{◌≡◌, ◌⊎◌, false, IfErr, IfOk, None, Ok, OnErr, Some};
 ghost use Rattle.std.specs.List.{list_any};
+ghost use Rattle.std.specs.Option.{ForSome};
 ghost use Rattle.std.specs.Set.{ClonesAreEqual};
+ghost use Rattle.raft_members.specs.Learners.{learners_of};
+ghost use Rattle.raft_members.specs.Majority.{is_voter_of};
+ghost use Rattle.raft_members.specs.Members.{members_of};
 ghost use Rattle.raft_progress.specs.progress.Comparisons.{comparisons};
 ghost use Rattle.raft_progress.specs.progress.CountedValue.{AtMost, IsCounted};
 ghost use Rattle.raft_progress.specs.tracked.Headline.{ChangedQuorumsKnowGranted, QuorumsKnowGranted};
 ghost use Rattle.raft_progress.specs.Inner.Refusal.{IsOwnRefusal, refusal_reply};
 ghost use Rattle.raft_progress.specs.Inner.ShownAnswers.{IsShownChange, IsShownTakeOver};
+ghost use Rattle.raft_progress.specs.declared.progress.steps.Reply.TheVariants.{BelowDefault};
 ghost use Rattle.raft_progress.specs.declared.progress.steps.Reply.TheVariants.{OutOfMemory};
 ghost use Rattle.raft_progress.specs.progress.Shown.{state};
 ghost use Rattle.raft_progress.specs.tracked.Tracked.{tracked};
 ghost use Rattle.raft_progress.specs.tracked.TrackedShownSteps.{IsTrackedShownRun, IsTrackedShownStep, is_change};
+ghost use Rattle.raft_progress.specs.tracked.TrackedState.{AreLearners, HasConfigs, is_voter};
 ghost use Rattle.raft_progress.specs.tracked.TrackedState.{IsReady, has_quorum, tracked_state};
 ghost use Rattle.raft_progress.specs.tracked.TrackedSteps.{IsTrackedRun};
+ghost use Rattle.raft_progress.specs.progress.Upgrade.{CanUpgrade, IsLeastBelow};
 
 use super::step::Step;
 use super::{Tracked, learners_of};
@@ -21,6 +28,7 @@ use raft_base::{Node, NodeId};
 use raft_members::change_members::ChangeMembers;
 use raft_members::error::ChangeMembershipError;
 use raft_members::membership::Membership;
+use raft_members::quorum::Joint;
 use std::alloc::{AllocError, Global};
 
 /// Makes one step.
@@ -105,12 +113,41 @@ fn take_over<NID: NodeId, N: Node, V: ProgressPart<P> + Clone + Drop, P: Copy + 
     let alloc = *next.get_joint_config().allocator();
     let configs = next.to_quorum_set()?;
     let learners = learners_of(alloc, &next)?;
-    match pair.progress.least_below(&configs, &learners, &default)? {
+    let below = pair.progress.least_below(&configs, &learners, &default)?;
+    go_over(pair, below, next, configs, &learners, default)
+}
+
+/// Goes over to a membership, by its configs and its learners. Where an inherited value is below
+/// the new default, the least such id is what is answered.
+fn go_over<NID: NodeId, N: Node, V: ProgressPart<P> + Clone + Drop, P: Copy + Ord>(
+    pair: &mut Tracked<NID, N, V, P>,
+    below: Option<NID>,
+    next: Membership<NID, N>,
+    configs: Joint<NID, Vec<NID>, Vec<Vec<NID>>>,
+    learners: &[NID],
+    default: V,
+) -> Result<Reply<NID, P>, AllocError>
+    requires clones_have_the_part { (v w : V) → V.is_clone v w → V.part_of w ≡ V.part_of v }
+    requires configs { HasConfigs (members_of NID.cmp next) configs }
+    requires voters { (id : NID) → is_voter NID.eq configs id ≡ is_voter_of NID.eq next.configs id }
+    requires learners { learners.now ≡ learners_of NID.eq next }
+    requires are_learners { AreLearners NID.eq (members_of NID.cmp next) learners.now }
+    requires none { below ≡ None → CanUpgrade NID.eq P.cmp V.part_of (is_voter NID.eq configs)
+        learners.now default (state NID.eq (tracked pair.old).progress).value }
+    requires some { ForSome below (IsLeastBelow NID.eq NID.cmp P.cmp V.part_of
+        (is_voter NID.eq configs) learners.now default
+        (state NID.eq (tracked pair.old).progress).value) }
+    ensures below { (id : NID) → below ≡ Some id → result ≡ Ok (BelowDefault id) }
+    ensures step { IfOk result (λ reply. IsShownTakeOver NID.eq NID.cmp P.cmp V.part_of V.is_clone
+        (tracked pair.old) next default reply (tracked pair.new)) }
+    ensures err { OnErr result (tracked pair.new ≡ tracked pair.old) }
+{
+    match below {
         Some(id) => Ok(Reply::BelowDefault(id)),
         None => {
             let upgraded = pair
                 .progress
-                .upgrade_quorum_set(configs, &learners, default)?;
+                .upgrade_quorum_set(configs, learners, default)?;
             pair.progress = upgraded;
             pair.membership = next;
             Ok(Reply::Granted(*pair.progress.granted()))
