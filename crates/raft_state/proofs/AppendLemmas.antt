@@ -9,7 +9,7 @@ use Rattle.std.proofs.Common.{◌∙◌}
 use Rattle.raft_base.specs.declared.log_id.LogIdOf.{LogIdOf}
 use Rattle.raft_state.specs.FullLog.{full_log, ids_of}
 use Rattle.raft_state.specs.Inner.KeyEdits.{added, added_after}
-use Rattle.raft_state.specs.Inner.KeyList.{IsKeyList}
+use Rattle.raft_state.proofs.KeyListLemmas.{IsKeyList}
 use Rattle.raft_state.specs.LogEdits.{appended, missing}
 use Rattle.raft_state.proofs.SameLogLemmas.{SameLog}
 

@@ -11,7 +11,8 @@ use Rattle.std.specs.Prelude.{slice_get}
 use Rattle.raft_base.specs.declared.log_id.LogIdOf.{LogIdOf}
 use Rattle.raft_state.specs.FullLog.{end_index, filled, first_index_or, full_log, ids_of}
 use Rattle.raft_state.specs.Inner.KeyEdits.{cut, cut_after, cut_to, end_at, kept_after, kept_from, purged_keys}
-use Rattle.raft_state.specs.Inner.KeyList.{IsKeyList, Rises, keys_to}
+use Rattle.raft_state.specs.Inner.KeyList.{Rises, keys_to}
+use Rattle.raft_state.proofs.KeyListLemmas.{IsKeyList}
 use Rattle.raft_state.specs.Keys.{by_last_leader}
 use Rattle.raft_state.specs.LogEdits.{front, purged, rest}
 use Rattle.raft_state.specs.LogReads.{first_id, last_id}

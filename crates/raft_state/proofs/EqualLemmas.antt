@@ -5,7 +5,7 @@ use Rattle.std.specs.Ordering.{is_lt}
 use Rattle.std.proofs.lemmas.Bool.{cases_lt}
 use Rattle.raft_base.specs.declared.log_id.LogIdOf.{LogIdOf}
 use Rattle.raft_state.specs.FullLog.{full_log, ids_of, same_log}
-use Rattle.raft_state.specs.Inner.KeyList.{IsKeyList}
+use Rattle.raft_state.proofs.KeyListLemmas.{IsKeyList}
 use Rattle.raft_state.specs.LogReads.{leader_changes, leader_count}
 use Rattle.raft_state.proofs.AppendLemmas.{same_append, same_ids}
 use Rattle.raft_state.proofs.SameLogLemmas.{SameLog, is_same, says_same}

@@ -7,7 +7,7 @@ use Rattle.std.proofs.lemmas.Bool.Decides.{nat_tests}
 use Rattle.raft_base.specs.declared.log_id.LogIdOf.{LogIdOf}
 use Rattle.raft_state.specs.FullLog.{full_log}
 use Rattle.raft_state.specs.Inner.KeyEdits.{added, added_after, added_all}
-use Rattle.raft_state.specs.Inner.KeyList.{IsKeyList}
+use Rattle.raft_state.proofs.KeyListLemmas.{IsKeyList}
 use Rattle.raft_state.specs.Keys.{key_follows, may_be_keys}
 use Rattle.raft_state.specs.LogConditions.{all_follow, follows}
 use Rattle.raft_state.specs.LogEdits.{appended, extended, missing}

@@ -10,7 +10,8 @@ use Rattle.std.proofs.lemmas.List.Folds.{find-append}
 use Rattle.std.proofs.lemmas.Bool.Decides.{nat_tests}
 use Rattle.raft_base.specs.declared.log_id.LogIdOf.{LogIdOf}
 use Rattle.raft_state.specs.FullLog.{end_index, filled, first_index_or, full_log, ids_of}
-use Rattle.raft_state.specs.Inner.KeyList.{IsKeyList, Rises, keys_to}
+use Rattle.raft_state.specs.Inner.KeyList.{Rises, keys_to}
+use Rattle.raft_state.proofs.KeyListLemmas.{IsKeyList}
 use Rattle.raft_state.specs.LogReads.{id_at}
 
 -- the last key whose index is not greater than j

@@ -4,7 +4,7 @@ use Rattle.std.specs.declared.cmp.Ordering.{Ordering}
 use Rattle.raft_base.specs.declared.log_id.LogIdOf.{LogIdOf}
 use Rattle.raft_state.specs.FullLog.{full_log, ids_of}
 use Rattle.raft_state.specs.Inner.KeyEdits.{added_after}
-use Rattle.raft_state.specs.Inner.KeyList.{IsKeyList}
+use Rattle.raft_state.proofs.KeyListLemmas.{IsKeyList}
 use Rattle.raft_state.specs.Keys.{by_last_leader}
 use Rattle.raft_state.specs.LogReads.{last_id, last_two_share_leader}
 use Rattle.raft_state.proofs.AppendLemmas.{Differ, some_after}

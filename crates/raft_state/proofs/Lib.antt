@@ -1,3 +1,4 @@
+pub mod KeyListLemmas
 pub mod SameLogLemmas
 pub mod FullLogLemmas
 pub mod AppendLemmas

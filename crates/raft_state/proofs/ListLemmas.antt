@@ -1,5 +1,5 @@
 -- What the calls of a list do, from the laws of leaders.
-use Rattle.std.proofs.Common.{◌≡◌, suc, ◌+◌, ◌-◌, ◌<◌, ◌≤◌, max, Bool, true, List, [], ◌∷◌, Some, IfSome, IsTrue, length, map, ap, sym, arith, ◌∙◌}
+use Rattle.std.proofs.Common.{◌≡◌, ℕ, suc, ◌+◌, ◌-◌, ◌<◌, ◌≤◌, max, Bool, true, List, [], ◌∷◌, Some, IfSome, IsTrue, length, map, ap, sym, arith, ◌∙◌}
 use Rattle.std.specs.Prelude.{slice_get}
 use Rattle.std.specs.Option.{option_map, option_or}
 use Rattle.std.specs.declared.cmp.Ordering.{Ordering}
@@ -10,12 +10,13 @@ use Rattle.raft_state.specs.FullLog.{first_index_or, full_log, same_log}
 use Rattle.raft_state.specs.LogReads.{last_id, last_two_share_leader, leader_count}
 use Rattle.raft_state.specs.LogEdits.{appended, extended, purged}
 use Rattle.raft_state.specs.LogConditions.{follows, all_follow, ends_share_leader}
-use Rattle.raft_state.specs.Inner.KeyList.{IsKeyList}
-use Rattle.raft_state.specs.Inner.KeyEdits.{added, added_all, purged_keys}
+use Rattle.raft_state.proofs.KeyListLemmas.{IsKeyList}
+use Rattle.raft_state.specs.Inner.KeyEdits.{added, added_all, cut, purged_keys}
+use Rattle.raft_state.specs.Keys.{may_be_keys}
 use Rattle.raft_state.proofs.SameLogLemmas.{both, is_same}
 use Rattle.raft_state.proofs.AppendLemmas.{apart, full_after, itself, stays_key_list, strictly_less, upto_equal}
-use Rattle.raft_state.proofs.CutLemmas.{first_full, full_purged, last_full, purge_stays, purged_first}
-use Rattle.raft_state.proofs.ExtendLemmas.{all_stay, can_append, full_after_all, last_added, last_added_all}
+use Rattle.raft_state.proofs.CutLemmas.{cut_stays, first_full, full_purged, last_full, purge_stays, purged_first}
+use Rattle.raft_state.proofs.ExtendLemmas.{all_stay, are_keys, can_append, full_after_all, is_key_list, last_added, last_added_all}
 use Rattle.raft_state.proofs.EndsLemmas.{added_by_ends, last_of_map, last_of_some, last_or, one_leader, same_some}
 use Rattle.raft_state.proofs.LastTwoLemmas.{two_added, two_full}
 use Rattle.raft_state.proofs.EqualLemmas as Equal
@@ -28,9 +29,9 @@ module _ {C : Type 0} (cmp : C → C → Ordering) (eq : C → C → Bool) (tota
   turn a b h = eqs.symm b a ∙ h
 
   -- an append leaves keys
-  pub append_keeps : (ks : List (LogIdOf C)) (id : LogIdOf C) → IsKeyList cmp ks → IsTrue (follows cmp (last_id (full_log ks)) id) → IsKeyList cmp (added eq ks id)
+  pub append_keeps : (ks : List (LogIdOf C)) (id : LogIdOf C) → IsKeyList cmp ks → IsTrue (follows cmp (last_id (full_log ks)) id) → IsTrue (may_be_keys cmp (added eq ks id))
   append_keeps ks id s h =
-      stays_key_list eq eqs.refl cmp (strictly_less cmp eq total law) (upto_equal cmp eq total law) ks id s (can_append cmp ks id (rw (last_full cmp ks s) at h))
+      are_keys cmp (added eq ks id) (stays_key_list eq eqs.refl cmp (strictly_less cmp eq total law) (upto_equal cmp eq total law) ks id s (can_append cmp ks id (rw (last_full cmp ks s) at h)))
 
   -- and the full log with the log id
   pub append_fills : (ks : List (LogIdOf C)) (id : LogIdOf C) → IsKeyList cmp ks → IsTrue (follows cmp (last_id (full_log ks)) id) → IsTrue (same_log eq (full_log (added eq ks id)) (appended (full_log ks) id))
@@ -39,17 +40,17 @@ module _ {C : Type 0} (cmp : C → C → Ordering) (eq : C → C → Bool) (tota
 
   -- which is the last one then
   pub append_ends : (ks : List (LogIdOf C)) (id : LogIdOf C) → IsKeyList cmp ks → IsTrue (follows cmp (last_id (full_log ks)) id) → last_id (full_log (added eq ks id)) ≡ Some id
-  append_ends ks id s h = last_full cmp (added eq ks id) (append_keeps ks id s h) ∙ last_added eq ks id
+  append_ends ks id s h = last_full cmp (added eq ks id) (is_key_list cmp (added eq ks id) (append_keeps ks id s h)) ∙ last_added eq ks id
 
   -- and shares its leader with the one before it exactly where it shares that of the last one before the append
   pub append_shares : (ks : List (LogIdOf C)) (id : LogIdOf C) → IsKeyList cmp ks → IsTrue (follows cmp (last_id (full_log ks)) id) → IfSome (last_id (full_log ks)) (λ last. last_two_share_leader eq (full_log (added eq ks id)) ≡ eq last.leader_id id.leader_id)
   append_shares [] id s h = tt
-  append_shares (k ∷ ks) id s h = rw (last_full cmp (k ∷ ks) s, two_full eq cmp (added eq (k ∷ ks) id) (append_keeps (k ∷ ks) id s h)) (two_added eq eqs.refl eqs.congr k ks id)
+  append_shares (k ∷ ks) id s h = rw (last_full cmp (k ∷ ks) s, two_full eq cmp (added eq (k ∷ ks) id) (is_key_list cmp (added eq (k ∷ ks) id) (append_keeps (k ∷ ks) id s h))) (two_added eq eqs.refl eqs.congr k ks id)
 
   -- several appends leave keys
-  pub extend_keeps : (ks ids : List (LogIdOf C)) → IsKeyList cmp ks → IsTrue (all_follow cmp (last_id (full_log ks)) ids) → IsKeyList cmp (added_all eq ks ids)
+  pub extend_keeps : (ks ids : List (LogIdOf C)) → IsKeyList cmp ks → IsTrue (all_follow cmp (last_id (full_log ks)) ids) → IsTrue (may_be_keys cmp (added_all eq ks ids))
   extend_keeps ks ids s h =
-      all_stay eq eqs.refl trans cmp (strictly_less cmp eq total law) (upto_equal cmp eq total law) ks ids s (rw (last_full cmp ks s) at h)
+      are_keys cmp (added_all eq ks ids) (all_stay eq eqs.refl trans cmp (strictly_less cmp eq total law) (upto_equal cmp eq total law) ks ids s (rw (last_full cmp ks s) at h))
 
   -- and the full log with the log ids
   pub extend_fills : (ks ids : List (LogIdOf C)) → IsKeyList cmp ks → IsTrue (all_follow cmp (last_id (full_log ks)) ids) → IsTrue (same_log eq (full_log (added_all eq ks ids)) (extended (full_log ks) ids))
@@ -59,7 +60,14 @@ module _ {C : Type 0} (cmp : C → C → Ordering) (eq : C → C → Bool) (tota
 
   -- of which the last one is the last one then, if there are any
   pub extend_ends : (ks ids : List (LogIdOf C)) → IsKeyList cmp ks → IsTrue (all_follow cmp (last_id (full_log ks)) ids) → last_id (full_log (added_all eq ks ids)) ≡ option_or (last_id ids) (last_id (full_log ks))
-  extend_ends ks ids s h = last_full cmp (added_all eq ks ids) (extend_keeps ks ids s h) ∙ last_added_all eq ks ids ∙ ap (option_or (last_id ids)) (sym (last_full cmp ks s))
+  extend_ends ks ids s h = last_full cmp (added_all eq ks ids) (is_key_list cmp (added_all eq ks ids) (extend_keeps ks ids s h)) ∙ last_added_all eq ks ids ∙ ap (option_or (last_id ids)) (sym (last_full cmp ks s))
+
+  -- a truncation and a purge leave keys
+  pub truncate_keeps : (ks : List (LogIdOf C)) (at : ℕ) → IsKeyList cmp ks → IsTrue (may_be_keys cmp (cut ks at))
+  truncate_keeps ks at s = are_keys cmp (cut ks at) (cut_stays cmp (itself cmp eq total law) ks at s)
+
+  pub purge_keeps : (ks : List (LogIdOf C)) (upto : LogIdOf C) → IsKeyList cmp ks → IsTrue (may_be_keys cmp (purged_keys ks upto))
+  purge_keeps ks upto s = are_keys cmp (purged_keys ks upto) (purge_stays cmp (itself cmp eq total law) ks upto s)
 
   -- a purge leaves a log from the greater of the two indexes on
   pub purge_begins : (ks : List (LogIdOf C)) (upto : LogIdOf C) → IsKeyList cmp ks → first_index_or (full_log (purged_keys ks upto)) 0 ≡ max (first_index_or (full_log ks) 0) upto.index

@@ -11,7 +11,7 @@ use Rattle.std.proofs.lemmas.Bool.Decides.{nat_tests}
 use Rattle.raft_base.specs.declared.log_id.LogIdOf.{LogIdOf}
 use Rattle.raft_state.specs.FullLog.{full_log, first_index_or, end_index}
 use Rattle.raft_state.specs.LogReads.{id_at, first_id, last_id}
-use Rattle.raft_state.specs.Inner.KeyList.{IsKeyList}
+use Rattle.raft_state.proofs.KeyListLemmas.{IsKeyList}
 use Rattle.raft_state.proofs.FullLogLemmas.{at_full, covering, covers, covers_none}
 use Rattle.raft_state.proofs.CutLemmas.{last_full, first_full}
 use Rattle.raft_base.specs.LogId.{next_index, id_le, index_of, same_ids}

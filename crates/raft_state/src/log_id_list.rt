@@ -34,15 +34,15 @@ pub struct LogIdListOf<C: Ord + Copy> {
 pub type LogIdList<NID> = LogIdListOf<CommittedLeaderId<NID>>;
 
 impl<C: Ord + Copy> Model for LogIdListOf<C> {
-    ghost use Rattle.std.specs.Prelude.{List};
+    ghost use Rattle.std.specs.Prelude.{List, IsTrue};
     ghost use Rattle.raft_base.specs.declared.log_id.LogIdOf.{LogIdOf};
-    ghost use Rattle.raft_state.specs.Inner.KeyList.{IsKeyList};
+    ghost use Rattle.raft_state.specs.Keys.{may_be_keys};
 
     ghost Value = { List (LogIdOf C) };
 
     ghost view = { λ a. a.key_log_ids.items };
 
-    ghost invariant = { λ a. IsKeyList C.cmp a.key_log_ids.items };
+    ghost invariant = { λ a. IsTrue (may_be_keys C.cmp a.key_log_ids.items) };
 }
 
 impl<C: Ord + Copy> LogIdListOf<C> {

@@ -1,15 +1,6 @@
 -- Lists of keys as the code walks them.
-use Rattle.std.specs.Prelude.{ℕ, suc, ◌+◌, ◌<◌, ◌≤◌, nat_le, List, [], ◌∷◌, IsTrue, if◌then◌else◌}
-use Rattle.std.specs.Ordering.{is_le, is_lt}
-use Rattle.std.specs.declared.cmp.Ordering.{Ordering}
+use Rattle.std.specs.Prelude.{ℕ, suc, ◌+◌, ◌≤◌, nat_le, List, [], ◌∷◌, if◌then◌else◌}
 use Rattle.raft_base.specs.declared.log_id.LogIdOf.{LogIdOf}
-
--- indexes rise and leaders never fall; a key but the last has a greater leader than the one before it
-abbrev pub IsKeyList : {C : Type 0} → (C → C → Ordering) → List (LogIdOf C) → Type 0
-IsKeyList cmp [] = Unit {0}
-IsKeyList cmp (k ∷ []) = Unit {0}
-IsKeyList cmp (k ∷ l ∷ []) = (k.index < l.index) × IsTrue (is_le (cmp k.leader_id l.leader_id))
-IsKeyList cmp (k ∷ l ∷ m ∷ ks) = (k.index < l.index) × IsTrue (is_lt (cmp k.leader_id l.leader_id)) × IsKeyList cmp (l ∷ m ∷ ks)
 
 -- indexes rise from b on, and end below e
 abbrev pub Rises : {C : Type 0} → ℕ → List (LogIdOf C) → ℕ → Type 0

@@ -5,7 +5,7 @@ ghost use Rattle.raft_state.specs.FullLog.{full_log, end_index};
 ghost use Rattle.raft_state.specs.LogReads.{id_at, last_id, last_two_share_leader};
 ghost use Rattle.raft_state.specs.LogConditions.{follows, all_follow, ends_share_leader};
 ghost use Rattle.raft_state.specs.Keys.{key_follows, may_be_keys, by_last_leader as last_leader_keys};
-ghost use Rattle.raft_state.specs.Inner.KeyList.{IsKeyList, Rises, keys_to};
+ghost use Rattle.raft_state.specs.Inner.KeyList.{Rises, keys_to};
 ghost use Rattle.raft_state.specs.Inner.KeyEdits.{added, added_all, cut, purged_keys};
 
 use raft_base::{LogIdOf, RaftLogIdOf};
@@ -132,7 +132,7 @@ pub fn extend_by_ends<C: Ord + Copy, LID: RaftLogIdOf<C>>(
 
 /// Leaves the keys of the log ids below an index.
 pub fn truncate<C: Ord + Copy>(keys: &mut Vec<LogIdOf<C>>, at: u64)
-    requires { IsKeyList C.cmp keys.old.items }
+    requires { IsTrue (may_be_keys C.cmp keys.old.items) }
     ensures { keys.new.items ≡ cut keys.old.items at }
 {
     if at == 0 {
@@ -160,7 +160,7 @@ pub fn truncate<C: Ord + Copy>(keys: &mut Vec<LogIdOf<C>>, at: u64)
 
 /// Leaves the keys of what a purge leaves.
 pub fn purge<C: Ord + Copy>(keys: &mut Vec<LogIdOf<C>>, upto: LogIdOf<C>) -> Result<(), AllocError>
-    requires { IsKeyList C.cmp keys.old.items }
+    requires { IsTrue (may_be_keys C.cmp keys.old.items) }
     ensures ok { OnOk result (keys.new.items ≡ purged_keys keys.old.items upto) }
     ensures was_empty { OnErr result (keys.old.items ≡ []) }
     ensures err { OnErr result (keys.new.items ≡ keys.old.items) }
@@ -188,7 +188,7 @@ pub fn purge<C: Ord + Copy>(keys: &mut Vec<LogIdOf<C>>, upto: LogIdOf<C>) -> Res
 
 /// The log id at an index, under the leader of the last key that is not past it.
 pub fn get<C: Ord + Copy>(keys: &[LogIdOf<C>], index: u64) -> Option<LogIdOf<C>>
-    requires { IsKeyList C.cmp keys.now }
+    requires { IsTrue (may_be_keys C.cmp keys.now) }
     ensures { result ≡ id_at (full_log keys.now) index }
 {
     let covered = count_to(keys, index);

@@ -1,6 +1,7 @@
 use Rattle.std.proofs.Common.{◌∙◌}
 use Rattle.raft_state.proofs.CutLemmas.{last_is}
+use Rattle.raft_state.proofs.ExtendLemmas.{is_key_list}
 use Rattle.raft_state.proofs.log_id_list.LogIdListOf.last.Goals as goal
 
 pub returns : goal.returns
-returns g c = c.last.ensures.value ∙ rw (c.deref.ensures.value, ← c.self.view_is) (last_is g.C.Ord.cmp c.self.inside.key_log_ids.items c.self.invariant)
+returns g c = c.last.ensures.value ∙ rw (c.deref.ensures.value, ← c.self.view_is) (last_is g.C.Ord.cmp c.self.inside.key_log_ids.items (is_key_list g.C.Ord.cmp c.self.inside.key_log_ids.items c.self.invariant))

@@ -1,6 +1,7 @@
 use Rattle.std.proofs.Common.{◌≡◌, arith, length}
 use Rattle.raft_state.proofs.FullLogLemmas.{key_list_rises_zero}
 use Rattle.raft_state.proofs.CutLemmas.{purged_past, purged_none, purged_moved}
+use Rattle.raft_state.proofs.ExtendLemmas.{is_key_list}
 use Rattle.raft_state.proofs.log_id_list.keys.purge.Goals as goal
 
 pub returns-then-index-upto-clause-ok : goal.returns-then-index-upto-clause-ok
@@ -9,7 +10,7 @@ returns-then-index-upto-clause-ok g c =
     rw c.truncate.ensures.items (purged_past c.args.keys.now.items c.args.upto c.index.result.now (omega (arith, len, c.if-count-eq0.false)) (rw (← len) at c.index.ensures) c.if-index-upto.true)
 
 pub count_to-covered-requires : goal.count_to-covered-requires
-count_to-covered-requires g c = rw c.deref.ensures.value (key_list_rises_zero g.C.Ord.cmp c.args.keys.now.items c.requires)
+count_to-covered-requires g c = rw c.deref.ensures.value (key_list_rises_zero g.C.Ord.cmp c.args.keys.now.items (is_key_list g.C.Ord.cmp c.args.keys.now.items c.requires))
 
 pub returns-then-covered-eq0-clause-ok : goal.returns-then-covered-eq0-clause-ok
 returns-then-covered-eq0-clause-ok g c =

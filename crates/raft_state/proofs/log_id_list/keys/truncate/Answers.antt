@@ -1,10 +1,11 @@
 use Rattle.std.proofs.Common.{arith}
 use Rattle.raft_state.proofs.FullLogLemmas.{key_list_rises_zero}
 use Rattle.raft_state.proofs.CutLemmas.{all_stay, cut_short, cut_moved}
+use Rattle.raft_state.proofs.ExtendLemmas.{is_key_list}
 use Rattle.raft_state.proofs.log_id_list.keys.truncate.Goals as goal
 
 pub count_to-kept-requires : goal.count_to-kept-requires
-count_to-kept-requires g c = rw c.deref.ensures.value (key_list_rises_zero g.C.Ord.cmp c.args.keys.now.items c.requires)
+count_to-kept-requires g c = rw c.deref.ensures.value (key_list_rises_zero g.C.Ord.cmp c.args.keys.now.items (is_key_list g.C.Ord.cmp c.args.keys.now.items c.requires))
 
 pub returns-then-kept-len : goal.returns-then-kept-len
 returns-then-kept-len g c =

@@ -1,0 +1,12 @@
+-- Keys of a list as lemmas walk them.
+use Rattle.std.proofs.Common.{◌<◌, List, [], ◌∷◌, IsTrue}
+use Rattle.std.specs.Ordering.{is_le, is_lt}
+use Rattle.std.specs.declared.cmp.Ordering.{Ordering}
+use Rattle.raft_base.specs.declared.log_id.LogIdOf.{LogIdOf}
+
+-- these may be keys: what the test says, key by key
+abbrev pub IsKeyList : {C : Type 0} → (C → C → Ordering) → List (LogIdOf C) → Type 0
+IsKeyList cmp [] = Unit {0}
+IsKeyList cmp (k ∷ []) = Unit {0}
+IsKeyList cmp (k ∷ l ∷ []) = (k.index < l.index) × IsTrue (is_le (cmp k.leader_id l.leader_id))
+IsKeyList cmp (k ∷ l ∷ m ∷ ks) = (k.index < l.index) × IsTrue (is_lt (cmp k.leader_id l.leader_id)) × IsKeyList cmp (l ∷ m ∷ ks)
