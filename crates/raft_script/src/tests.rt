@@ -373,6 +373,58 @@ fn replies_to(lines: usize) -> &'static [u8] {
     }
 }
 
+/// Gives its text a byte a read.
+#[derive(Drop)]
+struct ByteReader<'a> {
+    text: &'a [u8],
+}
+
+impl Read for ByteReader<'_> {
+    fn read(&mut self, buf: &mut [u8]) -> io::Result<usize> {
+        let n = self.text.len().min(buf.len()).min(1);
+        buf[..n].copy_from_slice(&self.text[..n]);
+        self.text = &self.text[n..];
+        Ok(n)
+    }
+}
+
+/// Runs a beginning of the script, and answers whether its whole lines have their replies, and a
+/// line that is cut inside is a bad line: each line ends in a word of one byte.
+fn answers_cut<R: Read + Drop>(
+    alloc: Global,
+    reader: R,
+    text: &[u8],
+    rest: &[u8],
+) -> Result<bool, Fail> {
+    let mut out = Vec::new(alloc);
+    let status = run(alloc, reader, &mut out);
+    let lines = line_feeds(text, 0);
+    if text.is_empty() || text.ends_with(b"\n") {
+        return Ok(status == 0 && out.as_slice() == replies_to(lines));
+    }
+    let cut = lines.saturating_add(1);
+    if rest.starts_with(b"\n") {
+        return Ok(status == 0 && out.as_slice() == replies_to(cut));
+    }
+    let mut replies = replies_to(lines).to_vec(alloc)?;
+    writeln!(replies, "bad line {cut}")?;
+    Ok(status == 2 && out == replies)
+}
+
+#[test]
+fn answers_a_cut_script(rt: HostRuntime) -> Result<(), Fail> {
+    for cut in 0..=SCRIPT.len() {
+        let (text, rest) = SCRIPT.split_at(cut);
+        assert!(rt; answers_cut(rt.alloc(), text, text, rest)?, "at {cut}");
+        let reader = ByteReader { text };
+        assert!(rt;
+            answers_cut(rt.alloc(), reader, text, rest)?,
+            "by bytes, at {cut}"
+        );
+    }
+    Ok(())
+}
+
 /// Runs the script with a writer that fails from a write on, and answers whether it came so far.
 fn assert_write_fault<R: Abort>(rt: &R, alloc: Global, bad: u64) -> bool {
     let mut writer = FailingWriter {
