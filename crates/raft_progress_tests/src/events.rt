@@ -1,188 +1,17 @@
 //! Ten thousand events, each given to an entry and to a plain table: a follower may reply anything.
+//! The same without acks, as searches.
+ghost use Rattle.std.specs.Prelude.{◌≤◌};
 
 use super::entry::{Answer, Call, answer_of};
 use super::inflight::{logs, snapshot};
-use raft_base::{LeaderId, LogId, LogIdRange};
+use super::table::{Leader, index, table};
+use raft_base::LogId;
 use raft_base_tests::plain_log::{PlainLog, id, log_below};
 use raft_progress::entry::ProgressEntry;
 use raft_progress::inflight::{Inflight, InflightError};
+use raft_progress::search::{SearchEvent, search_run};
 use std::alloc::{AllocError, Global};
 use std::test::Fail;
-
-type Leader = LeaderId<u64>;
-
-/// A log id as whole numbers, for comparisons of the table's own.
-fn numbers(id: Option<LogId<u64>>) -> Option<(u64, u64)> {
-    match id {
-        Some(id) => Some((id.leader_id.term, id.index)),
-        None => None,
-    }
-}
-
-/// The index after a log id, 0 after none. The greatest u64 stays: no other index comes near it.
-fn after(id: Option<LogId<u64>>) -> u64 {
-    match id {
-        Some(id) => id.index.saturating_add(1),
-        None => 0,
-    }
-}
-
-/// What replies leave in flight, by the table: an ack of all up to a log id.
-fn table_ack(
-    inflight: Inflight<u64>,
-    request_id: u64,
-    upto: Option<LogId<u64>>,
-) -> Result<Inflight<u64>, InflightError> {
-    let mine = match inflight {
-        Inflight::None => None,
-        Inflight::Logs { id, .. } | Inflight::Snapshot { id, .. } => Some(id),
-    };
-    if mine != Some(request_id) {
-        return Err(InflightError::InvalidRequestId {
-            mine,
-            received: request_id,
-        });
-    }
-    match inflight {
-        Inflight::Logs { id, log_id_range } => {
-            let LogIdRange { prev, last } = log_id_range;
-            let in_order = numbers(prev) <= numbers(upto) && numbers(upto) <= numbers(last);
-            if !in_order || after(upto) < after(prev) || after(last) < after(upto) {
-                Err(InflightError::AckOutOfRange)
-            } else if numbers(upto) == numbers(last) {
-                Ok(Inflight::None)
-            } else {
-                Ok(logs(id, upto, last))
-            }
-        }
-        Inflight::Snapshot { last_log_id, .. } if numbers(upto) < numbers(last_log_id) => {
-            Err(InflightError::SnapshotAckRegress)
-        }
-        _ => Ok(Inflight::None),
-    }
-}
-
-/// The same for a conflict at an index.
-fn table_conflict(
-    inflight: Inflight<u64>,
-    request_id: u64,
-    index: u64,
-) -> Result<Inflight<u64>, InflightError> {
-    match inflight {
-        Inflight::Logs { id, log_id_range } if id == request_id => {
-            if numbers(log_id_range.prev).map(|id| id.1) == Some(index) {
-                Ok(Inflight::None)
-            } else {
-                Err(InflightError::ConflictNotAtPrev)
-            }
-        }
-        Inflight::Snapshot { id, .. } if id == request_id => Err(InflightError::ConflictOnSnapshot),
-        Inflight::None => Err(InflightError::InvalidRequestId {
-            mine: None,
-            received: request_id,
-        }),
-        Inflight::Logs { id, .. } | Inflight::Snapshot { id, .. } => {
-            Err(InflightError::InvalidRequestId {
-                mine: Some(id),
-                received: request_id,
-            })
-        }
-    }
-}
-
-/// The id of the log before an index, as the table looks it up.
-fn before(log: &PlainLog<Leader>, index: u64) -> Option<LogId<u64>> {
-    for id in &log.ids {
-        if id.index.saturating_add(1) == index {
-            return Some(*id);
-        }
-    }
-    None
-}
-
-/// What a send answers and leaves of an entry, by the table.
-fn table_send(
-    entry: ProgressEntry<u64>,
-    log: &PlainLog<Leader>,
-    max_entries: u64,
-) -> (Answer<Leader>, ProgressEntry<u64>) {
-    if entry.inflight != Inflight::None {
-        return (Answer::Sent(Err(entry.inflight)), entry);
-    }
-    let (m, e, p, l) = (
-        after(entry.matching),
-        entry.searching_end,
-        after(log.purge_upto),
-        after(log.last),
-    );
-    if m > e || e > l || p == u64::MAX {
-        return (Answer::NotAllowed, entry);
-    }
-    let start = m.saturating_add(e.saturating_sub(m) / 16 * 8).max(p);
-    let end = start.saturating_add(max_entries).min(l);
-    if start == end && m >= e && e >= p {
-        return (Answer::Sent(Err(Inflight::None)), entry);
-    }
-    let id = entry.curr_inflight_id.saturating_add(1);
-    let sending = if e < p || start == end {
-        snapshot(id, log.snapshot)
-    } else if numbers(before(log, start)) < numbers(before(log, end)) {
-        logs(id, before(log, start), before(log, end))
-    } else {
-        Inflight::None
-    };
-    let sent = ProgressEntry::<u64> {
-        curr_inflight_id: id,
-        inflight: sending,
-        ..entry
-    };
-    (Answer::Sent(Ok(sending)), sent)
-}
-
-/// What a call answers and leaves of an entry, by the table.
-fn table(
-    entry: ProgressEntry<u64>,
-    log: &PlainLog<Leader>,
-    call: Call<Leader>,
-) -> (Answer<Leader>, ProgressEntry<u64>) {
-    let taken = match call {
-        Call::Send(max_entries) => return table_send(entry, log, max_entries),
-        Call::Ack(id, matching) => match table_ack(entry.inflight, id, matching) {
-            Err(refusal) => Err(refusal),
-            Ok(_) if numbers(matching) < numbers(entry.matching) => {
-                Err(InflightError::MatchingRegress)
-            }
-            Ok(_) if after(matching) == u64::MAX => Err(InflightError::IndexTooLarge),
-            Ok(inflight) => Ok(ProgressEntry::<u64> {
-                matching,
-                curr_inflight_id: entry.curr_inflight_id,
-                inflight,
-                searching_end: entry.searching_end.max(after(matching)),
-            }),
-        },
-        Call::Conflict(id, index) => {
-            let left = match id {
-                Some(id) => table_conflict(entry.inflight, id, index),
-                None => Ok(entry.inflight),
-            };
-            match left {
-                Err(refusal) => Err(refusal),
-                Ok(_) if index < entry.searching_end && index < after(entry.matching) => {
-                    Err(InflightError::ConflictBelowMatching)
-                }
-                Ok(inflight) => Ok(ProgressEntry::<u64> {
-                    inflight,
-                    searching_end: entry.searching_end.min(index),
-                    ..entry
-                }),
-            }
-        }
-    };
-    match taken {
-        Ok(after) => (Answer::Taken(Ok(())), after),
-        Err(refusal) => (Answer::Taken(Err(refusal)), entry),
-    }
-}
 
 /// A number below 1,024 that is made of a counter.
 fn made_of(counter: u64, factor: u64) -> u64 {
@@ -192,71 +21,364 @@ fn made_of(counter: u64, factor: u64) -> u64 {
     product / 0x0040_0000_0000_0000
 }
 
-/// The log id at a made index, once in a while that of another leader, none, or the greatest.
+/// A number below an end that is made of a counter, once in a while the greatest u64 or the one
+/// below that.
+fn made_below(end: u64, counter: u64, factor: u64) -> u64
+    requires { 1 ≤ end }
+{
+    let number = made_of(counter, factor);
+    match number / 64 {
+        0 => u64::MAX,
+        1 => u64::MAX - 1,
+        _ => number % end,
+    }
+}
+
+/// The log id at a made index, once in a while that of another leader, or none.
 fn made_id(counter: u64) -> Option<LogId<u64>> {
-    let index = made_of(counter, 5) % 20;
+    let index = made_below(12, counter, 5);
     match made_of(counter, 7) % 32 {
         0 => None,
-        1 => id(1, u64::MAX),
-        2 => id(2, index),
-        3 => id(0, index),
+        1 | 2 => id(2, index),
+        3 | 4 => id(0, index),
         _ => id(1, index),
     }
 }
 
-/// The event of a counter. Requests are those that an entry sends while it is young.
+/// A request that an entry sends while it is young, once in a while one that is far off.
+fn made_request(counter: u64) -> u64 {
+    match made_of(counter, 13) % 16 {
+        0..=8 => 1,
+        9..=11 => 2,
+        12 => 3,
+        13 => 0,
+        14 => u64::MAX / 2,
+        _ => u64::MAX,
+    }
+}
+
+/// How many events an entry lives.
+const LIFE: u64 = 10;
+
+/// The event of a counter.
 fn event(counter: u64) -> Call<Leader> {
-    let index = made_of(counter, 5) % 20;
-    let request = made_of(counter, 13) % 3 + 1;
+    let request = made_request(counter);
     match made_of(counter, 3) % 10 {
-        0..=2 => Call::Send(made_of(counter, 11) % 9),
+        0..=2 => Call::Send(made_below(12, counter, 11)),
         3..=5 => Call::Ack(request, made_id(counter)),
-        6..=8 => Call::Conflict(Some(request), index % 12),
-        _ => Call::Conflict(None, index),
+        6..=8 => Call::Conflict(Some(request), made_below(8, counter, 5)),
+        _ => Call::Conflict(None, made_below(16, counter, 5)),
     }
 }
 
-/// The entry with which some events begin: it matches nothing, or it has a match, and logs in flight
-/// that begin before or after it.
-fn first_entry(counter: u64) -> ProgressEntry<u64> {
-    let place = made_of(counter, 17) % 25;
-    if counter % 32 == 0 {
-        return ProgressEntry::<u64>::empty(place);
+/// The entry with which the events of a life begin: it matches nothing, and one more request may be
+/// its last, or it has a match, and nothing in flight, a snapshot, or logs from before or after it.
+fn first_entry(life: u64) -> ProgressEntry<u64> {
+    let place = made_of(life, 17) % 25;
+    let prev = made_of(life, 19) % 4 + 4;
+    let empty = ProgressEntry::<u64>::empty(place);
+    let matched = ProgressEntry::<u64>::new(id(1, place % 9)).with_curr_inflight_id(1);
+    match made_of(life, 29) % 8 {
+        0 | 1 => empty,
+        2 => empty.with_curr_inflight_id(u64::MAX - 1),
+        3 => matched,
+        4 => matched.with_inflight(snapshot(1, id(1, prev))),
+        5 => matched.with_inflight(logs(1, id(1, prev), id(2, prev + 3))),
+        _ => matched.with_inflight(logs(1, id(1, prev), id(1, prev + 6))),
     }
-    let prev = made_of(counter, 19) % 8;
-    ProgressEntry::<u64>::new(id(1, place % 9))
-        .with_curr_inflight_id(1)
-        .with_inflight(logs(1, id(1, prev), id(1, prev + 6)))
 }
 
-/// The first event at which an entry and the table part. Each sixteen events begin with a new entry;
-/// of the two logs one is to be purged up to index 6.
-fn first_difference(
-    whole: &PlainLog<Leader>,
-    purged: &PlainLog<Leader>,
-    events: u64,
-) -> Option<u64> {
-    let mut entry = first_entry(0);
-    for counter in 0..events {
-        if counter % 16 == 0 {
-            entry = first_entry(counter);
-        }
-        let log = if counter % 48 < 32 { whole } else { purged };
-        let (want, left) = table(entry, log, event(counter));
-        if answer_of(&mut entry, log, event(counter)) != want || entry != left {
-            return Some(counter);
-        }
-    }
-    None
+/// The logs over which is sent.
+#[derive(Drop)]
+struct Logs {
+    /// With nothing to be purged.
+    whole: PlainLog<Leader>,
+    /// To be purged up to index 6.
+    purged: PlainLog<Leader>,
+    /// With its last index one below the greatest.
+    long: PlainLog<Leader>,
+    /// To be purged up to the greatest index.
+    far: PlainLog<Leader>,
 }
 
-#[test]
-fn any_events_are_answered_as_by_the_table(rt: HostRuntime) -> Result<(), Fail> {
-    let alloc = rt.alloc();
+fn make_logs(alloc: Global) -> Result<Logs, AllocError> {
     let whole = log_below(alloc, 24, id(2, 5))?;
     let mut purged = log_below(alloc, 24, None)?;
     purged.purge_upto = id(1, 6);
     purged.snapshot = id(1, 9);
-    assert!(rt; first_difference(&whole, &purged, 10_000) == None);
+    let mut long = log_below(alloc, 24, id(1, u64::MAX - 1))?;
+    long.last = id(1, u64::MAX - 1);
+    let mut far = log_below(alloc, 24, None)?;
+    far.purge_upto = id(1, u64::MAX);
+    Ok(Logs {
+        whole,
+        purged,
+        long,
+        far,
+    })
+}
+
+/// The log at a counter. Its purge point goes back and forth.
+fn log_at(logs: &Logs, counter: u64) -> &PlainLog<Leader> {
+    match made_of(counter, 23) % 16 {
+        0..=8 => &logs.whole,
+        9..=13 => &logs.purged,
+        14 => &logs.long,
+        _ => &logs.far,
+    }
+}
+
+/// How often each refusal was met.
+#[derive(Clone, Copy, Default)]
+struct Refused {
+    invalid_request_id: u64,
+    ack_out_of_range: u64,
+    snapshot_ack_regress: u64,
+    matching_regress: u64,
+    conflict_not_at_prev: u64,
+    conflict_on_snapshot: u64,
+    conflict_below_matching: u64,
+    index_too_large: u64,
+}
+
+/// How often each case of a send was met.
+#[derive(Clone, Copy, Default)]
+struct Sends {
+    not_allowed: u64,
+    already_in_flight: u64,
+    nothing_new: u64,
+    snapshots: u64,
+    logs: u64,
+    falling_logs: u64,
+}
+
+/// How often a heartbeat came below the match, and below the log before those in flight.
+#[derive(Clone, Copy, Default)]
+struct Heartbeats {
+    below_match: u64,
+    below_prev: u64,
+}
+
+/// What was met.
+#[derive(Clone, Copy, Default)]
+struct Met {
+    refused: Refused,
+    sends: Sends,
+    heartbeats: Heartbeats,
+}
+
+fn add_one(count: &mut u64) {
+    *count = count.saturating_add(1);
+}
+
+fn count_refusal(met: &mut Refused, refusal: InflightError) {
+    match refusal {
+        InflightError::InvalidRequestId { .. } => add_one(&mut met.invalid_request_id),
+        InflightError::AckOutOfRange => add_one(&mut met.ack_out_of_range),
+        InflightError::SnapshotAckRegress => add_one(&mut met.snapshot_ack_regress),
+        InflightError::MatchingRegress => add_one(&mut met.matching_regress),
+        InflightError::ConflictNotAtPrev => add_one(&mut met.conflict_not_at_prev),
+        InflightError::ConflictOnSnapshot => add_one(&mut met.conflict_on_snapshot),
+        InflightError::ConflictBelowMatching => add_one(&mut met.conflict_below_matching),
+        InflightError::IndexTooLarge => add_one(&mut met.index_too_large),
+    }
+}
+
+fn count_send(met: &mut Sends, sent: Result<Inflight<u64>, Inflight<u64>>) {
+    match sent {
+        Err(Inflight::None) => add_one(&mut met.nothing_new),
+        Err(_) => add_one(&mut met.already_in_flight),
+        Ok(Inflight::Snapshot { .. }) => add_one(&mut met.snapshots),
+        Ok(Inflight::Logs { .. }) => add_one(&mut met.logs),
+        Ok(Inflight::None) => add_one(&mut met.falling_logs),
+    }
+}
+
+fn count_heartbeat(met: &mut Heartbeats, entry: ProgressEntry<u64>, conflict: u64) {
+    if Some(conflict) <= index(entry.matching) {
+        add_one(&mut met.below_match);
+    }
+    if let Inflight::Logs { log_id_range, .. } = entry.inflight {
+        if Some(conflict) < index(log_id_range.prev) {
+            add_one(&mut met.below_prev);
+        }
+    }
+}
+
+/// Counts a call of an entry and its answer.
+fn count(met: &mut Met, entry: ProgressEntry<u64>, call: Call<Leader>, answer: Answer<Leader>) {
+    match answer {
+        Answer::NotAllowed => add_one(&mut met.sends.not_allowed),
+        Answer::Sent(sent) => count_send(&mut met.sends, sent),
+        Answer::Taken(Err(refusal)) => count_refusal(&mut met.refused, refusal),
+        Answer::Taken(Ok(())) => {}
+    }
+    if let Call::Conflict(None, conflict) = call {
+        count_heartbeat(&mut met.heartbeats, entry, conflict);
+    }
+}
+
+fn has_each_refusal(met: &Refused) -> bool {
+    met.invalid_request_id > 0
+        && met.ack_out_of_range > 0
+        && met.snapshot_ack_regress > 0
+        && met.matching_regress > 0
+        && met.conflict_not_at_prev > 0
+        && met.conflict_on_snapshot > 0
+        && met.conflict_below_matching > 0
+        && met.index_too_large > 0
+}
+
+fn has_each_send(met: &Sends) -> bool {
+    met.not_allowed > 0
+        && met.already_in_flight > 0
+        && met.nothing_new > 0
+        && met.snapshots > 0
+        && met.logs > 0
+        && met.falling_logs > 0
+}
+
+fn has_each_heartbeat(met: &Heartbeats) -> bool {
+    met.below_match > 0 && met.below_prev > 0
+}
+
+/// Whether entries, one after another, answer all events as the table, and each case is met.
+fn answers_as_the_table(logs: &Logs, events: u64) -> bool {
+    let mut met = Met::default();
+    let mut entry = first_entry(0);
+    for counter in 0..events {
+        if counter % LIFE == 0 {
+            entry = first_entry(counter);
+        }
+        let (log, call, from) = (log_at(logs, counter), event(counter), entry);
+        let (want, left) = table(from, log, call);
+        if answer_of(&mut entry, log, call) != want || entry != left {
+            return false;
+        }
+        count(&mut met, from, call, want);
+    }
+    has_each_refusal(&met.refused)
+        && has_each_send(&met.sends)
+        && has_each_heartbeat(&met.heartbeats)
+}
+
+/// Whether the same of the logs that are made.
+fn any_events_are_answered(alloc: Global) -> Result<bool, AllocError> {
+    let logs = make_logs(alloc)?;
+    Ok(answers_as_the_table(&logs, 10_000))
+}
+
+#[test]
+fn any_events_are_answered_as_by_the_table(rt: HostRuntime) -> Result<(), Fail> {
+    assert!(rt; any_events_are_answered(rt.alloc())?);
+    Ok(())
+}
+
+/// The events of a life for a search, which takes no acks.
+fn search_events<'a>(
+    alloc: Global,
+    logs: &'a Logs,
+    life: u64,
+) -> Result<Vec<SearchEvent<'a, PlainLog<Leader>>>, AllocError> {
+    let mut events = Vec::new(alloc);
+    for counter in life..life.saturating_add(LIFE) {
+        let taken = match event(counter) {
+            Call::Ack(..) => continue,
+            Call::Send(max_entries) => SearchEvent::Send {
+                log: log_at(logs, counter),
+                max_entries,
+            },
+            Call::Conflict(Some(request_id), conflict) => SearchEvent::Conflict {
+                request_id,
+                conflict,
+            },
+            Call::Conflict(None, conflict) => SearchEvent::Heartbeat { conflict },
+        };
+        events.push(taken)?;
+    }
+    Ok(events)
+}
+
+/// A search by the table.
+#[derive(Clone, Copy)]
+struct TableSearch {
+    entry: ProgressEntry<u64>,
+    /// The last purge point that was sent over.
+    purged: Option<u64>,
+    accepted: u64,
+    /// How many sends were skipped since their purge point has gone back.
+    gone_back: u64,
+}
+
+/// What an event of a search leaves of it, by the table.
+fn table_search(search: TableSearch, log: &PlainLog<Leader>, call: Call<Leader>) -> TableSearch {
+    let purge_upto = index(log.purge_upto);
+    let (answer, entry) = table(search.entry, log, call);
+    match (call, answer) {
+        (Call::Ack(..), _) | (_, Answer::NotAllowed) => search,
+        (Call::Send(_), _) if purge_upto < search.purged => TableSearch {
+            gone_back: search.gone_back.saturating_add(1),
+            ..search
+        },
+        (Call::Send(_), _) => TableSearch {
+            entry,
+            purged: purge_upto,
+            ..search
+        },
+        (Call::Conflict(Some(_), _), Answer::Taken(Ok(()))) => TableSearch {
+            entry,
+            accepted: search.accepted.saturating_add(1),
+            ..search
+        },
+        _ => TableSearch { entry, ..search },
+    }
+}
+
+/// The search over the events of a life, by the table.
+fn searched(logs: &Logs, life: u64) -> TableSearch {
+    let mut search = TableSearch {
+        entry: first_entry(life),
+        purged: None,
+        accepted: 0,
+        gone_back: 0,
+    };
+    for counter in life..life.saturating_add(LIFE) {
+        search = table_search(search, log_at(logs, counter), event(counter));
+    }
+    search
+}
+
+/// Whether a search over the events of a life ends as wanted.
+fn search_ends(
+    alloc: Global,
+    logs: &Logs,
+    life: u64,
+    want: TableSearch,
+) -> Result<bool, AllocError> {
+    let mut entry = first_entry(life);
+    let events = search_events(alloc, logs, life)?;
+    Ok(search_run(&mut entry, &events) == want.accepted && entry == want.entry)
+}
+
+/// Whether so many searches end as by the table, with conflicts accepted and sends skipped.
+fn searches_as_the_table(alloc: Global, lives: u64) -> Result<bool, AllocError> {
+    let logs = make_logs(alloc)?;
+    let mut accepted = 0u64;
+    let mut gone_back = 0u64;
+    for number in 0..lives {
+        let life = number.saturating_mul(LIFE);
+        let want = searched(&logs, life);
+        if !search_ends(alloc, &logs, life, want)? {
+            return Ok(false);
+        }
+        accepted = accepted.saturating_add(want.accepted);
+        gone_back = gone_back.saturating_add(want.gone_back);
+    }
+    Ok(accepted > 0 && gone_back > 0)
+}
+
+#[test]
+fn any_searches_end_as_by_the_table(rt: HostRuntime) -> Result<(), Fail> {
+    assert!(rt; searches_as_the_table(rt.alloc(), 1_000)?);
     Ok(())
 }

@@ -20,6 +20,8 @@ mod search;
 #[cfg(test)]
 mod steps;
 #[cfg(test)]
+mod table;
+#[cfg(test)]
 mod texts;
 #[cfg(test)]
 mod tracked;
