@@ -1,5 +1,5 @@
 -- What a truncation or a purge of the keys does to the full log.
-use Rattle.std.proofs.Common.{◌≡◌, ℕ, zero, suc, ◌+◌, ◌-◌, ◌<◌, ◌≤◌, min, max, Bool, true, false, List, [], ◌∷◌, ◌++◌, if◌then◌else◌, IsTrue, nat_lt, nat_le, refl, sym, arith, length, get_or, set, ap, take, drop, ◌∙◌, inl, inr, Option, Some, None, drop-cons, subst, length-drop}
+use Rattle.std.proofs.Common.{◌≡◌, ℕ, zero, suc, ◌+◌, ◌-◌, ◌<◌, ◌≤◌, min, max, Bool, true, false, List, [], ◌∷◌, ◌++◌, if◌then◌else◌, IsTrue, nat_lt, nat_le, refl, sym, arith, length, get_or, set, ap, take, drop, ◌∙◌, inl, inr, drop-cons, subst, length-drop}
 use Rattle.std.specs.declared.cmp.Ordering.{Ordering}
 use Rattle.std.specs.Ordering.{is_le, is_lt}
 use Rattle.std.specs.declared.cmp.Ordering.TheVariants.{Less, Equal, Greater}
@@ -8,6 +8,7 @@ use Rattle.std.proofs.lemmas.Bool.Decides.{nat_tests}
 use Rattle.std.proofs.lemmas.List.Elements.{filter-append}
 use Rattle.std.proofs.lemmas.List.{append-nil, take_more_set, take_at}
 use Rattle.std.specs.Prelude.{slice_get}
+use Rattle.raft_base.specs.LogId.{next_index}
 use Rattle.raft_base.specs.declared.log_id.LogIdOf.{LogIdOf}
 use Rattle.raft_state.specs.FullLog.{end_index, filled, first_index_or, full_log, ids_of}
 use Rattle.raft_state.specs.Inner.KeyEdits.{cut, cut_after, cut_to, end_at, kept_after, kept_from, purged_keys}
@@ -226,16 +227,7 @@ last_full cmp (k ∷ l ∷ ks) s =
     tail_keys cmp k l (m ∷ ks) s = s.2
 
 pub next_of_last : {C : Type 0} (ks ls : List (LogIdOf C)) → last_id ks ≡ last_id ls → end_index ks ≡ end_index ls
-next_of_last ks ls h = by_last ks ∙ ap after h ∙ sym (by_last ls)
-  where
-    after : {C : Type 0} → Option (LogIdOf C) → ℕ
-    after None = 0
-    after (Some k) = k.index + 1
-
-    by_last : {C : Type 0} (ks : List (LogIdOf C)) → end_index ks ≡ after (last_id ks)
-    by_last [] = refl
-    by_last (k ∷ []) = refl
-    by_last (k ∷ l ∷ ks) = by_last (l ∷ ks)
+next_of_last ks ls h = ap next_index h
 
 pub first_full : {C : Type 0} (cmp : C → C → Ordering) (ks : List (LogIdOf C)) (e : ℕ) → IsKeyList cmp ks → first_index_or (full_log ks) e ≡ first_index_or ks e
 first_full cmp [] e s = refl

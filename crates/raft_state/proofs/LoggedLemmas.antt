@@ -43,9 +43,7 @@ step_keys cmp k l (m ∷ ks) s = (s.0, lt_le (cmp k.leader_id l.leader_id) s.1)
     lt_le Greater h = cc
 
 next_last : {C : Type 0} (ks : List (LogIdOf C)) → next_index (last_id ks) ≡ end_index ks
-next_last [] = refl
-next_last (k ∷ []) = refl
-next_last (k ∷ l ∷ ks) = next_last (l ∷ ks)
+next_last ks = refl
 
 whole : {C : Type 0} (k : LogIdOf C) (ks : List (LogIdOf C)) (j : ℕ) → k.index ≤ j → covering (k ∷ ks) j ≡ option_or (covering ks j) (Some k)
 whole k ks j le = let t : nat_le k.index j ≡ true = grind (arith, nat_tests) in rw t refl

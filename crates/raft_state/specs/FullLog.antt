@@ -1,7 +1,9 @@
 -- The full log that a few keys stand for, and when two logs are the same.
 use Rattle.std.specs.Prelude.{ℕ, zero, suc, ◌+◌, ◌-◌, nat_eq, Bool, ◌&&◌, List, [], ◌∷◌, ◌++◌}
 use Rattle.std.specs.Cmp.Lexicographic.{pointwise}
+use Rattle.raft_base.specs.LogId.{next_index}
 use Rattle.raft_base.specs.declared.log_id.LogIdOf.{LogIdOf}
+use Rattle.raft_state.specs.LogReads.{last_id}
 
 -- n log ids of one leader, with consecutive indexes from index i on
 abbrev pub ids_of : {C : Type 0} → C → ℕ → ℕ → List (LogIdOf C)
@@ -15,9 +17,7 @@ first_index_or (k ∷ ks) e = k.index
 
 -- the index after that of the last of these log ids, 0 where there is none
 abbrev pub end_index : {C : Type 0} → List (LogIdOf C) → ℕ
-end_index [] = 0
-end_index (k ∷ []) = k.index + 1
-end_index (k ∷ l ∷ ks) = end_index (l ∷ ks)
+end_index log = next_index (last_id log)
 
 -- the log ids from the first key's index up to below e: each key's leader has the indexes up to the next key
 abbrev pub filled : {C : Type 0} → List (LogIdOf C) → ℕ → List (LogIdOf C)
