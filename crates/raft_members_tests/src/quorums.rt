@@ -220,7 +220,8 @@ fn laws_hold_of_plain_ids(_rt: HostRuntime) -> Result<(), Fail> {
     Ok(())
 }
 
-/// Whether the ids are a quorum of so many of 3, 1, 2 and 1 again, and the set shows what it was made of.
+/// Whether the ids are a quorum of so many of 3, 1, 2 and 1 again, and the set shows what it was made
+/// of.
 fn is_enough(alloc: Global, need: usize, ids: &[u64]) -> Result<bool, AllocError>
     requires { 1 ≤ need }
 {

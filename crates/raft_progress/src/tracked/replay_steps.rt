@@ -161,8 +161,9 @@ fn go_over<NID: NodeId, N: Node, V: ProgressPart<P> + Clone + Drop, P: Copy + Or
 /// refused changes nothing either, and the next one is made.
 ///
 /// What is granted at the end is counted afresh over the values and the membership as they then
-/// stand; it never falls where none of the steps is a change. Where that membership has a config, every quorum of it, and of each that one change makes of
-/// it, has a voter whose part is at least granted.
+/// stand; it never falls where none of the steps is a change. Where that membership has a config,
+/// every quorum of it, and of each that one change makes of it, has a voter whose part is at least
+/// granted.
 pub fn replay<NID: NodeId, N: Node, V: ProgressPart<P> + PartialOrd + Clone + Drop, P: Copy + Ord>(
     alloc: Global,
     pair: &mut Tracked<NID, N, V, P>,
