@@ -75,7 +75,7 @@ pub trait LeaderIdentity: Eq + Copy + Default + Debug + Display + 'static {
     ghost by_term: { (a b : Self) → term_of a ≢ term_of b
         → order a b ≡ Some (nat_cmp (term_of a) (term_of b)) };
 
-    /// Where a leader is at most another one, so is what is kept of it.
+    /// Where a leader is at most another one, what is kept of it is at most what is kept of the other.
     ghost rises: { (a b : Self) → IsTrue (partial_le order a b)
         → IsTrue (is_le (Self.Committed.cmp (committed a) (committed b))) };
 

@@ -43,7 +43,7 @@ module _ {K : Type 0} (eq : K → K → Bool) where
   AtLeastQuorumsMeet = (ids : List K) (need : ℕ) (s t : K → Bool) → distinct_count eq ids < 2 * need
       → has_at_least eq ids need s ≡ true → has_at_least eq ids need t ≡ true → ShareMember ids s t
 
-  -- where more ids are needed than there are, no set is a quorum
+  -- where more ids are needed than there are, equal ones counted once, no set is a quorum
   abbrev pub NeedPastIdsHasNoQuorum : Type 0
   NeedPastIdsHasNoQuorum = (ids : List K) (need : ℕ) (s : K → Bool) → distinct_count eq ids < need
       → has_at_least eq ids need s ≡ false

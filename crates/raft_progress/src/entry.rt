@@ -178,8 +178,8 @@ impl<C: Ord + Copy> ProgressEntryOf<C> {
     ///
     /// Logs start half of the way from the match to the end of the search, so that each reply tells
     /// much of where they part; close to it they start at the match. Where the logs that a probe needs
-    /// are purged, it is a snapshot. `Err` has what is in flight already, or nothing where the
-    /// follower has all. `Ok` has nothing in flight where the log's ids do not rise.
+    /// are purged, it is a snapshot. `Err` has what is in flight already, or nothing where there is no
+    /// log to send. `Ok` has nothing in flight where the log's ids do not rise.
     pub fn next_send<L: LogStateReader<C>>(
         &mut self,
         log: &L,

@@ -42,7 +42,7 @@ AnswersLine number old line true new text = RunsLine old line new text
 AnswersLine number old line false new text =
     CannotRun old line × (new ≡ old) × (text ≡ bad_line_text number)
 
--- what a fault leaves: all as it was, or what the run made whose text was not written
+-- what a fault leaves: all as it was, or what the run made; its text may not be written whole
 abbrev pub IsLeftByFault : (Option EngineState → List ℕ → Type 0)
     → Option EngineState → Option EngineState → Type 0
 IsLeftByFault Runs old new = (new ≡ old) ⊎ ((text : List ℕ) × Runs new text)

@@ -26,8 +26,8 @@ pub struct AtLeast<ID> {
 impl<ID: Copy + Ord> AtLeast<ID> {
     ghost use Rattle.raft_members.specs.AtLeast.{ids_of, need_of, IsAlike};
 
-    /// A quorum is at least `need` of these ids, where a repeated one counts once. Where there are
-    /// fewer, there is no quorum.
+    /// A quorum is at least `need` of these ids, where a repeated one counts once; at least one is
+    /// needed. Where there are fewer, there is no quorum.
     pub fn new(alloc: Global, ids: &[ID], need: usize) -> Result<Self, AllocError>
         requires { 1 ≤ need }
         ensures ascending { IfOk result (λ made. IsStrictlySortedBy ID.cmp (ids_of made)) }

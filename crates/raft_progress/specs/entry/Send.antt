@@ -21,9 +21,9 @@ start_of entry log = max (calc_mid (next_index entry.matching) entry.searching_e
 abbrev pub end_of : {C : Type 0} → ProgressEntryOf C → LogView C → ℕ → ℕ
 end_of entry log max_entries = min (start_of entry log + max_entries) (next_index log.last)
 
--- A send where nothing is in flight, which takes the next request id: a snapshot where each match
--- that is still possible is purged, or where there is no log to probe with; nothing where all is
--- sent; else logs.
+-- A send where nothing is in flight: a snapshot where each match that is still possible is purged,
+-- or where there is no log to probe with; nothing where there is no log to send; else logs. What is
+-- sent takes the next request id.
 abbrev pub sent_idle : {C : Type 0} → (C → C → Ordering) → ProgressEntryOf C → LogView C → ℕ
     → Result (ProgressEntryOf C) (ProgressEntryOf C)
 sent_idle cmp entry log max_entries =
@@ -40,7 +40,7 @@ sent_idle cmp entry log max_entries =
     else if start == until then Err entry
     else Ok (record entry { curr_inflight_id = id; inflight = logs })
 
--- the entry after a send, as Err where nothing was sent: something is in flight already, or all is sent
+-- the entry after a send, as Err where nothing was sent: something is in flight already, or there is no log to send
 abbrev pub sent : {C : Type 0} → (C → C → Ordering) → ProgressEntryOf C → LogView C → ℕ → Result (ProgressEntryOf C) (ProgressEntryOf C)
 sent cmp entry log max_entries = if is_idle entry.inflight then sent_idle cmp entry log max_entries else Err entry
 

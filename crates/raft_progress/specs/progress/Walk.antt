@@ -32,8 +32,8 @@ module _ {ID V P : Type 0} (cmp : P → P → Ordering) (part : V → P) where
       if list_any (λ h. is_le (cmp (part e.1) (part h.1))) (f ∷ fs) then f ∷ put_after_last e fs
       else e ∷ f ∷ fs
 
-  -- the walk, before and then the rest, in which an id of the rest has risen: its entry is put so
-  -- among all those before it
+  -- the walk, before and then the rest, in which an id of the rest has risen: its entry is put, by
+  -- put_after_last, among all those before it
   abbrev pub risen : (ID → Bool) → List (ID × V) → List (ID × V) → List (ID × V)
   risen is_id before [] = before
   risen is_id before (e ∷ es) =
