@@ -3,6 +3,7 @@ pub mod LeaderIdLaws
 pub mod LeaderIdStd
 pub mod LeaderIdStdLaws
 pub mod LeaderOrder
+pub mod LeaderOrderLaws
 pub mod LogId
 pub mod LogIdLaws
 pub mod LogIdRange

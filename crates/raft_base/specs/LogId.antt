@@ -11,11 +11,13 @@ abbrev pub log_id_cmp : {C : Type 0} → (C → C → Ordering) → LogIdOf C �
 log_id_cmp cmp a b = ordering_then (cmp a.leader_id b.leader_id) (nat_cmp a.index b.index)
 
 -- one log id is at most another; an absent one is below all others
-abbrev pub id_le : {C : Type 0} → (C → C → Ordering) → Option (LogIdOf C) → Option (LogIdOf C) → Bool
+abbrev pub id_le : {C : Type 0} → (C → C → Ordering) → Option (LogIdOf C) → Option (LogIdOf C)
+    → Bool
 id_le cmp a b = is_le (option_cmp (log_id_cmp cmp) a b)
 
 -- one log id is below another; an absent one is below all others
-abbrev pub id_lt : {C : Type 0} → (C → C → Ordering) → Option (LogIdOf C) → Option (LogIdOf C) → Bool
+abbrev pub id_lt : {C : Type 0} → (C → C → Ordering) → Option (LogIdOf C) → Option (LogIdOf C)
+    → Bool
 id_lt cmp a b = is_lt (option_cmp (log_id_cmp cmp) a b)
 
 -- equal leaders and the same index

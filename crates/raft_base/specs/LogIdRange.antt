@@ -7,5 +7,6 @@ use Rattle.raft_base.specs.declared.log_id.validate.Invalid.{Invalid}
 use Rattle.raft_base.specs.declared.log_id.validate.Invalid.TheVariants.{RangeOrder}
 
 -- a range does not end before it begins
-abbrev pub range_relations : {C : Type 0} → (C → C → Ordering) → LogIdRangeOf C → List (Bool × Invalid)
+abbrev pub range_relations : {C : Type 0} → (C → C → Ordering) → LogIdRangeOf C
+    → List (Bool × Invalid)
 range_relations cmp range = (id_le cmp range.prev range.last, RangeOrder) ∷ []

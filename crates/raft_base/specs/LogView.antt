@@ -23,8 +23,11 @@ prev_id id_at (suc i) = id_at i
 
 -- an id up to the committed index may be asked for where it is not above the committed one
 abbrev pub may_ask : {C : Type 0} → (C → C → Ordering) → LogView C → LogIdOf C → Bool
-may_ask cmp log id = if nat_lt id.index (next_index log.committed) then id_le cmp (Some id) log.committed else true
+may_ask cmp log id =
+    if nat_lt id.index (next_index log.committed) then id_le cmp (Some id) log.committed else true
 
 -- up to the committed index the log has each id, and past it the one that stands there
 abbrev pub has_id : {C : Type 0} → (C → C → Bool) → LogView C → LogIdOf C → Bool
-has_id eq log id = if nat_lt id.index (next_index log.committed) then true else same_ids eq (log.id_at id.index) (Some id)
+has_id eq log id =
+    if nat_lt id.index (next_index log.committed) then true
+    else same_ids eq (log.id_at id.index) (Some id)

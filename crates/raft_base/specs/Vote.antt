@@ -7,8 +7,9 @@ use Rattle.raft_base.specs.LeaderId.{leader_id_cmp}
 use Rattle.raft_base.specs.declared.leader_id.LeaderId.{LeaderId}
 use Rattle.raft_base.specs.declared.vote.VoteIn.{VoteIn}
 
--- from how the leaders compare, and from whether each vote is committed: unequal leaders decide, of equal ones the
--- committed vote is the greater, and of leaders that do not compare too, where just one of the votes is committed
+-- from how the leaders compare, and from whether each vote is committed: unequal leaders decide,
+-- of equal ones the committed vote is the greater, and of leaders that do not compare too, where
+-- just one of the votes is committed
 abbrev pub by_leader_then_committed : Option Ordering → Bool → Bool → Option Ordering
 by_leader_then_committed (Some Less) c d = Some Less
 by_leader_then_committed (Some Greater) c d = Some Greater
@@ -19,9 +20,14 @@ by_leader_then_committed None false false = None
 by_leader_then_committed None true true = None
 
 -- by the order of their leaders, then an uncommitted vote below a committed one
-abbrev pub vote_cmp : {L : Type 0} → (L → L → Option Ordering) → VoteIn L → VoteIn L → Option Ordering
-vote_cmp leader_order a b = by_leader_then_committed (leader_order a.leader_id b.leader_id) a.committed b.committed
+abbrev pub vote_cmp : {L : Type 0} → (L → L → Option Ordering) → VoteIn L → VoteIn L
+    → Option Ordering
+vote_cmp leader_order a b =
+    by_leader_then_committed (leader_order a.leader_id b.leader_id) a.committed b.committed
 
--- over leaders of which any two compare by term and then by node: by leader, then `false` below `true`
-abbrev pub default_vote_cmp : {N : Type 0} → (N → N → Ordering) → VoteIn (LeaderId N) → VoteIn (LeaderId N) → Ordering
-default_vote_cmp cmp a b = ordering_then (leader_id_cmp cmp a.leader_id b.leader_id) (bool_cmp a.committed b.committed)
+-- over leaders of which any two compare by term and then by node: by
+-- leader, then `false` below `true`
+abbrev pub default_vote_cmp : {N : Type 0} → (N → N → Ordering) → VoteIn (LeaderId N)
+    → VoteIn (LeaderId N) → Ordering
+default_vote_cmp cmp a b =
+    ordering_then (leader_id_cmp cmp a.leader_id b.leader_id) (bool_cmp a.committed b.committed)

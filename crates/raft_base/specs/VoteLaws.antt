@@ -9,6 +9,7 @@ use Rattle.std.proofs.Common.{refl, sym, ◌∙◌, ap}
 use Rattle.std.specs.declared.cmp.Ordering.{Ordering}
 use Rattle.std.specs.declared.cmp.Ordering.TheVariants.{Less, Equal, Greater}
 use Rattle.raft_base.specs.LeaderOrder.{IncomparableAlike}
+use Rattle.raft_base.specs.LeaderOrderLaws.{apart_back}
 use Rattle.raft_base.specs.Vote.{by_leader_then_committed}
 
 -- the other way round, the answer is the reverse
@@ -38,11 +39,6 @@ committed_above_apart true true h = cc
 both : {G : Type 0} (c : Bool) → c ≡ true → c ≡ false → G
 both c h k = cc
 
--- leaders that do not compare do not do so the other way round
-none_reversed : (p q : Option Ordering) → p ≡ option_map ordering_reverse q → q ≡ None → p ≡ None
-none_reversed p None e h = e
-none_reversed p (Some o) e h = cc
-
 -- two flags tie exactly where they are equal
 flags_tie : (c d : Bool) → Decides (beq c d) (Some (bool_cmp c d) ≡ Some Equal)
 flags_tie false false = (λ _. refl, λ _. refl)
@@ -64,9 +60,9 @@ module _ {L : Type 0} {same : L → L → Bool} {order : L → L → Option Orde
   chain x y z c d e k (Some Greater) a b h g = cc
   chain x y z c d e (Some Less) (Some Less) a b h g = ap (λ r. by_leader_then_committed r c e) (o.trans x y z a b)
   chain x y z c d e (Some Less) (Some Equal) a b h g = ap (λ r. by_leader_then_committed r c e) (sym (po_right o y z x ((o.matches_eq y z).1 b)) ∙ a)
-  chain x y z c d e (Some Less) None a b h g = ap (λ r. by_leader_then_committed r c e) ((alike y z x b).0 a)
+  chain x y z c d e (Some Less) None a b h g = ap (λ r. by_leader_then_committed r c e) ((alike y z x b).0.0 a)
   chain x y z c d e (Some Equal) (Some Less) a b h g = ap (λ r. by_leader_then_committed r c e) (o.congr x y z ((o.matches_eq x y).1 a) ∙ b)
-  chain x y z c d e None (Some Less) a b h g = ap (λ r. by_leader_then_committed r c e) ((alike y x z (none_reversed (order y x) (order x y) (o.antisymm y x) a)).1 b)
+  chain x y z c d e None (Some Less) a b h g = ap (λ r. by_leader_then_committed r c e) ((alike y x z (apart_back o x y a)).1.0 b)
   chain x y z c d e (Some Equal) (Some Equal) a b h g = both d (committed_above c d h).1 (committed_above d e g).0
   chain x y z c d e (Some Equal) None a b h g = both d (committed_above c d h).1 (committed_above_apart d e g).0
   chain x y z c d e None (Some Equal) a b h g = both d (committed_above_apart c d h).1 (committed_above d e g).0

@@ -3,7 +3,7 @@
 //! Votes, and all that holds a vote, are generic over the kind. A leader type says by
 //! `LeaderIdentity` what votes have to know of it, and a kind names the leader type that goes with
 //! a type of node ids.
-ghost use Rattle.std.specs.Prelude.{◌≡◌, ◌≢◌, ℕ, Some, IsTrue, refl};
+ghost use Rattle.std.specs.Prelude.{◌≡◌, ◌≢◌, ◌&&◌, ℕ, Bool, Some, IsTrue, nat_eq, refl};
 ghost use Rattle.std.specs.declared.option.Option.{Option};
 ghost use Rattle.std.specs.declared.cmp.Ordering.{Ordering};
 ghost use Rattle.std.specs.Cmp.{IsPartialOrder};
@@ -40,6 +40,12 @@ pub trait LeaderIdentity: Eq + Copy + Default + Debug + Display + 'static {
     /// The leader that a node is in a term.
     ghost leader_of: { ℕ → Self.Id → Self };
 
+    /// What is kept of the leader that a node is in a term.
+    ghost committed_of: { ℕ → Self.Id → Self.Committed };
+
+    /// Whether a leader is the granted one.
+    ghost same_as: { Self → Self.Committed → Bool };
+
     /// How two leaders compare, if they do.
     fn compare(a: &Self, b: &Self) -> Option<Ordering>
         ensures { result ≡ order a.now b.now };
@@ -50,7 +56,7 @@ pub trait LeaderIdentity: Eq + Copy + Default + Debug + Display + 'static {
 
     /// What is kept of that leader once it is granted.
     fn new_committed(term: u64, id: Self::Id) -> Self::Committed
-        ensures { result ≡ committed (leader_of term id) };
+        ensures { result ≡ committed_of term id };
 
     /// The leader's term.
     fn term(leader: &Self) -> u64
@@ -66,7 +72,7 @@ pub trait LeaderIdentity: Eq + Copy + Default + Debug + Display + 'static {
 
     /// Whether the leader is the granted one.
     fn is_same_as_committed(leader: &Self, other: &Self::Committed) -> bool
-        ensures { result ≡ Self.Committed.eq (committed leader.now) other.now };
+        ensures { result ≡ same_as leader.now other.now };
 
     /// Leaders are partly ordered, and tied exactly where they are equal.
     ghost partial: { IsPartialOrder Self.eq order };
@@ -75,13 +81,20 @@ pub trait LeaderIdentity: Eq + Copy + Default + Debug + Display + 'static {
     ghost by_term: { (a b : Self) → term_of a ≢ term_of b
         → order a b ≡ Some (nat_cmp (term_of a) (term_of b)) };
 
-    /// Where a leader is at most another one, what is kept of it is at most what is kept of the other.
+    /// Where a leader is at most another one, what is kept of it is at most what is kept of the
+    /// other.
     ghost rises: { (a b : Self) → IsTrue (partial_le order a b)
         → IsTrue (is_le (Self.Committed.cmp (committed a) (committed b))) };
 
-    /// The leader that a node is in a term has that term and is that node's.
+    /// A leader is the granted one exactly where what is kept of it equals that one.
+    ghost same: { (a : Self) (c : Self.Committed)
+        → same_as a c ≡ Self.Committed.eq (committed a) c };
+
+    /// The leader that a node is in a term has that term and that node, and what is kept of it is
+    /// what `new_committed` makes.
     ghost made: { (t : ℕ) (n : Self.Id)
-        → (term_of (leader_of t n) ≡ t) × (voted (leader_of t n) ≡ Some n) };
+        → (term_of (leader_of t n) ≡ t) × (voted (leader_of t n) ≡ Some n)
+        × (committed_of t n ≡ committed (leader_of t n)) };
 
     /// Leaders that do not compare stand on the same side of each third one.
     ghost incomparable: { IncomparableAlike order };
@@ -172,6 +185,10 @@ impl<NID: NodeId> LeaderIdentity for LeaderId<NID> {
 
     ghost leader_of = { λ t n. record { term = t; node_id = n } };
 
+    ghost committed_of = { λ t n. record { term = t; node_id = n } };
+
+    ghost same_as = { λ a c. nat_eq a.term c.term && NID.eq a.node_id c.node_id };
+
     fn compare(a: &Self, b: &Self) -> Option<Ordering> {
         a.partial_cmp(b)
     }
@@ -207,7 +224,9 @@ impl<NID: NodeId> LeaderIdentity for LeaderId<NID> {
 
     ghost rises = { λ a b h. h };
 
-    ghost made = { λ t n. (refl, refl) };
+    ghost same = { λ a c. refl };
+
+    ghost made = { λ t n. (refl, refl, refl) };
 
     ghost incomparable = { λ a b c h. never_none _ h };
 }

@@ -4,10 +4,12 @@ ghost use Rattle.std.specs.Ordering.{nat_cmp};
 ghost use Rattle.raft_base.specs.LeaderIdStd.{std_leader_cmp, voted_cmp};
 ghost use Rattle.raft_base.specs.LeaderIdStdLaws.{alike_above, alike_below, first_decides, term_at_most, term_then_voted-partial};
 ghost use Rattle.raft_base.specs.LeaderIdLaws.{apart};
+ghost use Rattle.raft_base.specs.LeaderOrderLaws.{alike_if};
 
 use crate::display_ext::DisplayOption;
 use crate::kind::{LeaderIdentity, LeaderKind};
 use crate::node::NodeId;
+use crate::vote::VoteOf;
 use std::cmp::Ordering;
 use std::fmt;
 
@@ -119,6 +121,9 @@ impl<NID: NodeId> fmt::Display for LeaderId<NID> {
     }
 }
 
+/// Votes over the leader ids of standard Raft.
+pub type Vote<NID> = VoteOf<NID, LeaderStd>;
+
 /// The leader ids of standard Raft: in a term at most one node can lead.
 #[derive(Debug, Clone, Copy, Default, PartialEq, Eq)]
 pub struct LeaderStd;
@@ -143,6 +148,10 @@ impl<NID: NodeId> LeaderIdentity for LeaderId<NID> {
     ghost committed = { λ a. record { term = a.term } };
 
     ghost leader_of = { λ t n. record { term = t; voted_for = Some n } };
+
+    ghost committed_of = { λ t n. record { term = t } };
+
+    ghost same_as = { λ a c. nat_eq a.term c.term };
 
     fn compare(a: &Self, b: &Self) -> Option<Ordering> {
         a.partial_cmp(b)
@@ -178,10 +187,13 @@ impl<NID: NodeId> LeaderIdentity for LeaderId<NID> {
 
     ghost rises = { λ a b h. term_at_most (nat_cmp a.term b.term) _ h };
 
-    ghost made = { λ t n. (refl, refl) };
+    ghost same = { λ a c. refl };
 
-    ghost incomparable = { λ a b c h. (
-      λ k. alike_below NID.eq a.term b.term c.term a.voted_for b.voted_for c.voted_for h k,
-      λ k. alike_above NID.eq a.term b.term c.term a.voted_for b.voted_for c.voted_for h k,
-    ) };
+    ghost made = { λ t n. (refl, refl, refl) };
+
+    ghost incomparable = { alike_if (term_then_voted-partial NID.Eq.laws (λ a. a.term) (λ a. a.voted_for))
+        (λ a b c h. (
+          λ k. alike_below NID.eq a.term b.term c.term a.voted_for b.voted_for c.voted_for h k,
+          λ k. alike_above NID.eq a.term b.term c.term a.voted_for b.voted_for c.voted_for h k,
+        )) };
 }

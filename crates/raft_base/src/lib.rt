@@ -22,9 +22,14 @@ pub use leader_id::{CommittedLeaderId, LeaderId};
 pub use leader_id_std::LeaderStd;
 pub use log_id::{
     Invalid, LogId, LogIdOf, LogIdOptionExt, LogIdRange, LogIdRangeOf, LogIndexOptionExt,
-    LogStateReader, RaftLogId, RaftLogIdOf, Validate,
+    LogStateReader, RaftLogId, Validate,
 };
 pub use node::{BasicNode, EmptyNode, Node, NodeDefault, NodeEssential, NodeId, NodeIdEssential};
+pub use order::{
+    compare_default_votes, compare_leader_ids, compare_log_ids, compare_optional_log_ids,
+    compare_votes, index_at_most, index_below, log_id_at_most, log_id_below, same_log_ids,
+    same_optional_log_ids, same_votes,
+};
 pub use server_state::ServerState;
 pub use summary::MessageSummary;
 pub use utime::UTime;

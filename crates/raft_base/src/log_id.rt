@@ -13,7 +13,7 @@ pub use log_id_option_ext::LogIdOptionExt;
 pub use log_id_range::{LogIdRange, LogIdRangeOf};
 pub use log_index_option_ext::LogIndexOptionExt;
 pub use log_state_reader::LogStateReader;
-pub use raft_log_id::{RaftLogId, RaftLogIdOf};
+pub use raft_log_id::RaftLogId;
 use std::fmt;
 pub use validate::{Invalid, Validate};
 

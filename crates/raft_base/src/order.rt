@@ -1,17 +1,20 @@
 //! The orders of ids, each as a call whose contract says it.
 //!
 //! `<`, `max`, sorting and maps follow the same orders. A caller's proof takes them from here.
-ghost use Rattle.std.specs.Prelude.{◌≡◌, ◌↔◌, Some, IsTrue};
-ghost use Rattle.std.specs.declared.cmp.Ordering.TheVariants.{Equal};
-ghost use Rattle.std.specs.Ordering.{is_eq};
+ghost use Rattle.std.specs.Prelude.{◌≡◌, ◌≢◌, ◌↔◌, Some, None, true, false, IsTrue};
+ghost use Rattle.std.specs.declared.cmp.Ordering.TheVariants.{Less, Equal, Greater};
+ghost use Rattle.std.specs.Cmp.{IsTotalOrder};
+ghost use Rattle.std.specs.Ordering.{bool_cmp, is_eq};
 ghost use Rattle.std.specs.Option.{option_cmp};
 ghost use Rattle.raft_base.specs.LeaderId.{leader_id_cmp};
+ghost use Rattle.raft_base.specs.LeaderIdStd.{std_leader_cmp, std_log_id_cmp};
 ghost use Rattle.raft_base.specs.LogId.{id_le, id_lt, log_id_cmp, same_ids};
 ghost use Rattle.raft_base.specs.LogIndex.{index_le, index_lt};
 ghost use Rattle.raft_base.specs.Vote.{vote_cmp, default_vote_cmp};
 
 use crate::kind::LeaderIdentity;
 use crate::leader_id::LeaderId;
+use crate::leader_id_std;
 use crate::log_id::LogIdOf;
 use crate::node::NodeId;
 use crate::vote::{Vote, VoteIn};
@@ -92,6 +95,48 @@ pub fn compare_default_votes<NID: NodeId>(a: &Vote<NID>, b: &Vote<NID>) -> Optio
     ensures { result ≡ Some (default_vote_cmp NID.cmp a.now b.now) }
 {
     a.partial_cmp(b)
+}
+
+/// How two leader ids of standard Raft compare, if they do: by term, then a vote for nobody below
+/// each other one.
+pub fn compare_standard_leader_ids<NID: NodeId>(
+    a: &leader_id_std::LeaderId<NID>,
+    b: &leader_id_std::LeaderId<NID>,
+) -> Option<Ordering>
+    ensures { result ≡ std_leader_cmp NID.eq a.now b.now }
+{
+    a.partial_cmp(b)
+}
+
+/// How two votes over the leader ids of standard Raft compare, if they do: by leader, then by being
+/// committed, also of leaders that do not compare.
+pub fn compare_standard_votes<NID: NodeId>(
+    a: &leader_id_std::Vote<NID>,
+    b: &leader_id_std::Vote<NID>,
+) -> Option<Ordering>
+    ensures leaders_decide { let leaders = std_leader_cmp NID.eq a.now.leader_id b.now.leader_id in
+        leaders ≢ Some Equal → leaders ≢ None → result ≡ leaders }
+    ensures equal_leaders { let leaders = std_leader_cmp NID.eq a.now.leader_id b.now.leader_id in
+        leaders ≡ Some Equal → result ≡ Some (bool_cmp a.now.committed b.now.committed) }
+    ensures first_alone { let leaders = std_leader_cmp NID.eq a.now.leader_id b.now.leader_id in
+        leaders ≡ None → a.now.committed ≡ true → b.now.committed ≡ false → result ≡ Some Greater }
+    ensures second_alone { let leaders = std_leader_cmp NID.eq a.now.leader_id b.now.leader_id in
+        leaders ≡ None → a.now.committed ≡ false → b.now.committed ≡ true → result ≡ Some Less }
+    ensures both_or_neither { let leaders = std_leader_cmp NID.eq a.now.leader_id b.now.leader_id in
+        leaders ≡ None → a.now.committed ≡ b.now.committed → result ≡ None }
+{
+    a.partial_cmp(b)
+}
+
+/// How two log ids of standard Raft compare: by term, then by index. Any two do.
+pub fn compare_standard_log_ids(
+    a: &LogIdOf<leader_id_std::CommittedLeaderId>,
+    b: &LogIdOf<leader_id_std::CommittedLeaderId>,
+) -> Ordering
+    ensures by_term_then_index { result ≡ std_log_id_cmp a.now b.now }
+    ensures total { IsTotalOrder std_log_id_cmp }
+{
+    a.cmp(b)
 }
 
 /// Whether two votes are equal: exactly where they compare as equal.

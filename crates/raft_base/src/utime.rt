@@ -1,16 +1,18 @@
 //! A value with the moment of its last update.
-ghost use Rattle.std.specs.Prelude.{◌≡◌, Some, None, IsTrue};
+ghost use Rattle.std.specs.Prelude.{◌≡◌, Some, None, IfOk, IsTrue};
 ghost use Rattle.std.specs.Ordering.{is_ge};
 ghost use Rattle.std.specs.Option.{option_cmp};
+ghost use Rattle.std.specs.Set.{ClonesAreEqual};
 
 use crate::instant::Instant;
+use std::alloc::AllocError;
 use std::fmt;
 
 /// A value, and the moment of its last update, if there was one.
 ///
 /// A follower waits for its leader from the moment on that the leader was last heard. So a vote is
 /// kept with that moment. Two are equal if their values and their moments are.
-#[derive(Debug, Clone, Default, PartialEq, Eq, Drop)]
+#[derive(Debug, Clone, PartialEq, Eq, Drop)]
 pub struct UTime<T, I: Instant> {
     data: T,
     utime: Option<I>,
@@ -85,6 +87,36 @@ impl<T: Drop, I: Instant> UTime<T, I> {
         ensures value { result.now ≡ data_of self.old }
     {
         &mut self.data
+    }
+}
+
+impl<T: Clone + PartialEq + Drop, I: Instant> UTime<T, I> {
+    ghost use Rattle.raft_base.specs.UTime.{data_of, moment_of};
+
+    /// An equal value of the same moment, with a clone of the data.
+    pub fn try_clone(&self) -> Result<Self, AllocError>
+        requires { ClonesAreEqual T.eq T.is_clone }
+        ensures value { IfOk result (λ copy. IsTrue (T.eq (data_of self.now) (data_of copy))) }
+        ensures moment { IfOk result (λ copy. moment_of copy ≡ moment_of self.now) }
+    {
+        Ok(UTime {
+            data: self.data.clone()?,
+            utime: self.utime,
+        })
+    }
+}
+
+/// The default value, never updated.
+impl<T: Default, I: Instant> Default for UTime<T, I> {
+    ghost use Rattle.raft_base.specs.UTime.{data_of, moment_of};
+
+    ghost is_default = { λ stamped. T.is_default (data_of stamped) × (moment_of stamped ≡ None) };
+
+    fn default() -> Self {
+        UTime {
+            data: T::default(),
+            utime: None,
+        }
     }
 }
 

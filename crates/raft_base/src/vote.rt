@@ -3,6 +3,7 @@ ghost use Rattle.std.specs.Prelude.{◌≡◌, ◌==◌, ◌||◌, Some, None, t
 ghost use Rattle.std.specs.Ordering.{partial_le};
 
 use crate::kind::{LeaderAdv, LeaderIdentity, LeaderKind};
+pub use crate::leader_id::{CommittedLeaderId, LeaderId};
 use std::cmp::Ordering;
 use std::fmt;
 

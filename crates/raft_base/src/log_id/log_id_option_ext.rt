@@ -1,5 +1,5 @@
 //! Log ids that may be absent, as that of the last entry of a log that may be empty.
-ghost use Rattle.std.specs.Prelude.{◌≡◌, ◌<◌, ◌^◌, ℕ};
+ghost use Rattle.std.specs.Prelude.{◌≡◌, ◌<◌, ◌^◌, ℕ, nat_lt};
 ghost use Rattle.std.specs.declared.option.Option.{Option};
 ghost use Rattle.std.specs.Option.{option_copied, option_map};
 ghost use Rattle.raft_base.specs.LogIndex.{next_index_of};
@@ -15,7 +15,11 @@ pub trait LogIdOptionExt {
     fn index(&self) -> Option<u64>
         ensures { result ≡ index_of self.now };
 
-    /// The index after it, and 0 after none.
+    /// Whether `next_index` may be called: the index after it is below 2^64.
+    fn has_next_index(&self) -> bool
+        ensures { result ≡ nat_lt (next_index_of (index_of self.now)) (2 ^ 64) };
+
+    /// The index after it, and 0 after none; where `has_next_index` is true.
     fn next_index(&self) -> u64
         requires { next_index_of (index_of self.now) < 2 ^ 64 }
         ensures { result ≡ next_index_of (index_of self.now) };
@@ -29,6 +33,10 @@ impl<C> LogIdOptionExt for Option<LogIdOf<C>> {
             Some(log_id) => Some(log_id.index),
             None => None,
         }
+    }
+
+    fn has_next_index(&self) -> bool {
+        self.index() != Some(u64::MAX)
     }
 
     fn next_index(&self) -> u64 {
@@ -47,6 +55,10 @@ impl<C> LogIdOptionExt for Option<&LogIdOf<C>> {
             Some(log_id) => Some(log_id.index),
             None => None,
         }
+    }
+
+    fn has_next_index(&self) -> bool {
+        self.index() != Some(u64::MAX)
     }
 
     fn next_index(&self) -> u64 {

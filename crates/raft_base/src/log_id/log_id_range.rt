@@ -1,5 +1,5 @@
 //! Ranges of logs.
-ghost use Rattle.std.specs.Prelude.{◌≡◌, ◌-◌, ◌<◌, ◌≤◌, ◌^◌};
+ghost use Rattle.std.specs.Prelude.{◌≡◌, ◌-◌, ◌<◌, ◌≤◌, ◌^◌, ◌&&◌, nat_le, nat_lt};
 ghost use Rattle.raft_base.specs.LogId.{next_index};
 ghost use Rattle.raft_base.specs.LogIdRange.{range_relations};
 ghost use Rattle.raft_base.specs.Validate.{first_false};
@@ -33,7 +33,16 @@ impl<C: Copy> LogIdRangeOf<C> {
         LogIdRangeOf { prev, last }
     }
 
-    /// How many logs the range has, by their indexes.
+    /// Whether `len` may be called: by their indexes the last log is not before `prev`, and the
+    /// index after it is below 2^64.
+    pub fn has_len(&self) -> bool
+        ensures { result ≡ (nat_le (next_index self.now.prev) (next_index self.now.last)
+            && nat_lt (next_index self.now.last) (2 ^ 64)) }
+    {
+        self.prev.index() <= self.last.index() && self.last.has_next_index()
+    }
+
+    /// How many logs the range has, by their indexes; where `has_len` is true.
     pub fn len(&self) -> u64
         requires ordered { next_index self.now.prev ≤ next_index self.now.last }
         requires fits { next_index self.now.last < 2 ^ 64 }

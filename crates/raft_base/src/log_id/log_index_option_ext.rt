@@ -1,5 +1,5 @@
 //! Indexes that may be absent, as that of the last entry of a log that may be empty.
-ghost use Rattle.std.specs.Prelude.{◌≡◌, ◌+◌, ◌<◌, ◌^◌, ℕ, IsSome};
+ghost use Rattle.std.specs.Prelude.{◌≡◌, ◌+◌, ◌<◌, ◌^◌, ℕ, nat_lt, IsSome};
 ghost use Rattle.std.specs.declared.option.Option.{Option};
 ghost use Rattle.raft_base.specs.LogIndex.{index_before, moved_on, next_index_of};
 
@@ -8,17 +8,25 @@ pub trait LogIndexOptionExt: Sized {
     /// The index, if there is one.
     ghost shown: { Self → Option ℕ };
 
-    /// The index after it, and 0 after none.
+    /// Whether `next_index` may be called: the index after it is below 2^64.
+    fn has_next_index(&self) -> bool
+        ensures { result ≡ nat_lt (next_index_of (shown self.now)) (2 ^ 64) };
+
+    /// The index after it, and 0 after none; where `has_next_index` is true.
     fn next_index(&self) -> u64
         requires { next_index_of (shown self.now) < 2 ^ 64 }
         ensures { result ≡ next_index_of (shown self.now) };
 
-    /// The index before it, and none before 0.
+    /// The index before it, and none before 0; where there is one, as `is_some` tells.
     fn prev_index(&self) -> Self
         requires { IsSome (shown self.now) }
         ensures { shown result ≡ index_before (shown self.now) };
 
-    /// The index so many places on.
+    /// Whether `add` may be called: the index after so many places on is below 2^64.
+    fn can_add(&self, places: u64) -> bool
+        ensures { result ≡ nat_lt (next_index_of (shown self.now) + places) (2 ^ 64) };
+
+    /// The index so many places on; where `can_add` is true.
     fn add(&self, places: u64) -> Self
         requires { next_index_of (shown self.now) + places < 2 ^ 64 }
         ensures { shown result ≡ moved_on (shown self.now) places };
@@ -26,6 +34,13 @@ pub trait LogIndexOptionExt: Sized {
 
 impl LogIndexOptionExt for Option<u64> {
     ghost shown = { λ index. index };
+
+    fn has_next_index(&self) -> bool {
+        match self {
+            Some(index) => *index < u64::MAX,
+            None => true,
+        }
+    }
 
     fn next_index(&self) -> u64 {
         match self {
@@ -38,6 +53,13 @@ impl LogIndexOptionExt for Option<u64> {
         match self {
             Some(index) => index.checked_sub(1),
             None => None,
+        }
+    }
+
+    fn can_add(&self, places: u64) -> bool {
+        match self {
+            Some(index) => *index < u64::MAX && places <= u64::MAX - 1 - *index,
+            None => true,
         }
     }
 

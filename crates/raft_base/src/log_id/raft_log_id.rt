@@ -2,14 +2,12 @@
 ghost use Rattle.std.specs.Prelude.{◌≡◌, refl};
 
 use super::LogIdOf;
-use crate::leader_id::CommittedLeaderId;
-use crate::node::NodeId;
 
 /// A value that a log id identifies, as a log entry or the log id itself.
 ///
-/// The parameter is the committed leader id of the log ids. A type implements this trait, and has
-/// `RaftLogId<NID>` with it where its log ids are `LogId<NID>`.
-pub trait RaftLogIdOf<C> {
+/// The parameter is the committed leader id of the log ids: `CommittedLeaderId<NID>` where they are
+/// `LogId<NID>`.
+pub trait RaftLogId<C> {
     ghost use Rattle.raft_base.specs.declared.log_id.LogIdOf.{LogIdOf};
 
     /// The log id of a value.
@@ -37,12 +35,7 @@ pub trait RaftLogIdOf<C> {
         → with_id (with_id a id) next ≡ with_id a next };
 }
 
-/// A value that a `LogId<NID>` identifies.
-pub trait RaftLogId<NID: NodeId>: RaftLogIdOf<CommittedLeaderId<NID>> {}
-
-impl<NID: NodeId, T: RaftLogIdOf<CommittedLeaderId<NID>>> RaftLogId<NID> for T {}
-
-impl<C: Copy> RaftLogIdOf<C> for LogIdOf<C> {
+impl<C: Copy> RaftLogId<C> for LogIdOf<C> {
     ghost id_of = { λ a. a };
 
     ghost with_id = { λ a id. id };
