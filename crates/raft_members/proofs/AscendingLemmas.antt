@@ -29,6 +29,10 @@ module _ {K : Type 0} {cmp : K → K → Ordering} (o : IsTotalOrder cmp) where
       let P : List K → Type 0 = IsStrictlySortedBy cmp in
       whole ∙ sym (append_assoc ks (k ∷ []) rest) ∙ ap (λ ys. ys ++ rest) (sym (insert_last ks rest k (rw whole at s)))
 
+-- one more item is pushed
+pub push_ahead : {K : Type 0} (all ks ahead rest : List K) (k : K) → all ≡ ks ++ ahead → ahead ≡ k ∷ rest → all ≡ (ks ++ k ∷ []) ++ rest
+push_ahead all ks ahead rest k e f = e ∙ ap (λ ys. ks ++ ys) f ∙ sym (append_assoc ks (k ∷ []) rest)
+
 -- nothing is left ahead
 pub none_ahead : {K : Type 0} (all ks ahead : List K) → all ≡ ks ++ ahead → ahead ≡ [] → ks ≡ all
 none_ahead all ks ahead e f = sym (e ∙ ap (λ ys. ks ++ ys) f ∙ append-nil ks)

@@ -2,6 +2,7 @@ pub mod MajorityLemmas
 pub mod NextLemmas
 pub mod MeetingLemmas
 pub mod AtLeastLemmas
+pub mod LeastLemmas
 pub mod CloneLemmas
 pub mod AscendingLemmas
 pub mod UnionLemmas

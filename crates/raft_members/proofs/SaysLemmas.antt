@@ -64,6 +64,11 @@ module _ {K N : Type 0} {eq : K → K → Bool} (laws : IsEquivalence eq) (cmp :
   changed_coherent m (RemoveNodes s) retain n = self_coherent laws m.configs n
   changed_coherent m (ReplaceAllNodes es) retain n = self_coherent laws m.configs n
 
+  -- what a change made is coherent with what it changed
+  pub made_coherent : {E : Type 0} (same : N → N → Bool) (r : Result (MemberList K N) E) (old next : MemberList K N) (c : ChangeMembers K N) (retain : Bool) → Says same cmp next (changed eq cmp (members_of cmp old) c retain) → IfOk r (λ m. m ≡ next) → IfOk r (λ m. 0 < length old.configs → is_coherent eq old.configs m.configs ≡ true)
+  made_coherent same (Ok m) old next c retain s is = λ n. ap (λ (x : MemberList K N). is_coherent eq old.configs x.configs) is ∙ ap (λ cs. is_coherent eq old.configs cs) s.0 ∙ changed_coherent (members_of cmp old) c retain n
+  made_coherent same (Err e) old next c retain s is = tt
+
   pub change_keeps_reached : ChangeKeepsReached K N eq cmp
   change_keeps_reached m voter reached h = record {
     quorums = quorum_reaches laws m.configs m.configs voter reached h (self_coherent laws m.configs h.has_config);

@@ -3,7 +3,8 @@ use Rattle.std.specs.Prelude.{◌≡◌, Bool, true, false, Option, Some, None, 
 use Rattle.std.specs.declared.cmp.Ordering.{Ordering}
 use Rattle.raft_members.specs.Members.{node_at}
 
--- the node at an id, from the given one and whether the id needs one: the given one; else the default one where it is needed, and none where not
+-- the node at an id, from the given one and whether the id needs one: the given one; else the
+-- default one where it is needed, and none where not
 abbrev pub WithDefault : {N : Type 0} → (N → Type 0) → Option N → Bool → Option N → Type 0
 WithDefault is_default (Some given) needed node = node ≡ Some given
 WithDefault is_default None true (Some made) = is_default made
@@ -11,5 +12,7 @@ WithDefault is_default None true None = ⊥
 WithDefault is_default None false node = node ≡ None
 
 -- the nodes are the given ones, and a default one at each id that needs one and has none
-abbrev pub HasDefaults : {K N : Type 0} → (N → Type 0) → (K → K → Ordering) → List (K × N) → (K → Bool) → List (K × N) → Type 0
-HasDefaults {K} is_default cmp given needed nodes = (id : K) → WithDefault is_default (node_at cmp given id) (needed id) (node_at cmp nodes id)
+abbrev pub HasDefaults : {K N : Type 0} → (N → Type 0) → (K → K → Ordering) → List (K × N)
+    → (K → Bool) → List (K × N) → Type 0
+HasDefaults {K} is_default cmp given needed nodes =
+    (id : K) → WithDefault is_default (node_at cmp given id) (needed id) (node_at cmp nodes id)

@@ -5,10 +5,13 @@ use Rattle.raft_members.specs.declared.membership.initialize_error.InitializeErr
 use Rattle.raft_members.specs.declared.membership.initialize_error.InitializeErrorIn.TheVariants.{NotAllowed, NotInMembers}
 
 -- the same refusal, by the same log id and vote, or of the same node and an equal membership
-abbrev pub IsCopyOf : {L C K N : Type 0} → (K → K → Bool) → (N → N → Bool) → InitializeErrorIn L C K N → InitializeErrorIn L C K N → Type 0
+abbrev pub IsCopyOf : {L C K N : Type 0} → (K → K → Bool) → (N → N → Bool)
+    → InitializeErrorIn L C K N → InitializeErrorIn L C K N → Type 0
 IsCopyOf eq same (NotAllowed refused) copy = copy ≡ NotAllowed refused
 IsCopyOf eq same (NotInMembers refused) (NotAllowed copy) = ⊥
-IsCopyOf eq same (NotInMembers refused) (NotInMembers copy) = (copy.node_id ≡ refused.node_id) × IsTrue (same_members eq same refused.membership copy.membership)
+IsCopyOf eq same (NotInMembers refused) (NotInMembers copy) =
+    (copy.node_id ≡ refused.node_id)
+    × IsTrue (same_members eq same refused.membership copy.membership)
 
 -- the refusal is that the node belongs to a cluster, and has no membership
 abbrev pub is_not_allowed : {L C K N : Type 0} → InitializeErrorIn L C K N → Bool

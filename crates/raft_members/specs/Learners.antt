@@ -1,4 +1,5 @@
--- Which learners an iterator over them still gives. This file and no other reads its private fields.
+-- Which learners an iterator over them still gives. This file and
+-- no other reads its private fields.
 use Rattle.std.specs.Prelude.{Bool, List, map, not, ◌&&◌, is_some}
 use Rattle.std.specs.List.{filter}
 use Rattle.std.specs.Map.{keys_of}
@@ -16,7 +17,8 @@ abbrev pub learners_of : {K N : Type 0} → (K → K → Bool) → MemberList K 
 learners_of eq m = learners_among eq m.configs (keys_of m.nodes)
 
 -- an id is a learner of a membership if it has a node and is in no config
-abbrev pub is_learner : {K N : Type 0} → (K → K → Bool) → (K → K → Ordering) → MemberList K N → K → Bool
+abbrev pub is_learner : {K N : Type 0} → (K → K → Bool) → (K → K → Ordering) → MemberList K N → K
+    → Bool
 is_learner eq cmp m id = is_some (node_at cmp m.nodes id) && not (is_voter_of eq m.configs id)
 
 -- the ids of the nodes ahead that are in no config

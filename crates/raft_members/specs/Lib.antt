@@ -1,5 +1,6 @@
 pub mod Majority
 pub mod MajorityLaws
+pub mod QuorumSize
 pub mod AtLeast
 pub mod Coherence
 pub mod Meeting

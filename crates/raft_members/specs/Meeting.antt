@@ -7,11 +7,13 @@ use Rattle.raft_members.specs.Coherence.{is_coherent}
 module _ {K : Type 0} (eq : K → K → Bool) where
   -- some voter of the config is in both sets
   abbrev pub ShareMember : List K → (K → Bool) → (K → Bool) → Type 0
-  ShareMember config s t = (id : K) × (is_member eq config id ≡ true) × (s id ≡ true) × (t id ≡ true)
+  ShareMember config s t =
+      (id : K) × (is_member eq config id ≡ true) × (s id ≡ true) × (t id ≡ true)
 
   -- some voter of the configs is in both sets
   abbrev pub ShareVoter : List (List K) → (K → Bool) → (K → Bool) → Type 0
-  ShareVoter configs s t = (id : K) × (is_voter_of eq configs id ≡ true) × (s id ≡ true) × (t id ≡ true)
+  ShareVoter configs s t =
+      (id : K) × (is_voter_of eq configs id ≡ true) × (s id ≡ true) × (t id ≡ true)
 
   -- of two equal ids, a set has both or neither
   abbrev pub RespectsEquality : (K → Bool) → Type 0
@@ -19,15 +21,23 @@ module _ {K : Type 0} (eq : K → K → Bool) where
 
   -- a majority of a config has one of its voters
   abbrev pub MajorityHasVoter : Type 0
-  MajorityHasVoter = (config : List K) (s : K → Bool) → is_majority eq config s ≡ true → (id : K) × (is_member eq config id ≡ true) × (s id ≡ true)
+  MajorityHasVoter =
+      (config : List K) (s : K → Bool) → is_majority eq config s ≡ true
+      → (id : K) × (is_member eq config id ≡ true) × (s id ≡ true)
 
   -- two quorums of several configs, of one at least, share a voter
   abbrev pub QuorumsMeet : Type 0
-  QuorumsMeet = (configs : List (List K)) (s t : K → Bool) → 0 < length configs → is_joint_majority eq configs s ≡ true → is_joint_majority eq configs t ≡ true → ShareVoter configs s t
+  QuorumsMeet =
+      (configs : List (List K)) (s t : K → Bool) → 0 < length configs
+      → is_joint_majority eq configs s ≡ true → is_joint_majority eq configs t ≡ true
+      → ShareVoter configs s t
 
   -- a quorum of some configs and a quorum of others that are coherent with them share a voter
   abbrev pub CoherentQuorumsMeet : Type 0
-  CoherentQuorumsMeet = (these others : List (List K)) (s t : K → Bool) → RespectsEquality s → is_coherent eq these others ≡ true → is_joint_majority eq these s ≡ true → is_joint_majority eq others t ≡ true → ShareVoter these s t
+  CoherentQuorumsMeet =
+      (these others : List (List K)) (s t : K → Bool) → RespectsEquality s
+      → is_coherent eq these others ≡ true → is_joint_majority eq these s ≡ true
+      → is_joint_majority eq others t ≡ true → ShareVoter these s t
 
   -- an empty config has no quorum
   abbrev pub EmptyConfigHasNoQuorum : Type 0
@@ -37,8 +47,8 @@ module _ {K : Type 0} (eq : K → K → Bool) where
   abbrev pub NoConfigsTakeEverySet : Type 0
   NoConfigsTakeEverySet = (s : K → Bool) → is_joint_majority eq [] s ≡ true
 
-  -- two quorums of a stated size share one of the ids, where twice that size is more than there are ids,
-  -- equal ones counted once
+  -- two quorums of a stated size share one of the ids, where twice that size is more than there
+  -- are ids, equal ones counted once
   abbrev pub AtLeastQuorumsMeet : Type 0
   AtLeastQuorumsMeet = (ids : List K) (need : ℕ) (s t : K → Bool) → distinct_count eq ids < 2 * need
       → has_at_least eq ids need s ≡ true → has_at_least eq ids need t ≡ true → ShareMember ids s t

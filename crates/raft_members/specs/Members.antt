@@ -21,21 +21,28 @@ abbrev pub members_of : {K N : Type 0} → (K → K → Ordering) → MemberList
 members_of cmp m = record { configs = m.configs; node = node_at cmp m.nodes }
 
 -- the nodes are, at each id, equal to what a function gives, or like it none
-abbrev pub HasNodes : {K N : Type 0} → (N → N → Bool) → (K → K → Ordering) → List (K × N) → (K → Option N) → Type 0
-HasNodes {K} same cmp nodes node = (id : K) → IsTrue (option_eq same (node_at cmp nodes id) (node id))
+abbrev pub HasNodes : {K N : Type 0} → (N → N → Bool) → (K → K → Ordering) → List (K × N)
+    → (K → Option N) → Type 0
+HasNodes {K} same cmp nodes node =
+    (id : K) → IsTrue (option_eq same (node_at cmp nodes id) (node id))
 
 -- each id that has a node among the new ones has one among the old ones already
 abbrev pub AddsNoId : {K N : Type 0} → (K → K → Ordering) → List (K × N) → List (K × N) → Type 0
-AddsNoId {K} cmp old new = (id : K) → IsTrue (is_some (node_at cmp new id)) → IsTrue (is_some (node_at cmp old id))
+AddsNoId {K} cmp old new =
+    (id : K) → IsTrue (is_some (node_at cmp new id)) → IsTrue (is_some (node_at cmp old id))
 
 -- the membership has exactly these configs, and at each id an equal node or, like them, none
-abbrev pub Says : {K N : Type 0} → (N → N → Bool) → (K → K → Ordering) → MemberList K N → Members K N → Type 0
+abbrev pub Says : {K N : Type 0} → (N → N → Bool) → (K → K → Ordering) → MemberList K N
+    → Members K N → Type 0
 Says same cmp m w = (m.configs ≡ w.configs) × HasNodes same cmp m.nodes w.node
 
 -- two lists of nodes are equal: the same ids, with equal nodes
-abbrev pub same_nodes : {K N : Type 0} → (K → K → Bool) → (N → N → Bool) → List (K × N) → List (K × N) → Bool
+abbrev pub same_nodes : {K N : Type 0} → (K → K → Bool) → (N → N → Bool) → List (K × N)
+    → List (K × N) → Bool
 same_nodes eq same xs ys = pointwise (λ x y. eq x.0 y.0 && same x.1 y.1) xs ys
 
 -- two memberships are equal: equal configs and equal nodes
-abbrev pub same_members : {K N : Type 0} → (K → K → Bool) → (N → N → Bool) → MemberList K N → MemberList K N → Bool
-same_members eq same m w = pointwise (pointwise eq) m.configs w.configs && same_nodes eq same m.nodes w.nodes
+abbrev pub same_members : {K N : Type 0} → (K → K → Bool) → (N → N → Bool) → MemberList K N
+    → MemberList K N → Bool
+same_members eq same m w =
+    pointwise (pointwise eq) m.configs w.configs && same_nodes eq same m.nodes w.nodes

@@ -6,9 +6,12 @@ use Rattle.raft_members.specs.Valid.{has_empty_config, FirstWithoutNode}
 use Rattle.raft_members.specs.declared.error.ChangeMembershipErrorOf.{ChangeMembershipErrorOf}
 use Rattle.raft_members.specs.declared.error.ChangeMembershipErrorOf.TheVariants.{InProgress, EmptyMembership, LearnerNotFound, OutOfMemory}
 
--- why these members are refused: a config is empty; else the first voter without a node. Want of memory may come in place of either
-abbrev pub IsRefusal : {C K N : Type 0} → (K → K → Bool) → (K → K → Ordering) → Members K N → ChangeMembershipErrorOf C K → Type 0
+-- why these members are refused: a config is empty; else the first voter without a node. Want of
+-- memory may come in place of either
+abbrev pub IsRefusal : {C K N : Type 0} → (K → K → Bool) → (K → K → Ordering) → Members K N
+    → ChangeMembershipErrorOf C K → Type 0
 IsRefusal eq cmp w (InProgress _) = ⊥
 IsRefusal eq cmp w (EmptyMembership _) = has_empty_config w.configs ≡ true
-IsRefusal eq cmp w (LearnerNotFound e) = (has_empty_config w.configs ≡ false) × FirstWithoutNode eq cmp w (Some e.node_id)
+IsRefusal eq cmp w (LearnerNotFound e) =
+    (has_empty_config w.configs ≡ false) × FirstWithoutNode eq cmp w (Some e.node_id)
 IsRefusal eq cmp w OutOfMemory = Unit {0}

@@ -17,24 +17,33 @@ goal_of _ = None
 
 -- the change makes exactly these ids the voters
 abbrev pub ReplacesAllBy : {K N : Type 0} → (K → K → Bool) → List K → ChangeMembers K N → Type 0
-ReplacesAllBy {K} eq voters change = IsSomeAnd (goal_of change) (λ goal. (id : K) → is_member eq goal id ≡ is_member eq voters id)
+ReplacesAllBy {K} eq voters change =
+    IsSomeAnd (goal_of change) (λ goal. (id : K) → is_member eq goal id ≡ is_member eq voters id)
 
--- the goal can replace the voters of these members: they are valid and have a config, the goal has an id, and each of its ids has a node
-pub record CanReplace {K N : Type 0} (eq : K → K → Bool) (m : Members K N) (goal : List K) : Type 0 where
+-- the goal can replace the voters of these members: they are valid and have a config, the goal has
+-- an id, and each of its ids has a node
+pub record CanReplace {K N : Type 0} (eq : K → K → Bool) (m : Members K N) (goal : List K)
+    : Type 0 where
   pub valid : IsValid eq m
   pub has_config : 0 < length m.configs
   pub has_id : 0 < length goal
   pub has_nodes : (id : K) → is_member eq goal id ≡ true → is_some (m.node id) ≡ true
 
 -- where a change replaces the voters by a goal that can, nothing but memory refuses it
-abbrev pub OnlyMemory : {C K N : Type 0} → (K → K → Bool) → Members K N → ChangeMembers K N → ChangeMembershipErrorOf C K → Type 0
+abbrev pub OnlyMemory : {C K N : Type 0} → (K → K → Bool) → Members K N → ChangeMembers K N
+    → ChangeMembershipErrorOf C K → Type 0
 OnlyMemory eq m change e = IfSome (goal_of change) (λ goal. CanReplace eq m goal → e ≡ OutOfMemory)
 
--- a change to the goal made next of m: the goal is its last config, with at most the last one of m before it, and the same change again makes the goal the only config
-pub record LeadsToGoal {K N : Type 0} (eq : K → K → Bool) (cmp : K → K → Ordering) (m : Members K N) (change : ChangeMembers K N) (goal : List K) (next : MemberList K N) : Type 0 where
+-- a change to the goal made next of m: the goal is its last config, with at most the last one of m
+-- before it, and the same change again makes the goal the only config
+pub record LeadsToGoal {K N : Type 0} (eq : K → K → Bool) (cmp : K → K → Ordering) (m : Members K N)
+    (change : ChangeMembers K N) (goal : List K) (next : MemberList K N) : Type 0 where
   pub configs : (next.configs ≡ goal ∷ []) ⊎ (next.configs ≡ last_config m.configs ∷ goal ∷ [])
-  pub again : (retain : Bool) → (changed eq cmp (members_of cmp next) change retain).configs ≡ goal ∷ []
+  pub again : (retain : Bool)
+      → (changed eq cmp (members_of cmp next) change retain).configs ≡ goal ∷ []
 
 -- where a change replaces the voters by a goal, two such changes lead to it
-abbrev pub TwoChanges : {K N : Type 0} → (K → K → Bool) → (K → K → Ordering) → Members K N → ChangeMembers K N → MemberList K N → Type 0
-TwoChanges eq cmp m change next = IfSome (goal_of change) (λ goal. LeadsToGoal eq cmp m change goal next)
+abbrev pub TwoChanges : {K N : Type 0} → (K → K → Bool) → (K → K → Ordering) → Members K N
+    → ChangeMembers K N → MemberList K N → Type 0
+TwoChanges eq cmp m change next =
+    IfSome (goal_of change) (λ goal. LeadsToGoal eq cmp m change goal next)

@@ -44,5 +44,8 @@ module _ {K N : Type 0} where
   nodes_in _ = []
 
 -- two changes are the same
-abbrev pub IsSameChange : {K N : Type 0} → (K → K → Bool) → (N → N → Bool) → ChangeMembers K N → ChangeMembers K N → Type 0
-IsSameChange eq same a b = (kind_of a ≡ kind_of b) × (ids_in a ≡ ids_in b) × IsTrue (same_nodes eq same (nodes_in a) (nodes_in b))
+abbrev pub IsSameChange : {K N : Type 0} → (K → K → Bool) → (N → N → Bool) → ChangeMembers K N
+    → ChangeMembers K N → Type 0
+IsSameChange eq same a b =
+    (kind_of a ≡ kind_of b) × (ids_in a ≡ ids_in b)
+    × IsTrue (same_nodes eq same (nodes_in a) (nodes_in b))

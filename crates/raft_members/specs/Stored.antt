@@ -1,4 +1,5 @@
--- What a stored membership says, and when two are equal. This file and no other reads its private fields.
+-- What a stored membership says, and when two are equal. This file and
+-- no other reads its private fields.
 use Rattle.std.specs.Prelude.{◌&&◌, Bool, Option}
 use Rattle.raft_base.specs.LogId.{same_ids}
 use Rattle.raft_base.specs.declared.log_id.LogIdOf.{LogIdOf}
@@ -14,5 +15,8 @@ abbrev pub membership_of : {C K N : Type 0} → StoredMembershipOf C K N → Mem
 membership_of stored = stored.membership
 
 -- two stored memberships are equal: equal log ids, or none, and equal memberships
-abbrev pub same_stored : {C K N : Type 0} → (C → C → Bool) → (K → K → Bool) → (N → N → Bool) → StoredMembershipOf C K N → StoredMembershipOf C K N → Bool
-same_stored leader eq same a b = same_ids leader (log_id_of a) (log_id_of b) && same_members eq same (membership_of a) (membership_of b)
+abbrev pub same_stored : {C K N : Type 0} → (C → C → Bool) → (K → K → Bool) → (N → N → Bool)
+    → StoredMembershipOf C K N → StoredMembershipOf C K N → Bool
+same_stored leader eq same a b =
+    same_ids leader (log_id_of a) (log_id_of b)
+    && same_members eq same (membership_of a) (membership_of b)

@@ -9,8 +9,8 @@ pub mod quorum;
 
 pub use change_members::ChangeMembers;
 pub use error::{
-    ChangeMembershipError, ChangeMembershipErrorOf, EmptyMembership, InProgress, InProgressOf,
-    LackEntry, LackEntryOf, LearnerNotFound, NotAllowed, NotAllowedIn, NotAllowedOf,
+    ChangeMembershipError, ChangeMembershipErrorOf, EmptyMembership, ForwardToLeader, InProgress,
+    InProgressOf, LackEntry, LackEntryOf, LearnerNotFound, NotAllowed, NotAllowedIn, NotAllowedOf,
     QuorumNotEnough,
 };
 pub use membership::{

@@ -1,6 +1,6 @@
 //! Memberships: which nodes vote, in one config or in several, and which nodes are known.
-ghost use Rattle.std.specs.Prelude.{◌≡◌, Bool, List, [], ◌∷◌, IfOk, IfErr, IsOk, IsOkAnd, IsTrue, true, false, map, None, not, is_some, is_err, ◌&&◌, nat_lt, length};
-ghost use Rattle.std.specs.Option.{option_copied, option_eq, option_or};
+ghost use Rattle.std.specs.Prelude.{◌≡◌, Bool, List, [], ◌∷◌, IfOk, IfErr, IsOk, IsOkAnd, IsTrue, map, is_some, is_err, nat_lt, length};
+ghost use Rattle.std.specs.Option.{option_copied, option_or};
 ghost use Rattle.std.specs.Result.{result_err};
 ghost use Rattle.std.specs.List.{list_any, list_all};
 ghost use Rattle.std.specs.List.Sorted.{IsStrictlySortedBy};
@@ -8,7 +8,6 @@ ghost use Rattle.std.specs.Set.{ClonesAreEqual, is_member};
 ghost use Rattle.std.specs.Map.{keys_of};
 ghost use Rattle.std.specs.BTreeMap.{get, keys};
 ghost use Rattle.std.specs.Cmp.{partial_equiv_from_equiv};
-ghost use Rattle.std.specs.Cmp.Lexicographic.{pointwise};
 ghost use Rattle.raft_members.specs.MembersLaws.{same_members-equiv};
 ghost use Rattle.raft_members.specs.Majority.{is_majority, is_joint_majority, is_voter_of};
 ghost use Rattle.raft_members.specs.Members.{MemberList, node_at, members_of, same_members, AddsNoId, HasNodes};
@@ -109,8 +108,8 @@ impl<NID: NodeId, N: Node> Membership<NID, N> {
         Ok(Membership { configs, nodes })
     }
 
-    /// The membership without configs and nodes, in place of a `Default`, which has no allocator. No
-    /// memory is taken.
+    /// The membership without configs and nodes, in place of a `Default`, which
+    /// has no allocator. No memory is taken.
     pub fn try_default(alloc: Global) -> Result<Self, AllocError>
         ensures { IsOkAnd result (λ m. m ≡ record { configs = []; nodes = [] }) }
     {
@@ -132,8 +131,8 @@ impl<NID: NodeId, N: Node> Membership<NID, N> {
         Ok(Membership { configs, nodes })
     }
 
-    /// The old nodes, and copies of those new ones whose ids have no old node. Where there are none,
-    /// no memory is taken.
+    /// The old nodes, and copies of those new ones whose ids have no old node. Where
+    /// there are none, no memory is taken.
     pub fn extend_nodes(
         old: BTreeMap<NID, N>,
         new: &BTreeMap<NID, N>,
@@ -243,7 +242,8 @@ impl<NID: NodeId, N: Node> Membership<NID, N> {
     /// Refuses a membership of which a voter has no node, and answers the least such voter. No
     /// memory is taken.
     pub fn ensure_voter_nodes(&self) -> Result<(), NID>
-        ensures { FirstWithoutNode NID.eq NID.cmp (members_of NID.cmp self.now) (result_err result) }
+        ensures { FirstWithoutNode NID.eq NID.cmp (members_of NID.cmp self.now)
+            (result_err result) }
     {
         match nodes::least_missing(&self.configs, &self.nodes) {
             Some(id) => Err(id),

@@ -1,5 +1,5 @@
 //! How a membership changes.
-ghost use Rattle.std.specs.Prelude.{◌≡◌, ◌<◌, Bool, IfOk, IfErr, true, None, cond, length};
+ghost use Rattle.std.specs.Prelude.{◌≡◌, ◌<◌, IfOk, IfErr, true, None, cond, length};
 ghost use Rattle.std.specs.Option.{option_or};
 ghost use Rattle.std.specs.Set.{ClonesAreEqual};
 ghost use Rattle.std.specs.BTreeMap.{get};
@@ -10,6 +10,7 @@ ghost use Rattle.raft_members.specs.Valid.{IsValid};
 ghost use Rattle.raft_members.specs.Change.{next_members, with_nodes, changed, last_config, united, without};
 ghost use Rattle.raft_members.specs.declared.change_members.ChangeMembers.TheVariants.{AddVoters};
 ghost use Rattle.raft_members.specs.Refusal.{IsRefusal};
+ghost use Rattle.raft_members.specs.declared.error.ChangeMembershipErrorOf.TheVariants.{OutOfMemory};
 ghost use Rattle.raft_members.specs.ReplaceAll.{OnlyMemory, TwoChanges};
 
 use super::{Membership, configs, ids, nodes};
@@ -23,9 +24,9 @@ impl<NID: NodeId, N: Node> Membership<NID, N> {
     /// The membership that stands next on the way to the voters `goal`.
     ///
     /// Its configs are the goal alone where it is a config already or there are none, else the last
-    /// config and the goal: so it shares a config with this one, where this one has any, and a second
-    /// step ends at the goal alone. Without `retain` a voter that is in no new config loses its node
-    /// too; with it, such a voter becomes a learner.
+    /// config and the goal: so it shares a config with this one, where this one has any, and a
+    /// second step ends at the goal alone. Without `retain` a voter that is in no new config loses
+    /// its node too; with it, such a voter becomes a learner.
     pub fn next_coherent(&self, goal: BTreeSet<NID>, retain: bool) -> Result<Self, AllocError>
         requires { ClonesAreEqual N.eq N.is_clone }
         ensures { IfOk result (λ m. Says N.eq NID.cmp m
@@ -41,8 +42,9 @@ impl<NID: NodeId, N: Node> Membership<NID, N> {
     ///
     /// # Errors
     ///
-    /// `EmptyMembership` where the change leaves a config without voters; else `LearnerNotFound`
-    /// with the least voter that it leaves without a node; `OutOfMemory` where a growth was refused.
+    /// `EmptyMembership` where the change leaves a config without voters; else
+    /// `LearnerNotFound` with the least voter that it leaves without a node;
+    /// `OutOfMemory` where a growth was refused.
     pub fn change(
         &self,
         change: ChangeMembers<NID, N>,
@@ -64,8 +66,18 @@ impl<NID: NodeId, N: Node> Membership<NID, N> {
             (TwoChanges NID.eq NID.cmp (members_of NID.cmp self.now) change) }
     {
         let next = self.changed(change, retain)?;
-        next.ensure_valid()?;
-        Ok(next)
+        next.if_valid()
+    }
+
+    /// This very membership where it is valid, else why it isn't. No memory is taken.
+    fn if_valid(self) -> Result<Self, ChangeMembershipError<NID>>
+        ensures same { IfOk result (λ m. m ≡ self) }
+        ensures valid { IfOk result (λ _. IsValid NID.eq (members_of NID.cmp self)) }
+        ensures refused { IfErr result (IsRefusal NID.eq NID.cmp (members_of NID.cmp self)) }
+        ensures no_memory { IfErr result (λ e. e ≡ OutOfMemory → ⊥) }
+    {
+        self.ensure_valid()?;
+        Ok(self)
     }
 
     /// What a change makes of this membership, before it is tested.

@@ -1,5 +1,5 @@
 //! Default nodes for ids that have none.
-ghost use Rattle.std.specs.Prelude.{◌≡◌, IfOk, OnOk, cond, map, Some};
+ghost use Rattle.std.specs.Prelude.{◌≡◌, IfOk, OnOk, cond, Some};
 ghost use Rattle.std.specs.BTreeMap.{get, is_at};
 ghost use Rattle.std.specs.Set.{is_member};
 ghost use Rattle.raft_members.specs.Majority.{is_voter_of};

@@ -1,14 +1,15 @@
-//! The membership that is in effect.
-ghost use Rattle.std.specs.Prelude.{◌≡◌, Bool, true, false, ◌&&◌, IfOk, IsTrue, map, not, is_some, Some, None, [], nat_eq};
+//! Effective memberships.
+ghost use Rattle.std.specs.Prelude.{◌≡◌, IfOk, map, Some, None, []};
 ghost use Rattle.std.specs.List.{IsDistinct};
 ghost use Rattle.std.specs.List.Sorted.{IsStrictlySortedBy};
 ghost use Rattle.std.specs.Map.{keys_of};
-ghost use Rattle.std.specs.Option.{option_copied, option_eq};
-ghost use Rattle.std.specs.Set.{is_member, ClonesAreEqual};
+ghost use Rattle.std.specs.Option.{option_copied};
+ghost use Rattle.std.specs.Set.{is_member};
 ghost use Rattle.std.specs.Cmp.{partial_equiv_from_equiv};
 ghost use Rattle.raft_members.specs.StoredLaws.{same_stored-equiv};
 ghost use Rattle.raft_members.specs.Majority.{is_voter_of, is_joint_majority};
 ghost use Rattle.raft_members.specs.MajorityLaws.{is_joint_majority-superset};
+ghost use Rattle.raft_members.specs.QuorumSize.{QuorumsHaveAtLeast};
 ghost use Rattle.raft_members.specs.Learners.{learners_of, learners_ahead, is_learner};
 ghost use Rattle.raft_members.specs.Members.{node_at};
 ghost use Rattle.raft_members.specs.Stored.{log_id_of, membership_of};
@@ -17,14 +18,14 @@ use super::learner_ids::LearnerIds;
 use super::stored::StoredMembershipOf;
 use super::{Membership, configs, ids};
 use crate::quorum::{Joint, QuorumSet};
-use raft_base::{CommittedLeaderId, LogIdOf, MessageSummary, Node, NodeId, RaftLogIdOf};
+use raft_base::{CommittedLeaderId, LogIdOf, MessageSummary, Node, NodeId, RaftLogId};
 use std::alloc::{AllocError, Global};
 use std::collections::{BTreeSet, btree_map, btree_set};
 use std::fmt;
 use std::marker::Model;
 use std::rc::Rc;
 
-/// The membership that is in effect: the last one that a node has seen, committed or not.
+/// The effective membership: the last one that a node has seen, committed or not.
 ///
 /// Beside the stored membership stand its configs as a quorum set and its voters as a set, so that
 /// a test of a quorum takes no memory. In contracts it is its stored membership. Two are equal if
@@ -36,7 +37,7 @@ pub struct EffectiveMembershipOf<C, NID: NodeId, N: Node> {
     voter_ids: BTreeSet<NID>,
 }
 
-/// The membership that is in effect, with the default leader ids.
+/// The effective membership, with the default leader ids.
 pub type EffectiveMembership<NID, N> = EffectiveMembershipOf<CommittedLeaderId<NID>, NID, N>;
 
 impl<C, NID: NodeId, N: Node> Model for EffectiveMembershipOf<C, NID, N> {
@@ -97,7 +98,7 @@ impl<C: Copy + Drop, NID: NodeId, N: Node> EffectiveMembershipOf<C, NID, N> {
     }
 
     /// A membership under the log id of a value, as of the log entry that holds it.
-    pub fn from_log<LID: RaftLogIdOf<C>>(
+    pub fn from_log<LID: RaftLogId<C>>(
         log: &LID,
         membership: Membership<NID, N>,
     ) -> Result<Self, AllocError>
@@ -214,6 +215,14 @@ impl<C: Copy + Drop, NID: NodeId, N: Node> EffectiveMembershipOf<C, NID, N> {
     {
         self.quorum_set.is_quorum(ids)
     }
+
+    /// How many ids a quorum of each config has at least.
+    fn least_size_of_quorums(&self) -> usize
+        ensures { QuorumsHaveAtLeast NID.eq
+            (is_joint_majority NID.eq (membership_of self.now).configs) result }
+    {
+        self.quorum_set.least_quorum_size()
+    }
 }
 
 /// A quorum has a majority of each config of the membership.
@@ -226,6 +235,10 @@ impl<C: Copy + Drop, NID: NodeId, N: Node> QuorumSet<NID> for EffectiveMembershi
 
     fn is_quorum(&self, ids: &[NID]) -> bool {
         self.has_quorum(ids)
+    }
+
+    fn least_quorum_size(&self) -> usize {
+        self.least_size_of_quorums()
     }
 
     fn ids(&self, alloc: Global) -> Result<Vec<NID>, AllocError> {

@@ -45,5 +45,9 @@ pub fn set_of<ID: Copy + Ord>(alloc: Global, ids: &[ID]) -> Result<BTreeSet<ID>,
 pub fn list_of<ID: Copy + Ord>(alloc: Global, ids: &BTreeSet<ID>) -> Result<Vec<ID>, AllocError>
     ensures { IfOk result (λ list. list.items ≡ ids.now.keys) }
 {
-    ids.iter().copied().collect(alloc)
+    let mut list = Vec::with_capacity(alloc, ids.len())?;
+    for id in ids.iter() {
+        list.push(*id)?;
+    }
+    Ok(list)
 }

@@ -1,13 +1,13 @@
 //! The nodes of a membership, by their ids.
-ghost use Rattle.std.specs.Prelude.{◌≡◌, Bool, IfOk, IsOk, IsTrue, OnOk, true, false, map, cond, not, ◌&&◌, Some, None, is_some};
-ghost use Rattle.std.specs.Option.{option_eq, option_or};
+ghost use Rattle.std.specs.Prelude.{◌≡◌, IfOk, IsOk, IsTrue, OnOk, cond, not, None, is_some};
+ghost use Rattle.std.specs.Option.{option_or};
 ghost use Rattle.std.specs.List.{find, filter};
 ghost use Rattle.raft_members.specs.Members.{AddsNoId, HasNodes, same_nodes};
 ghost use Rattle.raft_members.specs.Inner.Configs.{ids_of_configs};
 ghost use Rattle.raft_members.specs.Inner.Nodes.{PutsEqual, lesser};
 ghost use Rattle.std.specs.List.Sorted.{IsStrictlySortedBy};
-ghost use Rattle.std.specs.Set.{ClonesAreEqual, is_member};
-ghost use Rattle.std.specs.BTreeMap.{get, insert_entry, is_at};
+ghost use Rattle.std.specs.Set.{ClonesAreEqual};
+ghost use Rattle.std.specs.BTreeMap.{get};
 ghost use Rattle.std.specs.BTreeSet.{contains};
 ghost use Rattle.raft_members.specs.Valid.{FirstWithoutNode};
 ghost use Rattle.raft_members.specs.Change.{keeps_node};

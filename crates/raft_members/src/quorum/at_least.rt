@@ -1,10 +1,12 @@
 //! Quorums of a stated size.
-ghost use Rattle.std.specs.Prelude.{◌≡◌, ◌≤◌, IfOk};
+ghost use Rattle.std.specs.Prelude.{◌≡◌, ◌≤◌, Bool, IfOk, length};
 ghost use Rattle.std.specs.List.{IsDistinct};
 ghost use Rattle.std.specs.List.Sorted.{IsStrictlySortedBy};
-ghost use Rattle.std.specs.Set.{is_member};
+ghost use Rattle.std.specs.Set.{distinct_count, is_member};
+ghost use Rattle.std.proofs.lemmas.Map.Keys.{IsStrictlySortedBy-prop};
 ghost use Rattle.raft_members.specs.Majority.{has_at_least};
 ghost use Rattle.raft_members.specs.MajorityLaws.{has_at_least-superset};
+ghost use Rattle.raft_members.specs.Meeting.{RespectsEquality};
 
 use super::quorum_set::QuorumSet;
 use super::quorum_set_impl::{exceeds, has, sorted_copies};
@@ -17,10 +19,11 @@ use std::fmt;
 /// (`laws::at_least_quorums_meet`). Where it is not, they need not share any: {0, 1} and {2, 3} are
 /// both quorums of 2 of 0 to 4.
 #[derive(Debug, PartialEq, Eq, Drop)]
-pub struct AtLeast<ID> {
+pub struct AtLeast<ID: Copy + Ord> {
     ids: Vec<ID>,
     need: usize,
     ghost needs_one: { 1 ≤ need },
+    ghost ascending: { IsStrictlySortedBy ID.cmp ids.items } by { IsStrictlySortedBy-prop ID.cmp ids.items },
 }
 
 impl<ID: Copy + Ord> AtLeast<ID> {
@@ -34,6 +37,11 @@ impl<ID: Copy + Ord> AtLeast<ID> {
         ensures members { IfOk result (λ made. (x : ID) →
             is_member ID.eq (ids_of made) x ≡ is_member ID.eq ids.now x) }
         ensures need { IfOk result (λ made. need_of made ≡ need) }
+        ensures count { IfOk result (λ made.
+            length (ids_of made) ≡ distinct_count ID.eq ids.now) }
+        ensures quorums { IfOk result (λ made. (set : ID → Bool) → RespectsEquality ID.eq set →
+            has_at_least ID.eq (ids_of made) (need_of made) set
+            ≡ has_at_least ID.eq ids.now need set) }
     {
         Ok(AtLeast {
             ids: sorted_copies(alloc, ids)?,
@@ -71,11 +79,16 @@ impl<ID: Copy + Ord> QuorumSet<ID> for AtLeast<ID> {
 
     #[inline(always)]
     fn is_quorum(&self, ids: &[ID]) -> bool {
-        exceeds(ids, self.need - 1, |id| has(&self.ids, id))
+        let voters: &[ID] = &self.ids;
+        exceeds(ids, self.need - 1, |id| has(voters, id))
+    }
+
+    fn least_quorum_size(&self) -> usize {
+        self.need
     }
 
     fn ids(&self, alloc: Global) -> Result<Vec<ID>, AllocError> {
-        sorted_copies(alloc, &self.ids)
+        Vec::from_slice(alloc, &self.ids)
     }
 }
 
@@ -90,7 +103,7 @@ impl<ID: Copy + Ord> Clone for AtLeast<ID> {
 }
 
 /// As `2 of {0,1,2,3,4}`.
-impl<ID: fmt::Display> fmt::Display for AtLeast<ID> {
+impl<ID: Copy + Ord + fmt::Display> fmt::Display for AtLeast<ID> {
     fn fmt<W: fmt::Write>(&self, f: &mut fmt::Formatter<W>) -> fmt::Result {
         write!(f, "{} of {{", self.need)?;
         for (at, id) in self.ids.iter().enumerate() {

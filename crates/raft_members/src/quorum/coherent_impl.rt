@@ -1,7 +1,7 @@
 //! Joints that share a child, and the way from one joint to another.
 ghost use Rattle.std.specs.Prelude.{◌≡◌, IfOk};
 ghost use Rattle.std.specs.Set.{ClonesAreEqual};
-ghost use Rattle.raft_members.specs.Coherence.{has_child, share_child, next_children, IsNext};
+ghost use Rattle.raft_members.specs.Coherence.{has_child, share_child, IsNext};
 
 use super::coherent::{Coherent, FindCoherent};
 use super::joint::Joint;
@@ -38,8 +38,8 @@ impl<ID: Copy + Ord, QS: QuorumSet<ID> + Eq> Coherent<ID, QS> for Joint<ID, QS, 
 }
 
 /// The goal alone stands next where it is a child or there are no children, else the last child and
-/// the goal. So the next joint shares a child with this one, where that has one, and has the goal as
-/// a child; and from it the goal alone stands next.
+/// the goal. So the next joint shares a child with this one, where that has one, and has the goal
+/// as a child; and from it the goal alone stands next.
 impl<ID: Copy + Ord, QS: QuorumSet<ID> + Clone + Eq + Drop> FindCoherent<ID, QS>
     for Joint<ID, QS, Vec<QS>> {
     ghost clones_are_equal = { ClonesAreEqual QS.eq QS.is_clone };

@@ -4,6 +4,7 @@ ghost use Rattle.std.specs.List.{IsDistinct, list_any, list_all};
 ghost use Rattle.std.specs.List.Sorted.{IsStrictlySortedBy};
 ghost use Rattle.std.specs.Set.{is_member};
 ghost use Rattle.raft_members.specs.MajorityLaws.{list_all-weaker};
+ghost use Rattle.raft_members.specs.QuorumSize.{QuorumsHaveAtLeast};
 
 use super::joint::Joint;
 use super::quorum_set::QuorumSet;
@@ -22,6 +23,10 @@ impl<ID: Copy + Ord, QS: QuorumSet<ID>> QuorumSet<ID> for Joint<ID, QS, Vec<QS>>
 
     fn is_quorum(&self, ids: &[ID]) -> bool {
         is_quorum_of_each(self.children(), ids)
+    }
+
+    fn least_quorum_size(&self) -> usize {
+        least_of_each(self.children())
     }
 
     fn ids(&self, alloc: Global) -> Result<Vec<ID>, AllocError> {
@@ -43,6 +48,10 @@ impl<'a, ID: Copy + Ord, QS: QuorumSet<ID>> QuorumSet<ID> for Joint<ID, QS, &'a 
         is_quorum_of_each(self.children(), ids)
     }
 
+    fn least_quorum_size(&self) -> usize {
+        least_of_each(self.children())
+    }
+
     fn ids(&self, alloc: Global) -> Result<Vec<ID>, AllocError> {
         ids_of_each(alloc, self.children())
     }
@@ -59,6 +68,18 @@ fn is_quorum_of_each<ID: Copy + Ord, QS: QuorumSet<ID>>(children: &[QS], ids: &[
         }
     }
     true
+}
+
+/// The greatest bound of the children: a quorum of all has as many ids as one of each.
+fn least_of_each<ID: Copy + Ord, QS: QuorumSet<ID>>(children: &[QS]) -> usize
+    ensures { QuorumsHaveAtLeast ID.eq
+        (λ s. list_all (λ c. QS.has_quorum c s) children.now) result }
+{
+    let mut greatest = 0;
+    for child in children {
+        greatest = child.least_quorum_size().max(greatest);
+    }
+    greatest
 }
 
 /// The voters of all children, each once, ascending.

@@ -32,8 +32,8 @@ pub fn no_configs_take_every_set<ID: Copy + Ord>()
     ensures { NoConfigsTakeEverySet ID.eq }
 {}
 
-/// Two quorums of one stated size share one of the ids, where twice that size is more than there are
-/// ids. Where it is not, they need not: {0, 1} and {2, 3} are both quorums of 2 of 0 to 4.
+/// Two quorums of one stated size share one of the ids, where twice that size is more than there
+/// are ids. Where it is not, they need not: {0, 1} and {2, 3} are both quorums of 2 of 0 to 4.
 pub fn at_least_quorums_meet<ID: Copy + Ord>()
     ensures { AtLeastQuorumsMeet ID.eq }
 {}

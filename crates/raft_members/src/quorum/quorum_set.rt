@@ -3,6 +3,7 @@ ghost use Rattle.std.specs.Prelude.{◌≡◌, Bool, true, IfOk};
 ghost use Rattle.std.specs.List.{IsDistinct};
 ghost use Rattle.std.specs.Set.{is_member};
 ghost use Rattle.std.specs.List.Sorted.{IsStrictlySortedBy};
+ghost use Rattle.raft_members.specs.QuorumSize.{QuorumsHaveAtLeast};
 
 use std::alloc::{AllocError, Global};
 
@@ -25,6 +26,15 @@ pub trait QuorumSet<ID: Copy + Ord> {
     fn is_quorum(&self, ids: &[ID]) -> bool
         ensures quorum { IsDistinct ID.eq ids.now →
             result ≡ has_quorum self.now (is_member ID.eq ids.now) };
+
+    /// How many ids a quorum has at least, as far as the quorum set tells.
+    ///
+    /// A caller that has fewer ids need not ask. Nothing is allocated.
+    fn least_quorum_size(&self) -> usize
+        ensures { QuorumsHaveAtLeast ID.eq (has_quorum self.now) result }
+    {
+        0
+    }
 
     /// The voters, each once, ascending.
     fn ids(&self, alloc: Global) -> Result<Vec<ID>, AllocError>

@@ -1,5 +1,5 @@
-//! Lists and sets of voters as quorum sets: a quorum has more than half of the voters. Shared quorum
-//! sets.
+//! Lists and sets of voters as quorum sets: a quorum has more than half
+//! of the voters. Shared quorum sets.
 ghost use Rattle.std.specs.Prelude.{◌≡◌, Bool, IfOk, count_by, nat_lt};
 ghost use Rattle.std.specs.List.{IsDistinct, list_any};
 ghost use Rattle.std.specs.Set.{is_member};
@@ -29,6 +29,10 @@ impl<ID: Copy + Ord> QuorumSet<ID> for Vec<ID> {
         has_majority(self, ids)
     }
 
+    fn least_quorum_size(&self) -> usize {
+        self.len() / 2 + 1
+    }
+
     fn ids(&self, alloc: Global) -> Result<Vec<ID>, AllocError> {
         sorted_copies(alloc, self)
     }
@@ -45,6 +49,10 @@ impl<'a, ID: Copy + Ord> QuorumSet<ID> for &'a [ID] {
     #[inline(always)]
     fn is_quorum(&self, ids: &[ID]) -> bool {
         has_majority(self, ids)
+    }
+
+    fn least_quorum_size(&self) -> usize {
+        self.len() / 2 + 1
     }
 
     fn ids(&self, alloc: Global) -> Result<Vec<ID>, AllocError> {
@@ -64,6 +72,10 @@ impl<ID: Copy + Ord> QuorumSet<ID> for BTreeSet<ID> {
         exceeds(ids, self.len() / 2, |id| self.contains(&id))
     }
 
+    fn least_quorum_size(&self) -> usize {
+        self.len() / 2 + 1
+    }
+
     fn ids(&self, alloc: Global) -> Result<Vec<ID>, AllocError> {
         self.iter().copied().collect(alloc)
     }
@@ -81,16 +93,37 @@ impl<ID: Copy + Ord, T: QuorumSet<ID> + Drop> QuorumSet<ID> for Rc<T> {
         (**self).is_quorum(ids)
     }
 
+    fn least_quorum_size(&self) -> usize {
+        (**self).least_quorum_size()
+    }
+
     fn ids(&self, alloc: Global) -> Result<Vec<ID>, AllocError> {
         (**self).ids(alloc)
     }
 }
 
 /// Whether more than half of the voters are among the ids.
-// Half of the length, and not twice the count: the count could not be doubled at every length. It is
-// inlined, since a call adds a third to the test of a short list.
+// Half of the length, and not twice the count: the count could not be doubled at every length. It
+// is inlined, since a call adds a third to the test of a short list.
 #[inline(always)]
 fn has_majority<ID: Copy + Ord>(voters: &[ID], ids: &[ID]) -> bool
+    ensures { IsDistinct ID.eq ids.now →
+        result ≡ is_majority ID.eq voters.now (is_member ID.eq ids.now) }
+{
+    if voters.len() >= CHUNK {
+        return has_majority_of_many(voters, ids);
+    }
+    // So that the search of the voters for an id need not ask whether there are any.
+    if voters.is_empty() {
+        return false;
+    }
+    exceeds(ids, voters.len() / 2, |id| has_singly(voters, id))
+}
+
+/// The same for a long list.
+// It is kept apart, so that a test of a short list has no need of its registers.
+#[inline(never)]
+fn has_majority_of_many<ID: Copy + Ord>(voters: &[ID], ids: &[ID]) -> bool
     ensures { IsDistinct ID.eq ids.now →
         result ≡ is_majority ID.eq voters.now (is_member ID.eq ids.now) }
 {
@@ -150,7 +183,8 @@ fn has_singly<ID: Copy + Ord>(voters: &[ID], id: ID) -> bool
 }
 
 /// The same for a chunk.
-// All are compared, with no stop at the one that is found: so the compiler uses vector instructions.
+// All are compared, with no stop at the one that is found: so the
+// compiler uses vector instructions.
 fn chunk_has<ID: Copy + Ord>(chunk: &[ID; CHUNK], id: ID) -> bool
     ensures { result ≡ list_any (λ y. ID.eq y id) chunk.now }
 {

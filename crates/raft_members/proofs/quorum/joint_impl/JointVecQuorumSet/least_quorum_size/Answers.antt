@@ -1,0 +1,4 @@
+use Rattle.raft_members.proofs.quorum.joint_impl.JointVecQuorumSet.least_quorum_size.Goals as goal
+
+pub returns : goal.returns
+returns g c = rw (c.deref.ensures.value, c.children.ensures) at c.least_of_each.ensures
