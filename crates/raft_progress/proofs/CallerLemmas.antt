@@ -1,5 +1,5 @@
 -- What callers may need of a progress that they have written into.
-use Rattle.std.specs.Prelude.{◌≡◌, Bool, Some}
+use Rattle.std.specs.Prelude.{◌≡◌, Bool, true, Some}
 use Rattle.std.specs.declared.cmp.Ordering.{Ordering}
 use Rattle.std.proofs.Common.{ap, refl}
 use Rattle.std.proofs.lemmas.Map.{keys-set_value}
@@ -13,13 +13,13 @@ module _ {ID V P QS : Type 0} (eq : ID → ID → Bool) (part : V → P) where
   pub in_order_kept : (cmp : P → P → Ordering) (has_quorum : QS → (ID → Bool) → Bool) (old new : Shown ID V P QS) → KeepsParts part old new → IsInOrder eq cmp part has_quorum old → IsInOrder eq cmp part has_quorum new
   in_order_kept cmp has_quorum old new k = order_alike eq cmp part has_quorum old new (λ set. ap (λ q. has_quorum q set) k.quorum_set) k.voter_count k.default_part k.granted k.ids k.parts
 
-  -- a value of the same part in the place of another keeps ids and parts
-  pub with_value_keeps : (p : Shown ID V P QS) (id : ID) (v w : V) → (state eq p).value id ≡ Some v → part w ≡ part v → KeepsParts part p (with_value eq p id w)
+  -- a value in the place of another keeps ids and voters' parts, where it has the same part or the id is no voter
+  pub with_value_keeps : (p : Shown ID V P QS) (id : ID) (v w : V) → (state eq p).value id ≡ Some v → ((state eq p).is_voter id ≡ true → part w ≡ part v) → KeepsParts part p (with_value eq p id w)
   with_value_keeps p id v w e same = record {
     quorum_set = refl;
     voter_count = refl;
     default_part = refl;
     granted = refl;
     ids = keys-set_value (eq id) p.walk w;
-    parts = written_parts part (eq id) v w same p.voter_count p.walk e;
+    parts = written_parts part eq id v w p.voter_count p.walk e same;
   }

@@ -30,7 +30,7 @@ use Rattle.raft_progress.specs.declared.inflight.InflightError.{InflightError}
 use Rattle.raft_progress.specs.declared.inflight.InflightOf.{InflightOf}
 use Rattle.raft_progress.specs.declared.inflight.InflightOf.TheVariants.{Logs}
 use Rattle.raft_progress.proofs.HalvingLemmas.{Near}
-use Rattle.raft_progress.proofs.HonestRunLemmas.{Acked, Refused, Sends, at_end, ids_total, le_lt, le_true, lt_true, ready_acked, ready_refused, sends, turn_acked, turn_refused}
+use Rattle.raft_progress.proofs.HonestRunLemmas.{Acked, Refused, Sends, at_end, ids_total, le_lt, ready_acked, ready_refused, sends, turn_acked, turn_refused}
 use Rattle.raft_progress.proofs.HonestTurnLemmas.{Stands, ack_falls, ack_near, conflict_falls, conflict_halves, measure}
 
 -- a send that is no error is the table's
@@ -148,11 +148,6 @@ module _ {C : Type 0} (eq : C → C → Bool) (cmp : C → C → Ordering) (tota
   stands : (entry : ProgressEntryOf C) (agree : ℕ) → Ready eq cmp log n entry agree → Stands (next_index entry.matching) entry.searching_end (next_index log.last) (next_index log.purge_upto) agree
   stands entry agree ready = record { matched = ready.matched; agreed = ready.agreed; logged = ready.logged; kept = ready.kept }
 
-  pub sendable : (entry : ProgressEntryOf C) (agree : ℕ) → Ready eq cmp log n entry agree → entry.curr_inflight_id + 1 < 2 ^ 64 → IsTrue (can_be_sent entry log)
-  sendable entry agree ready id =
-      let r1 = ready.matched in let r2 = ready.agreed in let r3 = ready.logged in let r4 = ready.kept in let r5 = ready.fits in
-      rw (ready.idle, le_true (next_index entry.matching) entry.searching_end (omega arith), lt_true (next_index log.last) (2 ^ 64) r5, le_true entry.searching_end (next_index log.last) (omega arith), lt_true (next_index log.purge_upto) (2 ^ 64) (omega arith), lt_true (entry.curr_inflight_id + 1) (2 ^ 64) id) refl
-
   module _ (entry0 : ProgressEntryOf C) (agree0 : ℕ) where
     abbrev pub Here : ProgressEntryOf C → ℕ → ℕ → ℕ → Type 0
     Here entry agree conflicts acks = Along eq cmp log n entry0 agree0 entry agree conflicts acks
@@ -247,9 +242,6 @@ module _ {C : Type 0} (eq : C → C → Bool) (cmp : C → C → Ordering) (tota
 
     pub ends_run : (entry : ProgressEntryOf C) (agree c k : ℕ) → Here entry agree c k → ((i j : ℕ) → turn cmp log n (record { entry = entry; agree = agree; conflicts = i; acks = j }) ≡ None) → HonestRunEnds cmp log n entry0 agree0 entry c k
     ends_run entry agree c k here none = let r = here.runs 0 (record { entry = entry; agree = agree; conflicts = c; acks = k }) (none c k, refl) in (r.0, agree, r.1)
-
-    pub conflicts_within : (entry : ProgressEntryOf C) (agree c k : ℕ) → Here entry agree c k → (j : ℕ) → Near j (entry0.searching_end - next_index entry0.matching) → c ≤ j
-    conflicts_within entry agree c k here j h = let b = here.near j h in let b1 = b.1 in omega arith
 
 -- equal log ids are neither above nor below each other, so a run never lowers the match
 module _ {C : Type 0} (eq : C → C → Bool) (cmp : C → C → Ordering) (total : IsTotalOrder cmp) (reflexive : (x : C) → eq x x ≡ true) (ties : (x y : C) → eq x y ≡ eq_by_cmp cmp x y) where

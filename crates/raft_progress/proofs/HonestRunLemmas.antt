@@ -1,5 +1,5 @@
 -- The turns of an honest run over a log that has all from the purge point on.
-use Rattle.std.proofs.Common.{◌≡◌, ℕ, ◌+◌, ◌-◌, ◌^◌, ◌<◌, ◌≤◌, max, Bool, true, false, nat_eq, nat_lt, nat_le, ◌==◌, Option, Some, None, Ok, Err, IsTrue, refl, arith, ◌⊎◌, inl, inr, ap}
+use Rattle.std.proofs.Common.{◌≡◌, ℕ, ◌+◌, ◌-◌, ◌^◌, ◌<◌, ◌≤◌, max, Bool, true, false, nat_eq, nat_lt, ◌==◌, Option, Some, None, Ok, Err, IsTrue, refl, arith, ◌⊎◌, inl, inr, ap}
 use Rattle.std.proofs.lemmas.Bool.{cases_lt}
 use Rattle.std.proofs.lemmas.Bool.Decides.{nat_tests}
 use Rattle.std.specs.declared.cmp.Ordering.{Ordering}
@@ -23,7 +23,7 @@ use Rattle.raft_progress.specs.inflight.Inflight.{is_idle}
 use Rattle.raft_base.specs.LogIndex.{index_le}
 use Rattle.raft_progress.specs.Inner.Turns.{Ready}
 use Rattle.raft_progress.specs.declared.entry.ProgressEntryOf.{ProgressEntryOf}
-use Rattle.raft_progress.specs.declared.inflight.InflightOf.TheVariants.{None as Idle, Logs, Snapshot}
+use Rattle.raft_progress.specs.declared.inflight.InflightOf.TheVariants.{None as Idle, Logs}
 
 -- orders as tests
 lt_less : (o : Ordering) → is_lt o ≡ true → o ≡ Less
@@ -43,9 +43,6 @@ le_split Greater h = cc
 
 pub lt_true : (a b : ℕ) → a < b → nat_lt a b ≡ true
 lt_true a b h = grind (arith, nat_tests)
-
-pub le_true : (a b : ℕ) → a ≤ b → nat_le a b ≡ true
-le_true a b h = grind (arith, nat_tests)
 
 lt_false : (a b : ℕ) → b ≤ a → nat_lt a b ≡ false
 lt_false a b h = grind (arith, nat_tests)
@@ -233,18 +230,6 @@ module _ {C : Type 0} (eq : C → C → Bool) (cmp : C → C → Ordering) (tota
       sent_none entry new agree ready ok is = elim (sends entry agree ready) [
         | inl same ↦ (let e = (at_end entry agree ready same).0 in cc)
         | inr lt ↦ (let r2 = ready.agreed in let r4 = ready.kept in let sent_is = sent_logs entry ready.idle (omega arith) lt.0 in cc)
-      ]
-
-      pub sent_snapshot : (entry new : ProgressEntryOf C) (agree id : ℕ) (last : Option (LogIdOf C)) → Ready eq cmp log n entry agree → sent cmp entry log n ≡ Ok new → new.inflight ≡ Snapshot id last → ⊥
-      sent_snapshot entry new agree id last ready ok is = elim (sends entry agree ready) [
-        | inl same ↦ (let e = (at_end entry agree ready same).0 in cc)
-        | inr lt ↦ (let r2 = ready.agreed in let r4 = ready.kept in let sent_is = sent_logs entry ready.idle (omega arith) lt.0 in cc)
-      ]
-
-      pub sent_ends : (entry new : ProgressEntryOf C) (agree : ℕ) → Ready eq cmp log n entry agree → sent cmp entry log n ≡ Err new → (new ≡ entry) × CaughtUp eq log entry
-      sent_ends entry new agree ready err = elim (sends entry agree ready) [
-        | inl same ↦ (let e = at_end entry agree ready same in let e0 = e.0 in (cc, e.1))
-        | inr lt ↦ (let r2 = ready.agreed in let r4 = ready.kept in let sent_is = sent_logs entry ready.idle (omega arith) lt.0 in absurd (cc))
       ]
 
       pub ready_refused : (entry : ProgressEntryOf C) (agree : ℕ) → Ready eq cmp log n entry agree → Sends entry → agree < start_of entry log → Ready eq cmp log n (record entry { curr_inflight_id = entry.curr_inflight_id + 1; inflight = Idle; searching_end = start_of entry log - 1 }) agree

@@ -16,9 +16,6 @@ measure m e l = e + 2 * (l - m)
 
 module _ (m e l p agree : ℕ) (stands : Stands m e l p agree) where
   -- a refused probe: the end moves to the index before it
-  pub conflict_stands : agree < max (calc_mid m e) p → Stands m (max (calc_mid m e) p - 1) l p agree
-  conflict_stands lt = record { matched = stands.matched; agreed = omega arith; logged = let a = stands.logged in let b = stands.matched in let c = stands.agreed in let d = stands.kept in omega arith; kept = stands.kept }
-
   pub conflict_falls : agree < max (calc_mid m e) p → measure m (max (calc_mid m e) p - 1) l < measure m e l
   conflict_falls lt = let a = stands.logged in let b = stands.matched in let c = stands.agreed in let d = stands.kept in omega arith
 
@@ -35,18 +32,8 @@ module _ (m e l p agree : ℕ) (stands : Stands m e l p agree) where
     to = min (max (calc_mid m e) p + n) l
 
     -- an ack: the match moves past what was sent
-    pub ack_stands : Stands to (max e to) l p (max agree to)
-    ack_stands = let a = stands.logged in let b = stands.matched in let c = stands.agreed in let d = stands.kept in record { matched = omega arith; agreed = omega arith; logged = omega arith; kept = omega arith }
-
-    pub ack_sends : max (calc_mid m e) p < to
-    ack_sends = let a = stands.logged in let b = stands.matched in let c = stands.agreed in let d = stands.kept in omega arith
-
     pub ack_falls : measure to (max e to) l < measure m e l
     ack_falls = let a = stands.logged in let b = stands.matched in let c = stands.agreed in let d = stands.kept in omega arith
 
     pub ack_near : (b : ℕ) → Near b (e - m) → Near b (max e to - to)
     ack_near b near = let a = stands.logged in let b1 = stands.matched in let c = stands.agreed in let d = stands.kept in omega arith
-
-    -- max_entries of what is left are done, or all
-    pub ack_advances : min (m + n) l ≤ to
-    ack_advances = let a = stands.logged in let b = stands.matched in omega arith

@@ -117,14 +117,15 @@ module _ {ID V P : Type 0} (part : V → P) where
       by here true i r = ap Some here
       by here false i r = r i
 
-  pub written_parts : (test : ID → Bool) (v w : V) → part w ≡ part v → (n : ℕ) (xs : List (ID × V)) → lookup test xs ≡ Some v → map (λ e. part e.1) (take n (set_value test xs w)) ≡ map (λ e. part e.1) (take n xs)
-  written_parts test v w same zero xs e = refl
-  written_parts test v w same (suc n) [] e = refl
-  written_parts test v w same (suc n) (x ∷ xs) e = by (test x.0) e (written_parts test v w same n xs)
+  -- a value written at an id keeps the parts of the first entries, where it has the same part or the id is in none of them
+  pub written_parts : (eq : ID → ID → Bool) (id : ID) (v w : V) (n : ℕ) (xs : List (ID × V)) → lookup (eq id) xs ≡ Some v → (is_member eq (take n (keys_of xs)) id ≡ true → part w ≡ part v) → map (λ e. part e.1) (take n (set_value (eq id) xs w)) ≡ map (λ e. part e.1) (take n xs)
+  written_parts eq id v w zero xs e same = refl
+  written_parts eq id v w (suc n) [] e same = refl
+  written_parts eq id v w (suc n) (x ∷ xs) e same = by (eq id x.0) e same (written_parts eq id v w n xs)
     where
-      by : (b : Bool) → cond b (Some x.1) (lookup test xs) ≡ Some v → (lookup test xs ≡ Some v → map (λ f. part f.1) (take n (set_value test xs w)) ≡ map (λ f. part f.1) (take n xs)) → map (λ f. part f.1) (take (suc n) (cond b ((x.0, w) ∷ xs) (x ∷ set_value test xs w))) ≡ part x.1 ∷ map (λ f. part f.1) (take n xs)
-      by true i r = let is : x.1 ≡ v = cc in ap (λ p. p ∷ map (λ f. part f.1) (take n xs)) (same ∙ ap part (sym is))
-      by false i r = ap (λ ps. part x.1 ∷ ps) (r i)
+      by : (b : Bool) → cond b (Some x.1) (lookup (eq id) xs) ≡ Some v → ((b || is_member eq (take n (keys_of xs)) id) ≡ true → part w ≡ part v) → (lookup (eq id) xs ≡ Some v → (is_member eq (take n (keys_of xs)) id ≡ true → part w ≡ part v) → map (λ f. part f.1) (take n (set_value (eq id) xs w)) ≡ map (λ f. part f.1) (take n xs)) → map (λ f. part f.1) (take (suc n) (cond b ((x.0, w) ∷ xs) (x ∷ set_value (eq id) xs w))) ≡ part x.1 ∷ map (λ f. part f.1) (take n xs)
+      by true i s r = let is : x.1 ≡ v = cc in ap (λ p. p ∷ map (λ f. part f.1) (take n xs)) (s refl ∙ ap part (sym is))
+      by false i s r = ap (λ ps. part x.1 ∷ ps) (r i s)
 
 module _ {ID V P QS : Type 0} (eq : ID → ID → Bool) (cmp : P → P → Ordering) (part : V → P) (has_quorum : QS → (ID → Bool) → Bool) (old new : Shown ID V P QS) (quorums : (set : ID → Bool) → has_quorum new.quorum_set set ≡ has_quorum old.quorum_set set) (voter_count : new.voter_count ≡ old.voter_count) (default_part : new.default_part ≡ old.default_part) (granted : new.granted ≡ old.granted) (ids : keys_of new.walk ≡ keys_of old.walk) (parts : map (λ e. part e.1) (take old.voter_count new.walk) ≡ map (λ e. part e.1) (take old.voter_count old.walk)) where
   voter_parts : (x : ID) → is_member eq (take old.voter_count (keys_of old.walk)) x ≡ true → option_map part (lookup (eq x) new.walk) ≡ option_map part (lookup (eq x) old.walk)

@@ -1,26 +1,24 @@
 -- A map that tells the places of ids.
-use Rattle.std.specs.Prelude.{◌≡◌, ℕ, ◌+◌, ◌-◌, ◌<◌, ◌≤◌, Bool, true, false, cond, ◌||◌, List, [], ◌∷◌, ◌++◌, length, take, Option, Some, None, position, slice_get}
+use Rattle.std.specs.Prelude.{◌≡◌, ℕ, ◌+◌, ◌-◌, ◌<◌, ◌≤◌, Bool, true, false, ◌||◌, List, [], ◌∷◌, ◌++◌, length, Option, Some, None, position, slice_get}
 use Rattle.std.specs.Cmp.{IsEquivalence}
-use Rattle.std.specs.Map.{keys_of}
+use Rattle.std.specs.Map.{keys_of, values_of}
 use Rattle.std.specs.Set.{is_member}
 use Rattle.std.specs.List.{IsDistinct}
 use Rattle.std.specs.Option.{is_some, option_map}
 use Rattle.std.proofs.Common.{arith, sym, ap, refl, ◌∙◌, true≢false, get_or, set, subst, suc, zero, ltb, ltb-true, ltb-false, length-append}
-use Rattle.std.proofs.Math.Seq.{get_or-append_seam}
-use Rattle.std.proofs.lemmas.List.{get_or-append-add, get_or_append_left, length-take}
-use Rattle.std.proofs.lemmas.List.Folds.{list_any-append}
+use Rattle.std.proofs.lemmas.List.{get_or-append-add, get_or_append_left, length-map}
 use Rattle.std.proofs.lemmas.Bool.Decides.{nat_tests}
 use Rattle.std.proofs.lemmas.List.Quantifiers.{position-Some}
-use Rattle.std.proofs.lemmas.Option.{get_or_from_slice_get}
-use Rattle.std.proofs.lemmas.Map.Entries.{length-keys_of}
+use Rattle.std.proofs.lemmas.Option.{get_or_from_slice_get, slice_get_within}
+use Rattle.std.proofs.lemmas.Map.Entries.{length-keys_of, place_from_lookup}
 use Rattle.std.proofs.lemmas.Map.Keys.{apart_from_distinct}
 use Rattle.std.proofs.lemmas.Map.Made.{is_some-lookup}
 use Rattle.std.specs.declared.cmp.Ordering.{Ordering}
-use Rattle.raft_progress.specs.Inner.Places.{TellsPlaces, TellsPlacesBefore, TellsPlacesBut, place_after}
+use Rattle.raft_progress.specs.Inner.Places.{TellsPlaces, AreInverse, TellsPlacesBefore, place_after, place_in}
 use Rattle.raft_progress.specs.Inner.Rises.{Passed}
 use Rattle.raft_progress.proofs.ListLemmas.{or_right}
+use Rattle.raft_progress.proofs.MadeLemmas.{place_at}
 use Rattle.raft_progress.proofs.MovedLemmas.{member_moved}
-use Rattle.raft_progress.proofs.SettledLemmas.{get_take}
 use Rattle.raft_progress.proofs.WalkLemmas.{lookup_absent}
 
 -- the id at a place is that of the entry there
@@ -41,11 +39,6 @@ keys_rewritten (e ∷ es) (suc i) d w = ap (λ ks. e.0 ∷ ks) (keys_rewritten e
 
 pub keys_written : {ID V : Type 0} (es : List (ID × V)) (i : ℕ) (e : ID × V) (w : V) → slice_get es i ≡ Some e → keys_of (set es i (e.0, w)) ≡ keys_of es
 keys_written {ID} {V} es i e w h = ap (λ (f : ID × V). keys_of (set es i (f.0, w))) (sym (get_or_from_slice_get es i e e h)) ∙ keys_rewritten es i e w
-
--- where an id is found, there is a place
-pub place_within : {X : Type 0} (p : X → Bool) (xs : List X) (i : ℕ) → position p xs ≡ Some i → i < length xs
-place_within p [] i h = absurd (cc)
-place_within p (x ∷ xs) i h = (position-Some p (x ∷ xs) i x h).0
 
 -- within a list the default does not matter
 pub any_default : {X : Type 0} (xs : List X) (i : ℕ) (d e : X) → i < length xs → get_or xs i d ≡ get_or xs i e
@@ -130,101 +123,6 @@ module _ {ID : Type 0} {eq : ID → ID → Bool} (laws : IsEquivalence eq) where
           t.here id i (rw (length-keys_of (e ∷ es)) p.0) (ap (eq id) (sym (key_at (e ∷ es) i e id p.0)) ∙ p.1)
       by None h = t.unknown id (sym (is_some-lookup (eq id) (e ∷ es)) ∙ ap is_some (lookup_absent (eq id) (e ∷ es) h))
 
-  -- nothing is told of no ids
-  pub tells_none : (found : ID → Option ℕ) → ((x : ID) → found x ≡ None) → TellsPlaces eq [] found
-  tells_none found none = record { here = λ x k l h. absurd (omega arith); unknown = λ x m. none x }
-
-  -- one id more, behind the others
-  pub tells_more : (ids : List ID) (found found' : ID → Option ℕ) (id : ID) → TellsPlaces eq ids found → is_member eq ids id ≡ false → ((x : ID) → found' x ≡ cond (eq id x) (Some (length ids)) (found x)) → TellsPlaces eq (ids ++ id ∷ []) found'
-  tells_more ids found found' id t fresh is = record { here = here; unknown = unknown }
-    where
-      others : (x : ID) → eq id x ≡ false → found' x ≡ found x
-      others x h = is x ∙ ap (λ b. cond b (Some (length ids)) (found x)) h
-
-      here : (x : ID) (k : ℕ) → k < length (ids ++ id ∷ []) → eq x (get_or (ids ++ id ∷ []) k x) ≡ true → found' x ≡ Some k
-      here x k l h = by (ltb k (length ids)) refl
-        where
-          by : (b : Bool) → ltb k (length ids) ≡ b → found' x ≡ Some k
-          by true u =
-              let m = ltb-true k (length ids) u in
-              let at : eq x (get_or ids k x) ≡ true = ap (eq x) (sym (get_or_append_left ids (id ∷ []) x k m)) ∙ h in
-              others x (other (eq id x) refl at m) ∙ t.here x k m at
-            where
-              other : (b : Bool) → eq id x ≡ b → eq x (get_or ids k x) ≡ true → k < length ids → b ≡ false
-              other false e at m = refl
-              other true e at m = absurd (true≢false (sym (member_at ids k x id m (laws.congr id x (get_or ids k x) e ∙ at)) ∙ fresh))
-          by false u =
-              let m = ltb-false k (length ids) u in
-              let same : k ≡ length ids = omega (arith, length-append ids (id ∷ [])) in
-              let at : eq x id ≡ true = ap (eq x) (sym (get_or-append_seam ids id [] x)) ∙ ap (λ n. eq x (get_or (ids ++ id ∷ []) n x)) (sym same) ∙ h in
-              is x ∙ ap (λ b. cond b (Some (length ids)) (found x)) (laws.symm id x ∙ at) ∙ ap (λ (n : ℕ). Some n) (sym same)
-
-      unknown : (x : ID) → is_member eq (ids ++ id ∷ []) x ≡ false → found' x ≡ None
-      unknown x m =
-          let parts = neither (is_member eq ids x) (eq x id) (sym (list_any-append (eq x) ids (id ∷ [])) ∙ m) in
-          others x (laws.symm id x ∙ parts.1) ∙ t.unknown x parts.0
-        where
-          neither : (a b : Bool) → (a || (b || false)) ≡ false → (a ≡ false) × (b ≡ false)
-          neither true b e = absurd (true≢false e)
-          neither false true e = absurd (true≢false e)
-          neither false false e = (refl, refl)
-
-  -- no id of the list stands before its place
-  pub fresh_at : (ids : List ID) → IsDistinct eq ids → (i : ℕ) (d : ID) → i < length ids → is_member eq (take i ids) (get_or ids i d) ≡ false
-  fresh_at ids distinct i d l =
-      let y = get_or ids i d in
-      no_member (take i ids) y
-      (λ k m.
-      let near : k < i = omega (arith, length-take i ids) in
-      ap (eq y) (get_take ids i k y near) ∙ ap (λ z. eq z (get_or ids k y)) (any_default ids i d y l) ∙ differs ids distinct i k y l (omega arith) (λ e. omega arith))
-
-  module _ (ids : List ID) (distinct : IsDistinct eq ids) (i to : ℕ) (found found' : ID → Option ℕ) (id : ID) (l : i < length ids) (u : i < to) (is : (x : ID) → id ≡ get_or ids i x) (here : (x : ID) → eq id x ≡ true → found' x ≡ Some i) (others : (x : ID) → eq id x ≡ false → found' x ≡ found x) where
-    other : (x : ID) (k : ℕ) → k < length ids → eq x (get_or ids k x) ≡ true → (i ≡ k → ⊥) → eq id x ≡ false
-    other x k m at n =
-        laws.symm id x ∙ laws.congr x (get_or ids k x) id at ∙ laws.symm (get_or ids k x) id ∙ ap (λ y. eq y (get_or ids k x)) (is x) ∙ differs ids distinct i k x l m n
-
-    -- the place of one of the ids is written
-    pub but_more : TellsPlacesBut eq ids i to found → TellsPlacesBut eq ids (i + 1) to found'
-    but_more t = record { before = before; behind = behind; known = known; unknown = unknown }
-      where
-        before : (x : ID) (k : ℕ) → k < length ids → eq x (get_or ids k x) ≡ true → k < i + 1 → found' x ≡ Some k
-        before x k m at n = by (ltb k i) refl
-          where
-            by : (b : Bool) → ltb k i ≡ b → found' x ≡ Some k
-            by true v = let h = ltb-true k i v in others x (other x k m at (λ e. omega arith)) ∙ t.before x k m at h
-            by false v =
-                let h = ltb-false k i v in
-                let same : k ≡ i = omega arith in
-                here x (laws.symm id x ∙ ap (eq x) (is x) ∙ ap (λ n. eq x (get_or ids n x)) (sym same) ∙ at) ∙ ap (λ (n : ℕ). Some n) (sym same)
-
-        behind : (x : ID) (k : ℕ) → k < length ids → eq x (get_or ids k x) ≡ true → to ≤ k → found' x ≡ Some k
-        behind x k m at n = others x (other x k m at (λ e. omega arith)) ∙ t.behind x k m at n
-
-        known : (x : ID) → is_member eq ids x ≡ true → is_some (found' x) ≡ true
-        known x m = by (eq id x) refl
-          where
-            by : (b : Bool) → eq id x ≡ b → is_some (found' x) ≡ true
-            by true e = ap is_some (here x e)
-            by false e = ap is_some (others x e) ∙ t.known x m
-
-        unknown : (x : ID) → is_member eq ids x ≡ false → found' x ≡ None
-        unknown x m = by (eq id x) refl
-          where
-            by : (b : Bool) → eq id x ≡ b → found' x ≡ None
-            by true e = absurd (true≢false (sym (member_at ids i x x l (ap (eq x) (sym (is x)) ∙ laws.symm x id ∙ e)) ∙ m))
-            by false e = others x e ∙ t.unknown x m
-
-  -- all places are told
-  pub tells_all : (ids : List ID) (from to : ℕ) (found : ID → Option ℕ) → to ≤ from → TellsPlacesBut eq ids from to found → TellsPlaces eq ids found
-  tells_all ids from to found over t = record { here = here; unknown = t.unknown }
-    where
-      here : (x : ID) (k : ℕ) → k < length ids → eq x (get_or ids k x) ≡ true → found x ≡ Some k
-      here x k m at = by (ltb k from) refl
-        where
-          by : (b : Bool) → ltb k from ≡ b → found x ≡ Some k
-          by true v = t.before x k m at (ltb-true k from v)
-          by false v = let h = ltb-false k from v in t.behind x k m at (omega arith)
-
   -- what is told from before a move is some place, from which the move leads to the present one
   module _ (ids : List ID) (first last : ℕ) (up : first ≤ last) (found : ID → Option ℕ) (t : TellsPlacesBefore eq ids first last found) where
     told_before : (x : ID) (k : ℕ) → k < length ids → eq x (get_or ids k x) ≡ true → (j : ℕ) × (found x ≡ Some j) × (place_after first last j ≡ k)
@@ -247,15 +145,6 @@ module _ {ID : Type 0} {eq : ID → ID → Bool} (laws : IsEquivalence eq) where
         by true u c v = let h = ltb-true k first u in (k, t.before x k l at h, after_before first last k up h)
         by false u true v = let h = ltb-true last k v in (k, t.behind x k l at h, after_behind first last k h)
         by false u false v = within k l at (ltb-false k first u) (ltb-false last k v)
-
-    -- so the places that the move has not touched are the present ones
-    pub but_before : TellsPlacesBut eq ids first (last + 1) found
-    but_before = record {
-      before = t.before;
-      behind = λ x k l at m. t.behind x k l at (omega arith);
-      known = λ x m. let r = place_of_member ids x m in ap is_some (told_before x r.0 r.1 r.2).1;
-      unknown = t.unknown;
-    }
 
     -- and a map that is moved along tells the present ones
     pub tells_after : (found' : ID → Option ℕ) → ((x : ID) → found' x ≡ option_map (place_after first last) (found x)) → TellsPlaces eq ids found'
@@ -349,3 +238,15 @@ module _ {ID : Type 0} {eq : ID → ID → Bool} (laws : IsEquivalence eq) where
   pub tells_alike : (ids ids' : List ID) (found found' : ID → Option ℕ) → ids' ≡ ids → ((x : ID) → found' x ≡ found x) → TellsPlaces eq ids found → TellsPlaces eq ids' found'
   tells_alike ids ids' found found' same is t =
       subst (λ (ks : List ID). TellsPlaces eq ks found') (sym same) record { here = λ x k l h. is x ∙ t.here x k l h; unknown = λ x m. is x ∙ t.unknown x m }
+
+  -- each place that is told has a rank
+  pub place_ranked : (es : List (ID × ℕ)) (ranks : List ℕ) → AreInverse (values_of es) ranks → (ids : List ID) (k : ℕ) → k < length ids → TellsPlaces eq ids (place_in eq es) → k < length ranks
+  place_ranked es ranks a [] k l t = absurd (omega arith)
+  place_ranked es ranks a (i ∷ ids) k l t =
+      let x = get_or (i ∷ ids) k i in
+      let f = place_from_lookup (eq x) es k (t.here x k l (ap (eq x) (any_default (i ∷ ids) k x i l) ∙ laws.refl x)) in
+      let w = slice_get_within es f.0 (f.1, k) f.2 in
+      let b = a.back f.0 (omega (arith, length-map es (λ e. e.1))) in
+      let e = sym (place_at es f.0 (f.1, k) 0 w) ∙ ap (λ (e : ID × ℕ). e.1) (get_or_from_slice_get es f.0 (f.1, k) (f.1, k) f.2) in
+      let c = b.0 in
+      omega arith

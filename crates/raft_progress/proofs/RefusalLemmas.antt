@@ -10,32 +10,25 @@ use Rattle.raft_members.specs.declared.change_members.ChangeMembers.{ChangeMembe
 use Rattle.raft_members.specs.declared.error.ChangeMembershipErrorOf.{ChangeMembershipErrorOf}
 use Rattle.raft_members.specs.declared.error.ChangeMembershipErrorOf.TheVariants.{InProgress, EmptyMembership, LearnerNotFound, OutOfMemory as WantOfMemory}
 use Rattle.raft_progress.specs.Inner.Refusal.{RefusesUpgrade, refusal_reply}
-use Rattle.raft_progress.specs.Inner.ShownAnswers.{IsShownChange, IsShownTakeOver, IsShownUpgrade}
+use Rattle.raft_progress.specs.Inner.ShownAnswers.{IsShownChange, IsShownUpgradeTo, IsShownUpgrade}
 use Rattle.raft_progress.specs.progress.Answered.{Tells, is_refused}
-use Rattle.raft_progress.specs.progress.ProgressState.{IsSame}
 use Rattle.raft_progress.specs.progress.Shown.{Shown, state}
 use Rattle.raft_progress.specs.tracked.TrackedState.{TrackedShown, tracked_state}
 use Rattle.raft_progress.specs.tracked.TrackedSteps.{IsChanged, IsSamePair}
-use Rattle.raft_progress.proofs.ChangeLemmas.{changed_step}
+use Rattle.raft_progress.proofs.ChangeLemmas.{IsSamePair-refl, changed_step}
+use Rattle.raft_progress.proofs.UpdateLemmas.{IsSame-refl}
 use Rattle.raft_progress.specs.declared.progress.steps.Reply.{Reply}
-use Rattle.raft_progress.specs.declared.progress.steps.Reply.TheVariants.{Granted, Unknown, WouldFall, Refused, BelowDefault, BadLearners, OutOfMemory}
+use Rattle.raft_progress.specs.declared.progress.steps.Reply.TheVariants.{Refused, BelowDefault, BadLearners, OutOfMemory}
 
 module _ {ID V P QS : Type 0} (eq : ID → ID → Bool) (id_cmp : ID → ID → Ordering) (cmp : P → P → Ordering) (part : V → P) (IsClone : V → V → Type 0) (has_quorum : QS → (ID → Bool) → Bool) (is_voter : QS → ID → Bool)
     (old : Shown ID V P QS) (quorum_set : QS) (learners : List ID) (default : V)
   where
-    kept : IsSame (state eq old) (state eq old)
-    kept = record { quorum_set = refl; is_voter = λ x. refl; value = λ x. refl; default_part = refl }
-
     -- a refusal answers the upgrade
     pub refused_upgrade : (reply : Reply ID P) → RefusesUpgrade eq id_cmp cmp part (is_voter quorum_set) learners default (state eq old).value reply
         → IsShownUpgrade eq id_cmp cmp part IsClone has_quorum is_voter old quorum_set learners default reply old
-    refused_upgrade BadLearners r = record { values = (r, kept); answered = record { refused = λ h. refl; done = λ h. absurd (true≢false h); tells = tt } }
-    refused_upgrade (BelowDefault id) r = record { values = (r.0, r.1, kept); answered = record { refused = λ h. refl; done = λ h. absurd (true≢false h); tells = tt } }
-    refused_upgrade (Granted p) r = absurd r
-    refused_upgrade (Unknown p) r = absurd r
-    refused_upgrade WouldFall r = absurd r
-    refused_upgrade (Refused why) r = absurd r
-    refused_upgrade OutOfMemory r = absurd r
+    refused_upgrade BadLearners r = record { values = (r, IsSame-refl (state eq old)); answered = record { refused = λ h. refl; done = λ h. absurd (true≢false h); tells = tt } }
+    refused_upgrade (BelowDefault id) r = record { values = (r.0, r.1, IsSame-refl (state eq old)); answered = record { refused = λ h. refl; done = λ h. absurd (true≢false h); tells = tt } }
+    refused_upgrade reply r = absurd r
 
 module _ {K N V P : Type 0} (eq : K → K → Bool) (id_cmp : K → K → Ordering) (same : N → N → Bool) (cmp : P → P → Ordering) (part : V → P) (IsClone : V → V → Type 0)
     (old new : TrackedShown K N V P) (change : ChangeMembers K N) (retain : Bool) (default : V)
@@ -44,7 +37,7 @@ module _ {K N V P : Type 0} (eq : K → K → Bool) (id_cmp : K → K → Orderi
     after = changed eq id_cmp (members_of id_cmp old.membership) change retain
 
     same_pair : IsSamePair (tracked_state eq old) (tracked_state eq old)
-    same_pair = record { membership = refl; progress = record { quorum_set = refl; is_voter = λ x. refl; value = λ x. refl; default_part = refl } }
+    same_pair = IsSamePair-refl (tracked_state eq old)
 
     -- a reply that may answer the change with nothing changed does
     unchanged : (reply given : Reply K P) → reply ≡ given → new ≡ old → IsChanged eq id_cmp same cmp part IsClone (tracked_state eq old) change retain default given (tracked_state eq old) → is_refused given ≡ true → Tells given old.progress.granted
@@ -58,7 +51,7 @@ module _ {K N V P : Type 0} (eq : K → K → Bool) (id_cmp : K → K → Orderi
     pub change_answered : {C : Type 0} (made : Result (MemberList K N) (ChangeMembershipErrorOf C K)) (reply : Reply K P)
         → IfOk made (λ m. IsValid eq after) → IfOk made (λ m. Says same id_cmp m after) → IfErr made (IsRefusal eq id_cmp after)
         → IfErr made (λ e. (reply ≡ refusal_reply e) × (new ≡ old))
-        → IfOk made (λ next. ((reply ≡ OutOfMemory) × (new ≡ old)) ⊎ IsShownTakeOver eq id_cmp cmp part IsClone old next default reply new)
+        → IfOk made (λ next. ((reply ≡ OutOfMemory) × (new ≡ old)) ⊎ IsShownUpgradeTo eq id_cmp cmp part IsClone old next default reply new)
         → IsShownChange eq id_cmp same cmp part IsClone old change retain default reply new
     change_answered (Ok next) reply valid says why refused (inl kept) = unchanged reply OutOfMemory kept.0 kept.1 same_pair refl tt
     change_answered (Ok next) reply valid says why refused (inr taken) = record {

@@ -8,7 +8,7 @@ use Rattle.std.specs.Option.{is_some}
 use Rattle.std.proofs.Common.{sym, ap, refl, ◌∙◌, set, subst, suc, zero}
 use Rattle.std.proofs.lemmas.Option.{get_or_from_slice_get}
 use Rattle.std.proofs.lemmas.Map.{lookup-set_value, keys-set_value}
-use Rattle.raft_progress.specs.progress.ProgressState.{IsSame, Writes}
+use Rattle.raft_progress.specs.progress.ProgressState.{IsSame, ProgressState, Writes}
 use Rattle.raft_progress.specs.progress.Shown.{Shown, state}
 use Rattle.raft_progress.specs.progress.Updated.{IsUpdated}
 use Rattle.raft_progress.specs.progress.Walk.{state_of}
@@ -61,7 +61,11 @@ module _ {ID : Type 0} {eq : ID → ID → Bool} (laws : IsEquivalence eq) where
       default_part = c;
     }
 
+-- a state is the same as itself
+pub IsSame-refl : {ID V P QS : Type 0} (s : ProgressState ID V P QS) → IsSame s s
+IsSame-refl s = record { quorum_set = refl; is_voter = λ x. refl; value = λ x. refl; default_part = refl }
+
 -- an update of an unknown id changes no value
 pub unknown_same : {ID V P QS : Type 0} (eq : ID → ID → Bool) (cmp : P → P → Ordering) (part : V → P) (Left : V → V → Type 0) (old : Shown ID V P QS) (id : ID) (new : Shown ID V P QS) → IsUpdated eq cmp part Left old id new → (state eq old).value id ≡ None → IsSame (state eq old) (state eq new)
 unknown_same {ID} {V} {P} {QS} eq cmp part Left old id new u none =
-    subst (λ (p : Shown ID V P QS). IsSame (state eq old) (state eq p)) (sym (u.unknown none)) record { quorum_set = refl; is_voter = λ x. refl; value = λ x. refl; default_part = refl }
+    subst (λ (p : Shown ID V P QS). IsSame (state eq old) (state eq p)) (sym (u.unknown none)) (IsSame-refl (state eq old))

@@ -6,6 +6,6 @@ pub mod Refusal
 pub mod Rises
 pub mod Settled
 pub mod ShownAnswers
-pub mod TakenOver
 pub mod Tests
 pub mod Turns
+pub mod UpgradedTo

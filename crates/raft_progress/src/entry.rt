@@ -18,9 +18,9 @@ use std::fmt;
 
 /// What a leader keeps of a follower.
 ///
-/// The last log that both have lies from the match on and below the end of the search. Probes narrow
-/// this stretch: logs are sent that begin inside it, and an ack raises the match, a conflict lowers
-/// the end. Its part in a progress is the match.
+/// The last log that both have lies from the match on and below the end of the search. Probes
+/// narrow this stretch: logs are sent that begin inside it, and an ack raises the match, a conflict
+/// lowers the end. Its part in a progress is the match.
 #[derive(Clone, Copy, PartialEq, Eq)]
 pub struct ProgressEntryOf<C> {
     /// The last log id that is known to match.
@@ -49,7 +49,7 @@ impl<C: Ord + Copy> ProgressEntryOf<C> {
     ghost use Rattle.std.specs.Io.BufRead.{Rests};
     ghost use Rattle.raft_progress.specs.contracts.entry.ProgressEntryOf.{the_row};
 
-    /// A follower that matches up to a log id, and no further.
+    /// A follower that matches up to a log id, for which `has_next_index` is true, and no further.
     pub fn new(matching: Option<LogIdOf<C>>) -> Self
         requires { next_index matching < 2 ^ 64 }
         ensures { result ≡ record {
@@ -92,7 +92,7 @@ impl<C: Ord + Copy> ProgressEntryOf<C> {
         self
     }
 
-    /// The same with something in flight, where nothing was.
+    /// The same with something in flight, where nothing was, as `is_none` of it tells.
     pub fn with_inflight(mut self, inflight: InflightOf<C>) -> Self
         requires { IsTrue (is_idle self.inflight) }
         ensures { result ≡ record self { inflight = inflight } }
@@ -101,7 +101,8 @@ impl<C: Ord + Copy> ProgressEntryOf<C> {
         self
     }
 
-    /// Whether logs are in flight that begin before a log id, so that it is among them or past them.
+    /// Whether logs are in flight that begin before a log id, so
+    /// that it is among them or past them.
     pub fn is_log_range_inflight(&self, upto: &LogIdOf<C>) -> bool
         ensures { result ≡ is_after_prev C.cmp self.now.inflight upto.now }
     {
@@ -117,7 +118,8 @@ impl<C: Ord + Copy> ProgressEntryOf<C> {
         request_id: u64,
         matching: Option<LogIdOf<C>>,
     ) -> Result<(), InflightError>
-        ensures { FollowsTable (matched C.cmp self.old request_id matching) self.old result self.new }
+        ensures { FollowsTable (matched C.cmp self.old request_id matching)
+            self.old result self.new }
     {
         // On a copy, so that a refusal leaves the entry as it was.
         let mut inflight = self.inflight;
@@ -125,7 +127,7 @@ impl<C: Ord + Copy> ProgressEntryOf<C> {
         if matching.cmp(&self.matching).is_lt() {
             return Err(InflightError::MatchingRegress);
         }
-        if !has_next_index(matching) {
+        if !matching.has_next_index() {
             return Err(InflightError::IndexTooLarge);
         }
         self.inflight = inflight;
@@ -168,18 +170,18 @@ impl<C: Ord + Copy> ProgressEntryOf<C> {
         let last = log.last_log_id().copied();
         let purge_upto = log.purge_upto().copied();
         ends_by(self.matching, self.searching_end)
-            && has_next_index(last)
+            && last.has_next_index()
             && self.searching_end <= last.next_index()
-            && has_next_index(purge_upto)
+            && purge_upto.has_next_index()
             && self.curr_inflight_id < u64::MAX
     }
 
     /// Puts in flight what is sent next, if anything is: logs up to so many entries, or a snapshot.
     ///
     /// Logs start half of the way from the match to the end of the search, so that each reply tells
-    /// much of where they part; close to it they start at the match. Where the logs that a probe needs
-    /// are purged, it is a snapshot. `Err` has what is in flight already, or nothing where there is no
-    /// log to send. `Ok` has nothing in flight where the log's ids do not rise.
+    /// much of where they part; close to it they start at the match. Where the logs that a probe
+    /// needs are purged, it is a snapshot. `Err` has what is in flight already, or nothing where
+    /// there is no log to send. `Ok` has nothing in flight where the log's ids do not rise.
     pub fn next_send<L: LogStateReader<C>>(
         &mut self,
         log: &L,
@@ -228,7 +230,14 @@ impl<C: Ord + Copy> ProgressEntryOf<C> {
         true
     }
 
-    /// Where the next probe starts, and where the search ends.
+    /// Whether `sending_start` may be called: the match is not past the end of the search.
+    pub fn can_start(&self) -> bool
+        ensures { result ≡ nat_le (next_index self.now.matching) self.now.searching_end }
+    {
+        ends_by(self.matching, self.searching_end)
+    }
+
+    /// Where the next probe starts, and where the search ends; where `can_start` is true.
     pub fn sending_start(&self) -> (u64, u64)
         requires { next_index self.now.matching ≤ self.now.searching_end }
         ensures { result ≡ (
@@ -255,13 +264,6 @@ fn ends_by<C: Copy>(id: Option<LogIdOf<C>>, end: u64) -> bool
     ensures { result ≡ nat_le (next_index id) end }
 {
     id.index() < Some(end)
-}
-
-/// Whether there is an index after that of a log id.
-fn has_next_index<C: Copy>(id: Option<LogIdOf<C>>) -> bool
-    ensures { result ≡ nat_lt (next_index id) (2 ^ 64) }
-{
-    id.index() != Some(u64::MAX)
 }
 
 impl<C: Ord + Copy> Validate for ProgressEntryOf<C> {

@@ -14,6 +14,8 @@ mod steps;
 mod vec_progress;
 mod walk;
 
+pub use crate::tracked::{MembershipProgress, Step, Tracked, replay};
+pub use crate::{entry, inflight};
 pub use part::ProgressPart;
 use raft_members::quorum::QuorumSet;
 pub use replay_any_steps::replay_any;
@@ -23,7 +25,8 @@ use std::alloc::{AllocError, Global};
 pub use steps::{AnyStep, Reply};
 pub use vec_progress::VecProgress;
 
-/// The values of voters and learners over a quorum set, and what a quorum of the voters has reached.
+/// The values of voters and learners over a quorum set, and what
+/// a quorum of the voters has reached.
 pub trait Progress<ID: Copy + Ord, V: ProgressPart<P>, P: Copy + Ord, QS: QuorumSet<ID>>: Drop {
     ghost use Rattle.std.specs.Prelude.{◌≡◌, ◌↔◌, IfOk, IsSome, IsTrue, Some, length};
     ghost use Rattle.std.specs.Borrow.{sem};
@@ -56,10 +59,11 @@ pub trait Progress<ID: Copy + Ord, V: ProgressPart<P>, P: Copy + Ord, QS: Quorum
         requires { IsSome ((state ID.eq (shows self.now)).value id.now) }
         ensures { (state ID.eq (shows self.now)).value id.now ≡ Some result.now };
 
-    /// The value of an id, to be written. The progress is in order afterwards if the part of a voter
-    /// stays as it was; `is_in_order` tells.
+    /// The value of an id, to be written. The progress is in order afterwards if the part of a
+    /// voter stays as it was; `is_in_order` tells.
     fn get_mut(&mut self, id: &ID) -> Option<&mut V>
-        ensures* writes_back { sem 𝓛 (LendsValue Self.row V.row shows ID.eq self.entry id.now result) }
+        ensures* writes_back { sem 𝓛
+            (LendsValue Self.row V.row shows ID.eq self.entry id.now result) }
         ensures value { option_copied_mut result ≡ (state ID.eq (shows self.old)).value id.now };
 
     /// Whether an id is a voter: `None` for an unknown one.

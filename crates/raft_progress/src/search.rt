@@ -55,13 +55,13 @@ pub fn search_run<C: Ord + Copy, L: LogStateReader<C>>(
     let mut purged = None;
     let mut accepted = 0;
     for event in events {
-        take_event(entry, event, &mut purged, &mut accepted);
+        run_event(entry, event, &mut purged, &mut accepted);
     }
     accepted
 }
 
 /// Takes an event, and counts it where it is a conflict that was accepted.
-fn take_event<C: Ord + Copy, L: LogStateReader<C>>(
+fn run_event<C: Ord + Copy, L: LogStateReader<C>>(
     entry: &mut ProgressEntryOf<C>,
     event: &SearchEvent<'_, L>,
     purged: &mut Option<u64>,

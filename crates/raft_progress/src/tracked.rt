@@ -120,5 +120,9 @@ fn learners_of<NID: NodeId, N: Node>(
     ensures learners { IfOk result (λ ids.
         AreLearners NID.eq (members_of NID.cmp membership.now) ids.items) }
 {
-    membership.learner_ids().collect(alloc)
+    let mut ids = Vec::new(alloc);
+    for id in membership.learner_ids() {
+        ids.push(id)?;
+    }
+    Ok(ids)
 }

@@ -1,19 +1,28 @@
 -- A map that tells the place of each id in a list of ids.
 use Rattle.std.specs.Prelude.{◌≡◌, ℕ, ◌+◌, ◌<◌, ◌≤◌, Bool, true, false, cond, ◌&&◌, ◌==◌, nat_le, nat_lt, List, length, Option, Some, None}
-use Rattle.std.specs.Option.{is_some}
+use Rattle.std.specs.List.{range_with_len}
+use Rattle.std.specs.List.Sorted.{IsPermutation}
+use Rattle.std.specs.Map.{lookup}
 use Rattle.std.specs.Set.{is_member}
 use Rattle.std.proofs.Common.{get_or}
+
+-- the place that the entries tell of an id
+abbrev pub place_in : {ID : Type 0} → (ID → ID → Bool) → List (ID × ℕ) → ID → Option ℕ
+place_in eq entries x = lookup (eq x) entries
+
+-- the places from 0 on, each once, in any order
+abbrev pub AreAllPlaces : List ℕ → Type 0
+AreAllPlaces places = IsPermutation (range_with_len 0 (length places)) places
+
+-- each list tells where its numbers stand in the other
+pub record AreInverse (places ranks : List ℕ) : Type 0 where
+  pub one_length : length ranks ≡ length places
+  pub back : (r : ℕ) → r < length places → (get_or places r 0 < length ranks) × (get_or ranks (get_or places r 0) 0 ≡ r)
+  pub forth : (p : ℕ) → p < length ranks → (get_or ranks p 0 < length places) × (get_or places (get_or ranks p 0) 0 ≡ p)
 
 -- a look-up tells the place of each id of the list, and knows no other id
 pub record TellsPlaces {ID : Type 0} (eq : ID → ID → Bool) (ids : List ID) (found : ID → Option ℕ) : Type 0 where
   pub here : (x : ID) (k : ℕ) → k < length ids → eq x (get_or ids k x) ≡ true → found x ≡ Some k
-  pub unknown : (x : ID) → is_member eq ids x ≡ false → found x ≡ None
-
--- the same but for the ids at the places from one up to another, of which it tells some place
-pub record TellsPlacesBut {ID : Type 0} (eq : ID → ID → Bool) (ids : List ID) (from to : ℕ) (found : ID → Option ℕ) : Type 0 where
-  pub before : (x : ID) (k : ℕ) → k < length ids → eq x (get_or ids k x) ≡ true → k < from → found x ≡ Some k
-  pub behind : (x : ID) (k : ℕ) → k < length ids → eq x (get_or ids k x) ≡ true → to ≤ k → found x ≡ Some k
-  pub known : (x : ID) → is_member eq ids x ≡ true → is_some (found x) ≡ true
   pub unknown : (x : ID) → is_member eq ids x ≡ false → found x ≡ None
 
 -- the places from before the entry at `last` moved up to `first`

@@ -1,12 +1,12 @@
 -- Why the private steps of a replay refuse.
-use Rattle.std.specs.Prelude.{Bool, List, None, Option, Some, ⊤}
+use Rattle.std.specs.Prelude.{Bool, List, None, Option, Some}
 use Rattle.std.specs.declared.cmp.Ordering.{Ordering}
 use Rattle.raft_members.specs.declared.error.ChangeMembershipErrorOf.{ChangeMembershipErrorOf}
 use Rattle.raft_members.specs.declared.error.ChangeMembershipErrorOf.TheVariants.{InProgress, EmptyMembership, LearnerNotFound, OutOfMemory as WantOfMemory}
 use Rattle.raft_progress.specs.progress.NewProgress.{LearnersFit}
 use Rattle.raft_progress.specs.progress.Upgrade.{IsLeastBelow}
 use Rattle.raft_progress.specs.declared.progress.steps.Reply.{Reply}
-use Rattle.raft_progress.specs.declared.progress.steps.Reply.TheVariants.{Granted, Unknown, WouldFall, Refused, BelowDefault, BadLearners, OutOfMemory}
+use Rattle.raft_progress.specs.declared.progress.steps.Reply.TheVariants.{Refused, BelowDefault, BadLearners, OutOfMemory}
 
 -- the reply refuses an upgrade: the learners don't fit; else this is the least inherited id below the default
 abbrev pub RefusesUpgrade : {ID V P : Type 0} → (ID → ID → Bool) → (ID → ID → Ordering) → (P → P → Ordering) → (V → P) → (ID → Bool) → List ID → V → (ID → Option V) → Reply ID P → Type 0
@@ -15,20 +15,9 @@ RefusesUpgrade eq id_cmp cmp part is_voter learners default old BadLearners =
 RefusesUpgrade eq id_cmp cmp part is_voter learners default old (BelowDefault id) =
     LearnersFit eq is_voter learners
     × IsLeastBelow eq id_cmp cmp part is_voter learners default old id
-RefusesUpgrade eq id_cmp cmp part is_voter learners default old (Granted p) = ⊥
-RefusesUpgrade eq id_cmp cmp part is_voter learners default old (Unknown p) = ⊥
-RefusesUpgrade eq id_cmp cmp part is_voter learners default old WouldFall = ⊥
-RefusesUpgrade eq id_cmp cmp part is_voter learners default old (Refused why) = ⊥
-RefusesUpgrade eq id_cmp cmp part is_voter learners default old OutOfMemory = ⊥
+RefusesUpgrade eq id_cmp cmp part is_voter learners default old reply = ⊥
 
--- a change of a membership alone is refused for itself, and not for an earlier one in progress
-abbrev pub IsOwnRefusal : {C K : Type 0} → ChangeMembershipErrorOf C K → Type 0
-IsOwnRefusal (InProgress _) = ⊥
-IsOwnRefusal (EmptyMembership _) = ⊤
-IsOwnRefusal (LearnerNotFound _) = ⊤
-IsOwnRefusal WantOfMemory = ⊤
-
--- the reply to such a refusal: it names the voter without a node, or none for an empty config
+-- the reply to a refusal of a change: it names the voter without a node, or none for an empty config; a change of a membership alone is never in progress
 abbrev pub refusal_reply : {C K P : Type 0} → ChangeMembershipErrorOf C K → Reply K P
 refusal_reply (InProgress _) = OutOfMemory
 refusal_reply (EmptyMembership _) = Refused None

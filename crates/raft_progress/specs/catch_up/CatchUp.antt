@@ -7,7 +7,8 @@ use Rattle.raft_progress.specs.entry.Send.{can_be_sent}
 use Rattle.raft_progress.specs.inflight.Inflight.{is_idle}
 use Rattle.raft_progress.specs.declared.entry.ProgressEntryOf.{ProgressEntryOf}
 
--- a follower can agree below an index: the match is below it, the search does not end before it, and the purge point is below it
+-- a follower can agree below an index: the match is below it, the search does not end before
+-- it, and the purge point is below it
 abbrev pub can_agree : ℕ → ℕ → ℕ → ℕ → Bool
 can_agree matched end purged agree = nat_le matched agree && nat_le agree end && nat_le purged agree
 
@@ -15,23 +16,31 @@ can_agree matched end purged agree = nat_le matched agree && nat_le agree end &&
 abbrev pub has_request_ids : ℕ → ℕ → Bool
 has_request_ids id length = nat_lt (id + 64 + length + 1) (2 ^ 64)
 
--- the match is the last log id; or the log goes on past the match and the purge point, and the match is not above the log id before both
-abbrev pub match_fits : {C : Type 0} → (C → C → Bool) → (C → C → Ordering) → LogView C → ProgressEntryOf C → Bool
+-- the match is the last log id; or the log goes on past the match and the purge point, and the
+-- match is not above the log id before both
+abbrev pub match_fits : {C : Type 0} → (C → C → Bool) → (C → C → Ordering) → LogView C
+    → ProgressEntryOf C → Bool
 match_fits eq cmp log entry =
     same_ids eq entry.matching log.last
-    || (nat_lt (next_index entry.matching) (next_index log.last) && nat_lt (next_index log.purge_upto) (next_index log.last)
-    && id_le cmp entry.matching (prev_id log.id_at (max (next_index entry.matching) (next_index log.purge_upto))))
+    || (nat_lt (next_index entry.matching) (next_index log.last)
+    && nat_lt (next_index log.purge_upto) (next_index log.last)
+    && id_le cmp entry.matching
+    (prev_id log.id_at (max (next_index entry.matching) (next_index log.purge_upto))))
 
--- nothing is in flight, a send can be made and takes an entry at least, the follower can agree below the index, request ids are left, and the match fits
-abbrev pub can_catch_up : {C : Type 0} → (C → C → Bool) → (C → C → Ordering) → LogView C → ProgressEntryOf C → ℕ → ℕ → Bool
+-- nothing is in flight, a send can be made and takes an entry at least, the follower can agree
+-- below the index, request ids are left, and the match fits
+abbrev pub can_catch_up : {C : Type 0} → (C → C → Bool) → (C → C → Ordering) → LogView C
+    → ProgressEntryOf C → ℕ → ℕ → Bool
 can_catch_up eq cmp log entry agree max_entries =
     is_idle entry.inflight && can_be_sent entry log && nat_le 1 max_entries
     && can_agree (next_index entry.matching) entry.searching_end (next_index log.purge_upto) agree
     && has_request_ids entry.curr_inflight_id (next_index log.last)
     && match_fits eq cmp log entry
 
--- all is sent and matched: nothing is in flight, the search ends after the last log id, and the match is that one
-pub record CaughtUp {C : Type 0} (eq : C → C → Bool) (log : LogView C) (entry : ProgressEntryOf C) : Type 0 where
+-- all is sent and matched: nothing is in flight, the search ends after the last
+-- log id, and the match is that one
+pub record CaughtUp {C : Type 0} (eq : C → C → Bool) (log : LogView C) (entry : ProgressEntryOf C)
+    : Type 0 where
   pub idle : is_idle entry.inflight ≡ true
   pub match_end : next_index entry.matching ≡ next_index log.last
   pub search_end : entry.searching_end ≡ next_index log.last

@@ -1,4 +1,5 @@
--- An honest run: sends to a follower whose log agrees with the leader's below an index, each with its honest reply.
+-- An honest run: sends to a follower whose log agrees with the leader's below an
+-- index, each with its honest reply.
 use Rattle.std.specs.Prelude.{◌≡◌, ℕ, zero, suc, ◌+◌, ◌-◌, max, nat_lt, Option, Some, None, Result, Ok, Err, if◌then◌else◌}
 use Rattle.std.specs.declared.cmp.Ordering.{Ordering}
 use Rattle.raft_base.specs.LogId.{next_index}
@@ -18,38 +19,59 @@ pub record HonestRun (C : Type 0) : Type 0 where
   pub conflicts : ℕ
   pub acks : ℕ
 
--- the reply to logs: a conflict at the log before them where the follower does not agree there, else an ack of them all
-abbrev pub replied_to_logs : {C : Type 0} → (C → C → Ordering) → HonestRun C → ProgressEntryOf C → ℕ → LogIdRangeOf C → HonestRun C
+-- the reply to logs: a conflict at the log before them where the follower does not
+-- agree there, else an ack of them all
+abbrev pub replied_to_logs : {C : Type 0} → (C → C → Ordering) → HonestRun C → ProgressEntryOf C → ℕ
+    → LogIdRangeOf C → HonestRun C
 replied_to_logs cmp run entry id range =
     if nat_lt run.agree (next_index range.prev)
-    then record { entry = after_reply entry (conflicting entry (Some id) (next_index range.prev - 1)); agree = run.agree; conflicts = run.conflicts + 1; acks = run.acks }
-    else record { entry = after_reply entry (matched cmp entry id range.last); agree = max run.agree (next_index range.last); conflicts = run.conflicts; acks = run.acks + 1 }
+    then record {
+      entry = after_reply entry (conflicting entry (Some id) (next_index range.prev - 1));
+      agree = run.agree;
+      conflicts = run.conflicts + 1;
+      acks = run.acks;
+    }
+    else record {
+      entry = after_reply entry (matched cmp entry id range.last);
+      agree = max run.agree (next_index range.last);
+      conflicts = run.conflicts;
+      acks = run.acks + 1;
+    }
 
 -- the reply to what an entry has in flight; nothing but logs is replied to
-abbrev pub replied : {C : Type 0} → (C → C → Ordering) → HonestRun C → ProgressEntryOf C → InflightOf C → HonestRun C
+abbrev pub replied : {C : Type 0} → (C → C → Ordering) → HonestRun C → ProgressEntryOf C
+    → InflightOf C → HonestRun C
 replied cmp run entry Idle = record run { entry = entry }
 replied cmp run entry (Snapshot id last) = record run { entry = entry }
 replied cmp run entry (Logs id range) = replied_to_logs cmp run entry id range
 
 -- the reply to a send, and none where nothing was sent
-abbrev pub replied_to_send : {C : Type 0} → (C → C → Ordering) → HonestRun C → Result (ProgressEntryOf C) (ProgressEntryOf C) → Option (HonestRun C)
+abbrev pub replied_to_send : {C : Type 0} → (C → C → Ordering) → HonestRun C
+    → Result (ProgressEntryOf C) (ProgressEntryOf C) → Option (HonestRun C)
 replied_to_send cmp run (Err entry) = None
 replied_to_send cmp run (Ok entry) = Some (replied cmp run entry entry.inflight)
 
 -- a turn: a send and its reply
-abbrev pub turn : {C : Type 0} → (C → C → Ordering) → LogView C → ℕ → HonestRun C → Option (HonestRun C)
+abbrev pub turn : {C : Type 0} → (C → C → Ordering) → LogView C → ℕ → HonestRun C
+    → Option (HonestRun C)
 turn cmp log max_entries run = replied_to_send cmp run (sent cmp run.entry log max_entries)
 
 -- so many turns lead to an end, after which nothing is sent
-abbrev pub TurnsLeadTo : {C : Type 0} → (C → C → Ordering) → LogView C → ℕ → ℕ → HonestRun C → HonestRun C → Type 0
+abbrev pub TurnsLeadTo : {C : Type 0} → (C → C → Ordering) → LogView C → ℕ → ℕ → HonestRun C
+    → HonestRun C → Type 0
 TurnsLeadTo cmp log max_entries zero run end = (turn cmp log max_entries run ≡ None) × (end ≡ run)
-TurnsLeadTo {C} cmp log max_entries (suc turns) run end = (next : HonestRun C) × (turn cmp log max_entries run ≡ Some next) × TurnsLeadTo cmp log max_entries turns next end
+TurnsLeadTo {C} cmp log max_entries (suc turns) run end =
+    (next : HonestRun C) × (turn cmp log max_entries run ≡ Some next)
+    × TurnsLeadTo cmp log max_entries turns next end
 
 -- an honest run that begins with an entry and an index below which the follower agrees
 abbrev pub new_run : {C : Type 0} → ProgressEntryOf C → ℕ → HonestRun C
 new_run entry agree = record { entry = entry; agree = agree; conflicts = 0; acks = 0 }
 
 -- the honest run of an entry ends with another one, after so many conflicts and acks
-abbrev pub HonestRunEnds : {C : Type 0} → (C → C → Ordering) → LogView C → ℕ → ProgressEntryOf C → ℕ → ProgressEntryOf C → ℕ → ℕ → Type 0
+abbrev pub HonestRunEnds : {C : Type 0} → (C → C → Ordering) → LogView C → ℕ → ProgressEntryOf C → ℕ
+    → ProgressEntryOf C → ℕ → ℕ → Type 0
 HonestRunEnds cmp log max_entries entry agree end conflicts acks =
-    (turns : ℕ) × (agreed : ℕ) × TurnsLeadTo cmp log max_entries turns (new_run entry agree) (record { entry = end; agree = agreed; conflicts = conflicts; acks = acks })
+    (turns : ℕ) × (agreed : ℕ)
+    × TurnsLeadTo cmp log max_entries turns (new_run entry agree)
+    (record { entry = end; agree = agreed; conflicts = conflicts; acks = acks })

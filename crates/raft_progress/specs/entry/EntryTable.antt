@@ -10,20 +10,29 @@ use Rattle.raft_progress.specs.declared.inflight.InflightError.TheVariants.{Conf
 use Rattle.raft_progress.specs.declared.inflight.InflightOf.{InflightOf}
 
 -- the follower matches up to an id, once the ack of it has left this in flight
-abbrev pub matched_with : {C : Type 0} → (C → C → Ordering) → ProgressEntryOf C → Option (LogIdOf C) → Result (InflightOf C) InflightError → Result (ProgressEntryOf C) InflightError
+abbrev pub matched_with : {C : Type 0} → (C → C → Ordering) → ProgressEntryOf C → Option (LogIdOf C)
+    → Result (InflightOf C) InflightError → Result (ProgressEntryOf C) InflightError
 matched_with cmp entry matching (Err e) = Err e
 matched_with cmp entry matching (Ok inflight) =
     if id_lt cmp matching entry.matching then Err MatchingRegress
     else (if nat_lt (next_index matching) (2 ^ 64)
-    then Ok (record entry { matching = matching; inflight = inflight; searching_end = max entry.searching_end (next_index matching) })
+    then Ok (record entry {
+      matching = matching;
+      inflight = inflight;
+      searching_end = max entry.searching_end (next_index matching);
+    })
     else Err IndexTooLarge)
 
 -- an ack of all up to an id: the follower matches up to it
-abbrev pub matched : {C : Type 0} → (C → C → Ordering) → ProgressEntryOf C → ℕ → Option (LogIdOf C) → Result (ProgressEntryOf C) InflightError
-matched cmp entry id matching = matched_with cmp entry matching (acked cmp entry.inflight id matching)
+abbrev pub matched : {C : Type 0} → (C → C → Ordering) → ProgressEntryOf C → ℕ → Option (LogIdOf C)
+    → Result (ProgressEntryOf C) InflightError
+matched cmp entry id matching =
+    matched_with cmp entry matching (acked cmp entry.inflight id matching)
 
--- the search ends at an index, where it went on past it, once the conflict there has left this in flight
-abbrev pub shortened : {C : Type 0} → ProgressEntryOf C → ℕ → Result (InflightOf C) InflightError → Result (ProgressEntryOf C) InflightError
+-- the search ends at an index, where it went on past it, once the
+-- conflict there has left this in flight
+abbrev pub shortened : {C : Type 0} → ProgressEntryOf C → ℕ → Result (InflightOf C) InflightError
+    → Result (ProgressEntryOf C) InflightError
 shortened entry index (Err e) = Err e
 shortened entry index (Ok inflight) =
     if nat_lt index entry.searching_end
@@ -31,7 +40,9 @@ shortened entry index (Ok inflight) =
     else Ok (record entry { inflight = inflight; searching_end = index }))
     else Ok (record entry { inflight = inflight })
 
--- a conflict at an index: the follower does not match there. That of a heartbeat has no request id, and what is in flight stays
-abbrev pub conflicting : {C : Type 0} → ProgressEntryOf C → Option ℕ → ℕ → Result (ProgressEntryOf C) InflightError
+-- a conflict at an index: the follower does not match there. That of a heartbeat has no
+-- request id, and what is in flight stays
+abbrev pub conflicting : {C : Type 0} → ProgressEntryOf C → Option ℕ → ℕ
+    → Result (ProgressEntryOf C) InflightError
 conflicting entry None index = shortened entry index (Ok entry.inflight)
 conflicting entry (Some id) index = shortened entry index (conflicted entry.inflight id index)

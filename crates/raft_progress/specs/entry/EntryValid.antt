@@ -8,16 +8,22 @@ use Rattle.raft_progress.specs.declared.entry.ProgressEntryOf.{ProgressEntryOf}
 use Rattle.raft_progress.specs.declared.inflight.InflightOf.{InflightOf}
 use Rattle.raft_progress.specs.declared.inflight.InflightOf.TheVariants.{None as Idle, Logs, Snapshot}
 
--- logs in flight begin after the match, and within the search for it; a snapshot goes past the match
-abbrev pub sending_relations : {C : Type 0} → (C → C → Ordering) → ProgressEntryOf C → InflightOf C → List (Bool × Invalid)
+-- logs in flight begin after the match, and within the search for
+-- it; a snapshot goes past the match
+abbrev pub sending_relations : {C : Type 0} → (C → C → Ordering) → ProgressEntryOf C → InflightOf C
+    → List (Bool × Invalid)
 sending_relations cmp entry Idle = []
 sending_relations cmp entry (Logs id range) =
     (id_le cmp range.prev range.last, RangeOrder)
     ∷ (id_le cmp entry.matching range.prev, MatchingPastPrev)
     ∷ (nat_le (next_index range.prev) entry.searching_end, PrevPastEnd)
     ∷ []
-sending_relations cmp entry (Snapshot id last) = (id_lt cmp entry.matching last, SnapshotNotPastMatching) ∷ []
+sending_relations cmp entry (Snapshot id last) =
+    (id_lt cmp entry.matching last, SnapshotNotPastMatching) ∷ []
 
 -- the match is below the end of the search, and what is in flight fits both
-abbrev pub entry_relations : {C : Type 0} → (C → C → Ordering) → ProgressEntryOf C → List (Bool × Invalid)
-entry_relations cmp entry = (nat_le (next_index entry.matching) entry.searching_end, MatchingPastEnd) ∷ sending_relations cmp entry entry.inflight
+abbrev pub entry_relations : {C : Type 0} → (C → C → Ordering) → ProgressEntryOf C
+    → List (Bool × Invalid)
+entry_relations cmp entry =
+    (nat_le (next_index entry.matching) entry.searching_end, MatchingPastEnd)
+    ∷ sending_relations cmp entry entry.inflight

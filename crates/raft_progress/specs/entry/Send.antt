@@ -15,7 +15,8 @@ calc_mid matched end = matched + (end - matched) / 16 * 8
 
 -- the first index to send: that of the next probe, and none that is to be purged
 abbrev pub start_of : {C : Type 0} → ProgressEntryOf C → LogView C → ℕ
-start_of entry log = max (calc_mid (next_index entry.matching) entry.searching_end) (next_index log.purge_upto)
+start_of entry log =
+    max (calc_mid (next_index entry.matching) entry.searching_end) (next_index log.purge_upto)
 
 -- the index after the last one to send: no more entries than allowed, and no more than there are
 abbrev pub end_of : {C : Type 0} → ProgressEntryOf C → LogView C → ℕ → ℕ
@@ -40,11 +41,15 @@ sent_idle cmp entry log max_entries =
     else if start == until then Err entry
     else Ok (record entry { curr_inflight_id = id; inflight = logs })
 
--- the entry after a send, as Err where nothing was sent: something is in flight already, or there is no log to send
-abbrev pub sent : {C : Type 0} → (C → C → Ordering) → ProgressEntryOf C → LogView C → ℕ → Result (ProgressEntryOf C) (ProgressEntryOf C)
-sent cmp entry log max_entries = if is_idle entry.inflight then sent_idle cmp entry log max_entries else Err entry
+-- the entry after a send, as Err where nothing was sent: something is in flight
+-- already, or there is no log to send
+abbrev pub sent : {C : Type 0} → (C → C → Ordering) → ProgressEntryOf C → LogView C → ℕ
+    → Result (ProgressEntryOf C) (ProgressEntryOf C)
+sent cmp entry log max_entries =
+    if is_idle entry.inflight then sent_idle cmp entry log max_entries else Err entry
 
--- a send may be made where something is in flight; else the match is below the end of the search, which is not past the log, and no index nor the request id is the greatest u64
+-- a send may be made where something is in flight; else the match is below the end of the search,
+-- which is not past the log, and no index nor the request id is the greatest u64
 abbrev pub can_be_sent : {C : Type 0} → ProgressEntryOf C → LogView C → Bool
 can_be_sent entry log =
     if is_idle entry.inflight then
@@ -54,6 +59,8 @@ can_be_sent entry log =
     else true
 
 -- a send answers what is in flight after it, as Ok or Err, as the table has it
-abbrev pub IsSent : {C : Type 0} → Result (ProgressEntryOf C) (ProgressEntryOf C) → Result (Bor (InflightOf C)) (Bor (InflightOf C)) → ProgressEntryOf C → Type 0
+abbrev pub IsSent : {C : Type 0} → Result (ProgressEntryOf C) (ProgressEntryOf C)
+    → Result (Bor (InflightOf C)) (Bor (InflightOf C)) → ProgressEntryOf C → Type 0
 IsSent table result new =
-    MatchResult result (λ sending. (table ≡ Ok new) × (sending.now ≡ new.inflight)) (λ sending. (table ≡ Err new) × (sending.now ≡ new.inflight))
+    MatchResult result (λ sending. (table ≡ Ok new) × (sending.now ≡ new.inflight))
+    (λ sending. (table ≡ Err new) × (sending.now ≡ new.inflight))

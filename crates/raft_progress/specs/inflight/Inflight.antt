@@ -12,8 +12,10 @@ use Rattle.raft_progress.specs.declared.inflight.RequestId.{RequestId}
 use Rattle.raft_progress.specs.declared.inflight.RequestId.TheVariants.{AppendEntries, Snapshot as SnapshotRequest}
 
 -- the logs after prev up to last, under a request id, where there are any
-abbrev pub logs_from : {C : Type 0} → (C → C → Ordering) → ℕ → Option (LogIdOf C) → Option (LogIdOf C) → InflightOf C
-logs_from cmp id prev last = if id_lt cmp prev last then Logs id (record { prev = prev; last = last }) else Idle
+abbrev pub logs_from : {C : Type 0} → (C → C → Ordering) → ℕ → Option (LogIdOf C)
+    → Option (LogIdOf C) → InflightOf C
+logs_from cmp id prev last =
+    if id_lt cmp prev last then Logs id (record { prev = prev; last = last }) else Idle
 
 -- the same under another request id
 abbrev pub with_id : {C : Type 0} → InflightOf C → ℕ → InflightOf C
@@ -53,7 +55,9 @@ id_of (Snapshot id last) = Some id
 
 -- why a reply to a request is refused: another request is in flight, or none
 abbrev pub wrong_id : {C : Type 0} → InflightOf C → ℕ → Option InflightError
-wrong_id inflight id = if option_eq nat_eq (id_of inflight) (Some id) then None else Some (InvalidRequestId (id_of inflight) id)
+wrong_id inflight id =
+    if option_eq nat_eq (id_of inflight) (Some id) then None
+    else Some (InvalidRequestId (id_of inflight) id)
 
 -- whether the log with this id is among the logs in flight, or past them
 abbrev pub is_after_prev : {C : Type 0} → (C → C → Ordering) → InflightOf C → LogIdOf C → Bool

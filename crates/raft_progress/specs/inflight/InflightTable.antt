@@ -13,28 +13,37 @@ use Rattle.raft_progress.specs.declared.inflight.InflightOf.{InflightOf}
 use Rattle.raft_progress.specs.declared.inflight.InflightOf.TheVariants.{None as Idle, Logs, Snapshot}
 
 -- an id lies between the ends of a range, by order and by index
-abbrev pub is_within : {C : Type 0} → (C → C → Ordering) → LogIdRangeOf C → Option (LogIdOf C) → Bool
+abbrev pub is_within : {C : Type 0} → (C → C → Ordering) → LogIdRangeOf C → Option (LogIdOf C)
+    → Bool
 is_within cmp range upto =
     id_le cmp range.prev upto && id_le cmp upto range.last
-    && index_le (index_of range.prev) (index_of upto) && index_le (index_of upto) (index_of range.last)
+    && index_le (index_of range.prev) (index_of upto)
+    && index_le (index_of upto) (index_of range.last)
 
 -- what is answered to a reply to the request in flight, and to none other
 abbrev pub if_mine : {S : Type 0} → ℕ → ℕ → Result S InflightError → Result S InflightError
 if_mine mine id answer = if mine == id then answer else Err (InvalidRequestId (Some mine) id)
 
 -- the follower has all up to an id: the logs after it stay in flight; a snapshot has come
-abbrev pub acked : {C : Type 0} → (C → C → Ordering) → InflightOf C → ℕ → Option (LogIdOf C) → Result (InflightOf C) InflightError
+abbrev pub acked : {C : Type 0} → (C → C → Ordering) → InflightOf C → ℕ → Option (LogIdOf C)
+    → Result (InflightOf C) InflightError
 acked cmp Idle id upto = Err (InvalidRequestId None id)
-acked cmp (Logs mine range) id upto = if_mine mine id (if is_within cmp range upto then Ok (logs_from cmp mine upto range.last) else Err AckOutOfRange)
-acked cmp (Snapshot mine last) id upto = if_mine mine id (if id_lt cmp upto last then Err SnapshotAckRegress else Ok Idle)
+acked cmp (Logs mine range) id upto =
+    if_mine mine id (if is_within cmp range upto then Ok (logs_from cmp mine upto range.last)
+    else Err AckOutOfRange)
+acked cmp (Snapshot mine last) id upto =
+    if_mine mine id (if id_lt cmp upto last then Err SnapshotAckRegress else Ok Idle)
 
 -- the follower does not have the log before those in flight: nothing stays in flight
 abbrev pub conflicted : {C : Type 0} → InflightOf C → ℕ → ℕ → Result (InflightOf C) InflightError
 conflicted Idle id index = Err (InvalidRequestId None id)
-conflicted (Logs mine range) id index = if_mine mine id (if option_eq nat_eq (index_of range.prev) (Some index) then Ok Idle else Err ConflictNotAtPrev)
+conflicted (Logs mine range) id index =
+    if_mine mine id (if option_eq nat_eq (index_of range.prev) (Some index) then Ok Idle
+    else Err ConflictNotAtPrev)
 conflicted (Snapshot mine last) id index = if_mine mine id (Err ConflictOnSnapshot)
 
--- a call does what a table says: the value becomes the table's, or the refusal is the table's and the value is as it was
+-- a call does what a table says: the value becomes the table's, or the refusal is the
+-- table's and the value is as it was
 abbrev pub FollowsTable : {S E U : Type 0} → Result S E → S → Result U E → S → Type 0
 FollowsTable (Ok s) old (Ok u) new = new ≡ s
 FollowsTable (Err e) old (Err f) new = (f ≡ e) × (new ≡ old)

@@ -1,30 +1,24 @@
 -- What a reply says of a step: whether it was refused, and what is granted.
 use Rattle.std.specs.Prelude.{◌≡◌, Bool, true, false, ⊤}
 use Rattle.raft_progress.specs.declared.progress.steps.Reply.{Reply}
-use Rattle.raft_progress.specs.declared.progress.steps.Reply.TheVariants.{Granted, Unknown, WouldFall, Refused, BelowDefault, BadLearners, OutOfMemory}
+use Rattle.raft_progress.specs.declared.progress.steps.Reply.TheVariants.{Granted, Unknown}
 
 -- whether a step was refused
 abbrev pub is_refused : {ID P : Type 0} → Reply ID P → Bool
 is_refused (Granted p) = false
 is_refused (Unknown p) = false
-is_refused WouldFall = true
-is_refused (Refused why) = true
-is_refused (BelowDefault id) = true
-is_refused BadLearners = true
-is_refused OutOfMemory = true
+is_refused reply = true
 
 -- a reply that tells what is granted tells g
 abbrev pub Tells : {ID P : Type 0} → Reply ID P → P → Type 0
 Tells (Granted p) g = p ≡ g
 Tells (Unknown p) g = p ≡ g
-Tells WouldFall g = ⊤
-Tells (Refused why) g = ⊤
-Tells (BelowDefault id) g = ⊤
-Tells BadLearners g = ⊤
-Tells OutOfMemory g = ⊤
+Tells reply g = ⊤
 
--- where the reply refuses the step nothing has changed, and else it was done; and the reply tells what is granted now
-pub record IsAnswered {ID P S : Type 0} (granted_of : S → P) (Done : S → Type 0) (old : S) (reply : Reply ID P) (new : S) : Type 0 where
+-- where the reply refuses the step nothing has changed, and else it was done; and
+-- the reply tells what is granted now
+pub record IsAnswered {ID P S : Type 0} (granted_of : S → P) (Done : S → Type 0) (old : S)
+    (reply : Reply ID P) (new : S) : Type 0 where
   pub refused : is_refused reply ≡ true → new ≡ old
   pub done : is_refused reply ≡ false → Done new
   pub tells : Tells reply (granted_of new)

@@ -6,13 +6,15 @@ use Rattle.raft_progress.specs.declared.progress.part.ProgressPart as part_ghost
 
 -- what a clause has as `K.Ord`
 abbrev pub OrdMembers : Type 0 → Type 0
-OrdMembers K = record { partial_cmp : K → K → Option Ordering; eq : K → K → Bool; cmp : K → K → Ordering }
+OrdMembers K =
+    record { partial_cmp : K → K → Option Ordering; eq : K → K → Bool; cmp : K → K → Ordering }
 
 -- what a clause has as `V.PartialOrd`
 abbrev pub PartialOrdMembers : Type 0 → Type 0
 PartialOrdMembers V = record { eq : V → V → Bool; partial_cmp : V → V → Option Ordering }
 
--- when two ids are equal, how ids, parts and values are ordered, which part of a value is compared, and what a clone of a value is
+-- when two ids are equal, how ids, parts and values are ordered, which part of a value is
+-- compared, and what a clone of a value is
 pub record Comparisons (ID V P : Type 0) : Type 1 where
   pub eq : ID → ID → Bool
   pub id_cmp : ID → ID → Ordering
@@ -22,7 +24,8 @@ pub record Comparisons (ID V P : Type 0) : Type 1 where
   pub IsClone : V → V → Type 0
 
 -- those of the traits of ids, parts and values
-abbrev pub comparisons : {ID V P : Type 0} → OrdMembers ID → OrdMembers P → PartialOrdMembers V → part_ghosts.Ghosts V P → clone_ghosts.Ghosts V → Comparisons ID V P
+abbrev pub comparisons : {ID V P : Type 0} → OrdMembers ID → OrdMembers P → PartialOrdMembers V
+    → part_ghosts.Ghosts V P → clone_ghosts.Ghosts V → Comparisons ID V P
 comparisons ids parts values value clones =
     record {
       eq = ids.eq;

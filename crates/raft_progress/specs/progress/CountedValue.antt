@@ -21,13 +21,16 @@ module _ {ID V P QS : Type 0} (cmp : P → P → Ordering) (part : V → P) wher
   reached s p x = s.is_voter x && has_part cmp part p (s.value x)
 
   -- a voter whose part a quorum has reached
-  pub record IsReached (has_quorum : QS → (ID → Bool) → Bool) (s : ProgressState ID V P QS) (x : ID) (v : V) : Type 0 where
+  pub record IsReached (has_quorum : QS → (ID → Bool) → Bool) (s : ProgressState ID V P QS) (x : ID)
+      (v : V) : Type 0 where
     pub voter : s.is_voter x ≡ true
     pub value : s.value x ≡ Some v
     pub quorum : has_quorum s.quorum_set (reached s (part v)) ≡ true
 
   -- g is the greatest of the default's part and of the voters' parts that a quorum has reached
-  pub record IsCounted (has_quorum : QS → (ID → Bool) → Bool) (s : ProgressState ID V P QS) (g : P) : Type 0 where
-    pub is_one : (cmp s.default_part g ≡ Equal) ⊎ ((x : ID) × (v : V) × IsReached has_quorum s x v × (cmp (part v) g ≡ Equal))
+  pub record IsCounted (has_quorum : QS → (ID → Bool) → Bool) (s : ProgressState ID V P QS) (g : P)
+      : Type 0 where
+    pub is_one : (cmp s.default_part g ≡ Equal)
+        ⊎ ((x : ID) × (v : V) × IsReached has_quorum s x v × (cmp (part v) g ≡ Equal))
     pub default_at_most : AtMost cmp s.default_part g
     pub others_at_most : (x : ID) (v : V) → IsReached has_quorum s x v → AtMost cmp (part v) g

@@ -1,29 +1,33 @@
 -- What stays when values are written in place.
-use Rattle.std.specs.Prelude.{◌≡◌, Bool, Some, map, take}
+use Rattle.std.specs.Prelude.{◌≡◌, Bool, true, Some, map, take}
 use Rattle.std.specs.declared.cmp.Ordering.{Ordering}
 use Rattle.std.specs.Map.{keys_of, set_value}
 use Rattle.raft_progress.specs.progress.InOrder.{IsInOrder}
 use Rattle.raft_progress.specs.progress.Shown.{Shown, state}
 
 -- the progress with another value at an id, in the same place, and nothing else changed
-abbrev pub with_value : {ID V P QS : Type 0} → (ID → ID → Bool) → Shown ID V P QS → ID → V → Shown ID V P QS
+abbrev pub with_value : {ID V P QS : Type 0} → (ID → ID → Bool) → Shown ID V P QS → ID → V
+    → Shown ID V P QS
 with_value eq p id w = record p { walk = set_value (eq id) p.walk w }
 
--- the ids and the voters' parts are as they were; what learners have, and what a value holds beside its part, may differ
+-- the ids and the voters' parts are as they were; what learners have, and what a value
+-- holds beside its part, may differ
 pub record KeepsParts {ID V P QS : Type 0} (part : V → P) (old new : Shown ID V P QS) : Type 0 where
   pub quorum_set : new.quorum_set ≡ old.quorum_set
   pub voter_count : new.voter_count ≡ old.voter_count
   pub default_part : new.default_part ≡ old.default_part
   pub granted : new.granted ≡ old.granted
   pub ids : keys_of new.walk ≡ keys_of old.walk
-  pub parts : map (λ e. part e.1) (take old.voter_count new.walk) ≡ map (λ e. part e.1) (take old.voter_count old.walk)
+  pub parts : map (λ e. part e.1) (take old.voter_count new.walk)
+      ≡ map (λ e. part e.1) (take old.voter_count old.walk)
 
 module _ (ID V P QS : Type 0) (eq : ID → ID → Bool) (part : V → P) where
-  -- a value of the same part in the place of another keeps ids and voters' parts
+  -- a value in the place of another keeps ids and voters' parts, where it has the same part or the id is no voter
   abbrev pub SamePartKeepsParts : Type 0
   SamePartKeepsParts =
       (p : Shown ID V P QS) (id : ID) (v w : V) → (state eq p).value id ≡ Some v
-      → part w ≡ part v → KeepsParts part p (with_value eq p id w)
+      → ((state eq p).is_voter id ≡ true → part w ≡ part v)
+      → KeepsParts part p (with_value eq p id w)
 
   -- where ids and voters' parts are as they were, a progress that was in order is in order
   abbrev pub KeptPartsKeepOrder : (P → P → Ordering) → (QS → (ID → Bool) → Bool) → Type 0

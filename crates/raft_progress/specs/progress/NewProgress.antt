@@ -9,7 +9,8 @@ use Rattle.raft_progress.specs.progress.ProgressState.{ProgressState}
 use Rattle.raft_progress.specs.progress.Shown.{Shown}
 
 -- no learner stands twice, and none is a voter
-pub record LearnersFit {ID : Type 0} (eq : ID → ID → Bool) (is_voter : ID → Bool) (learners : List ID) : Type 0 where
+pub record LearnersFit {ID : Type 0} (eq : ID → ID → Bool) (is_voter : ID → Bool)
+    (learners : List ID) : Type 0 where
   pub distinct : IsDistinct eq learners
   pub no_voters : (x : ID) → is_member eq learners x ≡ true → is_voter x ≡ false
 
@@ -18,15 +19,20 @@ abbrev pub HasClone : {V : Type 0} → (V → V → Type 0) → V → Option V �
 HasClone {V} IsClone v value = (w : V) × (value ≡ Some w) × IsClone v w
 
 -- each voter and each learner has a clone of the default, and no other id has a value
-pub record IsNew {ID V P QS : Type 0} (eq : ID → ID → Bool) (IsClone : V → V → Type 0) (part : V → P) (is_voter : ID → Bool) (quorum_set : QS) (learners : List ID) (default : V) (new : ProgressState ID V P QS) : Type 0 where
+pub record IsNew {ID V P QS : Type 0} (eq : ID → ID → Bool) (IsClone : V → V → Type 0)
+    (part : V → P) (is_voter : ID → Bool) (quorum_set : QS) (learners : List ID) (default : V)
+    (new : ProgressState ID V P QS) : Type 0 where
   pub same_quorum_set : new.quorum_set ≡ quorum_set
   pub voters : (x : ID) → new.is_voter x ≡ is_voter x
-  pub value : (x : ID) → (is_voter x || is_member eq learners x) ≡ true → HasClone IsClone default (new.value x)
+  pub value : (x : ID) → (is_voter x || is_member eq learners x) ≡ true
+      → HasClone IsClone default (new.value x)
   pub others : (x : ID) → (is_voter x || is_member eq learners x) ≡ false → new.value x ≡ None
   pub default_part : new.default_part ≡ part default
 
--- the walk of a new progress: the voters, each once, ascending, and then the learners as they were given
-pub record IsFirstWalk {ID V P QS : Type 0} (id_cmp : ID → ID → Ordering) (learners : List ID) (made : Shown ID V P QS) : Type 0 where
+-- the walk of a new progress: the voters, each once, ascending, and
+-- then the learners as they were given
+pub record IsFirstWalk {ID V P QS : Type 0} (id_cmp : ID → ID → Ordering) (learners : List ID)
+    (made : Shown ID V P QS) : Type 0 where
   pub voters : List ID
   pub ascending : IsStrictlySortedBy id_cmp voters
   pub ids : keys_of made.walk ≡ voters ++ learners

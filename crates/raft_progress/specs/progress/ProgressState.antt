@@ -17,7 +17,8 @@ pub record IsSame {ID V P QS : Type 0} (old new : ProgressState ID V P QS) : Typ
   pub default_part : new.default_part ≡ old.default_part
 
 -- the value of one id is now v, and all else is as it was
-pub record Writes {ID V P QS : Type 0} (eq : ID → ID → Bool) (old : ProgressState ID V P QS) (id : ID) (v : V) (new : ProgressState ID V P QS) : Type 0 where
+pub record Writes {ID V P QS : Type 0} (eq : ID → ID → Bool) (old : ProgressState ID V P QS)
+    (id : ID) (v : V) (new : ProgressState ID V P QS) : Type 0 where
   pub quorum_set : new.quorum_set ≡ old.quorum_set
   pub is_voter : (x : ID) → new.is_voter x ≡ old.is_voter x
   pub value : (x : ID) → new.value x ≡ update eq old.value id (Some v) x

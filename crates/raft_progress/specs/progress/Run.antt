@@ -5,6 +5,7 @@ module _ {S A R : Type 0} (Step : S → A → R → S → Type 0) (Same : S → 
   -- the steps may be answered so, one after another; no step and no reply leave all the same
   abbrev pub Runs : S → List A → List R → S → Type 0
   Runs old [] [] new = Same old new
-  Runs old (step ∷ steps) (reply ∷ replies) new = (middle : S) × Step old step reply middle × Runs middle steps replies new
+  Runs old (step ∷ steps) (reply ∷ replies) new =
+      (middle : S) × Step old step reply middle × Runs middle steps replies new
   Runs old [] (reply ∷ replies) new = ⊥
   Runs old (step ∷ steps) [] new = ⊥

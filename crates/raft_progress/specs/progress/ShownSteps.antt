@@ -1,4 +1,5 @@
--- What a step does to all that a progress shows: to its walk, to what is granted and to the counts too.
+-- What a step does to all that a progress shows: to its walk, to what
+-- is granted and to the counts too.
 use Rattle.std.specs.Prelude.{◌≡◌, Bool, true, false, List, Option}
 use Rattle.std.specs.declared.cmp.Ordering.{Ordering}
 use Rattle.raft_progress.specs.progress.Answered.{IsAnswered}
@@ -19,8 +20,10 @@ module _ {ID V P QS : Type 0} (eq : ID → ID → Bool) (cmp : P → P → Order
   IsUpdatedTo old id value new = IsUpdated eq cmp part (λ v w. w ≡ value) old id new
 
   -- the value of an id is updated to this one where this one is greater, and else to itself
-  abbrev pub IsIncreasedTo : (V → V → Option Ordering) → Shown ID V P QS → ID → V → Shown ID V P QS → Type 0
-  IsIncreasedTo partial_cmp old id value new = IsUpdated eq cmp part (IsGreaterOf partial_cmp value) old id new
+  abbrev pub IsIncreasedTo : (V → V → Option Ordering) → Shown ID V P QS → ID → V → Shown ID V P QS
+      → Type 0
+  IsIncreasedTo partial_cmp old id value new =
+      IsUpdated eq cmp part (IsGreaterOf partial_cmp value) old id new
 
 -- whether a step is an upgrade
 abbrev pub is_upgrade : {ID V QS : Type 0} → AnyStep ID V QS → Bool
@@ -28,19 +31,26 @@ is_upgrade (Update id value) = false
 is_upgrade (IncreaseTo id value) = false
 is_upgrade (Upgrade quorum_set learners default) = true
 
-module _ {ID V P QS : Type 0} (by : Comparisons ID V P) (has_quorum : QS → (ID → Bool) → Bool) (is_voter : QS → ID → Bool) where
+module _ {ID V P QS : Type 0} (by : Comparisons ID V P) (has_quorum : QS → (ID → Bool) → Bool)
+    (is_voter : QS → ID → Bool) where
   -- a step that is not refused is an update, an increase or an upgrade
   abbrev pub IsDone : Shown ID V P QS → AnyStep ID V QS → Shown ID V P QS → Type 0
   IsDone old (Update id value) new = IsUpdatedTo by.eq by.cmp by.part old id value new
-  IsDone old (IncreaseTo id value) new = IsIncreasedTo by.eq by.cmp by.part by.partial_cmp old id value new
-  IsDone old (Upgrade quorum_set learners default) new = IsUpgradeFold by.eq by.id_cmp by.cmp by.part by.IsClone has_quorum is_voter old quorum_set learners.items default new
+  IsDone old (IncreaseTo id value) new =
+      IsIncreasedTo by.eq by.cmp by.part by.partial_cmp old id value new
+  IsDone old (Upgrade quorum_set learners default) new =
+      IsUpgradeFold by.eq by.id_cmp by.cmp by.part by.IsClone has_quorum is_voter old quorum_set
+      learners.items default new
 
-  -- a step of a progress, over all that it shows: its values go on as a step says, it is done or changes nothing, the reply tells what is granted, and it ends in order
-  pub record IsShownStep (old : Shown ID V P QS) (step : AnyStep ID V QS) (reply : Reply ID P) (new : Shown ID V P QS) : Type 0 where
+  -- a step of a progress, over all that it shows: its values go on as a step says, it is done or
+  -- changes nothing, the reply tells what is granted, and it ends in order
+  pub record IsShownStep (old : Shown ID V P QS) (step : AnyStep ID V QS) (reply : Reply ID P)
+      (new : Shown ID V P QS) : Type 0 where
     pub values : IsStep by has_quorum is_voter (state by.eq old) step reply (state by.eq new)
     pub answered : IsAnswered (λ p. p.granted) (IsDone old step) old reply new
     pub ordered : IsInOrder by.eq by.cmp by.part has_quorum new
 
   -- the steps may be answered so, one after another
-  abbrev pub IsShownRun : Shown ID V P QS → List (AnyStep ID V QS) → List (Reply ID P) → Shown ID V P QS → Type 0
+  abbrev pub IsShownRun : Shown ID V P QS → List (AnyStep ID V QS) → List (Reply ID P)
+      → Shown ID V P QS → Type 0
   IsShownRun old steps replies new = Runs IsShownStep (λ a b. b ≡ a) old steps replies new

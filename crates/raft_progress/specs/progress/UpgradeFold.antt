@@ -1,4 +1,5 @@
--- How a progress goes over to another quorum set: it begins anew, and the old values are taken over one after another.
+-- How a progress goes over to another quorum set: it begins anew, and the old values
+-- are taken over one after another.
 use Rattle.std.specs.Prelude.{◌≡◌, Bool, List, [], ◌∷◌}
 use Rattle.std.specs.declared.cmp.Ordering.{Ordering}
 use Rattle.raft_progress.specs.progress.InOrder.{IsInOrder}
@@ -7,26 +8,40 @@ use Rattle.raft_progress.specs.progress.Shown.{Shown, state}
 use Rattle.raft_progress.specs.progress.Updated.{IsUpdated}
 use Rattle.raft_progress.specs.declared.progress.stat.Stat.{Stat}
 
-module _ {ID V P QS : Type 0} (eq : ID → ID → Bool) (id_cmp : ID → ID → Ordering) (cmp : P → P → Ordering) (part : V → P) (IsClone : V → V → Type 0) (is_voter : QS → ID → Bool) where
-  -- a new progress that goes on with the counts of another: voters and learners have the default, and its part is granted
-  pub record BeginsAnew (stat : Stat) (quorum_set : QS) (learners : List ID) (default : V) (first : Shown ID V P QS) : Type 0 where
-    pub values : IsNew eq IsClone part (is_voter quorum_set) quorum_set learners default (state eq first)
+module _ {ID V P QS : Type 0} (eq : ID → ID → Bool) (id_cmp : ID → ID → Ordering)
+    (cmp : P → P → Ordering) (part : V → P) (IsClone : V → V → Type 0)
+    (is_voter : QS → ID → Bool) where
+  -- a new progress that goes on with the counts of another: voters and learners have the
+  -- default, and its part is granted
+  pub record BeginsAnew (stat : Stat) (quorum_set : QS) (learners : List ID) (default : V)
+      (first : Shown ID V P QS) : Type 0 where
+    pub values : IsNew eq IsClone part (is_voter quorum_set) quorum_set learners default
+        (state eq first)
     pub walk : IsFirstWalk id_cmp learners first
     pub granted : first.granted ≡ part default
     pub counts : first.stat ≡ stat
 
-module _ {ID V P QS : Type 0} (eq : ID → ID → Bool) (id_cmp : ID → ID → Ordering) (cmp : P → P → Ordering) (part : V → P) (IsClone : V → V → Type 0) (has_quorum : QS → (ID → Bool) → Bool) (is_voter : QS → ID → Bool) where
-  -- the entries are taken over one after another: each by an update of its id, whose value is then a clone of the entry's, and which ends in order
+module _ {ID V P QS : Type 0} (eq : ID → ID → Bool) (id_cmp : ID → ID → Ordering)
+    (cmp : P → P → Ordering) (part : V → P) (IsClone : V → V → Type 0)
+    (has_quorum : QS → (ID → Bool) → Bool) (is_voter : QS → ID → Bool) where
+  -- the entries are taken over one after another: each by an update of its id, whose value is then
+  -- a clone of the entry's, and which ends in order
   abbrev pub TakesOverEach : List (ID × V) → Shown ID V P QS → Shown ID V P QS → Type 0
   TakesOverEach [] old new = new ≡ old
-  TakesOverEach (e ∷ es) old new = (middle : Shown ID V P QS) × IsUpdated eq cmp part (λ v w. IsClone e.1 w) old e.0 middle × IsInOrder eq cmp part has_quorum middle × TakesOverEach es middle new
+  TakesOverEach (e ∷ es) old new =
+      (middle : Shown ID V P QS) × IsUpdated eq cmp part (λ v w. IsClone e.1 w) old e.0 middle
+      × IsInOrder eq cmp part has_quorum middle × TakesOverEach es middle new
 
   -- a progress that begins anew, after the entries of a walk have been taken over
-  pub record IsFold (walk : List (ID × V)) (stat : Stat) (quorum_set : QS) (learners : List ID) (default : V) (new : Shown ID V P QS) : Type 0 where
+  pub record IsFold (walk : List (ID × V)) (stat : Stat) (quorum_set : QS) (learners : List ID)
+      (default : V) (new : Shown ID V P QS) : Type 0 where
     pub first : Shown ID V P QS
-    pub begins : BeginsAnew eq id_cmp cmp part IsClone is_voter stat quorum_set learners default first
+    pub begins : BeginsAnew eq id_cmp cmp part IsClone is_voter stat quorum_set learners default
+        first
     pub takes_over : TakesOverEach walk first new
 
-  -- an upgrade begins anew over the new quorum set, with the old counts, and takes over the old walk
+  -- an upgrade begins anew over the new quorum set, with the old
+  -- counts, and takes over the old walk
   abbrev pub IsUpgradeFold : Shown ID V P QS → QS → List ID → V → Shown ID V P QS → Type 0
-  IsUpgradeFold old quorum_set learners default new = IsFold old.walk old.stat quorum_set learners default new
+  IsUpgradeFold old quorum_set learners default new =
+      IsFold old.walk old.stat quorum_set learners default new

@@ -1,4 +1,5 @@
--- A walk: the ids of a progress with their values, the voters first. When its parts fall, and how a voter rises in it.
+-- A walk: the ids of a progress with their values, the voters first. When its parts
+-- fall, and how a voter rises in it.
 use Rattle.std.specs.Prelude.{◌≡◌, ℕ, Bool, true, List, [], ◌∷◌, ◌++◌, take, if◌then◌else◌, ⊤}
 use Rattle.std.specs.declared.cmp.Ordering.{Ordering}
 use Rattle.std.specs.Ordering.{is_le, is_lt}
@@ -9,7 +10,8 @@ use Rattle.raft_progress.specs.progress.ProgressState.{ProgressState}
 use Rattle.raft_progress.specs.progress.CountedValue.{AtMost}
 
 -- the progress that is kept as a walk, whose first entries are the voters
-abbrev pub state_of : {ID V P QS : Type 0} → (ID → ID → Bool) → QS → List (ID × V) → ℕ → P → ProgressState ID V P QS
+abbrev pub state_of : {ID V P QS : Type 0} → (ID → ID → Bool) → QS → List (ID × V) → ℕ → P
+    → ProgressState ID V P QS
 state_of eq quorum_set walk voter_count default_part =
     record {
       quorum_set = quorum_set;
@@ -19,10 +21,13 @@ state_of eq quorum_set walk voter_count default_part =
     }
 
 module _ {ID V P : Type 0} (cmp : P → P → Ordering) (part : V → P) where
-  -- the entries whose part exceeds g come first, and their parts never rise: none stands behind a lesser one
+  -- the entries whose part exceeds g come first, and their parts never
+  -- rise: none stands behind a lesser one
   abbrev pub IsFalling : P → List (ID × V) → Type 0
   IsFalling g [] = ⊤
-  IsFalling g (e ∷ es) = AllByRecursion (λ f. is_lt (cmp g (part f.1)) ≡ true → AtMost cmp (part f.1) (part e.1)) es × IsFalling g es
+  IsFalling g (e ∷ es) =
+      AllByRecursion (λ f. is_lt (cmp g (part f.1)) ≡ true → AtMost cmp (part f.1) (part e.1)) es
+      × IsFalling g es
 
   -- an entry, put directly after the last of the others whose part is at least its own, or to the
   -- front

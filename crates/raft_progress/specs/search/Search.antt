@@ -10,7 +10,8 @@ use Rattle.raft_progress.specs.declared.entry.ProgressEntryOf.{ProgressEntryOf}
 use Rattle.raft_progress.specs.declared.search.SearchEvent.{SearchEvent}
 use Rattle.raft_progress.specs.declared.search.SearchEvent.TheVariants.{Send, Conflict, Heartbeat}
 
--- an entry in a search, the index after the last purge point that was sent over, and how many conflicts were accepted
+-- an entry in a search, the index after the last purge point that was sent over, and
+-- how many conflicts were accepted
 pub record Search (C : Type 0) : Type 0 where
   pub entry : ProgressEntryOf C
   pub purged : ℕ
@@ -36,11 +37,16 @@ one_if_accepted (Ok new) = 1
 one_if_accepted (Err e) = 0
 
 module _ {L C : Type 0} (cmp : C → C → Ordering) (log_view : L → LogView C) where
-  -- a send over a log, unless it may not be made, or the purge point has gone back since an earlier send
+  -- a send over a log, unless it may not be made, or the purge point
+  -- has gone back since an earlier send
   abbrev pub after_sending : Search C → LogView C → ℕ → Search C
   after_sending search log max_entries =
       if can_be_sent search.entry log && nat_le search.purged (next_index log.purge_upto)
-      then record { entry = after_send (sent cmp search.entry log max_entries); purged = next_index log.purge_upto; accepted = search.accepted }
+      then record {
+        entry = after_send (sent cmp search.entry log max_entries);
+        purged = next_index log.purge_upto;
+        accepted = search.accepted;
+      }
       else search
 
   -- the search after an event; an event that is refused changes nothing
@@ -48,8 +54,13 @@ module _ {L C : Type 0} (cmp : C → C → Ordering) (log_view : L → LogView C
   after_event search (Send log max_entries) = after_sending search (log_view log.now) max_entries
   after_event search (Conflict request_id index) =
       let answer = conflicting search.entry (Some request_id) index in
-      record { entry = after_reply search.entry answer; purged = search.purged; accepted = search.accepted + one_if_accepted answer }
-  after_event search (Heartbeat index) = record search { entry = after_reply search.entry (conflicting search.entry None index) }
+      record {
+        entry = after_reply search.entry answer;
+        purged = search.purged;
+        accepted = search.accepted + one_if_accepted answer;
+      }
+  after_event search (Heartbeat index) =
+      record search { entry = after_reply search.entry (conflicting search.entry None index) }
 
   -- the search after events, one after another
   abbrev pub after_events : Search C → List (SearchEvent L) → Search C
@@ -63,7 +74,8 @@ NonePurgedPast search index = search.purged ≤ index
 
 -- a search can begin: nothing is in flight, and the match is below the end of the search
 abbrev pub CanSearch : {C : Type 0} → ProgressEntryOf C → Type 0
-CanSearch entry = (is_idle entry.inflight ≡ true) × (next_index entry.matching ≤ entry.searching_end)
+CanSearch entry =
+    (is_idle entry.inflight ≡ true) × (next_index entry.matching ≤ entry.searching_end)
 
 -- from the match to the end of the search: so many indexes may be that of the last shared log
 abbrev pub stretch : {C : Type 0} → ProgressEntryOf C → ℕ

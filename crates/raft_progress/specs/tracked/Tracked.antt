@@ -13,7 +13,15 @@ use Rattle.raft_progress.specs.progress.VecProgress.{shown}
 use Rattle.raft_progress.specs.declared.progress.part.ProgressPart as part_ghosts
 use Rattle.raft_progress.specs.declared.tracked.Tracked.{Tracked}
 
-module _ {K N V P : Type 0} {ids : eq_ghosts.Ghosts K} {ids' : order_ghosts.Ghosts K} {ids'' : partial_ghosts.Ghosts K} {debug : debug_ghosts.Ghosts K} {display : display_ghosts.Ghosts K} {hash : hash_ghosts.Ghosts K} {zero : default_ghosts.Ghosts K} {nodes : eq_ghosts.Ghosts N} {nodes' : debug_ghosts.Ghosts N} {nodes'' : clone_ghosts.Ghosts N} {node : node_ghosts.Ghosts N} {values : part_ghosts.Ghosts V P} {parts : order_ghosts.Ghosts P} {parts' : eq_ghosts.Ghosts P} {parts'' : partial_ghosts.Ghosts P} where
+module _ {K N V P : Type 0} {ids : eq_ghosts.Ghosts K} {ids' : order_ghosts.Ghosts K}
+    {ids'' : partial_ghosts.Ghosts K} {debug : debug_ghosts.Ghosts K}
+    {display : display_ghosts.Ghosts K} {hash : hash_ghosts.Ghosts K}
+    {zero : default_ghosts.Ghosts K} {nodes : eq_ghosts.Ghosts N} {nodes' : debug_ghosts.Ghosts N}
+    {nodes'' : clone_ghosts.Ghosts N} {node : node_ghosts.Ghosts N}
+    {values : part_ghosts.Ghosts V P} {parts : order_ghosts.Ghosts P} {parts' : eq_ghosts.Ghosts P}
+    {parts'' : partial_ghosts.Ghosts P} where
   -- its membership, and what its progress shows
-  abbrev pub tracked : Tracked K N V P ids ids' ids'' debug display hash zero nodes nodes' nodes'' node values parts parts' parts'' → TrackedShown K N V P
+  abbrev pub tracked : Tracked K N V P ids ids' ids'' debug display hash zero nodes nodes' nodes''
+      node values parts parts' parts''
+      → TrackedShown K N V P
   tracked t = record { membership = t.membership; progress = shown t.progress }

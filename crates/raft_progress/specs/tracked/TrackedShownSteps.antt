@@ -14,11 +14,15 @@ use Rattle.raft_progress.specs.declared.progress.steps.Reply.{Reply}
 use Rattle.raft_progress.specs.declared.tracked.step.Step.{Step}
 use Rattle.raft_progress.specs.declared.tracked.step.Step.TheVariants.{Update, IncreaseTo, Change}
 
--- the progress goes over to the configs and the learners of the membership that is there now, in the membership's order
-pub record IsChangeFold {K N V P : Type 0} (eq : K → K → Bool) (id_cmp : K → K → Ordering) (cmp : P → P → Ordering) (part : V → P) (IsClone : V → V → Type 0) (old : TrackedShown K N V P) (default : V) (new : TrackedShown K N V P) : Type 0 where
+-- the progress goes over to the configs and the learners of the membership that is
+-- there now, in the membership's order
+pub record IsChangeFold {K N V P : Type 0} (eq : K → K → Bool) (id_cmp : K → K → Ordering)
+    (cmp : P → P → Ordering) (part : V → P) (IsClone : V → V → Type 0)
+    (old : TrackedShown K N V P) (default : V) (new : TrackedShown K N V P) : Type 0 where
   pub configs : Configs K
   pub has_configs : HasConfigs (members_of id_cmp new.membership) configs
-  pub fold : IsUpgradeFold eq id_cmp cmp part IsClone (has_quorum eq) (is_voter eq) old.progress configs (learners_of eq new.membership) default new.progress
+  pub fold : IsUpgradeFold eq id_cmp cmp part IsClone (has_quorum eq)
+      (is_voter eq) old.progress configs (learners_of eq new.membership) default new.progress
 
 -- whether a step is a change of the membership
 abbrev pub is_change : {K N V : Type 0} → Step K N V → Bool
@@ -27,20 +31,29 @@ is_change (IncreaseTo id value) = false
 is_change (Change change retain default) = true
 
 module _ {K N V P : Type 0} (by : Comparisons K V P) where
-  -- a step that is not refused is an update or an increase of the progress, which leaves the membership, or a change of both
+  -- a step that is not refused is an update or an increase of the progress, which leaves
+  -- the membership, or a change of both
   abbrev pub IsTrackedDone : TrackedShown K N V P → Step K N V → TrackedShown K N V P → Type 0
-  IsTrackedDone old (Update id value) new = (new.membership ≡ old.membership) × IsUpdatedTo by.eq by.cmp by.part old.progress id value new.progress
+  IsTrackedDone old (Update id value) new =
+      (new.membership ≡ old.membership)
+      × IsUpdatedTo by.eq by.cmp by.part old.progress id value new.progress
   IsTrackedDone old (IncreaseTo id value) new =
-      (new.membership ≡ old.membership) × IsIncreasedTo by.eq by.cmp by.part by.partial_cmp old.progress id value new.progress
-  IsTrackedDone old (Change change retain default) new = IsChangeFold by.eq by.id_cmp by.cmp by.part by.IsClone old default new
+      (new.membership ≡ old.membership)
+      × IsIncreasedTo by.eq by.cmp by.part by.partial_cmp old.progress id value new.progress
+  IsTrackedDone old (Change change retain default) new =
+      IsChangeFold by.eq by.id_cmp by.cmp by.part by.IsClone old default new
 
 module _ {K N V P : Type 0} (by : Comparisons K V P) (same : N → N → Bool) where
   -- a step of a membership and its progress, over all that they show; it ends ready
-  pub record IsTrackedShownStep (old : TrackedShown K N V P) (step : Step K N V) (reply : Reply K P) (new : TrackedShown K N V P) : Type 0 where
-    pub values : IsTrackedStep by same (tracked_state by.eq old) step reply (tracked_state by.eq new)
+  pub record IsTrackedShownStep (old : TrackedShown K N V P) (step : Step K N V) (reply : Reply K P)
+      (new : TrackedShown K N V P) : Type 0 where
+    pub values : IsTrackedStep by same (tracked_state by.eq old) step reply
+        (tracked_state by.eq new)
     pub answered : IsAnswered (λ t. t.progress.granted) (IsTrackedDone by old step) old reply new
     pub ready : IsReady by.eq by.id_cmp by.cmp by.part new
 
   -- the steps may be answered so, one after another
-  abbrev pub IsTrackedShownRun : TrackedShown K N V P → List (Step K N V) → List (Reply K P) → TrackedShown K N V P → Type 0
-  IsTrackedShownRun old steps replies new = Runs IsTrackedShownStep (λ a b. b ≡ a) old steps replies new
+  abbrev pub IsTrackedShownRun : TrackedShown K N V P → List (Step K N V) → List (Reply K P)
+      → TrackedShown K N V P → Type 0
+  IsTrackedShownRun old steps replies new =
+      Runs IsTrackedShownStep (λ a b. b ≡ a) old steps replies new

@@ -33,7 +33,8 @@ pub record TrackedState (K N V P : Type 0) : Type 0 where
   pub membership : MemberList K N
   pub progress : ProgressState K V P (Configs K)
 
-abbrev pub tracked_state : {K N V P : Type 0} → (K → K → Bool) → TrackedShown K N V P → TrackedState K N V P
+abbrev pub tracked_state : {K N V P : Type 0} → (K → K → Bool) → TrackedShown K N V P
+    → TrackedState K N V P
 tracked_state eq t = record { membership = t.membership; progress = state eq t.progress }
 
 -- the quorum set has the configs of the membership
@@ -45,17 +46,24 @@ abbrev pub HasSameConfigs : {K : Type 0} → Configs K → Configs K → Type 0
 HasSameConfigs old new = map (λ c. c.items) new.items ≡ map (λ c. c.items) old.items
 
 -- the learners of a membership, each once: the ids that have a node and are in no config
-pub record AreLearners {K N : Type 0} (eq : K → K → Bool) (m : Members K N) (learners : List K) : Type 0 where
+pub record AreLearners {K N : Type 0} (eq : K → K → Bool) (m : Members K N) (learners : List K)
+    : Type 0 where
   pub distinct : IsDistinct eq learners
-  pub are_known : (id : K) → is_member eq learners id ≡ (is_some (m.node id) && not (is_voter_of eq m.configs id))
+  pub are_known : (id : K)
+      → is_member eq learners id ≡ (is_some (m.node id) && not (is_voter_of eq m.configs id))
 
--- the progress counts by the membership: it has the quorums and the voters of the configs, and a value for each voter and for each id with a node
-pub record CountsBy {K N V P : Type 0} (eq : K → K → Bool) (cmp : K → K → Ordering) (t : TrackedState K N V P) : Type 0 where
+-- the progress counts by the membership: it has the quorums and the voters of the configs, and a
+-- value for each voter and for each id with a node
+pub record CountsBy {K N V P : Type 0} (eq : K → K → Bool) (cmp : K → K → Ordering)
+    (t : TrackedState K N V P) : Type 0 where
   pub configs : HasConfigs (members_of cmp t.membership) t.progress.quorum_set
   pub voters : (id : K) → t.progress.is_voter id ≡ is_voter_of eq t.membership.configs id
-  pub known : (id : K) → is_some (t.progress.value id) ≡ (is_voter_of eq t.membership.configs id || is_some (node_at cmp t.membership.nodes id))
+  pub known : (id : K)
+      → is_some (t.progress.value id)
+      ≡ (is_voter_of eq t.membership.configs id || is_some (node_at cmp t.membership.nodes id))
 
 -- a tracked progress is ready if its progress is in order and counts by its membership
-pub record IsReady {K N V P : Type 0} (eq : K → K → Bool) (id_cmp : K → K → Ordering) (cmp : P → P → Ordering) (part : V → P) (t : TrackedShown K N V P) : Type 0 where
+pub record IsReady {K N V P : Type 0} (eq : K → K → Bool) (id_cmp : K → K → Ordering)
+    (cmp : P → P → Ordering) (part : V → P) (t : TrackedShown K N V P) : Type 0 where
   pub ordered : IsInOrder eq cmp part (has_quorum eq) t.progress
   pub counts_by : CountsBy eq id_cmp (tracked_state eq t)

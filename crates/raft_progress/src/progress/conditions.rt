@@ -1,6 +1,6 @@
 //! The tests for the conditions of calls: that learners fit, that a progress is in order, and that
 //! no inherited value is below a default.
-ghost use Rattle.std.specs.Prelude.{◌≡◌, ◌<◌, ◌≤◌, ◌+◌, length};
+ghost use Rattle.std.specs.Prelude.{◌≡◌};
 ghost use Rattle.std.specs.List.{list_all, list_any};
 ghost use Rattle.raft_progress.specs.Inner.Counts.{at_least};
 ghost use Rattle.raft_progress.specs.Inner.Tests.{among, apart, comes_before, ids_differ, is_ordered, never_rises};
@@ -65,8 +65,8 @@ fn is_at_least<ID: Copy, V: ProgressPart<P>, P: Copy + Ord>(voters: &[(ID, V)], 
         .all(|entry| least.cmp(&entry.1.part()).is_le())
 }
 
-/// Whether no id of a walk stands twice, no voter past `granted` stands directly behind a lesser one,
-/// and none is below the least part that is allowed.
+/// Whether no id of a walk stands twice, no voter past `granted` stands directly behind a lesser
+/// one, and none is below the least part that is allowed.
 pub(crate) fn is_ordered<ID: Copy + Ord, V: ProgressPart<P>, P: Copy + Ord>(
     walk: &[(ID, V)],
     voters: &[(ID, V)],

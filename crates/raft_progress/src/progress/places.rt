@@ -1,118 +1,149 @@
 //! The place of each id in the walk, in an ordered map that stands beside it.
-ghost use Rattle.std.specs.Prelude.{◌≡◌, ◌<◌, ◌≤◌, ◌+◌, length, IfOk, IsSome, true, false, Some};
-ghost use Rattle.std.specs.BTreeMap.{get};
+ghost use Rattle.std.specs.Prelude.{◌≡◌, ◌<◌, ◌≤◌, ℕ, length, map, IfOk, Ok, Some};
 ghost use Rattle.std.specs.List.{IsDistinct};
-ghost use Rattle.std.specs.Map.{keys_of};
+ghost use Rattle.std.specs.List.Sorted.{IsStrictlySortedBy};
+ghost use Rattle.std.specs.Map.{keys_of, values_of};
 ghost use Rattle.std.specs.Option.{option_map};
-ghost use Rattle.raft_progress.specs.Inner.Places.{TellsPlaces, TellsPlacesBefore, TellsPlacesBut, place_after};
+ghost use Rattle.std.proofs.Props.{props};
+ghost use Rattle.raft_progress.specs.Inner.Places.{AreAllPlaces, AreInverse, TellsPlaces, place_in, place_after};
 
 use std::alloc::{AllocError, Global};
-use std::collections::BTreeMap;
 
-/// The place of each id of a walk.
-pub(crate) fn places_of<ID: Copy + Ord, V>(
-    alloc: Global,
-    walk: &[(ID, V)],
-) -> Result<BTreeMap<ID, usize>, AllocError>
-    requires { IsDistinct ID.eq (keys_of walk.now) }
-    ensures { IfOk result (λ places. TellsPlaces ID.eq (keys_of walk.now) (get ID.cmp places)) }
-{
-    let mut places = BTreeMap::new(alloc);
-    for place in 0..walk.len() {
-        places.insert(walk[place].0, place)?;
-    }
-    Ok(places)
-}
+/// Up to how many ids a look-up compares with one after another. More of them are halved.
+const FEW: usize = 16;
 
-/// The same places.
-pub(crate) fn copy_places<ID: Copy + Ord>(
-    alloc: Global,
-    places: &BTreeMap<ID, usize>,
-) -> Result<BTreeMap<ID, usize>, AllocError>
-    ensures { IfOk result (λ made. (x : ID) → get ID.cmp made x ≡ get ID.cmp places.now x) }
-{
-    places
-        .iter()
-        .map(|(id, place)| (*id, *place))
-        .collect(alloc)
-}
-
-/// Writes another place for an id that has one. No memory is taken.
-fn write_place<ID: Copy + Ord>(places: &mut BTreeMap<ID, usize>, id: &ID, place: usize)
-    requires { IsSome (get ID.cmp places.old id.now) }
-    ensures here { (x : ID) → ID.eq id.now x ≡ true → get ID.cmp places.new x ≡ Some place }
-    ensures others { (x : ID) → ID.eq id.now x ≡ false →
-        get ID.cmp places.new x ≡ get ID.cmp places.old x }
-{
-    if let Some(known) = places.get_mut(id) {
-        *known = place;
-    }
-}
-
-/// Writes the places from `first` to `last`, at which the entries have changed places.
-fn write_each<ID: Copy + Ord, V>(
-    places: &mut BTreeMap<ID, usize>,
-    walk: &[(ID, V)],
-    first: usize,
-    last: usize,
-)
-    requires ascending { first ≤ last }
-    requires within { last < length walk.now }
-    requires distinct { IsDistinct ID.eq (keys_of walk.now) }
-    requires others { TellsPlacesBut ID.eq (keys_of walk.now) first (last + 1)
-        (get ID.cmp places.old) }
-    ensures { TellsPlaces ID.eq (keys_of walk.now) (get ID.cmp places.new) }
-{
-    for place in first..last + 1 {
-        write_place(places, &walk[place].0, place);
-    }
-}
-
-/// The place of an entry once the one at `last` has moved up to `first`.
-fn place_after(place: usize, first: usize, last: usize) -> usize
-    ensures { result ≡ place_after first last place }
-{
-    if place == last {
-        return first;
-    }
-    if first <= place && place < last {
-        return place + 1;
-    }
-    place
-}
-
-/// Writes all places anew, once the entry at `last` has moved up to `first`.
-fn shift<ID: Copy + Ord>(places: &mut BTreeMap<ID, usize>, first: usize, last: usize)
-    ensures { (x : ID) → get ID.cmp places.new x ≡
-        option_map (place_after first last) (get ID.cmp places.old x) }
-{
-    // All stay: it is the call that lends each place in turn.
-    places.retain(move |_id, place| {
-        *place = place_after(*place, first, last);
-        true
-    });
-}
-
-/// Writes the places that an entry's move from `last` up to `first` has changed. No memory is taken.
+/// The place of each id of a walk, and the way back.
 ///
-/// A step along the map takes about an eighth of a look-up. So where the move has passed many entries,
-/// one walk along the map takes the place of a look-up for each.
-pub(crate) fn write_places<ID: Copy + Ord, V>(
-    places: &mut BTreeMap<ID, usize>,
-    walk: &[(ID, V)],
-    first: usize,
-    last: usize,
-)
-    requires ascending { first ≤ last }
-    requires within { last < length walk.now }
-    requires distinct { IsDistinct ID.eq (keys_of walk.now) }
-    requires moved { TellsPlacesBefore ID.eq (keys_of walk.now) first last
-        (get ID.cmp places.old) }
-    ensures { TellsPlaces ID.eq (keys_of walk.now) (get ID.cmp places.new) }
-{
-    if last - first < places.len() / 8 {
-        write_each(places, walk, first, last);
-    } else {
-        shift(places, first, last);
+/// The ids stand in order, each with its place. Which ids there are never changes, so each has a rank
+/// that stays, and a move finds the entries that it changes by their ranks, without a look-up.
+#[derive(Drop)]
+pub(crate) struct Places<ID: Copy + Ord> {
+    /// The ids, ascending, each with its place.
+    entries: Vec<(ID, usize)>,
+    /// The rank of each place's id: where it stands among the entries.
+    ranks: Vec<usize>,
+    ghost ascending: { IsStrictlySortedBy ID.cmp (keys_of entries.items) } by { Prim.hlevel props },
+    ghost inverse: { AreInverse (values_of entries.items) ranks.items } by { Prim.hlevel props },
+}
+
+impl<ID: Copy + Ord> Places<ID> {
+    /// The places of a walk.
+    pub(crate) fn of<V>(alloc: Global, walk: &[(ID, V)]) -> Result<Self, AllocError>
+        requires { IsDistinct ID.eq (keys_of walk.now) }
+        ensures tells { IfOk result (λ places.
+            TellsPlaces ID.eq (keys_of walk.now) (place_in ID.eq places.entries.items)) }
+        ensures one_length { IfOk result (λ places. length places.ranks.items ≡ length walk.now) }
+    {
+        let entries = sorted_entries(alloc, walk)?;
+        let ranks = ranks_of(alloc, &entries)?;
+        Ok(Places { entries, ranks })
     }
+
+    /// The same places.
+    pub(crate) fn try_clone(&self) -> Result<Self, AllocError>
+        ensures entries { IfOk result (λ made. made.entries.items ≡ self.now.entries.items) }
+        ensures ranks { IfOk result (λ made. made.ranks.items ≡ self.now.ranks.items) }
+    {
+        let entries = Vec::from_slice(self.entries.allocator().clone()?, &self.entries)?;
+        let ranks = self.ranks.clone()?;
+        Ok(Places { entries, ranks })
+    }
+
+    /// The place of an id.
+    #[inline(always)]
+    pub(crate) fn get(&self, id: &ID) -> Option<usize>
+        ensures { result ≡ place_in ID.eq self.now.entries.items id.now }
+    {
+        if self.entries.len() <= FEW {
+            return match self.entries.iter().find(|entry| *id == entry.0) {
+                Some(entry) => Some(entry.1),
+                None => None,
+            };
+        }
+        self.get_of_many(id)
+    }
+
+    /// The same, by halving.
+    fn get_of_many(&self, id: &ID) -> Option<usize>
+        ensures { result ≡ place_in ID.eq self.now.entries.items id.now }
+    {
+        match self.entries.binary_search_by(|entry| entry.0.cmp(id)) {
+            Ok(rank) => Some(self.entries[rank].1),
+            Err(_) => None,
+        }
+    }
+
+    /// Writes the places that an entry's move from `last` up to `first` has changed. No memory is taken.
+    #[inline(always)]
+    pub(crate) fn rise(&mut self, first: usize, last: usize)
+        requires ascending { first ≤ last }
+        requires within { last < length self.old.ranks.items }
+        ensures shifted { (x : ID) → place_in ID.eq self.new.entries.items x ≡
+            option_map (place_after first last) (place_in ID.eq self.old.entries.items x) }
+        ensures one_length { length self.new.ranks.items ≡ length self.old.ranks.items }
+    {
+        rise(&mut self.entries, &mut self.ranks, first, last);
+    }
+}
+
+/// The ids of a walk in order, each with its place.
+fn sorted_entries<ID: Copy + Ord, V>(
+    alloc: Global,
+    walk: &[(ID, V)],
+) -> Result<Vec<(ID, usize)>, AllocError>
+    requires { IsDistinct ID.eq (keys_of walk.now) }
+    ensures ascending { IfOk result (λ entries. IsStrictlySortedBy ID.cmp (keys_of entries.items)) }
+    ensures tells { IfOk result (λ entries.
+        TellsPlaces ID.eq (keys_of walk.now) (place_in ID.eq entries.items)) }
+    ensures places { IfOk result (λ entries. AreAllPlaces (values_of entries.items)) }
+    ensures one_length { IfOk result (λ entries. length entries.items ≡ length walk.now) }
+{
+    let mut entries = Vec::with_capacity(alloc, walk.len())?;
+    for place in 0..walk.len() {
+        entries.push((walk[place].0, place))?;
+    }
+    entries.sort_unstable_by_key(|entry| entry.0);
+    Ok(entries)
+}
+
+/// Where each place's entry stands.
+fn ranks_of<ID: Copy + Ord>(
+    alloc: Global,
+    entries: &[(ID, usize)],
+) -> Result<Vec<usize>, AllocError>
+    requires { AreAllPlaces (values_of entries.now) }
+    ensures { IfOk result (λ ranks. AreInverse (values_of entries.now) ranks.items) }
+{
+    let mut ranks: Vec<usize> = Vec::with_capacity(alloc, entries.len())?;
+    for rank in 0..entries.len() {
+        ranks.push(rank)?;
+    }
+    for rank in 0..entries.len() {
+        let place = entries[rank].1;
+        ranks[place] = rank;
+    }
+    Ok(ranks)
+}
+
+/// Moves the entry at `last` up to `first`, so that each entry between is one place further down.
+// Both lists are given as slices, so that where they stand is not read anew in each step.
+#[inline(always)]
+fn rise<ID: Copy + Ord>(entries: &mut [(ID, usize)], ranks: &mut [usize], first: usize, last: usize)
+    requires ascending { first ≤ last }
+    requires within { last < length ranks.old }
+    requires inverse { AreInverse (values_of entries.old) ranks.old }
+    ensures ids { keys_of entries.new ≡ keys_of entries.old }
+    ensures shifted { values_of entries.new ≡ map (place_after first last) (values_of entries.old) }
+    ensures inverse { AreInverse (values_of entries.new) ranks.new }
+{
+    let risen = ranks[last];
+    let mut place = last;
+    while place > first {
+        let passed = ranks[place - 1];
+        ranks[place] = passed;
+        entries[passed].1 = place;
+        place -= 1;
+    }
+    ranks[first] = risen;
+    entries[risen].1 = first;
 }

@@ -7,7 +7,8 @@ ghost use Rattle.raft_progress.specs.Inner.Counts.{IsGreatest, at_least, reaches
 use super::part::ProgressPart;
 use raft_members::quorum::QuorumSet;
 
-/// Writes the ids of the voters whose part is at least `least` to the front of `room`, and answers how many they are.
+/// Writes the ids of the voters whose part is at least `least` to the front of
+/// `room`, and answers how many they are.
 fn gather<ID: Copy, V: ProgressPart<P>, P: Copy + Ord>(
     voters: &[(ID, V)],
     least: P,

@@ -45,7 +45,7 @@ fn answer<
     }
 }
 
-/// Goes over to another quorum set, or leaves the progress as it is.
+/// Upgrades to another quorum set, or leaves the progress as it is.
 fn upgrade<
     ID: Copy + Ord,
     V: ProgressPart<P> + Clone + Drop,
@@ -69,7 +69,7 @@ fn upgrade<
     }
 }
 
-/// Goes over, or finds why not.
+/// Upgrades, or finds why not.
 fn try_upgrade<
     ID: Copy + Ord,
     V: ProgressPart<P> + Clone + Drop,
@@ -89,8 +89,8 @@ fn try_upgrade<
     ensures err { OnErr result (shown progress.new ≡ shown progress.old) }
     ensures ordered { IsInOrder ID.eq P.cmp V.part_of QS.has_quorum (shown progress.new) }
 {
-    let found = find_refusal(progress, &quorum_set, learners, &default)?;
-    go_over(progress, found, quorum_set, learners, default)
+    let refusal = find_refusal(progress, &quorum_set, learners, &default)?;
+    upgrade_unless_refused(progress, refusal, quorum_set, learners, default)
 }
 
 /// Asks first whether the learners fit, then whether a value is below the new default.
@@ -119,35 +119,37 @@ fn find_refusal<ID: Copy + Ord, V: ProgressPart<P> + Drop, P: Copy + Ord, QS: Qu
     }
 }
 
-/// Goes over to another quorum set, unless a refusal was found: then it is what is answered.
-fn go_over<
+/// Upgrades to another quorum set, unless a refusal was found: then it is what is answered.
+// A function of its own, so that a clause says this: by those of `try_upgrade` want of memory may be
+// answered in place of any refusal.
+fn upgrade_unless_refused<
     ID: Copy + Ord,
     V: ProgressPart<P> + Clone + Drop,
     P: Copy + Ord,
     QS: QuorumSet<ID> + Drop,
 >(
     progress: &mut VecProgress<ID, V, P, QS>,
-    found: Option<Reply<ID, P>>,
+    refusal: Option<Reply<ID, P>>,
     quorum_set: QS,
     learners: &[ID],
     default: V,
 ) -> Result<Reply<ID, P>, AllocError>
     requires ordered { IsInOrder ID.eq P.cmp V.part_of QS.has_quorum (shown progress.old) }
     requires clones_have_the_part { (v w : V) → V.is_clone v w → V.part_of w ≡ V.part_of v }
-    requires none { found ≡ None → LearnersFit ID.eq (QS.is_voter quorum_set) learners.now
+    requires none { refusal ≡ None → LearnersFit ID.eq (QS.is_voter quorum_set) learners.now
         × CanUpgrade ID.eq P.cmp V.part_of (QS.is_voter quorum_set) learners.now default
         (state ID.eq (shown progress.old)).value }
-    requires some { ForSome found
+    requires some { ForSome refusal
         (RefusesUpgrade ID.eq ID.cmp P.cmp V.part_of (QS.is_voter quorum_set) learners.now
         default (state ID.eq (shown progress.old)).value) }
-    ensures found { (reply : Reply ID P) → found ≡ Some reply → result ≡ Ok reply }
+    ensures refused { (reply : Reply ID P) → refusal ≡ Some reply → result ≡ Ok reply }
     ensures step { IfOk result (λ reply.
         IsShownUpgrade ID.eq ID.cmp P.cmp V.part_of V.is_clone QS.has_quorum QS.is_voter
         (shown progress.old) quorum_set learners.now default reply (shown progress.new)) }
     ensures err { OnErr result (shown progress.new ≡ shown progress.old) }
     ensures ordered { IsInOrder ID.eq P.cmp V.part_of QS.has_quorum (shown progress.new) }
 {
-    match found {
+    match refusal {
         Some(refusal) => Ok(refusal),
         None => {
             let upgraded = progress.upgrade_quorum_set(quorum_set, learners, default)?;
@@ -220,7 +222,7 @@ fn is_not_greater<V: PartialOrd>(current: Option<&V>, value: &V) -> bool
 }
 
 /// Whether the value's part is below that of the present value.
-fn would_fall<V: ProgressPart<P>, P: Copy + Ord>(current: Option<&V>, value: &V) -> bool
+pub(crate) fn would_fall<V: ProgressPart<P>, P: Copy + Ord>(current: Option<&V>, value: &V) -> bool
     ensures { result ≡ falls P.cmp V.part_of (option_copied current.entry) value.now }
 {
     match current {

@@ -9,8 +9,8 @@ ghost use Rattle.raft_progress.specs.Inner.Rises.{IsLeastFront};
 use super::part::ProgressPart;
 use raft_members::quorum::QuorumSet;
 
-/// Writes the ids of the first voters, those whose part exceeds `least`, to the front of `room`, and
-/// answers how many they are.
+/// Writes the ids of the first voters, those whose part exceeds `least`, to the front of
+/// `room`, and answers how many they are.
 pub(crate) fn gather_leading<ID: Copy, V: ProgressPart<P>, P: Copy + Ord>(
     voters: &[(ID, V)],
     least: P,
@@ -43,9 +43,9 @@ pub(crate) struct Scan {
 /// The least front above `low` and up to `high` that is a quorum, found by halving. The room begins
 /// with the ids of the front up to `high`.
 ///
-/// A front that contains a quorum is one, so a test halves the fronts that are left, and there are at
-/// most as many tests as the number of voters has binary digits. Within this bound the longest front
-/// that may be is tried: if it is no quorum, neither is any other, and one test tells.
+/// A front that contains a quorum is one, so a test halves the fronts that are left, and there are
+/// at most as many tests as the number of voters has binary digits. Within this bound the longest
+/// front that may be is tried: if it is no quorum, neither is any other, and one test tells.
 pub(crate) fn least_front<ID: Copy + Ord, V, QS: QuorumSet<ID>>(
     quorum_set: &QS,
     voters: &[(ID, V)],

@@ -1,31 +1,30 @@
 //! The progress of a group of nodes.
 ghost use Rattle.std.specs.Prelude.{◌≡◌, ◌≤◌, ◌<◌, false, length};
-ghost use Rattle.std.specs.BTreeMap.{get};
 ghost use Rattle.std.specs.Map.{keys_of};
 ghost use Rattle.std.proofs.Props.{props};
-ghost use Rattle.raft_progress.specs.Inner.Places.{TellsPlaces};
+ghost use Rattle.raft_progress.specs.Inner.Places.{TellsPlaces, place_in};
 
 use super::Progress;
 use super::conditions::{are_apart, is_among, is_before, is_ordered};
 use super::part::ProgressPart;
-use super::places::{copy_places, places_of, write_places};
+use super::places::Places;
 use super::recount::count;
+use super::replay_any_steps::would_fall;
 use super::rise::{is_raised, move_up};
 use super::scan::{gather_leading, least_front};
 use super::stat::Stat;
 use super::walk::{clone_walk, copy_ids, place_all, write_at};
 use raft_members::quorum::QuorumSet;
 use std::alloc::{AllocError, Global};
-use std::collections::BTreeMap;
 use std::fmt;
 
 /// The values of voters and learners in a vector, and the greatest part that a quorum of the voters
 /// has reached.
 ///
 /// The voters whose part exceeds the granted value come first, and their parts never rise along the
-/// vector. So the voters that have reached a part are a front of it, and a quorum is found by testing
-/// fronts. Voters up to granted are in no order, and learners, which come last, never move. An ordered
-/// map beside the vector tells the place of each id.
+/// vector. So the voters that have reached a part are a front of it, and a quorum is found by
+/// testing fronts. Voters up to granted are in no order, and learners, which come last, never move.
+/// An ordered map beside the vector tells the place of each id.
 #[derive(Drop)]
 pub struct VecProgress<ID: Copy + Ord, V, P, QS> {
     quorum_set: QS,
@@ -33,15 +32,16 @@ pub struct VecProgress<ID: Copy + Ord, V, P, QS> {
     default_part: P,
     voter_count: usize,
     walk: Vec<(ID, V)>,
-    places: BTreeMap<ID, usize>,
-    // Whether ids may have been written through `iter_mut`, so that places are searched for in the walk.
+    places: Places<ID>,
+    // Whether ids may have been written through `iter_mut`, so that
+    // places are searched for in the walk.
     stale: bool,
     room: Vec<ID>,
     stat: Stat,
     ghost voters_fit: { voter_count ≤ length walk.items },
     ghost room_fits: { length room.items ≡ voter_count },
     ghost agree: { stale ≡ false →
-        TellsPlaces ID.eq (keys_of walk.items) (get ID.cmp places) } by { Prim.hlevel props },
+        TellsPlaces ID.eq (keys_of walk.items) (place_in ID.eq places.entries.items) } by { Prim.hlevel props },
 }
 
 impl<
@@ -69,6 +69,7 @@ impl<
     ghost use Rattle.raft_progress.specs.progress.UpgradeFold.{IsUpgradeFold};
     ghost use Rattle.raft_progress.specs.Inner.Tests.{IsLeastPassing, among, is_value_below};
     ghost use Rattle.raft_progress.specs.progress.Statistics.{CountsGoOn, no_counts};
+    ghost use Rattle.raft_progress.specs.progress.Steps.{falls};
     ghost use Rattle.raft_progress.specs.progress.VecProgress.{shown};
 
     /// Whether the learners fit a quorum set: none stands twice, and none is a voter.
@@ -112,7 +113,7 @@ impl<
         let mut walk = Vec::with_capacity(alloc, voter_count.saturating_add(learners.len()))?;
         place_all(&mut walk, &room, &default)?;
         place_all(&mut walk, learners, &default)?;
-        let places = places_of(alloc, &walk)?;
+        let places = Places::of(alloc, &walk)?;
         let part = default.part();
         Ok(VecProgress {
             quorum_set,
@@ -134,9 +135,9 @@ impl<
     /// A progress over another quorum set that takes over the values of the ids that it has too.
     ///
     /// Granted is counted afresh over the new quorum set, so it may be less than before: the new
-    /// voters may have reached less. The learners stand as they are given. The counts go on from the
-    /// present ones; each present id counts an update, also one that is gone. `self` stays as it is,
-    /// also where a growth is refused.
+    /// voters may have reached less. The learners stand as they are given. The counts go on from
+    /// the present ones; each present id counts an update, also one that is gone. `self` stays as
+    /// it is, also where a growth is refused.
     pub fn upgrade_quorum_set(
         &self,
         quorum_set: QS,
@@ -169,7 +170,7 @@ impl<
         made.go_on_from(&self.stat);
         for entry in &self.walk {
             let value = entry.1.clone()?;
-            made.take_over(&entry.0, value);
+            made.inherit(&entry.0, value);
         }
         Ok(made)
     }
@@ -192,7 +193,7 @@ impl<
     }
 
     /// Writes the value of an id, where it is known.
-    fn take_over(&mut self, id: &ID, value: V)
+    fn inherit(&mut self, id: &ID, value: V)
         requires ordered { IsInOrder ID.eq P.cmp V.part_of QS.has_quorum (shown self.old) }
         requires not_lower { IsNotLower ID.eq P.cmp V.part_of (shown self.old) id.now value }
         ensures updated { IsUpdated ID.eq P.cmp V.part_of (λ v w. w ≡ value)
@@ -209,8 +210,8 @@ impl<
 
     /// Whether no value that an upgrade would take over is below the new default.
     ///
-    /// It is the test for the condition of `upgrade_quorum_set`: values never fall, and those at the
-    /// default are the least.
+    /// It is the test for the condition of `upgrade_quorum_set`: values never fall, and
+    /// those at the default are the least.
     pub fn can_upgrade(
         &self,
         quorum_set: &QS,
@@ -312,13 +313,14 @@ impl<
     }
 
     /// The place of an id in the walk, counted from 0. It may change with each update.
+    #[inline(always)]
     pub fn index(&self, id: &ID) -> Option<usize>
         ensures { result ≡ position (λ e. ID.eq id.now e.0) ((shown self.now).walk) }
     {
         if self.stale {
             return self.place_in_walk(id);
         }
-        self.places.get(id).copied()
+        self.places.get(id)
     }
 
     /// The same, searched for in the walk, whatever the map says.
@@ -335,6 +337,16 @@ impl<
         ensures { option_copied result ≡ (state ID.eq (shown self.now)).value id.now }
     {
         self.value_at(self.index(id))
+    }
+
+    /// Whether a value's part is below that of the id's value, so that it may not be written.
+    ///
+    /// It is the test for the condition of `update`, and of `increase_to` with a greater value.
+    pub fn would_fall(&self, id: &ID, value: &V) -> bool
+        ensures { result
+            ≡ falls P.cmp V.part_of ((state ID.eq (shown self.now)).value id.now) value.now }
+    {
+        would_fall(self.try_get(id), value)
     }
 
     /// The value at the place that a look-up has found.
@@ -414,12 +426,12 @@ impl<
 
     /// The ids and their values, to be written.
     ///
-    /// Nothing is counted and nothing moves. Where an id or the part of a voter changes, the progress
-    /// may be out of order afterwards: `is_in_order` tells. Else it stays in order
-    /// (`laws::kept_parts_keep_order`).
+    /// Nothing is counted and nothing moves. Where an id or the part of a voter changes,
+    /// the progress may be out of order afterwards: `is_in_order` tells. Else it stays in
+    /// order (`laws::kept_parts_keep_order`).
     pub fn iter_mut(&mut self) -> std::slice::IterMut<(ID, V)>
-        ensures* writes_back { sem 𝓛 (LendsWalk ID.row V.row P.row QS.row ID.Ord.own ID.PartialEq ID.PartialOrd.own
-            self.entry (iter_mut_name result)) }
+        ensures* writes_back { sem 𝓛 (LendsWalk ID.row V.row P.row QS.row ID.Ord.own ID.PartialEq
+            ID.PartialOrd.own self.entry (iter_mut_name result)) }
         ensures rest { iter_mut_rest result ≡ (shown self.old).walk }
     {
         self.stale = true;
@@ -435,12 +447,11 @@ impl<
     ///
     /// Voters 0 to 4 as `id:value`, granted 3, and voter 1 goes from 2 to 4:
     ///
-    /// ```text
-    /// before    4:5  0:4  2:3  1:2  3:3    parts that exceed granted stand first
-    /// written   4:5  0:4  2:3  1:4  3:3
-    /// moved     4:5  0:4  1:4  2:3  3:3    past voter 2, and not past voter 0, which has as much
-    /// tested   [4:5  0:4  1:4] 2:3  3:3    the front up to its new place: three of five, so 4 is granted
-    /// ```
+    /// ```text before 4:5 0:4 2:3 1:2 3:3 parts that exceed granted stand first written
+    /// 4:5 0:4 2:3 1:4 3:3 moved 4:5 0:4 1:4 2:3 3:3 past voter 2, and not past voter 0,
+    /// which has as much tested [4:5 0:4 1:4] 2:3 3:3 the front up to its new place:
+    /// three of five, so 4 is granted ```
+    #[inline(always)]
     pub fn update_with<F: FnOnce(&mut V)>(&mut self, id: &ID, f: F) -> Result<&P, &P>
         requires ordered { IsInOrder ID.eq P.cmp V.part_of QS.has_quorum (shown self.old) }
         requires callable { ForSome ((state ID.eq (shown self.old)).value id.now)
@@ -460,7 +471,9 @@ impl<
         }
     }
 
-    /// Writes the value of an id, and answers granted: as an error where the id is unknown.
+    /// Writes the value of an id, and answers granted: as an error where the id is unknown. The part
+    /// may not fall: `would_fall` tells.
+    #[inline(always)]
     pub fn update(&mut self, id: &ID, value: V) -> Result<&P, &P>
         requires ordered { IsInOrder ID.eq P.cmp V.part_of QS.has_quorum (shown self.old) }
         requires not_lower { IsNotLower ID.eq P.cmp V.part_of (shown self.old) id.now value }
@@ -474,7 +487,7 @@ impl<
     }
 
     /// Writes the value of an id where it is greater than the present one, and counts an update
-    /// either way.
+    /// either way. The part of a greater value may not fall: `would_fall` tells.
     pub fn increase_to(&mut self, id: &ID, value: V) -> Result<&P, &P>
     where
         V: PartialOrd,
@@ -495,6 +508,7 @@ impl<
     }
 
     /// Changes the value of an id by `f`, recounts granted, and answers whether the id is known.
+    #[inline(always)]
     fn apply<F: FnOnce(&mut V)>(&mut self, id: &ID, f: F) -> bool
         requires ordered { IsInOrder ID.eq P.cmp V.part_of QS.has_quorum (shown self.old) }
         requires callable { ForSome ((state ID.eq (shown self.old)).value id.now)
@@ -506,11 +520,33 @@ impl<
         ensures ordered { IsInOrder ID.eq P.cmp V.part_of QS.has_quorum (shown self.new) }
         ensures known { result ≡ is_some ((state ID.eq (shown self.old)).value id.now) }
     {
-        let found = self.index(id);
+        if self.stale {
+            return self.apply_searching(id, f);
+        }
+        let found = self.places.get(id);
+        self.apply_at(found, f)
+    }
+
+    /// The same for an id whose place is searched for in the walk.
+    // Marked as cold, so that an update that asks the map is not held up by what the search needs.
+    #[cold]
+    fn apply_searching<F: FnOnce(&mut V)>(&mut self, id: &ID, f: F) -> bool
+        requires ordered { IsInOrder ID.eq P.cmp V.part_of QS.has_quorum (shown self.old) }
+        requires callable { ForSome ((state ID.eq (shown self.old)).value id.now)
+            (FnOnceTakesAtMut F.FnOnce f) }
+        requires not_lower { NeverFalls ID.eq P.cmp V.part_of (Leaves F.FnOnce f)
+            (shown self.old) id.now }
+        ensures updated { IsUpdated ID.eq P.cmp V.part_of (Leaves F.FnOnce f)
+            (shown self.old) id.now (shown self.new) }
+        ensures ordered { IsInOrder ID.eq P.cmp V.part_of QS.has_quorum (shown self.new) }
+        ensures known { result ≡ is_some ((state ID.eq (shown self.old)).value id.now) }
+    {
+        let found = self.place_in_walk(id);
         self.apply_at(found, f)
     }
 
     /// The same for the id whose place a look-up has found.
+    #[inline(always)]
     pub(crate) fn apply_at<F: FnOnce(&mut V)>(&mut self, found: Option<usize>, f: F) -> bool
         requires within { ForSome found (λ place. place < length (shown self.old).walk) }
         requires ordered { IsInOrder ID.eq P.cmp V.part_of QS.has_quorum (shown self.old) }
@@ -520,7 +556,8 @@ impl<
             slice_get (shown self.old).walk place ≡ Some e → Leaves F.FnOnce f e.1 w →
             AtMost P.cmp (V.part_of e.1) (V.part_of w) }
         ensures updated { (id : ID) → found ≡ position (λ e. ID.eq id e.0) (shown self.old).walk →
-            IsUpdated ID.eq P.cmp V.part_of (Leaves F.FnOnce f) (shown self.old) id (shown self.new) }
+            IsUpdated ID.eq P.cmp V.part_of (Leaves F.FnOnce f)
+            (shown self.old) id (shown self.new) }
         ensures ordered { (id : ID) → found ≡ position (λ e. ID.eq id e.0) (shown self.old).walk →
             IsInOrder ID.eq P.cmp V.part_of QS.has_quorum (shown self.new) }
         ensures known { result ≡ is_some found }
@@ -538,8 +575,9 @@ impl<
         }
     }
 
-    /// Puts the progress in order again, where the part of the value at a place went from `before` to
-    /// `after`.
+    /// Puts the progress in order again, where the part of the value at a
+    /// place went from `before` to `after`.
+    #[inline(always)]
     fn settle(&mut self, place: usize, before: P, after: P)
         requires within { place < length (shown self.old).walk }
         requires at { (e : ID × V) → slice_get (shown self.old).walk place ≡ Some e →
@@ -554,7 +592,9 @@ impl<
         }
     }
 
-    /// Moves the voter at a place up, and where `counts` looks for the greatest part that a quorum has reached.
+    /// Moves the voter at a place up, and where `counts` looks for the
+    /// greatest part that a quorum has reached.
+    #[inline(always)]
     fn raise(&mut self, place: usize, counts: bool)
         requires within { place < (shown self.old).voter_count }
         requires distinct { IsDistinct ID.eq (keys_of (shown self.old).walk) }
@@ -564,7 +604,7 @@ impl<
         self.stat.move_count = self.stat.move_count.saturating_add(1);
         let to = move_up(&mut self.walk, place);
         if to < place && !self.stale {
-            write_places(&mut self.places, &self.walk, to, place);
+            self.places.rise(to, place);
         }
         if counts {
             self.scan(to);
@@ -572,7 +612,29 @@ impl<
     }
 
     /// Looks for the least front past a place that is a quorum, while its parts exceed granted.
+    ///
+    /// Where the shortest one that may be a quorum has a voter up to granted, there is none.
+    #[inline(always)]
     fn scan(&mut self, place: usize)
+        requires within { place < (shown self.old).voter_count }
+        requires distinct { IsDistinct ID.eq (keys_of (shown self.old).walk) }
+        ensures { IsScanned ID.eq P.cmp V.part_of QS.has_quorum
+            (shown self.old) place (shown self.new) }
+    {
+        // The proof knows that a count fits a u64 once it has been read.
+        let _count = self.stat.is_quorum_count;
+        let least = self.quorum_set.least_quorum_size();
+        // No front past the place of up to so many voters is a quorum.
+        let short = least.saturating_sub(1).max(place);
+        if short < self.voter_count && self.granted.cmp(&self.walk[short].1.part()).is_lt() {
+            self.test_fronts(short);
+        }
+    }
+
+    /// The same, by tests of fronts.
+    // Kept apart, so that an update that grants nothing has no need of its registers.
+    #[inline(never)]
+    fn test_fronts(&mut self, place: usize)
         requires distinct { IsDistinct ID.eq (keys_of (shown self.old).walk) }
         ensures { IsScanned ID.eq P.cmp V.part_of QS.has_quorum
             (shown self.old) place (shown self.new) }
@@ -649,7 +711,7 @@ impl<ID: Copy + Ord, V: Clone, P: Copy + Ord, QS: Drop> VecProgress<ID, V, P, QS
             default_part: self.default_part,
             voter_count: self.voter_count,
             walk: clone_walk(alloc, &self.walk)?,
-            places: copy_places(alloc, &self.places)?,
+            places: self.places.try_clone()?,
             stale: self.stale,
             room: copy_ids(alloc, &self.room)?,
             stat: self.stat.clone()?,

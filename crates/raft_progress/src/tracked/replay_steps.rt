@@ -9,8 +9,8 @@ ghost use Rattle.raft_members.specs.Members.{members_of};
 ghost use Rattle.raft_progress.specs.progress.Comparisons.{comparisons};
 ghost use Rattle.raft_progress.specs.progress.CountedValue.{AtMost, IsCounted};
 ghost use Rattle.raft_progress.specs.tracked.Headline.{ChangedQuorumsKnowGranted, QuorumsKnowGranted};
-ghost use Rattle.raft_progress.specs.Inner.Refusal.{IsOwnRefusal, refusal_reply};
-ghost use Rattle.raft_progress.specs.Inner.ShownAnswers.{IsShownChange, IsShownTakeOver};
+ghost use Rattle.raft_progress.specs.Inner.Refusal.{refusal_reply};
+ghost use Rattle.raft_progress.specs.Inner.ShownAnswers.{IsShownChange, IsShownUpgradeTo};
 ghost use Rattle.raft_progress.specs.declared.progress.steps.Reply.TheVariants.{BelowDefault};
 ghost use Rattle.raft_progress.specs.declared.progress.steps.Reply.TheVariants.{OutOfMemory};
 ghost use Rattle.raft_progress.specs.progress.Shown.{state};
@@ -52,7 +52,7 @@ fn answer<NID: NodeId, N: Node, V: ProgressPart<P> + PartialOrd + Clone + Drop, 
     }
 }
 
-/// Changes the membership and goes over to the changed one, or leaves the pair as it is.
+/// Changes the membership and upgrades to the changed one, or leaves the pair as it is.
 fn change_members<NID: NodeId, N: Node, V: ProgressPart<P> + Clone + Drop, P: Copy + Ord>(
     pair: &mut Tracked<NID, N, V, P>,
     change: ChangeMembers<NID, N>,
@@ -65,26 +65,27 @@ fn change_members<NID: NodeId, N: Node, V: ProgressPart<P> + Clone + Drop, P: Co
         (tracked pair.old) change retain default result (tracked pair.new) }
 {
     let made = pair.membership.change(change, retain);
-    go_on_with(pair, made, default)
+    answer_change(pair, made, default)
 }
 
-/// Goes over to the changed membership. Where the change was refused, this is what is answered.
-fn go_on_with<NID: NodeId, N: Node, V: ProgressPart<P> + Clone + Drop, P: Copy + Ord>(
+/// Upgrades to the changed membership. Where the change was refused, this is what is answered.
+// A function of its own, so that a clause says this: by those of `change_members` want of memory may
+// be answered in place of any refusal.
+fn answer_change<NID: NodeId, N: Node, V: ProgressPart<P> + Clone + Drop, P: Copy + Ord>(
     pair: &mut Tracked<NID, N, V, P>,
     made: Result<Membership<NID, N>, ChangeMembershipError<NID>>,
     default: V,
 ) -> Reply<NID, P>
     requires clones_have_the_part { (v w : V) → V.is_clone v w → V.part_of w ≡ V.part_of v }
-    requires own_refusal { IfErr made IsOwnRefusal }
     ensures refused { IfErr made (λ e. (result ≡ refusal_reply e)
         × (tracked pair.new ≡ tracked pair.old)) }
     ensures changed { IfOk made (λ next.
         ((result ≡ OutOfMemory) × (tracked pair.new ≡ tracked pair.old))
-        ⊎ IsShownTakeOver NID.eq NID.cmp P.cmp V.part_of V.is_clone
+        ⊎ IsShownUpgradeTo NID.eq NID.cmp P.cmp V.part_of V.is_clone
         (tracked pair.old) next default result (tracked pair.new)) }
 {
     match made {
-        Ok(next) => match take_over(pair, next, default) {
+        Ok(next) => match upgrade_to(pair, next, default) {
             Ok(reply) => reply,
             Err(_) => Reply::OutOfMemory,
         },
@@ -92,21 +93,22 @@ fn go_on_with<NID: NodeId, N: Node, V: ProgressPart<P> + Clone + Drop, P: Copy +
         Err(ChangeMembershipError::LearnerNotFound(missing)) => Reply::Refused(Some(
             missing.node_id,
         )),
-        Err(ChangeMembershipError::OutOfMemory) => Reply::OutOfMemory,
-        // `change` refuses nothing for an earlier change.
-        Err(ChangeMembershipError::InProgress(_)) => unreachable!(),
+        // A change of a membership alone is never in progress.
+        Err(ChangeMembershipError::InProgress(_) | ChangeMembershipError::OutOfMemory) => {
+            Reply::OutOfMemory
+        }
     }
 }
 
-/// Puts a membership and a progress over it in place of the old ones, unless an inherited value is
-/// below the new default.
-fn take_over<NID: NodeId, N: Node, V: ProgressPart<P> + Clone + Drop, P: Copy + Ord>(
+/// Puts a membership, and the progress upgraded to it, in place of the old ones, unless an inherited
+/// value is below the new default.
+fn upgrade_to<NID: NodeId, N: Node, V: ProgressPart<P> + Clone + Drop, P: Copy + Ord>(
     pair: &mut Tracked<NID, N, V, P>,
     next: Membership<NID, N>,
     default: V,
 ) -> Result<Reply<NID, P>, AllocError>
     requires clones_have_the_part { (v w : V) → V.is_clone v w → V.part_of w ≡ V.part_of v }
-    ensures step { IfOk result (λ reply. IsShownTakeOver NID.eq NID.cmp P.cmp V.part_of V.is_clone
+    ensures step { IfOk result (λ reply. IsShownUpgradeTo NID.eq NID.cmp P.cmp V.part_of V.is_clone
         (tracked pair.old) next default reply (tracked pair.new)) }
     ensures err { OnErr result (tracked pair.new ≡ tracked pair.old) }
 {
@@ -114,12 +116,13 @@ fn take_over<NID: NodeId, N: Node, V: ProgressPart<P> + Clone + Drop, P: Copy + 
     let configs = next.to_quorum_set()?;
     let learners = learners_of(alloc, &next)?;
     let below = pair.progress.least_below(&configs, &learners, &default)?;
-    go_over(pair, below, next, configs, &learners, default)
+    upgrade_unless_below(pair, below, next, configs, &learners, default)
 }
 
-/// Goes over to a membership, by its configs and its learners. Where an inherited value is below
+/// Upgrades to a membership, by its configs and its learners. Where an inherited value is below
 /// the new default, the least such id is what is answered.
-fn go_over<NID: NodeId, N: Node, V: ProgressPart<P> + Clone + Drop, P: Copy + Ord>(
+// A function of its own, so that a clause says this, as for a change that was refused.
+fn upgrade_unless_below<NID: NodeId, N: Node, V: ProgressPart<P> + Clone + Drop, P: Copy + Ord>(
     pair: &mut Tracked<NID, N, V, P>,
     below: Option<NID>,
     next: Membership<NID, N>,
@@ -138,7 +141,7 @@ fn go_over<NID: NodeId, N: Node, V: ProgressPart<P> + Clone + Drop, P: Copy + Or
         (is_voter NID.eq configs) learners.now default
         (state NID.eq (tracked pair.old).progress).value) }
     ensures below { (id : NID) → below ≡ Some id → result ≡ Ok (BelowDefault id) }
-    ensures step { IfOk result (λ reply. IsShownTakeOver NID.eq NID.cmp P.cmp V.part_of V.is_clone
+    ensures step { IfOk result (λ reply. IsShownUpgradeTo NID.eq NID.cmp P.cmp V.part_of V.is_clone
         (tracked pair.old) next default reply (tracked pair.new)) }
     ensures err { OnErr result (tracked pair.new ≡ tracked pair.old) }
 {
@@ -173,7 +176,8 @@ pub fn replay<NID: NodeId, N: Node, V: ProgressPart<P> + PartialOrd + Clone + Dr
     requires clones_of_nodes_are_equal { ClonesAreEqual N.eq N.is_clone }
     ensures run { let by = comparisons NID.Ord P.Ord V.PartialOrd V.ProgressPart V.Clone in
         IfOk result (λ replies. IsTrackedRun by N.eq
-        (tracked_state NID.eq (tracked pair.old)) steps.items replies.items (tracked_state NID.eq (tracked pair.new))) }
+        (tracked_state NID.eq (tracked pair.old)) steps.items replies.items
+        (tracked_state NID.eq (tracked pair.new))) }
     ensures shown_run { let by = comparisons NID.Ord P.Ord V.PartialOrd V.ProgressPart V.Clone in
         IfOk result (λ replies.
         IsTrackedShownRun by N.eq (tracked pair.old) steps.items replies.items
@@ -184,7 +188,8 @@ pub fn replay<NID: NodeId, N: Node, V: ProgressPart<P> + PartialOrd + Clone + Dr
     ensures never_falls { list_any is_change steps.items ≡ false →
         AtMost P.cmp (tracked pair.old).progress.granted (tracked pair.new).progress.granted }
     ensures quorums { QuorumsKnowGranted NID.eq P.cmp V.part_of (tracked pair.new) }
-    ensures changed_quorums { ChangedQuorumsKnowGranted NID.eq NID.cmp P.cmp V.part_of (tracked pair.new) }
+    ensures changed_quorums { ChangedQuorumsKnowGranted NID.eq NID.cmp P.cmp V.part_of
+        (tracked pair.new) }
     ensures err { OnErr result (tracked pair.new ≡ tracked pair.old) }
 {
     let mut replies = Vec::with_capacity(alloc, steps.len())?;

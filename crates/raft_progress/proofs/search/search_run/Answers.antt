@@ -4,8 +4,8 @@ use Rattle.raft_progress.proofs.search.search_run.Goals as goal
 
 pub loop-event-preserved : goal.loop-event-preserved
 loop-event-preserved g c = record {
-  small = omega (arith, c.take_event.ensures.one_at_most, c.loop-event.invariant.small);
-  same_end = next_event g.C.Ord.cmp g.L.LogStateReader.log_view _ _ c.args.events.now c.loop-event.event-index c.event-item.result c.loop-event-test.true c.event-item.is c.take_event.ensures.taken ∙ c.loop-event.invariant.same_end;
+  small = omega (arith, c.run_event.ensures.one_at_most, c.loop-event.invariant.small);
+  same_end = next_event g.C.Ord.cmp g.L.LogStateReader.log_view _ _ c.args.events.now c.loop-event.event-index c.event-item.result c.loop-event-test.true c.event-item.is c.run_event.ensures.taken ∙ c.loop-event.invariant.same_end;
 }
 
 pub returns-clause-digits : goal.returns-clause-digits

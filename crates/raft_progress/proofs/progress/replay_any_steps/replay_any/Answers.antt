@@ -1,4 +1,4 @@
-use Rattle.std.proofs.Common.{◌≡◌, ◌∷◌, [], ◌++◌, List, ap, append_assoc, arith, length, refl, subst, sym, ◌∙◌}
+use Rattle.std.proofs.Common.{◌≡◌, ◌∷◌, [], ◌++◌, List, ap, append_assoc, arith, length, subst, sym, ◌∙◌}
 use Rattle.std.specs.Vec.Iter.{into_iter_items}
 use Rattle.raft_progress.specs.progress.ProgressState.{IsSame}
 use Rattle.raft_progress.specs.progress.Shown.{state}
@@ -12,6 +12,7 @@ use Rattle.raft_progress.proofs.GrantedLemmas.{run_not_lower}
 use Rattle.raft_progress.proofs.RecountLemmas.{AtMost-refl}
 use Rattle.raft_progress.proofs.RunLemmas.{run_more, run_seen}
 use Rattle.raft_progress.proofs.Traits.{compared}
+use Rattle.raft_progress.proofs.UpdateLemmas.{IsSame-refl}
 use Rattle.raft_progress.proofs.progress.replay_any_steps.replay_any.Goals as goal
 
 pub loop-step-preserved : goal.loop-step-preserved
@@ -35,7 +36,7 @@ returns-clause-shown_run g c =
 pub returns-clause-run : goal.returns-clause-run
 returns-clause-run g c =
     let by = compared g.ID.PartialEq.eq g.ID.Ord.cmp g.P.Ord.cmp g.V.PartialOrd.partial_cmp g.V.ProgressPart.part_of g.V.Clone.is_clone in
-    run_seen (IsShownStep by g.QS.QuorumSet.has_quorum g.QS.QuorumSet.is_voter) (IsStep by g.QS.QuorumSet.has_quorum g.QS.QuorumSet.is_voter) IsSame (state g.ID.PartialEq.eq) (λ old step reply new s. s.values) (λ s. record { quorum_set = refl; is_voter = λ x. refl; value = λ x. refl; default_part = refl })
+    run_seen (IsShownStep by g.QS.QuorumSet.has_quorum g.QS.QuorumSet.is_voter) (IsStep by g.QS.QuorumSet.has_quorum g.QS.QuorumSet.is_voter) IsSame (state g.ID.PartialEq.eq) (λ old step reply new s. s.values) IsSame-refl
     (shown c.args.progress.now) c.args.steps.items c.loop-step.replies.items (shown c.loop-step.progress) (returns-clause-shown_run g c)
 
 pub returns-clause-never_falls : goal.returns-clause-never_falls

@@ -1,6 +1,6 @@
 use Rattle.std.specs.Coded.{Coded-set, coded_list}
 use Rattle.std.specs.Vec.Iter.{into_iter_items}
-use Rattle.std.proofs.Common.{◌≡◌, ◌∷◌, [], ◌++◌, List, ap, append_assoc, arith, length, refl, subst, sym, ◌∙◌}
+use Rattle.std.proofs.Common.{◌≡◌, ◌∷◌, [], ◌++◌, List, ap, append_assoc, arith, length, subst, sym, ◌∙◌}
 use Rattle.std.proofs.lemmas.List.{append-nil, nil_from_length}
 use Rattle.raft_progress.specs.tracked.Tracked.{tracked}
 use Rattle.raft_progress.specs.tracked.TrackedShownSteps.{IsTrackedShownRun, IsTrackedShownStep}
@@ -8,6 +8,7 @@ use Rattle.raft_progress.specs.tracked.TrackedState.{tracked_state}
 use Rattle.raft_progress.specs.tracked.TrackedSteps.{IsSamePair, IsTrackedStep}
 use Rattle.raft_progress.specs.declared.progress.steps.Reply.{Reply}
 use Rattle.raft_progress.specs.declared.tracked.step.Step.{Step}
+use Rattle.raft_progress.proofs.ChangeLemmas.{IsSamePair-refl}
 use Rattle.raft_progress.proofs.GrantedLemmas.{pair_run_not_lower}
 use Rattle.raft_progress.proofs.HeadlineLemmas.{each_quorum_knows}
 use Rattle.raft_progress.proofs.ReadyLemmas.{ready_of}
@@ -48,7 +49,7 @@ returns-clause-shown_run g c =
 pub returns-clause-run : goal.returns-clause-run
 returns-clause-run g c =
     let by = compared g.NID.PartialEq.eq g.NID.Ord.cmp g.P.Ord.cmp g.V.PartialOrd.partial_cmp g.V.ProgressPart.part_of g.V.Clone.is_clone in
-    run_seen (IsTrackedShownStep by g.N.PartialEq.eq) (IsTrackedStep by g.N.PartialEq.eq) IsSamePair (tracked_state g.NID.PartialEq.eq) (λ old step reply new s. s.values) (λ t. record { membership = refl; progress = record { quorum_set = refl; is_voter = λ x. refl; value = λ x. refl; default_part = refl } })
+    run_seen (IsTrackedShownStep by g.N.PartialEq.eq) (IsTrackedStep by g.N.PartialEq.eq) IsSamePair (tracked_state g.NID.PartialEq.eq) (λ old step reply new s. s.values) IsSamePair-refl
     (tracked c.args.pair.now) c.args.steps.items c.loop-step.replies.items (tracked c.loop-step.pair) (returns-clause-shown_run g c)
 
 pub returns-clause-ready : goal.returns-clause-ready

@@ -1,22 +1,29 @@
-use Rattle.std.proofs.Common.{sym, ap, ◌∙◌}
+use Rattle.std.proofs.Common.{rules, sym, ap, ◌∙◌, ◌≡◌}
 use Rattle.std.specs.Option.{is_some}
+use Rattle.std.specs.Prelude.{position}
+use Rattle.raft_progress.specs.Inner.Places.{place_in}
+use Rattle.raft_progress.proofs.PlacesLemmas.{place_is}
 use Rattle.raft_progress.proofs.UpdateLemmas.{was}
 use Rattle.raft_progress.proofs.WalkLemmas.{found_is_known}
 use Rattle.raft_progress.proofs.progress.vec_progress.VecProgress.apply.Goals as goal
 
-pub apply_at-requires-clause-callable : goal.apply_at-requires-clause-callable
-apply_at-requires-clause-callable g c = λ place e found at.
-    c.requires.callable e.1 (was g.met.ID.Eq.laws c.args.self.now.walk.items c.args.id.now place e (sym c.index-found.ensures ∙ found) at)
+pub apply_at-requires : goal.apply_at-requires
+apply_at-requires g c =
+    let p = c.args.self.now in
+    let found : c.get-found.result ≡ position (λ (e : g.row.ID.Denot × g.row.V.Denot). g.ID.PartialEq.eq c.args.id.now e.0) p.walk.items = c.get-found.ensures ∙ place_is g.met.ID.Eq.laws p.walk.items (place_in g.ID.PartialEq.eq p.places.entries.items) (p.agree c.if-self.false) c.args.id.now in
+    record {
+      within = rw found (search rules);
+      ordered = c.requires.ordered;
+      callable = λ place e is at. c.requires.callable e.1 (was g.met.ID.Eq.laws p.walk.items c.args.id.now place e (sym found ∙ is) at);
+      not_lower = λ place e w is at left. c.requires.not_lower e.1 w (was g.met.ID.Eq.laws p.walk.items c.args.id.now place e (sym found ∙ is) at) left;
+    }
 
-pub apply_at-requires-clause-not_lower : goal.apply_at-requires-clause-not_lower
-apply_at-requires-clause-not_lower g c = λ place e w found at left.
-    c.requires.not_lower e.1 w (was g.met.ID.Eq.laws c.args.self.now.walk.items c.args.id.now place e (sym c.index-found.ensures ∙ found) at) left
-
-pub returns-clause-updated : goal.returns-clause-updated
-returns-clause-updated g c = c.apply_at.ensures.updated c.args.id.now c.index-found.ensures
-
-pub returns-clause-ordered : goal.returns-clause-ordered
-returns-clause-ordered g c = c.apply_at.ensures.ordered c.args.id.now c.index-found.ensures
-
-pub returns-clause-known : goal.returns-clause-known
-returns-clause-known g c = c.apply_at.ensures.known ∙ ap is_some c.index-found.ensures ∙ found_is_known (g.ID.PartialEq.eq c.args.id.now) c.args.self.now.walk.items
+pub returns : goal.returns
+returns g c =
+    let p = c.args.self.now in
+    let found : c.get-found.result ≡ position (λ (e : g.row.ID.Denot × g.row.V.Denot). g.ID.PartialEq.eq c.args.id.now e.0) p.walk.items = c.get-found.ensures ∙ place_is g.met.ID.Eq.laws p.walk.items (place_in g.ID.PartialEq.eq p.places.entries.items) (p.agree c.if-self.false) c.args.id.now in
+    record {
+      updated = c.apply_at.ensures.updated c.args.id.now found;
+      ordered = c.apply_at.ensures.ordered c.args.id.now found;
+      known = c.apply_at.ensures.known ∙ ap is_some found ∙ found_is_known (g.ID.PartialEq.eq c.args.id.now) p.walk.items;
+    }

@@ -1,7 +1,7 @@
 use Rattle.std.proofs.Common.{List, ◌≡◌, ◌≤◌, ◌∙◌, ap, length, refl, rules, subst, sym}
 use Rattle.std.specs.List.{AllZip}
-use Rattle.std.specs.BTreeMap.{get}
-use Rattle.std.specs.Map.{keys_of}
+use Rattle.std.specs.Map.{keys_of, lookup}
+use Rattle.raft_progress.specs.Inner.Places.{place_in}
 use Rattle.raft_progress.proofs.CloneLemmas.{same_ids, same_length}
 use Rattle.raft_progress.proofs.PlacesLemmas.{tells_alike}
 use Rattle.raft_progress.proofs.progress.vec_progress.VecProgress.clone_over.Goals as goal
@@ -22,5 +22,5 @@ invariant_of-result g c = record {
   room_fits = ap length (c.in_ok-copy_ids.ensures ∙ c.deref-2.ensures.value) ∙ c.args.self.now.room_fits;
   agree = λ fresh.
       let same : keys_of c.in_ok-clone_walk.field-0.items ≡ keys_of c.args.self.now.walk.items = same_ids g.V.Clone.is_clone c.deref.result.now c.in_ok-clone_walk.field-0.items c.in_ok-clone_walk.ensures ∙ ap keys_of c.deref.ensures.value in
-      tells_alike g.met.ID.Eq.laws (keys_of c.args.self.now.walk.items) (keys_of c.in_ok-clone_walk.field-0.items) (get g.ID.Ord.cmp c.args.self.now.places) (get g.ID.Ord.cmp c.in_ok-copy_places.field-0) same c.in_ok-copy_places.ensures (c.args.self.now.agree fresh);
+      tells_alike g.met.ID.Eq.laws (keys_of c.args.self.now.walk.items) (keys_of c.in_ok-clone_walk.field-0.items) (place_in g.ID.PartialEq.eq c.args.self.now.places.entries.items) (place_in g.ID.PartialEq.eq c.in_ok-try_clone.field-0.entries.items) same (λ x. ap (lookup (g.ID.PartialEq.eq x)) c.in_ok-try_clone.ensures.entries) (c.args.self.now.agree fresh);
 }

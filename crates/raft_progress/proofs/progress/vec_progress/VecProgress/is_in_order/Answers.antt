@@ -1,4 +1,4 @@
-use Rattle.std.proofs.Common.{refl, sym, ap, ◌∙◌, ◌&&◌, true≢false, is_eq, take, List, subst}
+use Rattle.std.proofs.Common.{sym, ap, ◌∙◌, ◌&&◌, true≢false, is_eq, take, List, subst}
 use Rattle.std.specs.List.{IsDistinct, list_all}
 use Rattle.std.specs.Cmp.{first_so, second_so}
 use Rattle.std.specs.Map.{keys_of}

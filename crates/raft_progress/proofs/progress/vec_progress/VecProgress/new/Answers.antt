@@ -38,10 +38,10 @@ pub invariant_of-result : goal.invariant_of-result
 invariant_of-result g c = record {
   voters_fit = voters_within _ c.in_ok-room.room.items c.args.learners.now _ (keys_placed _ _ _ _ _ c.in_ok-walk.ensures.items c.in_ok-place_all.ensures c.in_ok-place_all-2.ensures ∙ ap (λ ids. ids ++ c.args.learners.now) c.deref.ensures.value) (c.len-voter_count.ensures ∙ c.in_ok-room.room.ok.0);
   room_fits = sym (c.len-voter_count.ensures ∙ c.in_ok-room.room.ok.0);
-  agree = λ fresh. rw c.deref-2.ensures.value at c.in_ok-places.ensures;
+  agree = λ fresh. rw c.deref-2.ensures.value at c.in_ok-places.ensures.tells;
 }
 
-pub places_of-requires : goal.places_of-requires
-places_of-requires g c =
+pub of-requires : goal.of-requires
+of-requires g c =
     subst (IsDistinct g.ID.PartialEq.eq) (sym (ap keys_of c.deref-2.ensures.value ∙ keys_placed _ _ _ _ _ c.in_ok-walk.ensures.items c.in_ok-place_all.ensures c.in_ok-place_all-2.ensures ∙ ap (λ ids. ids ++ c.args.learners.now) c.deref.ensures.value))
     (distinct_with_learners g.met.ID.Eq.laws (g.QS.QuorumSet.is_voter c.args.quorum_set) c.in_ok-room.room.items c.args.learners.now (IsDistinct-from_cmp g.ID.Ord.cmp g.met.ID.Ord.matches_eq _ c.in_ok-room.ensures.ascending) c.in_ok-room.ensures.voters c.requires.learners_fit)

@@ -1,27 +1,37 @@
 use Rattle.std.proofs.Common.{refl, ap, arith, sym, ◌∙◌, ◌≡◌, ◌≤◌, length, subst, List, true≢false}
-use Rattle.std.specs.BTreeMap.{get}
 use Rattle.std.specs.List.{IsDistinct}
 use Rattle.std.specs.Map.{keys_of}
+use Rattle.std.proofs.lemmas.Map.Entries.{length-keys_of}
+use Rattle.raft_progress.specs.Inner.Places.{place_in}
 use Rattle.raft_progress.specs.Inner.Rises.{RisesTo}
 use Rattle.raft_progress.specs.progress.VecProgress.{shown}
 use Rattle.raft_progress.proofs.MovedLemmas.{distinct_moved}
-use Rattle.raft_progress.proofs.PlacesLemmas.{before_passed, passed_length, passed_nothing}
+use Rattle.raft_progress.proofs.PlacesLemmas.{before_passed, passed_length, passed_nothing, place_ranked, tells_after}
 use Rattle.raft_progress.proofs.progress.vec_progress.VecProgress.raise.Goals as goal
 use Rattle.raft_progress.proofs.progress.vec_progress.VecProgress.raise.Goals.{then-to-place+then-not-self, else-to-place, else-to-place-via-then-to-place+else-not-self, else-to-place-via-else-to-place}
 
-pub write_places-requires : goal.write_places-requires
-write_places-requires g c =
-    let p = c.move_up-to.ensures.passes in
-    let distinct = subst (λ (es : List (g.row.ID.Denot × g.row.V.Denot)). IsDistinct g.ID.PartialEq.eq (keys_of es)) (sym (c.deref.ensures.value ∙ p.now)) (distinct_moved g.met.ID.Eq.laws p.front p.passed p.entry p.rest (subst (λ (es : List (g.row.ID.Denot × g.row.V.Denot)). IsDistinct g.ID.PartialEq.eq (keys_of es)) p.was c.requires.distinct)) in
+pub rise-requires : goal.rise-requires
+rise-requires g c =
+    let f = c.args.self.now.voters_fit in
+    let l = c.requires.within in
     record {
       ascending = omega arith;
-      within =
-          let long = ap (length {A = g.row.ID.Denot × g.row.V.Denot}) c.deref.ensures.value ∙ passed_length g.P.Ord.cmp g.V.ProgressPart.part_of c.args.self.now.walk.items c.args.place c.move_up-to.new.walk.items c.move_up-to.result p in
-          let f = c.args.self.now.voters_fit in
-          let l = c.requires.within in
-          omega arith;
-      distinct = distinct;
-      moved = rw c.deref.ensures.value (before_passed g.met.ID.Eq.laws g.P.Ord.cmp g.V.ProgressPart.part_of c.args.self.now.walk.items c.args.place c.move_up-to.new.walk.items c.move_up-to.result p (get g.ID.Ord.cmp c.args.self.now.places) (c.args.self.now.agree c.if-not-self.true));
+      within = place_ranked g.met.ID.Eq.laws c.args.self.now.places.entries.items c.args.self.now.places.ranks.items c.args.self.now.places.inverse (keys_of c.args.self.now.walk.items) c.args.place (rw (length-keys_of c.args.self.now.walk.items) (omega arith)) (c.args.self.now.agree c.if-not-self.true);
+    }
+
+pub invariant_of-self : goal.invariant_of-self
+invariant_of-self g c =
+    let p = c.move_up-to.ensures.passes in
+    let new = c.move_up-to.new.walk.items in
+    let old = place_in g.ID.PartialEq.eq c.args.self.now.places.entries.items in
+    let long = passed_length g.P.Ord.cmp g.V.ProgressPart.part_of c.args.self.now.walk.items c.args.place new c.move_up-to.result p in
+    record {
+      voters_fit = subst (λ n. c.args.self.now.voter_count ≤ n) (sym long) c.args.self.now.voters_fit;
+      room_fits = c.args.self.now.room_fits;
+      agree = λ fresh.
+          tells_after g.met.ID.Eq.laws (keys_of new) c.move_up-to.result c.args.place (omega arith) old
+          (before_passed g.met.ID.Eq.laws g.P.Ord.cmp g.V.ProgressPart.part_of c.args.self.now.walk.items c.args.place new c.move_up-to.result p old (c.args.self.now.agree fresh))
+          (place_in g.ID.PartialEq.eq c.rise.new.self.entries.items) c.rise.ensures.shifted;
     }
 
 pub invariant_of-self-else-to-place : goal.invariant_of-self-else-to-place
@@ -44,7 +54,11 @@ scan-requires g c =
       ]
     ] in
     let p = c.move_up-to.ensures.passes in
+    let at = p.now_at in
+    let was = p.was_at in
+    let within = c.requires.within in
     record {
+      within = rw (ap (λ p. p.voter_count) same) (omega arith);
       distinct = subst (λ (es : List (g.row.ID.Denot × g.row.V.Denot)). IsDistinct g.ID.PartialEq.eq (keys_of es)) (sym (ap (λ p. p.walk) same ∙ p.now))
           (distinct_moved g.met.ID.Eq.laws p.front p.passed p.entry p.rest (subst (λ (es : List (g.row.ID.Denot × g.row.V.Denot)). IsDistinct g.ID.PartialEq.eq (keys_of es)) p.was c.requires.distinct));
     }

@@ -1,69 +1,41 @@
-use Rattle.std.proofs.Common.{arith, refl, sym, ap, ◌≡◌, get_or, List, [], ◌∷◌, zero, suc, ◌∙◌, subst, ◌≤◌, ◌-◌, length, take, ℕ}
-use Rattle.std.proofs.lemmas.List.{length-take}
+use Rattle.std.specs.Prelude.{max}
+use Rattle.std.specs.List.{prefix_len}
+use Rattle.std.proofs.Common.{ap, arith, is_lt, refl, sym, take, ◌∙◌, ◌≡◌, ◌-◌, ◌^◌, ◌<◌, ◌≤◌, false}
 use Rattle.std.proofs.lemmas.List.Sums.{prefix_len-le-length}
 use Rattle.raft_progress.specs.Inner.Counts.{exceeds}
-use Rattle.raft_progress.specs.Inner.Rises.{IsLeastFront}
-use Rattle.raft_progress.proofs.UpdateLemmas.{IsDistinct-voters}
+use Rattle.raft_progress.specs.progress.VecProgress.{shown}
 use Rattle.raft_progress.proofs.SettledLemmas.{get_take}
+use Rattle.raft_progress.proofs.ShortFrontLemmas.{lead_ends, length_take_le, not_scanned, scanned_from}
+use Rattle.raft_progress.proofs.UpdateLemmas.{IsDistinct-voters}
 use Rattle.raft_progress.proofs.progress.vec_progress.VecProgress.scan.Goals as goal
+use Rattle.raft_progress.proofs.progress.vec_progress.VecProgress.scan.Goals.{else-short-self-via-then-short-self+else-is_lt, else-short-self-via-else-short-self}
 
-length_take_le : {X : Type 0} (xs : List X) (n : ℕ) → length (take n xs) ≤ n
-length_take_le xs zero = omega arith
-length_take_le [] (suc n) = omega arith
-length_take_le (x ∷ xs) (suc n) = let h = length_take_le xs n in omega arith
+pub returns-then-is_lt : goal.returns-then-is_lt
+returns-then-is_lt g c =
+    let p = c.args.self.now in
+    let short_is : c.max-short.result ≡ max (c.least_quorum_size-least.result - 1) c.args.place = rw (c.max-short.ensures, c.saturating_sub.ensures) refl in
+    scanned_from g.met.ID.Eq.laws g.P.Ord.cmp g.V.ProgressPart.part_of g.QS.QuorumSet.has_quorum (shown p) (IsDistinct-voters g.met.ID.Eq.laws p.voter_count p.walk.items c.requires.distinct) c.least_quorum_size-least.result c.least_quorum_size-least.ensures c.args.place c.max-short.result short_is (shown c.test_fronts.new.self) c.test_fronts.ensures
 
-pub least_front-found-requires-clause-within : goal.least_front-found-requires-clause-within
-least_front-found-requires-clause-within g c =
-    let h = prefix_len-le-length (exceeds g.P.Ord.cmp g.V.ProgressPart.part_of c.args.self.now.granted) (take c.args.self.now.voter_count c.deref.result.now) in
-    rw c.gather_leading-high.ensures.count h
-
-pub least_front-found-requires-clause-distinct : goal.least_front-found-requires-clause-distinct
-least_front-found-requires-clause-distinct g c = rw c.deref.ensures.value (IsDistinct-voters g.met.ID.Eq.laws c.args.self.now.voter_count c.args.self.now.walk.items c.requires.distinct)
-
-pub index-requires : goal.index-requires
-index-requires g c =
-    let far = c.least_front-found.ensures.within c.in-Some.front c.in-Some.is in
-    let near = c.least_front-found.ensures.above c.in-Some.front c.in-Some.is in
-    let top = prefix_len-le-length (exceeds g.P.Ord.cmp g.V.ProgressPart.part_of c.args.self.now.granted) (take c.args.self.now.voter_count c.deref.result.now) in
-    let h = c.gather_leading-high.ensures.count in
-    let f = c.args.self.now.voters_fit in
-    let t = length-take c.args.self.now.voter_count c.deref.result.now in
-    let q = c.args.self.now.walk.ok.0 in
-    let z = ap (length {A = g.row.ID.Denot × g.row.V.Denot}) c.deref.ensures.value in
-    omega arith
-
-pub returns-in-Some : goal.returns-in-Some
-returns-in-Some g c = record {
-  group = record { quorum_set = refl; voter_count = refl; default_part = refl; updates = refl };
-  same_walk = refl;
-  moves = refl;
-  found = c.least_front-found.result.front;
-  tests = c.least_front-found.result.tests;
-  scanned = rw (← c.deref.ensures.value) (subst (λ (n : ℕ). IsLeastFront g.ID.PartialEq.eq (g.QS.QuorumSet.has_quorum c.args.self.now.quorum_set) (take c.args.self.now.voter_count c.deref.result.now) c.args.place n c.least_front-found.result.front c.least_front-found.result.tests) c.gather_leading-high.ensures.count c.least_front-found.ensures);
-  counts = c.saturating_add-self.ensures;
-  stays = λ e. cc;
-  rises = λ k e.
-      let is : c.in-Some.front ≡ k = cc in
-      let far = c.least_front-found.ensures.within c.in-Some.front c.in-Some.is in
-      let near = c.least_front-found.ensures.above c.in-Some.front c.in-Some.is in
-      let top = prefix_len-le-length (exceeds g.P.Ord.cmp g.V.ProgressPart.part_of c.args.self.now.granted) (take c.args.self.now.voter_count c.deref.result.now) in
-      let h = c.gather_leading-high.ensures.count in
-      let t = length_take_le c.deref.result.now c.args.self.now.voter_count in (
-        c.index.result.now,
-        c.index.ensures ∙ ap (λ n. get_or c.args.self.now.walk.items (n - 1) c.index.result.now) is ∙ sym (get_take c.args.self.now.walk.items c.args.self.now.voter_count (k - 1) c.index.result.now (omega arith)),
-        c.part-self.ensures,
-      );
-}
-
-pub returns-in_default : goal.returns-in_default
-returns-in_default g c = record {
-  group = record { quorum_set = refl; voter_count = refl; default_part = refl; updates = refl };
-  same_walk = refl;
-  moves = refl;
-  found = c.least_front-found.result.front;
-  tests = c.least_front-found.result.tests;
-  scanned = rw (← c.deref.ensures.value) (subst (λ (n : ℕ). IsLeastFront g.ID.PartialEq.eq (g.QS.QuorumSet.has_quorum c.args.self.now.quorum_set) (take c.args.self.now.voter_count c.deref.result.now) c.args.place n c.least_front-found.result.front c.least_front-found.result.tests) c.gather_leading-high.ensures.count c.least_front-found.ensures);
-  counts = c.saturating_add-self.ensures;
-  stays = λ e. refl;
-  rises = λ k e. cc;
-}
+pub returns-else-short-self : goal.returns-else-short-self
+returns-else-short-self g c =
+    let p = c.args.self.now in
+    let short_is : c.max-short.result ≡ max (c.least_quorum_size-least.result - 1) c.args.place = rw (c.max-short.ensures, c.saturating_sub.ensures) refl in
+    let fits : p.stat.is_quorum_count < 2 ^ 64 = omega arith in
+    let over = exceeds g.P.Ord.cmp g.V.ProgressPart.part_of p.granted in
+    let ends : prefix_len over (take p.voter_count p.walk.items) ≤ c.max-short.result =
+    elim c.else-short-self.branch [
+      | else-short-self-via-then-short-self+else-is_lt w ↦
+          let e = w.index.result.now in
+          let within = w.if-short-self.true in
+          let fails : is_lt (g.P.Ord.cmp p.granted (g.V.ProgressPart.part_of e.1)) ≡ false = cc in
+          lead_ends over (take p.voter_count p.walk.items) c.max-short.result e (ap over (get_take p.walk.items p.voter_count c.max-short.result e within ∙ sym w.index.ensures) ∙ fails)
+      | else-short-self-via-else-short-self w ↦
+          let past = w.if-short-self.false in
+          omega (arith, prefix_len-le-length over (take p.voter_count p.walk.items), length_take_le p.walk.items p.voter_count)
+    ] in
+    let same : shown c.else-short-self.self ≡ shown p =
+    elim c.else-short-self.branch [
+      | else-short-self-via-then-short-self+else-is_lt w ↦ ap (λ p. shown p) w.self-is
+      | else-short-self-via-else-short-self w ↦ ap (λ p. shown p) w.self-is
+    ] in
+    rw same (not_scanned g.met.ID.Eq.laws g.P.Ord.cmp g.V.ProgressPart.part_of g.QS.QuorumSet.has_quorum (shown p) (IsDistinct-voters g.met.ID.Eq.laws p.voter_count p.walk.items c.requires.distinct) c.least_quorum_size-least.result c.least_quorum_size-least.ensures c.args.place c.max-short.result short_is ends fits)

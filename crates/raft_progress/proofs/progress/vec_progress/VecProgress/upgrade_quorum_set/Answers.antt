@@ -25,8 +25,8 @@ loop-entry-init g c =
           record { values = c.in_ok-made.ensures.made; walk = record { voters = c.in_ok-made.ensures.walk.voters; ascending = c.in_ok-made.ensures.walk.ascending; ids = c.in_ok-made.ensures.walk.ids; first = c.in_ok-made.ensures.walk.first }; granted = c.in_ok-made.ensures.granted; counts = refl });
     }
 
-pub take_over-requires-clause-not_lower : goal.take_over-requires-clause-not_lower
-take_over-requires-clause-not_lower g c = λ v h.
+pub inherit-requires-clause-not_lower : goal.inherit-requires-clause-not_lower
+inherit-requires-clause-not_lower g c = λ v h.
     let is : c.entry-item.result ≡ get_or c.args.self.now.walk.items c.loop-entry.entry-index c.entry-item.result = rw (← c.deref-entry-items.ensures.value) c.entry-item.is in
     let l : c.loop-entry.entry-index < length c.args.self.now.walk.items = rw (← c.deref-entry-items.ensures.value) (omega arith) in
     let fresh : lookup (g.ID.PartialEq.eq c.entry-item.result.0) (take c.loop-entry.entry-index c.args.self.now.walk.items) ≡ None = ap (λ (e : g.row.ID.Denot × g.row.V.Denot). lookup (g.ID.PartialEq.eq e.0) (take c.loop-entry.entry-index c.args.self.now.walk.items)) is ∙ not_seen g.met.ID.Eq.laws c.args.self.now.walk.items c.loop-entry.entry-index c.entry-item.result l c.requires.ordered.distinct in
@@ -41,17 +41,17 @@ loop-entry-preserved g c =
     let fresh : lookup (g.ID.PartialEq.eq c.entry-item.result.0) (take c.loop-entry.entry-index c.args.self.now.walk.items) ≡ None = ap (λ (e : g.row.ID.Denot × g.row.V.Denot). lookup (g.ID.PartialEq.eq e.0) (take c.loop-entry.entry-index c.args.self.now.walk.items)) is ∙ not_seen g.met.ID.Eq.laws c.args.self.now.walk.items c.loop-entry.entry-index c.entry-item.result l c.requires.ordered.distinct in
     let more : take (c.loop-entry.entry-index + 1) c.args.self.now.walk.items ≡ take c.loop-entry.entry-index c.args.self.now.walk.items ++ c.entry-item.result ∷ [] = take_more c.args.self.now.walk.items c.loop-entry.entry-index c.entry-item.result l ∙ ap (λ e. take c.loop-entry.entry-index c.args.self.now.walk.items ++ e ∷ []) (sym is) in
     record {
-      ordered = c.take_over.ensures.ordered;
+      ordered = c.inherit.ensures.ordered;
       made =
-          subst (λ (es : List (g.row.ID.Denot × g.row.V.Denot)). IsUpgraded g.ID.PartialEq.eq g.V.Clone.is_clone g.V.ProgressPart.part_of (g.QS.QuorumSet.is_voter c.args.quorum_set) c.args.quorum_set c.args.learners.now c.args.default (λ x. lookup (g.ID.PartialEq.eq x) es) (state g.ID.PartialEq.eq (shown c.take_over.new.self))) (sym more)
-          (step g.met.ID.Eq.laws g.V.Clone.is_clone g.V.ProgressPart.part_of (g.QS.QuorumSet.is_voter c.args.quorum_set) c.args.quorum_set c.args.learners.now c.args.default (take c.loop-entry.entry-index c.args.self.now.walk.items) (state g.ID.PartialEq.eq (shown c.loop-entry.made)) (state g.ID.PartialEq.eq (shown c.take_over.new.self)) c.loop-entry.invariant.made (λ x y h. lookup_alike g.met.ID.Eq.laws x y h c.loop-entry.made.walk.items) c.entry-item.result fresh c.in_ok-value.value c.in_ok-value.ensures.cases
-          (λ v h. let k = c.take_over.ensures.updated.known v h in (k.0, k.1, k.2))
-          (unknown_same g.ID.PartialEq.eq g.P.Ord.cmp g.V.ProgressPart.part_of _ (shown c.loop-entry.made) c.entry-item.result.0 (shown c.take_over.new.self) c.take_over.ensures.updated));
+          subst (λ (es : List (g.row.ID.Denot × g.row.V.Denot)). IsUpgraded g.ID.PartialEq.eq g.V.Clone.is_clone g.V.ProgressPart.part_of (g.QS.QuorumSet.is_voter c.args.quorum_set) c.args.quorum_set c.args.learners.now c.args.default (λ x. lookup (g.ID.PartialEq.eq x) es) (state g.ID.PartialEq.eq (shown c.inherit.new.self))) (sym more)
+          (step g.met.ID.Eq.laws g.V.Clone.is_clone g.V.ProgressPart.part_of (g.QS.QuorumSet.is_voter c.args.quorum_set) c.args.quorum_set c.args.learners.now c.args.default (take c.loop-entry.entry-index c.args.self.now.walk.items) (state g.ID.PartialEq.eq (shown c.loop-entry.made)) (state g.ID.PartialEq.eq (shown c.inherit.new.self)) c.loop-entry.invariant.made (λ x y h. lookup_alike g.met.ID.Eq.laws x y h c.loop-entry.made.walk.items) c.entry-item.result fresh c.in_ok-value.value c.in_ok-value.ensures.cases
+          (λ v h. let k = c.inherit.ensures.updated.known v h in (k.0, k.1, k.2))
+          (unknown_same g.ID.PartialEq.eq g.P.Ord.cmp g.V.ProgressPart.part_of _ (shown c.loop-entry.made) c.entry-item.result.0 (shown c.inherit.new.self) c.inherit.ensures.updated));
       fold =
-          subst (λ (es : List (g.row.ID.Denot × g.row.V.Denot)). IsFold g.ID.PartialEq.eq g.ID.Ord.cmp g.P.Ord.cmp g.V.ProgressPart.part_of g.V.Clone.is_clone g.QS.QuorumSet.has_quorum g.QS.QuorumSet.is_voter es c.args.self.now.stat c.args.quorum_set c.args.learners.now c.args.default (shown c.take_over.new.self)) (sym more)
-          (fold_more g.ID.PartialEq.eq g.ID.Ord.cmp g.P.Ord.cmp g.V.ProgressPart.part_of g.V.Clone.is_clone g.QS.QuorumSet.has_quorum g.QS.QuorumSet.is_voter (take c.loop-entry.entry-index c.args.self.now.walk.items) c.args.self.now.stat c.args.quorum_set c.args.learners.now c.args.default (shown c.loop-entry.made) c.loop-entry.invariant.fold c.entry-item.result (shown c.take_over.new.self)
-          (updated_weaker g.ID.PartialEq.eq g.P.Ord.cmp g.V.ProgressPart.part_of (λ v w. w ≡ c.in_ok-value.value) (λ v w. g.V.Clone.is_clone c.entry-item.result.1 w) (λ v w e. subst (g.V.Clone.is_clone c.entry-item.result.1) (sym e) c.in_ok-value.ensures.cases) (shown c.loop-entry.made) c.entry-item.result.0 (shown c.take_over.new.self) c.take_over.ensures.updated)
-          c.take_over.ensures.ordered);
+          subst (λ (es : List (g.row.ID.Denot × g.row.V.Denot)). IsFold g.ID.PartialEq.eq g.ID.Ord.cmp g.P.Ord.cmp g.V.ProgressPart.part_of g.V.Clone.is_clone g.QS.QuorumSet.has_quorum g.QS.QuorumSet.is_voter es c.args.self.now.stat c.args.quorum_set c.args.learners.now c.args.default (shown c.inherit.new.self)) (sym more)
+          (fold_more g.ID.PartialEq.eq g.ID.Ord.cmp g.P.Ord.cmp g.V.ProgressPart.part_of g.V.Clone.is_clone g.QS.QuorumSet.has_quorum g.QS.QuorumSet.is_voter (take c.loop-entry.entry-index c.args.self.now.walk.items) c.args.self.now.stat c.args.quorum_set c.args.learners.now c.args.default (shown c.loop-entry.made) c.loop-entry.invariant.fold c.entry-item.result (shown c.inherit.new.self)
+          (updated_weaker g.ID.PartialEq.eq g.P.Ord.cmp g.V.ProgressPart.part_of (λ v w. w ≡ c.in_ok-value.value) (λ v w. g.V.Clone.is_clone c.entry-item.result.1 w) (λ v w e. subst (g.V.Clone.is_clone c.entry-item.result.1) (sym e) c.in_ok-value.ensures.cases) (shown c.loop-entry.made) c.entry-item.result.0 (shown c.inherit.new.self) c.inherit.ensures.updated)
+          c.inherit.ensures.ordered);
     }
 
 pub returns-clause-made : goal.returns-clause-made

@@ -9,7 +9,8 @@ use Rattle.raft_progress.specs.tracked.Tracked.{tracked}
 use Rattle.raft_progress.specs.tracked.TrackedState.{has_quorum, is_voter}
 use Rattle.raft_progress.proofs.ReadyLemmas.{ready_of}
 use Rattle.raft_progress.proofs.TrackedLemmas.{learners_of_fit, ready_upgraded}
-use Rattle.raft_progress.proofs.tracked.replay_steps.go_over.Goals as goal
+use Rattle.raft_progress.proofs.UpdateLemmas.{IsSame-refl}
+use Rattle.raft_progress.proofs.tracked.replay_steps.upgrade_unless_below.Goals as goal
 
 pub upgrade_quorum_set-requires-clause-learners_fit : goal.upgrade_quorum_set-requires-clause-learners_fit
 upgrade_quorum_set-requires-clause-learners_fit g c = learners_of_fit g.NID.PartialEq.eq (members_of g.NID.Ord.cmp c.args.next) c.args.configs c.args.learners.now c.requires.voters c.requires.are_learners
@@ -29,7 +30,7 @@ returns-in-Some-clause-step g c = record {
       (
         learners_of_fit g.NID.PartialEq.eq (members_of g.NID.Ord.cmp c.args.next) c.args.configs c.args.learners.now c.requires.voters c.requires.are_learners,
         c.requires.some c.in-Some.id c.in-Some.is,
-        record { quorum_set = refl; is_voter = λ x. refl; value = λ x. refl; default_part = refl },
+        IsSame-refl (state g.NID.PartialEq.eq (shown c.args.pair.now.progress)),
       ),
     ),
   );
