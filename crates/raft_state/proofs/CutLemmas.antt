@@ -10,7 +10,7 @@ use Rattle.std.proofs.lemmas.List.{append-nil, take_more_set, take_at}
 use Rattle.std.specs.Prelude.{slice_get}
 use Rattle.raft_base.specs.LogId.{next_index}
 use Rattle.raft_base.specs.declared.log_id.LogIdOf.{LogIdOf}
-use Rattle.raft_state.specs.FullLog.{end_index, filled, first_index_or, full_log, ids_of}
+use Rattle.raft_state.specs.FullLog.{end_index, filled, first_index, first_index_or, full_log, ids_of}
 use Rattle.raft_state.specs.Inner.KeyEdits.{cut, cut_after, cut_to, end_at, kept_after, kept_from, purged_keys}
 use Rattle.raft_state.specs.Inner.KeyList.{Rises, keys_to}
 use Rattle.raft_state.proofs.KeyListLemmas.{IsKeyList}
@@ -248,21 +248,21 @@ full_purged cmp ks upto s =
           rw (t, u) (full_kept_after k ks (end_index (k ∷ ks)) upto.index (key_list_rises cmp k ks s) refl past lt))
     ]
 
-    by_test : (ks : List (LogIdOf _)) → IsKeyList cmp ks → (t : Bool) → t ≡ nat_le (end_index ks) upto.index → full_log (if t then upto ∷ [] else kept_from ks upto.index) ≡ (if t then upto ∷ [] else (if nat_lt upto.index (first_index_or ks 0) then full_log ks else rest (full_log ks) upto.index))
+    by_test : (ks : List (LogIdOf _)) → IsKeyList cmp ks → (t : Bool) → t ≡ nat_le (end_index ks) upto.index → full_log (if t then upto ∷ [] else kept_from ks upto.index) ≡ (if t then upto ∷ [] else (if nat_lt upto.index (first_index ks) then full_log ks else rest (full_log ks) upto.index))
     by_test ks s true e = one_key upto
     by_test [] s false e = let t : nat_lt upto.index 0 ≡ false = grind (arith, nat_tests) in rw t refl
     by_test (k ∷ ks) s false e = by_place k ks s (grind (arith, nat_tests))
 
 -- a purge leaves a log from the greater of the two indexes on
-kept_first : {C : Type 0} (k : LogIdOf C) (ks : List (LogIdOf C)) (a : ℕ) → first_index_or (kept_after k ks a) 0 ≡ a
+kept_first : {C : Type 0} (k : LogIdOf C) (ks : List (LogIdOf C)) (a : ℕ) → first_index (kept_after k ks a) ≡ a
 kept_first k [] a = refl
 kept_first {C} k (l ∷ ks) a = by_test (nat_le l.index a) (kept_first l ks a)
   where
-    by_test : (t : Bool) → first_index_or (kept_after l ks a) 0 ≡ a → first_index_or (if t then kept_after l ks a else record { leader_id = k.leader_id; index = a } ∷ l ∷ ks) 0 ≡ a
+    by_test : (t : Bool) → first_index (kept_after l ks a) ≡ a → first_index (if t then kept_after l ks a else record { leader_id = k.leader_id; index = a } ∷ l ∷ ks) ≡ a
     by_test true e = e
     by_test false e = refl
 
-pub purged_first : {C : Type 0} (cmp : C → C → Ordering) (ks : List (LogIdOf C)) (upto : LogIdOf C) → IsKeyList cmp ks → first_index_or (purged_keys ks upto) 0 ≡ max (first_index_or ks 0) upto.index
+pub purged_first : {C : Type 0} (cmp : C → C → Ordering) (ks : List (LogIdOf C)) (upto : LogIdOf C) → IsKeyList cmp ks → first_index (purged_keys ks upto) ≡ max (first_index ks) upto.index
 purged_first cmp [] upto s = let t : nat_le 0 upto.index ≡ true = grind (arith, nat_tests) in rw t (omega arith)
 purged_first {C} cmp (k ∷ ks) upto s = elim (cases_lt upto.index (end_index (k ∷ ks))) [
   | inr past ↦ (let t : nat_le (end_index (k ∷ ks)) upto.index ≡ true = grind (arith, nat_tests) in
@@ -293,22 +293,6 @@ first_test false k ks j n d e lt = absurd (omega arith)
 pub cut_at : {C : Type 0} (ks : List (LogIdOf C)) (j n : ℕ) (d : LogIdOf C) → keys_to ks j ≡ suc n → suc n < length ks → cut_to ks j ≡ take (suc n) ks ++ end_at (get_or ks n d) j
 cut_at [] j n d e lt = absurd (omega arith)
 cut_at (k ∷ ks) j n d e lt = first_test (nat_le k.index j) k ks j n d e (omega arith)
-
-none_test : {C : Type 0} (t : Bool) (n : ℕ) (xs : List (LogIdOf C)) → (if t then suc n else 0) ≡ 0 → (if t then xs else []) ≡ []
-none_test true n xs h = absurd (omega arith)
-none_test false n xs h = refl
-
-pub cut_none : {C : Type 0} (ks : List (LogIdOf C)) (j : ℕ) → keys_to ks j ≡ 0 → cut_to ks j ≡ []
-cut_none [] j h = refl
-cut_none (k ∷ ks) j h = none_test (nat_le k.index j) (keys_to ks j) (k ∷ cut_after k ks j) h
-
-keys_within : {C : Type 0} (ks : List (LogIdOf C)) (j : ℕ) → keys_to ks j ≤ length ks
-keys_within [] j = omega arith
-keys_within (k ∷ ks) j = step (nat_le k.index j) (keys_within ks j)
-  where
-    step : (t : Bool) → keys_to ks j ≤ length ks → (if t then suc (keys_to ks j) else 0) ≤ suc (length ks)
-    step true h = omega arith
-    step false h = omega arith
 
 cut_after_all : {C : Type 0} (k : LogIdOf C) (ks : List (LogIdOf C)) (j : ℕ) → keys_to ks j ≡ length ks → cut_after k ks j ≡ ks
 cut_after_all k [] j h = refl
@@ -358,10 +342,6 @@ pub first_is : {C : Type 0} (cmp : C → C → Ordering) (ks : List (LogIdOf C))
 first_is cmp [] s = refl
 first_is cmp (k ∷ ks) s = let b = full_begins cmp k ks s in rw b.1 refl
 
-pub first_place : {C : Type 0} (ks : List (LogIdOf C)) → slice_get ks 0 ≡ first_id ks
-first_place [] = refl
-first_place (k ∷ ks) = refl
-
 pub last_place : {C : Type 0} (ks : List (LogIdOf C)) → slice_get ks (length ks - 1) ≡ last_id ks
 last_place [] = refl
 last_place (k ∷ []) = refl
@@ -398,9 +378,6 @@ before (suc m) some = (m, refl)
 
 pub all_stay : {C : Type 0} (ks : List (LogIdOf C)) (a n : ℕ) → (a ≡ 0 → ⊥) → n ≡ keys_to ks (a - 1) → n ≡ length ks → ks ≡ cut ks a
 all_stay ks a n some count len = sym (from_end ks a some ∙ cut_all ks (a - 1) (sym count ∙ len))
-
-pub none_stay : {C : Type 0} (ks : List (LogIdOf C)) (a n : ℕ) → (a ≡ 0 → ⊥) → n ≡ keys_to ks (a - 1) → n ≡ 0 → [] ≡ cut ks a
-none_stay ks a n some count none = sym (from_end ks a some ∙ cut_none ks (a - 1) (sym count ∙ none))
 
 some_stay : {C : Type 0} (ks : List (LogIdOf C)) (a n : ℕ) (key : LogIdOf C) → (a ≡ 0 → ⊥) → n ≡ keys_to ks (a - 1) → (n ≡ 0 → ⊥) → n < length ks → key ≡ get_or ks (n - 1) key → cut ks a ≡ take n ks ++ end_at key (a - 1)
 some_stay {C} ks a n key some count kept lt place =

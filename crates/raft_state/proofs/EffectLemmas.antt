@@ -1,4 +1,4 @@
--- Where the effective membership stays, none other is in effect than before.
+-- Where the effective membership stays, none other is effective than before.
 use Rattle.std.proofs.Common.{◌≡◌, ℕ, Bool, false, refl}
 use Rattle.std.specs.declared.cmp.Ordering.{Ordering}
 use Rattle.std.specs.Cmp.{IsEquivalence}

@@ -1,5 +1,5 @@
 -- What appending several ids does to the full log.
-use Rattle.std.proofs.Common.{◌≡◌, ℕ, zero, suc, ◌+◌, ◌-◌, ◌<◌, ◌≤◌, Bool, true, false, List, [], ◌∷◌, ◌++◌, if◌then◌else◌, IsTrue, nat_lt, refl, arith, length, get_or, drop, drop-cons, add-one, ◌∙◌, Option, Some}
+use Rattle.std.proofs.Common.{◌≡◌, ℕ, zero, suc, ◌+◌, ◌-◌, ◌≤◌, Bool, true, false, List, [], ◌∷◌, ◌++◌, if◌then◌else◌, IsTrue, nat_lt, refl, arith, length, drop, ◌∙◌, Option, Some}
 use Rattle.std.specs.declared.cmp.Ordering.{Ordering}
 use Rattle.std.specs.Ordering.{is_le, is_lt}
 use Rattle.std.specs.Option.{option_or}
@@ -114,10 +114,6 @@ module _ {C : Type 0} (eq : C → C → Bool) (same : (c : C) → eq c c ≡ tru
         same_trans (full_log (added_all eq (added eq ks id) ids)) (extended (full_log (added eq ks id)) ids) (extended (appended (full_log ks) id) ids)
         (full_after_all (added eq ks id) ids (stays_key_list eq same cmp less upto ks id s can) (rw (last_added eq ks id) b.1))
         (same_extended (full_log (added eq ks id)) (appended (full_log ks) id) ids (full_after eq same cmp ks id s can))
-
--- one more id of those to append
-pub next_added : {C : Type 0} (eq : C → C → Bool) (ks ids : List (LogIdOf C)) (i : ℕ) (id : LogIdOf C) → i < length ids → id ≡ get_or ids i id → added_all eq (added eq ks id) (drop (i + 1) ids) ≡ added_all eq ks (drop i ids)
-next_added eq ks ids i id lt place = let here = drop-cons ids i id lt in rw (add-one, here, ← place) refl
 
 -- a key or none is left
 pub short_list : {C : Type 0} (cmp : C → C → Ordering) (ks : List (LogIdOf C)) (n : ℕ) → length ks ≤ n + 1 → may_be_keys cmp (drop n ks) ≡ true

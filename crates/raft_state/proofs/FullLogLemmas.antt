@@ -9,7 +9,7 @@ use Rattle.std.specs.List.Sorted.{IsPartitionedBy}
 use Rattle.std.proofs.lemmas.List.Folds.{find-append}
 use Rattle.std.proofs.lemmas.Bool.Decides.{nat_tests}
 use Rattle.raft_base.specs.declared.log_id.LogIdOf.{LogIdOf}
-use Rattle.raft_state.specs.FullLog.{end_index, filled, first_index_or, full_log, ids_of}
+use Rattle.raft_state.specs.FullLog.{end_index, filled, first_index, first_index_or, full_log, ids_of}
 use Rattle.raft_state.specs.Inner.KeyList.{Rises, keys_to}
 use Rattle.raft_state.proofs.KeyListLemmas.{IsKeyList}
 use Rattle.raft_state.specs.LogReads.{id_at}
@@ -197,7 +197,7 @@ there_if true x = refl
 there_if false x = refl
 
 -- an index has a log id exactly from the first key's index to the last key's
-pub there_within : {C : Type 0} (cmp : C → C → Ordering) (ks : List (LogIdOf C)) (j : ℕ) → IsKeyList cmp ks → is_some (id_at (full_log ks) j) ≡ (nat_le (first_index_or ks 0) j && nat_lt j (end_index ks))
+pub there_within : {C : Type 0} (cmp : C → C → Ordering) (ks : List (LogIdOf C)) (j : ℕ) → IsKeyList cmp ks → is_some (id_at (full_log ks) j) ≡ (nat_le (first_index ks) j && nat_lt j (end_index ks))
 there_within cmp [] j s = grind (arith, nat_tests)
 there_within {C} cmp (k ∷ ks) j s = elim (cases_lt j k.index) [
   | inl below ↦ (let t : nat_le k.index j ≡ false = grind (arith, nat_tests) in

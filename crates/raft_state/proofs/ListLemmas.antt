@@ -6,7 +6,7 @@ use Rattle.std.specs.declared.cmp.Ordering.{Ordering}
 use Rattle.std.specs.Ordering.{is_eq}
 use Rattle.std.specs.Cmp.{IsTotalOrder, IsEquivalence}
 use Rattle.raft_base.specs.declared.log_id.LogIdOf.{LogIdOf}
-use Rattle.raft_state.specs.FullLog.{first_index_or, full_log, same_log}
+use Rattle.raft_state.specs.FullLog.{first_index, full_log, same_log}
 use Rattle.raft_state.specs.LogReads.{last_id, last_two_share_leader, leader_count}
 use Rattle.raft_state.specs.LogEdits.{appended, extended, purged}
 use Rattle.raft_state.specs.LogConditions.{follows, all_follow, ends_share_leader}
@@ -70,13 +70,13 @@ module _ {C : Type 0} (cmp : C → C → Ordering) (eq : C → C → Bool) (tota
   purge_keeps ks upto s = are_keys cmp (purged_keys ks upto) (purge_stays cmp (itself cmp eq total law) ks upto s)
 
   -- a purge leaves a log from the greater of the two indexes on
-  pub purge_begins : (ks : List (LogIdOf C)) (upto : LogIdOf C) → IsKeyList cmp ks → first_index_or (full_log (purged_keys ks upto)) 0 ≡ max (first_index_or (full_log ks) 0) upto.index
+  pub purge_begins : (ks : List (LogIdOf C)) (upto : LogIdOf C) → IsKeyList cmp ks → first_index (full_log (purged_keys ks upto)) ≡ max (first_index (full_log ks)) upto.index
   purge_begins ks upto s =
       first_full cmp (purged_keys ks upto) 0 (purge_stays cmp (itself cmp eq total law) ks upto s)
       ∙ purged_first cmp ks upto s ∙ ap (λ i. max i upto.index) (sym (first_full cmp ks 0 s))
 
-  pub purged_begins : (ks : List (LogIdOf C)) (upto : LogIdOf C) → IsKeyList cmp ks → first_index_or (purged (full_log ks) upto) 0 ≡ max (first_index_or (full_log ks) 0) upto.index
-  purged_begins ks upto s = ap (λ log. first_index_or log 0) (sym (full_purged cmp ks upto s)) ∙ purge_begins ks upto s
+  pub purged_log_begins : (ks : List (LogIdOf C)) (upto : LogIdOf C) → IsKeyList cmp ks → first_index (purged (full_log ks) upto) ≡ max (first_index (full_log ks)) upto.index
+  purged_log_begins ks upto s = ap first_index (sym (full_purged cmp ks upto s)) ∙ purge_begins ks upto s
 
   -- two key lists are equal exactly where their full logs are
   pub keys_decide : (ks ls : List (LogIdOf C)) → IsKeyList cmp ks → IsKeyList cmp ls → same_log eq ks ls ≡ same_log eq (full_log ks) (full_log ls)

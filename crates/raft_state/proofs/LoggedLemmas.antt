@@ -1,19 +1,20 @@
 -- The keys of a log with the purge point in it show a log that has all its log ids from there on.
-use Rattle.std.proofs.Common.{◌≡◌, ℕ, suc, ◌+◌, ◌<◌, ◌≤◌, Bool, true, false, nat_lt, nat_le, ◌==◌, if◌then◌else◌, List, [], ◌∷◌, Option, Some, None, IsTrue, refl, sym, ap, subst, arith, ◌⊎◌, inl, inr, ◌∙◌}
+use Rattle.std.proofs.Common.{◌≡◌, ℕ, suc, ◌+◌, ◌<◌, ◌≤◌, Bool, true, false, nat_lt, nat_le, ◌==◌, if◌then◌else◌, List, [], ◌∷◌, Option, Some, None, IsTrue, refl, sym, ap, subst, arith, inl, inr, ◌∙◌}
 use Rattle.std.specs.Option.{is_some, option_or}
 use Rattle.std.specs.declared.cmp.Ordering.{Ordering}
 use Rattle.std.specs.declared.cmp.Ordering.TheVariants.{Less, Equal, Greater}
 use Rattle.std.specs.Ordering.{nat_cmp, is_le, is_lt, ordering_then}
 use Rattle.std.specs.Cmp.{IsTotalOrder}
-use Rattle.std.proofs.lemmas.Cmp.{tied_itself}
 use Rattle.std.proofs.lemmas.Bool.{cases_lt}
 use Rattle.std.proofs.lemmas.Bool.Decides.{nat_tests}
 use Rattle.raft_base.specs.declared.log_id.LogIdOf.{LogIdOf}
-use Rattle.raft_state.specs.FullLog.{full_log, first_index_or, end_index}
+use Rattle.raft_state.specs.FullLog.{full_log, first_index, end_index}
 use Rattle.raft_state.specs.LogReads.{id_at, first_id, last_id}
 use Rattle.raft_state.proofs.KeyListLemmas.{IsKeyList}
 use Rattle.raft_state.proofs.FullLogLemmas.{at_full, covering, covers, covers_none}
 use Rattle.raft_state.proofs.CutLemmas.{last_full, first_full}
+use Rattle.raft_state.proofs.EqualLemmas.{tail_keys}
+use Rattle.raft_progress.proofs.RecountLemmas.{AtMost-refl, AtMost-trans}
 use Rattle.raft_base.specs.LogId.{next_index, id_le, index_of, same_ids}
 use Rattle.raft_base.specs.LogIndex.{index_le}
 use Rattle.raft_base.specs.LogView.{LogView, prev_id}
@@ -26,12 +27,8 @@ log_of_keys keys purge rest = record rest { id_at = id_at (full_log keys); last 
 
 -- the purge point is in the log; where there is none, the log begins at index 0
 abbrev pub PurgeIn : {C : Type 0} → List (LogIdOf C) → Option (LogIdOf C) → Type 0
-PurgeIn keys None = first_index_or (full_log keys) 0 ≡ 0
+PurgeIn keys None = first_index (full_log keys) ≡ 0
 PurgeIn keys (Some upto) = IsTrue (is_some (id_at (full_log keys) upto.index))
-
-tail_keys : {C : Type 0} (cmp : C → C → Ordering) (k l : LogIdOf C) (ks : List (LogIdOf C)) → IsKeyList cmp (k ∷ l ∷ ks) → IsKeyList cmp (l ∷ ks)
-tail_keys cmp k l [] s = tt
-tail_keys cmp k l (m ∷ ks) s = s.2
 
 pub step_keys : {C : Type 0} (cmp : C → C → Ordering) (k l : LogIdOf C) (ks : List (LogIdOf C)) → IsKeyList cmp (k ∷ l ∷ ks) → (k.index < l.index) × IsTrue (is_le (cmp k.leader_id l.leader_id))
 step_keys cmp k l [] s = s
@@ -41,9 +38,6 @@ step_keys cmp k l (m ∷ ks) s = (s.0, lt_le (cmp k.leader_id l.leader_id) s.1)
     lt_le Less h = refl
     lt_le Equal h = cc
     lt_le Greater h = cc
-
-next_last : {C : Type 0} (ks : List (LogIdOf C)) → next_index (last_id ks) ≡ end_index ks
-next_last ks = refl
 
 whole : {C : Type 0} (k : LogIdOf C) (ks : List (LogIdOf C)) (j : ℕ) → k.index ≤ j → covering (k ∷ ks) j ≡ option_or (covering ks j) (Some k)
 whole k ks j le = let t : nat_le k.index j ≡ true = grind (arith, nat_tests) in rw t refl
@@ -67,23 +61,7 @@ le_than Less i j h lt = refl
 le_than Equal i j h lt = grind (arith, nat_tests)
 le_than Greater i j h lt = cc
 
-le_split : (o : Ordering) → is_le o ≡ true → (o ≡ Less) ⊎ (o ≡ Equal)
-le_split Less h = inl refl
-le_split Equal h = inr refl
-le_split Greater h = cc
-
 module _ {C : Type 0} (cmp : C → C → Ordering) (total : IsTotalOrder cmp) where
-  pub le_trans : (a b c : C) → is_le (cmp a b) ≡ true → is_le (cmp b c) ≡ true → is_le (cmp a c) ≡ true
-  le_trans a b c h g = elim (le_split (cmp a b) h) [
-    | inr same ↦ rw (total.congr a b c same) g
-    | inl less ↦ elim (le_split (cmp b c) g) [
-      | inl more ↦ rw (total.trans a b c less more) refl
-      | inr same ↦ (let s : cmp c b ≡ Equal = rw (total.antisymm c b, same) refl in
-          let t : cmp c a ≡ cmp b a = total.congr c b a s in
-          rw (total.antisymm a c, t, ← total.antisymm a b, less) refl)
-    ]
-  ]
-
   -- a later index has no lesser leader
   first_le : (k : LogIdOf C) (ks : List (LogIdOf C)) (j : ℕ) (c : LogIdOf C) → IsKeyList cmp (k ∷ ks) → covering ks j ≡ Some c → is_le (cmp k.leader_id c.leader_id) ≡ true
   first_le k [] j c s e = cc
@@ -94,16 +72,13 @@ module _ {C : Type 0} (cmp : C → C → Ordering) (total : IsTotalOrder cmp) wh
     where
       by_rest : ((d : LogIdOf C) → covering ks j ≡ Some d → is_le (cmp l.leader_id d.leader_id) ≡ true) → (o : Option (LogIdOf C)) → o ≡ covering ks j → option_or o (Some l) ≡ Some c → is_le (cmp k.leader_id c.leader_id) ≡ true
       by_rest more None is e = let f : l ≡ c = cc in subst (λ (x : LogIdOf C). is_le (cmp k.leader_id x.leader_id) ≡ true) f (step_keys cmp k l ks s).1
-      by_rest more (Some d) is e = let f : d ≡ c = cc in subst (λ (x : LogIdOf C). is_le (cmp k.leader_id x.leader_id) ≡ true) f (le_trans k.leader_id l.leader_id d.leader_id (step_keys cmp k l ks s).1 (more d (sym is)))
-
-  pub itself : (c : C) → is_le (cmp c c) ≡ true
-  itself c = rw (tied_itself total c) refl
+      by_rest more (Some d) is e = let f : d ≡ c = cc in subst (λ (x : LogIdOf C). is_le (cmp k.leader_id x.leader_id) ≡ true) f (AtMost-trans total k.leader_id l.leader_id d.leader_id (step_keys cmp k l ks s).1 (more d (sym is)))
 
   rising_le : (ks : List (LogIdOf C)) (i j : ℕ) (a b : LogIdOf C) → IsKeyList cmp ks → covering ks i ≡ Some a → covering ks j ≡ Some b → i < j → is_le (cmp a.leader_id b.leader_id) ≡ true
   rising_le [] i j a b s p q lt = cc
   rising_le (k ∷ []) i j a b s p q lt = elim (cases_lt i k.index) [
     | inl below ↦ (let n = covers_none k [] i below in cc)
-    | inr past ↦ (let f : k ≡ a = (let w = whole k [] i past in cc) in let g : k ≡ b = (let w = whole k [] j (omega arith) in cc) in rw (← f, ← g) (itself k.leader_id))
+    | inr past ↦ (let f : k ≡ a = (let w = whole k [] i past in cc) in let g : k ≡ b = (let w = whole k [] j (omega arith) in cc) in rw (← f, ← g) (AtMost-refl total k.leader_id))
   ]
   rising_le (k ∷ l ∷ ks) i j a b s p q lt = elim (cases_lt i k.index) [
     | inl early ↦ (let n = covers_none k (l ∷ ks) i early in cc)
@@ -113,7 +88,7 @@ module _ {C : Type 0} (cmp : C → C → Ordering) (total : IsTotalOrder cmp) wh
           | inl below ↦ (let n = covers_none l ks i below in
               let f : k ≡ a = some_inside k a (rw n at (sym wi ∙ p)) in
               elim (cases_lt j l.index) [
-                | inl also ↦ (let m = covers_none l ks j also in let g : k ≡ b = some_inside k b (rw m at (sym wj ∙ q)) in rw (← f, ← g) (itself k.leader_id))
+                | inl also ↦ (let m = covers_none l ks j also in let g : k ≡ b = some_inside k b (rw m at (sym wj ∙ q)) in rw (← f, ← g) (AtMost-refl total k.leader_id))
                 | inr past ↦ (let d = covers l ks j past in let g : d.0 ≡ b = some_inside d.0 b (rw d.1 at (sym wj ∙ q)) in
                     rw (← f) (first_le k (l ∷ ks) j b s (d.1 ∙ ap Some g)))
               ])
@@ -154,10 +129,10 @@ logged_keys cmp total [] (Some u) rest s inside = cc
 logged_keys {C} cmp total (k ∷ ks) purge rest s inside =
     let low = purge_low cmp total k ks purge s inside in
     let low1 = low.1 in
-    let l : next_index (last_id (full_log (k ∷ ks))) ≡ end_index (k ∷ ks) = ap next_index (last_full cmp (k ∷ ks) s) ∙ next_last (k ∷ ks) in
+    let l : next_index (last_id (full_log (k ∷ ks))) ≡ end_index (k ∷ ks) = ap next_index (last_full cmp (k ∷ ks) s) in
     let y = last_covers cmp total k ks s in
     let n1 : next_index (last_id (k ∷ ks)) ≡ y.0.index + 1 = rw y.1 refl in
-    let n2 = next_last (k ∷ ks) in
+    let n2 : next_index (last_id (k ∷ ks)) ≡ end_index (k ∷ ks) = refl in
     let n : end_index (k ∷ ks) ≡ suc y.0.index = omega arith in
     record {
       purged = omega arith;
@@ -181,7 +156,7 @@ at_zero i h = grind (arith, nat_tests)
 -- where nothing is to be purged, the log of a valid state begins at index 0
 pub begins : {C : Type 0} (cmp : C → C → Ordering) (next : ℕ) (log : List (LogIdOf C)) (t : Bool) → t ≡ (next == 0)
     → (if t then index_le (index_of (first_id log)) (Some 0) else next_index (first_id log) == next) ≡ true
-    → id_le cmp (if t then None else first_id log) None ≡ true → first_index_or log 0 ≡ 0
+    → id_le cmp (if t then None else first_id log) None ≡ true → first_index log ≡ 0
 begins cmp next [] t e h k = refl
 begins cmp next (x ∷ xs) true e h k = at_zero x.index h
 begins cmp next (x ∷ xs) false e h k = cc

@@ -10,7 +10,8 @@ use Rattle.raft_state.proofs.KeyListLemmas.{IsKeyList}
 use Rattle.raft_state.specs.LogOrder.{AreConsecutive, LeadersNeverFall}
 use Rattle.raft_state.proofs.CutLemmas.{first_full, one_key}
 use Rattle.raft_state.proofs.EqualLemmas.{rises_once, tail_keys}
-use Rattle.raft_state.proofs.LoggedLemmas.{itself, le_trans, step_keys}
+use Rattle.raft_state.proofs.LoggedLemmas.{step_keys}
+use Rattle.raft_progress.proofs.RecountLemmas.{AtMost-refl, AtMost-trans}
 
 -- consecutive indexes from i on
 abbrev From : {C : Type 0} → ℕ → List (LogIdOf C) → Type 0
@@ -46,7 +47,7 @@ module _ {C : Type 0} (cmp : C → C → Ordering) (total : IsTotalOrder cmp) wh
 
   above_ids : (b c : C) (i n : ℕ) (ys : List (LogIdOf C)) → IsTrue (is_le (cmp b c)) → Above c ys → ((d : C) → IsTrue (is_le (cmp d c)) → Above d ys) → Above b (ids_of c i n ++ ys)
   above_ids b c i zero ys le h lower = lower b le
-  above_ids b c i (suc n) ys le h lower = (le, above_ids c c (i + 1) n ys (itself cmp total c) h lower)
+  above_ids b c i (suc n) ys le h lower = (le, above_ids c c (i + 1) n ys (AtMost-refl total c) h lower)
 
   above_full : (b : C) (k : LogIdOf C) (ks : List (LogIdOf C)) → IsKeyList cmp (k ∷ ks) → IsTrue (is_le (cmp b k.leader_id)) → Above b (full_log (k ∷ ks))
   above_full b k [] s le = rw (one_key k) (le, tt)
@@ -54,12 +55,12 @@ module _ {C : Type 0} (cmp : C → C → Ordering) (total : IsTotalOrder cmp) wh
       let t = tail_keys cmp k l ks s in
       let step = (step_keys cmp k l ks s).1 in
       above_ids b k.leader_id k.index (l.index - k.index) (full_log (l ∷ ks)) le (above_full k.leader_id l ks t step)
-      (λ d low. above_full d l ks t (le_trans cmp total d k.leader_id l.leader_id low step))
+      (λ d low. above_full d l ks t (AtMost-trans total d k.leader_id l.leader_id low step))
 
   above_place : (c : C) (xs : List (LogIdOf C)) (n : ℕ) (b : LogIdOf C) → Above c xs → slice_get xs n ≡ Some b → IsTrue (is_le (cmp c b.leader_id))
   above_place c [] n b h e = cc
   above_place c (x ∷ xs) zero b h e = let f : x ≡ b = cc in subst (λ (y : LogIdOf C). IsTrue (is_le (cmp c y.leader_id))) f h.0
-  above_place c (x ∷ xs) (suc n) b h e = le_trans cmp total c x.leader_id b.leader_id h.0 (above_place x.leader_id xs n b h.1 e)
+  above_place c (x ∷ xs) (suc n) b h e = AtMost-trans total c x.leader_id b.leader_id h.0 (above_place x.leader_id xs n b h.1 e)
 
   above_places : (c : C) (xs : List (LogIdOf C)) (m n : ℕ) (a b : LogIdOf C) → Above c xs → m < n → slice_get xs m ≡ Some a → slice_get xs n ≡ Some b → IsTrue (is_le (cmp a.leader_id b.leader_id))
   above_places c [] m n a b h lt e f = cc
@@ -69,4 +70,4 @@ module _ {C : Type 0} (cmp : C → C → Ordering) (total : IsTotalOrder cmp) wh
 
   pub never_fall : (ks : List (LogIdOf C)) → IsKeyList cmp ks → LeadersNeverFall cmp (full_log ks)
   never_fall [] s m n a b lt e f = cc
-  never_fall (k ∷ ks) s m n a b lt e f = above_places k.leader_id (full_log (k ∷ ks)) m n a b (above_full k.leader_id k ks s (itself cmp total k.leader_id)) lt e f
+  never_fall (k ∷ ks) s m n a b lt e f = above_places k.leader_id (full_log (k ∷ ks)) m n a b (above_full k.leader_id k ks s (AtMost-refl total k.leader_id)) lt e f

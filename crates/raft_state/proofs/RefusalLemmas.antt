@@ -1,4 +1,4 @@
--- A change of the membership in effect that is refused is refused alike over a node's leader ids.
+-- A change of the effective membership that is refused is refused alike over a node's leader ids.
 use Rattle.std.proofs.Common.{◌≡◌, Bool, Option, Some, None, ap, sym, ◌∙◌}
 use Rattle.std.specs.Option.{IfSome}
 use Rattle.std.specs.declared.cmp.Ordering.{Ordering}

@@ -100,9 +100,6 @@ module _ {ID C QS : Type 0} {eq : ID → ID → Bool} (e : IsEquivalence eq) (cm
     pub caught : (id : ID) → is_member eq ran id ≡ true → IsCaughtUp eq same_leader log now id
 
   module _ (same_leader : C → C → Bool) (old : Followers ID C QS) (pairs : List (ID × ℕ)) where
-    pub along_start : Along same_leader old pairs 0 old pairs
-    along_start = record { ran = []; counted = refl; on = λ more last r. r; caught = λ id h. cc }
-
     pub along_over : (count : ℕ) (now : Followers ID C QS) (pair : ID × ℕ) (left : List (ID × ℕ)) (next : Followers ID C QS) → Along same_leader old pairs count now (pair ∷ left)
         → Visits eq cmp has_quorum log n can now pair.0 pair.1 false next → Along same_leader old pairs count next left
     along_over count now pair left next a v = record {

@@ -1,19 +1,15 @@
 -- Logs that are the same stay so under each edit, and show equal log ids.
 use Rattle.std.proofs.Common.{◌≡◌, ℕ, ◌+◌, ◌==◌, Bool, true, false, ◌&&◌, List, [], ◌∷◌, filter, if◌then◌else◌, IsTrue, Some, nat_eq, nat_lt, nat_le, refl, ap, arith, ◌∙◌}
 use Rattle.std.proofs.lemmas.Bool.Decides.{nat_tests}
-use Rattle.std.specs.Cmp.{IsEquivalence, and_equiv, on_equiv, nat_eq_equiv}
-use Rattle.std.specs.Cmp.Lexicographic.{lists_equiv}
+use Rattle.std.specs.Cmp.{IsEquivalence}
 use Rattle.raft_base.specs.LogId.{same_ids}
 use Rattle.raft_base.specs.declared.log_id.LogIdOf.{LogIdOf}
-use Rattle.raft_state.specs.FullLog.{end_index, first_index_or, same_log}
+use Rattle.raft_state.specs.FullLog.{end_index, first_index, first_index_or, same_log}
 use Rattle.raft_state.specs.LogEdits.{appended, extended, front, purged, rest}
 use Rattle.raft_state.specs.LogReads.{first_id, id_at, last_id}
 use Rattle.raft_state.specs.SameLog.{FindsSame, KeepsSame}
 use Rattle.raft_state.proofs.ExtendLemmas.{same_appended, same_extended}
 use Rattle.raft_state.proofs.SameLogLemmas.{SameLog, both_true, is_same, says_same}
-
-pub same_log-equiv : {C : Type 0} {eq : C → C → Bool} → IsEquivalence eq → IsEquivalence (same_log eq)
-same_log-equiv e = lists_equiv (and_equiv (on_equiv (λ k. k.leader_id) e) (on_equiv (λ k. k.index) nat_eq_equiv))
 
 module _ {C : Type 0} (eq : C → C → Bool) where
   same_some : (x y : LogIdOf C) → IsTrue (eq x.leader_id y.leader_id) → x.index ≡ y.index → IsTrue (eq x.leader_id y.leader_id && nat_eq x.index y.index)
@@ -55,7 +51,7 @@ module _ {C : Type 0} (eq : C → C → Bool) where
   same_purged : (same : (c : C) → eq c c ≡ true) (xs ys : List (LogIdOf C)) (upto : LogIdOf C) → SameLog eq xs ys → SameLog eq (purged xs upto) (purged ys upto)
   same_purged same xs ys upto h =
       rw (same_end_index xs ys h, same_first_index xs ys 0 h)
-      (same_tests same (nat_le (end_index ys) upto.index) (nat_lt upto.index (first_index_or ys 0)) upto xs ys (rest xs upto.index) (rest ys upto.index) h (same_filter (nat_le upto.index) xs ys h))
+      (same_tests same (nat_le (end_index ys) upto.index) (nat_lt upto.index (first_index ys)) upto xs ys (rest xs upto.index) (rest ys upto.index) h (same_filter (nat_le upto.index) xs ys h))
 
   -- what is read
   found : (t : Bool) (x y : LogIdOf C) (i : ℕ) (us vs : List (LogIdOf C)) → IsTrue (eq x.leader_id y.leader_id) → x.index ≡ y.index → IsTrue (same_ids eq (id_at us i) (id_at vs i)) → IsTrue (same_ids eq (if t then Some x else id_at us i) (if t then Some y else id_at vs i))

@@ -18,5 +18,7 @@ abbrev pub accepted_id : {L C : Type 0} → (L → L → Bool) → AcceptedIn L 
 accepted_id eq accepted leader = if eq leader accepted.leader_id then accepted.log_id else None
 
 -- a greater log id of this leader takes the place of what was accepted
-abbrev pub after_accept : {L C : Type 0} → (L → L → Bool) → (C → C → Ordering) → AcceptedIn L C → L → Option (LogIdOf C) → AcceptedIn L C
-after_accept eq cmp accepted leader id = if id_lt cmp (accepted_id eq accepted leader) id then accepted_from leader id else accepted
+abbrev pub after_accept : {L C : Type 0} → (L → L → Bool) → (C → C → Ordering) → AcceptedIn L C → L
+    → Option (LogIdOf C) → AcceptedIn L C
+after_accept eq cmp accepted leader id =
+    if id_lt cmp (accepted_id eq accepted leader) id then accepted_from leader id else accepted

@@ -1,4 +1,4 @@
--- What a change makes of the membership in effect, and when it is refused.
+-- What a change makes of the effective membership, and when it is refused.
 use Rattle.std.specs.Prelude.{◌≡◌, Bool, Option, Some, None, if◌then◌else◌}
 use Rattle.std.specs.declared.cmp.Ordering.{Ordering}
 use Rattle.raft_members.specs.Change.{changed}
@@ -12,12 +12,12 @@ use Rattle.raft_members.specs.declared.error.InProgressOf.{InProgressOf}
 use Rattle.raft_state.specs.MembershipMoves.{is_effective_committed}
 use Rattle.raft_state.specs.Memberships.{Memberships, in_effect}
 
--- what a change makes of the membership in effect; with `retain` voters that go stay as learners
+-- what a change makes of the effective membership; with `retain` voters that go stay as learners
 abbrev pub applied : {C K N : Type 0} → (K → K → Bool) → (K → K → Ordering) → Memberships C K N
     → ChangeMembers K N → (retain : Bool) → Members K N
 applied eq cmp m change retain = changed eq cmp (members_of cmp (in_effect m)) change retain
 
--- the refusal while the membership in effect is not committed
+-- the refusal while the effective membership is not committed
 abbrev pub in_progress : {C K N : Type 0} → (C → C → Bool) → Memberships C K N
     → Option (InProgressOf C)
 in_progress leader m =

@@ -18,7 +18,8 @@ payload_membership (Normal d) = None
 payload_membership (Membership m) = Some m
 
 -- two payloads are equal: both blank, or of equal data, or of equal memberships
-abbrev pub same_payload : {K N D : Type 0} → (K → K → Bool) → (N → N → Bool) → (D → D → Bool) → EntryPayload K N D → EntryPayload K N D → Bool
+abbrev pub same_payload : {K N D : Type 0} → (K → K → Bool) → (N → N → Bool) → (D → D → Bool)
+    → EntryPayload K N D → EntryPayload K N D → Bool
 same_payload eq same eq_data Blank Blank = true
 same_payload eq same eq_data Blank (Normal e) = false
 same_payload eq same eq_data Blank (Membership w) = false

@@ -15,16 +15,22 @@ abbrev pub first_index_or : {C : Type 0} → List (LogIdOf C) → ℕ → ℕ
 first_index_or [] e = e
 first_index_or (k ∷ ks) e = k.index
 
+-- the index of the first of these log ids, 0 where there is none
+abbrev pub first_index : {C : Type 0} → List (LogIdOf C) → ℕ
+first_index log = first_index_or log 0
+
 -- the index after that of the last of these log ids, 0 where there is none
 abbrev pub end_index : {C : Type 0} → List (LogIdOf C) → ℕ
 end_index log = next_index (last_id log)
 
--- the log ids from the first key's index up to below e: each key's leader has the indexes up to the next key
+-- the log ids from the first key's index up to below e: each key's leader
+-- has the indexes up to the next key
 abbrev pub filled : {C : Type 0} → List (LogIdOf C) → ℕ → List (LogIdOf C)
 filled [] e = []
 filled (k ∷ ks) e = ids_of k.leader_id k.index (first_index_or ks e - k.index) ++ filled ks e
 
--- the full log of keys: at each index from the first key's to the last key's, the leader of the last key not past it
+-- the full log of keys: at each index from the first key's to the last key's, the
+-- leader of the last key not past it
 abbrev pub full_log : {C : Type 0} → List (LogIdOf C) → List (LogIdOf C)
 full_log keys = filled keys (end_index keys)
 

@@ -1,9 +1,14 @@
 -- That full logs are the same has the laws of equality.
 use Rattle.std.specs.Prelude.{Bool, List}
-use Rattle.std.specs.Cmp.{IsEquivalence, and_equiv, on_equiv, nat_eq_equiv}
+use Rattle.std.specs.Cmp.{IsEquivalence, on_equiv}
 use Rattle.std.specs.Cmp.Lexicographic.{lists_equiv}
+use Rattle.raft_base.specs.LogIdLaws.{same_id-equiv}
 use Rattle.raft_base.specs.declared.log_id.LogIdOf.{LogIdOf}
 use Rattle.raft_state.specs.FullLog.{full_log, same_log}
 
+pub same_log-equiv : {C : Type 0} {eq : C → C → Bool} → IsEquivalence eq → IsEquivalence (same_log eq)
+same_log-equiv e = lists_equiv (same_id-equiv e)
+
+-- and with them that logs of keys are
 pub same_full_log-equiv : {C : Type 0} {eq : C → C → Bool} → IsEquivalence eq → IsEquivalence (λ (a b : List (LogIdOf C)). same_log eq (full_log a) (full_log b))
-same_full_log-equiv e = on_equiv full_log (lists_equiv (and_equiv (on_equiv (λ k. k.leader_id) e) (on_equiv (λ k. k.index) nat_eq_equiv)))
+same_full_log-equiv e = on_equiv full_log (same_log-equiv e)

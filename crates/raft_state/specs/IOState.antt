@@ -6,8 +6,17 @@ use Rattle.raft_state.specs.declared.io_state.IOStateIn.{IOStateIn}
 use Rattle.raft_state.specs.declared.io_state.log_io_id.LogIOIdOf.{LogIOIdOf}
 
 -- whether a snapshot is being built, and the fields that all can read
-abbrev pub io_state : {L C : Type 0} → Bool → VoteIn L → LogIOIdOf C → Option (LogIdOf C) → Option (LogIdOf C) → Option (LogIdOf C) → IOStateIn L C
-io_state building vote flushed applied snapshot purged = record { building_snapshot = building; vote = vote; flushed = flushed; applied = applied; snapshot = snapshot; purged = purged }
+abbrev pub io_state : {L C : Type 0} → Bool → VoteIn L → LogIOIdOf C → Option (LogIdOf C)
+    → Option (LogIdOf C) → Option (LogIdOf C) → IOStateIn L C
+io_state building vote flushed applied snapshot purged =
+    record {
+      building_snapshot = building;
+      vote = vote;
+      flushed = flushed;
+      applied = applied;
+      snapshot = snapshot;
+      purged = purged;
+    }
 
 -- whether a snapshot is being built
 abbrev pub is_building : {L C : Type 0} → IOStateIn L C → Bool

@@ -1,7 +1,7 @@
 -- What the calls of a list do to its full log.
 use Rattle.std.specs.Prelude.{ℕ, ◌+◌, ◌-◌, nat_lt, nat_le, List, [], ◌∷◌, ◌++◌, filter, if◌then◌else◌}
 use Rattle.raft_base.specs.declared.log_id.LogIdOf.{LogIdOf}
-use Rattle.raft_state.specs.FullLog.{ids_of, first_index_or, end_index}
+use Rattle.raft_state.specs.FullLog.{ids_of, first_index, end_index}
 
 -- the last leader's log ids at the indexes that are missing before index i
 abbrev pub missing : {C : Type 0} → List (LogIdOf C) → ℕ → List (LogIdOf C)
@@ -26,9 +26,9 @@ front log a = filter (λ id. nat_lt id.index a) log
 abbrev pub rest : {C : Type 0} → List (LogIdOf C) → ℕ → List (LogIdOf C)
 rest log a = filter (λ id. nat_le a id.index) log
 
--- what a purge leaves: past the last index or of an empty log the log id alone; below the first index all; else
--- the rest from its index on, under the leaders of the log
+-- what a purge leaves: past the last index or of an empty log the log id alone; below the first
+-- index all; else the rest from its index on, under the leaders of the log
 abbrev pub purged : {C : Type 0} → List (LogIdOf C) → LogIdOf C → List (LogIdOf C)
 purged log upto =
     if nat_le (end_index log) upto.index then upto ∷ []
-    else (if nat_lt upto.index (first_index_or log 0) then log else rest log upto.index)
+    else (if nat_lt upto.index (first_index log) then log else rest log upto.index)

@@ -27,7 +27,8 @@ last_two_share_leader eq (k ∷ l ∷ m ∷ ks) = last_two_share_leader eq (l �
 -- how often the leader changes along these log ids, which come after one of leader c
 abbrev pub leader_changes : {C : Type 0} → (C → C → Bool) → C → List (LogIdOf C) → ℕ
 leader_changes eq c [] = 0
-leader_changes eq c (id ∷ ids) = (if eq c id.leader_id then 0 else 1) + leader_changes eq id.leader_id ids
+leader_changes eq c (id ∷ ids) =
+    (if eq c id.leader_id then 0 else 1) + leader_changes eq id.leader_id ids
 
 -- how many leaders a log has, one after the other
 abbrev pub leader_count : {C : Type 0} → (C → C → Bool) → List (LogIdOf C) → ℕ

@@ -1,4 +1,5 @@
--- What a commit, an append, a truncation and a snapshot make of the two memberships. Log ids are ordered by leader, then by index, and an absent one is below each that is there.
+-- What a commit, an append, a truncation and a snapshot make of the two memberships. Log ids are
+-- ordered by leader, then by index, and an absent one is below each that is there.
 use Rattle.std.specs.Prelude.{ℕ, Bool, true, not, ◌&&◌, ◌||◌, Option, Some, None, if◌then◌else◌}
 use Rattle.std.specs.declared.cmp.Ordering.{Ordering}
 use Rattle.raft_base.specs.declared.log_id.LogIdOf.{LogIdOf}
@@ -10,39 +11,52 @@ use Rattle.raft_members.specs.declared.membership.stored.StoredMembershipOf.{Sto
 use Rattle.raft_state.specs.Memberships.{Memberships, in_effect, index_at}
 
 -- a log that is committed up to a log id has the effective membership in it
-abbrev pub commits : {C K N : Type 0} → (C → C → Ordering) → Option (LogIdOf C) → Memberships C K N → Bool
+abbrev pub commits : {C K N : Type 0} → (C → C → Ordering) → Option (LogIdOf C) → Memberships C K N
+    → Bool
 commits cmp upto m = id_le cmp (log_id_of m.effective) upto
 
 -- the effective membership is committed where the log is committed up to it
-abbrev pub after_commit : {C K N : Type 0} → (C → C → Ordering) → Option (LogIdOf C) → Memberships C K N → Memberships C K N
-after_commit cmp upto m = if commits cmp upto m then record { committed = m.effective; effective = m.effective } else m
+abbrev pub after_commit : {C K N : Type 0} → (C → C → Ordering) → Option (LogIdOf C)
+    → Memberships C K N → Memberships C K N
+after_commit cmp upto m =
+    if commits cmp upto m then record { committed = m.effective; effective = m.effective } else m
 
 -- a log id that commits the effective membership has no lesser index
-abbrev pub may_commit : {C K N : Type 0} → (C → C → Ordering) → Option (LogIdOf C) → Memberships C K N → Bool
-may_commit cmp upto m = if commits cmp upto m then index_le (index_at m.effective) (index_of upto) else true
+abbrev pub may_commit : {C K N : Type 0} → (C → C → Ordering) → Option (LogIdOf C)
+    → Memberships C K N → Bool
+may_commit cmp upto m =
+    if commits cmp upto m then index_le (index_at m.effective) (index_of upto) else true
 
--- a new membership is in effect, and the one before it is committed: at most one is not
-abbrev pub after_append : {C K N : Type 0} → StoredMembershipOf C K N → Memberships C K N → Memberships C K N
+-- a new membership is effective, and the one before it is committed: at most one is not
+abbrev pub after_append : {C K N : Type 0} → StoredMembershipOf C K N → Memberships C K N
+    → Memberships C K N
 after_append new m = record { committed = m.effective; effective = new }
 
 -- a new membership has a greater log id and a greater index than the effective one
-abbrev pub may_append : {C K N : Type 0} → (C → C → Ordering) → StoredMembershipOf C K N → Memberships C K N → Bool
-may_append cmp new m = id_lt cmp (log_id_of m.effective) (log_id_of new) && index_lt (index_at m.effective) (index_at new)
+abbrev pub may_append : {C K N : Type 0} → (C → C → Ordering) → StoredMembershipOf C K N
+    → Memberships C K N → Bool
+may_append cmp new m =
+    id_lt cmp (log_id_of m.effective) (log_id_of new)
+    && index_lt (index_at m.effective) (index_at new)
 
 -- the effective membership is in the log from index `since` on
 abbrev pub is_cut : {C K N : Type 0} → ℕ → Memberships C K N → Bool
 is_cut since m = index_le (Some since) (index_at m.effective)
 
--- where it is cut off with that log, the committed one is in effect again
+-- where it is cut off with that log, the committed one is effective again
 abbrev pub after_truncate : {C K N : Type 0} → ℕ → Memberships C K N → Memberships C K N
-after_truncate since m = if is_cut since m then record { committed = m.committed; effective = m.committed } else m
+after_truncate since m =
+    if is_cut since m then record { committed = m.committed; effective = m.committed } else m
 
 -- a snapshot up to index `upto` has the effective membership in it
 abbrev pub is_covered : {C K N : Type 0} → ℕ → Memberships C K N → Bool
 is_covered upto m = index_le (index_at m.effective) (Some upto)
 
--- a committed membership comes with a snapshot up to index `upto`. Where the snapshot has the effective one in it, the new one is the only one left. Else it is in effect if its index is not lesser, and it is the committed one if its log id is greater
-abbrev pub after_update_committed : {C K N : Type 0} → (C → C → Ordering) → StoredMembershipOf C K N → ℕ → Memberships C K N → Memberships C K N
+-- a committed membership comes with a snapshot up to index `upto`. Where the snapshot has the
+-- effective one in it, the new one is the only one left. Else it is effective if its index is not
+-- lesser, and it is the committed one if its log id is greater
+abbrev pub after_update_committed : {C K N : Type 0} → (C → C → Ordering) → StoredMembershipOf C K N
+    → ℕ → Memberships C K N → Memberships C K N
 after_update_committed cmp new upto m =
     if is_covered upto m then record { committed = new; effective = new }
     else record {
@@ -51,11 +65,14 @@ after_update_committed cmp new upto m =
     }
 
 -- the new one takes the place of both
-abbrev pub replaces_both : {C K N : Type 0} → (C → C → Ordering) → StoredMembershipOf C K N → ℕ → Memberships C K N → Bool
+abbrev pub replaces_both : {C K N : Type 0} → (C → C → Ordering) → StoredMembershipOf C K N → ℕ
+    → Memberships C K N → Bool
 replaces_both cmp new upto m =
-    is_covered upto m || (index_le (index_at m.effective) (index_at new) && id_lt cmp (log_id_of m.committed) (log_id_of new))
+    is_covered upto m
+    || (index_le (index_at m.effective) (index_at new)
+    && id_lt cmp (log_id_of m.committed) (log_id_of new))
 
--- another membership is in effect than before
+-- another membership is effective than before
 abbrev pub effect_changes : {C K N : Type 0} → (K → K → Bool) → (N → N → Bool)
     → Memberships C K N → Memberships C K N → Bool
 effect_changes eq same old new = not (same_members eq same (in_effect new) (in_effect old))
@@ -65,5 +82,6 @@ abbrev pub is_effective_committed : {C K N : Type 0} → (C → C → Bool) → 
 is_effective_committed leader m = same_ids leader (log_id_of m.effective) (log_id_of m.committed)
 
 -- the effective membership where a call answers it, else nothing
-abbrev pub effective_where : {C K N : Type 0} → Bool → Memberships C K N → Option (StoredMembershipOf C K N)
+abbrev pub effective_where : {C K N : Type 0} → Bool → Memberships C K N
+    → Option (StoredMembershipOf C K N)
 effective_where answers m = if answers then Some m.effective else None

@@ -5,12 +5,12 @@ use Rattle.raft_members.specs.Members.{MemberList}
 use Rattle.raft_members.specs.Stored.{log_id_of, membership_of, same_stored}
 use Rattle.raft_members.specs.declared.membership.stored.StoredMembershipOf.{StoredMembershipOf}
 
--- the last committed membership, and the last one that the node has seen, which is in effect
+-- the last committed membership, and the last one that the node has seen, the effective one
 pub record Memberships (C K N : Type 0) : Type 0 where
   pub committed : StoredMembershipOf C K N
   pub effective : StoredMembershipOf C K N
 
--- the membership in effect: its configs and its nodes
+-- the effective membership: its configs and its nodes
 abbrev pub in_effect : {C K N : Type 0} → Memberships C K N → MemberList K N
 in_effect m = membership_of m.effective
 
@@ -19,8 +19,11 @@ abbrev pub index_at : {C K N : Type 0} → StoredMembershipOf C K N → Option �
 index_at stored = index_of (log_id_of stored)
 
 -- two pairs are equal if both memberships are, with their log ids
-abbrev pub same_memberships : {C K N : Type 0} → (C → C → Bool) → (K → K → Bool) → (N → N → Bool) → Memberships C K N → Memberships C K N → Bool
-same_memberships leader eq same a b = same_stored leader eq same a.committed b.committed && same_stored leader eq same a.effective b.effective
+abbrev pub same_memberships : {C K N : Type 0} → (C → C → Bool) → (K → K → Bool) → (N → N → Bool)
+    → Memberships C K N → Memberships C K N → Bool
+same_memberships leader eq same a b =
+    same_stored leader eq same a.committed b.committed
+    && same_stored leader eq same a.effective b.effective
 
 -- no membership is stored: there is no log id, no config and no node
 pub record IsNoMembership {C K N : Type 0} (stored : StoredMembershipOf C K N) : Type 0 where

@@ -2,10 +2,13 @@
 use Rattle.std.specs.Prelude.{◌+◌, ◌^◌, Bool, ◌&&◌, nat_le, nat_lt, List}
 use Rattle.std.specs.declared.cmp.Ordering.{Ordering}
 use Rattle.raft_base.specs.declared.log_id.LogIdOf.{LogIdOf}
-use Rattle.raft_state.specs.FullLog.{first_index_or}
+use Rattle.raft_state.specs.FullLog.{first_index}
 use Rattle.raft_state.specs.LogConditions.{may_be_purged_to}
 use Rattle.raft_state.specs.LogReads.{last_id}
 
--- the list may be purged to the log id, which is not below the first one by index, and has an index after it
+-- the list may be purged to the log id, which is not below the first one by
+-- index, and has an index after it
 abbrev pub may_purge : {C : Type 0} → (C → C → Ordering) → List (LogIdOf C) → LogIdOf C → Bool
-may_purge cmp log upto = may_be_purged_to cmp (last_id log) upto && nat_le (first_index_or log 0) upto.index && nat_lt (upto.index + 1) (2 ^ 64)
+may_purge cmp log upto =
+    may_be_purged_to cmp (last_id log) upto && nat_le (first_index log) upto.index
+    && nat_lt (upto.index + 1) (2 ^ 64)

@@ -34,8 +34,8 @@ module _ {ID C QS : Type 0} (eq : ID → ID → Bool) (cmp : C → C → Orderin
     pub cannot : ForSome ((state eq old).value id) (λ entry. can entry agree max_entries ≡ false)
     pub same : new ≡ old
 
-  -- a follower runs: it can be caught up, one update writes the end of its honest run, and all is in
-  -- order again
+  -- a follower runs: it can be caught up, one update writes the end of its
+  -- honest run, and all is in order again
   pub record HasRun (old : Followers ID C QS) (id : ID) (agree : ℕ)
       (new : Followers ID C QS) : Type 0 where
     pub entry : ProgressEntryOf C

@@ -10,15 +10,20 @@ use Rattle.raft_progress.specs.declared.entry.ProgressEntryOf.{ProgressEntryOf}
 use Rattle.raft_progress.specs.declared.inflight.InflightOf.{InflightOf}
 use Rattle.raft_progress.specs.declared.inflight.InflightOf.TheVariants.{None as Idle, Logs, Snapshot}
 
--- logs from the start of a send to its end, each end by its log id in the log and with its index; or the snapshot; and never nothing
+-- logs from the start of a send to its end, each end by its log id in the log and with its index;
+-- or the snapshot; and never nothing
 abbrev pub FromLog : {C : Type 0} → LogView C → ℕ → ProgressEntryOf C → InflightOf C → Type 0
 FromLog log max_entries entry Idle = ⊥
 FromLog log max_entries entry (Snapshot id last) = last ≡ log.snapshot
 FromLog log max_entries entry (Logs id range) =
-    (range.prev ≡ prev_id log.id_at (start_of entry log)) × (next_index range.prev ≡ start_of entry log)
-    × (range.last ≡ prev_id log.id_at (end_of entry log max_entries)) × (next_index range.last ≡ end_of entry log max_entries)
+    (range.prev ≡ prev_id log.id_at (start_of entry log))
+    × (next_index range.prev ≡ start_of entry log)
+    × (range.last ≡ prev_id log.id_at (end_of entry log max_entries))
+    × (next_index range.last ≡ end_of entry log max_entries)
 
 -- where nothing is in flight and a send may be made over such a log, what is sent is from the log
 abbrev pub SendsFromLog : {C : Type 0} → (C → C → Ordering) → Type 0
-SendsFromLog {C} cmp = (log : LogView C) (entry new : ProgressEntryOf C) (max_entries : ℕ) → Logged cmp log → IsTrue (is_idle entry.inflight) → IsTrue (can_be_sent entry log)
+SendsFromLog {C} cmp =
+    (log : LogView C) (entry new : ProgressEntryOf C) (max_entries : ℕ) → Logged cmp log
+    → IsTrue (is_idle entry.inflight) → IsTrue (can_be_sent entry log)
     → sent cmp entry log max_entries ≡ Ok new → FromLog log max_entries entry new.inflight

@@ -12,8 +12,10 @@ pub record IsNoSnapshot {C K N : Type 0} (meta : SnapshotMetaOf C K N) : Type 0 
   pub snapshot_id : string_bytes meta.snapshot_id ≡ []
 
 -- the same log ids and the same name, and an equal membership
-pub record IsSnapshotCopy {C K N : Type 0} (eq : K → K → Bool) (same : N → N → Bool) (meta copy : SnapshotMetaOf C K N) : Type 0 where
+pub record IsSnapshotCopy {C K N : Type 0} (eq : K → K → Bool) (same : N → N → Bool)
+    (meta copy : SnapshotMetaOf C K N) : Type 0 where
   pub last_log_id : copy.last_log_id ≡ meta.last_log_id
   pub log_id : log_id_of copy.last_membership ≡ log_id_of meta.last_membership
-  pub membership : IsTrue (same_members eq same (membership_of meta.last_membership) (membership_of copy.last_membership))
+  pub membership : IsTrue (same_members eq same
+      (membership_of meta.last_membership) (membership_of copy.last_membership))
   pub snapshot_id : string_bytes copy.snapshot_id ≡ string_bytes meta.snapshot_id

@@ -14,17 +14,22 @@ use Rattle.raft_state.specs.MembershipRelations.{membership_relations}
 use Rattle.raft_state.specs.StateView.{view_of}
 use Rattle.raft_state.specs.declared.raft_state.RaftStateIn.{RaftStateIn}
 
--- nothing was purged, and the log is empty or begins at index 0; or it begins at the index before `purged_next`
+-- nothing was purged, and the log is empty or begins at index 0; or it begins
+-- at the index before `purged_next`
 abbrev pub fits_purged_next : {C : Type 0} → ℕ → Option (LogIdOf C) → Bool
-fits_purged_next next first = if next == 0 then index_le (index_of first) (Some 0) else next_index first == next
+fits_purged_next next first =
+    if next == 0 then index_le (index_of first) (Some 0) else next_index first == next
 
 -- the purge point is not past the snapshot, and without a snapshot not past what is committed
-abbrev pub upto_relation : {C : Type 0} → (C → C → Ordering) → Option (LogIdOf C) → Option (LogIdOf C) → Option (LogIdOf C) → Bool × Invalid
+abbrev pub upto_relation : {C : Type 0} → (C → C → Ordering) → Option (LogIdOf C)
+    → Option (LogIdOf C) → Option (LogIdOf C) → Bool × Invalid
 upto_relation cmp upto committed None = (id_le cmp upto committed, UptoPastCommitted)
-upto_relation cmp upto committed (Some snapshot) = (id_le cmp upto (Some snapshot), UptoPastSnapshot)
+upto_relation cmp upto committed (Some snapshot) =
+    (id_le cmp upto (Some snapshot), UptoPastSnapshot)
 
 -- each relation, with the case that tells its breach
-abbrev pub state_relations : {K N I L C : Type 0} → (C → C → Ordering) → RaftStateIn K N I L C → List (Bool × Invalid)
+abbrev pub state_relations : {K N I L C : Type 0} → (C → C → Ordering) → RaftStateIn K N I L C
+    → List (Bool × Invalid)
 state_relations cmp s = let log = view_of s in
     (fits_purged_next s.purged_next (first_id (full_log s.log_ids)), PurgedNext)
     ∷ (id_le cmp log.last_purged log.purge_upto, LastPurgedPastUpto)
@@ -34,7 +39,8 @@ state_relations cmp s = let log = view_of s in
     ∷ membership_relations cmp s.membership_state
 
 -- the first relation that a state breaks
-abbrev pub broken_relation : {K N I L C : Type 0} → (C → C → Ordering) → RaftStateIn K N I L C → Option Invalid
+abbrev pub broken_relation : {K N I L C : Type 0} → (C → C → Ordering) → RaftStateIn K N I L C
+    → Option Invalid
 broken_relation cmp s = first_false (state_relations cmp s)
 
 -- a log id is absent, or it is the one that the log has at its index

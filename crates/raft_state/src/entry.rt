@@ -7,11 +7,11 @@ pub mod payload;
 mod traits;
 
 pub use payload::EntryPayload;
-use raft_base::{CommittedLeaderId, LogIdOf, MessageSummary, Node, NodeId, RaftLogIdOf};
+use raft_base::{CommittedLeaderId, LogIdOf, MessageSummary, Node, NodeId, RaftLogId};
 use raft_members::Membership;
 use std::alloc::{AllocError, Global};
 use std::fmt;
-pub use traits::{FromAppData, RaftEntry, RaftEntryOf, RaftPayload, RaftPayloadOf};
+pub use traits::{FromAppData, RaftEntry, RaftPayload};
 
 /// A log entry: what is appended to each node's log under one log id.
 ///
@@ -77,7 +77,7 @@ fn default_log_id<C: Default>() -> LogIdOf<C>
     }
 }
 
-impl<C, NID: NodeId, N: Node, D> RaftPayloadOf<Membership<NID, N>> for EntryOf<C, NID, N, D> {
+impl<C, NID: NodeId, N: Node, D> RaftPayload<Membership<NID, N>> for EntryOf<C, NID, N, D> {
     ghost use Rattle.raft_state.specs.Entry.{is_blank_payload, payload_membership};
 
     ghost blank = { λ entry. is_blank_payload entry.payload };
@@ -93,7 +93,7 @@ impl<C, NID: NodeId, N: Node, D> RaftPayloadOf<Membership<NID, N>> for EntryOf<C
     }
 }
 
-impl<C: Copy, NID: NodeId, N: Node, D> RaftLogIdOf<C> for EntryOf<C, NID, N, D> {
+impl<C: Copy, NID: NodeId, N: Node, D> RaftLogId<C> for EntryOf<C, NID, N, D> {
     ghost id_of = { λ entry. entry.log_id };
 
     ghost with_id = { λ entry id. record entry { log_id = id } };
@@ -113,10 +113,8 @@ impl<C: Copy, NID: NodeId, N: Node, D> RaftLogIdOf<C> for EntryOf<C, NID, N, D> 
     ghost last_id = { λ entry id next. refl };
 }
 
-impl<C: Copy + fmt::Debug + fmt::Display, NID: NodeId, N: Node, D> RaftEntryOf<
-    C,
-    Membership<NID, N>,
-> for EntryOf<C, NID, N, D> {
+impl<C: Copy + fmt::Debug + fmt::Display, NID: NodeId, N: Node, D> RaftEntry<C, Membership<NID, N>>
+    for EntryOf<C, NID, N, D> {
     ghost use Rattle.raft_state.specs.declared.entry.payload.EntryPayload.TheVariants.{Blank};
 
     fn new_blank(log_id: LogIdOf<C>) -> Self

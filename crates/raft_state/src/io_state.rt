@@ -72,7 +72,7 @@ impl<L: Copy, C: Ord + Copy> IOStateIn<L, C> {
         &self.vote
     }
 
-    /// Takes a greater log id that is applied now.
+    /// Takes a greater log id that is applied now: `log_id_below` of the field and it is true.
     pub fn update_applied(&mut self, log_id: Option<LogIdOf<C>>)
         requires { IsTrue (id_lt C.cmp self.old.applied log_id) }
         ensures { self.new ≡ record self.old { applied = log_id } }
@@ -87,7 +87,8 @@ impl<L: Copy, C: Ord + Copy> IOStateIn<L, C> {
         self.applied.as_ref()
     }
 
-    /// Takes a greater log id that is the last one in the snapshot on disk now.
+    /// Takes a greater log id that is the last one in the snapshot on disk now: `log_id_below` of
+    /// the field and it is true.
     pub fn update_snapshot(&mut self, log_id: Option<LogIdOf<C>>)
         requires { IsTrue (id_lt C.cmp self.old.snapshot log_id) }
         ensures { self.new ≡ record self.old { snapshot = log_id } }

@@ -5,7 +5,6 @@
 pub mod accepted;
 pub mod catch_up;
 pub mod entry;
-pub mod error;
 pub mod io_state;
 pub mod laws;
 pub mod log_id_list;
@@ -16,14 +15,12 @@ pub mod vote_state_reader;
 
 pub use accepted::{Accepted, AcceptedIn, AcceptedOf};
 pub use catch_up::FollowersOf;
-pub use entry::{
-    Entry, EntryOf, EntryPayload, FromAppData, RaftEntry, RaftEntryOf, RaftPayload, RaftPayloadOf,
-};
-pub use error::ForwardToLeader;
+pub use entry::{Entry, EntryOf, EntryPayload, FromAppData, RaftEntry, RaftPayload};
 pub use io_state::{IOState, IOStateIn, IOStateOf, LogIOId, LogIOIdOf};
 pub use log_id_list::{LogIdList, LogIdListOf, is_key_list};
 pub use membership_state::{ChangeHandler, ChangeHandlerOf, MembershipState, MembershipStateOf};
 pub use raft_base::LogStateReader;
+pub use raft_members::{ForwardToLeader, error};
 pub use raft_state::{RaftState, RaftStateIn, RaftStateOf};
 pub use snapshot_meta::{SnapshotMeta, SnapshotMetaOf};
 pub use vote_state_reader::VoteStateReader;

@@ -1,7 +1,7 @@
 //! The log ids of a whole log, kept by few of them.
 ghost use Rattle.std.specs.Prelude.{◌≡◌, ◌+◌, ◌≤◌, ◌&&◌, max, length, map, [], Some, IsOkAnd, IfOk, IfSome, IsOk, OnOk, OnErr, IsTrue, nat_eq, nat_le, nat_lt};
 ghost use Rattle.std.specs.Option.{is_some, option_copied, option_or};
-ghost use Rattle.raft_state.specs.FullLog.{full_log, first_index_or, end_index, same_log};
+ghost use Rattle.raft_state.specs.FullLog.{full_log, first_index, end_index, same_log};
 ghost use Rattle.raft_state.specs.LogReads.{id_at, first_id, last_id, last_two_share_leader, leader_count};
 ghost use Rattle.raft_state.specs.LogEdits.{appended, extended, front, purged};
 ghost use Rattle.raft_state.specs.LogConditions.{follows, all_follow, all_follow_of_one_leader, may_be_purged_to};
@@ -11,20 +11,20 @@ mod keys;
 pub mod laws;
 
 pub use keys::is_key_list;
-use raft_base::{CommittedLeaderId, LogIdOf, RaftLogIdOf};
+use raft_base::{CommittedLeaderId, LogIdOf, RaftLogId};
 use std::alloc::{AllocError, Global};
 use std::fmt;
 use std::marker::Model;
 
-/// The log ids of a log, kept by its keys: the first log id, the first one of each later leader, and
-/// the last one.
+/// The log ids of a log, kept by its keys: the first log id, the first one of
+/// each later leader, and the last one.
 ///
-/// A log id between two keys has the leader of the key before it, so the keys tell the log id at each
-/// index from the first key's to the last key's. That is the full log, of which the contracts speak.
-/// The first log id is mostly that of the last purged entry.
+/// A log id between two keys has the leader of the key before it, so the keys tell the log id at
+/// each index from the first key's to the last key's. That is the full log, of which the contracts
+/// speak. The first log id is mostly that of the last purged entry.
 ///
-/// Keys rise by index and by leader, and only the last two may share a leader. Two lists are equal if
-/// their full logs are, which is exactly where their keys are.
+/// Keys rise by index and by leader, and only the last two may share a leader. Two lists are equal
+/// if their full logs are, which is exactly where their keys are.
 #[derive(Drop)]
 pub struct LogIdListOf<C: Ord + Copy> {
     key_log_ids: Vec<LogIdOf<C>>,
@@ -46,7 +46,7 @@ impl<C: Ord + Copy> Model for LogIdListOf<C> {
 }
 
 impl<C: Ord + Copy> LogIdListOf<C> {
-    /// The list with these keys.
+    /// The list with these keys, where `is_key_list` is true of them.
     pub fn new(key_log_ids: Vec<LogIdOf<C>>) -> Self
         requires { IsTrue (may_be_keys C.cmp key_log_ids.items) }
         ensures { result ≡ key_log_ids.items }
@@ -54,7 +54,8 @@ impl<C: Ord + Copy> LogIdListOf<C> {
         LogIdListOf { key_log_ids }
     }
 
-    /// The list without log ids, in place of a `Default`, which has no allocator. No memory is taken.
+    /// The list without log ids, in place of a `Default`, which
+    /// has no allocator. No memory is taken.
     pub fn try_default(alloc: Global) -> Result<Self, AllocError>
         ensures { IsOkAnd result (λ list. full_log list ≡ []) }
     {
@@ -72,9 +73,10 @@ impl<C: Ord + Copy> LogIdListOf<C> {
         Ok(LogIdListOf { key_log_ids })
     }
 
-    /// Appends log ids of one leader, one after the other. It looks at the first and the last one
-    /// alone, and takes room for two keys at most, for no log ids none.
-    pub fn extend_from_same_leader<LID: RaftLogIdOf<C>>(
+    /// Appends log ids of one leader, one after the other, where `can_extend_from_same_leader` is
+    /// true. It looks at the first and the last one alone, and takes room for two keys at most, for no
+    /// log ids none.
+    pub fn extend_from_same_leader<LID: RaftLogId<C>>(
         &mut self,
         new_ids: &[LID],
     ) -> Result<(), AllocError>
@@ -85,22 +87,23 @@ impl<C: Ord + Copy> LogIdListOf<C> {
         ensures last { OnOk result (last_id (full_log self.new)
             ≡ option_or (last_id (map LID.id_of new_ids.now)) (last_id (full_log self.old))) }
         ensures err { OnErr result (self.new ≡ self.old) }
-        ensures nothing { new_ids.now ≡ [] → IsOk result }
+        ensures no_memory { new_ids.now ≡ [] → IsOk result }
     {
         keys::extend_by_ends(&mut self.key_log_ids, new_ids)?;
         Ok(())
     }
 
     /// Whether these log ids may be appended one after the other, and are of one leader.
-    pub fn can_extend_from_same_leader<LID: RaftLogIdOf<C>>(&self, new_ids: &[LID]) -> bool
+    pub fn can_extend_from_same_leader<LID: RaftLogId<C>>(&self, new_ids: &[LID]) -> bool
         ensures { result ≡ all_follow_of_one_leader C.cmp C.eq (last_id (full_log self.now))
             (map LID.id_of new_ids.now) }
     {
         self.can_extend(new_ids) && keys::share_leader(new_ids)
     }
 
-    /// Appends log ids, one after the other. Room for a key each is taken first.
-    pub fn extend<LID: RaftLogIdOf<C>>(&mut self, new_ids: &[LID]) -> Result<(), AllocError>
+    /// Appends log ids, one after the other, where `can_extend` is true. Room for a key each is taken
+    /// first.
+    pub fn extend<LID: RaftLogId<C>>(&mut self, new_ids: &[LID]) -> Result<(), AllocError>
         requires { IsTrue (all_follow C.cmp (last_id (full_log self.old))
             (map LID.id_of new_ids.now)) }
         ensures ok { OnOk result (IsTrue (same_log C.eq (full_log self.new)
@@ -108,21 +111,22 @@ impl<C: Ord + Copy> LogIdListOf<C> {
         ensures last { OnOk result (last_id (full_log self.new)
             ≡ option_or (last_id (map LID.id_of new_ids.now)) (last_id (full_log self.old))) }
         ensures err { OnErr result (self.new ≡ self.old) }
-        ensures nothing { new_ids.now ≡ [] → IsOk result }
+        ensures no_memory { new_ids.now ≡ [] → IsOk result }
     {
         keys::extend(&mut self.key_log_ids, new_ids)?;
         Ok(())
     }
 
     /// Whether these log ids may be appended one after the other.
-    pub fn can_extend<LID: RaftLogIdOf<C>>(&self, new_ids: &[LID]) -> bool
+    pub fn can_extend<LID: RaftLogId<C>>(&self, new_ids: &[LID]) -> bool
         ensures { result ≡ all_follow C.cmp (last_id (full_log self.now))
             (map LID.id_of new_ids.now) }
     {
         keys::may_all_follow(self.last().copied(), new_ids)
     }
 
-    /// Appends a log id. The indexes that are missing before it go to the leader of the last one.
+    /// Appends a log id, where `can_append` is true. The indexes that are missing before it go to the
+    /// leader of the last one.
     ///
     /// Where the last two log ids share a leader it moves the last key, and takes no memory. So in
     /// a row of log ids of one leader, none after the second can fail.
@@ -131,18 +135,18 @@ impl<C: Ord + Copy> LogIdListOf<C> {
         ensures ok { OnOk result (IsTrue (same_log C.eq (full_log self.new)
             (appended (full_log self.old) new_log_id))) }
         ensures last { OnOk result (last_id (full_log self.new) ≡ Some new_log_id) }
-        ensures again { IfSome (last_id (full_log self.old)) (λ last. OnOk result
+        ensures last_two { IfSome (last_id (full_log self.old)) (λ last. OnOk result
             (last_two_share_leader C.eq (full_log self.new)
             ≡ C.eq last.leader_id new_log_id.leader_id)) }
         ensures err { OnErr result (self.new ≡ self.old) }
-        ensures in_place { IsTrue (last_two_share_leader C.eq (full_log self.old)) → IsOk result }
+        ensures no_memory { IsTrue (last_two_share_leader C.eq (full_log self.old)) → IsOk result }
     {
         keys::append(&mut self.key_log_ids, new_log_id)?;
         Ok(())
     }
 
-    /// Whether a log id may be appended: the list is empty, or its last one has a lesser index and no
-    /// greater leader.
+    /// Whether a log id may be appended: the list is empty, or its last one has a
+    /// lesser index and no greater leader.
     pub fn can_append(&self, new_log_id: LogIdOf<C>) -> bool
         ensures { result ≡ follows C.cmp (last_id (full_log self.now)) new_log_id }
     {
@@ -156,15 +160,17 @@ impl<C: Ord + Copy> LogIdListOf<C> {
         keys::truncate(&mut self.key_log_ids, at);
     }
 
-    /// Removes the log ids below `upto`. What remains keeps its leaders, also at the index of `upto`.
+    /// Removes the log ids below `upto`, where `can_purge` is true. What remains keeps its leaders,
+    /// also at the index of `upto`.
     ///
-    /// Of an empty list, or past the last index, `upto` alone remains; below the first index nothing
-    /// changes, else the first index is then that of `upto`. Only an empty list wants memory.
+    /// Of an empty list, or past the last index, `upto` alone remains; below
+    /// the first index nothing changes, else the first index is then that of
+    /// `upto`. Only an empty list wants memory.
     pub fn purge(&mut self, upto: &LogIdOf<C>) -> Result<(), AllocError>
         requires { IsTrue (may_be_purged_to C.cmp (last_id (full_log self.old)) upto.now) }
         ensures ok { OnOk result (full_log self.new ≡ purged (full_log self.old) upto.now) }
-        ensures first { OnOk result (first_index_or (full_log self.new) 0
-            ≡ max (first_index_or (full_log self.old) 0) upto.now.index) }
+        ensures first { OnOk result (first_index (full_log self.new)
+            ≡ max (first_index (full_log self.old)) upto.now.index) }
         ensures was_empty { OnErr result (full_log self.old ≡ []) }
         ensures err { OnErr result (self.new ≡ self.old) }
     {
@@ -172,8 +178,8 @@ impl<C: Ord + Copy> LogIdListOf<C> {
         Ok(())
     }
 
-    /// Whether the log may be purged up to a log id: its index is not past the last one, or its leader
-    /// is no lesser one.
+    /// Whether the log may be purged up to a log id: its index is not past the last
+    /// one, or its leader is no lesser one.
     pub fn can_purge(&self, upto: &LogIdOf<C>) -> bool
         ensures { result ≡ may_be_purged_to C.cmp (last_id (full_log self.now)) upto.now }
     {
@@ -186,7 +192,7 @@ impl<C: Ord + Copy> LogIdListOf<C> {
     /// The log id at an index, if it is there: from the first one's index to the last one's it is.
     pub fn get(&self, index: u64) -> Option<LogIdOf<C>>
         ensures id { result ≡ id_at (full_log self.now) index }
-        ensures there { is_some result ≡ (nat_le (first_index_or (full_log self.now) 0) index
+        ensures found { is_some result ≡ (nat_le (first_index (full_log self.now)) index
             && nat_lt index (end_index (full_log self.now))) }
     {
         keys::get(&self.key_log_ids, index)
@@ -219,7 +225,7 @@ impl<C: Ord + Copy> LogIdListOf<C> {
     /// Two there are exactly where the last two log ids share a leader.
     pub fn by_last_leader(&self) -> &[LogIdOf<C>]
         ensures keys { result.now ≡ by_last_leader C.eq self.now }
-        ensures two { nat_eq (length result.now) 2
+        ensures two_keys { nat_eq (length result.now) 2
             ≡ last_two_share_leader C.eq (full_log self.now) }
     {
         keys::by_last_leader(&self.key_log_ids)

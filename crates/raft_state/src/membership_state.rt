@@ -1,4 +1,4 @@
-//! The memberships of a node: the last committed one, and the one in effect.
+//! The memberships of a node: the last committed one, and the effective one.
 ghost use Rattle.std.specs.Prelude.{◌≡◌, IsTrue, IfOk, IsOk, OnOk, OnErr, MatchResult, None, Some, false, is_some};
 ghost use Rattle.std.specs.Option.{option_map};
 ghost use Rattle.std.specs.Cmp.{partial_equiv_from_equiv};
@@ -15,24 +15,23 @@ ghost use Rattle.raft_state.specs.MembershipRelations.{membership_relations};
 
 mod change_handler;
 
-use crate::error::ForwardToLeader;
 pub use change_handler::{ChangeHandler, ChangeHandlerOf};
 use raft_base::order::{index_at_most, index_below, log_id_at_most, log_id_below};
 use raft_base::{
     CommittedLeaderId, Invalid, LogIdOf, LogIdOptionExt, MessageSummary, Node, NodeId, Validate,
 };
-use raft_members::EffectiveMembershipOf;
+use raft_members::{EffectiveMembershipOf, ForwardToLeader};
 use std::alloc::{AllocError, Global};
 use std::fmt;
 use std::marker::Model;
 use std::mem::replace;
 use std::rc::Rc;
 
-/// The last committed membership of a node, and the last one that it has seen, which is in effect.
+/// The last committed membership of a node, and the last one that it has seen, the effective one.
 ///
-/// A membership is in effect as soon as it stands in the log, committed or not. It may only be
+/// A membership is effective as soon as it stands in the log, committed or not. It may only be
 /// proposed once the one before it is committed, so at most one is not committed; and where a new
-/// leader cuts that one off, the committed one is in effect again. Two states are equal if both
+/// leader cuts that one off, the committed one is effective again. Two states are equal if both
 /// memberships are, with their log ids.
 #[derive(Drop)]
 pub struct MembershipStateOf<C, NID: NodeId, N: Node> {
@@ -84,7 +83,7 @@ impl<C: Copy + Drop, NID: NodeId, N: Node> MembershipStateOf<C, NID, N> {
         Ok(MembershipStateOf::new(committed, effective))
     }
 
-    /// Whether the id has a node in the membership in effect, as a voter or as a learner.
+    /// Whether the id has a node in the effective membership, as a voter or as a learner.
     pub fn contains(&self, id: &NID) -> bool
         ensures { result
             ≡ is_some (node_at NID.cmp (in_effect self.now).nodes id.now) }
@@ -92,14 +91,14 @@ impl<C: Copy + Drop, NID: NodeId, N: Node> MembershipStateOf<C, NID, N> {
         self.effective.membership().contains(id)
     }
 
-    /// Whether the id is a voter of the membership in effect.
+    /// Whether the id is a voter of the effective membership.
     pub fn is_voter(&self, id: &NID) -> bool
         ensures { result ≡ is_voter_of NID.eq (in_effect self.now).configs id.now }
     {
         self.effective.is_voter(id)
     }
 
-    /// Where the requests for a leader go: to its node, if the membership in effect has it. Where
+    /// Where the requests for a leader go: to its node, if the effective membership has it. Where
     /// there is none, no memory is taken.
     pub(crate) fn forward_to(
         &self,
@@ -127,14 +126,14 @@ impl<C: Copy + Drop, NID: NodeId, N: Node> MembershipStateOf<C, NID, N> {
         &self.committed
     }
 
-    /// The membership in effect.
+    /// The effective membership.
     pub fn effective(&self) -> &Rc<EffectiveMembershipOf<C, NID, N>>
         ensures { result.now.value ≡ self.now.effective }
     {
         &self.effective
     }
 
-    /// What changes the membership in effect.
+    /// What changes the effective membership.
     pub fn change_handler(&self) -> ChangeHandlerOf<'_, C, NID, N>
         ensures { result.state.now ≡ self.now }
     {
@@ -147,7 +146,7 @@ impl<C: Ord + Copy + Drop, NID: NodeId, N: Node> MembershipStateOf<C, NID, N> {
     ghost use Rattle.std.specs.Io.BufRead.{Rests};
     ghost use Rattle.raft_state.specs.contracts.membership_state.MembershipStateOf.{the_row};
 
-    /// Whether `commit` may be called with a log id: where that commits the membership in effect,
+    /// Whether `commit` may be called with a log id: where that commits the effective membership,
     /// its index is not the lesser one. Of the ids of one log this is always so.
     pub fn can_commit(&self, log_id: &Option<LogIdOf<C>>) -> bool
         ensures { result ≡ may_commit C.cmp log_id.now self.now }
@@ -156,8 +155,8 @@ impl<C: Ord + Copy + Drop, NID: NodeId, N: Node> MembershipStateOf<C, NID, N> {
         !log_id_at_most(effective, *log_id) || index_at_most(effective.index(), log_id.index())
     }
 
-    /// Takes the log as committed up to a log id. The membership in effect is committed with it, if
-    /// it is not past it; else no memory is taken.
+    /// Takes the log as committed up to a log id. The effective membership is committed with it, if
+    /// it is not past it; else no memory is taken. It may be called where `can_commit` is true.
     ///
     /// After an error nothing has changed.
     pub fn commit(&mut self, log_id: &Option<LogIdOf<C>>) -> Result<(), AllocError>
@@ -173,9 +172,9 @@ impl<C: Ord + Copy + Drop, NID: NodeId, N: Node> MembershipStateOf<C, NID, N> {
     }
 
     /// Takes over a committed membership that comes with a snapshot of the log up to an index, and
-    /// answers the membership in effect if it is not the one from before.
+    /// answers the effective membership if it is not the one from before.
     ///
-    /// Where the snapshot has the membership in effect in it, only the new one is left. Else that
+    /// Where the snapshot has the effective membership in it, only the new one is left. Else that
     /// one may be of a log that conflicts with the leader's, so their indexes are compared and not
     /// their log ids. Unless the new one takes the place of both, no memory is taken.
     ///
@@ -202,7 +201,7 @@ impl<C: Ord + Copy + Drop, NID: NodeId, N: Node> MembershipStateOf<C, NID, N> {
         }
     }
 
-    // True where another membership is in effect than before.
+    // True where another membership is effective than before.
     fn take_over(
         &mut self,
         membership: Rc<EffectiveMembershipOf<C, NID, N>>,
@@ -249,7 +248,7 @@ impl<C: Ord + Copy + Drop, NID: NodeId, N: Node> MembershipStateOf<C, NID, N> {
     }
 
     /// Whether `append` may be called with a membership: it has a greater log id and a greater
-    /// index than the one in effect.
+    /// index than the effective one.
     pub fn can_append(&self, membership: &EffectiveMembershipOf<C, NID, N>) -> bool
         ensures { result ≡ may_append C.cmp membership.now self.now }
     {
@@ -258,8 +257,9 @@ impl<C: Ord + Copy + Drop, NID: NodeId, N: Node> MembershipStateOf<C, NID, N> {
         log_id_below(effective, new) && index_below(effective.index(), new.index())
     }
 
-    /// Puts a membership in effect that was added to the log. The one before it is committed, for
-    /// else the new one could not have been proposed. No memory is taken.
+    /// Makes a membership effective that was added to the log. The one before it is committed, for
+    /// else the new one could not have been proposed. No memory is taken. It may be called where
+    /// `can_append` is true.
     pub fn append(&mut self, membership: Rc<EffectiveMembershipOf<C, NID, N>>)
         requires { IsTrue (may_append C.cmp membership.value self.old) }
         ensures { self.new ≡ after_append membership.value self.old }
@@ -267,9 +267,16 @@ impl<C: Ord + Copy + Drop, NID: NodeId, N: Node> MembershipStateOf<C, NID, N> {
         self.committed = replace(&mut self.effective, membership);
     }
 
+    /// Whether `truncate` may be called with an index: it is past the committed membership.
+    pub fn can_truncate(&self, since: u64) -> bool
+        ensures { result ≡ index_lt (index_at self.now.committed) (Some since) }
+    {
+        index_below(self.committed.log_id().index(), Some(since))
+    }
+
     /// Takes the log as cut off from an index on, which is past the committed membership. Where the
-    /// membership in effect is cut off with it, the committed one is in effect again and is
-    /// answered; else no memory is taken.
+    /// effective membership is cut off with it, the committed one is effective again and is
+    /// answered; else no memory is taken. It may be called where `can_truncate` is true.
     ///
     /// After an error nothing has changed.
     pub fn truncate(
@@ -292,7 +299,7 @@ impl<C: Ord + Copy + Drop, NID: NodeId, N: Node> MembershipStateOf<C, NID, N> {
         }
     }
 
-    // True where the committed membership is in effect again.
+    // True where the committed membership is effective again.
     fn revert(&mut self, since: u64) -> Result<bool, AllocError>
         ensures ok { OnOk result (self.new ≡ after_truncate since self.old) }
         ensures reverted { IfOk result (λ reverted. reverted ≡ is_cut since self.old) }
@@ -308,7 +315,7 @@ impl<C: Ord + Copy + Drop, NID: NodeId, N: Node> MembershipStateOf<C, NID, N> {
     }
 }
 
-/// The committed membership is not above the one in effect, by log id and by index.
+/// The committed membership is not above the effective one, by log id and by index.
 impl<C: Ord + Copy + Drop, NID: NodeId, N: Node> Validate for MembershipStateOf<C, NID, N> {
     ghost broken = { λ m. first_false (membership_relations C.cmp m) };
 

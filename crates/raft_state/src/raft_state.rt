@@ -1,7 +1,7 @@
 //! The whole state of a node.
-ghost use Rattle.std.specs.Prelude.{◌≡◌, ◌+◌, ◌&&◌, true, false, IsTrue, IfOk, IsOk, OnOk, OnErr, Some, None, [], map};
+ghost use Rattle.std.specs.Prelude.{◌≡◌, ◌+◌, ◌&&◌, true, false, IsTrue, IfOk, IsOk, OnOk, OnErr, None, [], map};
 ghost use Rattle.std.specs.List.{list_all};
-ghost use Rattle.std.specs.Option.{option_copied};
+ghost use Rattle.std.specs.Option.{option_copied, option_or};
 ghost use Rattle.std.specs.Ordering.{partial_ge};
 ghost use Rattle.std.specs.Set.{ClonesAreEqual};
 ghost use Rattle.raft_base.specs.Logged.{Logged};
@@ -25,7 +25,6 @@ ghost use Rattle.raft_state.specs.StateView.{view_of, vote_of};
 ghost use Rattle.raft_state.specs.Valid.{broken_relation, fits_purged_next, is_logged, upto_relation};
 
 use crate::accepted::AcceptedIn;
-use crate::error::ForwardToLeader;
 use crate::io_state::{IOStateIn, LogIOIdOf};
 use crate::log_id_list::LogIdListOf;
 use crate::membership_state::MembershipStateOf;
@@ -34,8 +33,9 @@ use crate::vote_state_reader::VoteStateReader;
 use raft_base::order::{log_id_at_most, log_id_below, same_optional_log_ids};
 use raft_base::{
     Instant, Invalid, LeaderAdv, LeaderIdentity, LeaderKind, LogIdOf, LogStateReader, Node, NodeId,
-    RaftLogIdOf, ServerState, UTime, Validate, VoteIn,
+    RaftLogId, ServerState, UTime, Validate, VoteIn,
 };
+use raft_members::ForwardToLeader;
 use std::alloc::{AllocError, Global};
 use std::fmt;
 
@@ -53,7 +53,7 @@ pub struct RaftStateIn<NID: NodeId, N: Node, I: Instant, L, C: Ord + Copy> {
     pub purged_next: u64,
     /// The log ids, from the last purged one on.
     pub log_ids: LogIdListOf<C>,
-    /// The last committed membership, and the one in effect.
+    /// The last committed membership, and the effective one.
     pub membership_state: MembershipStateOf<C, NID, N>,
     /// The last snapshot.
     pub snapshot_meta: SnapshotMetaOf<C, NID, N>,
@@ -164,6 +164,16 @@ impl<NID: NodeId, N: Node, I: Instant, L: Drop, C: Ord + Copy + Drop> Validate
     }
 }
 
+// Whether a leader is at least another one.
+fn is_no_lesser<L: LeaderIdentity>(leader: &L, than: &L) -> bool
+    ensures { result ≡ partial_ge L.order leader.now than.now }
+{
+    match L::compare(leader, than) {
+        Some(ordering) => ordering.is_ge(),
+        None => false,
+    }
+}
+
 // Whether the log begins at the last purged index.
 fn fits_purged_next<C: Copy>(next: u64, first: Option<LogIdOf<C>>) -> bool
     ensures { result ≡ fits_purged_next next first }
@@ -216,6 +226,9 @@ impl<
             × HasNewVote leader granted s) }
         ensures valid { IfOk result (λ s. broken_relation C.cmp s ≡ None) }
     {
+        // What can be refused is made first, so that little is owned at each way out.
+        let membership_state = MembershipStateOf::try_default(alloc)?;
+        let snapshot_meta = SnapshotMetaOf::try_default(alloc)?;
         let leader_id = L::default();
         let vote = VoteIn {
             leader_id,
@@ -226,9 +239,9 @@ impl<
             vote: UTime::without_utime(vote),
             committed: None,
             purged_next: 0,
-            log_ids: LogIdListOf::try_default(alloc)?,
-            membership_state: MembershipStateOf::try_default(alloc)?,
-            snapshot_meta: SnapshotMetaOf::try_default(alloc)?,
+            log_ids: LogIdListOf::new(Vec::new(alloc)),
+            membership_state,
+            snapshot_meta,
             server_state: ServerState::Learner,
             accepted: AcceptedIn::new(leader_id, None),
             io_state: IOStateIn::new(vote, flushed, None, None, None),
@@ -281,8 +294,18 @@ impl<
             .last_accepted_log_id(self.vote.get().leader_id())
     }
 
-    /// Takes a log id that was accepted of the vote's leader, if it is greater than the last one.
-    /// The vote is committed, and its leader is no lesser one than that of before.
+    /// Whether `update_accepted` may be called: the vote is committed, and its leader is no lesser
+    /// one than that of what was accepted before.
+    pub fn can_accept(&self) -> bool
+        ensures { result ≡ ((vote_of self.now).committed
+            && partial_ge L.order (vote_of self.now).leader_id (leader_of self.now.accepted)) }
+    {
+        let vote = self.vote.get();
+        vote.is_committed() && is_no_lesser(vote.leader_id(), self.accepted.leader_id())
+    }
+
+    /// Takes a log id that was accepted of the vote's leader, if it is greater than the last one;
+    /// where `can_accept` is true.
     pub fn update_accepted(&mut self, accepted: Option<LogIdOf<C>>)
         requires committed { (vote_of self.old).committed ≡ true }
         requires no_lesser_leader { IsTrue (partial_ge L.order (vote_of self.old).leader_id
@@ -296,8 +319,9 @@ impl<
         self.accepted.update(leader_id, accepted);
     }
 
-    /// Appends log ids of one leader to the log, as `LogIdListOf::extend_from_same_leader`.
-    pub fn extend_log_ids_from_same_leader<LID: RaftLogIdOf<C>>(
+    /// Appends log ids of one leader to the log, as `LogIdListOf::extend_from_same_leader`;
+    /// `log_ids.can_extend_from_same_leader` tests them.
+    pub fn extend_log_ids_from_same_leader<LID: RaftLogId<C>>(
         &mut self,
         new_log_ids: &[LID],
     ) -> Result<(), AllocError>
@@ -305,14 +329,18 @@ impl<
             (last_id (full_log self.old.log_ids)) (map LID.id_of new_log_ids.now)) }
         ensures log { OnOk result (IsTrue (same_log C.eq (full_log self.new.log_ids)
             (extended (full_log self.old.log_ids) (map LID.id_of new_log_ids.now)))) }
+        ensures last { OnOk result (last_id (full_log self.new.log_ids)
+            ≡ option_or (last_id (map LID.id_of new_log_ids.now))
+            (last_id (full_log self.old.log_ids))) }
         ensures rest { self.new ≡ record self.old { log_ids = self.new.log_ids } }
         ensures err { OnErr result (self.new ≡ self.old) }
+        ensures no_memory { new_log_ids.now ≡ [] → IsOk result }
     {
         self.log_ids.extend_from_same_leader(new_log_ids)
     }
 
-    /// Appends log ids to the log, as `LogIdListOf::extend`.
-    pub fn extend_log_ids<LID: RaftLogIdOf<C>>(
+    /// Appends log ids to the log, as `LogIdListOf::extend`; `log_ids.can_extend` tests them.
+    pub fn extend_log_ids<LID: RaftLogId<C>>(
         &mut self,
         new_log_ids: &[LID],
     ) -> Result<(), AllocError>
@@ -320,8 +348,12 @@ impl<
             (map LID.id_of new_log_ids.now)) }
         ensures log { OnOk result (IsTrue (same_log C.eq (full_log self.new.log_ids)
             (extended (full_log self.old.log_ids) (map LID.id_of new_log_ids.now)))) }
+        ensures last { OnOk result (last_id (full_log self.new.log_ids)
+            ≡ option_or (last_id (map LID.id_of new_log_ids.now))
+            (last_id (full_log self.old.log_ids))) }
         ensures rest { self.new ≡ record self.old { log_ids = self.new.log_ids } }
         ensures err { OnErr result (self.new ≡ self.old) }
+        ensures no_memory { new_log_ids.now ≡ [] → IsOk result }
     {
         self.log_ids.extend(new_log_ids)
     }
@@ -338,10 +370,10 @@ impl<
         }
     }
 
-    /// Takes a greater committed log id, commits the membership in effect if it is not past it, and
+    /// Takes a greater committed log id, commits the effective membership if it is not past it, and
     /// answers the log id of before. Another log id changes nothing, and nothing is answered. Only
     /// a membership that is committed wants memory. Where the log id is not past the log, a valid
-    /// state stays valid.
+    /// state stays valid. It may be called where `can_commit` is true.
     ///
     /// After an error nothing has changed.
     pub fn update_committed(
@@ -387,9 +419,23 @@ impl<
         &self.io_state
     }
 
+    /// Whether `first_conflicting_index` may be called with entries: `can_ask` is true of the log id
+    /// of each.
+    pub fn can_ask_all<Ent: RaftLogId<C>>(&self, entries: &[Ent]) -> bool
+        ensures { result ≡ list_all (λ e. may_ask C.cmp (view_of self.now) (Ent.id_of e))
+            entries.now }
+    {
+        for entry in entries {
+            if !self.can_ask(entry.get_log_id()) {
+                return false;
+            }
+        }
+        true
+    }
+
     /// The place of the first entry that the log does not have, and how many entries there are
-    /// where it has them all. What is committed each log has.
-    pub fn first_conflicting_index<Ent: RaftLogIdOf<C>>(&self, entries: &[Ent]) -> usize
+    /// where it has them all; where `can_ask_all` is true. What is committed each log has.
+    pub fn first_conflicting_index<Ent: RaftLogId<C>>(&self, entries: &[Ent]) -> usize
         requires { IsTrue (list_all (λ e. may_ask C.cmp (view_of self.now) (Ent.id_of e))
             entries.now) }
         ensures { result ≡ first_denied (λ e. has_id C.eq (view_of self.now) (Ent.id_of e))
@@ -404,7 +450,7 @@ impl<
     }
 
     // Whether the log has the id of an entry.
-    fn has_entry<Ent: RaftLogIdOf<C>>(&self, entry: &Ent) -> bool
+    fn has_entry<Ent: RaftLogId<C>>(&self, entry: &Ent) -> bool
         requires { IsTrue (may_ask C.cmp (view_of self.now) (Ent.id_of entry.now)) }
         ensures { result ≡ has_id C.eq (view_of self.now) (Ent.id_of entry.now) }
     {
@@ -425,7 +471,8 @@ impl<
         }
     }
 
-    /// Takes the log as purged up to a log id. Only an empty log wants memory.
+    /// Takes the log as purged up to a log id, where `can_purge_log` is true. Only an empty log wants
+    /// memory.
     ///
     /// After an error nothing has changed.
     pub fn purge_log(&mut self, upto: &LogIdOf<C>) -> Result<(), AllocError>
@@ -468,7 +515,7 @@ impl<
         }
     }
 
-    /// What the node of an id is, as its vote and the membership in effect say.
+    /// What the node of an id is, as its vote and the effective membership say.
     pub fn calc_server_state(&self, id: &NID) -> ServerState
         ensures { result ≡ server_state_of NID.eq NID.cmp L.voted
             (in_effect self.now.membership_state) (vote_of self.now) id.now }
@@ -484,7 +531,7 @@ impl<
         }
     }
 
-    /// Whether the id is a voter of the membership in effect.
+    /// Whether the id is a voter of the effective membership.
     pub fn is_voter(&self, id: &NID) -> bool
         ensures { result ≡ is_voter_of NID.eq
             (in_effect self.now.membership_state).configs id.now }
@@ -492,7 +539,7 @@ impl<
         self.membership_state.is_voter(id)
     }
 
-    /// Whether the node of an id leads or asks to lead: it has a node in the membership in effect,
+    /// Whether the node of an id leads or asks to lead: it has a node in the effective membership,
     /// and the vote is for it. A learner that was a voter may lead until its removal is committed.
     pub fn is_leading(&self, id: &NID) -> bool
         ensures { result ≡ is_leading NID.eq NID.cmp L.voted

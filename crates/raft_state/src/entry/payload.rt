@@ -1,9 +1,9 @@
 //! What log entries hold.
-ghost use Rattle.std.specs.Prelude.{◌≡◌, IfOk, IsOk, IsTrue};
+ghost use Rattle.std.specs.Prelude.{IfOk, IsOk, IsTrue};
 ghost use Rattle.std.specs.Set.{ClonesAreEqual};
 ghost use Rattle.raft_state.specs.Entry.{is_blank_payload, same_payload};
 
-use super::traits::RaftPayloadOf;
+use super::traits::RaftPayload;
 use raft_base::{MessageSummary, Node, NodeId};
 use raft_members::Membership;
 use std::alloc::{AllocError, Global};
@@ -39,7 +39,7 @@ impl<NID: NodeId, N: Node, D: Clone + PartialEq + Drop> EntryPayload<NID, N, D> 
     }
 }
 
-impl<NID: NodeId, N: Node, D> RaftPayloadOf<Membership<NID, N>> for EntryPayload<NID, N, D> {
+impl<NID: NodeId, N: Node, D> RaftPayload<Membership<NID, N>> for EntryPayload<NID, N, D> {
     ghost use Rattle.raft_state.specs.Entry.{is_blank_payload, payload_membership};
 
     ghost blank = { is_blank_payload };

@@ -1,17 +1,15 @@
 //! What a log entry offers, for entry types of a caller's own.
 //!
-//! The traits that end in `Of` are over any type of memberships and any leader ids. A type
-//! implements them, and has the others with them at `Membership<NID, N>` and `LogId<NID>`.
+//! The traits are over any type of memberships, which is `Membership<NID, N>` for the entries here.
 ghost use Rattle.std.specs.Prelude.{◌≡◌, Bool, Some, true};
 ghost use Rattle.std.specs.declared.option.Option.{Option};
 ghost use Rattle.std.specs.Option.{option_copied};
 
-use raft_base::{CommittedLeaderId, LogIdOf, Node, NodeId, RaftLogIdOf};
-use raft_members::Membership;
+use raft_base::{LogIdOf, RaftLogId};
 use std::fmt::{Debug, Display};
 
 /// A value that may be blank, and may store a membership.
-pub trait RaftPayloadOf<M> {
+pub trait RaftPayload<M> {
     /// Whether a value is blank.
     ghost blank: { Self → Bool };
 
@@ -27,13 +25,8 @@ pub trait RaftPayloadOf<M> {
         ensures { option_copied result ≡ membership self.now };
 }
 
-/// A value that may be blank, and may store a `Membership`.
-pub trait RaftPayload<NID: NodeId, N: Node>: RaftPayloadOf<Membership<NID, N>> {}
-
-impl<NID: NodeId, N: Node, T: RaftPayloadOf<Membership<NID, N>>> RaftPayload<NID, N> for T {}
-
 /// A log entry. The first parameter is the committed leader id of its log id.
-pub trait RaftEntryOf<C, M>: RaftPayloadOf<M> + RaftLogIdOf<C> + Debug + Display + Sized {
+pub trait RaftEntry<C, M>: RaftPayload<M> + RaftLogId<C> + Debug + Display + Sized {
     /// A blank entry.
     fn new_blank(log_id: LogIdOf<C>) -> Self
         ensures log_id { Self.id_of result ≡ log_id }
@@ -44,17 +37,6 @@ pub trait RaftEntryOf<C, M>: RaftPayloadOf<M> + RaftLogIdOf<C> + Debug + Display
         ensures log_id { Self.id_of result ≡ log_id }
         ensures membership { Self.membership result ≡ Some membership };
 }
-
-/// A log entry with the default leader ids, which may store a `Membership`.
-pub trait RaftEntry<NID: NodeId, N: Node>: RaftEntryOf<
-    CommittedLeaderId<NID>,
-    Membership<NID, N>,
-> {}
-
-impl<NID: NodeId, N: Node, T: RaftEntryOf<CommittedLeaderId<NID>, Membership<NID, N>>> RaftEntry<
-    NID,
-    N,
-> for T {}
 
 /// A log entry that is made of a program's own data, before it is given its log id.
 pub trait FromAppData<T> {

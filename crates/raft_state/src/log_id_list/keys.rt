@@ -8,11 +8,11 @@ ghost use Rattle.raft_state.specs.Keys.{key_follows, may_be_keys, by_last_leader
 ghost use Rattle.raft_state.specs.Inner.KeyList.{Rises, keys_to};
 ghost use Rattle.raft_state.specs.Inner.KeyEdits.{added, added_all, cut, purged_keys};
 
-use raft_base::{LogIdOf, RaftLogIdOf};
+use raft_base::{LogIdOf, RaftLogId};
 use std::alloc::AllocError;
 
-/// Whether these may be the keys of a list: indexes and leaders rise, and only the last two may share a
-/// leader.
+/// Whether these may be the keys of a list: indexes and leaders rise, and
+/// only the last two may share a leader.
 pub fn is_key_list<C: Ord + Copy>(keys: &[LogIdOf<C>]) -> bool
     ensures { result ≡ may_be_keys C.cmp keys.now }
 {
@@ -46,7 +46,7 @@ pub fn may_follow<C: Ord + Copy>(last: Option<LogIdOf<C>>, id: LogIdOf<C>) -> bo
 }
 
 /// Whether log ids may come one after the other, the first one after the last one.
-pub fn may_all_follow<C: Ord + Copy, LID: RaftLogIdOf<C>>(
+pub fn may_all_follow<C: Ord + Copy, LID: RaftLogId<C>>(
     last: Option<LogIdOf<C>>,
     ids: &[LID],
 ) -> bool
@@ -64,7 +64,7 @@ pub fn may_all_follow<C: Ord + Copy, LID: RaftLogIdOf<C>>(
 }
 
 /// Whether the first and the last of these log ids share a leader, or there are none.
-pub fn share_leader<C: Ord + Copy, LID: RaftLogIdOf<C>>(ids: &[LID]) -> bool
+pub fn share_leader<C: Ord + Copy, LID: RaftLogId<C>>(ids: &[LID]) -> bool
     ensures { result ≡ ends_share_leader C.eq (map LID.id_of ids.now) }
 {
     match (ids.first(), ids.last()) {
@@ -78,7 +78,7 @@ pub fn append<C: Ord + Copy>(keys: &mut Vec<LogIdOf<C>>, id: LogIdOf<C>) -> Resu
     ensures ok { OnOk result (keys.new.items ≡ added C.eq keys.old.items id) }
     ensures err { OnErr result (keys.new.items ≡ keys.old.items) }
     ensures room { vec_len keys.old < vec_capacity keys.old → IsOk result }
-    ensures in_place { IsTrue (last_two_share_leader C.eq keys.old.items) → IsOk result }
+    ensures no_memory { IsTrue (last_two_share_leader C.eq keys.old.items) → IsOk result }
     ensures len { vec_len keys.new ≤ vec_len keys.old + 1 }
     ensures capacity { vec_capacity keys.old ≤ vec_capacity keys.new }
 {
@@ -92,14 +92,14 @@ pub fn append<C: Ord + Copy>(keys: &mut Vec<LogIdOf<C>>, id: LogIdOf<C>) -> Resu
 }
 
 /// Appends log ids one after the other. Room is taken first, so that none is refused after another.
-pub fn extend<C: Ord + Copy, LID: RaftLogIdOf<C>>(
+pub fn extend<C: Ord + Copy, LID: RaftLogId<C>>(
     keys: &mut Vec<LogIdOf<C>>,
     ids: &[LID],
 ) -> Result<(), AllocError>
     ensures ok { OnOk result
         (keys.new.items ≡ added_all C.eq keys.old.items (map LID.id_of ids.now)) }
     ensures err { OnErr result (keys.new.items ≡ keys.old.items) }
-    ensures nothing { ids.now ≡ [] → IsOk result }
+    ensures no_memory { ids.now ≡ [] → IsOk result }
 {
     keys.reserve(ids.len())?;
     for id in ids {
@@ -109,7 +109,7 @@ pub fn extend<C: Ord + Copy, LID: RaftLogIdOf<C>>(
 }
 
 /// Appends log ids of one leader: their keys are those of the first and the last one.
-pub fn extend_by_ends<C: Ord + Copy, LID: RaftLogIdOf<C>>(
+pub fn extend_by_ends<C: Ord + Copy, LID: RaftLogId<C>>(
     keys: &mut Vec<LogIdOf<C>>,
     ids: &[LID],
 ) -> Result<(), AllocError>
@@ -118,7 +118,7 @@ pub fn extend_by_ends<C: Ord + Copy, LID: RaftLogIdOf<C>>(
     ensures ok { OnOk result
         (keys.new.items ≡ added_all C.eq keys.old.items (map LID.id_of ids.now)) }
     ensures err { OnErr result (keys.new.items ≡ keys.old.items) }
-    ensures nothing { ids.now ≡ [] → IsOk result }
+    ensures no_memory { ids.now ≡ [] → IsOk result }
 {
     if let (Some(first), Some(last)) = (ids.first(), ids.last()) {
         keys.reserve(ids.len().min(2))?;

@@ -1,8 +1,9 @@
-//! What holds of every list of log ids, as the contracts of calls.
+//! What holds of every list of log ids, as contracts: a caller whose proof needs one of these facts
+//! calls its function, which has no effect.
 ghost use Rattle.std.specs.Prelude.{◌≡◌, ℕ, List, max};
 ghost use Rattle.std.specs.Cmp.{IsEquivalence};
 ghost use Rattle.raft_base.specs.declared.log_id.LogIdOf.{LogIdOf};
-ghost use Rattle.raft_state.specs.FullLog.{full_log, first_index_or, same_log};
+ghost use Rattle.raft_state.specs.FullLog.{full_log, first_index, same_log};
 ghost use Rattle.raft_state.specs.LogEdits.{appended, extended, front, purged};
 ghost use Rattle.raft_state.specs.LogReads.{first_id, id_at, last_id};
 ghost use Rattle.raft_state.specs.SameLog.{FindsSame, KeepsSame};
@@ -27,8 +28,7 @@ pub fn truncate_twice<C: Ord + Copy>(list: &mut LogIdListOf<C>, at: u64)
     list.truncate(at);
 }
 
-/// Tells of the log of a list that its indexes are consecutive, and its leaders never fall. It does
-/// nothing.
+/// The indexes of a list's log are consecutive, and its leaders never fall.
 pub fn log_is_in_order<C: Ord + Copy>(list: &LogIdListOf<C>)
     ensures indexes { AreConsecutive (full_log list.now) }
     ensures leaders { LeadersNeverFall C.cmp (full_log list.now) }
@@ -36,18 +36,18 @@ pub fn log_is_in_order<C: Ord + Copy>(list: &LogIdListOf<C>)
     let _keys = list.key_log_ids();
 }
 
-/// Tells of what a purge leaves of a list that it begins at the greater of the first index and
-/// that of `upto`. It does nothing.
-pub fn purged_begins<C: Ord + Copy>(list: &LogIdListOf<C>, upto: &LogIdOf<C>)
-    ensures { first_index_or (purged (full_log list.now) upto.now) 0
-        ≡ max (first_index_or (full_log list.now) 0) upto.now.index }
+/// What a purge leaves of a list's log begins at the greater of its first index and that of `upto`.
+pub fn purged_log_begins<C: Ord + Copy>(list: &LogIdListOf<C>, upto: &LogIdOf<C>)
+    ensures { first_index (purged (full_log list.now) upto.now)
+        ≡ max (first_index (full_log list.now)) upto.now.index }
 {
     let _keys = list.key_log_ids();
     let _upto = *upto;
 }
 
-/// Tells that logs which are the same stay so under each call of a list, so that what is said of
-/// one call after another composes. It does nothing.
+/// Logs that are the same stay so under each call of a list.
+///
+/// So what the contracts say of one call after another composes.
 pub fn same_logs_stay_same<C: Ord + Copy>()
     ensures equality { IsEquivalence (same_log C.eq) }
     ensures appended { (id : LogIdOf C) → KeepsSame C.eq (λ log. appended log id) }
@@ -56,8 +56,7 @@ pub fn same_logs_stay_same<C: Ord + Copy>()
     ensures purged { (upto : LogIdOf C) → KeepsSame C.eq (λ log. purged log upto) }
 {}
 
-/// Tells that logs which are the same have equal log ids at each index, first and last. It does
-/// nothing.
+/// Logs that are the same have equal log ids at each index, first and last.
 pub fn same_logs_read_same<C: Ord + Copy>()
     ensures at_index { (index : ℕ) → FindsSame C.eq (λ log. id_at log index) }
     ensures first { FindsSame C.eq first_id }

@@ -1,4 +1,4 @@
-//! What changes the membership in effect.
+//! What changes the effective membership.
 ghost use Rattle.std.specs.Prelude.{◌≡◌, ◌<◌, None, IfOk, IfErr, true, length};
 ghost use Rattle.std.specs.Result.{result_err};
 ghost use Rattle.std.specs.Set.{ClonesAreEqual};
@@ -17,7 +17,7 @@ use raft_members::{
 };
 use std::fmt::Debug;
 
-/// Changes the membership in effect, once it is committed.
+/// Changes the effective membership, once it is committed.
 #[derive(Drop)]
 pub struct ChangeHandlerOf<'m, C, NID: NodeId, N: Node> {
     /// The memberships of the node.
@@ -33,10 +33,10 @@ impl<'m, C: Ord + Copy + Default + Debug + Drop, NID: NodeId, N: Node> ChangeHan
     NID,
     N,
 > {
-    /// What a change makes of the membership in effect, as `Membership::change` says. It is refused
+    /// What a change makes of the effective membership, as `Membership::change` says. It is refused
     /// as long as an earlier change is in progress.
     ///
-    /// With `retain` voters that go stay as learners. Nothing is put in effect: that is for
+    /// With `retain` voters that go stay as learners. Nothing becomes effective: that is for
     /// `append`, once the answer stands in the log.
     pub fn apply(
         &self,
@@ -68,7 +68,7 @@ impl<'m, C: Ord + Copy + Default + Debug + Drop, NID: NodeId, N: Node> ChangeHan
         }
     }
 
-    /// Refuses while the membership in effect is not committed. No memory is taken.
+    /// Refuses while the effective membership is not committed. No memory is taken.
     pub fn ensure_committed(&self) -> Result<(), InProgressOf<C>>
         ensures { result_err result ≡ in_progress C.eq self.now.state.now }
     {

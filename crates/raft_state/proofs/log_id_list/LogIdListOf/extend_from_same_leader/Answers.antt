@@ -10,33 +10,33 @@ use Rattle.raft_state.proofs.log_id_list.LogIdListOf.extend_from_same_leader.Goa
 
 pub extend_by_ends-requires-clause-follow : goal.extend_by_ends-requires-clause-follow
 extend_by_ends-requires-clause-follow g c =
-    let ids = (map g.LID.RaftLogIdOf.id_of c.args.new_ids.now) in
+    let ids = (map g.LID.RaftLogId.id_of c.args.new_ids.now) in
     let can = rw (← c.self.view_is) at c.requires in
     let follow = (both (all_follow g.C.Ord.cmp (last_id (full_log c.self.inside.key_log_ids.items)) ids) (ends_share_leader g.C.PartialEq.eq ids) can).0 in
     rw (last_full g.C.Ord.cmp c.self.inside.key_log_ids.items (is_key_list g.C.Ord.cmp c.self.inside.key_log_ids.items c.self.invariant)) at follow
 
 pub extend_by_ends-requires-clause-one_leader : goal.extend_by_ends-requires-clause-one_leader
 extend_by_ends-requires-clause-one_leader g c =
-    let ids = (map g.LID.RaftLogIdOf.id_of c.args.new_ids.now) in
+    let ids = (map g.LID.RaftLogId.id_of c.args.new_ids.now) in
     (both (all_follow g.C.Ord.cmp (last_id (full_log c.args.self.now)) ids) (ends_share_leader g.C.PartialEq.eq ids) c.requires).1
 
 pub invariant_of-self-2 : goal.invariant_of-self-2
 invariant_of-self-2 g c =
-    let ids = (map g.LID.RaftLogIdOf.id_of c.args.new_ids.now) in
+    let ids = (map g.LID.RaftLogId.id_of c.args.new_ids.now) in
     let can = rw (← c.self.view_is) at c.requires in
     let follow = (both (all_follow g.C.Ord.cmp (last_id (full_log c.self.inside.key_log_ids.items)) ids) (ends_share_leader g.C.PartialEq.eq ids) can).0 in
     rw c.in_ok-extend_by_ends.ensures.ok (extend_keeps g.C.Ord.cmp g.C.PartialEq.eq g.met.C.Ord.total g.met.C.Ord.matches_eq g.met.C.Eq.laws c.self.inside.key_log_ids.items ids (is_key_list g.C.Ord.cmp c.self.inside.key_log_ids.items c.self.invariant) follow)
 
 pub returns-clause-ok : goal.returns-clause-ok
 returns-clause-ok g c =
-    let ids = (map g.LID.RaftLogIdOf.id_of c.args.new_ids.now) in
+    let ids = (map g.LID.RaftLogId.id_of c.args.new_ids.now) in
     let can = rw (← c.self.view_is) at c.requires in
     let follow = (both (all_follow g.C.Ord.cmp (last_id (full_log c.self.inside.key_log_ids.items)) ids) (ends_share_leader g.C.PartialEq.eq ids) can).0 in
     rw (c.in_ok-extend_by_ends.ensures.ok, ← c.self.view_is) (extend_fills g.C.Ord.cmp g.C.PartialEq.eq g.met.C.Ord.total g.met.C.Ord.matches_eq g.met.C.Eq.laws c.self.inside.key_log_ids.items ids (is_key_list g.C.Ord.cmp c.self.inside.key_log_ids.items c.self.invariant) follow)
 
 pub returns-clause-last : goal.returns-clause-last
 returns-clause-last g c =
-    let ids = (map g.LID.RaftLogIdOf.id_of c.args.new_ids.now) in
+    let ids = (map g.LID.RaftLogId.id_of c.args.new_ids.now) in
     let can = rw (← c.self.view_is) at c.requires in
     let follow = (both (all_follow g.C.Ord.cmp (last_id (full_log c.self.inside.key_log_ids.items)) ids) (ends_share_leader g.C.PartialEq.eq ids) can).0 in
     rw (c.in_ok-extend_by_ends.ensures.ok, ← c.self.view_is) (extend_ends g.C.Ord.cmp g.C.PartialEq.eq g.met.C.Ord.total g.met.C.Ord.matches_eq g.met.C.Eq.laws c.self.inside.key_log_ids.items ids (is_key_list g.C.Ord.cmp c.self.inside.key_log_ids.items c.self.invariant) follow)

@@ -26,8 +26,8 @@ returns-in_ok-push-clause-ok g c =
       | else-count-ge2-via-else-count-ge2 w ↦ absurd (omega (arith, c.len-count.ensures, c.args.keys.now.ok.0))
     ])
 
-pub returns-in_err-push-clause-in_place : goal.returns-in_err-push-clause-in_place
-returns-in_err-push-clause-in_place g c shared =
+pub returns-in_err-push-clause-no_memory : goal.returns-in_err-push-clause-no_memory
+returns-in_err-push-clause-no_memory g c shared =
     let none = two_differ g.C.PartialEq.eq g.met.C.Eq.laws.refl c.args.keys.now.items
     (λ n len. elim c.else-count-ge2.branch [
       | else-count-ge2-via-then-count-ge2+else-eq w ↦

@@ -2,7 +2,6 @@ use Rattle.std.proofs.Common.{◌≡◌, ◌-◌, sym, arith, ◌∙◌, get_or,
 use Rattle.raft_state.proofs.FullLogLemmas.{none_here, none_past, some_found, key_list_rises_zero}
 use Rattle.raft_state.proofs.ExtendLemmas.{is_key_list}
 use Rattle.raft_state.proofs.log_id_list.keys.get.Goals as goal
-use Rattle.raft_state.proofs.log_id_list.keys.get.Goals.{else-covered-keys-via-then-covered-keys+else-key-index, else-covered-keys-via-else-covered-keys}
 
 pub count_to-covered-requires : goal.count_to-covered-requires
 count_to-covered-requires g c = key_list_rises_zero _ _ (is_key_list g.C.Ord.cmp c.args.keys.now c.requires)

@@ -6,5 +6,5 @@ use Rattle.raft_state.proofs.raft_state.RaftStateIn.first_conflicting_index.Give
 
 abbrev pub invariant-loop-place : goal.invariant-loop-place
 invariant-loop-place g l =
-    first_denied (λ e. has_id g.C.PartialEq.eq (view_of l.self) (g.Ent.RaftLogIdOf.id_of e)) l.entries
-    ≡ l.place + first_denied (λ e. has_id g.C.PartialEq.eq (view_of l.self) (g.Ent.RaftLogIdOf.id_of e)) (drop l.place l.entries)
+    first_denied (λ e. has_id g.C.PartialEq.eq (view_of l.self) (g.Ent.RaftLogId.id_of e)) l.entries
+    ≡ l.place + first_denied (λ e. has_id g.C.PartialEq.eq (view_of l.self) (g.Ent.RaftLogId.id_of e)) (drop l.place l.entries)
