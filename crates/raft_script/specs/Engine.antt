@@ -52,11 +52,17 @@ shown_of engine = option_map tracked engine.tracked
 abbrev pub pair_of : Engine → Option EngineState
 pair_of engine = option_map (λ t. tracked_state.tracked_state nat_eq (tracked t)) engine.tracked
 
--- the membership has the configs, and a node for each voter and learner, which all have the default; the progress counts by it
-pub record IsStart (configs : List (List ℕ)) (learners : List ℕ) (default : ℕ) (made : EngineState) : Type 0 where
+-- the membership has the configs, and a node for each voter and learner, which all have the
+-- default; the progress counts by it
+pub record IsStart (configs : List (List ℕ)) (learners : List ℕ) (default : ℕ) (made : EngineState)
+    : Type 0 where
   pub same_configs : made.membership.configs ≡ configs
-  pub nodes : (id : ℕ) → is_some (node_at nat_cmp made.membership.nodes id) ≡ (is_voter_of nat_eq configs id || is_member nat_eq learners id)
-  pub values : (id : ℕ) → made.progress.value id ≡ (if is_voter_of nat_eq configs id || is_member nat_eq learners id then Some default else None)
+  pub nodes : (id : ℕ)
+      → is_some (node_at nat_cmp made.membership.nodes id)
+      ≡ (is_voter_of nat_eq configs id || is_member nat_eq learners id)
+  pub values : (id : ℕ)
+      → made.progress.value id ≡ (if is_voter_of nat_eq configs id || is_member nat_eq learners id
+      then Some default else None)
   pub default_part : made.progress.default_part ≡ default
   pub counts_by : CountsBy nat_eq nat_cmp made
 
@@ -65,14 +71,18 @@ abbrev pub IsEngineStep : EngineState → Step ℕ EmptyNode ℕ → Reply ℕ �
 IsEngineStep old step reply new = IsTrackedRun by_number same_node old (step ∷ []) (reply ∷ []) new
 
 -- a pair answers each step, and without one there is no reply
-abbrev pub AnswersStep : Option EngineState → Step ℕ EmptyNode ℕ → Option (Reply ℕ ℕ) → Option EngineState → Type 0
+abbrev pub AnswersStep : Option EngineState → Step ℕ EmptyNode ℕ → Option (Reply ℕ ℕ)
+    → Option EngineState → Type 0
 AnswersStep None step None new = new ≡ None
 AnswersStep None step (Some reply) new = ⊥
 AnswersStep (Some old) step None new = ⊥
-AnswersStep (Some old) step (Some reply) new = (next : EngineState) × (new ≡ Some next) × IsEngineStep old step reply next
+AnswersStep (Some old) step (Some reply) new =
+    (next : EngineState) × (new ≡ Some next) × IsEngineStep old step reply next
 
--- granted is counted afresh, and each quorum, now and after one change of the membership, has a voter with at least that value
+-- granted is counted afresh, and each quorum, now and after one change of the membership, has
+-- a voter with at least that value
 abbrev pub GrantedIsKnown : EngineShown → Type 0
 GrantedIsKnown t =
     IsCounted nat_cmp part (has_quorum nat_eq) (state nat_eq t.progress) t.progress.granted
-    × QuorumsKnowGranted nat_eq nat_cmp part t × ChangedQuorumsKnowGranted nat_eq nat_cmp nat_cmp part t
+    × QuorumsKnowGranted nat_eq nat_cmp part t
+    × ChangedQuorumsKnowGranted nat_eq nat_cmp nat_cmp part t

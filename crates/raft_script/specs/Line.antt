@@ -65,14 +65,15 @@ retain_word retain = if retain then codes "retain" else codes "drop"
 -- the words of a command: its name, what it is given, and no more
 abbrev pub Spells : Command → List (List ℕ) → Type 0
 Spells (Init default configs learners) =
-    Is (codes "init") ▸ IsNumberOf default ▸ IsConfigsOf configs.items ▸ IsListOf (contains nat_cmp learners) ▸ End
+    Is (codes "init") ▸ IsNumberOf default ▸ IsConfigsOf configs.items
+    ▸ IsListOf (contains nat_cmp learners) ▸ End
 Spells (command.Step (Update id value)) =
     Is (codes "update") ▸ IsNumberOf id ▸ IsNumberOf value ▸ End
 Spells (command.Step (IncreaseTo id value)) =
     Is (codes "increase") ▸ IsNumberOf id ▸ IsNumberOf value ▸ End
 Spells (command.Step (Change change retain default)) =
-    Is (codes "change") ▸ Is (kind_word change) ▸ IsListOf (speaks_of change) ▸ Is (retain_word retain)
-    ▸ IsNumberOf default ▸ End
+    Is (codes "change") ▸ Is (kind_word change) ▸ IsListOf (speaks_of change)
+    ▸ Is (retain_word retain) ▸ IsNumberOf default ▸ End
 
 -- the words of no command
 abbrev pub SpellsNone : List (List ℕ) → Type 0

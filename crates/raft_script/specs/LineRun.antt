@@ -37,7 +37,8 @@ CannotRun held line =
     IsBadLine line ⊎ ((said : Command) × SaysCommand line said × IsStepTooEarly held said)
 
 -- a line is run, or it can't be run, changes nothing and has its number printed
-abbrev pub AnswersLine : ℕ → Option EngineState → List ℕ → Bool → Option EngineState → List ℕ → Type 0
+abbrev pub AnswersLine : ℕ → Option EngineState → List ℕ → Bool → Option EngineState → List ℕ
+    → Type 0
 AnswersLine number old line true new text = RunsLine old line new text
 AnswersLine number old line false new text =
     CannotRun old line × (new ≡ old) × (text ≡ bad_line_text number)

@@ -36,7 +36,8 @@ IsListOf has word = IsList word × ((n : ℕ) → has n ≡ stands_in word n)
 
 -- the lists of configs: none of `none`, and of any other word those between its slashes
 abbrev pub lists : List ℕ → List (List ℕ)
-lists word = if pointwise nat_eq word (codes "none") then [] else slice_split (λ byte. byte == 47) word
+lists word =
+    if pointwise nat_eq word (codes "none") then [] else slice_split (λ byte. byte == 47) word
 
 -- each part between the slashes is a list
 abbrev pub IsConfigs : List ℕ → Type 0

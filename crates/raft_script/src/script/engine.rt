@@ -18,7 +18,7 @@ pub struct Engine {
 }
 
 impl Engine {
-    ghost use Rattle.std.specs.Prelude.{Some, IfOk, OnErr, OnOk, IfSome, IsNone, IsSomeAnd, map};
+    ghost use Rattle.std.specs.Prelude.{IfOk, OnErr, OnOk, IfSome, IsNone, IsSomeAnd, map};
     ghost use Rattle.raft_script.specs.Engine.{AnswersStep, GrantedIsKnown, IsStart, pair_of, shown_of};
 
     /// An engine before any `init`.
