@@ -10,7 +10,7 @@ use crate::printing::displays;
 use raft_base::order::compare_optional_log_ids;
 use raft_base::{
     CommittedLeaderId, EmptyNode, LeaderAdv, LeaderId, LeaderKind, LogId, LogIdOf, Node,
-    NodeDefault, NodeId, RaftLogId, RaftLogIdOf, Vote, VoteOf,
+    NodeDefault, NodeId, RaftLogId, Vote, VoteOf,
 };
 use std::alloc::{AllocError, Global};
 use std::cmp::Ordering;
@@ -84,7 +84,7 @@ struct Entry {
     payload: u64,
 }
 
-impl RaftLogIdOf<LeaderId<u64>> for Entry {
+impl RaftLogId<LeaderId<u64>> for Entry {
     ghost use Rattle.std.specs.Prelude.{refl};
 
     ghost id_of = { λ e. e.log_id };
@@ -107,7 +107,7 @@ impl RaftLogIdOf<LeaderId<u64>> for Entry {
 }
 
 /// Gives one value the log id of another.
-fn renumber<A: RaftLogId<u64>, B: RaftLogId<u64>>(to: &mut A, from: &B)
+fn renumber<C, A: RaftLogId<C>, B: RaftLogId<C>>(to: &mut A, from: &B)
     ensures { to.new ≡ A.with_id to.old (B.id_of from.now) }
 {
     to.set_log_id(from.get_log_id());
@@ -145,7 +145,8 @@ fn any_default<N: Node>(alloc: Global) -> Result<N, AllocError>
     N::default_node(alloc)
 }
 
-/// Whether a vote is granted once, to a log that reaches as far, and gives an id once it is committed.
+/// Whether a vote is granted once, to a log that reaches as far,
+/// and gives an id once it is committed.
 fn is_granted_once() -> bool {
     let log = Some(LogId::new(CommittedLeaderId::new(1, 1u64), 4));
     let mut promise = Promise::<u64, LeaderAdv> {

@@ -1,5 +1,6 @@
 //! Ranges of logs, and what a log answers to its readers.
 
+use crate::growths::{is_free, refuse_each};
 use crate::plain_log::{PlainLog, id, log_below};
 use crate::printing::{debugs, displays};
 use raft_base::leader_id_std::CommittedLeaderId;
@@ -18,11 +19,23 @@ fn ranges_are_tested() -> bool {
         && LogIdRange::<u64>::new(None, None).validate() == Ok(())
 }
 
+/// How many logs a range has, where its indexes say so.
+fn len(prev: Option<LogId<u64>>, last: Option<LogId<u64>>) -> Option<u64> {
+    let range = LogIdRange::new(prev, last);
+    if range.has_len() {
+        Some(range.len())
+    } else {
+        None
+    }
+}
+
 /// Whether ranges have as many logs as indexes.
 fn ranges_are_measured() -> bool {
-    LogIdRange::<u64>::new(id(1, 5), id(3, 10)).len() == 5
-        && LogIdRange::<u64>::new(None, id(1, 0)).len() == 1
-        && LogIdRange::<u64>::new(None, None).len() == 0
+    len(id(1, 5), id(3, 10)) == Some(5)
+        && len(None, id(1, 0)) == Some(1)
+        && len(None, None) == Some(0)
+        && len(id(1, 5), id(2, 4)) == None
+        && len(None, id(1, u64::MAX)) == None
 }
 
 /// Whether ranges display as they should.
@@ -39,7 +52,9 @@ fn display(alloc: Global) -> Result<bool, AllocError> {
 
 #[test]
 fn ranges(rt: HostRuntime) -> Result<(), Fail> {
-    assert!(rt; ranges_are_tested() && ranges_are_measured());
+    refuse_each(rt.alloc());
+    let is_right = ranges_are_tested() && ranges_are_measured();
+    assert!(rt; is_free(&rt, rt.alloc(), "LogIdRange::{validate, len}", is_right)?);
     assert!(rt; display(rt.alloc())?);
     Ok(())
 }

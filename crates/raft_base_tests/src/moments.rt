@@ -1,10 +1,12 @@
 //! Moments, values with the moment of their last update, and what a node is.
-ghost use Rattle.std.specs.Prelude.{◌≡◌, Some, IsTrue, if◌then◌else◌};
+ghost use Rattle.std.specs.Prelude.{◌≡◌, Some, if◌then◌else◌};
 ghost use Rattle.std.specs.Ordering.{is_ge};
 ghost use Rattle.std.specs.Option.{option_cmp};
 ghost use Rattle.raft_base.specs.UTime.{data_of, moment_of, stamped};
 
+use crate::growths::{is_free, refuse_each};
 use raft_base::{Instant, ServerState, UTime};
+use std::alloc::{AllocError, Global};
 use std::test::Fail;
 
 /// Marks a value as updated now, unless it was updated later than that.
@@ -26,6 +28,11 @@ fn count_up(count: &mut UTime<u8, u64>)
     *value = *value + 1;
 }
 
+/// The default value, over moments that have no default of their own.
+fn never_updated<I: Instant>() -> UTime<u8, I> {
+    UTime::default()
+}
+
 /// Whether a count is updated, touched and written, each time with its moment.
 fn is_stamped() -> bool {
     let mut count = UTime::new(3u64, 5u8);
@@ -40,7 +47,7 @@ fn is_stamped() -> bool {
         && count == UTime::new(9, 8)
         && count != UTime::new(8, 8)
         && count != UTime::without_utime(8)
-        && UTime::<u8, u64>::default() == UTime::without_utime(0)
+        && never_updated::<u64>() == UTime::without_utime(0)
         && UTime::<u8, u64>::without_utime(2).utime() == None
         && count.into_inner() == 8
 }
@@ -64,9 +71,18 @@ fn states_differ() -> bool {
         && is_exactly(ServerState::Shutdown, [false, false, false, false])
 }
 
+/// Whether a list of texts is cloned with its moment.
+fn is_cloned(alloc: Global) -> Result<bool, AllocError> {
+    let stamped = UTime::new(3u64, String::from_str(alloc, "voted")?);
+    Ok(stamped.try_clone()? == stamped)
+}
+
 #[test]
 fn moments_pass(rt: HostRuntime) -> Result<(), Fail> {
     assert!(rt; 5u64.elapsed(9) == 4 && 9u64.elapsed(5) == 0 && 5u64.ticks() == 5);
-    assert!(rt; is_stamped() && states_differ());
+    assert!(rt; states_differ() && is_cloned(rt.alloc())?);
+    refuse_each(rt.alloc());
+    let is_right = is_stamped();
+    assert!(rt; is_free(&rt, rt.alloc(), "UTime", is_right)?);
     Ok(())
 }

@@ -31,7 +31,8 @@ pub fn id<C: Numbered>(leader: u64, index: u64) -> Option<LogIdOf<C>>
     Some(LogIdOf::new(C::numbered(leader), index))
 }
 
-/// A log: its ids, of which the first one of an index counts, and those that tell how far it has come.
+/// A log: its ids, of which the first one of an index counts, and
+/// those that tell how far it has come.
 #[derive(Drop)]
 pub struct PlainLog<C> {
     pub ids: Vec<LogIdOf<C>>,

@@ -1,15 +1,19 @@
 //! Leader ids of standard Raft, and indexes that may be absent.
 
-use raft_base::leader_id_std::{CommittedLeaderId, LeaderId};
-use raft_base::{LeaderStd, LogIdOf, LogIdOptionExt, LogIndexOptionExt, VoteOf};
+use crate::growths::{is_free, refuse_each};
+use raft_base::leader_id_std::{CommittedLeaderId, LeaderId, Vote};
+use raft_base::order::{
+    compare_standard_leader_ids, compare_standard_log_ids, compare_standard_votes,
+};
+use raft_base::{LogIdOf, LogIdOptionExt, LogIndexOptionExt};
 use std::cmp::Ordering;
 use std::test::Fail;
 
 /// A leader as its term and the node that it is for, and whether its vote is committed.
 type Voted = (u64, Option<u64>, bool);
 
-fn vote(voted: Voted) -> VoteOf<u64, LeaderStd> {
-    VoteOf::<u64, LeaderStd> {
+fn vote(voted: Voted) -> Vote<u64> {
+    Vote::<u64> {
         leader_id: LeaderId {
             term: voted.0,
             voted_for: voted.1,
@@ -21,9 +25,15 @@ fn vote(voted: Voted) -> VoteOf<u64, LeaderStd> {
 /// Whether two votes compare as wanted, from both sides.
 fn compare_as(a: Voted, b: Voted, want: Option<Ordering>) -> bool {
     let (a, b) = (vote(a), vote(b));
-    a.partial_cmp(&b) == want
+    compare_standard_votes(&a, &b) == want
         && b.partial_cmp(&a) == want.map(|order| order.reverse())
         && (a == b) == (want == Some(Ordering::Equal))
+        && (a.committed || b.committed || leaders_compare_as(&a, &b, want))
+}
+
+/// Whether the leaders of two votes compare as wanted.
+fn leaders_compare_as(a: &Vote<u64>, b: &Vote<u64>, want: Option<Ordering>) -> bool {
+    compare_standard_leader_ids(a.leader_id(), b.leader_id()) == want
 }
 
 #[test]
@@ -44,9 +54,32 @@ fn votes_of_one_term_need_not_compare(rt: HostRuntime) -> Result<(), Fail> {
         ((2, Some(1), false), (1, Some(1), true), greater),
         ((1, Some(1), true), (1, Some(1), true), equal),
     ];
+    refuse_each(rt.alloc());
     for (a, b, want) in rows {
         assert!(rt; compare_as(a, b, want), "at {a:?} and {b:?}");
     }
+    assert!(rt; is_free(&rt, rt.alloc(), "comparison of standard votes", true)?);
+    Ok(())
+}
+
+/// A term and an index.
+type Row = (u64, u64);
+
+#[test]
+fn log_ids_compare_by_term_then_index(rt: HostRuntime) -> Result<(), Fail> {
+    let log_id = |row: Row| LogIdOf::new(CommittedLeaderId { term: row.0 }, row.1);
+    let rows: [(Row, Row, Ordering); 4] = [
+        ((1, 3), (1, 3), Ordering::Equal),
+        ((1, 3), (1, 4), Ordering::Less),
+        ((2, 3), (1, 9), Ordering::Greater),
+        ((0, 0), (0, 1), Ordering::Less),
+    ];
+    refuse_each(rt.alloc());
+    for (a, b, want) in rows {
+        let order = compare_standard_log_ids(&log_id(a), &log_id(b));
+        assert!(rt; order == want, "at {a:?} and {b:?}");
+    }
+    assert!(rt; is_free(&rt, rt.alloc(), "comparison of standard log ids", true)?);
     Ok(())
 }
 
@@ -72,7 +105,10 @@ fn steps_lead() -> bool {
         && none.add(3) == Some(2)
         && none.next_index() == 0
         && Some(7).add(0) == Some(7)
+        && Some(7).can_add(u64::MAX - 8)
+        && !Some(7).can_add(u64::MAX - 7)
         && Some(7).next_index() == 8
+        && !Some(u64::MAX).has_next_index()
         && Some(0).prev_index() == None
         && Some(8).prev_index() == Some(7)
 }
@@ -87,6 +123,7 @@ fn indexes_read(id: &LogIdOf<CommittedLeaderId>) -> bool {
         && absent.next_index() == 0
         && Some(id).index() == Some(4)
         && Some(id).next_index() == 5
+        && (there.has_next_index() && absent.has_next_index() && Some(id).has_next_index())
 }
 
 #[test]

@@ -1,7 +1,8 @@
 //! Worked values.
 
+use crate::growths::{is_free, refuse_each};
 use raft_base::{
-    BasicNode, CommittedLeaderId, EmptyNode, LeaderId, LogId, NodeDefault, RaftLogIdOf, Vote,
+    BasicNode, CommittedLeaderId, EmptyNode, LeaderId, LogId, NodeDefault, RaftLogId, Vote,
 };
 use std::alloc::{AllocError, Global};
 use std::cmp::Ordering;
@@ -40,9 +41,11 @@ fn a_term_decides_then_the_node_then_being_committed(rt: HostRuntime) -> Result<
         ((1, 2, true), (2, 1, false), Ordering::Less),
         ((2, 2, true), (2, 2, true), Ordering::Equal),
     ];
+    refuse_each(rt.alloc());
     for (a, b, want) in rows {
         assert!(rt; votes_compare(a, b, want), "at {a:?} and {b:?}");
     }
+    assert!(rt; is_free(&rt, rt.alloc(), "comparison of votes", true)?);
     Ok(())
 }
 
@@ -65,9 +68,11 @@ fn a_leader_decides_then_the_index(rt: HostRuntime) -> Result<(), Fail> {
         ((1, 2, 3), (1, 1, 9), Ordering::Greater),
         ((0, 0, 0), (0, 0, 1), Ordering::Less),
     ];
+    refuse_each(rt.alloc());
     for (a, b, want) in rows {
         assert!(rt; log_ids_compare(a, b, want), "at {a:?} and {b:?}");
     }
+    assert!(rt; is_free(&rt, rt.alloc(), "comparison of log ids", true)?);
     Ok(())
 }
 
@@ -91,7 +96,8 @@ fn votes_read_back(rt: HostRuntime) -> Result<(), Fail> {
     Ok(())
 }
 
-/// Whether the leader of node 4 in a term is committed as told, and in any term by a committed vote.
+/// Whether the leader of node 4 in a term is committed as told,
+/// and in any term by a committed vote.
 fn is_committed_in(term: u64, granted: bool) -> bool {
     let leader = LeaderId::new(term, 4u64);
     let want = if granted { Some(leader) } else { None };

@@ -1,7 +1,7 @@
 //! Answers of the original, openraft 0.9.25, compared call by call.
 //!
-//! The calls were drawn at random, many of them over several configs, a quarter of the changes refused;
-//! each answer is what the original's own code gave to that call.
+//! The calls were drawn at random, many of them over several configs, a quarter of the changes
+//! refused; each answer is what the original's own code gave to that call.
 
 use super::lines::{change_is_right, read_is_right, step_is_right, test_is_right};
 use std::test::Fail;
@@ -358,8 +358,8 @@ none 1=1,3=49,4=7 ok
 2,5 2=19,3=34 err LearnerNotFound 5
 ";
 
-/// Configs, nodes, an id; the voters, the learners, whether the id has a node, whether it is a voter,
-/// its node, whether there are several configs.
+/// Configs, nodes, an id; the voters, the learners, whether the id has a node, whether it is a
+/// voter, its node, whether there are several configs.
 const READS: &str = "
 0,1 0=1,1=26,5=0 0 0,1 5 true true 1 false
 3,5,18446744073709551615 1=10,3=48,5=8,18446744073709551615=47 0 3,5,18446744073709551615 1 false false - false

@@ -29,25 +29,34 @@ fn effective(alloc: Global) -> Result<Effective, AllocError> {
     Effective::new_from_stored_membership(stored(alloc)?)
 }
 
-/// Whether a shared effective membership, and itself, answer a set of ids as wanted.
-fn answers(shared: &Rc<Effective>, ids: &[u64], want: bool) -> bool {
-    shared.is_quorum(ids) == want && (**shared).is_quorum(ids) == want
+/// Whether a shared effective membership, itself, and the quorum set of its configs answer a set of
+/// ids as wanted.
+fn answers(shared: &Rc<Effective>, ids: &[u64], want: bool) -> Result<bool, AllocError> {
+    let quorums = shared.membership().to_quorum_set()?;
+    Ok(
+        shared.is_quorum(ids) == want
+            && (**shared).is_quorum(ids) == want
+            && quorums.is_quorum(ids) == want,
+    )
 }
 
 // Configs, ids, whether they are a quorum; a repeated id counts as often as it comes.
 #[test]
-fn an_effective_membership_asks_each_config(rt: HostRuntime) -> Result<(), Fail> {
-    let rows: [(&str, &[u64], bool); 6] = [
+fn configs_are_a_quorum_set(rt: HostRuntime) -> Result<(), Fail> {
+    let rows: [(&str, &[u64], bool); 9] = [
         ("1,2,3,4,5/6,7,8", &[1, 2, 3], false),
         ("1,2,3,4,5/6,7,8", &[6, 7], false),
         ("1,2,3,4,5/6,7,8", &[1, 2, 3, 6, 7], true),
         ("1/1,2/1,2,3", &[1, 2], true),
         ("1/1,2/1,2,3", &[1, 3], false),
+        ("1,2/2,4", &[1, 2], false),
+        ("1,2/2,4", &[1, 2, 4], true),
         ("1,2,3", &[1, 1], true),
+        ("none", &[], true),
     ];
     for (configs, ids, want) in rows {
         let shared = EffectiveMembership::new_arc(None, members(rt.alloc(), configs, "-")?)?;
-        assert!(rt; answers(&shared, ids, want), "of {configs}");
+        assert!(rt; answers(&shared, ids, want)?, "of {configs}");
     }
     Ok(())
 }
@@ -119,7 +128,8 @@ fn clones_are_equal(rt: HostRuntime) -> Result<(), Fail> {
     Ok(())
 }
 
-/// Whether an effective membership equals one of the same configs and nodes, under a log id or none.
+/// Whether an effective membership equals one of the same configs
+/// and nodes, under a log id or none.
 fn equals(alloc: Global, made: &Effective, log_id: Option<LogId<u64>>) -> Result<bool, AllocError> {
     Ok(*made == Effective::new(log_id, membership(alloc)?)?)
 }

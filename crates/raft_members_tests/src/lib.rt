@@ -1,5 +1,5 @@
-//! The tests of `raft_members`, through its public calls alone, and the words of ids and memberships, which
-//! those of `raft_state` share. It ships nothing.
+//! The tests of `raft_members`, through its public calls alone, and the words of ids and
+//! memberships, which those of `raft_state` share. It ships nothing.
 #![tactic(auto)]
 
 #[cfg(test)]
@@ -10,6 +10,10 @@ mod changes;
 mod compared;
 #[cfg(test)]
 mod effective;
+#[cfg(test)]
+mod first_caller;
+#[cfg(test)]
+mod growths;
 #[cfg(test)]
 mod lines;
 #[cfg(test)]

@@ -90,8 +90,8 @@ fn is_answer(
     }
 }
 
-/// Whether the change of a line has the line's answer: configs, nodes, the change, its ids or nodes,
-/// whether nodes are retained; the answer.
+/// Whether the change of a line has the line's answer: configs, nodes, the change, its ids or
+/// nodes, whether nodes are retained; the answer.
 pub fn change_is_right(alloc: Global, line: &str) -> Result<bool, AllocError> {
     let mut words = line.split_whitespace();
     let from = membership(alloc, &mut words)?;
@@ -101,8 +101,8 @@ pub fn change_is_right(alloc: Global, line: &str) -> Result<bool, AllocError> {
     is_answer(alloc, &made, &mut words)
 }
 
-/// Whether the step of a line leads to the line's answer: configs, nodes, the goal, whether nodes are
-/// retained; the next configs and nodes.
+/// Whether the step of a line leads to the line's answer: configs, nodes, the goal, whether nodes
+/// are retained; the next configs and nodes.
 pub fn step_is_right(alloc: Global, line: &str) -> Result<bool, AllocError> {
     let mut words = line.split_whitespace();
     let from = membership(alloc, &mut words)?;
@@ -123,8 +123,9 @@ pub fn test_is_right(alloc: Global, line: &str) -> Result<bool, AllocError> {
     })
 }
 
-/// Whether the reads of a line give the line's answers: configs, nodes, an id; the voters, the learners,
-/// whether the id has a node, whether it is a voter, its node, whether there are several configs.
+/// Whether the reads of a line give the line's answers: configs, nodes, an id; the
+/// voters, the learners, whether the id has a node, whether it is a voter, its node,
+/// whether there are several configs.
 pub fn read_is_right(alloc: Global, line: &str) -> Result<bool, AllocError> {
     let mut words = line.split_whitespace();
     let read = membership(alloc, &mut words)?;

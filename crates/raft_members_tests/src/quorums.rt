@@ -19,7 +19,7 @@ fn set_of(alloc: Global, ids: &[u64]) -> Result<BTreeSet<u64>, AllocError> {
 }
 
 /// Whether a vector, a slice and a set of the voters answer a set of ids as wanted.
-fn each_answers(vector: &Vec<u64>, set: &BTreeSet<u64>, ids: &[u64], want: bool) -> bool {
+pub fn each_answers(vector: &Vec<u64>, set: &BTreeSet<u64>, ids: &[u64], want: bool) -> bool {
     vector.is_quorum(ids) == want
         && vector.as_slice().is_quorum(ids) == want
         && set.is_quorum(ids) == want
@@ -220,48 +220,45 @@ fn laws_hold_of_plain_ids(_rt: HostRuntime) -> Result<(), Fail> {
     Ok(())
 }
 
-/// Whether the ids are a quorum of so many of 3, 1, 2 and 1 again, and the set shows what it was made
-/// of.
-fn is_enough(alloc: Global, need: usize, ids: &[u64]) -> Result<bool, AllocError>
+/// Ids that are given, and those that a quorum set shows of them.
+type Given<'a> = (&'a [u64], &'a [u64]);
+
+/// Whether the ids are a quorum of so many of the given ones, and
+/// the set shows what it was made of.
+fn is_enough(alloc: Global, given: Given<'_>, need: usize, ids: &[u64]) -> Result<bool, AllocError>
     requires { 1 ≤ need }
 {
-    let set = AtLeast::new(alloc, &[3, 1, 2, 1], need)?;
-    let is_as_made = set.need() == need && has_ids(alloc, &set, &[1, 2, 3])?;
+    let set = AtLeast::new(alloc, given.0, need)?;
+    let is_as_made = set.need() == need && has_ids(alloc, &set, given.1)?;
     Ok(is_as_made && set.try_clone()?.is_quorum(ids))
 }
 
-// How many are needed, the ids asked, and whether they are a quorum.
+// What is given and shown, how many are needed, the ids asked, and whether they are a quorum.
 #[test]
 fn a_quorum_has_as_many_as_needed(rt: HostRuntime) -> Result<(), Fail> {
-    let rows: [(usize, &[u64], bool); 7] = [
-        (1, &[], false),
-        (1, &[9, 2], true),
-        (2, &[1], false),
-        (2, &[1, 9, 8], false),
-        (2, &[1, 9, 3], true),
-        (3, &[3, 2, 1], true),
-        (4, &[3, 2, 1, 4], false),
+    let three: Given<'static> = (&[3, 1, 2, 1], &[1, 2, 3]);
+    let five: Given<'static> = (&[0, 1, 2, 3, 4], &[0, 1, 2, 3, 4]);
+    let none: Given<'static> = (&[], &[]);
+    let rows: [(Given<'_>, usize, &[u64], bool); 11] = [
+        (three, 1, &[], false),
+        (three, 1, &[9, 2], true),
+        (three, 2, &[1], false),
+        (three, 2, &[1, 9, 8], false),
+        (three, 2, &[1, 9, 3], true),
+        (three, 3, &[3, 2, 1], true),
+        (three, 4, &[3, 2, 1, 4], false),
+        // Two quorums of a stated size may share no id.
+        (five, 2, &[0, 1], true),
+        (five, 2, &[2, 3], true),
+        (none, 1, &[], false),
+        (none, 1, &[1], false),
     ];
-    for (need, ids, want) in rows {
+    for (given, need, ids, want) in rows {
         assert!(rt;
-            need >= 1 && is_enough(rt.alloc(), need, ids)? == want,
+            need >= 1 && is_enough(rt.alloc(), given, need, ids)? == want,
             "{need} of {ids:?}"
         );
     }
-    Ok(())
-}
-
-#[test]
-fn quorums_of_a_stated_size_may_share_no_id(rt: HostRuntime) -> Result<(), Fail> {
-    let two = AtLeast::new(rt.alloc(), &[0, 1, 2, 3, 4], 2)?;
-    assert!(rt; two.is_quorum(&[0, 1]) && two.is_quorum(&[2, 3]));
-    Ok(())
-}
-
-#[test]
-fn no_ids_have_no_quorum_of_a_stated_size(rt: HostRuntime) -> Result<(), Fail> {
-    let none: AtLeast<u64> = AtLeast::new(rt.alloc(), &[], 1)?;
-    assert!(rt; !none.is_quorum(&[]) && !none.is_quorum(&[1]));
     Ok(())
 }
 
@@ -271,5 +268,27 @@ fn a_stated_size_as_a_text(rt: HostRuntime) -> Result<(), Fail> {
     let none: AtLeast<u64> = AtLeast::new(rt.alloc(), &[], 1)?;
     assert!(rt; set.to_string(rt.alloc())?.as_str() == "2 of {0,1,2,3,4}");
     assert!(rt; none.to_string(rt.alloc())?.as_str() == "1 of {}");
+    Ok(())
+}
+
+/// Whether a vector, a slice and a set of some voters say the least size of their quorums.
+fn each_says(alloc: Global, voters: &[u64], want: usize) -> Result<bool, AllocError> {
+    let vector = voters.to_vec(alloc)?;
+    let set = set_of(alloc, voters)?;
+    Ok(
+        vector.least_quorum_size() == want
+            && vector.as_slice().least_quorum_size() == want
+            && set.least_quorum_size() == want,
+    )
+}
+
+// The contract takes any bound that holds, 0 too: these are the greatest ones.
+#[test]
+fn the_least_size_of_a_quorum(rt: HostRuntime) -> Result<(), Fail> {
+    let alloc = rt.alloc();
+    assert!(rt; each_says(alloc, &[], 1)? && each_says(alloc, &[1, 2, 3, 4], 3)?);
+    let shared = Rc::new(alloc, joint(alloc, &[&[1, 2], &[1, 2, 3, 4, 5, 6], &[7]])?)?;
+    let borrowed: Joint<u64, Vec<u64>, &[Vec<u64>]> = shared.children().as_joint();
+    assert!(rt; shared.least_quorum_size() == 4 && borrowed.least_quorum_size() == 4);
     Ok(())
 }

@@ -1,5 +1,5 @@
-//! Ids and memberships as words. Configs are lists of ids joined by `/`, nodes are `id=node`; an empty
-//! list is `-`, and no configs are `none`.
+//! Ids and memberships as words. Configs are lists of ids joined by `/`, nodes are `id=node`; an
+//! empty list is `-`, and no configs are `none`.
 
 use raft_members::Membership;
 use std::alloc::{AllocError, Global};

@@ -1,0 +1,25 @@
+//! The first caller, as it is printed on the page for callers.
+
+use raft_members::quorum::QuorumSet;
+use raft_members::{ChangeMembers, ChangeMembershipError, Membership};
+use std::alloc::Global;
+use std::collections::BTreeMap;
+
+/// Voters 1 and 2 become voters 2 and 3, in two changes; between them a quorum needs both configs.
+fn replace_voters(alloc: Global) -> Result<bool, ChangeMembershipError<u64>> {
+    let mut nodes = BTreeMap::new(alloc);
+    nodes.insert(1, 10u64)?;
+    nodes.insert(2, 20)?;
+    let voters = Membership::from_nodes(alloc, nodes)?;
+    let mut third = BTreeMap::new(alloc);
+    third.insert(3, 30)?;
+    let joint = voters.change(ChangeMembers::AddNodes(third), true)?;
+    let joint = joint.change(ChangeMembers::replace_all(alloc, &[2, 3])?, false)?;
+    let last = joint.change(ChangeMembers::replace_all(alloc, &[2, 3])?, false)?;
+    Ok(joint.is_in_joint_consensus() && last.to_quorum_set()?.is_quorum(&[2, 3]))
+}
+
+#[test]
+fn voters_are_replaced(rt: HostRuntime) {
+    assert!(rt; replace_voters(rt.alloc()) == Ok(true));
+}
