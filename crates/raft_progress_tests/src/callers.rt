@@ -12,7 +12,7 @@ ghost use Rattle.raft_progress.specs.progress.Steps.{IsRun};
 ghost use Rattle.raft_progress.specs.tracked.TrackedState.{TrackedShown, tracked_state};
 ghost use Rattle.raft_progress.specs.tracked.TrackedSteps.{IsTrackedRun};
 ghost use Rattle.std.specs.Ordering.{nat_cmp};
-ghost use Rattle.std.specs.Prelude.{◌≡◌, IfOk, IfSome, List, Ok, Some, ℕ, length};
+ghost use Rattle.std.specs.Prelude.{◌≡◌, IfOk, IfSome, List, Ok, Some, true, ℕ, length};
 ghost use Rattle.std.specs.Set.{ClonesAreEqual};
 ghost use Rattle.raft_progress.specs.progress.VecProgress.{shown};
 
@@ -87,8 +87,8 @@ pub fn granted_now<NID: NodeId, N: Node>(pair: &Tracked<NID, N, u64, u64>) -> u6
     *pair.progress().granted()
 }
 
-/// Writes another value of the same part at an id, and answers whether the id is known. The progress
-/// stays in order, so that updates may follow.
+/// Writes another value at an id, of the same part where it is a voter, and answers whether the id
+/// is known. The progress stays in order, so that updates may follow.
 pub fn replaced<ID: Copy + Ord, V: ProgressPart<P> + Drop, P: Copy + Ord, QS: QuorumSet<ID> + Drop>(
     progress: &mut VecProgress<ID, V, P, QS>,
     id: &ID,
@@ -96,6 +96,7 @@ pub fn replaced<ID: Copy + Ord, V: ProgressPart<P> + Drop, P: Copy + Ord, QS: Qu
 ) -> bool
     requires ordered { IsInOrder ID.eq P.cmp V.part_of QS.has_quorum (shown progress.old) }
     requires same_part { (v : V) → (state ID.eq (shown progress.old)).value id.now ≡ Some v →
+        (state ID.eq (shown progress.old)).is_voter id.now ≡ true →
         V.part_of value ≡ V.part_of v }
     ensures { IsInOrder ID.eq P.cmp V.part_of QS.has_quorum (shown progress.new) }
 {

@@ -1,6 +1,6 @@
 //! Each public call once, and values that hold more than their part.
 
-use super::steps::{first_ids, made, replied, updated};
+use super::steps::{first_ids, made, updated};
 use raft_progress::{AnyStep, Progress, ProgressPart, Reply, VecProgress, replay_any};
 use std::alloc::{AllocError, Global};
 use std::process::Abort;
@@ -150,88 +150,129 @@ fn an_id_is_changed_through_iter_mut(rt: HostRuntime) -> Result<(), Fail> {
     Ok(())
 }
 
+/// A step as plain data: an id and its value, or the voters, the learners and the default of an upgrade.
+enum Row {
+    Update(u64, u64),
+    IncreaseTo(u64, u64),
+    Upgrade(&'static [u64], &'static [u64], u64),
+}
+
+/// The step of a row.
+fn step(alloc: Global, row: &Row) -> Result<AnyStep<u64, u64, Vec<u64>>, AllocError> {
+    Ok(match row {
+        Row::Update(id, value) => AnyStep::Update(*id, *value),
+        Row::IncreaseTo(id, value) => AnyStep::IncreaseTo(*id, *value),
+        Row::Upgrade(voters, learners, default) => AnyStep::Upgrade {
+            quorum_set: voters.to_vec(alloc)?,
+            learners: learners.to_vec(alloc)?,
+            default: *default,
+        },
+    })
+}
+
+/// Steps with their replies, the walk that they leave, and how many updates and moves they count.
+struct Script {
+    rows: &'static [(Row, Reply<u64, u64>)],
+    walk: &'static [(u64, u64)],
+    updates: u64,
+    moves: u64,
+}
+
+/// Replays steps as one list, and answers whether each has its reply.
+fn are_replied(
+    alloc: Global,
+    progress: &mut Numbers,
+    rows: &[(Row, Reply<u64, u64>)],
+) -> Result<bool, AllocError> {
+    let mut steps = Vec::new(alloc);
+    for (row, _) in rows {
+        steps.push(step(alloc, row)?)?;
+    }
+    if !progress.is_in_order() {
+        return Ok(false);
+    }
+    let replies = replay_any(alloc, progress, steps)?;
+    Ok(replies.iter().eq(rows.iter().map(|(_, reply)| reply)))
+}
+
+/// Whether a progress is what a script leaves.
+fn is_left(progress: &Numbers, script: &Script) -> bool {
+    progress.iter().copied().eq(script.walk.iter().copied())
+        && progress.stat().update_count == script.updates
+        && progress.stat().move_count == script.moves
+}
+
+/// Whether a script is replied to and leaves what it should, and no steps leave that too.
+fn is_replayed(alloc: Global, progress: &mut Numbers, script: &Script) -> Result<bool, AllocError> {
+    Ok(
+        are_replied(alloc, progress, script.rows)?
+            && are_replied(alloc, progress, &[])?
+            && is_left(progress, script),
+    )
+}
+
+/// The same, of a new progress of these voters and learners at 0.
+fn plays(
+    rt: &impl Abort,
+    alloc: Global,
+    voters: &[u64],
+    learners: &[u64],
+    script: &Script,
+) -> Result<bool, AllocError> {
+    let mut progress: Numbers = made(rt, alloc, voters.to_vec(alloc)?, learners, 0)?;
+    is_replayed(alloc, &mut progress, script)
+}
+
+const INCREASES: Script = Script {
+    rows: &[
+        (Row::IncreaseTo(0, 5), Reply::Granted(0)),
+        (Row::IncreaseTo(0, 4), Reply::Granted(0)),
+        (Row::IncreaseTo(1, 6), Reply::Granted(5)),
+        (Row::IncreaseTo(1, 6), Reply::Granted(5)),
+        (Row::IncreaseTo(9, 6), Reply::Unknown(5)),
+    ],
+    walk: &[(1, 6), (0, 5), (2, 0), (7, 0)],
+    updates: 5,
+    moves: 2,
+};
+
 #[test]
 fn increases(rt: HostRuntime) -> Result<(), Fail> {
-    let alloc = rt.alloc();
-    let mut progress: Numbers = made(&rt, alloc, first_ids(alloc, 3)?, &[7], 0)?;
-    let rows = [
-        (0, 5, Reply::Granted(0), Some(&5)),
-        (0, 4, Reply::Granted(0), Some(&5)),
-        (1, 6, Reply::Granted(5), Some(&6)),
-        (1, 6, Reply::Granted(5), Some(&6)),
-        (9, 6, Reply::Unknown(5), None),
-    ];
-    for (id, value, reply, now) in rows {
-        let step = AnyStep::IncreaseTo(id, value);
-        assert_eq!(rt; replied(&rt, alloc, &mut progress, step)?, Some(reply));
-        assert_eq!(rt; progress.try_get(&id), now);
-    }
-    assert_eq!(rt; progress.stat().update_count, 5);
+    assert!(rt; plays(&rt, rt.alloc(), &[0, 1, 2], &[7], &INCREASES)?);
     Ok(())
 }
+
+const UPGRADE: Script = Script {
+    rows: &[
+        (Row::Update(0, 5), Reply::Granted(0)),
+        (Row::Update(1, 6), Reply::Granted(5)),
+        (Row::Upgrade(&[2, 3, 4], &[1], 0), Reply::Granted(0)),
+    ],
+    walk: &[(2, 0), (3, 0), (4, 0), (1, 6)],
+    updates: 5,
+    moves: 2,
+};
 
 // An upgrade that always lacks memory fails here.
 #[test]
 fn always_out_of_memory(rt: HostRuntime) -> Result<(), Fail> {
-    let alloc = rt.alloc();
-    let mut progress: Numbers = made(&rt, alloc, first_ids(alloc, 3)?, &[], 0)?;
-    let steps = vec![in alloc;
-        AnyStep::Update(0, 5),
-        AnyStep::Update(1, 6),
-        AnyStep::Upgrade {
-            quorum_set: vec![in alloc; 2, 3, 4]?,
-            learners: vec![in alloc; 1]?,
-            default: 0
-        },
-    ]?;
-    let replies = replay_any(alloc, &mut progress, steps)?;
-    assert_eq!(rt;
-        replies.as_slice(),
-        [Reply::Granted(0), Reply::Granted(5), Reply::Granted(0)].as_slice()
-    );
-    assert_eq!(rt; progress.try_get(&1), Some(&6));
-    assert_eq!(rt; progress.try_get(&0), None);
-    assert_eq!(rt; progress.stat().update_count, 5);
+    assert!(rt; plays(&rt, rt.alloc(), &[0, 1, 2], &[], &UPGRADE)?);
     Ok(())
 }
 
-/// Whether an upgrade to the same voters is answered as wanted.
-fn is_answered(
-    rt: &impl Abort,
-    alloc: Global,
-    progress: &mut Numbers,
-    learners: &[u64],
-    default: u64,
-    want: Reply<u64, u64>,
-) -> Result<bool, AllocError> {
-    let quorum_set = first_ids(alloc, 3)?;
-    let upgrade = AnyStep::Upgrade {
-        quorum_set,
-        learners: learners.to_vec(alloc)?,
-        default,
-    };
-    Ok(replied(rt, alloc, progress, upgrade)? == Some(want))
-}
-
-/// Whether upgrades are refused, and each leaves the progress as before.
-fn are_refused(
-    rt: &impl Abort,
-    alloc: Global,
-    progress: &mut Numbers,
-    before: &Numbers,
-) -> Result<bool, AllocError> {
-    let rows: [(&[u64], u64, Reply<u64, u64>); 3] = [
-        (&[5], 1, Reply::BelowDefault(2)),
-        (&[5, 5], 1, Reply::BadLearners),
-        (&[2], 0, Reply::BadLearners),
-    ];
-    for (learners, default, reply) in rows {
-        if !is_answered(rt, alloc, progress, learners, default, reply)? || *progress != *before {
-            return Ok(false);
-        }
-    }
-    Ok(true)
-}
+const REFUSED_UPGRADES: Script = Script {
+    rows: &[
+        (Row::Update(0, 5), Reply::Granted(0)),
+        (Row::Update(1, 6), Reply::Granted(5)),
+        (Row::Update(5, 9), Reply::Granted(5)),
+        (Row::Upgrade(&[0, 1, 2], &[5], 1), Reply::BelowDefault(2)),
+        (Row::Upgrade(&[0, 1, 2], &[5, 5], 1), Reply::BadLearners),
+        (Row::Upgrade(&[0, 1, 2], &[2], 0), Reply::BadLearners),
+    ],
+    walk: &[(1, 6), (0, 5), (2, 0), (5, 9)],
+    updates: 3,
+    moves: 2,
+};
 
 /// Whether an upgrade to the same voters may be made exactly where it lowers no value.
 fn may_upgrade(alloc: Global, progress: &Numbers) -> Result<bool, AllocError> {
@@ -243,85 +284,51 @@ fn may_upgrade(alloc: Global, progress: &Numbers) -> Result<bool, AllocError> {
     )
 }
 
-/// Whether three updates are granted.
-fn are_granted(rt: &impl Abort, progress: &mut Numbers) -> bool {
-    for (id, value, granted) in [(0, 5, 0), (1, 6, 5), (5, 9, 5)] {
-        if updated(rt, progress, id, value) != Ok(granted) {
-            return false;
-        }
-    }
-    true
-}
-
-/// Whether upgrades are refused after them.
-fn refuses(rt: &impl Abort, alloc: Global, progress: &mut Numbers) -> Result<bool, AllocError> {
-    if !are_granted(rt, progress) {
-        return Ok(false);
-    }
-    let before = progress.clone()?;
-    Ok(are_refused(rt, alloc, progress, &before)? && may_upgrade(alloc, progress)?)
-}
-
 #[test]
 fn upgrades_are_refused(rt: HostRuntime) -> Result<(), Fail> {
     let alloc = rt.alloc();
     let mut progress: Numbers = made(&rt, alloc, first_ids(alloc, 3)?, &[5], 0)?;
-    assert!(rt; refuses(&rt, alloc, &mut progress)?);
+    assert!(rt; is_replayed(alloc, &mut progress, &REFUSED_UPGRADES)?);
+    assert!(rt; may_upgrade(alloc, &progress)?);
     Ok(())
 }
+
+// The update that would have lowered a value is no update.
+const UPDATES: Script = Script {
+    rows: &[
+        (Row::Update(1, 4), Reply::Granted(0)),
+        (Row::Update(2, 6), Reply::Granted(4)),
+        (Row::Update(2, 5), Reply::WouldFall),
+        (Row::Update(7, 1), Reply::Unknown(4)),
+    ],
+    walk: &[(2, 6), (1, 4), (3, 0)],
+    updates: 3,
+    moves: 2,
+};
 
 // A replay goes on after a refused step, and one that always lacks memory fails here.
 #[test]
 fn replay_always_alloc_error(rt: HostRuntime) -> Result<(), Fail> {
-    let alloc = rt.alloc();
-    let mut progress: Numbers = made(&rt, alloc, vec![in alloc; 1, 2, 3]?, &[], 0)?;
-    let steps = vec![in alloc;
-        AnyStep::Update(1, 4),
-        AnyStep::Update(2, 6),
-        AnyStep::Update(2, 5),
-        AnyStep::Update(7, 1),
-    ]?;
-    let replies = replay_any(alloc, &mut progress, steps)?;
-    let want = [
-        Reply::Granted(0),
-        Reply::Granted(4),
-        Reply::WouldFall,
-        Reply::Unknown(4),
-    ];
-    assert_eq!(rt; replies.as_slice(), want.as_slice());
-    // The update that would have lowered a value is no update.
-    assert_eq!(rt; progress.stat().update_count, 3);
-    let none = replay_any(alloc, &mut progress, Vec::new(alloc))?;
-    assert!(rt; none.is_empty());
+    assert!(rt; plays(&rt, rt.alloc(), &[1, 2, 3], &[], &UPDATES)?);
     Ok(())
 }
 
-/// Whether voters 1, 2 and 3, which were learners, stand by their values, and each was moved up past
-/// those before it.
-fn has_risen(progress: &Numbers) -> bool {
-    let walk = [(3, 7), (2, 6), (1, 5)];
-    progress.iter().copied().eq(walk.iter().copied())
-        && progress.stat().update_count == 7
-        && progress.stat().move_count == 3
-        && *progress.granted() == 6
-}
+// The voters 1 to 3, which were learners, each move up past those before.
+const RISEN_LEARNERS: Script = Script {
+    rows: &[
+        (Row::Update(1, 5), Reply::Granted(0)),
+        (Row::Update(2, 6), Reply::Granted(0)),
+        (Row::Update(3, 7), Reply::Granted(0)),
+        (Row::Upgrade(&[1, 2, 3], &[], 0), Reply::Granted(6)),
+    ],
+    walk: &[(3, 7), (2, 6), (1, 5)],
+    updates: 7,
+    moves: 3,
+};
 
 #[test]
 fn an_upgrade_takes_learners_over_one_by_one(rt: HostRuntime) -> Result<(), Fail> {
-    let alloc = rt.alloc();
-    let mut progress: Numbers = made(&rt, alloc, [9].to_vec(alloc)?, &[1, 2, 3], 0)?;
-    let steps = vec![in alloc;
-        AnyStep::Update(1, 5),
-        AnyStep::Update(2, 6),
-        AnyStep::Update(3, 7),
-        AnyStep::Upgrade {
-            quorum_set: [1, 2, 3].to_vec(alloc)?,
-            learners: Vec::new(alloc),
-            default: 0,
-        },
-    ]?;
-    let _replies = replay_any(alloc, &mut progress, steps)?;
-    assert!(rt; has_risen(&progress));
+    assert!(rt; plays(&rt, rt.alloc(), &[9], &[1, 2, 3], &RISEN_LEARNERS)?);
     Ok(())
 }
 

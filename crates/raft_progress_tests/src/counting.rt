@@ -1,4 +1,5 @@
-//! Worked values of updates: what is granted, the walk, and counted quorum tests that are those made.
+//! Worked values of updates: what is granted, the walk, and
+//! counted quorum tests that are those made.
 
 ghost use Rattle.raft_members.specs.Majority.{is_majority};
 ghost use Rattle.raft_members.specs.MajorityLaws.{is_majority-superset};
@@ -8,7 +9,7 @@ ghost use Rattle.std.specs.Ordering.{nat_cmp};
 ghost use Rattle.std.specs.Prelude.{nat_eq};
 ghost use Rattle.std.specs.Set.{is_member};
 
-use super::steps::{first_ids, made, replied, would_fall};
+use super::steps::{first_ids, made, replied};
 use raft_members::quorum::QuorumSet;
 use raft_progress::progress::{AnyStep, Reply, Stat, VecProgress, replay_any};
 use std::alloc::{AllocError, Global};
@@ -58,13 +59,13 @@ fn is_counted(progress: &Progress, before: u64, most: u64) -> bool {
     tests == progress.quorum_set().calls.get() && tests <= before.saturating_add(most)
 }
 
-/// Makes the updates, and compares the counts with the calls after each. One update makes at most so
-/// many quorum tests.
+/// Makes the updates, and compares the counts with the calls after each. One update
+/// makes at most so many quorum tests.
 fn compare_updates(rt: &impl Abort, progress: &mut Progress, updates: Updates<'_>, most: u64)
     requires { IsInOrder nat_eq nat_cmp (λ x. x) (λ a s. is_majority nat_eq a.voters.items s) (shown progress.old) }
 {
     for (id, value, want) in updates {
-        let falls = would_fall(progress, id, value);
+        let falls = progress.would_fall(id, value);
         assert!(rt; !falls);
         let before = progress.stat().is_quorum_count;
         let answer = match progress.update(id, *value) {
@@ -103,9 +104,12 @@ fn compare_replays(
     Ok(())
 }
 
-/// Whether the walk is the wanted one, where one is wanted.
+/// Whether the walk is the wanted one, where one is wanted, and each id of it is at its place.
 fn has_walk(progress: &Progress, want: &[(u64, u64)]) -> bool {
-    want.is_empty() || progress.iter().copied().eq(want.iter().copied())
+    let is_placed = |(place, entry): (usize, &(u64, u64))| progress.index(&entry.0) == Some(place);
+    want.is_empty()
+        || progress.iter().copied().eq(want.iter().copied())
+            && want.iter().enumerate().all(is_placed)
 }
 
 /// Whether so many updates and moves were counted, where that is known.
@@ -118,8 +122,8 @@ fn has_counts(progress: &Progress, want: &Option<(u64, u64)>) -> bool {
     }
 }
 
-/// A number of voters and its binary digits, learners and updates; the walk that they leave, and how
-/// many updates and moves are counted, where known.
+/// A number of voters and its binary digits, learners and updates; the walk that they leave, and
+/// how many updates and moves are counted, where known.
 type Row<'a> = (
     u64,
     u64,
@@ -129,7 +133,7 @@ type Row<'a> = (
     Option<(u64, u64)>,
 );
 
-const ROWS: [Row<'static>; 5] = [
+const ROWS: [Row<'static>; 8] = [
     (
         5,
         3,
@@ -181,41 +185,69 @@ const ROWS: [Row<'static>; 5] = [
         5,
         3,
         &[6, 7],
+        &[],
+        &[(0, 0), (1, 0), (2, 0), (3, 0), (4, 0), (6, 0), (7, 0)],
+        None,
+    ),
+    (
+        5,
+        3,
+        &[6, 7],
         &[(7, 7, Ok(0)), (3, 3, Ok(0)), (1, 1, Ok(0))],
         &[(3, 3), (1, 1), (0, 0), (2, 0), (4, 0), (6, 0), (7, 7)],
+        None,
+    ),
+    (
+        5,
+        3,
+        &[6],
+        &[(6, 6, Ok(0))],
+        &[(0, 0), (1, 0), (2, 0), (3, 0), (4, 0), (6, 6)],
+        None,
+    ),
+    (
+        5,
+        3,
+        &[6],
+        &[(6, 6, Ok(0)), (4, 4, Ok(0))],
+        &[(4, 4), (0, 0), (1, 0), (2, 0), (3, 0), (6, 6)],
         None,
     ),
     (3, 2, &[], &[(0, 5, Ok(0)), (1, 6, Ok(5))], &[], None),
 ];
 
+/// Makes the updates of a row, and again by replays, and compares what each counts.
+fn compare(rt: &impl Abort, alloc: Global, row: &Row<'_>) -> Result<(), AllocError> {
+    let (voters, digits, learners, updates, walk, counts) = row;
+    let mut updated = made(rt, alloc, make_asked(alloc, *voters)?, learners, 0)?;
+    compare_updates(rt, &mut updated, updates, *digits);
+    assert!(rt; has_walk(&updated, walk) && has_counts(&updated, counts));
+    let mut replayed = made(rt, alloc, make_asked(alloc, *voters)?, learners, 0)?;
+    compare_replays(rt, alloc, &mut replayed, updates, *digits)?;
+    assert!(rt; *updated.stat() == *replayed.stat());
+    Ok(())
+}
+
 #[test]
 fn updates_answer_as_worked(rt: HostRuntime) -> Result<(), Fail> {
-    let alloc = rt.alloc();
-    for (voters, digits, learners, updates, walk, counts) in &ROWS {
-        let mut updated = made(&rt, alloc, make_asked(alloc, *voters)?, learners, 0)?;
-        compare_updates(&rt, &mut updated, updates, *digits);
-        assert!(rt; has_walk(&updated, walk) && has_counts(&updated, counts));
-        let mut replayed = made(&rt, alloc, make_asked(alloc, *voters)?, learners, 0)?;
-        compare_replays(&rt, alloc, &mut replayed, updates, *digits)?;
-        assert!(rt; *updated.stat() == *replayed.stat());
+    for row in &ROWS {
+        compare(&rt, rt.alloc(), row)?;
     }
     Ok(())
 }
 
 #[test]
 fn a_hundred_voters(rt: HostRuntime) -> Result<(), Fail> {
-    let alloc = rt.alloc();
     let mut risen = [(0, 0, Ok(0)); 51];
     for i in 0..51u64 {
         risen[i as usize] = (i, i + 1, Ok(i / 50));
     }
-    let mut progress = made(&rt, alloc, make_asked(alloc, 100)?, &[], 0)?;
-    compare_updates(&rt, &mut progress, &risen, 7);
+    compare(&rt, rt.alloc(), &(100, 7, &[], &risen, &[], None))?;
     Ok(())
 }
 
-/// Whether five updates, four moves and so many quorum tests were counted. In an upgrade each old id
-/// counts an update, and each that rises past what was granted by then a move.
+/// Whether five updates, four moves and so many quorum tests were counted. In an upgrade each old
+/// id counts an update, and each that rises past what was granted by then a move.
 fn counts_are(stat: &Stat, tests: u64) -> bool {
     stat.update_count == 5 && stat.move_count == 4 && stat.is_quorum_count == tests
 }

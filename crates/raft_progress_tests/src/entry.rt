@@ -16,7 +16,8 @@ use std::alloc::{AllocError, Global};
 use std::process::Abort;
 use std::test::Fail;
 
-/// A call on an entry: a send of so many logs at most, an ack up to a log id, a conflict at an index.
+/// A call on an entry: a send of so many logs at most, an ack up
+/// to a log id, a conflict at an index.
 #[derive(Clone, Copy)]
 pub enum Call<C> {
     Send(u64),
@@ -210,8 +211,8 @@ fn takes_heartbeats<C: Numbered>(log: &PlainLog<C>) -> bool {
         && takes(log, matched(10), Call::Conflict(None, 5), matched(5))
 }
 
-/// Whether replies of a stranger to logs are refused, and a heartbeat leaves an entry that is invalid
-/// until the reply.
+/// Whether replies of a stranger to logs are refused, and a heartbeat leaves an
+/// entry that is invalid until the reply.
 fn stands_strangers<C: Numbered>(log: &PlainLog<C>) -> bool {
     let sending = logs(1, id(1, 47), id(1, 57));
     let entry = at(None, 100, 1, sending);
@@ -255,7 +256,8 @@ fn sends_next<C: Numbered>(
     sent_next(&mut entry, log) == want
 }
 
-/// Whether replies to a snapshot are taken up to the greatest index but one, in a log that ends at 9.
+/// Whether replies to a snapshot are taken up to the greatest
+/// index but one, in a log that ends at 9.
 fn stands_snapshots<C: Numbered>(log: &PlainLog<C>) -> bool {
     let entry = at(None, 9, 0, snapshot(2, id(1, 8)));
     let matched = at(id(1, 12), 13, 0, InflightOf::None);
@@ -315,9 +317,9 @@ fn replies_and_sends_are_as_worked(rt: HostRuntime) -> Result<(), Fail> {
 }
 
 /// Whether entries are refused by the first relation that they break.
-fn is_validated() -> bool {
+fn is_validated<C: Numbered>() -> bool {
     let none = InflightOf::None;
-    let first = |entry: ProgressEntry<u64>| entry.validate();
+    let first = |entry: ProgressEntryOf<C>| entry.validate();
     first(at(id(1, 5), 5, 0, none)) == Err(Invalid::MatchingPastEnd)
         && first(at(id(1, u64::MAX), u64::MAX, 0, none)) == Err(Invalid::MatchingPastEnd)
         && first(at(None, 9, 0, logs(1, id(1, 5), id(1, 4)))) == Err(Invalid::RangeOrder)
@@ -331,23 +333,33 @@ fn is_validated() -> bool {
         && first(at(None, 9, 2, snapshot(2, id(1, 8)))) == Ok(())
 }
 
+/// Where the next probe starts, if the match is not past the end of the search.
+fn starts<C: Numbered>(entry: &ProgressEntryOf<C>) -> Option<(u64, u64)> {
+    if entry.can_start() {
+        Some(entry.sending_start())
+    } else {
+        None
+    }
+}
+
 /// Whether entries read back.
-fn reads_back() -> bool {
-    let matched = ProgressEntry::<u64>::new(id(1, 4)).with_curr_inflight_id(7);
+fn reads_back<C: Numbered>() -> bool {
+    let matched = ProgressEntryOf::<C>::new(id(1, 4)).with_curr_inflight_id(7);
     let sending = matched.with_inflight(logs(1, id(1, 5), id(1, 9)));
     let shipping = matched.with_inflight(snapshot(1, id(1, 9)));
-    let upto = |leader: u64, index: u64| LogId::new(LeaderId::new(leader, 0), index);
+    let upto = |leader: u64, index: u64| LogIdOf::new(C::numbered(leader), index);
     matched == at(id(1, 4), 5, 7, InflightOf::None)
-        && ProgressEntry::<u64>::new(None) == ProgressEntry::empty(0)
+        && ProgressEntryOf::<C>::new(None) == ProgressEntryOf::empty(0)
         && sending == at(id(1, 4), 5, 7, logs(1, id(1, 5), id(1, 9)))
         && sending.is_log_range_inflight(&upto(1, 6))
         && sending.is_log_range_inflight(&upto(2, 3))
         && !sending.is_log_range_inflight(&upto(1, 5))
         && !matched.is_log_range_inflight(&upto(1, 6))
         && !shipping.is_log_range_inflight(&upto(1, 6))
-        && ProgressEntry::<u64>::empty(32).sending_start() == (16, 32)
-        && ProgressEntry::<u64>::empty(15).sending_start() == (0, 15)
-        && ProgressEntry::<u64>::empty(0).sending_start() == (0, 0)
+        && starts(&ProgressEntryOf::<C>::empty(32)) == Some((16, 32))
+        && starts(&ProgressEntryOf::<C>::empty(15)) == Some((0, 15))
+        && starts(&ProgressEntryOf::<C>::empty(0)) == Some((0, 0))
+        && starts::<C>(&at(id(1, 4), 4, 7, InflightOf::None)) == None
 }
 
 /// Whether entries display as they should.
@@ -365,7 +377,8 @@ fn display(alloc: Global) -> Result<bool, AllocError> {
 
 #[test]
 fn entries_read_back_and_are_validated(rt: HostRuntime) -> Result<(), Fail> {
-    assert!(rt; is_validated() && reads_back());
+    assert!(rt; is_validated::<LeaderId<u64>>() && reads_back::<LeaderId<u64>>());
+    assert!(rt; is_validated::<CommittedLeaderId>() && reads_back::<CommittedLeaderId>());
     assert!(rt; display(rt.alloc())?);
     Ok(())
 }

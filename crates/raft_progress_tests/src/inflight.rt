@@ -141,7 +141,9 @@ fn others_read_back() -> bool {
 #[test]
 fn replies_are_answered_case_by_case(rt: HostRuntime) -> Result<(), Fail> {
     assert!(rt; acks_are_answered::<LeaderId<u64>>() && acks_are_answered::<CommittedLeaderId>());
-    assert!(rt; conflicts_are_answered::<LeaderId<u64>>());
+    assert!(rt;
+        conflicts_are_answered::<LeaderId<u64>>() && conflicts_are_answered::<CommittedLeaderId>()
+    );
     assert!(rt; logs_read_back() && others_read_back());
     Ok(())
 }

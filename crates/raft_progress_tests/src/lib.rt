@@ -14,7 +14,11 @@ mod entry;
 #[cfg(test)]
 mod events;
 #[cfg(test)]
+mod first_caller;
+#[cfg(test)]
 mod inflight;
+#[cfg(test)]
+mod log_ids;
 #[cfg(test)]
 mod search;
 #[cfg(test)]
@@ -27,3 +31,5 @@ mod texts;
 mod tracked;
 #[cfg(test)]
 mod turned;
+#[cfg(test)]
+mod uses;

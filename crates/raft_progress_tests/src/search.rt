@@ -1,4 +1,6 @@
 //! Searches over whole lists of events, and when a follower can be caught up.
+ghost use Rattle.std.specs.Prelude.{◌<◌, ◌≤◌};
+ghost use Rattle.raft_progress.specs.search.Search.{CanSearch, stretch};
 
 use super::entry::at;
 use super::inflight::{logs, snapshot};
@@ -14,15 +16,28 @@ use std::test::Fail;
 
 type Events<'a, 'e, C> = &'e [SearchEvent<'a, PlainLog<C>>];
 
-/// Whether a search accepts so many conflicts and leaves the entry as wanted.
+/// Takes events of a search over less than 1024 indexes. Over any kind of leader ids it accepts ten
+/// conflicts at most.
+fn conflicts_of<C: Ord + Copy>(entry: &mut ProgressEntryOf<C>, events: Events<'_, '_, C>) -> u64
+    requires can_search { CanSearch entry.old }
+    requires short { stretch entry.old < 1024 }
+    ensures { result ≤ 10 }
+{
+    search_run(entry, events)
+}
+
+/// Whether a search in a log that ends before an index accepts so many conflicts, and leaves the entry
+/// as wanted.
 fn accepts<C: Numbered>(
-    from: ProgressEntryOf<C>,
+    end: u64,
     events: Events<'_, '_, C>,
     want: u64,
     to: ProgressEntryOf<C>,
-) -> bool {
-    let mut entry = from;
-    search_run(&mut entry, events) == want && entry == to
+) -> bool
+    requires { end < 1024 }
+{
+    let mut entry = ProgressEntryOf::empty(end);
+    conflicts_of(&mut entry, events) == want && entry == to
 }
 
 /// A send of at most so many logs.
@@ -59,22 +74,9 @@ fn halves<C: Numbered>(log: &PlainLog<C>) -> bool {
         conflict(3, 0),
     ];
     let first = logs(3, None, id::<C>(1, 9));
-    accepts(
-        ProgressEntryOf::empty(100),
-        &probes,
-        2,
-        at(None, 15, 3, first),
-    ) && accepts(
-        ProgressEntryOf::empty(100),
-        &shortened,
-        2,
-        at(None, 7, 3, first),
-    ) && accepts::<C>(
-        ProgressEntryOf::empty(100),
-        &[],
-        0,
-        ProgressEntryOf::empty(100),
-    )
+    accepts(100, &probes, 2, at(None, 15, 3, first))
+        && accepts(100, &shortened, 2, at(None, 7, 3, first))
+        && accepts::<C>(100, &[], 0, ProgressEntryOf::empty(100))
 }
 
 /// Whether searches at a purge point end with a snapshot, also where a send is skipped since its
@@ -94,8 +96,7 @@ fn ends_with_a_snapshot<C: Numbered>(purged: &PlainLog<C>, whole: &PlainLog<C>) 
         conflict(2, 4),
     ];
     let end = at(None, 4, 2, snapshot(2, id(1, 6)));
-    accepts(ProgressEntryOf::empty(10), &probe, 1, end)
-        && accepts(ProgressEntryOf::empty(10), &gone_back, 1, end)
+    accepts(10, &probe, 1, end) && accepts(10, &gone_back, 1, end)
 }
 
 /// Whether followers can be caught up from where they can, over a log from 0 to 99, and over one

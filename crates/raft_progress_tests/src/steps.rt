@@ -1,8 +1,6 @@
 //! Steps of a progress in order: how one is made, moved and asked.
 ghost use Rattle.std.specs.Prelude.{◌≡◌, IfOk};
 ghost use Rattle.raft_progress.specs.progress.InOrder.{IsInOrder};
-ghost use Rattle.raft_progress.specs.progress.Shown.{state};
-ghost use Rattle.raft_progress.specs.progress.Steps.{falls};
 ghost use Rattle.raft_progress.specs.progress.VecProgress.{shown};
 
 use raft_members::quorum::QuorumSet;
@@ -32,21 +30,6 @@ pub fn made<
     VecProgress::new(alloc, quorum_set, learners, default)
 }
 
-/// Whether the value's part is below that of the present value.
-pub fn would_fall<
-    ID: Copy + Ord,
-    V: ProgressPart<P> + Drop,
-    P: Copy + Ord,
-    QS: QuorumSet<ID> + Drop,
->(progress: &VecProgress<ID, V, P, QS>, id: &ID, value: &V) -> bool
-    ensures { result ≡ falls P.cmp V.part_of ((state ID.eq (shown progress.now)).value id.now) value.now }
-{
-    match progress.try_get(id) {
-        Some(current) => value.part().cmp(&current.part()).is_lt(),
-        None => false,
-    }
-}
-
 /// An update of a progress in order that doesn't lower the value.
 pub fn updated<ID: Copy + Ord, V: ProgressPart<P> + Drop, P: Copy + Ord, QS: QuorumSet<ID> + Drop>(
     rt: &impl Abort,
@@ -56,7 +39,7 @@ pub fn updated<ID: Copy + Ord, V: ProgressPart<P> + Drop, P: Copy + Ord, QS: Quo
 ) -> Result<P, P> {
     let ordered = progress.is_in_order();
     assert!(rt; ordered);
-    let falls = would_fall(progress, &id, &value);
+    let falls = progress.would_fall(&id, &value);
     assert!(rt; !falls);
     match progress.update(&id, value) {
         Ok(granted) => Ok(*granted),

@@ -20,44 +20,95 @@ fn ids(alloc: Global, ids: &[u64]) -> Result<BTreeSet<u64>, AllocError> {
     Ok(set)
 }
 
-/// Voters 1 and 2, a learner 3, all at 0.
-fn pair(alloc: Global) -> Result<Tracked<u64, EmptyNode, u64, u64>, AllocError> {
-    let mut configs = Vec::new(alloc);
-    configs.push(ids(alloc, &[1, 2])?)?;
-    Tracked::new(Membership::new(configs, ids(alloc, &[3])?)?, 0)
+/// The membership of these configs, with the nodes 1 to 3.
+fn members(alloc: Global, configs: &[&[u64]]) -> Result<Membership<u64, EmptyNode>, AllocError> {
+    let mut sets = Vec::new(alloc);
+    for config in configs {
+        sets.push(ids(alloc, config)?)?;
+    }
+    Membership::new(sets, ids(alloc, &[1, 2, 3])?)
 }
 
-#[test]
-fn a_change_takes_values_and_counts_over(rt: HostRuntime) -> Result<(), Fail> {
-    let alloc = rt.alloc();
-    let mut pair = pair(alloc)?;
-    let change = Step::Change {
-        change: ChangeMembers::AddVoterIds(ids(alloc, &[3])?),
-        retain: true,
-        default: 0,
+/// A membership and the progress of its nodes.
+type Pair = Tracked<u64, EmptyNode, u64, u64>;
+
+/// A step as plain data: an id and its value, or the ids of a change; the last has a default.
+enum Row {
+    Update(u64, u64),
+    IncreaseTo(u64, u64),
+    Add(&'static [u64]),
+    Remove(&'static [u64]),
+    Replace(&'static [u64], u64),
+}
+
+/// The step of a row.
+fn step(alloc: Global, row: &Row) -> Result<Step<u64, EmptyNode, u64>, AllocError> {
+    let (change, default) = match row {
+        Row::Update(id, value) => return Ok(Step::Update(*id, *value)),
+        Row::IncreaseTo(id, value) => return Ok(Step::IncreaseTo(*id, *value)),
+        Row::Add(list) => (ChangeMembers::AddVoterIds(ids(alloc, list)?), 0),
+        Row::Remove(list) => (ChangeMembers::RemoveVoters(ids(alloc, list)?), 0),
+        Row::Replace(list, default) => {
+            (ChangeMembers::ReplaceAllVoters(ids(alloc, list)?), *default)
+        }
     };
-    let steps = vec![in alloc; Step::Update(1, 5), Step::Update(2, 3), change]?;
-    let replies = replay(alloc, &mut pair, steps)?;
-    let want = [Reply::Granted(0), Reply::Granted(3), Reply::Granted(3)];
-    assert!(rt; replies.as_slice() == want.as_slice() && is_joint(&pair));
-    assert!(rt; has_equal_clone(&pair)?);
-    Ok(())
+    let retain = !matches!(row, Row::Remove(_));
+    Ok(Step::Change {
+        change,
+        retain,
+        default,
+    })
+}
+
+/// Steps of the voters 1 and 2 and a learner 3, of which half are refused, and their replies.
+const ROWS: [(Row, Reply<u64, u64>); 10] = [
+    (Row::Update(1, 5), Reply::Granted(0)),
+    (Row::Update(2, 3), Reply::Granted(3)),
+    (Row::Add(&[3]), Reply::Granted(3)),
+    (Row::Update(3, 4), Reply::Granted(3)),
+    (Row::Add(&[4]), Reply::Refused(Some(4))),
+    (Row::Update(9, 1), Reply::Unknown(3)),
+    (Row::Update(3, 2), Reply::WouldFall),
+    (Row::Remove(&[1, 2, 3]), Reply::Refused(None)),
+    (Row::Replace(&[2, 3], 4), Reply::BelowDefault(2)),
+    (Row::IncreaseTo(2, 7), Reply::Granted(5)),
+];
+
+/// Replays the steps of the rows as one list, and answers whether each has its reply.
+fn are_replied(alloc: Global, pair: &mut Pair) -> Result<bool, AllocError> {
+    let mut steps = Vec::new(alloc);
+    for (row, _) in &ROWS {
+        steps.push(step(alloc, row)?)?;
+    }
+    let replies = replay(alloc, pair, steps)?;
+    Ok(replies.iter().eq(ROWS.iter().map(|(_, reply)| reply)))
+}
+
+/// Whether the membership is joint, the values have their places, and what is granted and was counted is
+/// right. A change counts each node as an update, and each that rises as a move.
+fn is_ended(alloc: Global, pair: &Pair) -> Result<bool, AllocError> {
+    let progress = pair.progress();
+    let walk = [(2, 7), (1, 5), (3, 4)];
+    let is_right = progress.iter().copied().eq(walk.iter().copied())
+        && *progress.granted() == 5
+        && progress.stat().update_count == 8
+        && progress.stat().move_count == 6;
+    Ok(is_right && *pair.membership() == members(alloc, &[&[1, 2], &[1, 2, 3]])?)
 }
 
 /// Whether a clone of a membership with its progress equals it.
-fn has_equal_clone(pair: &Tracked<u64, EmptyNode, u64, u64>) -> Result<bool, AllocError> {
+fn has_equal_clone(pair: &Pair) -> Result<bool, AllocError> {
     Ok(pair.try_clone()? == *pair)
 }
 
-/// Whether the membership is joint, the values have their places, and five updates and four moves are
-/// counted.
-fn is_joint(pair: &Tracked<u64, EmptyNode, u64, u64>) -> bool {
-    let progress = pair.progress();
-    let walk = [(1, 5), (2, 3), (3, 0)];
-    pair.membership().is_in_joint_consensus()
-        && progress.iter().copied().eq(walk.iter().copied())
-        && progress.stat().update_count == 5
-        && progress.stat().move_count == 4
+#[test]
+fn a_replay_goes_on_after_each_refusal(rt: HostRuntime) -> Result<(), Fail> {
+    let alloc = rt.alloc();
+    let mut pair = Tracked::new(members(alloc, &[&[1, 2]])?, 0)?;
+    assert!(rt;
+        are_replied(alloc, &mut pair)? && is_ended(alloc, &pair)? && has_equal_clone(&pair)?
+    );
+    Ok(())
 }
 
 type Configs = Joint<u64, Vec<u64>, Vec<Vec<u64>>>;
@@ -78,27 +129,30 @@ fn upgrades_through_a_joint(rt: HostRuntime) -> Result<(), Fail> {
     for (id, value, granted) in [(0, 5, 0), (1, 6, 5), (5, 9, 5)] {
         assert!(rt; updated(&rt, &mut progress, id, value) == Ok(granted));
     }
-    let rows: [(&[&[u64]], &[u64], u64, &[(u64, u64, u64)]); 2] = [
+    // Configs and learners, what the upgrade to them grants, a value that it takes over, and updates.
+    let rows: [(&[&[u64]], u64, u64, (u64, u64), &[(u64, u64, u64)]); 2] = [
         (
             &[&[0, 1, 2], &[3, 4, 5]],
-            &[6, 7],
+            6,
             0,
+            (5, 9),
             &[(3, 7, 5), (4, 8, 5)],
         ),
-        (&[&[3, 4, 5]], &[1], 8, &[]),
+        (&[&[3, 4, 5]], 1, 8, (1, 6), &[]),
     ];
-    for (configs, learners, granted, updates) in rows {
+    for (configs, learner, granted, (id, value), updates) in rows {
         let upgrade = AnyStep::Upgrade {
             quorum_set: joint(alloc, configs)?,
-            learners: learners.to_vec(alloc)?,
+            learners: [learner].to_vec(alloc)?,
             default: 0,
         };
         let reply = replied(&rt, alloc, &mut progress, upgrade)?;
-        assert!(rt; reply == Some(Reply::Granted(granted)));
+        assert!(rt;
+            reply == Some(Reply::Granted(granted)) && progress.try_get(&id) == Some(&value)
+        );
         for (id, value, granted) in updates {
             assert!(rt; updated(&rt, &mut progress, *id, *value) == Ok(*granted));
         }
     }
-    assert!(rt; progress.try_get(&5) == Some(&9) && progress.try_get(&1) == Some(&6));
     Ok(())
 }

@@ -1,1 +1,2 @@
 mod CloneLemmas
+mod TurnLemmas

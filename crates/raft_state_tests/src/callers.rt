@@ -1,7 +1,6 @@
 //! Callers, whose contracts show how much those of `raft_state` tell them.
 ghost use Rattle.std.specs.Prelude.{◌≡◌, false, None, IfOk, OnErr, IsTrue};
 ghost use Rattle.raft_base.specs.LogId.{id_le, id_lt};
-ghost use Rattle.raft_progress.specs.inflight.Inflight.{is_idle};
 ghost use Rattle.raft_progress.specs.progress.VecProgress.{shown};
 ghost use Rattle.raft_state.specs.Commit.{state_after_commit};
 ghost use Rattle.raft_state.specs.FullLog.{full_log};

@@ -11,7 +11,7 @@ use std::process::Abort;
 use std::test::Fail;
 
 /// A valid state with a log of leader 1 from 0 to 99, of which nothing was purged.
-fn hundred<K: LeaderKind<u64>>(alloc: Global) -> Result<State<K>, AllocError> {
+pub fn hundred<K: LeaderKind<u64>>(alloc: Global) -> Result<State<K>, AllocError> {
     let mut state = State::<K>::try_default(alloc)?;
     let keys = ids_of::<K>(alloc, &[(1, 0), (1, 99)])?;
     if is_key_list(&keys) {
@@ -75,7 +75,10 @@ fn rounds_right<K: LeaderKind<u64>>(state: &State<K>, progress: &mut Followers<K
 }
 
 /// Whether followers are caught up as they should be, one alone and in rounds.
-fn is_as_worked<K: LeaderKind<u64>>(rt: &impl Abort, alloc: Global) -> Result<bool, AllocError> {
+pub fn is_as_worked<K: LeaderKind<u64>>(
+    rt: &impl Abort,
+    alloc: Global,
+) -> Result<bool, AllocError> {
     let mut progress = followers::<K>(rt, alloc, &[4], 100)?;
     let state = hundred::<K>(alloc)?;
     Ok(

@@ -1,8 +1,8 @@
 //! Answers of the original, openraft 0.9.25, compared call by call.
 //!
-//! The calls were drawn at random, from an empty list to one of many leaders, with indexes that are missing
-//! and at the greatest u64, some over leader ids of standard Raft; those outside of a call's condition were
-//! left out. Each answer is what the original's own code gave to that call.
+//! The calls were drawn at random, from an empty list to one of many leaders, with indexes that are
+//! missing and at the greatest u64, some over leader ids of standard Raft; those outside of a
+//! call's condition were left out. Each answer is what the original's own code gave to that call.
 
 use super::words::call_is_right;
 use raft_base::LeaderId;

@@ -1,11 +1,9 @@
 //! Calls of log entries.
 
-use raft_base::{CommittedLeaderId, LogId, LogIdOf, RaftLogIdOf, leader_id_std};
+use raft_base::{CommittedLeaderId, LogId, LogIdOf, RaftLogId, leader_id_std};
 use raft_members::Membership;
 use raft_members_tests::words::members;
-use raft_state::{
-    Entry, EntryOf, EntryPayload, FromAppData, RaftEntry, RaftEntryOf, RaftPayloadOf,
-};
+use raft_state::{Entry, EntryOf, EntryPayload, FromAppData, RaftEntry, RaftPayload};
 use std::alloc::{AllocError, Global};
 use std::test::Fail;
 
@@ -14,7 +12,7 @@ type Members = Membership<u64, u64>;
 type Data = Entry<u64, u64, u64>;
 
 /// Whether a blank entry and one with a membership are what they are made as, over any entry type.
-fn are_as_made<C: Copy + Eq, E: RaftEntryOf<C, Members> + Drop>(
+fn are_as_made<C: Copy + Eq, E: RaftEntry<C, Members> + Drop>(
     log_id: LogIdOf<C>,
     membership: Members,
 ) -> bool {
@@ -29,7 +27,10 @@ fn are_as_made<C: Copy + Eq, E: RaftEntryOf<C, Members> + Drop>(
 }
 
 /// The same, over an entry type with the default leader ids.
-fn are_made<E: RaftEntry<u64, u64> + Drop>(log_id: LogId<u64>, membership: Members) -> bool {
+fn are_made<E: RaftEntry<CommittedLeaderId<u64>, Members> + Drop>(
+    log_id: LogId<u64>,
+    membership: Members,
+) -> bool {
     are_as_made::<CommittedLeaderId<u64>, E>(log_id, membership)
 }
 
@@ -44,8 +45,8 @@ fn takes_log_id(data: &mut Data, log_id: LogId<u64>) -> bool {
         && *data.as_ref().get_log_id() == log_id
 }
 
-/// Whether the default entry is blank, and it, one of data and one of a membership equal their clones
-/// alone.
+/// Whether the default entry is blank, and it, one of data and one of a
+/// membership equal their clones alone.
 fn are_cloned(data: &Data, stores: &Data, blank: &Data) -> Result<bool, AllocError> {
     Ok(
         *stores != *data

@@ -1,7 +1,13 @@
 //! Followers of a leader, over any kind of leader ids.
+ghost use Rattle.std.specs.Prelude.{◌≡◌, ℕ, IfSome, IsTrue, List, length, nat_eq};
+ghost use Rattle.raft_base.specs.LogId.{id_le};
+ghost use Rattle.raft_progress.specs.progress.VecProgress.{shown};
+ghost use Rattle.raft_state.specs.Round.{QuorumRan};
+ghost use Rattle.raft_state.specs.StateView.{view_of};
 
 use super::whole::State;
 use raft_base::LeaderKind;
+use raft_members::quorum::QuorumSet;
 use raft_progress::ProgressEntryOf;
 use raft_progress::progress::VecProgress;
 use raft_state::FollowersOf;
@@ -24,12 +30,18 @@ pub fn followers<K: LeaderKind<u64>>(
     VecProgress::new(alloc, voters, learners, ProgressEntryOf::empty(end))
 }
 
-/// How many of these followers a round catches up, if the progress is in order.
+/// How many of these followers a round catches up, if the progress is in order. Over any kind of
+/// leader ids, at least the last log id is granted where those are a quorum.
 pub fn caught_up<K: LeaderKind<u64>>(
     state: &State<K>,
     followers: &mut Followers<K>,
     agreed: &[(u64, u64)],
-) -> Option<u64> {
+) -> Option<u64>
+    ensures { let has_quorum = ⟦<Vec<u64> as QuorumSet<u64>>⟧.has_quorum in
+        IfSome result (λ count. (ran : List ℕ) × (count ≡ length ran)
+        × (QuorumRan nat_eq has_quorum (shown followers.old) ran
+        → IsTrue (id_le K.Committed.cmp (view_of state.now).last (shown followers.new).granted))) }
+{
     if !followers.is_in_order() {
         return None;
     }

@@ -12,15 +12,23 @@ mod compared;
 #[cfg(test)]
 mod entries;
 #[cfg(test)]
+mod first_caller;
+#[cfg(test)]
 mod followers;
+#[cfg(test)]
+mod imports;
 #[cfg(test)]
 mod log_id_list;
 #[cfg(test)]
 mod memberships;
 #[cfg(test)]
+mod region;
+#[cfg(test)]
 mod rows;
 #[cfg(test)]
 mod texts;
+#[cfg(test)]
+mod turn;
 #[cfg(test)]
 mod whole;
 #[cfg(test)]

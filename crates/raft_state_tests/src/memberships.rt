@@ -1,7 +1,6 @@
-//! The memberships of a node, and a change of the one in effect.
+//! The memberships of a node, and a change of the effective one.
 
 use super::rows::{Effective, Row, effective, id};
-use raft_base::order::index_below;
 use raft_base::{Invalid, LeaderAdv, LeaderKind, LeaderStd, LogIdOptionExt, Validate};
 use raft_members::{ChangeMembers, ChangeMembershipErrorOf, InProgressOf};
 use raft_members_tests::words::ids;
@@ -12,7 +11,7 @@ use std::test::Fail;
 
 type State<K> = MembershipStateOf<<K as LeaderKind<u64>>::Committed, u64, u64>;
 
-/// The committed membership at leader 1, index 1, and the one in effect at leader 2, index 10.
+/// The committed membership at leader 1, index 1, and the effective one at leader 2, index 10.
 fn state<K: LeaderKind<u64>>(alloc: Global) -> Result<State<K>, AllocError> {
     let committed = effective::<K>(alloc, Some((1, 1)), &[1, 2])?;
     Ok(MembershipStateOf::new(committed, effective::<K>(alloc, Some((2, 10)), &[2, 3])?))
@@ -57,7 +56,7 @@ fn cut_leads<K: LeaderKind<u64>>(
     effective: Row,
 ) -> Result<bool, AllocError> {
     let mut state = from.try_clone()?;
-    if !index_below(state.committed().log_id().index(), Some(since)) {
+    if !state.can_truncate(since) {
         return Ok(false);
     }
     let answered = answers::<K>(state.truncate(since)?, answer);
@@ -82,7 +81,7 @@ fn commit_leads<K: LeaderKind<u64>>(
     })
 }
 
-/// Whether a membership may be appended as wanted, and is then in effect.
+/// Whether a membership may be appended as wanted, and is then effective.
 fn append_leads<K: LeaderKind<u64>>(
     from: &State<K>,
     new: Row,
@@ -123,7 +122,7 @@ fn move_right<K: LeaderKind<u64>>(alloc: Global, from: &State<K>) -> Result<bool
     )
 }
 
-/// Whether a change is refused while the membership in effect is not committed, and made
+/// Whether a change is refused while the effective membership is not committed, and made
 /// afterwards.
 fn apply_right<K: LeaderKind<u64>>(alloc: Global, mut state: State<K>) -> Result<bool, AllocError> {
     let change = ChangeMembers::AddVoterIds(ids(alloc, "1")?);
@@ -146,7 +145,7 @@ fn apply_right<K: LeaderKind<u64>>(alloc: Global, mut state: State<K>) -> Result
     Ok(is_refused && is_empty && made.is_ok_and(|made| made.is_voter(&1) && made.is_voter(&3)))
 }
 
-/// Whether the memberships of a node move, and the one in effect is changed, as they should.
+/// Whether the memberships of a node move, and the effective one is changed, as they should.
 fn memberships_right<K: LeaderKind<u64>>(alloc: Global) -> Result<bool, AllocError> {
     let from = state::<K>(alloc)?;
     Ok(move_right::<K>(alloc, &from)? && apply_right::<K>(alloc, from)?)

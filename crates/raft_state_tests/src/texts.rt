@@ -8,8 +8,8 @@ use raft_state::{Entry, EntryPayload, LogIOId, LogIOIdOf, MembershipState};
 use std::alloc::{AllocError, Global};
 use std::test::Fail;
 
-/// Whether an entry with a payload prints itself with the payload's summary, and its debug form has the
-/// payload's.
+/// Whether an entry with a payload prints itself with the payload's summary,
+/// and its debug form has the payload's.
 fn entry_prints(
     alloc: Global,
     payload: EntryPayload<u64, u64, u64>,
@@ -33,7 +33,7 @@ fn new_memberships(alloc: Global) -> Result<MembershipState<u64, u64>, AllocErro
     MembershipState::try_default(alloc)
 }
 
-/// Memberships of which the one in effect has a log id.
+/// Memberships of which the effective one has a log id.
 fn memberships(alloc: Global) -> Result<MembershipState<u64, u64>, AllocError> {
     let log_id = LogId::new(CommittedLeaderId::new(1, 2u64), 3);
     let membership = members(alloc, "1,2", "1=4,2=5,3=6")?;
@@ -47,7 +47,7 @@ const NEW: &str = "MembershipState{\
     committed: {log_id:None membership:{voters:[], learners:[]}}, \
     effective: {log_id:None membership:{voters:[], learners:[]}}}";
 
-/// The summary of memberships of which the one in effect has a log id.
+/// The summary of memberships of which the effective one has a log id.
 const IN_EFFECT: &str = "MembershipState{\
     committed: {log_id:None membership:{voters:[], learners:[]}}, \
     effective: {log_id:Some(LogId { leader_id: LeaderId { term: 1, node_id: 2 }, index: 3 }) \

@@ -151,25 +151,15 @@ fn reads_right<K: LeaderKind<u64>>(alloc: Global) -> Result<bool, AllocError> {
     Ok(reads::<K>(&valid_state::<K>(alloc)?, &other))
 }
 
-/// Whether the first of two entries that the log does not have is at a place.
+/// Whether the first of some entries that the log does not have is at a place.
 fn conflicts_at<K: LeaderKind<u64>>(
     alloc: Global,
     state: &State<K>,
-    first: (u64, u64),
-    second: (u64, u64),
+    rows: &[(u64, u64)],
     want: usize,
 ) -> Result<bool, AllocError> {
-    let (first, second) = (
-        log_id::<K>(first.0, first.1),
-        log_id::<K>(second.0, second.1),
-    );
-    if !state.can_ask(&first) || !state.can_ask(&second) {
-        return Ok(false);
-    }
-    let mut entries = Vec::new(alloc);
-    entries.push(first)?;
-    entries.push(second)?;
-    Ok(state.first_conflicting_index(&entries) == want)
+    let entries = ids_of::<K>(alloc, rows)?;
+    Ok(state.can_ask_all(&entries) && state.first_conflicting_index(&entries) == want)
 }
 
 /// Whether a state finds the first entry that is not in its log.
@@ -178,11 +168,11 @@ fn conflicts_right<K: LeaderKind<u64>>(
     state: &State<K>,
 ) -> Result<bool, AllocError> {
     Ok(
-        conflicts_at::<K>(alloc, state, (1, 1), (3, 4), 2)?
-            && conflicts_at::<K>(alloc, state, (1, 1), (3, 3), 1)?
-            && conflicts_at::<K>(alloc, state, (1, 5), (1, 1), 0)?
+        conflicts_at::<K>(alloc, state, &[(1, 1), (3, 4)], 2)?
+            && conflicts_at::<K>(alloc, state, &[(1, 1), (3, 3)], 1)?
+            && conflicts_at::<K>(alloc, state, &[(1, 5), (1, 1)], 0)?
             // What is committed each log has, but no log has it under a greater leader.
-            && conflicts_at::<K>(alloc, state, (1, 0), (1, 2), 2)?
+            && conflicts_at::<K>(alloc, state, &[(1, 0), (1, 2)], 2)?
             && !state.can_ask(&log_id::<K>(2, 1)),
     )
 }
@@ -316,22 +306,24 @@ fn is_of_its_leader<K: LeaderKind<u64>>(
             .is_none()
 }
 
+/// Whether what was accepted of node 1 in term 2 is unknown of node 2 in that term.
+fn is_of_its_node<K: LeaderKind<u64>>() -> bool {
+    let accepted = AcceptedOf::<u64, K>::new(K::new_leader(2, 1), id::<K>(Some((2, 3))));
+    accepted
+        .last_accepted_log_id(&K::new_leader(2, 2))
+        .is_none()
+}
+
 /// Takes what is accepted of the vote's leader, if that may be.
 fn accept<K: LeaderKind<u64>>(state: &mut State<K>, log_id: Option<LogIdOf<K::Committed>>) {
-    let leader_id = state.vote_ref().leader_id;
-    let before = *state.accepted.leader_id();
-    let is_no_lesser = match K::compare(&leader_id, &before) {
-        Some(order) => order.is_ge(),
-        None => false,
-    };
-    if is_no_lesser && state.vote_ref().is_committed() {
+    if state.can_accept() {
         state.update_accepted(log_id);
     }
 }
 
 /// Whether a new node's vote, and what it has accepted of the leader, read as they should.
 fn accepts<K: LeaderKind<u64>>(state: &mut State<K>) -> bool {
-    let log_id = Some(log_id::<K>(6, 3));
+    let log_id = Some(LogIdOf::new(K::new_committed(6, 2), 3));
     let want = AcceptedOf::<u64, K>::new(K::new_leader(5, 10), log_id);
     let vote = VoteOf::<u64, K>::new_committed(5, 10);
     let unset = state.accepted().is_none() && !state.is_initialized();
@@ -427,7 +419,8 @@ fn leads_as_voted<K: LeaderKind<u64>>(alloc: Global) -> Result<bool, AllocError>
 
 /// Whether a new state takes what is accepted.
 fn takes_accepted<K: LeaderKind<u64>>(alloc: Global) -> Result<bool, AllocError> {
-    Ok(accepts::<K>(&mut State::<K>::try_default(alloc)?))
+    let mut state = State::<K>::try_default(alloc)?;
+    Ok(accepts::<K>(&mut state) && is_of_its_node::<K>())
 }
 
 /// Whether a valid state and its clone take storage's progress.

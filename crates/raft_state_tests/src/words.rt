@@ -1,7 +1,7 @@
 //! Calls of a list of log ids as lines of four words: the call, the keys, its argument, the answer.
 //!
-//! A log id is `TERM.INDEX`, over the default leader ids also `TERM.NODE.INDEX`. Log ids are joined by
-//! `,`; none is `-`.
+//! A log id is `TERM.INDEX`, over the default leader ids also `TERM.NODE.INDEX`. Log
+//! ids are joined by `,`; none is `-`.
 
 use raft_base::{LeaderIdentity, LogIdOf};
 use raft_members_tests::words::number;

@@ -6,7 +6,8 @@ use Rattle.std.proofs.lemmas.Cmp.{lists_equiv, nat_eq_equiv}
 use Rattle.raft_base.specs.contracts.server_state.ServerState.{enum}
 use Rattle.raft_state.specs.FullLog.{full_log}
 use Rattle.raft_state.specs.MembershipsLaws.{same_memberships-equiv}
-use Rattle.raft_state_tests.proofs.CloneLemmas.{equal, equal_meta, log_id_equiv}
+use Rattle.raft_base.specs.LogIdLaws.{same_id-equiv}
+use Rattle.raft_state_tests.proofs.CloneLemmas.{equal, equal_meta}
 use Rattle.raft_state_tests.proofs.clones.state_equals_clone.Goals as goal
 
 pub returns : goal.returns
@@ -14,7 +15,7 @@ returns g c =
     let rest = c.in_ok-copy.ensures.rest in
     let leaders = g.met.L.Eq.laws in
     let committed_leaders = g.met.C.Eq.laws in
-    let id = log_id_equiv committed_leaders in
+    let id = same_id-equiv committed_leaders in
     let ids = options_equiv id in
     let vote = both_true (both_true (equal leaders (ap (λ s. s.vote.data.leader_id) rest)) (equal bool_eq_equiv (ap (λ s. s.vote.data.committed) rest))) (equal (options_equiv g.met.I.Eq.laws) (ap (λ s. s.vote.utime) rest)) in
     let log = equal (lists_equiv id) (ap (λ s. full_log s.log_ids) rest) in

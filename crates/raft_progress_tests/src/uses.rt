@@ -1,0 +1,58 @@
+//! One theorem, three uses: what is granted where a value is a match, a vote, or a moment.
+
+use raft_members::quorum::{Joint, QuorumSet};
+use raft_progress::{AnyStep, ProgressPart, Reply, VecProgress, replay_any};
+use std::alloc::{AllocError, Global};
+use std::test::Fail;
+
+/// What is granted after each of these updates, from the default on.
+fn granted<V: ProgressPart<V> + Copy + Ord + Drop, QS: QuorumSet<u64> + Drop>(
+    alloc: Global,
+    voters: QS,
+    default: V,
+    updates: &[(u64, V)],
+) -> Result<Vec<Reply<u64, V>>, AllocError> {
+    let mut progress = VecProgress::new(alloc, voters, &[], default)?;
+    let mut steps = Vec::new(alloc);
+    for (id, value) in updates {
+        steps.push(AnyStep::Update(*id, *value))?;
+    }
+    replay_any(alloc, &mut progress, steps)
+}
+
+/// Matches of 1, 2 and 3: granted is the commit index.
+fn commit_index(alloc: Global) -> Result<Vec<Reply<u64, u64>>, AllocError> {
+    let voters = vec![in alloc; 1, 2, 3]?;
+    granted(alloc, voters, 0, &[(1, 4), (2, 6)]) // 0, 4
+}
+
+/// Votes over a joint of {1,2,3} and {3,4,5}: granted says that a quorum of both has voted.
+fn election(alloc: Global) -> Result<Vec<Reply<u64, bool>>, AllocError> {
+    let children = vec![in alloc; vec![in alloc; 1, 2, 3]?, vec![in alloc; 3, 4, 5]?]?;
+    let votes = [(1, true), (2, true), (4, true), (3, true)];
+    granted(alloc, Joint::from(children), false, &votes) // false, false, false, true
+}
+
+/// Moments of the last replies of 1, 2 and 3: granted says since when a quorum has been heard.
+fn lease(alloc: Global) -> Result<Vec<Reply<u64, u64>>, AllocError> {
+    let voters = vec![in alloc; 1, 2, 3]?;
+    granted(alloc, voters, 0, &[(1, 100), (2, 70), (3, 90), (2, 130)]) // 0, 70, 90, 100
+}
+
+/// Whether these are granted, one after the other.
+fn are<V: Copy + Ord>(replies: &[Reply<u64, V>], want: &[V]) -> bool {
+    replies
+        .iter()
+        .zip(want)
+        .all(|(reply, want)| *reply == Reply::Granted(*want))
+        && replies.len() == want.len()
+}
+
+#[test]
+fn a_match_a_vote_and_a_moment(rt: HostRuntime) -> Result<(), Fail> {
+    let alloc = rt.alloc();
+    assert!(rt; are(&commit_index(alloc)?, &[0, 4]));
+    assert!(rt; are(&election(alloc)?, &[false, false, false, true]));
+    assert!(rt; are(&lease(alloc)?, &[0, 70, 90, 100]));
+    Ok(())
+}
