@@ -9,9 +9,9 @@
 pub mod address;
 #[cfg(test)]
 mod calls;
-pub mod growths;
 #[cfg(test)]
 mod first_caller;
+pub mod growths;
 #[cfg(test)]
 mod logs;
 #[cfg(test)]

@@ -41,6 +41,7 @@ module _ {C U : Type 0} (cmp : C → C → Ordering) (o : IsTotalOrder (option_c
       by_order s at false true h (Err f) is = absurd is
       by_order s at false false h (Err f) is = kept old new is.1
       by_order s at false false h (Ok u) is = absurd is
+
       by_ack : (answer : Result (InflightOf C) InflightError) (result : Result U InflightError) → FollowsTable (matched_with cmp old upto answer) old result new → NotLower old new
       by_ack (Err e) (Err f) is = kept old new is.1
       by_ack (Err e) (Ok u) is = absurd is
