@@ -7,12 +7,9 @@ use std::collections::BTreeMap;
 
 /// Voters 1 and 2 become voters 2 and 3, in two changes; between them a quorum needs both configs.
 fn replace_voters(alloc: Global) -> Result<bool, ChangeMembershipError<u64>> {
-    let mut nodes = BTreeMap::new(alloc);
-    nodes.insert(1, 10u64)?;
-    nodes.insert(2, 20)?;
+    let nodes: BTreeMap<u64, u64> = [(1, 10), (2, 20)].iter().copied().collect(alloc)?;
     let voters = Membership::from_nodes(alloc, nodes)?;
-    let mut third = BTreeMap::new(alloc);
-    third.insert(3, 30)?;
+    let third: BTreeMap<u64, u64> = [(3, 30)].iter().copied().collect(alloc)?;
     let joint = voters.change(ChangeMembers::AddNodes(third), true)?;
     let joint = joint.change(ChangeMembers::replace_all(alloc, &[2, 3])?, false)?;
     let last = joint.change(ChangeMembers::replace_all(alloc, &[2, 3])?, false)?;
