@@ -1,0 +1,84 @@
+#!/usr/bin/env bash
+# Runs the tests that the gate has built once more, with `refuse_growths.c` in front of the heap: each
+# growth of memory of a call is refused in turn, or all of them. Prints a line for each such call, and
+# fails where one is wrong, where nothing refused its growths, or where a crate's tests have no such call.
+set -u -o pipefail
+cd "$(dirname "$0")/.."
+toolchain=$(dirname "$(rt doc | head -n 1)")/toolchain/bin
+folder=$(mktemp -d)
+trap 'rm -rf "$folder"' EXIT
+"$toolchain/clang" -O2 -Wall -Werror -fPIC -shared -nostdlib --ld-path="$toolchain/ld.lld" \
+    -o "$folder/refuse.so" tools/refuse_growths.c || exit 1
+right=0
+wrong=0
+
+# Runs a crate's tests one by one, and judges what they say of growths.
+run_tests() {
+    local program=crates/$1/out/$1_tests tests said lines
+    tests=$("$program" --list | sed -n 's/: test$//p')
+    said=$(for test in $tests; do
+        LD_PRELOAD="$folder/refuse.so" "$program" "$test" 2>&1 || echo "$test: failed"
+    done)
+    lines=$(grep -E '^.+: ([0-9]+ growths|no growths|in ample memory|wrong)$' <<< "$said")
+    echo "$1:"
+    echo "$lines"
+    right=$((right + $(grep -c ' growths$' <<< "$lines")))
+    if [ -z "$lines" ] || grep -qv ' growths$' <<< "$lines" || grep ': failed$' <<< "$said"; then
+        wrong=$((wrong + 1))
+        echo "$1: wrong"
+    fi
+}
+
+for tests in raft_base_tests raft_members_tests raft_state_tests; do
+    run_tests "$tests"
+done
+
+# The program's script, which begins with the line 0. Each later line has one reply.
+script=('init 0 1,2 3' 'update 1 5' 'update 2 3' 'change add-ids 3 retain 0' 'update 3 4'
+    'change add-ids 4 retain 0' 'update 9 1' 'update 3 2' 'change remove 1,2,3 drop 0'
+    'change replace 2,3 retain 4' 'increase 2 7' 'update 1')
+run_script() { printf '%s\n' "$@" | crates/raft_script/out/raft_script; }
+
+# What the script answers where a line wants memory: all is as it was, and the later lines go on.
+answers_without() {
+    local lines=("${script[@]}")
+    lines[$1]='increase 99 0'
+    run_script "${lines[@]}" | sed "$1s/.*/no-memory/"
+}
+
+whole=$(run_script "${script[@]}")
+answers=("2 $whole" $'2 no-memory\nbad line 2')
+for line in "${!script[@]}"; do
+    [[ ${script[line]} == change* ]] && answers+=("2 $(answers_without "$line")")
+done
+
+# Whether a run is right that was refused a growth: it answers so, or ends with a fault.
+is_right() {
+    local answer
+    [ "$1" = 1 ] && [[ $whole == "$2"* ]] && [ "$3" = $'refused\nfault' ] && return
+    for answer in "${answers[@]}"; do
+        [ "$1 $2" = "$answer" ] && [ "$3" = refused ] && return
+    done
+}
+
+# Refuses each growth of the program in turn, until a run meets no refusal.
+run_program() {
+    local count=0 output status errors
+    while :; do
+        output=$(REFUSE_GROWTH=$((count + 1)) LD_PRELOAD=$folder/refuse.so run_script "${script[@]}" \
+            2> "$folder/errors")
+        status=$? errors=$(cat "$folder/errors")
+        [ -z "$errors" ] && break
+        count=$((count + 1))
+        if ! is_right "$status" "$output" "$errors"; then
+            echo "raft_script, growth $count: wrong, status $status, wrote '$output', said '$errors'"
+            wrong=$((wrong + 1))
+        fi
+    done
+    echo "raft_script: $count growths"
+    [ "$count" -gt 0 ] && [ "$status $output" = "2 $whole" ] || wrong=$((wrong + 1))
+}
+
+run_program
+echo "growths: $right calls are right, $wrong parts are wrong"
+[ "$wrong" = 0 ]

@@ -1,0 +1,73 @@
+/* Stands in front of the C library's heap, and refuses the growths that a program names.
+
+   It is told by requests for more bytes than a machine has, which without it are refused like any
+   other: ONE + n bytes have the n-th growth from then on refused, and EACH bytes have each. END
+   bytes end that, and are granted where a growth was refused. A program that makes no such requests
+   has the number of its growth in REFUSE_GROWTH, and says "refused" on standard error where it came
+   to that. Each request for memory is a growth, also one that makes a block shorter. */
+typedef __SIZE_TYPE__ size;
+
+extern void *__libc_malloc(size);
+extern void *__libc_calloc(size, size);
+extern void *__libc_realloc(void *, size);
+extern char *getenv(const char *);
+extern long atol(const char *);
+extern long write(int, const void *, size);
+
+static const size ONE = (size)1 << 60;
+static const size EACH = (size)1 << 59;
+static const size END = (size)1 << 58;
+static const size MOST = (size)1 << 20;
+
+static size until_refusal; /* growths up to the one to refuse, with it; 0 where none is */
+static int refuses_each;
+static int has_refused;
+static int says_so;
+
+static void begin(size growth, int each) {
+    until_refusal = growth;
+    refuses_each = each;
+    has_refused = 0;
+}
+
+__attribute__((constructor)) static void begin_as_told(void) {
+    const char *growth = getenv("REFUSE_GROWTH");
+    if (growth) {
+        says_so = 1;
+        begin((size)atol(growth), 0);
+    }
+}
+
+/* Whether a growth is refused. */
+static int refuses(void) {
+    int is_due = until_refusal != 0 && --until_refusal == 0;
+    if (!is_due && !refuses_each)
+        return 0;
+    has_refused = 1;
+    return says_so ? write(2, "refused\n", 8) != 0 : 1;
+}
+
+void *malloc(size bytes) {
+    if (bytes > ONE && bytes <= ONE + MOST) {
+        begin(bytes - ONE, 0);
+        return __libc_malloc(1);
+    }
+    if (bytes == EACH) {
+        begin(0, 1);
+        return __libc_malloc(1);
+    }
+    if (bytes == END) {
+        int was_refused = has_refused;
+        begin(0, 0);
+        return was_refused ? __libc_malloc(1) : 0;
+    }
+    return refuses() ? 0 : __libc_malloc(bytes);
+}
+
+void *calloc(size count, size bytes) {
+    return refuses() ? 0 : __libc_calloc(count, bytes);
+}
+
+void *realloc(void *block, size bytes) {
+    return refuses() ? 0 : __libc_realloc(block, bytes);
+}
