@@ -1,7 +1,8 @@
 #!/usr/bin/env bash
 # Runs the program that the gate has built, and compares its exit status, output and standard error.
 set -u -o pipefail
-program=$(cd "$(dirname "$0")/.." && pwd)/crates/raft_script/out/raft_script
+crate=$(cd "$(dirname "$0")/.." && pwd)/crates/raft_script
+program=$crate/out/raft_script
 passed=0
 failed=0
 said=$(mktemp)
@@ -31,6 +32,7 @@ ten_megabytes() { yes "$1" | tr -d '\n' | head -c 10000000; }
 begin() { printf 'init 0 1 -\nupdate 1 5\n'; }
 
 compare "the end of input" 0 "granted 5" "" run < <(begin)
+compare "a change of members" 0 "$(cat "$crate/change.stdout")" "" run < "$crate/change.stdin"
 compare "no input" 0 "" "" run < /dev/null
 compare "no line feed" 0 "granted 5" "" run < <(printf 'init 0 1 -\nupdate 1 5')
 compare "the end inside a word" 2 $'granted 5\nbad line 3' "" run < <(begin; printf 'upd')
