@@ -6,42 +6,86 @@ use std::io::{self, Read, Write};
 use std::process::Abort;
 use std::test::Fail;
 
-const SCRIPT: &[u8] =
-    b"init 0 1,2 3\nupdate 1 5\nupdate 2 3\nchange add-ids 3 retain 0\nupdate 3 4\nchange add-ids 4 retain 0\nupdate 9 1\nupdate 3 2\nchange remove 1,2,3 drop 0\nchange replace 2,3 retain 4\nincrease 2 7\nupdate 1";
+const SCRIPT: &[u8] = b"\
+init 0 1,2 3
+update 1 5
+update 2 3
+change add-ids 3 retain 0
+update 3 4
+change add-ids 4 retain 0
+update 9 1
+update 3 2
+change remove 1,2,3 drop 0
+change replace 2,3 retain 4
+increase 2 7
+update 1";
 
-const REPLIES: &[u8] =
-    b"granted 0\ngranted 3\ngranted 3\ngranted 3\nrefused no-node 4\nunknown 3\nwould-fall\nrefused empty\nbelow-default 2\ngranted 5\nbad line 12\n";
+const REPLIES: &[u8] = b"\
+granted 0
+granted 3
+granted 3
+granted 3
+refused no-node 4
+unknown 3
+would-fall
+refused empty
+below-default 2
+granted 5
+bad line 12
+";
 
 /// Scripts and their replies: a row is a script, `=` and the replies, and semicolons stand for line
 /// feeds. A row that begins with `#` says what those after it show.
 const ANSWERED: &[u8] = b"\
 =
 ;  ;=
-init 0 0,1,2,3,4 6;update 6 9;update 1 2;update 2 3;update 3 1;update 4 5;update 0 4;update 3 2;update 3 3;update 1 4;update 9 1;=granted 0;granted 0;granted 0;granted 1;granted 2;granted 3;granted 3;granted 3;granted 4;unknown 4;
-init 0 1,2,3 -;update 1 4;update 2 6;update 2 5;update 7 1;=granted 0;granted 4;would-fall;unknown 4;
-init 0 0,1,2,3,4 -;update 0 5;update 1 3;update 2 4;update 2 10;update 3 6;=granted 0;granted 0;granted 3;granted 3;granted 5;
-init 0 0,1,2,3,4 -;update 1 2;update 2 3;update 1 3;update 4 8;update 0 5;=granted 0;granted 0;granted 0;granted 3;granted 3;
+init 0 0,1,2,3,4 6;update 6 9;update 1 2;update 2 3;update 3 1;update 4 5;update 0 4;\
+    update 3 2;update 3 3;update 1 4;update 9 1;\
+    =granted 0;granted 0;granted 0;granted 1;granted 2;granted 3;granted 3;granted 3;granted 4;\
+    unknown 4;
+init 0 1,2,3 -;update 1 4;update 2 6;update 2 5;update 7 1;\
+    =granted 0;granted 4;would-fall;unknown 4;
+init 0 0,1,2,3,4 -;update 0 5;update 1 3;update 2 4;update 2 10;update 3 6;\
+    =granted 0;granted 0;granted 3;granted 3;granted 5;
+init 0 0,1,2,3,4 -;update 1 2;update 2 3;update 1 3;update 4 8;update 0 5;\
+    =granted 0;granted 0;granted 0;granted 3;granted 3;
 # No voters, so no quorum.
 init 0 - 1;update 1 5;update 2 5;init 7 - -;update 1 9;=granted 0;unknown 0;unknown 7;
 # A default above 0.
-init 3 1,2,3 4;update 1 5;update 2 4;update 4 2;update 4 8;increase 3 1;update 9 9=granted 3;granted 4;would-fall;granted 4;granted 4;unknown 4;
+init 3 1,2,3 4;update 1 5;update 2 4;update 4 2;update 4 8;increase 3 1;update 9 9\
+    =granted 3;granted 4;would-fall;granted 4;granted 4;unknown 4;
 # A value that isn't greater is no fault of an increase.
-init 0 1,2,3 4;increase 1 5;increase 1 3;increase 2 4;increase 9 1;update 2 3;increase 4 9;=granted 0;granted 0;granted 4;unknown 4;would-fall;granted 4;
+init 0 1,2,3 4;increase 1 5;increase 1 3;increase 2 4;increase 9 1;update 2 3;increase 4 9;\
+    =granted 0;granted 0;granted 4;unknown 4;would-fall;granted 4;
 # Repeated voters count once, and a voter is no learner.
-init 0 1,1,2 3,3,2;update 1 5;update 2 3;init 0 2,1 3,2,3;update 2 5;update 1 4;update 3 1;=granted 0;granted 3;granted 0;granted 4;granted 4;
+init 0 1,1,2 3,3,2;update 1 5;update 2 3;init 0 2,1 3,2,3;update 2 5;update 1 4;update 3 1;\
+    =granted 0;granted 3;granted 0;granted 4;granted 4;
 # Spaces, leading zeros, the greatest number and a last line without a line feed.
-  init   00  001,1 -  ;;   ;update 01   18446744073709551615;update 18446744073709551615 00000000000000000000000000007=granted 18446744073709551615;unknown 18446744073709551615;
+  init   00  001,1 -  ;;   ;update 01   18446744073709551615;\
+    update 18446744073709551615 00000000000000000000000000007\
+    =granted 18446744073709551615;unknown 18446744073709551615;
 # A second init starts again.
 init 0 1 -;update 1 5;init 2 1,3 -;update 1 3;update 3 3;=granted 5;granted 2;granted 3;
 # Voters come and go, and what each has stays with it.
-init 0 1,2,3 -;update 1 5;update 2 5;change add-nodes 4 retain 0;change add-ids 4 retain 0;update 4 6;change add-ids 4 retain 0;change replace 4 drop 0;change replace 4 drop 0;update 1 9;init 0 none 1;update 1 3;change add-ids 1 retain 0;=granted 0;granted 5;granted 5;granted 0;granted 5;granted 5;granted 5;granted 6;unknown 6;granted 0;granted 3;
+init 0 1,2,3 -;update 1 5;update 2 5;change add-nodes 4 retain 0;change add-ids 4 retain 0;\
+    update 4 6;change add-ids 4 retain 0;change replace 4 drop 0;change replace 4 drop 0;\
+    update 1 9;init 0 none 1;update 1 3;change add-ids 1 retain 0;\
+    =granted 0;granted 5;granted 5;granted 0;granted 5;granted 5;granted 5;granted 6;unknown 6;\
+    granted 0;granted 3;
 # An empty config has no quorum, and no change leads to one.
-init 0 - 1;update 1 4;change add-nodes 2 retain 0;change add-ids 1 retain 0;change replace - retain 0;=granted 0;refused empty;refused empty;refused empty;
+init 0 - 1;update 1 4;change add-nodes 2 retain 0;change add-ids 1 retain 0;\
+    change replace - retain 0;\
+    =granted 0;refused empty;refused empty;refused empty;
 init 0 1,2,3/- -;update 1 5;update 2 5;update 3 5;=granted 0;granted 0;granted 0;
 # A joint grants what each of its configs has reached.
-init 0 1,2,3/4,5 6;update 1 7;update 2 6;update 4 9;update 6 9;update 5 3;update 5 8;=granted 0;granted 0;granted 0;granted 0;granted 3;granted 6;
+init 0 1,2,3/4,5 6;update 1 7;update 2 6;update 4 9;update 6 9;update 5 3;update 5 8;\
+    =granted 0;granted 0;granted 0;granted 0;granted 3;granted 6;
 # Each kind of a change of nodes: learners come, stay and go.
-init 2 1 3;update 3 4;change add 5 retain 2;update 5 6;change set-nodes 3,6 drop 0;increase 6 9;change remove-nodes 3,6 retain 0;update 3 9;change replace-nodes 1,5,7 drop 1;update 7 1;update 1 5;change remove 1 drop 5;update 1 8;=granted 2;granted 2;granted 2;granted 2;granted 2;granted 2;unknown 2;granted 2;granted 2;granted 5;below-default 7;granted 6;";
+init 2 1 3;update 3 4;change add 5 retain 2;update 5 6;change set-nodes 3,6 drop 0;\
+    increase 6 9;change remove-nodes 3,6 retain 0;update 3 9;change replace-nodes 1,5,7 drop 1;\
+    update 7 1;update 1 5;change remove 1 drop 5;update 1 8;\
+    =granted 2;granted 2;granted 2;granted 2;granted 2;granted 2;unknown 2;granted 2;granted 2;\
+    granted 5;below-default 7;granted 6;";
 
 /// Scripts that end at a line that can't be run, in the same form.
 const ENDED: &[u8] = b"\
