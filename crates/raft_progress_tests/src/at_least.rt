@@ -7,12 +7,12 @@ use std::alloc::{AllocError, Global};
 use std::process::Abort;
 use std::test::Fail;
 
-type Enough = AtLeast<u64>;
+pub type Enough = AtLeast<u64>;
 
 type Both = Joint<u64, Enough, Vec<Enough>>;
 
 /// So many of the ids 0 to 4.
-fn of_five(rt: &impl Abort, alloc: Global, need: usize) -> Result<Enough, AllocError> {
+pub fn of_five(rt: &impl Abort, alloc: Global, need: usize) -> Result<Enough, AllocError> {
     assert!(rt; need > 0);
     AtLeast::new(alloc, &first_ids(alloc, 5)?, need)
 }

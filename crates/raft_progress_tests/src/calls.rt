@@ -6,7 +6,7 @@ use std::alloc::{AllocError, Global};
 use std::process::Abort;
 use std::test::Fail;
 
-type Numbers = VecProgress<u64, u64, u64, Vec<u64>>;
+pub type Numbers = VecProgress<u64, u64, u64, Vec<u64>>;
 
 /// A part and a text.
 #[derive(Debug, Clone, PartialEq, Drop)]
@@ -61,7 +61,7 @@ fn values_hold_a_text(rt: HostRuntime) -> Result<(), Fail> {
 }
 
 /// Whether an id that is there has the value, by both calls.
-fn has_value(progress: &Numbers, id: u64, want: u64) -> bool {
+pub fn has_value(progress: &Numbers, id: u64, want: u64) -> bool {
     match progress.try_get(&id) {
         Some(value) => *value == want && *progress.get(&id) == want,
         None => false,
@@ -82,7 +82,7 @@ fn reads_back(progress: &Numbers) -> bool {
 }
 
 /// Whether a value can be written for a known id alone.
-fn writes(progress: &mut Numbers, id: u64, value: u64) -> bool {
+pub fn writes(progress: &mut Numbers, id: u64, value: u64) -> bool {
     match progress.get_mut(&id) {
         Some(current) => {
             *current = value;
@@ -151,14 +151,14 @@ fn an_id_is_changed_through_iter_mut(rt: HostRuntime) -> Result<(), Fail> {
 }
 
 /// A step as plain data: an id and its value, or the voters, the learners and the default of an upgrade.
-enum Row {
+pub enum Row {
     Update(u64, u64),
     IncreaseTo(u64, u64),
     Upgrade(&'static [u64], &'static [u64], u64),
 }
 
 /// The step of a row.
-fn step(alloc: Global, row: &Row) -> Result<AnyStep<u64, u64, Vec<u64>>, AllocError> {
+pub fn step(alloc: Global, row: &Row) -> Result<AnyStep<u64, u64, Vec<u64>>, AllocError> {
     Ok(match row {
         Row::Update(id, value) => AnyStep::Update(*id, *value),
         Row::IncreaseTo(id, value) => AnyStep::IncreaseTo(*id, *value),

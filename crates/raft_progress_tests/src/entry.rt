@@ -125,7 +125,7 @@ fn sends<C: Numbered>(
 }
 
 /// Whether the search in a log of 100 goes by probes, each half of the way on.
-fn searches<C: Numbered>(log: &PlainLog<C>) -> bool {
+pub fn searches<C: Numbered>(log: &PlainLog<C>) -> bool {
     let none = InflightOf::None;
     let first = logs(1, id(1, 47), id(1, 57));
     let second = logs(2, id(1, 15), id(1, 25));
@@ -201,7 +201,7 @@ fn sends_nothing<C: Numbered>(log: &PlainLog<C>) -> bool {
 }
 
 /// Whether heartbeats shorten the search, and no further than the match.
-fn takes_heartbeats<C: Numbered>(log: &PlainLog<C>) -> bool {
+pub fn takes_heartbeats<C: Numbered>(log: &PlainLog<C>) -> bool {
     let none = InflightOf::None;
     let matched = |end: u64| at(id(1, 4), end, 0, none);
     let below = Err(InflightError::ConflictBelowMatching);
@@ -213,7 +213,7 @@ fn takes_heartbeats<C: Numbered>(log: &PlainLog<C>) -> bool {
 
 /// Whether replies of a stranger to logs are refused, and a heartbeat leaves an
 /// entry that is invalid until the reply.
-fn stands_strangers<C: Numbered>(log: &PlainLog<C>) -> bool {
+pub fn stands_strangers<C: Numbered>(log: &PlainLog<C>) -> bool {
     let sending = logs(1, id(1, 47), id(1, 57));
     let entry = at(None, 100, 1, sending);
     let outside = Err(InflightError::AckOutOfRange);
@@ -317,7 +317,7 @@ fn replies_and_sends_are_as_worked(rt: HostRuntime) -> Result<(), Fail> {
 }
 
 /// Whether entries are refused by the first relation that they break.
-fn is_validated<C: Numbered>() -> bool {
+pub fn is_validated<C: Numbered>() -> bool {
     let none = InflightOf::None;
     let first = |entry: ProgressEntryOf<C>| entry.validate();
     first(at(id(1, 5), 5, 0, none)) == Err(Invalid::MatchingPastEnd)
@@ -343,7 +343,7 @@ fn starts<C: Numbered>(entry: &ProgressEntryOf<C>) -> Option<(u64, u64)> {
 }
 
 /// Whether entries read back.
-fn reads_back<C: Numbered>() -> bool {
+pub fn reads_back<C: Numbered>() -> bool {
     let matched = ProgressEntryOf::<C>::new(id(1, 4)).with_curr_inflight_id(7);
     let sending = matched.with_inflight(logs(1, id(1, 5), id(1, 9)));
     let shipping = matched.with_inflight(snapshot(1, id(1, 9)));

@@ -55,7 +55,7 @@ fn conflicts<C: Numbered>(
 }
 
 /// Whether acks of logs from (1,5) to (3,10), of a snapshot of (1,8) and of nothing are answered.
-fn acks_are_answered<C: Numbered>() -> bool {
+pub fn acks_are_answered<C: Numbered>() -> bool {
     let from = logs::<C>(1, id(1, 5), id(3, 10));
     let shipped = snapshot::<C>(2, id(1, 8));
     let outside = Err(InflightError::AckOutOfRange);
@@ -82,7 +82,7 @@ fn acks_are_answered<C: Numbered>() -> bool {
 }
 
 /// Whether conflicts with the same are answered.
-fn conflicts_are_answered<C: Numbered>() -> bool {
+pub fn conflicts_are_answered<C: Numbered>() -> bool {
     let from = logs::<C>(1, id(1, 5), id(3, 10));
     let first = logs::<C>(3, None, id(1, 9));
     let shipped = snapshot::<C>(2, id(1, 8));
@@ -104,7 +104,7 @@ fn conflicts_are_answered<C: Numbered>() -> bool {
 }
 
 /// Whether logs in flight read back.
-fn logs_read_back() -> bool {
+pub fn logs_read_back() -> bool {
     let logs = Inflight::<u64>::logs(id(1, 2), id(1, 5)).with_id(7);
     logs.get_id() == Some(7)
         && logs.id() == 7
@@ -121,7 +121,7 @@ fn logs_read_back() -> bool {
 }
 
 /// Whether a snapshot in flight, and nothing, read back.
-fn others_read_back() -> bool {
+pub fn others_read_back() -> bool {
     let snapshot = Inflight::<u64>::snapshot(None).with_id(7);
     let none = Inflight::<u64>::None;
     snapshot.get_id() == Some(7)

@@ -16,6 +16,8 @@ mod events;
 #[cfg(test)]
 mod first_caller;
 #[cfg(test)]
+mod growths;
+#[cfg(test)]
 mod inflight;
 #[cfg(test)]
 mod log_ids;

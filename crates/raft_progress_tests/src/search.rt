@@ -55,7 +55,7 @@ fn conflict<'a, C>(request_id: u64, conflict: u64) -> SearchEvent<'a, PlainLog<C
 
 /// Whether searches over a log from 0 to 99 halve the stretch, with a heartbeat in between and
 /// without.
-fn halves<C: Numbered>(log: &PlainLog<C>) -> bool {
+pub fn halves<C: Numbered>(log: &PlainLog<C>) -> bool {
     let probes = [
         send(log, 10),
         conflict(1, 47),
@@ -81,7 +81,7 @@ fn halves<C: Numbered>(log: &PlainLog<C>) -> bool {
 
 /// Whether searches at a purge point end with a snapshot, also where a send is skipped since its
 /// purge point has gone back.
-fn ends_with_a_snapshot<C: Numbered>(purged: &PlainLog<C>, whole: &PlainLog<C>) -> bool {
+pub fn ends_with_a_snapshot<C: Numbered>(purged: &PlainLog<C>, whole: &PlainLog<C>) -> bool {
     let probe = [
         send(purged, u64::MAX),
         conflict(1, 4),
@@ -101,7 +101,7 @@ fn ends_with_a_snapshot<C: Numbered>(purged: &PlainLog<C>, whole: &PlainLog<C>) 
 
 /// Whether followers can be caught up from where they can, over a log from 0 to 99, and over one
 /// from 0 to 20 that is to be purged up to index 4.
-fn can_be_caught_up<C: Numbered>(log: &PlainLog<C>, purged: &PlainLog<C>) -> bool {
+pub fn can_be_caught_up<C: Numbered>(log: &PlainLog<C>, purged: &PlainLog<C>) -> bool {
     let entry = ProgressEntryOf::empty(100);
     let done = at(id(1, 99), 100, u64::MAX - 165, InflightOf::None);
     let late = at(id(1, 99), 100, u64::MAX - 164, InflightOf::None);

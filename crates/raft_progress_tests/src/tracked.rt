@@ -21,7 +21,10 @@ fn ids(alloc: Global, ids: &[u64]) -> Result<BTreeSet<u64>, AllocError> {
 }
 
 /// The membership of these configs, with the nodes 1 to 3.
-fn members(alloc: Global, configs: &[&[u64]]) -> Result<Membership<u64, EmptyNode>, AllocError> {
+pub fn members(
+    alloc: Global,
+    configs: &[&[u64]],
+) -> Result<Membership<u64, EmptyNode>, AllocError> {
     let mut sets = Vec::new(alloc);
     for config in configs {
         sets.push(ids(alloc, config)?)?;
@@ -30,10 +33,10 @@ fn members(alloc: Global, configs: &[&[u64]]) -> Result<Membership<u64, EmptyNod
 }
 
 /// A membership and the progress of its nodes.
-type Pair = Tracked<u64, EmptyNode, u64, u64>;
+pub type Pair = Tracked<u64, EmptyNode, u64, u64>;
 
 /// A step as plain data: an id and its value, or the ids of a change; the last has a default.
-enum Row {
+pub enum Row {
     Update(u64, u64),
     IncreaseTo(u64, u64),
     Add(&'static [u64]),
@@ -42,7 +45,7 @@ enum Row {
 }
 
 /// The step of a row.
-fn step(alloc: Global, row: &Row) -> Result<Step<u64, EmptyNode, u64>, AllocError> {
+pub fn step(alloc: Global, row: &Row) -> Result<Step<u64, EmptyNode, u64>, AllocError> {
     let (change, default) = match row {
         Row::Update(id, value) => return Ok(Step::Update(*id, *value)),
         Row::IncreaseTo(id, value) => return Ok(Step::IncreaseTo(*id, *value)),
@@ -61,7 +64,7 @@ fn step(alloc: Global, row: &Row) -> Result<Step<u64, EmptyNode, u64>, AllocErro
 }
 
 /// Steps of the voters 1 and 2 and a learner 3, of which half are refused, and their replies.
-const ROWS: [(Row, Reply<u64, u64>); 10] = [
+pub const ROWS: [(Row, Reply<u64, u64>); 10] = [
     (Row::Update(1, 5), Reply::Granted(0)),
     (Row::Update(2, 3), Reply::Granted(3)),
     (Row::Add(&[3]), Reply::Granted(3)),
