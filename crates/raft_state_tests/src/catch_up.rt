@@ -53,7 +53,7 @@ fn rounds<K: LeaderKind<u64>>(
 
 /// Whether a follower alone is caught up as it should be, over a log of a hundred and over a purged
 /// one.
-fn catches_up_right<K: LeaderKind<u64>>(state: &State<K>, purged: &State<K>) -> bool {
+pub fn catches_up_right<K: LeaderKind<u64>>(state: &State<K>, purged: &State<K>) -> bool {
     catches_up::<K>(state, 100, 70, Some((1, 6)))
         && catches_up::<K>(state, 100, 0, Some((2, 10)))
         && catches_up::<K>(state, 100, 101, None)
@@ -62,7 +62,7 @@ fn catches_up_right<K: LeaderKind<u64>>(state: &State<K>, purged: &State<K>) -> 
 }
 
 /// Whether rounds over the voters 1, 2 and 3 and the learner 4 lead where they should.
-fn rounds_right<K: LeaderKind<u64>>(state: &State<K>, progress: &mut Followers<K>) -> bool {
+pub fn rounds_right<K: LeaderKind<u64>>(state: &State<K>, progress: &mut Followers<K>) -> bool {
     rounds::<K>(state, progress, &[(1, 70), (4, 0), (9, 3)], 2, None)
         && rounds::<K>(
             state,

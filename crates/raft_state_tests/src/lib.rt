@@ -16,6 +16,8 @@ mod first_caller;
 #[cfg(test)]
 mod followers;
 #[cfg(test)]
+mod growths;
+#[cfg(test)]
 mod imports;
 #[cfg(test)]
 mod log_id_list;

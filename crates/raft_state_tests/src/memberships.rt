@@ -12,19 +12,19 @@ use std::test::Fail;
 type State<K> = MembershipStateOf<<K as LeaderKind<u64>>::Committed, u64, u64>;
 
 /// The committed membership at leader 1, index 1, and the effective one at leader 2, index 10.
-fn state<K: LeaderKind<u64>>(alloc: Global) -> Result<State<K>, AllocError> {
+pub fn state<K: LeaderKind<u64>>(alloc: Global) -> Result<State<K>, AllocError> {
     let committed = effective::<K>(alloc, Some((1, 1)), &[1, 2])?;
     Ok(MembershipStateOf::new(committed, effective::<K>(alloc, Some((2, 10)), &[2, 3])?))
 }
 
 /// Whether the two memberships are those at these log ids.
-fn are_at<K: LeaderKind<u64>>(state: &State<K>, committed: Row, effective: Row) -> bool {
+pub fn are_at<K: LeaderKind<u64>>(state: &State<K>, committed: Row, effective: Row) -> bool {
     *state.committed().log_id() == id::<K>(committed)
         && *state.effective().log_id() == id::<K>(effective)
 }
 
 /// Whether an answer is the membership at a log id, or nothing.
-fn answers<K: LeaderKind<u64>>(answer: Option<&Rc<Effective<K>>>, want: Row) -> bool {
+pub fn answers<K: LeaderKind<u64>>(answer: Option<&Rc<Effective<K>>>, want: Row) -> bool {
     match answer {
         Some(effective) => want.is_some() && *effective.log_id() == id::<K>(want),
         None => want.is_none(),
@@ -49,7 +49,7 @@ fn snapshot_leads<K: LeaderKind<u64>>(
 }
 
 /// Whether a log that is cut off from an index on leads where it should.
-fn cut_leads<K: LeaderKind<u64>>(
+pub fn cut_leads<K: LeaderKind<u64>>(
     from: &State<K>,
     since: u64,
     answer: Row,
@@ -64,7 +64,7 @@ fn cut_leads<K: LeaderKind<u64>>(
 }
 
 /// Whether a committed log id leads where it should, or may not be given.
-fn commit_leads<K: LeaderKind<u64>>(
+pub fn commit_leads<K: LeaderKind<u64>>(
     from: &State<K>,
     upto: Row,
     committed: Option<Row>,

@@ -43,7 +43,7 @@ fn log_ids<K: LeaderKind<u64>>(alloc: Global) -> Result<LogIdListOf<K::Committed
 }
 
 /// A state with that log and such memberships.
-fn state<K: LeaderKind<u64>>(alloc: Global, ids: Ids) -> Result<State<K>, AllocError> {
+pub fn state<K: LeaderKind<u64>>(alloc: Global, ids: Ids) -> Result<State<K>, AllocError> {
     let log_ids = log_ids::<K>(alloc)?;
     let membership_state = memberships::<K>(alloc, ids.4, ids.5)?;
     let mut state = State::<K>::try_default(alloc)?;
@@ -123,7 +123,7 @@ fn is_lent<K: LeaderKind<u64>>(read: Option<&LogIdOf<K::Committed>>, want: Row) 
 }
 
 /// Whether a valid state reads as it should, and tells whether its purge point is in its log.
-fn reads<K: LeaderKind<u64>>(state: &State<K>, other: &State<K>) -> bool {
+pub fn reads<K: LeaderKind<u64>>(state: &State<K>, other: &State<K>) -> bool {
     let first = Some((1, 1));
     let last = Some((3, 4));
     let are_right = [
@@ -205,7 +205,7 @@ fn extend<K: LeaderKind<u64>>(
 }
 
 /// Whether a log id is committed once, with the answer of before.
-fn commits<K: LeaderKind<u64>>(state: &mut State<K>) -> Result<bool, AllocError> {
+pub fn commits<K: LeaderKind<u64>>(state: &mut State<K>) -> Result<bool, AllocError> {
     let last = Some((3, 4));
     let before = committed_before::<K>(state, last)?;
     let again = committed_before::<K>(state, last)?;
@@ -272,7 +272,7 @@ fn write_io<K: LeaderKind<u64>>(io_state: &mut IOStateOf<u64, K>) {
 }
 
 /// Whether storage's progress is written and read in a state, and nothing else changes.
-fn writes_io<K: LeaderKind<u64>>(state: &mut State<K>, before: &State<K>) -> bool {
+pub fn writes_io<K: LeaderKind<u64>>(state: &mut State<K>, before: &State<K>) -> bool {
     write_io::<K>(state.io_state_mut());
     let is_read = reads_io::<K>(state.io_state());
     let is_other = *state != *before;
@@ -307,7 +307,7 @@ fn is_of_its_leader<K: LeaderKind<u64>>(
 }
 
 /// Whether what was accepted of node 1 in term 2 is unknown of node 2 in that term.
-fn is_of_its_node<K: LeaderKind<u64>>() -> bool {
+pub fn is_of_its_node<K: LeaderKind<u64>>() -> bool {
     let accepted = AcceptedOf::<u64, K>::new(K::new_leader(2, 1), id::<K>(Some((2, 3))));
     accepted
         .last_accepted_log_id(&K::new_leader(2, 2))
@@ -322,7 +322,7 @@ fn accept<K: LeaderKind<u64>>(state: &mut State<K>, log_id: Option<LogIdOf<K::Co
 }
 
 /// Whether a new node's vote, and what it has accepted of the leader, read as they should.
-fn accepts<K: LeaderKind<u64>>(state: &mut State<K>) -> bool {
+pub fn accepts<K: LeaderKind<u64>>(state: &mut State<K>) -> bool {
     let log_id = Some(LogIdOf::new(K::new_committed(6, 2), 3));
     let want = AcceptedOf::<u64, K>::new(K::new_leader(5, 10), log_id);
     let vote = VoteOf::<u64, K>::new_committed(5, 10);

@@ -1,0 +1,497 @@
+//! The list of log ids, the memberships of a node and its whole state, with each growth refused in
+//! turn or all of them.
+
+use super::catch_up::{catches_up_right, hundred, rounds_right};
+use super::followers::{Followers, followers};
+use super::memberships::{self, answers, are_at, commit_leads, cut_leads};
+use super::rows::{Effective, effective, ids, log_id};
+use super::whole::{self, accepts, commits, is_of_its_node, reads, valid_state, writes_io};
+use raft_base::{LeaderAdv, LogId, MessageSummary, Validate};
+use raft_base_tests::growths::{Call, Growth, is_free, is_swept, refuse_each};
+use raft_members::StoredMembership;
+use raft_members_tests::words::members;
+use raft_state::{
+    Entry, EntryPayload, LogIdList, MembershipState, RaftState, SnapshotMeta, is_key_list,
+};
+use std::alloc::{AllocError, Global};
+use std::io;
+use std::rc::Rc;
+use std::test::Fail;
+
+type List = LogIdList<u64>;
+
+type Memberships = MembershipState<u64, u64>;
+
+type State = RaftState<u64, u64, u64>;
+
+type Rows = &'static [(u64, u64)];
+
+/// A list with these keys, that has no room for more.
+fn list(alloc: Global, keys: &[(u64, u64)]) -> Result<List, AllocError> {
+    let keys = ids::<LeaderAdv>(alloc, keys)?;
+    if is_key_list(&keys) {
+        List::new(keys).try_clone()
+    } else {
+        List::try_default(alloc)
+    }
+}
+
+/// A call that changes a list.
+#[derive(Clone, Copy)]
+enum Edit {
+    Append,
+    Extend,
+    ExtendFromSameLeader,
+    Purge,
+}
+
+/// Such a call, the keys of the list, and the log ids that it is given.
+#[derive(Clone, Copy)]
+struct ListEdit {
+    edit: Edit,
+    keys: Rows,
+    ids: Rows,
+}
+
+impl Call for ListEdit {
+    type Borrowed = List;
+
+    type Taken = Vec<LogId<u64>>;
+
+    type Answer = ();
+
+    fn borrowed(&self, alloc: Global) -> Result<List, AllocError> {
+        list(alloc, self.keys)
+    }
+
+    fn taken(&self, alloc: Global) -> Result<Vec<LogId<u64>>, AllocError> {
+        ids::<LeaderAdv>(alloc, self.ids)
+    }
+
+    fn run(&self, growth: Growth, list: &mut List, ids: Vec<LogId<u64>>) -> Result<(), AllocError> {
+        growth.refuse();
+        match (self.edit, ids.first()) {
+            (Edit::Append, Some(id)) if list.can_append(*id) => list.append(*id),
+            (Edit::Extend, _) if list.can_extend(&ids) => list.extend(&ids),
+            (Edit::ExtendFromSameLeader, _) if list.can_extend_from_same_leader(&ids) => {
+                list.extend_from_same_leader(&ids)
+            }
+            (Edit::Purge, Some(id)) if list.can_purge(id) => list.purge(id),
+            _ => Ok(()),
+        }
+    }
+}
+
+#[test]
+fn growths_of_lists(rt: HostRuntime) -> Result<(), Fail> {
+    let keys: Rows = &[(1, 1), (2, 3)];
+    let several: Rows = &[(3, 7), (4, 8), (5, 9), (6, 10)];
+    let of_one: Rows = &[(3, 7), (3, 8), (3, 9)];
+    let same = Edit::ExtendFromSameLeader;
+    for (name, edit, keys, ids) in [
+        ("LogIdList::append", Edit::Append, keys, of_one),
+        ("LogIdList::extend", Edit::Extend, keys, several),
+        ("LogIdList::extend_from_same_leader", same, keys, of_one),
+        (
+            "LogIdList::purge of an empty list",
+            Edit::Purge,
+            &[],
+            of_one,
+        ),
+    ] {
+        assert!(rt; is_swept(&rt, rt.alloc(), name, &ListEdit { edit, keys, ids })?);
+    }
+    Ok(())
+}
+
+/// The same call, of the log of a state.
+#[derive(Clone, Copy)]
+struct LogEdit(ListEdit);
+
+impl Call for LogEdit {
+    type Borrowed = State;
+
+    type Taken = Vec<LogId<u64>>;
+
+    type Answer = ();
+
+    fn borrowed(&self, alloc: Global) -> Result<State, AllocError> {
+        let mut state = State::try_default(alloc)?;
+        state.log_ids = list(alloc, self.0.keys)?;
+        Ok(state)
+    }
+
+    fn taken(&self, alloc: Global) -> Result<Vec<LogId<u64>>, AllocError> {
+        ids::<LeaderAdv>(alloc, self.0.ids)
+    }
+
+    fn run(
+        &self,
+        growth: Growth,
+        state: &mut State,
+        ids: Vec<LogId<u64>>,
+    ) -> Result<(), AllocError> {
+        growth.refuse();
+        let log_ids = &state.log_ids;
+        match (self.0.edit, ids.first()) {
+            (Edit::Extend, _) if log_ids.can_extend(&ids) => state.extend_log_ids(&ids),
+            (Edit::ExtendFromSameLeader, _) if log_ids.can_extend_from_same_leader(&ids) => {
+                state.extend_log_ids_from_same_leader(&ids)
+            }
+            (Edit::Purge, Some(id)) if state.can_purge_log(id) => state.purge_log(id),
+            _ => Ok(()),
+        }
+    }
+}
+
+/// A clone of a state with a snapshot.
+struct StateClone;
+
+impl Call for StateClone {
+    type Borrowed = State;
+
+    type Taken = ();
+
+    type Answer = State;
+
+    fn borrowed(&self, alloc: Global) -> Result<State, AllocError> {
+        let mut state = valid_state::<LeaderAdv>(alloc)?;
+        let membership = members(alloc, "1,2/2,4", "1=1,2=2,3=3,4=4")?;
+        state.snapshot_meta = SnapshotMeta {
+            last_log_id: None,
+            last_membership: StoredMembership::new(None, membership),
+            snapshot_id: String::from_str(alloc, "first")?,
+        };
+        Ok(state)
+    }
+
+    fn taken(&self, _alloc: Global) -> Result<(), AllocError> {
+        Ok(())
+    }
+
+    fn run(&self, growth: Growth, state: &mut State, _taken: ()) -> Result<State, AllocError> {
+        growth.refuse();
+        state.try_clone()
+    }
+}
+
+#[test]
+fn growths_of_states(rt: HostRuntime) -> Result<(), Fail> {
+    let keys: Rows = &[(1, 1), (2, 3)];
+    let several: Rows = &[(3, 7), (4, 8), (5, 9), (6, 10)];
+    let of_one: Rows = &[(3, 7), (3, 8), (3, 9)];
+    let same = Edit::ExtendFromSameLeader;
+    for (name, edit, keys, ids) in [
+        ("RaftState::extend_log_ids", Edit::Extend, keys, several),
+        (
+            "RaftState::extend_log_ids_from_same_leader",
+            same,
+            keys,
+            of_one,
+        ),
+        (
+            "RaftState::purge_log of an empty log",
+            Edit::Purge,
+            &[],
+            of_one,
+        ),
+    ] {
+        let call = LogEdit(ListEdit { edit, keys, ids });
+        assert!(rt; is_swept(&rt, rt.alloc(), name, &call)?);
+    }
+    assert!(rt; is_swept(&rt, rt.alloc(), "RaftState::try_clone", &StateClone)?);
+    Ok(())
+}
+
+/// The summary of the memberships of a node.
+struct Summary;
+
+impl Call for Summary {
+    type Borrowed = Memberships;
+
+    type Taken = ();
+
+    type Answer = String;
+
+    fn borrowed(&self, alloc: Global) -> Result<Memberships, AllocError> {
+        memberships::state::<LeaderAdv>(alloc)
+    }
+
+    fn taken(&self, _alloc: Global) -> Result<(), AllocError> {
+        Ok(())
+    }
+
+    fn run(
+        &self,
+        growth: Growth,
+        memberships: &mut Memberships,
+        _taken: (),
+    ) -> Result<String, AllocError> {
+        growth.refuse();
+        memberships.summary(growth.alloc)
+    }
+}
+
+/// The summary of an entry with a membership, or of what it holds.
+#[derive(Clone, Copy)]
+enum EntrySummary {
+    Whole,
+    Payload,
+}
+
+impl Call for EntrySummary {
+    type Borrowed = Entry<u64, u64, u64>;
+
+    type Taken = ();
+
+    type Answer = String;
+
+    fn borrowed(&self, alloc: Global) -> Result<Entry<u64, u64, u64>, AllocError> {
+        let payload = EntryPayload::Membership(members(alloc, "1,2/2,4", "1=1,2=2,3=3,4=4")?);
+        Ok(Entry {
+            log_id: log_id::<LeaderAdv>(1, 2),
+            payload,
+        })
+    }
+
+    fn taken(&self, _alloc: Global) -> Result<(), AllocError> {
+        Ok(())
+    }
+
+    fn run(
+        &self,
+        growth: Growth,
+        entry: &mut Entry<u64, u64, u64>,
+        _taken: (),
+    ) -> Result<String, AllocError> {
+        growth.refuse();
+        match self {
+            EntrySummary::Whole => entry.summary(growth.alloc),
+            EntrySummary::Payload => entry.payload.summary(growth.alloc),
+        }
+    }
+}
+
+#[test]
+fn growths_of_summaries(rt: HostRuntime) -> Result<(), Fail> {
+    let alloc = rt.alloc();
+    assert!(rt; is_swept(&rt, alloc, "MembershipState::summary", &Summary)?);
+    assert!(rt; is_swept(&rt, alloc, "Entry::summary", &EntrySummary::Whole)?);
+    assert!(rt; is_swept(&rt, alloc, "EntryPayload::summary", &EntrySummary::Payload)?);
+    Ok(())
+}
+
+/// Whether the list of the keys (1,1), (2,3) and (2,9) is read as it should be.
+fn is_read(list: &List) -> bool {
+    let of_log = [log_id::<LeaderAdv>(2, 10), log_id::<LeaderAdv>(2, 11)];
+    let are_right = [
+        list.get(2) == Some(log_id::<LeaderAdv>(1, 2)),
+        list.get(10) == None,
+        list.first() == Some(&log_id::<LeaderAdv>(1, 1)),
+        list.last() == Some(&log_id::<LeaderAdv>(2, 9)),
+        list.key_log_ids().len() == 3,
+        list.by_last_leader().len() == 2,
+        is_key_list(list.key_log_ids()),
+        list.can_append(log_id::<LeaderAdv>(2, 10)),
+        list.can_extend(&of_log),
+        list.can_extend_from_same_leader(&of_log),
+        !list.can_purge(&log_id::<LeaderAdv>(1, 12)),
+    ];
+    !are_right.contains(&false)
+}
+
+/// Purges a list up to a log id, if that may be.
+fn purge(list: &mut List, upto: LogId<u64>) -> Result<(), AllocError> {
+    if list.can_purge(&upto) {
+        list.purge(&upto)?;
+    }
+    Ok(())
+}
+
+/// Whether that list, cut off and then purged, is as it should be each time.
+fn is_cut(list: &mut List, cut: &List, purged: &List) -> Result<bool, AllocError> {
+    list.truncate(5);
+    let is_cut = *list == *cut;
+    purge(list, log_id::<LeaderAdv>(2, 3))?;
+    Ok(is_cut && *list == *purged)
+}
+
+/// Whether a list is read without memory.
+fn list_reads_are_free(rt: &impl Print, alloc: Global) -> io::Result<bool> {
+    let list = list(alloc, &[(1, 1), (2, 3), (2, 9)])?;
+    refuse_each(alloc);
+    let is_right = is_read(&list);
+    is_free(
+        rt,
+        alloc,
+        "LogIdList, get, can_append and other reads",
+        is_right,
+    )
+}
+
+/// Whether a list is cut off and purged without memory.
+fn list_cuts_are_free(rt: &impl Print, alloc: Global) -> io::Result<bool> {
+    let mut whole = list(alloc, &[(1, 1), (2, 3), (2, 9)])?;
+    let cut = list(alloc, &[(1, 1), (2, 3), (2, 4)])?;
+    let purged = list(alloc, &[(2, 3), (2, 4)])?;
+    refuse_each(alloc);
+    let is_right = is_cut(&mut whole, &cut, &purged) == Ok(true);
+    is_free(
+        rt,
+        alloc,
+        "LogIdList::{truncate, eq}, purge of one that is not empty",
+        is_right,
+    )
+}
+
+/// Whether a membership is appended as it should be.
+fn is_appended(from: &Memberships, new: &Rc<Effective<LeaderAdv>>) -> Result<bool, AllocError> {
+    let mut memberships = from.try_clone()?;
+    if !memberships.can_append(new) {
+        return Ok(false);
+    }
+    memberships.append(new.clone()?);
+    Ok(are_at::<LeaderAdv>(&memberships, Some((2, 10)), Some((10, 15))) && memberships != *from)
+}
+
+/// Whether a snapshot's membership takes the place of both.
+fn is_taken_over(from: &Memberships, new: &Rc<Effective<LeaderAdv>>) -> Result<bool, AllocError> {
+    let mut memberships = from.try_clone()?;
+    let at = Some((10, 15));
+    let is_answered = answers::<LeaderAdv>(memberships.update_committed(new.clone()?, 12)?, at);
+    Ok(is_answered && are_at::<LeaderAdv>(&memberships, at, at) && memberships.validate() == Ok(()))
+}
+
+/// Whether memberships are committed and cut off as they should be.
+fn are_moved(from: &Memberships) -> Result<bool, AllocError> {
+    let (first, second) = (Some((1, 1)), Some((2, 10)));
+    Ok(
+        commit_leads::<LeaderAdv>(from, second, Some(second))?
+            && cut_leads::<LeaderAdv>(from, 10, first, first)?
+            && cut_leads::<LeaderAdv>(from, 11, None, second)?,
+    )
+}
+
+/// Whether a membership is appended without memory.
+fn append_is_free(rt: &impl Print, alloc: Global) -> io::Result<bool> {
+    let from = memberships::state::<LeaderAdv>(alloc)?;
+    let new = effective::<LeaderAdv>(alloc, Some((10, 15)), &[3])?;
+    refuse_each(alloc);
+    let is_right = is_appended(&from, &new) == Ok(true);
+    is_free(
+        rt,
+        alloc,
+        "MembershipState::{append, try_clone, eq}",
+        is_right,
+    )
+}
+
+/// Whether memberships are committed, cut off and taken over without memory: they are shared.
+fn moves_are_free(rt: &impl Print, alloc: Global) -> io::Result<bool> {
+    let from = memberships::state::<LeaderAdv>(alloc)?;
+    let new = effective::<LeaderAdv>(alloc, Some((10, 15)), &[3])?;
+    refuse_each(alloc);
+    let is_right = are_moved(&from) == Ok(true) && is_taken_over(&from, &new) == Ok(true);
+    let name = "MembershipState::{commit, truncate, update_committed, validate}";
+    is_free(rt, alloc, name, is_right)
+}
+
+#[test]
+fn no_growths_of_lists(rt: HostRuntime) -> Result<(), Fail> {
+    assert!(rt; list_reads_are_free(&rt, rt.alloc())? && list_cuts_are_free(&rt, rt.alloc())?);
+    Ok(())
+}
+
+#[test]
+fn no_growths_of_memberships(rt: HostRuntime) -> Result<(), Fail> {
+    assert!(rt; append_is_free(&rt, rt.alloc())? && moves_are_free(&rt, rt.alloc())?);
+    Ok(())
+}
+
+/// Whether a state is validated, compared and read without memory.
+fn state_reads_are_free(rt: &impl Print, alloc: Global) -> io::Result<bool> {
+    let state = valid_state::<LeaderAdv>(alloc)?;
+    // Its purge point is not in its log.
+    let other = whole::state::<LeaderAdv>(
+        alloc,
+        (2, Some((3, 0)), Some((3, 4)), None, None, None),
+    )?;
+    refuse_each(alloc);
+    let is_right = reads::<LeaderAdv>(&state, &other)
+        && state.validate() == Ok(())
+        && state == state
+        && state != other;
+    is_free(
+        rt,
+        alloc,
+        "RaftState::{validate, eq}, get_log_id and other reads",
+        is_right,
+    )
+}
+
+/// Whether storage's progress is written in a state and read without memory.
+fn io_is_free(rt: &impl Print, alloc: Global) -> io::Result<bool> {
+    let before = valid_state::<LeaderAdv>(alloc)?;
+    let mut state = before.try_clone()?;
+    refuse_each(alloc);
+    let is_right = writes_io::<LeaderAdv>(&mut state, &before);
+    is_free(rt, alloc, "IOState", is_right)
+}
+
+/// Whether what is accepted is taken and read without memory.
+fn accepted_is_free(rt: &impl Print, alloc: Global) -> io::Result<bool> {
+    let mut state = State::try_default(alloc)?;
+    refuse_each(alloc);
+    let is_right = accepts::<LeaderAdv>(&mut state) && is_of_its_node::<LeaderAdv>();
+    is_free(
+        rt,
+        alloc,
+        "Accepted, RaftState::{can_accept, update_accepted}",
+        is_right,
+    )
+}
+
+/// Whether a state commits without memory: its memberships are shared.
+fn commit_is_free(rt: &impl Print, alloc: Global) -> io::Result<bool> {
+    let mut state = valid_state::<LeaderAdv>(alloc)?;
+    refuse_each(alloc);
+    let is_right = commits::<LeaderAdv>(&mut state) == Ok(true);
+    is_free(rt, alloc, "RaftState::update_committed", is_right)
+}
+
+#[test]
+fn no_growths_of_states(rt: HostRuntime) -> Result<(), Fail> {
+    let alloc = rt.alloc();
+    assert!(rt; state_reads_are_free(&rt, alloc)? && io_is_free(&rt, alloc)?);
+    assert!(rt; accepted_is_free(&rt, alloc)? && commit_is_free(&rt, alloc)?);
+    Ok(())
+}
+
+/// Whether a follower is caught up without memory.
+fn catch_up_is_free(rt: &impl Print, alloc: Global) -> io::Result<bool> {
+    let state = hundred::<LeaderAdv>(alloc)?;
+    let purged = valid_state::<LeaderAdv>(alloc)?;
+    refuse_each(alloc);
+    let is_right = catches_up_right::<LeaderAdv>(&state, &purged);
+    is_free(rt, alloc, "RaftState::{can_catch_up, catch_up}", is_right)
+}
+
+/// Whether rounds over followers take no memory.
+fn rounds_are_free(
+    rt: &impl Print,
+    alloc: Global,
+    progress: &mut Followers<LeaderAdv>,
+) -> io::Result<bool> {
+    let state = hundred::<LeaderAdv>(alloc)?;
+    refuse_each(alloc);
+    let is_right = rounds_right::<LeaderAdv>(&state, progress);
+    is_free(rt, alloc, "RaftState::catch_up_all", is_right)
+}
+
+#[test]
+fn no_growths_of_followers(rt: HostRuntime) -> Result<(), Fail> {
+    let mut progress = followers::<LeaderAdv>(&rt, rt.alloc(), &[4], 100)?;
+    let is_right = rounds_are_free(&rt, rt.alloc(), &mut progress)?;
+    assert!(rt; is_right && catch_up_is_free(&rt, rt.alloc())?);
+    Ok(())
+}
