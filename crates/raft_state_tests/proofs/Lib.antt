@@ -1,2 +1,2 @@
 mod CloneLemmas
-mod TurnLemmas
+mod InOrderLemmas

@@ -30,6 +30,8 @@ mod rows;
 #[cfg(test)]
 mod texts;
 #[cfg(test)]
+mod turn;
+#[cfg(test)]
 mod whole;
 #[cfg(test)]
 mod words;
