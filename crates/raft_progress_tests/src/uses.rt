@@ -1,4 +1,5 @@
 //! One theorem, three uses: what is granted where a value is a match, a vote, or a moment.
+ghost use Rattle.std.specs.Prelude.{◌≡◌};
 
 use raft_members::quorum::{Joint, QuorumSet};
 use raft_progress::{AnyStep, ProgressPart, Reply, VecProgress, replay_any};
@@ -11,7 +12,9 @@ fn granted<V: ProgressPart<V> + Copy + Ord + Drop, QS: QuorumSet<u64> + Drop>(
     voters: QS,
     default: V,
     updates: &[(u64, V)],
-) -> Result<Vec<Reply<u64, V>>, AllocError> {
+) -> Result<Vec<Reply<u64, V>>, AllocError>
+    requires { (v w : V) → V.is_clone v w → V.part_of w ≡ V.part_of v }
+{
     let mut progress = VecProgress::new(alloc, voters, &[], default)?;
     let mut steps = Vec::new(alloc);
     for (id, value) in updates {
