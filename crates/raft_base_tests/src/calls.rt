@@ -59,7 +59,8 @@ fn in_turn<C: Ord>(
 
 /// The leader under which a node may append, if there is one, and the first id that it gives.
 fn first_id<NID: NodeId>(vote: &Vote<NID>) -> Option<LogId<NID>>
-    ensures { vote.now.committed ≡ true → result ≡ Some (record { leader_id = vote.now.leader_id; index = 0 }) }
+    ensures { vote.now.committed ≡ true →
+        result ≡ Some (record { leader_id = vote.now.leader_id; index = 0 }) }
 {
     let leader_id = vote.committed_leader_id()?;
     Some(LogId {

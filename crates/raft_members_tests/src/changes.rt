@@ -151,7 +151,8 @@ fn progress_displays(
     texts: (&str, &str),
 ) -> Result<bool, AllocError> {
     let text = format!(in alloc;
-        "the cluster is already undergoing a configuration change at log {}, last committed membership log id: {}",
+        "the cluster is already undergoing a configuration change at log {}, last committed \
+        membership log id: {}",
         texts.1, texts.0
     )?;
     let progress: Refusal = Refusal::InProgress(InProgress {

@@ -58,8 +58,8 @@ fn a_step_leads_towards_the_goal(rt: HostRuntime) -> Result<(), Fail> {
     Ok(())
 }
 
-/// Whether each test answers by itself, of a membership that lacks a node and of one that has an empty
-/// config.
+/// Whether each test answers by itself, of a membership that lacks a node and of one that has an
+/// empty config.
 pub fn each_answers(lacking: &Members, empty: &Members) -> bool {
     lacking.ensure_voter_nodes() == Err(2)
         && lacking.ensure_non_empty_config().is_ok()

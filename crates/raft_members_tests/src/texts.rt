@@ -182,23 +182,28 @@ fn not_in_members(alloc: Global) -> Result<InitializeError<u64, u64>, AllocError
 /// Whether the first of them prints itself, over both kinds of leaders.
 fn not_allowed_prints(alloc: Global) -> Result<bool, AllocError> {
     let texts = (
-        "not allowed to initialize due to current raft state: last_log_id: None vote: T1-N2:uncommitted",
-        "NotAllowed(NotAllowed { last_log_id: None, vote: Vote { leader_id: LeaderId { term: 1, node_id: 2 }, committed: false } })",
+        "not allowed to initialize due to current raft state: last_log_id: None vote: \
+        T1-N2:uncommitted",
+        "NotAllowed(NotAllowed { last_log_id: None, vote: Vote { leader_id: LeaderId { term: 1, \
+        node_id: 2 }, committed: false } })",
     );
     let standard = NotAllowedOf::<u64, LeaderStd> {
         last_log_id: Some(LogIdOf::new(leader_id_std::CommittedLeaderId { term: 1 }, 3)),
         vote: Default::default(),
     };
     let text =
-        "not allowed to initialize due to current raft state: last_log_id: Some(LogId { leader_id: CommittedLeaderId { term: 1 }, index: 3 }) vote: T0-NNone:uncommitted";
+        "not allowed to initialize due to current raft state: last_log_id: Some(LogId { leader_id: \
+        CommittedLeaderId { term: 1 }, index: 3 }) vote: T0-NNone:uncommitted";
     Ok(prints(alloc, &not_allowed(), texts)? && displays(alloc, &standard, text)?)
 }
 
 /// Whether the second prints itself.
 fn not_in_members_prints(alloc: Global) -> Result<bool, AllocError> {
     let texts = (
-        "node 9 has to be a member. membership:Membership { configs: [{1, 2}], nodes: {1: 4, 3: 6} }",
-        "NotInMembers(NotInMembers { node_id: 9, membership: Membership { configs: [{1, 2}], nodes: {1: 4, 3: 6} } })",
+        "node 9 has to be a member. membership:Membership { configs: [{1, 2}], nodes: {1: 4, 3: 6} \
+        }",
+        "NotInMembers(NotInMembers { node_id: 9, membership: Membership { configs: [{1, 2}], \
+        nodes: {1: 4, 3: 6} } })",
     );
     prints(alloc, &not_in_members(alloc)?, texts)
 }

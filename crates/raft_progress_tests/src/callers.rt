@@ -46,7 +46,8 @@ pub fn granted_after<
     ensures { let by = comparisons ID.Ord P.Ord V.PartialOrd V.ProgressPart V.Clone in
         IfOk result (λ answer. IfSome answer (λ granted.
         (first last : ProgressState ID V P QS) × (replies : List (Reply ID P))
-        × IsNew ID.eq V.is_clone V.part_of (QS.is_voter quorum_set) quorum_set learners.now default first
+        × IsNew ID.eq V.is_clone V.part_of (QS.is_voter quorum_set) quorum_set learners.now default
+        first
         × IsRun by QS.has_quorum QS.is_voter first steps.items replies last
         × IsCounted P.cmp V.part_of QS.has_quorum last granted)) }
 {
@@ -66,10 +67,13 @@ pub fn granted_of<NID: NodeId, N: Node>(
     steps: Vec<Step<NID, N, u64>>,
 ) -> Result<u64, AllocError>
     requires { ClonesAreEqual N.eq N.is_clone }
-    ensures { let by = comparisons NID.Ord ⟦<u64 as Ord>⟧ ⟦<u64 as PartialOrd>⟧ ⟦<u64 as ProgressPart<u64>>⟧ ⟦<u64 as Clone>⟧ in
+    ensures { let by = comparisons NID.Ord ⟦<u64 as Ord>⟧ ⟦<u64 as PartialOrd>⟧
+        ⟦<u64 as ProgressPart<u64>>⟧ ⟦<u64 as Clone>⟧ in
         IfOk result (λ granted.
-        (first last : TrackedShown NID N ℕ ℕ) × (replies : List (Reply NID ℕ)) × (first.membership ≡ membership)
-        × IsTrackedRun by N.eq (tracked_state NID.eq first) steps.items replies (tracked_state NID.eq last)
+        (first last : TrackedShown NID N ℕ ℕ) × (replies : List (Reply NID ℕ))
+        × (first.membership ≡ membership)
+        × IsTrackedRun by N.eq (tracked_state NID.eq first) steps.items replies
+        (tracked_state NID.eq last)
         × QuorumsKnowGranted NID.eq nat_cmp (λ v. v) last × (granted ≡ last.progress.granted)) }
 {
     let mut pair = Tracked::new(membership, 0u64)?;
@@ -115,7 +119,8 @@ pub fn sent_next<C: Ord + Copy, L: LogStateReader<C>>(
     entry: &mut ProgressEntryOf<C>,
     log: &L,
 ) -> Option<InflightOf<C>>
-    ensures { IfSome result (λ sending. (sent C.cmp entry.old (L.log_view log.now) 64 ≡ Ok entry.new)
+    ensures { IfSome result (λ sending.
+        (sent C.cmp entry.old (L.log_view log.now) 64 ≡ Ok entry.new)
         × (sending ≡ entry.new.inflight)) }
 {
     if !entry.can_send(log) {
@@ -187,7 +192,8 @@ fn a_caller_replaces(rt: HostRuntime) -> Result<(), Fail> {
 
 /// Writes a value at each id. Only the walk changes, and it stays as long as it was.
 fn fill(progress: &mut VecProgress<u64, u64, u64, Vec<u64>>, value: u64)
-    ensures all_else { shown progress.new ≡ record (shown progress.old) { walk = (shown progress.new).walk } }
+    ensures all_else { shown progress.new ≡
+        record (shown progress.old) { walk = (shown progress.new).walk } }
     ensures as_long { length (shown progress.new).walk ≡ length (shown progress.old).walk }
 {
     for entry in progress.iter_mut() {

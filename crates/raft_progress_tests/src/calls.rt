@@ -150,7 +150,8 @@ fn an_id_is_changed_through_iter_mut(rt: HostRuntime) -> Result<(), Fail> {
     Ok(())
 }
 
-/// A step as plain data: an id and its value, or the voters, the learners and the default of an upgrade.
+/// A step as plain data: an id and its value, or the voters, the learners and the default of an
+/// upgrade.
 pub enum Row {
     Update(u64, u64),
     IncreaseTo(u64, u64),

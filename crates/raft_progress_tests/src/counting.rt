@@ -62,7 +62,8 @@ fn is_counted(progress: &Progress, before: u64, most: u64) -> bool {
 /// Makes the updates, and compares the counts with the calls after each. One update
 /// makes at most so many quorum tests.
 fn compare_updates(rt: &impl Abort, progress: &mut Progress, updates: Updates<'_>, most: u64)
-    requires { IsInOrder nat_eq nat_cmp (λ x. x) (λ a s. is_majority nat_eq a.voters.items s) (shown progress.old) }
+    requires { IsInOrder nat_eq nat_cmp (λ x. x) (λ a s. is_majority nat_eq a.voters.items s)
+        (shown progress.old) }
 {
     for (id, value, want) in updates {
         let falls = progress.would_fall(id, value);
@@ -87,7 +88,8 @@ fn compare_replays(
     updates: Updates<'_>,
     most: u64,
 ) -> Result<(), AllocError>
-    requires { IsInOrder nat_eq nat_cmp (λ x. x) (λ a s. is_majority nat_eq a.voters.items s) (shown progress.old) }
+    requires { IsInOrder nat_eq nat_cmp (λ x. x) (λ a s. is_majority nat_eq a.voters.items s)
+        (shown progress.old) }
 {
     for (id, value, want) in updates {
         let mut steps = Vec::new(alloc);

@@ -26,8 +26,8 @@ fn conflicts_of<C: Ord + Copy>(entry: &mut ProgressEntryOf<C>, events: Events<'_
     search_run(entry, events)
 }
 
-/// Whether a search in a log that ends before an index accepts so many conflicts, and leaves the entry
-/// as wanted.
+/// Whether a search in a log that ends before an index accepts so many conflicts, and leaves the
+/// entry as wanted.
 fn accepts<C: Numbered>(
     end: u64,
     events: Events<'_, '_, C>,

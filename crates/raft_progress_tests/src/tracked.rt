@@ -1,5 +1,5 @@
-//! A membership that changes with its progress, and upgrades through a joint. More rows of changes stand
-//! in the tests of the program.
+//! A membership that changes with its progress, and upgrades through a joint. More rows of changes
+//! stand in the tests of the program.
 
 use super::steps::{made, replied, updated};
 use raft_base::EmptyNode;
@@ -87,8 +87,8 @@ fn are_replied(alloc: Global, pair: &mut Pair) -> Result<bool, AllocError> {
     Ok(replies.iter().eq(ROWS.iter().map(|(_, reply)| reply)))
 }
 
-/// Whether the membership is joint, the values have their places, and what is granted and was counted is
-/// right. A change counts each node as an update, and each that rises as a move.
+/// Whether the membership is joint, the values have their places, and what is granted and was
+/// counted is right. A change counts each node as an update, and each that rises as a move.
 fn is_ended(alloc: Global, pair: &Pair) -> Result<bool, AllocError> {
     let progress = pair.progress();
     let walk = [(2, 7), (1, 5), (3, 4)];
@@ -132,7 +132,8 @@ fn upgrades_through_a_joint(rt: HostRuntime) -> Result<(), Fail> {
     for (id, value, granted) in [(0, 5, 0), (1, 6, 5), (5, 9, 5)] {
         assert!(rt; updated(&rt, &mut progress, id, value) == Ok(granted));
     }
-    // Configs and learners, what the upgrade to them grants, a value that it takes over, and updates.
+    // Configs and learners, what the upgrade to them grants, a value that it takes over, and
+    // updates.
     let rows: [(&[&[u64]], u64, u64, (u64, u64), &[(u64, u64, u64)]); 2] = [
         (
             &[&[0, 1, 2], &[3, 4, 5]],

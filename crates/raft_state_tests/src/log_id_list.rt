@@ -19,7 +19,8 @@ fn replace_from<C: Ord + Copy>(
     list: &mut LogIdListOf<C>,
     id: LogIdOf<C>,
 ) -> Result<bool, AllocError>
-    ensures replaced { IfOk result (λ taken. IsTrue taken → IsTrue (same_log C.eq (full_log list.new)
+    ensures replaced { IfOk result (λ taken. IsTrue taken →
+        IsTrue (same_log C.eq (full_log list.new)
         (appended (front (full_log list.old) id.index) id))) }
     ensures refused { IfOk result (λ taken. taken ≡ false →
         full_log list.new ≡ front (full_log list.old) id.index) }
@@ -156,7 +157,8 @@ fn lists_are_their_logs(rt: HostRuntime) -> Result<(), Fail> {
         debugs(
             rt.alloc(),
             &list,
-            "LogIdList { key_log_ids: [LogId { leader_id: LeaderId { term: 1, node_id: 2 }, index: 3 }] }",
+            "LogIdList { key_log_ids: [LogId { leader_id: LeaderId { term: 1, node_id: 2 }, index: \
+            3 }] }",
         )?
     );
     Ok(())

@@ -109,7 +109,8 @@ impl LeaderKind<u64> for Regions {
     type Committed = RegionLeader;
 }
 
-/// Whether a search over a log from 0 to 99 accepts two conflicts of two, and then sends from the first.
+/// Whether a search over a log from 0 to 99 accepts two conflicts of two, and then sends from the
+/// first.
 fn searches(state: &State<Regions>) -> bool {
     let mut entry = ProgressEntryOf::empty(100);
     let send = || SearchEvent::Send {

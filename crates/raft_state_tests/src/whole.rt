@@ -453,15 +453,20 @@ fn a_state_validates_reads_and_moves(rt: HostRuntime) -> Result<(), Fail> {
 
 /// What the state of a new node prints.
 const NEW_STATE: &str =
-    "RaftState { vote: UTime { data: Vote { leader_id: LeaderId { term: 0, node_id: 0 }, committed: false }, utime: None }, \
+    "RaftState { vote: UTime { data: Vote { leader_id: LeaderId { term: 0, node_id: 0 }, \
+    committed: false }, utime: None }, \
     committed: None, purged_next: 0, log_ids: LogIdList { key_log_ids: [] }, \
     membership_state: MembershipState { \
-    committed: EffectiveMembership { log_id: None, membership: Membership { configs: [], nodes: {} }, voter_ids: {} }, \
-    effective: EffectiveMembership { log_id: None, membership: Membership { configs: [], nodes: {} }, voter_ids: {} } }, \
+    committed: EffectiveMembership { log_id: None, membership: Membership { configs: [], nodes: {} \
+    }, voter_ids: {} }, \
+    effective: EffectiveMembership { log_id: None, membership: Membership { configs: [], nodes: {} \
+    }, voter_ids: {} } }, \
     snapshot_meta: SnapshotMeta { last_log_id: None, \
-    last_membership: StoredMembership { log_id: None, membership: Membership { configs: [], nodes: {} } }, \
+    last_membership: StoredMembership { log_id: None, membership: Membership { configs: [], nodes: \
+    {} } }, \
     snapshot_id: \"\" }, \
-    server_state: Learner, accepted: Accepted { leader_id: LeaderId { term: 0, node_id: 0 }, log_id: None }, \
+    server_state: Learner, accepted: Accepted { leader_id: LeaderId { term: 0, node_id: 0 }, \
+    log_id: None }, \
     io_state: IOState { building_snapshot: false, \
     vote: Vote { leader_id: LeaderId { term: 0, node_id: 0 }, committed: false }, \
     flushed: LogIOId { committed_leader_id: LeaderId { term: 0, node_id: 0 }, log_id: None }, \
