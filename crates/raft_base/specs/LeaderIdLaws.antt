@@ -7,13 +7,15 @@ use Rattle.std.specs.declared.cmp.Ordering.{Ordering}
 use Rattle.std.specs.declared.cmp.Ordering.TheVariants.{Less, Equal, Greater}
 
 -- an order by term and then by node is lawful where the order of nodes is
-pub term_then_node-partial : {N : Type 0} {cmp : N → N → Ordering} {same : N → N → Bool} → IsTotalOrder cmp
+pub term_then_node-partial : {N : Type 0} {cmp : N → N → Ordering} {same : N → N → Bool}
+    → IsTotalOrder cmp
     → ((x y : N) → same x y ≡ eq_by_cmp cmp x y) → {L : Type 0} (term : L → ℕ) (node : L → N)
     → IsPartialOrder (λ a b. nat_eq (term a) (term b) && same (node a) (node b))
     (λ a b. Some (ordering_then (nat_cmp (term a) (term b)) (cmp (node a) (node b))))
 term_then_node-partial {N} {cmp} {same} o ties term node =
     po (then_total (on_total term nat_cmp_total) (on_total node o))
-    (λ a b. both_tied (nat_eq (term a) (term b)) (same (node a) (node b)) (nat_cmp (term a) (term b)) (cmp (node a) (node b))
+    (λ a b. both_tied (nat_eq (term a) (term b)) (same (node a) (node b))
+    (nat_cmp (term a) (term b)) (cmp (node a) (node b))
     (unsigned_ties (term a) (term b)) (ties (node a) (node b)))
 
 -- an order that always answers has no leaders that do not compare

@@ -19,18 +19,23 @@ never_less : (b : Bool) {G : Type 0} → cond b (Some Equal) None ≡ Some Less 
 never_less true h = cc
 never_less false h = cc
 
-turned : (b : Bool) → cond b (Some Equal) None ≡ option_map ordering_reverse (cond b (Some Equal) None)
+turned : (b : Bool) → cond b (Some Equal) None
+    ≡ option_map ordering_reverse (cond b (Some Equal) None)
 turned true = refl
 turned false = refl
 
 module _ {N : Type 0} {same : N → N → Bool} (e : IsEquivalence same) where
-  reversed : (x y : Option N) → voted_cmp same x y ≡ option_map ordering_reverse (voted_cmp same y x)
+  reversed : (x y : Option N) → voted_cmp same x y
+      ≡ option_map ordering_reverse (voted_cmp same y x)
   reversed None None = refl
   reversed None (Some n) = refl
   reversed (Some m) None = refl
-  reversed (Some m) (Some n) = turned (same m n) ∙ ap (λ b. option_map ordering_reverse (cond b (Some Equal) None)) (e.symm m n)
+  reversed (Some m) (Some n) =
+      turned (same m n)
+      ∙ ap (λ b. option_map ordering_reverse (cond b (Some Equal) None)) (e.symm m n)
 
-  chain : (x y z : Option N) → voted_cmp same x y ≡ Some Less → voted_cmp same y z ≡ Some Less → voted_cmp same x z ≡ Some Less
+  chain : (x y z : Option N) → voted_cmp same x y ≡ Some Less → voted_cmp same y z ≡ Some Less
+      → voted_cmp same x z ≡ Some Less
   chain None None z h k = cc
   chain None (Some n) None h k = cc
   chain None (Some n) (Some p) h k = refl
@@ -51,16 +56,20 @@ module _ {N : Type 0} {same : N → N → Bool} (e : IsEquivalence same) where
   alike (Some m) (Some n) (Some p) h = ap (λ b. cond b (Some Equal) None) (e.congr m n p h)
 
   voted_cmp-partial : IsPartialOrder (option_eq same) (voted_cmp same)
-  voted_cmp-partial = record { antisymm = reversed; trans = chain; matches_eq = ties; congr = alike }
+  voted_cmp-partial =
+      record { antisymm = reversed; trans = chain; matches_eq = ties; congr = alike }
 
   -- by term, and then by the node that is voted for
   pub term_then_voted-partial : {L : Type 0} (term : L → ℕ) (voted : L → Option N)
       → IsPartialOrder (λ a b. nat_eq (term a) (term b) && option_eq same (voted a) (voted b))
-      (λ a b. partial_ordering_then (Some (nat_cmp (term a) (term b))) (voted_cmp same (voted a) (voted b)))
-  term_then_voted-partial term voted = then_po (on_po term (po nat_cmp_total unsigned_ties)) (on_po voted voted_cmp-partial)
+      (λ a b. partial_ordering_then (Some (nat_cmp (term a) (term b)))
+      (voted_cmp same (voted a) (voted b)))
+  term_then_voted-partial term voted =
+      then_po (on_po term (po nat_cmp_total unsigned_ties)) (on_po voted voted_cmp-partial)
 
 -- of two nodes of one term that do not compare, nobody is below the one and not below the other
-below_both : {N : Type 0} (same : N → N → Bool) (a b c : Option N) → voted_cmp same a b ≡ None → voted_cmp same c a ≡ Some Less → voted_cmp same c b ≡ Some Less
+below_both : {N : Type 0} (same : N → N → Bool) (a b c : Option N) → voted_cmp same a b ≡ None
+    → voted_cmp same c a ≡ Some Less → voted_cmp same c b ≡ Some Less
 below_both same None None c h k = cc
 below_both same None (Some n) c h k = cc
 below_both same (Some m) None c h k = cc
@@ -68,7 +77,8 @@ below_both same (Some m) (Some n) None h k = refl
 below_both same (Some m) (Some n) (Some p) h k = never_less (same p m) k
 
 -- and none of the two is below any
-above_both : {N : Type 0} (same : N → N → Bool) (a b c : Option N) {G : Type 0} → voted_cmp same a b ≡ None → voted_cmp same a c ≡ Some Less → G
+above_both : {N : Type 0} (same : N → N → Bool) (a b c : Option N) {G : Type 0}
+    → voted_cmp same a b ≡ None → voted_cmp same a c ≡ Some Less → G
 above_both same None None c h k = cc
 above_both same None (Some n) c h k = cc
 above_both same (Some m) None c h k = cc
@@ -76,32 +86,45 @@ above_both same (Some m) (Some n) None h k = cc
 above_both same (Some m) (Some n) (Some p) h k = never_less (same m p) k
 
 -- what does not compare is of one term
-one_term : (o : Ordering) (p : Option Ordering) → partial_ordering_then (Some o) p ≡ None → (o ≡ Equal) × (p ≡ None)
+one_term : (o : Ordering) (p : Option Ordering) → partial_ordering_then (Some o) p ≡ None
+    → (o ≡ Equal) × (p ≡ None)
 one_term Less p h = cc
 one_term Equal p h = (refl, h)
 one_term Greater p h = cc
 
 -- below by term or, in one term, by the node
-moved : (o : Ordering) (p q : Option Ordering) → (p ≡ Some Less → q ≡ Some Less) → partial_ordering_then (Some o) p ≡ Some Less → partial_ordering_then (Some o) q ≡ Some Less
+moved : (o : Ordering) (p q : Option Ordering) → (p ≡ Some Less → q ≡ Some Less)
+    → partial_ordering_then (Some o) p ≡ Some Less → partial_ordering_then (Some o) q ≡ Some Less
 moved Less p q step h = refl
 moved Equal p q step h = step h
 moved Greater p q step h = cc
 
-module _ {N : Type 0} (same : N → N → Bool) (s t u : ℕ) (a b c : Option N) (apart : partial_ordering_then (Some (nat_cmp s t)) (voted_cmp same a b) ≡ None) where
+module _ {N : Type 0} (same : N → N → Bool) (s t u : ℕ) (a b c : Option N)
+    (apart : partial_ordering_then (Some (nat_cmp s t)) (voted_cmp same a b) ≡ None) where
   -- leaders that do not compare stand on the same side of each third one
-  pub alike_below : partial_ordering_then (Some (nat_cmp u s)) (voted_cmp same c a) ≡ Some Less → partial_ordering_then (Some (nat_cmp u t)) (voted_cmp same c b) ≡ Some Less
+  pub alike_below : partial_ordering_then (Some (nat_cmp u s)) (voted_cmp same c a) ≡ Some Less
+      → partial_ordering_then (Some (nat_cmp u t)) (voted_cmp same c b) ≡ Some Less
   alike_below h =
       let one = one_term (nat_cmp s t) (voted_cmp same a b) apart in
-      let same_side : nat_cmp u s ≡ nat_cmp u t = nat_cmp_total.antisymm u s ∙ ap ordering_reverse (nat_cmp_total.congr s t u one.0) ∙ sym (nat_cmp_total.antisymm u t) in
-      subst (λ (o : Ordering). partial_ordering_then (Some o) (voted_cmp same c b) ≡ Some Less) same_side (moved (nat_cmp u s) (voted_cmp same c a) (voted_cmp same c b) (below_both same a b c one.1) h)
+      let same_side : nat_cmp u s ≡ nat_cmp u t =
+      nat_cmp_total.antisymm u s ∙ ap ordering_reverse (nat_cmp_total.congr s t u one.0)
+      ∙ sym (nat_cmp_total.antisymm u t) in
+      subst (λ (o : Ordering). partial_ordering_then (Some o) (voted_cmp same c b) ≡ Some Less)
+      same_side (moved (nat_cmp u s) (voted_cmp same c a) (voted_cmp same c b)
+      (below_both same a b c one.1) h)
 
-  pub alike_above : partial_ordering_then (Some (nat_cmp s u)) (voted_cmp same a c) ≡ Some Less → partial_ordering_then (Some (nat_cmp t u)) (voted_cmp same b c) ≡ Some Less
+  pub alike_above : partial_ordering_then (Some (nat_cmp s u)) (voted_cmp same a c) ≡ Some Less
+      → partial_ordering_then (Some (nat_cmp t u)) (voted_cmp same b c) ≡ Some Less
   alike_above h =
       let one = one_term (nat_cmp s t) (voted_cmp same a b) apart in
-      subst (λ (o : Ordering). partial_ordering_then (Some o) (voted_cmp same b c) ≡ Some Less) (nat_cmp_total.congr s t u one.0) (moved (nat_cmp s u) (voted_cmp same a c) (voted_cmp same b c) (λ k. above_both same a b c one.1 k) h)
+      subst (λ (o : Ordering). partial_ordering_then (Some o) (voted_cmp same b c) ≡ Some Less)
+      (nat_cmp_total.congr s t u one.0)
+      (moved (nat_cmp s u) (voted_cmp same a c) (voted_cmp same b c)
+      (λ k. above_both same a b c one.1 k) h)
 
 -- the first order decides where it does not tie
-pub first_decides : (o : Ordering) (p : Option Ordering) → (o ≡ Equal → ⊥) → partial_ordering_then (Some o) p ≡ Some o
+pub first_decides : (o : Ordering) (p : Option Ordering) → (o ≡ Equal → ⊥)
+    → partial_ordering_then (Some o) p ≡ Some o
 first_decides Less p h = refl
 first_decides Equal p h = absurd (h refl)
 first_decides Greater p h = refl

@@ -11,13 +11,16 @@ none_reversed : (p q : Option Ordering) → p ≡ option_map ordering_reverse q 
 none_reversed p None e h = e
 none_reversed p (Some o) e h = cc
 
-module _ {L : Type 0} {same : L → L → Bool} {order : L → L → Option Ordering} (o : IsPartialOrder same order) where
+module _ {L : Type 0} {same : L → L → Bool} {order : L → L → Option Ordering}
+    (o : IsPartialOrder same order) where
   -- leaders that do not compare do not do so the other way round
   pub apart_back : (a b : L) → order a b ≡ None → order b a ≡ None
   apart_back a b h = none_reversed (order b a) (order a b) (o.antisymm b a) h
 
-  -- it is enough that what is below the one is below the other, and that what is above the one is above the other
-  pub alike_if : ((a b c : L) → order a b ≡ None → (order c a ≡ Some Less → order c b ≡ Some Less) × (order a c ≡ Some Less → order b c ≡ Some Less))
+  -- it is enough that what is below the one is below the other, and that what is above the one is
+  -- above the other
+  pub alike_if : ((a b c : L) → order a b ≡ None → (order c a ≡ Some Less → order c b ≡ Some Less)
+      × (order a c ≡ Some Less → order b c ≡ Some Less))
       → IncomparableAlike order
   alike_if one_way a b c h = (
     ((one_way a b c h).0, (one_way b a c (apart_back a b h)).0),

@@ -8,12 +8,14 @@ use Rattle.raft_base.specs.LogId.{log_id_cmp, same_id}
 
 -- equality of log ids has the laws of equality
 pub same_id-equiv : {C : Type 0} {eq : C → C → Bool} → IsEquivalence eq → IsEquivalence (same_id eq)
-same_id-equiv laws = and_equiv (on_equiv (λ a. a.leader_id) laws) (on_equiv (λ a. a.index) nat_eq_equiv)
+same_id-equiv laws = and_equiv (on_equiv (λ a. a.leader_id) laws)
+    (on_equiv (λ a. a.index) nat_eq_equiv)
 
 module _ {C : Type 0} {cmp : C → C → Ordering} (total : IsTotalOrder cmp) where
   -- the order of log ids is total
   pub log_id_cmp-total : IsTotalOrder (log_id_cmp cmp)
-  log_id_cmp-total = then_total (on_total (λ k. k.leader_id) total) (on_total (λ k. k.index) nat_cmp_total)
+  log_id_cmp-total = then_total (on_total (λ k. k.leader_id) total)
+      (on_total (λ k. k.index) nat_cmp_total)
 
   -- with an absent log id below all others
   pub optional-log_id_cmp-total : IsTotalOrder (option_cmp (log_id_cmp cmp))

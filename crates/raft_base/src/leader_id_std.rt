@@ -191,7 +191,8 @@ impl<NID: NodeId> LeaderIdentity for LeaderId<NID> {
 
     ghost made = { λ t n. (refl, refl, refl) };
 
-    ghost incomparable = { alike_if (term_then_voted-partial NID.Eq.laws (λ a. a.term) (λ a. a.voted_for))
+    ghost incomparable = { alike_if
+        (term_then_voted-partial NID.Eq.laws (λ a. a.term) (λ a. a.voted_for))
         (λ a b c h. (
           λ k. alike_below NID.eq a.term b.term c.term a.voted_for b.voted_for c.voted_for h k,
           λ k. alike_above NID.eq a.term b.term c.term a.voted_for b.voted_for c.voted_for h k,

@@ -7,10 +7,12 @@ use Rattle.raft_base.specs.declared.log_id.LogIdOf.{LogIdOf}
 abbrev pub id_at : {C : Type 0} → List (LogIdOf C) → ℕ → Option (LogIdOf C)
 id_at ids i = find (λ id. id.index == i) ids
 
-here : {C : Type 0} (t : Bool) (x : LogIdOf C) (o : Option (LogIdOf C)) (i : ℕ) → t ≡ (x.index == i) → IfSome o (λ id. id.index ≡ i) → IfSome (if t then Some x else o) (λ id. id.index ≡ i)
+here : {C : Type 0} (t : Bool) (x : LogIdOf C) (o : Option (LogIdOf C)) (i : ℕ) → t ≡ (x.index == i)
+    → IfSome o (λ id. id.index ≡ i) → IfSome (if t then Some x else o) (λ id. id.index ≡ i)
 here true x o i e h = grind (arith, nat_tests)
 here false x o i e h = h
 
-pub indexed : {C : Type 0} (ids : List (LogIdOf C)) (i : ℕ) → IfSome (id_at ids i) (λ id. id.index ≡ i)
+pub indexed : {C : Type 0} (ids : List (LogIdOf C)) (i : ℕ)
+    → IfSome (id_at ids i) (λ id. id.index ≡ i)
 indexed [] i = tt
 indexed (x ∷ xs) i = here (x.index == i) x (id_at xs i) i refl (indexed xs i)

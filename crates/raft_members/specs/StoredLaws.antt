@@ -6,6 +6,9 @@ use Rattle.raft_base.specs.LogIdLaws.{same_id-equiv}
 use Rattle.raft_members.specs.MembersLaws.{same_members-equiv}
 use Rattle.raft_members.specs.Stored.{same_stored}
 
-pub same_stored-equiv : {C K N : Type 0} {leader : C → C → Bool} {eq : K → K → Bool} {same : N → N → Bool} → IsEquivalence leader → IsEquivalence eq → IsEquivalence same → IsEquivalence (same_stored leader eq same)
+pub same_stored-equiv : {C K N : Type 0} {leader : C → C → Bool} {eq : K → K → Bool}
+    {same : N → N → Bool} → IsEquivalence leader → IsEquivalence eq → IsEquivalence same
+    → IsEquivalence (same_stored leader eq same)
 same_stored-equiv l e s =
-    and_equiv (on_equiv (λ m. m.log_id) (options_equiv (same_id-equiv l))) (on_equiv (λ m. m.membership) (same_members-equiv e s))
+    and_equiv (on_equiv (λ m. m.log_id) (options_equiv (same_id-equiv l)))
+    (on_equiv (λ m. m.membership) (same_members-equiv e s))

@@ -6,9 +6,11 @@ use Rattle.raft_base.specs.LogIdLaws.{same_id-equiv}
 use Rattle.raft_base.specs.declared.log_id.LogIdOf.{LogIdOf}
 use Rattle.raft_state.specs.FullLog.{full_log, same_log}
 
-pub same_log-equiv : {C : Type 0} {eq : C → C → Bool} → IsEquivalence eq → IsEquivalence (same_log eq)
+pub same_log-equiv : {C : Type 0} {eq : C → C → Bool} → IsEquivalence eq
+    → IsEquivalence (same_log eq)
 same_log-equiv e = lists_equiv (same_id-equiv e)
 
 -- and with them that logs of keys are
-pub same_full_log-equiv : {C : Type 0} {eq : C → C → Bool} → IsEquivalence eq → IsEquivalence (λ (a b : List (LogIdOf C)). same_log eq (full_log a) (full_log b))
+pub same_full_log-equiv : {C : Type 0} {eq : C → C → Bool} → IsEquivalence eq
+    → IsEquivalence (λ (a b : List (LogIdOf C)). same_log eq (full_log a) (full_log b))
 same_full_log-equiv e = on_equiv full_log (same_log-equiv e)

@@ -74,8 +74,8 @@ impl<C: Ord + Copy> LogIdListOf<C> {
     }
 
     /// Appends log ids of one leader, one after the other, where `can_extend_from_same_leader` is
-    /// true. It looks at the first and the last one alone, and takes room for two keys at most, for no
-    /// log ids none.
+    /// true. It looks at the first and the last one alone, and takes room for two keys at most, for
+    /// no log ids none.
     pub fn extend_from_same_leader<LID: RaftLogId<C>>(
         &mut self,
         new_ids: &[LID],
@@ -101,8 +101,8 @@ impl<C: Ord + Copy> LogIdListOf<C> {
         self.can_extend(new_ids) && keys::share_leader(new_ids)
     }
 
-    /// Appends log ids, one after the other, where `can_extend` is true. Room for a key each is taken
-    /// first.
+    /// Appends log ids, one after the other, where `can_extend` is true. Room for a key each is
+    /// taken first.
     pub fn extend<LID: RaftLogId<C>>(&mut self, new_ids: &[LID]) -> Result<(), AllocError>
         requires { IsTrue (all_follow C.cmp (last_id (full_log self.old))
             (map LID.id_of new_ids.now)) }
@@ -125,8 +125,8 @@ impl<C: Ord + Copy> LogIdListOf<C> {
         keys::may_all_follow(self.last().copied(), new_ids)
     }
 
-    /// Appends a log id, where `can_append` is true. The indexes that are missing before it go to the
-    /// leader of the last one.
+    /// Appends a log id, where `can_append` is true. The indexes that are missing before it go to
+    /// the leader of the last one.
     ///
     /// Where the last two log ids share a leader it moves the last key, and takes no memory. So in
     /// a row of log ids of one leader, none after the second can fail.

@@ -419,8 +419,8 @@ impl<
         &self.io_state
     }
 
-    /// Whether `first_conflicting_index` may be called with entries: `can_ask` is true of the log id
-    /// of each.
+    /// Whether `first_conflicting_index` may be called with entries: `can_ask` is true of the log
+    /// id of each.
     pub fn can_ask_all<Ent: RaftLogId<C>>(&self, entries: &[Ent]) -> bool
         ensures { result ≡ list_all (λ e. may_ask C.cmp (view_of self.now) (Ent.id_of e))
             entries.now }
@@ -471,8 +471,8 @@ impl<
         }
     }
 
-    /// Takes the log as purged up to a log id, where `can_purge_log` is true. Only an empty log wants
-    /// memory.
+    /// Takes the log as purged up to a log id, where `can_purge_log` is true. Only an empty log
+    /// wants memory.
     ///
     /// After an error nothing has changed.
     pub fn purge_log(&mut self, upto: &LogIdOf<C>) -> Result<(), AllocError>

@@ -6,7 +6,8 @@ use Rattle.std.specs.BTreeMap.{insert_entry, is_at}
 use Rattle.raft_members.specs.Members.{node_at}
 
 -- a copy that equals the node was put at the id
-pub record PutsEqual {K N : Type 0} (same : N → N → Bool) (cmp : K → K → Ordering) (old new : List (K × N)) (id : K) (node : N) : Type 0 where
+pub record PutsEqual {K N : Type 0} (same : N → N → Bool) (cmp : K → K → Ordering)
+    (old new : List (K × N)) (id : K) (node : N) : Type 0 where
   pub copy : N
   pub equal : IsTrue (same node copy)
   pub entries : new ≡ insert_entry cmp old id copy

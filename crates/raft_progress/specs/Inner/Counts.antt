@@ -16,15 +16,22 @@ module _ {ID V P : Type 0} where
   exceeds cmp part g e = is_lt (cmp g (part e.1))
 
   -- whether the voters with a part of at least p are a quorum
-  abbrev pub reaches : (ID → ID → Bool) → (P → P → Ordering) → (V → P) → ((ID → Bool) → Bool) → List (ID × V) → P → Bool
-  reaches eq cmp part is_quorum voters p = is_quorum (is_member eq (keys_of (filter (at_least cmp part p) voters)))
+  abbrev pub reaches : (ID → ID → Bool) → (P → P → Ordering) → (V → P) → ((ID → Bool) → Bool)
+      → List (ID × V) → P → Bool
+  reaches eq cmp part is_quorum voters p =
+      is_quorum (is_member eq (keys_of (filter (at_least cmp part p) voters)))
 
-  -- g is the greatest of the default and of those parts among the seen voters that a quorum of all voters has reached
-  pub record IsGreatest (eq : ID → ID → Bool) (cmp : P → P → Ordering) (part : V → P) (is_quorum : (ID → Bool) → Bool) (voters seen : List (ID × V)) (default g : P) : Type 0 where
-    pub is_one : (g ≡ default) ⊎ ((e : ID × V) × Contains voters e × (part e.1 ≡ g) × (reaches eq cmp part is_quorum voters (part e.1) ≡ true))
+  -- g is the greatest of the default and of those parts among the seen voters that a quorum of all
+  -- voters has reached
+  pub record IsGreatest (eq : ID → ID → Bool) (cmp : P → P → Ordering) (part : V → P)
+      (is_quorum : (ID → Bool) → Bool) (voters seen : List (ID × V)) (default g : P) : Type 0 where
+    pub is_one : (g ≡ default) ⊎ ((e : ID × V) × Contains voters e × (part e.1 ≡ g)
+        × (reaches eq cmp part is_quorum voters (part e.1) ≡ true))
     pub default_at_most : AtMost cmp default g
-    pub others_at_most : All (λ e. reaches eq cmp part is_quorum voters (part e.1) ≡ true → AtMost cmp (part e.1) g) seen
+    pub others_at_most : All (λ e. reaches eq cmp part is_quorum voters (part e.1) ≡ true
+        → AtMost cmp (part e.1) g) seen
 
 -- whether the first voters are a quorum
-abbrev pub front_test : {ID V : Type 0} → (ID → ID → Bool) → ((ID → Bool) → Bool) → List (ID × V) → ℕ → Bool
+abbrev pub front_test : {ID V : Type 0} → (ID → ID → Bool) → ((ID → Bool) → Bool) → List (ID × V)
+    → ℕ → Bool
 front_test eq is_quorum voters front = is_quorum (is_member eq (keys_of (take front voters)))

@@ -4,12 +4,17 @@ use Rattle.std.specs.List.{AllByRecursion}
 use Rattle.std.specs.Map.{keys_of}
 
 -- the new entries are the old ones and then the ids, each with a clone of the default
-pub record IsPlaced {ID V : Type 0} (IsClone : V → V → Type 0) (default : V) (ids : List ID) (old new : List (ID × V)) : Type 0 where
+pub record IsPlaced {ID V : Type 0} (IsClone : V → V → Type 0) (default : V) (ids : List ID)
+    (old new : List (ID × V)) : Type 0 where
   pub added : List (ID × V)
   pub is : new ≡ old ++ added
   pub keys : keys_of added ≡ ids
   pub clones : AllByRecursion (λ e. IsClone default e.1) added
 
--- the value at a place went to another by Left, and nothing else has changed; its part went from `before` to `after`
-abbrev pub IsWrittenAt : {ID V P : Type 0} → (V → P) → (V → V → Type 0) → ℕ → List (ID × V) → List (ID × V) → P → P → Type 0
-IsWrittenAt {ID} {V} part Left place old new before after = (e : ID × V) × (w : V) × (slice_get old place ≡ Some e) × Left e.1 w × (new ≡ slice_set old place (e.0, w)) × (before ≡ part e.1) × (after ≡ part w)
+-- the value at a place went to another by Left, and nothing else has changed; its part went from
+-- `before` to `after`
+abbrev pub IsWrittenAt : {ID V P : Type 0} → (V → P) → (V → V → Type 0) → ℕ → List (ID × V)
+    → List (ID × V) → P → P → Type 0
+IsWrittenAt {ID} {V} part Left place old new before after =
+    (e : ID × V) × (w : V) × (slice_get old place ≡ Some e) × Left e.1 w
+    × (new ≡ slice_set old place (e.0, w)) × (before ≡ part e.1) × (after ≡ part w)

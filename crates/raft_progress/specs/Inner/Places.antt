@@ -17,22 +17,30 @@ AreAllPlaces places = IsPermutation (range_with_len 0 (length places)) places
 -- each list tells where its numbers stand in the other
 pub record AreInverse (places ranks : List ℕ) : Type 0 where
   pub one_length : length ranks ≡ length places
-  pub back : (r : ℕ) → r < length places → (get_or places r 0 < length ranks) × (get_or ranks (get_or places r 0) 0 ≡ r)
-  pub forth : (p : ℕ) → p < length ranks → (get_or ranks p 0 < length places) × (get_or places (get_or ranks p 0) 0 ≡ p)
+  pub back : (r : ℕ) → r < length places → (get_or places r 0 < length ranks)
+      × (get_or ranks (get_or places r 0) 0 ≡ r)
+  pub forth : (p : ℕ) → p < length ranks → (get_or ranks p 0 < length places)
+      × (get_or places (get_or ranks p 0) 0 ≡ p)
 
 -- a look-up tells the place of each id of the list, and knows no other id
-pub record TellsPlaces {ID : Type 0} (eq : ID → ID → Bool) (ids : List ID) (found : ID → Option ℕ) : Type 0 where
+pub record TellsPlaces {ID : Type 0} (eq : ID → ID → Bool) (ids : List ID)
+    (found : ID → Option ℕ) : Type 0 where
   pub here : (x : ID) (k : ℕ) → k < length ids → eq x (get_or ids k x) ≡ true → found x ≡ Some k
   pub unknown : (x : ID) → is_member eq ids x ≡ false → found x ≡ None
 
 -- the places from before the entry at `last` moved up to `first`
-pub record TellsPlacesBefore {ID : Type 0} (eq : ID → ID → Bool) (ids : List ID) (first last : ℕ) (found : ID → Option ℕ) : Type 0 where
-  pub before : (x : ID) (k : ℕ) → k < length ids → eq x (get_or ids k x) ≡ true → k < first → found x ≡ Some k
+pub record TellsPlacesBefore {ID : Type 0} (eq : ID → ID → Bool) (ids : List ID) (first last : ℕ)
+    (found : ID → Option ℕ) : Type 0 where
+  pub before : (x : ID) (k : ℕ) → k < length ids → eq x (get_or ids k x) ≡ true → k < first
+      → found x ≡ Some k
   pub moved : (x : ID) → first < length ids → eq x (get_or ids first x) ≡ true → found x ≡ Some last
-  pub passed : (x : ID) (k : ℕ) → k + 1 < length ids → eq x (get_or ids (k + 1) x) ≡ true → first ≤ k → k < last → found x ≡ Some k
-  pub behind : (x : ID) (k : ℕ) → k < length ids → eq x (get_or ids k x) ≡ true → last < k → found x ≡ Some k
+  pub passed : (x : ID) (k : ℕ) → k + 1 < length ids → eq x (get_or ids (k + 1) x) ≡ true
+      → first ≤ k → k < last → found x ≡ Some k
+  pub behind : (x : ID) (k : ℕ) → k < length ids → eq x (get_or ids k x) ≡ true → last < k
+      → found x ≡ Some k
   pub unknown : (x : ID) → is_member eq ids x ≡ false → found x ≡ None
 
 -- the place after that move
 abbrev pub place_after : ℕ → ℕ → ℕ → ℕ
-place_after first last place = cond (place == last) first (cond (nat_le first place && nat_lt place last) (place + 1) place)
+place_after first last place =
+    cond (place == last) first (cond (nat_le first place && nat_lt place last) (place + 1) place)

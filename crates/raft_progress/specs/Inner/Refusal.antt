@@ -8,8 +8,11 @@ use Rattle.raft_progress.specs.progress.Upgrade.{IsLeastBelow}
 use Rattle.raft_progress.specs.declared.progress.steps.Reply.{Reply}
 use Rattle.raft_progress.specs.declared.progress.steps.Reply.TheVariants.{Refused, BelowDefault, BadLearners, OutOfMemory}
 
--- the reply refuses an upgrade: the learners don't fit; else this is the least inherited id below the default
-abbrev pub RefusesUpgrade : {ID V P : Type 0} → (ID → ID → Bool) → (ID → ID → Ordering) → (P → P → Ordering) → (V → P) → (ID → Bool) → List ID → V → (ID → Option V) → Reply ID P → Type 0
+-- the reply refuses an upgrade: the learners don't fit; else this is the least inherited id below
+-- the default
+abbrev pub RefusesUpgrade : {ID V P : Type 0} → (ID → ID → Bool) → (ID → ID → Ordering)
+    → (P → P → Ordering) → (V → P) → (ID → Bool) → List ID → V → (ID → Option V) → Reply ID P
+    → Type 0
 RefusesUpgrade eq id_cmp cmp part is_voter learners default old BadLearners =
     LearnersFit eq is_voter learners → ⊥
 RefusesUpgrade eq id_cmp cmp part is_voter learners default old (BelowDefault id) =
@@ -17,7 +20,8 @@ RefusesUpgrade eq id_cmp cmp part is_voter learners default old (BelowDefault id
     × IsLeastBelow eq id_cmp cmp part is_voter learners default old id
 RefusesUpgrade eq id_cmp cmp part is_voter learners default old reply = ⊥
 
--- the reply to a refusal of a change: it names the voter without a node, or none for an empty config; a change of a membership alone is never in progress
+-- the reply to a refusal of a change: it names the voter without a node, or none for an empty
+-- config; a change of a membership alone is never in progress
 abbrev pub refusal_reply : {C K P : Type 0} → ChangeMembershipErrorOf C K → Reply K P
 refusal_reply (InProgress _) = OutOfMemory
 refusal_reply (EmptyMembership _) = Refused None

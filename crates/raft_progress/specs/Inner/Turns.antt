@@ -11,7 +11,8 @@ use Rattle.raft_progress.specs.declared.catch_up.Turn.TheVariants.{Ended, Refuse
 use Rattle.raft_progress.specs.declared.entry.ProgressEntryOf.{ProgressEntryOf}
 
 -- where a run may begin, and stands between its turns
-pub record Ready {C : Type 0} (eq : C → C → Bool) (cmp : C → C → Ordering) (log : LogView C) (n : ℕ) (entry : ProgressEntryOf C) (agree : ℕ) : Type 0 where
+pub record Ready {C : Type 0} (eq : C → C → Bool) (cmp : C → C → Ordering) (log : LogView C) (n : ℕ)
+    (entry : ProgressEntryOf C) (agree : ℕ) : Type 0 where
   pub idle : is_idle entry.inflight ≡ true
   pub some : 1 ≤ n
   pub matched : next_index entry.matching ≤ agree
@@ -20,11 +21,21 @@ pub record Ready {C : Type 0} (eq : C → C → Bool) (cmp : C → C → Orderin
   pub kept : next_index log.purge_upto ≤ agree
   pub fits : next_index log.last < 2 ^ 64
   pub left : IsTrue (same_ids eq entry.matching log.last)
-      ⊎ ((next_index entry.matching < next_index log.last) × (next_index log.purge_upto < next_index log.last)
-      × IsTrue (id_le cmp entry.matching (prev_id log.id_at (max (next_index entry.matching) (next_index log.purge_upto)))))
+      ⊎ ((next_index entry.matching < next_index log.last)
+      × (next_index log.purge_upto < next_index log.last)
+      × IsTrue (id_le cmp entry.matching
+      (prev_id log.id_at (max (next_index entry.matching) (next_index log.purge_upto)))))
 
--- a turn, whatever the counts before it: nothing was sent and all is matched, or one more conflict or ack came
-abbrev pub TurnDone : {C : Type 0} → (C → C → Bool) → (C → C → Ordering) → LogView C → ℕ → ProgressEntryOf C → ℕ → Turn → ProgressEntryOf C → ℕ → Type 0
-TurnDone eq cmp log n entry agree Ended new after = ((c k : ℕ) → turn cmp log n (record { entry = entry; agree = agree; conflicts = c; acks = k }) ≡ None) × (new ≡ entry) × (after ≡ agree) × CaughtUp eq log entry
-TurnDone eq cmp log n entry agree Refused new after = (c k : ℕ) → turn cmp log n (record { entry = entry; agree = agree; conflicts = c; acks = k }) ≡ Some (record { entry = new; agree = after; conflicts = c + 1; acks = k })
-TurnDone eq cmp log n entry agree Acked new after = (c k : ℕ) → turn cmp log n (record { entry = entry; agree = agree; conflicts = c; acks = k }) ≡ Some (record { entry = new; agree = after; conflicts = c; acks = k + 1 })
+-- a turn, whatever the counts before it: nothing was sent and all is matched, or one more conflict
+-- or ack came
+abbrev pub TurnDone : {C : Type 0} → (C → C → Bool) → (C → C → Ordering) → LogView C → ℕ
+    → ProgressEntryOf C → ℕ → Turn → ProgressEntryOf C → ℕ → Type 0
+TurnDone eq cmp log n entry agree Ended new after =
+    ((c k : ℕ) → turn cmp log n (record { entry = entry; agree = agree; conflicts = c; acks = k })
+    ≡ None) × (new ≡ entry) × (after ≡ agree) × CaughtUp eq log entry
+TurnDone eq cmp log n entry agree Refused new after =
+    (c k : ℕ) → turn cmp log n (record { entry = entry; agree = agree; conflicts = c; acks = k })
+    ≡ Some (record { entry = new; agree = after; conflicts = c + 1; acks = k })
+TurnDone eq cmp log n entry agree Acked new after =
+    (c k : ℕ) → turn cmp log n (record { entry = entry; agree = agree; conflicts = c; acks = k })
+    ≡ Some (record { entry = new; agree = after; conflicts = c; acks = k + 1 })

@@ -22,7 +22,8 @@ pub record KeepsParts {ID V P QS : Type 0} (part : V → P) (old new : Shown ID 
       ≡ map (λ e. part e.1) (take old.voter_count old.walk)
 
 module _ (ID V P QS : Type 0) (eq : ID → ID → Bool) (part : V → P) where
-  -- a value in the place of another keeps ids and voters' parts, where it has the same part or the id is no voter
+  -- a value in the place of another keeps ids and voters' parts, where it has the same part or the
+  -- id is no voter
   abbrev pub SamePartKeepsParts : Type 0
   SamePartKeepsParts =
       (p : Shown ID V P QS) (id : ID) (v w : V) → (state eq p).value id ≡ Some v

@@ -14,8 +14,8 @@ const FEW: usize = 16;
 
 /// The place of each id of a walk, and the way back.
 ///
-/// The ids stand in order, each with its place. Which ids there are never changes, so each has a rank
-/// that stays, and a move finds the entries that it changes by their ranks, without a look-up.
+/// The ids stand in order, each with its place. Which ids there are never changes, so each has a
+/// rank that stays, and a move finds the entries that it changes by their ranks, without a look-up.
 #[derive(Drop)]
 pub(crate) struct Places<ID: Copy + Ord> {
     /// The ids, ascending, each with its place.
@@ -73,7 +73,8 @@ impl<ID: Copy + Ord> Places<ID> {
         }
     }
 
-    /// Writes the places that an entry's move from `last` up to `first` has changed. No memory is taken.
+    /// Writes the places that an entry's move from `last` up to `first` has changed. No memory is
+    /// taken.
     #[inline(always)]
     pub(crate) fn rise(&mut self, first: usize, last: usize)
         requires ascending { first ≤ last }

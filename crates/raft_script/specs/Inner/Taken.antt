@@ -36,7 +36,8 @@ pub record TakesChange (change : ChangeMembers ℕ EmptyNode) (old left : Words)
 -- no kind and ids of a change come first
 abbrev pub LacksChange : List (List ℕ) → Type 0
 LacksChange left =
-    (change : ChangeMembers ℕ EmptyNode) → ¬ (Is (kind_word change) ▸ IsListOf (speaks_of change) ▸ Whatever) left
+    (change : ChangeMembers ℕ EmptyNode)
+    → ¬ (Is (kind_word change) ▸ IsListOf (speaks_of change) ▸ Whatever) left
 
 -- neither word on what goes comes first
 abbrev pub LacksRetain : List (List ℕ) → Type 0
@@ -44,7 +45,8 @@ LacksRetain left = (retain : Bool) → Lacks (Is (retain_word retain)) left
 
 -- the change of a kind that speaks of these ids
 abbrev pub IsChangeOf : List ℕ → BTreeSet ℕ → ChangeMembers ℕ EmptyNode → Type 0
-IsChangeOf kind ids change = (kind ≡ kind_word change) × ((id : ℕ) → speaks_of change id ≡ contains nat_cmp ids id)
+IsChangeOf kind ids change =
+    (kind ≡ kind_word change) × ((id : ℕ) → speaks_of change id ≡ contains nat_cmp ids id)
 
 -- no change is of this kind
 abbrev pub IsNoKind : List ℕ → Type 0

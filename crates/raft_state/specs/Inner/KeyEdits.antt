@@ -3,8 +3,10 @@ use Rattle.std.specs.Prelude.{ℕ, zero, suc, nat_lt, nat_le, Bool, List, [], �
 use Rattle.raft_base.specs.declared.log_id.LogIdOf.{LogIdOf}
 use Rattle.raft_state.specs.FullLog.{end_index}
 
--- the keys after k once a log id is appended: the last one gives way where the last two share a leader
-abbrev pub added_after : {C : Type 0} → (C → C → Bool) → LogIdOf C → List (LogIdOf C) → LogIdOf C → List (LogIdOf C)
+-- the keys after k once a log id is appended: the last one gives way where the last two share a
+-- leader
+abbrev pub added_after : {C : Type 0} → (C → C → Bool) → LogIdOf C → List (LogIdOf C) → LogIdOf C
+    → List (LogIdOf C)
 added_after eq k [] id = id ∷ []
 added_after eq k (l ∷ []) id = if eq k.leader_id l.leader_id then id ∷ [] else l ∷ id ∷ []
 added_after eq k (l ∷ m ∷ ks) id = l ∷ added_after eq l (m ∷ ks) id
@@ -15,7 +17,8 @@ added eq [] id = id ∷ []
 added eq (k ∷ ks) id = k ∷ added_after eq k ks id
 
 -- the keys once these log ids are appended, one after the other
-abbrev pub added_all : {C : Type 0} → (C → C → Bool) → List (LogIdOf C) → List (LogIdOf C) → List (LogIdOf C)
+abbrev pub added_all : {C : Type 0} → (C → C → Bool) → List (LogIdOf C) → List (LogIdOf C)
+    → List (LogIdOf C)
 added_all eq ks [] = ks
 added_all eq ks (id ∷ ids) = added_all eq (added eq ks id) ids
 
@@ -41,7 +44,9 @@ cut ks (suc j) = cut_to ks j
 -- the keys for the log ids from index a on, where key k is not past it
 abbrev pub kept_after : {C : Type 0} → LogIdOf C → List (LogIdOf C) → ℕ → List (LogIdOf C)
 kept_after k [] a = record { leader_id = k.leader_id; index = a } ∷ []
-kept_after k (l ∷ ks) a = if nat_le l.index a then kept_after l ks a else record { leader_id = k.leader_id; index = a } ∷ l ∷ ks
+kept_after k (l ∷ ks) a =
+    if nat_le l.index a then kept_after l ks a
+    else record { leader_id = k.leader_id; index = a } ∷ l ∷ ks
 
 -- the keys for the log ids from index a on
 abbrev pub kept_from : {C : Type 0} → List (LogIdOf C) → ℕ → List (LogIdOf C)
@@ -50,4 +55,5 @@ kept_from (k ∷ ks) a = if nat_le k.index a then kept_after k ks a else k ∷ k
 
 -- the keys after a purge
 abbrev pub purged_keys : {C : Type 0} → List (LogIdOf C) → LogIdOf C → List (LogIdOf C)
-purged_keys ks upto = if nat_le (end_index ks) upto.index then upto ∷ [] else kept_from ks upto.index
+purged_keys ks upto =
+    if nat_le (end_index ks) upto.index then upto ∷ [] else kept_from ks upto.index
