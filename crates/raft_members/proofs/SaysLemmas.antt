@@ -1,5 +1,5 @@
 -- What holds of a membership holds of what it says.
-use Rattle.std.specs.Prelude.{◌≡◌, Bool, true, false, not, cond, ◌||◌, Option, Some, None, List, IsTrue, is_some, refl, length, ◌<◌, Result, Ok, Err, IfOk, IfErr, IsErrAnd}
+use Rattle.std.specs.Prelude.{◌≡◌, Bool, true, false, not, cond, ◌||◌, Option, Some, None, List, IsTrue, is_some, refl, length, ◌<◌, Result, Ok, Err, IfOk}
 use Rattle.std.proofs.Common.{sym, ◌∙◌, ap, subst}
 use Rattle.std.specs.declared.cmp.Ordering.{Ordering}
 use Rattle.std.specs.Cmp.{IsEquivalence}
@@ -20,7 +20,7 @@ use Rattle.raft_members.proofs.ReachedLemmas.{self_coherent, quorum_reaches}
 use Rattle.raft_members.specs.Reached.{ChangeKeepsReached}
 use Rattle.raft_members.specs.Members.{MemberList, node_at, members_of, Says, Members}
 use Rattle.raft_members.specs.Refusal.{IsRefusal}
-use Rattle.raft_members.specs.Valid.{has_empty_config, FirstWithoutNode, FirstUnknown, IsValid}
+use Rattle.raft_members.specs.Valid.{has_empty_config, FirstWithoutNode, FirstUnknown}
 use Rattle.raft_members.specs.Change.{changed, next_members, with_nodes, united, last_config, keeps_node}
 use Rattle.raft_members.specs.declared.change_members.ChangeMembers.{ChangeMembers}
 use Rattle.raft_members.specs.declared.change_members.ChangeMembers.TheVariants.{AddVoterIds, AddVoters, RemoveVoters, ReplaceAllVoters, AddNodes, SetNodes, RemoveNodes, ReplaceAllNodes}
@@ -42,9 +42,6 @@ module _ {K N : Type 0} (same : N → N → Bool) (eq : K → K → Bool) (cmp :
 
   pub same_empty : has_empty_config m.configs ≡ has_empty_config w.configs
   same_empty = ap has_empty_config s.0
-
-  pub same_valid : IsValid eq (members_of cmp m) → IsValid eq w
-  same_valid h = (sym same_empty ∙ h.0, λ id v. sym (some_alike same (node_at cmp m.nodes id) (w.node id) (s.1 id)) ∙ h.1 id (ap (λ cs. is_voter_of eq cs id) s.0 ∙ v))
 
   pub same_refusal : {C : Type 0} (e : ChangeMembershipErrorOf C K) → IsRefusal eq cmp (members_of cmp m) e → IsRefusal eq cmp w e
   same_refusal (InProgress _) h = h
@@ -109,8 +106,3 @@ if_says alike cmp m given node (Err _) e s = tt
 pub in_both : {T E : Type 0} (r : Result T E) (P Q R : T → Type 0) → ((x : T) → P x → Q x → R x) → IfOk r P → IfOk r Q → IfOk r R
 in_both (Ok x) P Q R f p q = f x p q
 in_both (Err e) P Q R f p q = tt
-
--- what holds of an error holds of the result that has it
-pub err_is : {T E : Type 0} (r : Result T E) (x : E) (Q : E → Type 0) → IsErrAnd r (λ e. e ≡ x) → Q x → IfErr r Q
-err_is (Ok _) x Q h q = tt
-err_is (Err e) x Q h q = subst Q (sym h) q

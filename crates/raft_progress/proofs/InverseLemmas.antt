@@ -168,10 +168,6 @@ pub record Lifted (P R : List ℕ) (last risen place : ℕ) (P' R' : List ℕ) :
   pub inverse : AreInverse (set P' risen place) (set R' place risen)
   pub places : set P' risen place ≡ map (place_after place last) P
 
-after_all : (P : List ℕ) (f g : ℕ → ℕ) → ((p : ℕ) → f p ≡ g p) → map f P ≡ map g P
-after_all [] f g h = refl
-after_all (p ∷ P) f g h = ap (λ q. q ∷ map f P) (h p) ∙ ap (λ qs. g p ∷ qs) (after_all P f g h)
-
 after_both : (P : List ℕ) (f g h : ℕ → ℕ) → ((p : ℕ) → f (g p) ≡ h p) → map f (map g P) ≡ map h P
 after_both [] f g h e = refl
 after_both (p ∷ P) f g h e = ap (λ q. q ∷ map f (map g P)) (e p) ∙ ap (λ qs. h p ∷ qs) (after_both P f g h e)
@@ -197,9 +193,6 @@ module _ (P R : List ℕ) (last risen place : ℕ) (P' R' : List ℕ) (m : Lifte
 
   risen_at : risen ≡ get_or (set R' place risen) place 0
   risen_at = sym (get_or-set_same R' place risen 0 within)
-
-  pub risen_within : risen < length P'
-  risen_within = let b = (m.inverse.forth place n).0 in let e = risen_at in omega (arith, length-set P' risen place)
 
   module _ (passed : ℕ) (second : 0 < place) (top : place ≤ last) (is : passed ≡ get_or R' (place - 1) 0) where
     passed_at : passed ≡ get_or (set R' place risen) (place - 1) 0

@@ -16,7 +16,6 @@ use Rattle.std.proofs.lemmas.Map.Made.{is_some-lookup}
 use Rattle.std.specs.declared.cmp.Ordering.{Ordering}
 use Rattle.raft_progress.specs.Inner.Places.{TellsPlaces, AreInverse, TellsPlacesBefore, place_after, place_in}
 use Rattle.raft_progress.specs.Inner.Rises.{Passed}
-use Rattle.raft_progress.proofs.ListLemmas.{or_right}
 use Rattle.raft_progress.proofs.MadeLemmas.{place_at}
 use Rattle.raft_progress.proofs.MovedLemmas.{member_moved}
 use Rattle.raft_progress.proofs.WalkLemmas.{lookup_absent}
@@ -77,11 +76,6 @@ module _ (first last : ℕ) where
   after_passed k l m = grind (arith, nat_tests)
 
 module _ {ID : Type 0} {eq : ID → ID → Bool} (laws : IsEquivalence eq) where
-  pub member_at : (ids : List ID) (k : ℕ) (d x : ID) → k < length ids → eq x (get_or ids k d) ≡ true → is_member eq ids x ≡ true
-  member_at [] k d x l h = absurd (omega arith)
-  member_at (i ∷ ids) zero d x l h = ap (λ b. b || is_member eq ids x) h
-  member_at (i ∷ ids) (suc k) d x l h = or_right (eq x i) (is_member eq ids x) (member_at ids k d x (omega arith) h)
-
   -- a member has a place
   place_of_member : (ids : List ID) (x : ID) → is_member eq ids x ≡ true → (k : ℕ) × (k < length ids) × (eq x (get_or ids k x) ≡ true)
   place_of_member [] x m = absurd (true≢false (sym m))
@@ -90,13 +84,6 @@ module _ {ID : Type 0} {eq : ID → ID → Bool} (laws : IsEquivalence eq) where
       by : (b : Bool) → eq x i ≡ b → (b || is_member eq ids x) ≡ true → (is_member eq ids x ≡ true → (k : ℕ) × (k < length ids) × (eq x (get_or ids k x) ≡ true)) → (k : ℕ) × (k < length (i ∷ ids)) × (eq x (get_or (i ∷ ids) k x) ≡ true)
       by true e h more = (0, omega arith, e)
       by false e h more = let r = more h in let l = r.1 in (suc r.0, omega arith, r.2)
-
-  no_member : (ids : List ID) (x : ID) → ((k : ℕ) → k < length ids → eq x (get_or ids k x) ≡ false) → is_member eq ids x ≡ false
-  no_member ids x none = by (is_member eq ids x) refl
-    where
-      by : (b : Bool) → is_member eq ids x ≡ b → b ≡ false
-      by false m = refl
-      by true m = let r = place_of_member ids x m in absurd (true≢false (sym r.2 ∙ none r.0 r.1))
 
   differs : (ids : List ID) → IsDistinct eq ids → (i k : ℕ) (x : ID) → i < length ids → k < length ids → (i ≡ k → ⊥) → eq (get_or ids i x) (get_or ids k x) ≡ false
   differs ids d i k x l m n = by (ltb i k) refl

@@ -1,5 +1,5 @@
 //! What a leader keeps of a follower: how far their logs match, and what is in flight to it.
-ghost use Rattle.std.specs.Prelude.{◌≡◌, ◌^◌, ◌<◌, ◌≤◌, nat_le, nat_lt, Ok, Err, None, if◌then◌else◌, IsTrue};
+ghost use Rattle.std.specs.Prelude.{◌≡◌, ◌^◌, ◌<◌, ◌≤◌, nat_le, Ok, Err, None, if◌then◌else◌, IsTrue};
 ghost use Rattle.raft_base.specs.LogId.{next_index};
 ghost use Rattle.raft_base.specs.Validate.{first_false};
 ghost use Rattle.raft_progress.specs.entry.EntryTable.{conflicting, matched};

@@ -4,7 +4,7 @@ use Rattle.std.proofs.lemmas.Bool.Decides.{nat_tests}
 use Rattle.std.specs.Cmp.{IsEquivalence}
 use Rattle.raft_base.specs.LogId.{same_ids}
 use Rattle.raft_base.specs.declared.log_id.LogIdOf.{LogIdOf}
-use Rattle.raft_state.specs.FullLog.{end_index, first_index, first_index_or, same_log}
+use Rattle.raft_state.specs.FullLog.{end_index, first_index, first_index_or}
 use Rattle.raft_state.specs.LogEdits.{appended, extended, front, purged, rest}
 use Rattle.raft_state.specs.LogReads.{first_id, id_at, last_id}
 use Rattle.raft_state.specs.SameLog.{FindsSame, KeepsSame}
