@@ -21,10 +21,11 @@ module _ {ID V P : Type 0} where
   reaches eq cmp part is_quorum voters p =
       is_quorum (is_member eq (keys_of (filter (at_least cmp part p) voters)))
 
+module _ {ID V P : Type 0} (eq : ID → ID → Bool) (cmp : P → P → Ordering) (part : V → P)
+    (is_quorum : (ID → Bool) → Bool) where
   -- g is the greatest of the default and of those parts among the seen voters that a quorum of all
   -- voters has reached
-  pub record IsGreatest (eq : ID → ID → Bool) (cmp : P → P → Ordering) (part : V → P)
-      (is_quorum : (ID → Bool) → Bool) (voters seen : List (ID × V)) (default g : P) : Type 0 where
+  pub record IsGreatest (voters seen : List (ID × V)) (default g : P) : Type 0 where
     pub is_one : (g ≡ default) ⊎ ((e : ID × V) × Contains voters e × (part e.1 ≡ g)
         × (reaches eq cmp part is_quorum voters (part e.1) ≡ true))
     pub default_at_most : AtMost cmp default g

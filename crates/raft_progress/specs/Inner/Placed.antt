@@ -11,10 +11,10 @@ pub record IsPlaced {ID V : Type 0} (IsClone : V → V → Type 0) (default : V)
   pub keys : keys_of added ≡ ids
   pub clones : AllByRecursion (λ e. IsClone default e.1) added
 
--- the value at a place went to another by Left, and nothing else has changed; its part went from
--- `before` to `after`
-abbrev pub IsWrittenAt : {ID V P : Type 0} → (V → P) → (V → V → Type 0) → ℕ → List (ID × V)
-    → List (ID × V) → P → P → Type 0
-IsWrittenAt {ID} {V} part Left place old new before after =
-    (e : ID × V) × (w : V) × (slice_get old place ≡ Some e) × Left e.1 w
-    × (new ≡ slice_set old place (e.0, w)) × (before ≡ part e.1) × (after ≡ part w)
+module _ {ID V P : Type 0} (part : V → P) (Left : V → V → Type 0) where
+  -- the value at a place went to another by Left, and nothing else has changed; its part went from
+  -- `before` to `after`
+  abbrev pub IsWrittenAt : ℕ → List (ID × V) → List (ID × V) → P → P → Type 0
+  IsWrittenAt place old new before after =
+      (e : ID × V) × (w : V) × (slice_get old place ≡ Some e) × Left e.1 w
+      × (new ≡ slice_set old place (e.0, w)) × (before ≡ part e.1) × (after ≡ part w)

@@ -8,17 +8,16 @@ use Rattle.raft_progress.specs.progress.Upgrade.{IsLeastBelow}
 use Rattle.raft_progress.specs.declared.progress.steps.Reply.{Reply}
 use Rattle.raft_progress.specs.declared.progress.steps.Reply.TheVariants.{Refused, BelowDefault, BadLearners, OutOfMemory}
 
--- the reply refuses an upgrade: the learners don't fit; else this is the least inherited id below
--- the default
-abbrev pub RefusesUpgrade : {ID V P : Type 0} → (ID → ID → Bool) → (ID → ID → Ordering)
-    → (P → P → Ordering) → (V → P) → (ID → Bool) → List ID → V → (ID → Option V) → Reply ID P
-    → Type 0
-RefusesUpgrade eq id_cmp cmp part is_voter learners default old BadLearners =
-    LearnersFit eq is_voter learners → ⊥
-RefusesUpgrade eq id_cmp cmp part is_voter learners default old (BelowDefault id) =
-    LearnersFit eq is_voter learners
-    × IsLeastBelow eq id_cmp cmp part is_voter learners default old id
-RefusesUpgrade eq id_cmp cmp part is_voter learners default old reply = ⊥
+module _ {ID V P : Type 0} (eq : ID → ID → Bool) (id_cmp : ID → ID → Ordering)
+    (cmp : P → P → Ordering) (part : V → P) (is_voter : ID → Bool) where
+  -- the reply refuses an upgrade: the learners don't fit; else this is the least inherited id below
+  -- the default
+  abbrev pub RefusesUpgrade : List ID → V → (ID → Option V) → Reply ID P → Type 0
+  RefusesUpgrade learners default old BadLearners = LearnersFit eq is_voter learners → ⊥
+  RefusesUpgrade learners default old (BelowDefault id) =
+      LearnersFit eq is_voter learners
+      × IsLeastBelow eq id_cmp cmp part is_voter learners default old id
+  RefusesUpgrade learners default old reply = ⊥
 
 -- the reply to a refusal of a change: it names the voter without a node, or none for an empty
 -- config; a change of a membership alone is never in progress

@@ -30,15 +30,17 @@ module _ {ID V P : Type 0} (cmp : P → P → Ordering) (part : V → P) where
     pub passes : Passed old from new to
     pub stops : LastAtLeast (part passes.entry.1) passes.front
 
--- the least front above low and up to high that is a quorum, if there is one, and the number of
--- fronts that were tested: at most as many as the number of voters has binary digits
-pub record IsLeastFront {ID V : Type 0} (eq : ID → ID → Bool) (is_quorum : (ID → Bool) → Bool)
-    (voters : List (ID × V)) (low high : ℕ) (found : Option ℕ) (tests : ℕ) : Type 0 where
-  pub none : found ≡ None → (k : ℕ) → low < k → k ≤ high → front_test eq is_quorum voters k ≡ false
-  pub above : (k : ℕ) → found ≡ Some k → low < k
-  pub within : (k : ℕ) → found ≡ Some k → k ≤ high
-  pub holds : (k : ℕ) → found ≡ Some k → front_test eq is_quorum voters k ≡ true
-  pub least : (k l : ℕ) → found ≡ Some k → low < l → l < k
-      → front_test eq is_quorum voters l ≡ false
-  pub tested : (k : ℕ) → found ≡ Some k → 1 ≤ tests
-  pub few : (k : ℕ) → length voters < 2 ^ k → tests ≤ k
+module _ {ID V : Type 0} (eq : ID → ID → Bool) (is_quorum : (ID → Bool) → Bool) where
+  -- the least front above low and up to high that is a quorum, if there is one, and the number of
+  -- fronts that were tested: at most as many as the number of voters has binary digits
+  pub record IsLeastFront (voters : List (ID × V)) (low high : ℕ) (found : Option ℕ) (tests : ℕ)
+      : Type 0 where
+    pub none : found ≡ None → (k : ℕ) → low < k → k ≤ high
+        → front_test eq is_quorum voters k ≡ false
+    pub above : (k : ℕ) → found ≡ Some k → low < k
+    pub within : (k : ℕ) → found ≡ Some k → k ≤ high
+    pub holds : (k : ℕ) → found ≡ Some k → front_test eq is_quorum voters k ≡ true
+    pub least : (k l : ℕ) → found ≡ Some k → low < l → l < k
+        → front_test eq is_quorum voters l ≡ false
+    pub tested : (k : ℕ) → found ≡ Some k → 1 ≤ tests
+    pub few : (k : ℕ) → length voters < 2 ^ k → tests ≤ k

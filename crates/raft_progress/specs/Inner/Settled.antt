@@ -16,46 +16,48 @@ pub record IsSameGroup {ID V P QS : Type 0} (old new : Shown ID V P QS) : Type 0
   pub default_part : new.default_part ≡ old.default_part
   pub updates : new.stat.update_count ≡ old.stat.update_count
 
--- granted goes to the last part of the least front that was found
-pub record IsScanned {ID V P QS : Type 0} (eq : ID → ID → Bool) (cmp : P → P → Ordering)
-    (part : V → P) (has_quorum : QS → (ID → Bool) → Bool) (old : Shown ID V P QS) (place : ℕ)
-    (new : Shown ID V P QS) : Type 0 where
-  pub group : IsSameGroup old new
-  pub same_walk : new.walk ≡ old.walk
-  pub moves : new.stat.move_count ≡ old.stat.move_count
-  pub found : Option ℕ
-  pub tests : ℕ
-  pub scanned : IsLeastFront eq (has_quorum old.quorum_set) (take old.voter_count old.walk) place
-      (prefix_len (exceeds cmp part old.granted) (take old.voter_count old.walk)) found tests
-  pub counts : new.stat.is_quorum_count ≡ counted_up old.stat.is_quorum_count tests
-  pub stays : found ≡ None → new.granted ≡ old.granted
-  pub rises : (k : ℕ) → found ≡ Some k
-      → (f : ID × V) × (f ≡ get_or (take old.voter_count old.walk) (k - 1) f)
-      × (new.granted ≡ part f.1)
+module _ {ID V P QS : Type 0} (eq : ID → ID → Bool) (cmp : P → P → Ordering) (part : V → P)
+    (has_quorum : QS → (ID → Bool) → Bool) where
+  -- granted goes to the last part of the least front that was found
+  pub record IsScanned (old : Shown ID V P QS) (place : ℕ) (new : Shown ID V P QS) : Type 0 where
+    pub group : IsSameGroup old new
+    pub same_walk : new.walk ≡ old.walk
+    pub moves : new.stat.move_count ≡ old.stat.move_count
+    pub found : Option ℕ
+    pub tests : ℕ
+    pub scanned : IsLeastFront eq (has_quorum old.quorum_set) (take old.voter_count old.walk) place
+        (prefix_len (exceeds cmp part old.granted) (take old.voter_count old.walk)) found tests
+    pub counts : new.stat.is_quorum_count ≡ counted_up old.stat.is_quorum_count tests
+    pub stays : found ≡ None → new.granted ≡ old.granted
+    pub rises : (k : ℕ) → found ≡ Some k
+        → (f : ID × V) × (f ≡ get_or (take old.voter_count old.walk) (k - 1) f)
+        × (new.granted ≡ part f.1)
 
--- the voter has risen to a place, and the fronts past it were tested where they had to be
-pub record IsRaised {ID V P QS : Type 0} (eq : ID → ID → Bool) (cmp : P → P → Ordering)
-    (part : V → P) (has_quorum : QS → (ID → Bool) → Bool) (old : Shown ID V P QS) (place : ℕ)
-    (looks : Bool) (new : Shown ID V P QS) : Type 0 where
-  pub middle : Shown ID V P QS
-  pub group : IsSameGroup old middle
-  pub granted : middle.granted ≡ old.granted
-  pub tests : middle.stat.is_quorum_count ≡ old.stat.is_quorum_count
-  pub moves : middle.stat.move_count ≡ counted_up old.stat.move_count 1
-  pub to : ℕ
-  pub rises : RisesTo cmp part old.walk place middle.walk to
-  pub looked : looks ≡ true → IsScanned eq cmp part has_quorum middle to new
-  pub kept : looks ≡ false → new ≡ middle
+module _ {ID V P QS : Type 0} (eq : ID → ID → Bool) (cmp : P → P → Ordering) (part : V → P)
+    (has_quorum : QS → (ID → Bool) → Bool) where
+  -- the voter has risen to a place, and the fronts past it were tested where they had to be
+  pub record IsRaised (old : Shown ID V P QS) (place : ℕ) (looks : Bool) (new : Shown ID V P QS)
+      : Type 0 where
+    pub middle : Shown ID V P QS
+    pub group : IsSameGroup old middle
+    pub granted : middle.granted ≡ old.granted
+    pub tests : middle.stat.is_quorum_count ≡ old.stat.is_quorum_count
+    pub moves : middle.stat.move_count ≡ counted_up old.stat.move_count 1
+    pub to : ℕ
+    pub rises : RisesTo cmp part old.walk place middle.walk to
+    pub looked : looks ≡ true → IsScanned eq cmp part has_quorum middle to new
+    pub kept : looks ≡ false → new ≡ middle
 
--- the value at the place went from a part before
-pub record IsPutInOrder {ID V P QS : Type 0} (eq : ID → ID → Bool) (cmp : P → P → Ordering)
-    (part : V → P) (has_quorum : QS → (ID → Bool) → Bool) (old : Shown ID V P QS) (place : ℕ)
-    (before : P) (new : Shown ID V P QS) : Type 0 where
-  pub entry : ID × V
-  pub at : entry ≡ get_or old.walk place entry
-  pub raised : (nat_lt place old.voter_count
-      && (is_lt (cmp before (part entry.1)) && is_lt (cmp old.granted (part entry.1)))) ≡ true
-      → IsRaised eq cmp part has_quorum old place (is_le (cmp before old.granted)) new
-  pub kept : (nat_lt place old.voter_count
-      && (is_lt (cmp before (part entry.1)) && is_lt (cmp old.granted (part entry.1)))) ≡ false
-      → new ≡ old
+module _ {ID V P QS : Type 0} (eq : ID → ID → Bool) (cmp : P → P → Ordering) (part : V → P)
+    (has_quorum : QS → (ID → Bool) → Bool) where
+  -- the value at the place went from a part before
+  pub record IsPutInOrder (old : Shown ID V P QS) (place : ℕ) (before : P) (new : Shown ID V P QS)
+      : Type 0 where
+    pub entry : ID × V
+    pub at : entry ≡ get_or old.walk place entry
+    pub raised : (nat_lt place old.voter_count
+        && (is_lt (cmp before (part entry.1)) && is_lt (cmp old.granted (part entry.1)))) ≡ true
+        → IsRaised eq cmp part has_quorum old place (is_le (cmp before old.granted)) new
+    pub kept : (nat_lt place old.voter_count
+        && (is_lt (cmp before (part entry.1)) && is_lt (cmp old.granted (part entry.1)))) ≡ false
+        → new ≡ old

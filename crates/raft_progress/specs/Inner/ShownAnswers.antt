@@ -19,32 +19,34 @@ abbrev pub Answered : {ID V P QS : Type 0} → (Shown ID V P QS → Type 0) → 
     → Reply ID P → Shown ID V P QS → Type 0
 Answered Done old reply new = IsAnswered (λ p. p.granted) Done old reply new
 
--- the value of an id is written, or the write is refused
-pub record IsShownWrite {ID V P QS : Type 0} (eq : ID → ID → Bool) (cmp : P → P → Ordering)
-    (part : V → P) (has_quorum : QS → (ID → Bool) → Bool) (old : Shown ID V P QS) (id : ID)
-    (value : V) (reply : Reply ID P) (new : Shown ID V P QS) : Type 0 where
-  pub values : IsWritten eq cmp part has_quorum (state eq old) id value reply (state eq new)
-  pub answered : Answered (IsUpdatedTo eq cmp part old id value) old reply new
+module _ {ID V P QS : Type 0} (eq : ID → ID → Bool) (cmp : P → P → Ordering) (part : V → P)
+    (has_quorum : QS → (ID → Bool) → Bool) where
+  -- the value of an id is written, or the write is refused
+  pub record IsShownWrite (old : Shown ID V P QS) (id : ID) (value : V) (reply : Reply ID P)
+      (new : Shown ID V P QS) : Type 0 where
+    pub values : IsWritten eq cmp part has_quorum (state eq old) id value reply (state eq new)
+    pub answered : Answered (IsUpdatedTo eq cmp part old id value) old reply new
 
--- the value of an id goes up, or the write is refused
-pub record IsShownIncrease {ID V P QS : Type 0} (eq : ID → ID → Bool) (cmp : P → P → Ordering)
-    (partial_cmp : V → V → Option Ordering) (part : V → P) (has_quorum : QS → (ID → Bool) → Bool)
-    (old : Shown ID V P QS) (id : ID) (value : V) (reply : Reply ID P)
-    (new : Shown ID V P QS) : Type 0 where
-  pub values : IsIncreased eq cmp partial_cmp part has_quorum (state eq old) id value reply
-      (state eq new)
-  pub answered : Answered (IsIncreasedTo eq cmp part partial_cmp old id value) old reply new
+module _ {ID V P QS : Type 0} (eq : ID → ID → Bool) (cmp : P → P → Ordering)
+    (partial_cmp : V → V → Option Ordering) (part : V → P)
+    (has_quorum : QS → (ID → Bool) → Bool) where
+  -- the value of an id goes up, or the write is refused
+  pub record IsShownIncrease (old : Shown ID V P QS) (id : ID) (value : V) (reply : Reply ID P)
+      (new : Shown ID V P QS) : Type 0 where
+    pub values : IsIncreased eq cmp partial_cmp part has_quorum (state eq old) id value reply
+        (state eq new)
+    pub answered : Answered (IsIncreasedTo eq cmp part partial_cmp old id value) old reply new
 
--- the progress goes over to another quorum set, or refuses to
-pub record IsShownUpgrade {ID V P QS : Type 0} (eq : ID → ID → Bool) (id_cmp : ID → ID → Ordering)
+module _ {ID V P QS : Type 0} (eq : ID → ID → Bool) (id_cmp : ID → ID → Ordering)
     (cmp : P → P → Ordering) (part : V → P) (IsClone : V → V → Type 0)
-    (has_quorum : QS → (ID → Bool) → Bool) (is_voter : QS → ID → Bool) (old : Shown ID V P QS)
-    (quorum_set : QS) (learners : List ID) (default : V) (reply : Reply ID P)
-    (new : Shown ID V P QS) : Type 0 where
-  pub values : IsAnsweredUpgrade eq id_cmp cmp part IsClone has_quorum is_voter (state eq old)
-      quorum_set learners default reply (state eq new)
-  pub answered : Answered (IsUpgradeFold eq id_cmp cmp part IsClone has_quorum is_voter old
-      quorum_set learners default) old reply new
+    (has_quorum : QS → (ID → Bool) → Bool) (is_voter : QS → ID → Bool) where
+  -- the progress goes over to another quorum set, or refuses to
+  pub record IsShownUpgrade (old : Shown ID V P QS) (quorum_set : QS) (learners : List ID)
+      (default : V) (reply : Reply ID P) (new : Shown ID V P QS) : Type 0 where
+    pub values : IsAnsweredUpgrade eq id_cmp cmp part IsClone has_quorum is_voter (state eq old)
+        quorum_set learners default reply (state eq new)
+    pub answered : Answered (IsUpgradeFold eq id_cmp cmp part IsClone has_quorum is_voter old
+        quorum_set learners default) old reply new
 
 module _ {K N V P : Type 0} (eq : K → K → Bool) (id_cmp : K → K → Ordering) (cmp : P → P → Ordering)
     (part : V → P) (IsClone : V → V → Type 0) where

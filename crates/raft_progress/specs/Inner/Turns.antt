@@ -26,16 +26,16 @@ pub record Ready {C : Type 0} (eq : C → C → Bool) (cmp : C → C → Orderin
       × IsTrue (id_le cmp entry.matching
       (prev_id log.id_at (max (next_index entry.matching) (next_index log.purge_upto)))))
 
--- a turn, whatever the counts before it: nothing was sent and all is matched, or one more conflict
--- or ack came
-abbrev pub TurnDone : {C : Type 0} → (C → C → Bool) → (C → C → Ordering) → LogView C → ℕ
-    → ProgressEntryOf C → ℕ → Turn → ProgressEntryOf C → ℕ → Type 0
-TurnDone eq cmp log n entry agree Ended new after =
-    ((c k : ℕ) → turn cmp log n (record { entry = entry; agree = agree; conflicts = c; acks = k })
-    ≡ None) × (new ≡ entry) × (after ≡ agree) × CaughtUp eq log entry
-TurnDone eq cmp log n entry agree Refused new after =
-    (c k : ℕ) → turn cmp log n (record { entry = entry; agree = agree; conflicts = c; acks = k })
-    ≡ Some (record { entry = new; agree = after; conflicts = c + 1; acks = k })
-TurnDone eq cmp log n entry agree Acked new after =
-    (c k : ℕ) → turn cmp log n (record { entry = entry; agree = agree; conflicts = c; acks = k })
-    ≡ Some (record { entry = new; agree = after; conflicts = c; acks = k + 1 })
+module _ {C : Type 0} (eq : C → C → Bool) (cmp : C → C → Ordering) (log : LogView C) (n : ℕ) where
+  -- a turn, whatever the counts before it: nothing was sent and all is matched, or one more
+  -- conflict or ack came
+  abbrev pub TurnDone : ProgressEntryOf C → ℕ → Turn → ProgressEntryOf C → ℕ → Type 0
+  TurnDone entry agree Ended new after =
+      ((c k : ℕ) → turn cmp log n (record { entry = entry; agree = agree; conflicts = c; acks = k })
+      ≡ None) × (new ≡ entry) × (after ≡ agree) × CaughtUp eq log entry
+  TurnDone entry agree Refused new after =
+      (c k : ℕ) → turn cmp log n (record { entry = entry; agree = agree; conflicts = c; acks = k })
+      ≡ Some (record { entry = new; agree = after; conflicts = c + 1; acks = k })
+  TurnDone entry agree Acked new after =
+      (c k : ℕ) → turn cmp log n (record { entry = entry; agree = agree; conflicts = c; acks = k })
+      ≡ Some (record { entry = new; agree = after; conflicts = c; acks = k + 1 })

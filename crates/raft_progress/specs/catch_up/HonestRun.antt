@@ -68,10 +68,10 @@ TurnsLeadTo {C} cmp log max_entries (suc turns) run end =
 abbrev pub new_run : {C : Type 0} → ProgressEntryOf C → ℕ → HonestRun C
 new_run entry agree = record { entry = entry; agree = agree; conflicts = 0; acks = 0 }
 
--- the honest run of an entry ends with another one, after so many conflicts and acks
-abbrev pub HonestRunEnds : {C : Type 0} → (C → C → Ordering) → LogView C → ℕ → ProgressEntryOf C → ℕ
-    → ProgressEntryOf C → ℕ → ℕ → Type 0
-HonestRunEnds cmp log max_entries entry agree end conflicts acks =
-    (turns : ℕ) × (agreed : ℕ)
-    × TurnsLeadTo cmp log max_entries turns (new_run entry agree)
-    (record { entry = end; agree = agreed; conflicts = conflicts; acks = acks })
+module _ {C : Type 0} (cmp : C → C → Ordering) (log : LogView C) (max_entries : ℕ) where
+  -- the honest run of an entry ends with another one, after so many conflicts and acks
+  abbrev pub HonestRunEnds : ProgressEntryOf C → ℕ → ProgressEntryOf C → ℕ → ℕ → Type 0
+  HonestRunEnds entry agree end conflicts acks =
+      (turns : ℕ) × (agreed : ℕ)
+      × TurnsLeadTo cmp log max_entries turns (new_run entry agree)
+      (record { entry = end; agree = agreed; conflicts = conflicts; acks = acks })

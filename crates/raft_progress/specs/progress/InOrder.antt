@@ -8,21 +8,20 @@ use Rattle.raft_progress.specs.progress.CountedValue.{AtMost, IsCounted}
 use Rattle.raft_progress.specs.progress.Walk.{state_of, IsFalling}
 use Rattle.raft_progress.specs.progress.Shown.{Shown}
 
--- a walk is in order with a granted value: its ids are distinct, the voters whose part
--- exceeds granted come first and their parts never rise, no voter's part is below the
--- default's, and granted is the counted value
-pub record IsWalkInOrder {ID V P QS : Type 0} (eq : ID → ID → Bool) (cmp : P → P → Ordering)
-    (part : V → P) (has_quorum : QS → (ID → Bool) → Bool) (quorum_set : QS)
-    (walk : List (ID × V)) (voter_count : ℕ) (default_part granted : P) : Type 0 where
-  pub distinct : IsDistinct eq (keys_of walk)
-  pub falling : IsFalling cmp part granted (take voter_count walk)
-  pub not_below : (x : ID) (v : V) → is_member eq (take voter_count (keys_of walk)) x ≡ true
-      → lookup (eq x) walk ≡ Some v → AtMost cmp default_part (part v)
-  pub counted : IsCounted cmp part has_quorum
-      (state_of eq quorum_set walk voter_count default_part) granted
+module _ {ID V P QS : Type 0} (eq : ID → ID → Bool) (cmp : P → P → Ordering) (part : V → P)
+    (has_quorum : QS → (ID → Bool) → Bool) where
+  -- a walk is in order with a granted value: its ids are distinct, the voters whose part
+  -- exceeds granted come first and their parts never rise, no voter's part is below the
+  -- default's, and granted is the counted value
+  pub record IsWalkInOrder (quorum_set : QS) (walk : List (ID × V)) (voter_count : ℕ)
+      (default_part granted : P) : Type 0 where
+    pub distinct : IsDistinct eq (keys_of walk)
+    pub falling : IsFalling cmp part granted (take voter_count walk)
+    pub not_below : (x : ID) (v : V) → is_member eq (take voter_count (keys_of walk)) x ≡ true
+        → lookup (eq x) walk ≡ Some v → AtMost cmp default_part (part v)
+    pub counted : IsCounted cmp part has_quorum
+        (state_of eq quorum_set walk voter_count default_part) granted
 
--- a progress is in order if its walk is, with its granted value
-abbrev pub IsInOrder : {ID V P QS : Type 0} → (ID → ID → Bool) → (P → P → Ordering) → (V → P)
-    → (QS → (ID → Bool) → Bool) → Shown ID V P QS → Type 0
-IsInOrder eq cmp part has_quorum p =
-    IsWalkInOrder eq cmp part has_quorum p.quorum_set p.walk p.voter_count p.default_part p.granted
+  -- a progress is in order if its walk is, with its granted value
+  abbrev pub IsInOrder : Shown ID V P QS → Type 0
+  IsInOrder p = IsWalkInOrder p.quorum_set p.walk p.voter_count p.default_part p.granted

@@ -21,15 +21,16 @@ abbrev pub Leaves : {F T : Type 0} → Once F (MutBor T × Unit {0}) (Unit {0} �
     → F → T → T → Type 0
 Leaves call f v w = FnOnceReturnsAtMut call f v tt w
 
--- After an update that was answered: the value went to another by Left, the progress is in order,
--- and the answer is granted: an Ok for a known id, and an error for an unknown one.
-pub record IsAnsweredUpdate {ID V P QS : Type 0} (eq : ID → ID → Bool) (cmp : P → P → Ordering)
-    (part : V → P) (has_quorum : QS → (ID → Bool) → Bool) (Left : V → V → Type 0) (id : ID)
-    (result : Result (Bor P) (Bor P)) (old new : Shown ID V P QS) : Type 0 where
-  pub updated : IsUpdated eq cmp part Left old id new
-  pub ordered : IsInOrder eq cmp part has_quorum new
-  pub granted : MatchResult result (λ ok. ok.now ≡ new.granted) (λ err. err.now ≡ new.granted)
-  pub known : IsOk result ↔ IsSome ((state eq old).value id)
+module _ {ID V P QS : Type 0} (eq : ID → ID → Bool) (cmp : P → P → Ordering) (part : V → P)
+    (has_quorum : QS → (ID → Bool) → Bool) where
+  -- After an update that was answered: the value went to another by Left, the progress is in order,
+  -- and the answer is granted: an Ok for a known id, and an error for an unknown one.
+  pub record IsAnsweredUpdate (Left : V → V → Type 0) (id : ID) (result : Result (Bor P) (Bor P))
+      (old new : Shown ID V P QS) : Type 0 where
+    pub updated : IsUpdated eq cmp part Left old id new
+    pub ordered : IsInOrder eq cmp part has_quorum new
+    pub granted : MatchResult result (λ ok. ok.now ≡ new.granted) (λ err. err.now ≡ new.granted)
+    pub known : IsOk result ↔ IsSome ((state eq old).value id)
 
 -- once granted has come back, what p shows is related to what it showed before
 abbrev pub LendsGranted : {ID V P QS : Type 0} (R : RattleType) → (R.Denot → Shown ID V P QS)

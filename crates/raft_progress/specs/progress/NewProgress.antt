@@ -18,16 +18,17 @@ pub record LearnersFit {ID : Type 0} (eq : ID → ID → Bool) (is_voter : ID �
 abbrev pub HasClone : {V : Type 0} → (V → V → Type 0) → V → Option V → Type 0
 HasClone {V} IsClone v value = (w : V) × (value ≡ Some w) × IsClone v w
 
--- each voter and each learner has a clone of the default, and no other id has a value
-pub record IsNew {ID V P QS : Type 0} (eq : ID → ID → Bool) (IsClone : V → V → Type 0)
-    (part : V → P) (is_voter : ID → Bool) (quorum_set : QS) (learners : List ID) (default : V)
-    (new : ProgressState ID V P QS) : Type 0 where
-  pub same_quorum_set : new.quorum_set ≡ quorum_set
-  pub voters : (x : ID) → new.is_voter x ≡ is_voter x
-  pub value : (x : ID) → (is_voter x || is_member eq learners x) ≡ true
-      → HasClone IsClone default (new.value x)
-  pub others : (x : ID) → (is_voter x || is_member eq learners x) ≡ false → new.value x ≡ None
-  pub default_part : new.default_part ≡ part default
+module _ {ID V P QS : Type 0} (eq : ID → ID → Bool) (IsClone : V → V → Type 0) (part : V → P)
+    (is_voter : ID → Bool) where
+  -- each voter and each learner has a clone of the default, and no other id has a value
+  pub record IsNew (quorum_set : QS) (learners : List ID) (default : V)
+      (new : ProgressState ID V P QS) : Type 0 where
+    pub same_quorum_set : new.quorum_set ≡ quorum_set
+    pub voters : (x : ID) → new.is_voter x ≡ is_voter x
+    pub value : (x : ID) → (is_voter x || is_member eq learners x) ≡ true
+        → HasClone IsClone default (new.value x)
+    pub others : (x : ID) → (is_voter x || is_member eq learners x) ≡ false → new.value x ≡ None
+    pub default_part : new.default_part ≡ part default
 
 -- the walk of a new progress: the voters, each once, ascending, and
 -- then the learners as they were given

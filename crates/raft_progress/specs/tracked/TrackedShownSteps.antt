@@ -14,15 +14,16 @@ use Rattle.raft_progress.specs.declared.progress.steps.Reply.{Reply}
 use Rattle.raft_progress.specs.declared.tracked.step.Step.{Step}
 use Rattle.raft_progress.specs.declared.tracked.step.Step.TheVariants.{Update, IncreaseTo, Change}
 
--- the progress goes over to the configs and the learners of the membership that is
--- there now, in the membership's order
-pub record IsChangeFold {K N V P : Type 0} (eq : K → K → Bool) (id_cmp : K → K → Ordering)
-    (cmp : P → P → Ordering) (part : V → P) (IsClone : V → V → Type 0)
-    (old : TrackedShown K N V P) (default : V) (new : TrackedShown K N V P) : Type 0 where
-  pub configs : Configs K
-  pub has_configs : HasConfigs (members_of id_cmp new.membership) configs
-  pub fold : IsUpgradeFold eq id_cmp cmp part IsClone (has_quorum eq)
-      (is_voter eq) old.progress configs (learners_of eq new.membership) default new.progress
+module _ {K N V P : Type 0} (eq : K → K → Bool) (id_cmp : K → K → Ordering) (cmp : P → P → Ordering)
+    (part : V → P) (IsClone : V → V → Type 0) where
+  -- the progress goes over to the configs and the learners of the membership that is
+  -- there now, in the membership's order
+  pub record IsChangeFold (old : TrackedShown K N V P) (default : V) (new : TrackedShown K N V P)
+      : Type 0 where
+    pub configs : Configs K
+    pub has_configs : HasConfigs (members_of id_cmp new.membership) configs
+    pub fold : IsUpgradeFold eq id_cmp cmp part IsClone (has_quorum eq)
+        (is_voter eq) old.progress configs (learners_of eq new.membership) default new.progress
 
 -- whether a step is a change of the membership
 abbrev pub is_change : {K N V : Type 0} → Step K N V → Bool
