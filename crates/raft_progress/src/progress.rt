@@ -46,7 +46,8 @@ pub trait Progress<ID: Copy + Ord, V: ProgressPart<P>, P: Copy + Ord, QS: Quorum
     /// What it shows.
     ghost shows: { Self → Shown ID V P QS };
 
-    /// The granted value.
+    /// The granted value: the greatest part that a quorum of the voters has reached, and at least
+    /// the default's.
     fn granted(&self) -> &P
         ensures { result.now ≡ (shows self.now).granted };
 
@@ -59,8 +60,11 @@ pub trait Progress<ID: Copy + Ord, V: ProgressPart<P>, P: Copy + Ord, QS: Quorum
         requires { IsSome ((state ID.eq (shows self.now)).value id.now) }
         ensures { (state ID.eq (shows self.now)).value id.now ≡ Some result.now };
 
-    /// The value of an id, to be written. The progress is in order afterwards if the part of a
-    /// voter stays as it was; `is_in_order` tells.
+    /// The value of an id, to be written.
+    ///
+    /// Nothing is counted and nothing moves. Where the part of a voter changes, the progress may be
+    /// out of order afterwards: `is_in_order` tells. Else it stays in order
+    /// (`laws::kept_parts_keep_order`).
     fn get_mut(&mut self, id: &ID) -> Option<&mut V>
         ensures* writes_back { sem 𝓛
             (LendsValue Self.row V.row shows ID.eq self.entry id.now result) }
@@ -71,6 +75,9 @@ pub trait Progress<ID: Copy + Ord, V: ProgressPart<P>, P: Copy + Ord, QS: Quorum
         ensures { result ≡ voter_of (state ID.eq (shows self.now)) id.now };
 
     /// Whether the progress is in order: the condition of the updates and of an upgrade.
+    ///
+    /// It can be lost only by a write through `get_mut`, or through `VecProgress::iter_mut`, that
+    /// changes an id or a voter's part. The test changes nothing and takes no memory.
     fn is_in_order(&mut self) -> bool
         ensures answer { IsTrue result ↔
             IsInOrder ID.eq P.cmp V.part_of QS.has_quorum (shows self.old) }
@@ -84,7 +91,19 @@ pub trait Progress<ID: Copy + Ord, V: ProgressPart<P>, P: Copy + Ord, QS: Quorum
     fn iter(&self) -> std::slice::Iter<(ID, V)>
         ensures { iter_rest result ≡ (shows self.now).walk };
 
-    /// Changes the value of an id by `f` and answers granted: as an error where the id is unknown.
+    /// Changes the value of an id by `f`, and answers granted: as an error where the id is unknown.
+    ///
+    /// A value's part may not fall: what a follower has acknowledged it keeps. A voter whose part
+    /// exceeds granted moves up past the voters directly before it that have less, and where it
+    /// passes granted, the least front of the walk that is a quorum tells what is granted now. A
+    /// learner grants nothing. No memory is taken.
+    ///
+    /// Voters 0 to 4 as `id:value`, granted 3, and voter 1 goes from 2 to 4:
+    ///
+    /// - before, `4:5 0:4 2:3 1:2 3:3`: those whose parts exceed granted stand first;
+    /// - written, `4:5 0:4 2:3 1:4 3:3`;
+    /// - moved, `4:5 0:4 1:4 2:3 3:3`: past voter 2, and not past voter 0, which has as much;
+    /// - tested, `4:5 0:4 1:4`: the front up to its new place has three of five, so 4 is granted.
     fn update_with<F: FnOnce(&mut V)>(&mut self, id: &ID, f: F) -> Result<&P, &P>
         requires ordered { IsInOrder ID.eq P.cmp V.part_of QS.has_quorum (shows self.old) }
         requires callable { ForSome ((state ID.eq (shows self.old)).value id.now)
@@ -95,7 +114,8 @@ pub trait Progress<ID: Copy + Ord, V: ProgressPart<P>, P: Copy + Ord, QS: Quorum
             (IsAnsweredUpdate ID.eq P.cmp V.part_of QS.has_quorum
             (Leaves F.FnOnce f) id.now result)) };
 
-    /// Writes the value of an id and answers granted: as an error where the id is unknown.
+    /// Writes the value of an id, and answers granted: as an error where the id is unknown. The part
+    /// may not fall: `VecProgress::would_fall` tells.
     fn update(&mut self, id: &ID, value: V) -> Result<&P, &P>
         requires ordered { IsInOrder ID.eq P.cmp V.part_of QS.has_quorum (shows self.old) }
         requires not_lower { IsNotLower ID.eq P.cmp V.part_of (shows self.old) id.now value }
@@ -104,7 +124,7 @@ pub trait Progress<ID: Copy + Ord, V: ProgressPart<P>, P: Copy + Ord, QS: Quorum
             (λ v w. w ≡ value) id.now result)) };
 
     /// Writes the value of an id where it is greater than the present one, and counts an update
-    /// either way.
+    /// either way. The part of a greater value may not fall: `VecProgress::would_fall` tells.
     fn increase_to(&mut self, id: &ID, value: V) -> Result<&P, &P>
     where
         V: PartialOrd,
@@ -116,17 +136,27 @@ pub trait Progress<ID: Copy + Ord, V: ProgressPart<P>, P: Copy + Ord, QS: Quorum
             (IsGreaterOf V.partial_cmp value) id.now result)) };
 
     /// Whether the learners fit a quorum set: none stands twice, and none is a voter.
+    ///
+    /// It is the test for the condition of `VecProgress::new` and of `upgrade_quorum_set`.
     fn learners_fit(alloc: Global, quorum_set: &QS, learners: &[ID]) -> Result<bool, AllocError>
         ensures { IfOk result (λ fits.
             IsTrue fits ↔ LearnersFit ID.eq (QS.is_voter quorum_set.now) learners.now) };
 
     /// Whether no value that an upgrade would take over is below the new default.
+    ///
+    /// It is the test for the condition of `upgrade_quorum_set`: values never fall, and
+    /// those at the default are the least.
     fn can_upgrade(&self, quorum_set: &QS, learners: &[ID], default: &V) -> Result<bool, AllocError>
         ensures { IfOk result (λ can. IsTrue can ↔ CanUpgrade ID.eq P.cmp V.part_of
             (QS.is_voter quorum_set.now) learners.now default.now
             (state ID.eq (shows self.now)).value) };
 
-    /// A progress over another quorum set that takes over the values and the counts.
+    /// A progress over another quorum set that takes over the values of the ids that it has too.
+    ///
+    /// Granted is counted afresh over the new quorum set, so it may be less than before: the new
+    /// voters may have reached less. The learners stand as they are given. The counts go on from
+    /// the present ones; each present id counts an update, also one that is gone. `self` stays as
+    /// it is, also where a growth is refused.
     fn upgrade_quorum_set(
         &self,
         quorum_set: QS,

@@ -2,7 +2,7 @@
 
 use super::steps::{first_ids, made, replied};
 use raft_members::quorum::{AtLeast, Joint, QuorumSet};
-use raft_progress::progress::{AnyStep, Reply, VecProgress};
+use raft_progress::progress::{AnyStep, Progress, Reply, VecProgress};
 use std::alloc::{AllocError, Global};
 use std::process::Abort;
 use std::test::Fail;

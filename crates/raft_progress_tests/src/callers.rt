@@ -23,7 +23,7 @@ use raft_members::quorum::QuorumSet;
 use raft_progress::entry::ProgressEntryOf;
 use raft_progress::inflight::InflightOf;
 use raft_progress::laws::{kept_parts_keep_order, quorums_know_granted};
-use raft_progress::progress::{AnyStep, ProgressPart, Reply, VecProgress, replay_any};
+use raft_progress::progress::{AnyStep, Progress, ProgressPart, Reply, VecProgress, replay_any};
 use raft_progress::tracked::{Step, Tracked, replay};
 use std::alloc::{AllocError, Global};
 use std::collections::BTreeMap;

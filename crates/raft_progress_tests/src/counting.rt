@@ -11,7 +11,7 @@ ghost use Rattle.std.specs.Set.{is_member};
 
 use super::steps::{first_ids, made, replied};
 use raft_members::quorum::QuorumSet;
-use raft_progress::progress::{AnyStep, Reply, Stat, VecProgress, replay_any};
+use raft_progress::progress::{AnyStep, Progress as _, Reply, Stat, VecProgress, replay_any};
 use std::alloc::{AllocError, Global};
 use std::cell::Cell;
 use std::process::Abort;

@@ -11,7 +11,7 @@ use raft_base_tests::printing::{debugs, displays};
 use raft_members::quorum::QuorumSet;
 use raft_progress::entry::{ProgressEntry, ProgressEntryOf};
 use raft_progress::inflight::{InflightError, InflightOf};
-use raft_progress::progress::{ProgressPart, VecProgress};
+use raft_progress::progress::{Progress, ProgressPart, VecProgress};
 use std::alloc::{AllocError, Global};
 use std::process::Abort;
 use std::test::Fail;

@@ -4,7 +4,7 @@ ghost use Rattle.raft_progress.specs.progress.InOrder.{IsInOrder};
 ghost use Rattle.raft_progress.specs.progress.VecProgress.{shown};
 
 use raft_members::quorum::QuorumSet;
-use raft_progress::progress::{AnyStep, ProgressPart, Reply, VecProgress, replay_any};
+use raft_progress::progress::{AnyStep, Progress, ProgressPart, Reply, VecProgress, replay_any};
 use std::alloc::{AllocError, Global};
 use std::process::Abort;
 use std::test::Fail;

@@ -6,7 +6,7 @@ use raft_base::EmptyNode;
 use raft_members::change_members::ChangeMembers;
 use raft_members::membership::Membership;
 use raft_members::quorum::Joint;
-use raft_progress::progress::{AnyStep, Reply, VecProgress};
+use raft_progress::progress::{AnyStep, Progress, Reply, VecProgress};
 use raft_progress::tracked::{Step, Tracked, replay};
 use std::alloc::{AllocError, Global};
 use std::collections::BTreeSet;

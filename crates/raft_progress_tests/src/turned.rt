@@ -8,7 +8,7 @@ ghost use Rattle.std.specs.Ordering.{as_partial_cmp, flip_args, nat_cmp, on};
 use super::steps::{made, updated};
 use raft_base::EmptyNode;
 use raft_members::Membership;
-use raft_progress::progress::VecProgress;
+use raft_progress::progress::{Progress as _, VecProgress};
 use std::alloc::{AllocError, Global};
 use std::cmp::Ordering;
 use std::collections::BTreeSet;

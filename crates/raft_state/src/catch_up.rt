@@ -14,7 +14,7 @@ use raft_base::{Instant, LeaderIdentity, LogIdOf, Node, NodeId, Validate};
 use raft_members::quorum::QuorumSet;
 use raft_progress::catch_up::{can_catch_up_entry, catch_up_entry};
 use raft_progress::entry::ProgressEntryOf;
-use raft_progress::progress::VecProgress;
+use raft_progress::progress::{Progress, VecProgress};
 
 /// The progress of a leader's followers: for each what it has, by their matches.
 pub type FollowersOf<C, NID, QS> = VecProgress<NID, ProgressEntryOf<C>, Option<LogIdOf<C>>, QS>;

@@ -18,7 +18,7 @@ use raft_base::{
     LogStateReader, Node, NodeId, Validate,
 };
 use raft_members::quorum::QuorumSet;
-use raft_progress::{InflightOf, ProgressEntryOf};
+use raft_progress::{InflightOf, Progress, ProgressEntryOf};
 use raft_state::laws::sends_from_log;
 use raft_state::{FollowersOf, RaftStateIn};
 use std::alloc::{AllocError, Global};

@@ -4,7 +4,7 @@ use super::followers::{Followers, caught_up, followers};
 use super::rows::{Row, id, ids as ids_of};
 use super::whole::{State, valid_state};
 use raft_base::{LeaderAdv, LeaderKind, LeaderStd, LogStateReader};
-use raft_progress::ProgressEntryOf;
+use raft_progress::{Progress, ProgressEntryOf};
 use raft_state::{LogIdListOf, is_key_list};
 use std::alloc::{AllocError, Global};
 use std::process::Abort;

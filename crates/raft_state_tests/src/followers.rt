@@ -9,7 +9,7 @@ use super::whole::State;
 use raft_base::LeaderKind;
 use raft_members::quorum::QuorumSet;
 use raft_progress::ProgressEntryOf;
-use raft_progress::progress::VecProgress;
+use raft_progress::progress::{Progress, VecProgress};
 use raft_state::FollowersOf;
 use std::alloc::{AllocError, Global};
 use std::process::Abort;

@@ -3,7 +3,7 @@
 use super::rows::{Row, id, ids};
 use raft_base::{CommittedLeaderId, EmptyNode, LeaderAdv, LogId, UTime, Vote};
 use raft_members::{ChangeMembers, ChangeMembershipError, Membership};
-use raft_progress::{InflightOf, MembershipProgress, ProgressEntry};
+use raft_progress::{InflightOf, MembershipProgress, Progress, ProgressEntry};
 use raft_state::{LogIdList, RaftState, is_key_list};
 use std::alloc::{AllocError, Global};
 use std::collections::{BTreeMap, BTreeSet};

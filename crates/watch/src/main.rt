@@ -2,7 +2,7 @@
 
 use raft_base::EmptyNode;
 use raft_members::Membership;
-use raft_progress::{Step, Tracked, replay};
+use raft_progress::{Progress, Step, Tracked, replay};
 use std::collections::BTreeMap;
 
 fn main(rt: HostRuntime) -> Result<(), anyhow::Error> {

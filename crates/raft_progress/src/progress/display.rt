@@ -1,5 +1,6 @@
 //! The text of a progress.
 
+use super::Progress;
 use super::part::ProgressPart;
 use super::vec_progress::VecProgress;
 use raft_members::quorum::QuorumSet;

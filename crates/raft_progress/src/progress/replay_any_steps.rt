@@ -14,6 +14,7 @@ ghost use Rattle.raft_progress.specs.progress.ShownSteps.{IsShownRun, IsShownSte
 ghost use Rattle.raft_progress.specs.progress.VecProgress.{shown};
 ghost use Rattle.raft_progress.specs.progress.Steps.{IsRun, falls, stays};
 
+use super::Progress;
 use super::part::ProgressPart;
 use super::steps::{AnyStep, Reply};
 use super::vec_progress::VecProgress;

@@ -50,38 +50,24 @@ impl<
     P: Copy + Ord,
     QS: QuorumSet<ID> + Drop,
 > VecProgress<ID, V, P, QS> {
-    ghost use Rattle.std.specs.Prelude.{◌≡◌, ◌≤◌, ◌<◌, ◌↔◌, ℕ, IsTrue, IfOk, position, slice_get, is_some, IsSome, length, ◌&&◌};
+    ghost use Rattle.std.specs.Prelude.{◌≡◌, ◌<◌, ℕ, IfOk, position, slice_get, is_some, length, ◌&&◌};
     ghost use Rattle.std.specs.Borrow.{sem};
-    ghost use Rattle.std.specs.Slice.Iter.{iter_mut_name, iter_mut_rest, iter_rest};
+    ghost use Rattle.std.specs.Slice.Iter.{iter_mut_name, iter_mut_rest};
     ghost use Rattle.std.specs.Fn.{FnOnceTakesAtMut};
-    ghost use Rattle.std.specs.Option.{ForSome, option_copied, option_copied_mut};
+    ghost use Rattle.std.specs.Option.{ForSome, option_copied};
     ghost use Rattle.std.specs.List.{IsDistinct};
     ghost use Rattle.raft_progress.specs.progress.CountedValue.{AtMost};
     ghost use Rattle.raft_progress.specs.progress.InOrder.{IsInOrder};
     ghost use Rattle.raft_progress.specs.Inner.Settled.{IsPutInOrder, IsRaised, IsScanned};
-    ghost use Rattle.raft_progress.specs.contracts.progress.vec_progress.VecProgress.{the_row};
-    ghost use Rattle.raft_progress.specs.progress.Lends.{IsAnsweredUpdate, Leaves, LendsGranted, LendsValue, LendsWalk};
+    ghost use Rattle.raft_progress.specs.progress.Lends.{Leaves, LendsWalk};
     ghost use Rattle.raft_progress.specs.progress.NewProgress.{IsFirstWalk, IsNew, LearnersFit};
-    ghost use Rattle.raft_progress.specs.progress.ProgressState.{voter_of};
-    ghost use Rattle.raft_progress.specs.progress.Shown.{learner_ids, state};
-    ghost use Rattle.raft_progress.specs.progress.Updated.{IsGreaterOf, IsNotLower, IsNotLowerIfGreater, IsUpdated, NeverFalls};
-    ghost use Rattle.raft_progress.specs.progress.Upgrade.{CanUpgrade, IsLeastBelow, IsUpgraded};
-    ghost use Rattle.raft_progress.specs.progress.UpgradeFold.{IsUpgradeFold};
+    ghost use Rattle.raft_progress.specs.progress.Shown.{state};
+    ghost use Rattle.raft_progress.specs.progress.Updated.{IsNotLower, IsUpdated, NeverFalls};
+    ghost use Rattle.raft_progress.specs.progress.Upgrade.{CanUpgrade, IsLeastBelow};
     ghost use Rattle.raft_progress.specs.Inner.Tests.{IsLeastPassing, among, is_value_below};
     ghost use Rattle.raft_progress.specs.progress.Statistics.{CountsGoOn, no_counts};
     ghost use Rattle.raft_progress.specs.progress.Steps.{falls};
     ghost use Rattle.raft_progress.specs.progress.VecProgress.{shown};
-
-    /// Whether the learners fit a quorum set: none stands twice, and none is a voter.
-    ///
-    /// It is the test for the condition of `new` and of `upgrade_quorum_set`.
-    pub fn learners_fit(alloc: Global, quorum_set: &QS, learners: &[ID]) -> Result<bool, AllocError>
-        ensures { IfOk result (λ fits.
-            IsTrue fits ↔ LearnersFit ID.eq (QS.is_voter quorum_set.now) learners.now) }
-    {
-        let voters = quorum_set.ids(alloc)?;
-        Ok(are_apart(&voters, learners))
-    }
 
     /// A progress in which each voter and each learner has a clone of the default.
     ///
@@ -132,49 +118,6 @@ impl<
         })
     }
 
-    /// A progress over another quorum set that takes over the values of the ids that it has too.
-    ///
-    /// Granted is counted afresh over the new quorum set, so it may be less than before: the new
-    /// voters may have reached less. The learners stand as they are given. The counts go on from
-    /// the present ones; each present id counts an update, also one that is gone. `self` stays as
-    /// it is, also where a growth is refused.
-    pub fn upgrade_quorum_set(
-        &self,
-        quorum_set: QS,
-        learners: &[ID],
-        default: V,
-    ) -> Result<Self, AllocError>
-    where
-        V: Clone,
-        requires ordered { IsInOrder ID.eq P.cmp V.part_of QS.has_quorum (shown self.now) }
-        requires clones_have_the_part { (v w : V) → V.is_clone v w → V.part_of w ≡ V.part_of v }
-        requires learners_fit { LearnersFit ID.eq (QS.is_voter quorum_set) learners.now }
-        requires can_upgrade { CanUpgrade ID.eq P.cmp V.part_of (QS.is_voter quorum_set)
-            learners.now default (state ID.eq (shown self.now)).value }
-        ensures made { IfOk result (λ made.
-            IsUpgraded ID.eq V.is_clone V.part_of (QS.is_voter quorum_set)
-            quorum_set learners.now default (state ID.eq (shown self.now)).value
-            (state ID.eq (shown made))) }
-        ensures ordered { IfOk result (λ made.
-            IsInOrder ID.eq P.cmp V.part_of QS.has_quorum (shown made)) }
-        ensures fold { IfOk result (λ made.
-            IsUpgradeFold ID.eq ID.cmp P.cmp V.part_of V.is_clone QS.has_quorum QS.is_voter
-            (shown self.now) quorum_set learners.now default (shown made)) }
-        ensures learners { IfOk result (λ made. learner_ids (shown made) ≡ learners.now) }
-        ensures counts { IfOk result (λ made.
-            CountsGoOn (length (shown self.now).walk) (shown made).voter_count
-            (shown self.now).stat (shown made).stat) }
-    {
-        let alloc = self.allocator();
-        let mut made = VecProgress::new(alloc, quorum_set, learners, default)?;
-        made.go_on_from(&self.stat);
-        for entry in &self.walk {
-            let value = entry.1.clone()?;
-            made.inherit(&entry.0, value);
-        }
-        Ok(made)
-    }
-
     /// Goes on with the counts of another progress.
     fn go_on_from(&mut self, stat: &Stat)
         ensures same { shown self.new ≡ record (shown self.old) { stat = stat.now } }
@@ -206,24 +149,6 @@ impl<
     /// The allocator of its entries.
     pub(crate) fn allocator(&self) -> Global {
         *self.walk.allocator()
-    }
-
-    /// Whether no value that an upgrade would take over is below the new default.
-    ///
-    /// It is the test for the condition of `upgrade_quorum_set`: values never fall, and
-    /// those at the default are the least.
-    pub fn can_upgrade(
-        &self,
-        quorum_set: &QS,
-        learners: &[ID],
-        default: &V,
-    ) -> Result<bool, AllocError>
-        ensures { IfOk result (λ can. IsTrue can ↔ CanUpgrade ID.eq P.cmp V.part_of
-            (QS.is_voter quorum_set.now) learners.now default.now
-            (state ID.eq (shown self.now)).value) }
-    {
-        let least = self.least_below(quorum_set, learners, default)?;
-        Ok(least.is_none())
     }
 
     /// The least id whose value an upgrade would take over and that is below the new default.
@@ -280,31 +205,6 @@ impl<
         }
     }
 
-    /// Whether the progress is in order: the condition of the updates and of an upgrade.
-    ///
-    /// It can be lost only by a write through `get_mut` or `iter_mut` that changes an id or a
-    /// voter's part. The test changes nothing and takes no memory.
-    pub fn is_in_order(&mut self) -> bool
-        ensures answer { IsTrue result ↔
-            IsInOrder ID.eq P.cmp V.part_of QS.has_quorum (shown self.old) }
-        ensures same { shown self.new ≡ shown self.old }
-    {
-        let voters = &self.walk[..self.voter_count];
-        if !is_ordered(&self.walk, voters, self.granted, self.default_part) {
-            return false;
-        }
-        let counted = count(&self.quorum_set, voters, self.default_part, &mut self.room);
-        counted.cmp(&self.granted).is_eq()
-    }
-
-    /// The granted value: the greatest part that a quorum of the voters has reached, and at least
-    /// the default's.
-    pub fn granted(&self) -> &P
-        ensures { result.now ≡ (shown self.now).granted }
-    {
-        &self.granted
-    }
-
     /// The part of the default.
     pub fn default_part(&self) -> &P
         ensures { result.now ≡ (shown self.now).default_part }
@@ -332,13 +232,6 @@ impl<
         self.walk.iter().position(|entry| *id == entry.0)
     }
 
-    /// The value of an id.
-    pub fn try_get(&self, id: &ID) -> Option<&V>
-        ensures { option_copied result ≡ (state ID.eq (shown self.now)).value id.now }
-    {
-        self.value_at(self.index(id))
-    }
-
     /// Whether a value's part is below that of the id's value, so that it may not be written.
     ///
     /// It is the test for the condition of `update`, and of `increase_to` with a greater value.
@@ -361,67 +254,11 @@ impl<
         }
     }
 
-    /// The value of an id that is there.
-    pub fn get(&self, id: &ID) -> &V
-        requires { IsSome ((state ID.eq (shown self.now)).value id.now) }
-        ensures { (state ID.eq (shown self.now)).value id.now ≡ Some result.now }
-    {
-        match self.try_get(id) {
-            Some(value) => value,
-            None => unreachable!(),
-        }
-    }
-
-    /// Whether an id is a voter, if it is there.
-    pub fn is_voter(&self, id: &ID) -> Option<bool>
-        ensures { result ≡ voter_of (state ID.eq (shown self.now)) id.now }
-    {
-        match self.index(id) {
-            Some(place) => Some(place < self.voter_count),
-            None => None,
-        }
-    }
-
-    /// The ids and their values: the voters, then the learners.
-    pub fn iter(&self) -> std::slice::Iter<(ID, V)>
-        ensures { iter_rest result ≡ (shown self.now).walk }
-    {
-        self.walk.iter()
-    }
-
-    /// The quorum set.
-    pub fn quorum_set(&self) -> &QS
-        ensures { result.now ≡ (state ID.eq (shown self.now)).quorum_set }
-    {
-        &self.quorum_set
-    }
-
     /// How much it has done.
     pub fn stat(&self) -> &Stat
         ensures { result.now ≡ (shown self.now).stat }
     {
         &self.stat
-    }
-
-    /// The value of an id, to be written.
-    ///
-    /// Nothing is counted and nothing moves. Where the part of a voter changes, the progress may be
-    /// out of order afterwards: `is_in_order` tells. Else it stays in order
-    /// (`laws::kept_parts_keep_order`).
-    pub fn get_mut(&mut self, id: &ID) -> Option<&mut V>
-        ensures* writes_back { sem 𝓛 (LendsValue
-            (the_row ID.row V.row P.row QS.row ID.Ord.own ID.PartialEq
-            ID.PartialOrd.own) V.row shown ID.eq
-            self.entry id.now result) }
-        ensures value { option_copied_mut result ≡ (state ID.eq (shown self.old)).value id.now }
-    {
-        match self.index(id) {
-            Some(place) => {
-                let entry = &mut self.walk[place];
-                Some(&mut entry.1)
-            }
-            None => None,
-        }
     }
 
     /// The ids and their values, to be written.
@@ -436,75 +273,6 @@ impl<
     {
         self.stale = true;
         self.walk.iter_mut()
-    }
-
-    /// Changes the value of an id by `f`, and answers granted: as an error where the id is unknown.
-    ///
-    /// A value's part may not fall: what a follower has acknowledged it keeps. A voter whose part
-    /// exceeds granted moves up past the voters directly before it that have less, and where it
-    /// passes granted, the least front of the walk that is a quorum tells what is granted now. A
-    /// learner grants nothing. No memory is taken.
-    ///
-    /// Voters 0 to 4 as `id:value`, granted 3, and voter 1 goes from 2 to 4:
-    ///
-    /// ```text before 4:5 0:4 2:3 1:2 3:3 parts that exceed granted stand first written
-    /// 4:5 0:4 2:3 1:4 3:3 moved 4:5 0:4 1:4 2:3 3:3 past voter 2, and not past voter 0,
-    /// which has as much tested [4:5 0:4 1:4] 2:3 3:3 the front up to its new place:
-    /// three of five, so 4 is granted ```
-    #[inline(always)]
-    pub fn update_with<F: FnOnce(&mut V)>(&mut self, id: &ID, f: F) -> Result<&P, &P>
-        requires ordered { IsInOrder ID.eq P.cmp V.part_of QS.has_quorum (shown self.old) }
-        requires callable { ForSome ((state ID.eq (shown self.old)).value id.now)
-            (FnOnceTakesAtMut F.FnOnce f) }
-        requires not_lower { NeverFalls ID.eq P.cmp V.part_of (Leaves F.FnOnce f)
-            (shown self.old) id.now }
-        ensures* after { sem 𝓛 (LendsGranted
-            (the_row ID.row V.row P.row QS.row ID.Ord.own ID.PartialEq
-            ID.PartialOrd.own) shown self.entry
-            (IsAnsweredUpdate ID.eq P.cmp V.part_of QS.has_quorum
-            (Leaves F.FnOnce f) id.now result)) }
-    {
-        if self.apply(id, f) {
-            Ok(&self.granted)
-        } else {
-            Err(&self.granted)
-        }
-    }
-
-    /// Writes the value of an id, and answers granted: as an error where the id is unknown. The part
-    /// may not fall: `would_fall` tells.
-    #[inline(always)]
-    pub fn update(&mut self, id: &ID, value: V) -> Result<&P, &P>
-        requires ordered { IsInOrder ID.eq P.cmp V.part_of QS.has_quorum (shown self.old) }
-        requires not_lower { IsNotLower ID.eq P.cmp V.part_of (shown self.old) id.now value }
-        ensures* after { sem 𝓛 (LendsGranted
-            (the_row ID.row V.row P.row QS.row ID.Ord.own ID.PartialEq
-            ID.PartialOrd.own) shown self.entry
-            (IsAnsweredUpdate ID.eq P.cmp V.part_of QS.has_quorum
-            (λ v w. w ≡ value) id.now result)) }
-    {
-        self.update_with(id, |current| *current = value)
-    }
-
-    /// Writes the value of an id where it is greater than the present one, and counts an update
-    /// either way. The part of a greater value may not fall: `would_fall` tells.
-    pub fn increase_to(&mut self, id: &ID, value: V) -> Result<&P, &P>
-    where
-        V: PartialOrd,
-        requires ordered { IsInOrder ID.eq P.cmp V.part_of QS.has_quorum (shown self.old) }
-        requires not_lower { IsNotLowerIfGreater ID.eq P.cmp V.part_of V.partial_cmp
-            (shown self.old) id.now value }
-        ensures* after { sem 𝓛 (LendsGranted
-            (the_row ID.row V.row P.row QS.row ID.Ord.own ID.PartialEq
-            ID.PartialOrd.own) shown self.entry
-            (IsAnsweredUpdate ID.eq P.cmp V.part_of QS.has_quorum
-            (IsGreaterOf V.partial_cmp value) id.now result)) }
-    {
-        self.update_with(id, |current| {
-            if value > *current {
-                *current = value;
-            }
-        })
     }
 
     /// Changes the value of an id by `f`, recounts granted, and answers whether the id is known.
@@ -767,27 +535,82 @@ impl<ID: Copy + Ord, V: ProgressPart<P> + Drop, P: Copy + Ord, QS: QuorumSet<ID>
     ghost shows = { shown };
 
     fn granted(&self) -> &P {
-        VecProgress::granted(self)
+        &self.granted
     }
 
     fn try_get(&self, id: &ID) -> Option<&V> {
-        VecProgress::try_get(self, id)
+        self.value_at(self.index(id))
     }
 
     fn get(&self, id: &ID) -> &V {
-        VecProgress::get(self, id)
+        match self.try_get(id) {
+            Some(value) => value,
+            None => unreachable!(),
+        }
+    }
+
+    fn get_mut(&mut self, id: &ID) -> Option<&mut V> {
+        match self.index(id) {
+            Some(place) => {
+                let entry = &mut self.walk[place];
+                Some(&mut entry.1)
+            }
+            None => None,
+        }
+    }
+
+    fn is_voter(&self, id: &ID) -> Option<bool> {
+        match self.index(id) {
+            Some(place) => Some(place < self.voter_count),
+            None => None,
+        }
     }
 
     fn is_in_order(&mut self) -> bool {
-        VecProgress::is_in_order(self)
+        let voters = &self.walk[..self.voter_count];
+        if !is_ordered(&self.walk, voters, self.granted, self.default_part) {
+            return false;
+        }
+        let counted = count(&self.quorum_set, voters, self.default_part, &mut self.room);
+        counted.cmp(&self.granted).is_eq()
     }
 
     fn quorum_set(&self) -> &QS {
-        VecProgress::quorum_set(self)
+        &self.quorum_set
+    }
+
+    fn iter(&self) -> std::slice::Iter<(ID, V)> {
+        self.walk.iter()
+    }
+
+    #[inline(always)]
+    fn update_with<F: FnOnce(&mut V)>(&mut self, id: &ID, f: F) -> Result<&P, &P> {
+        if self.apply(id, f) {
+            Ok(&self.granted)
+        } else {
+            Err(&self.granted)
+        }
+    }
+
+    #[inline(always)]
+    fn update(&mut self, id: &ID, value: V) -> Result<&P, &P> {
+        self.update_with(id, |current| *current = value)
+    }
+
+    fn increase_to(&mut self, id: &ID, value: V) -> Result<&P, &P>
+    where
+        V: PartialOrd,
+    {
+        self.update_with(id, |current| {
+            if value > *current {
+                *current = value;
+            }
+        })
     }
 
     fn learners_fit(alloc: Global, quorum_set: &QS, learners: &[ID]) -> Result<bool, AllocError> {
-        VecProgress::<ID, V, P, QS>::learners_fit(alloc, quorum_set, learners)
+        let voters = quorum_set.ids(alloc)?;
+        Ok(are_apart(&voters, learners))
     }
 
     fn can_upgrade(
@@ -796,34 +619,8 @@ impl<ID: Copy + Ord, V: ProgressPart<P> + Drop, P: Copy + Ord, QS: QuorumSet<ID>
         learners: &[ID],
         default: &V,
     ) -> Result<bool, AllocError> {
-        VecProgress::can_upgrade(self, quorum_set, learners, default)
-    }
-
-    fn iter(&self) -> std::slice::Iter<(ID, V)> {
-        VecProgress::iter(self)
-    }
-
-    fn get_mut(&mut self, id: &ID) -> Option<&mut V> {
-        VecProgress::get_mut(self, id)
-    }
-
-    fn is_voter(&self, id: &ID) -> Option<bool> {
-        VecProgress::is_voter(self, id)
-    }
-
-    fn update_with<F: FnOnce(&mut V)>(&mut self, id: &ID, f: F) -> Result<&P, &P> {
-        VecProgress::update_with(self, id, f)
-    }
-
-    fn update(&mut self, id: &ID, value: V) -> Result<&P, &P> {
-        VecProgress::update(self, id, value)
-    }
-
-    fn increase_to(&mut self, id: &ID, value: V) -> Result<&P, &P>
-    where
-        V: PartialOrd,
-    {
-        VecProgress::increase_to(self, id, value)
+        let least = self.least_below(quorum_set, learners, default)?;
+        Ok(least.is_none())
     }
 
     fn upgrade_quorum_set(
@@ -835,6 +632,13 @@ impl<ID: Copy + Ord, V: ProgressPart<P> + Drop, P: Copy + Ord, QS: QuorumSet<ID>
     where
         V: Clone,
     {
-        VecProgress::upgrade_quorum_set(self, quorum_set, learners, default)
+        let alloc = self.allocator();
+        let mut made = VecProgress::new(alloc, quorum_set, learners, default)?;
+        made.go_on_from(&self.stat);
+        for entry in &self.walk {
+            let value = entry.1.clone()?;
+            made.inherit(&entry.0, value);
+        }
+        Ok(made)
     }
 }

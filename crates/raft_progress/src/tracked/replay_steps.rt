@@ -23,7 +23,7 @@ ghost use Rattle.raft_progress.specs.progress.Upgrade.{CanUpgrade, IsLeastBelow}
 
 use super::step::Step;
 use super::{Tracked, learners_of};
-use crate::progress::{ProgressPart, Reply, increase, write};
+use crate::progress::{Progress, ProgressPart, Reply, increase, write};
 use raft_base::{Node, NodeId};
 use raft_members::change_members::ChangeMembers;
 use raft_members::error::ChangeMembershipError;

@@ -5,7 +5,7 @@ use Rattle.raft_progress.specs.progress.Shown.{state}
 use Rattle.raft_progress.specs.progress.Upgrade.{IsUpgraded}
 use Rattle.raft_progress.specs.progress.UpgradeFold.{IsFold}
 use Rattle.raft_progress.specs.progress.VecProgress.{shown}
-use Rattle.raft_progress.proofs.progress.vec_progress.VecProgress.upgrade_quorum_set.Given as goal
+use Rattle.raft_progress.proofs.progress.vec_progress.VecProgressProgress.upgrade_quorum_set.Given as goal
 
 -- the entries so far have been taken over
 abbrev pub invariant-loop-entry : goal.invariant-loop-entry

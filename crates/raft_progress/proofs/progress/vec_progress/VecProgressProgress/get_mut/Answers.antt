@@ -4,7 +4,7 @@ use Rattle.std.specs.Map.{keys_of}
 use Rattle.raft_progress.proofs.PlacesLemmas.{keys_rewritten}
 use Rattle.raft_progress.proofs.WalkLemmas.{lookup_found, lookup_absent, set_found}
 use Rattle.raft_progress.specs.progress.VecProgress.{shown}
-use Rattle.raft_progress.proofs.progress.vec_progress.VecProgress.get_mut.Goals as goal
+use Rattle.raft_progress.proofs.progress.vec_progress.VecProgressProgress.get_mut.Goals as goal
 
 pub returns-in-Some : goal.returns-in-Some
 returns-in-Some g c =

@@ -1,7 +1,7 @@
 use Rattle.std.proofs.Common.{sym, ◌∙◌, ap, ◌≡◌}
 use Rattle.raft_progress.specs.Inner.Tests.{apart}
 use Rattle.raft_progress.proofs.LearnersFitLemmas.{apart_fits, fits_apart}
-use Rattle.raft_progress.proofs.progress.vec_progress.VecProgress.learners_fit.Goals as goal
+use Rattle.raft_progress.proofs.progress.vec_progress.VecProgressProgress.learners_fit.Goals as goal
 
 pub returns : goal.returns
 returns g c =

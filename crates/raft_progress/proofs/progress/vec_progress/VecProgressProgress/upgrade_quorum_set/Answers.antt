@@ -9,7 +9,7 @@ use Rattle.raft_progress.specs.progress.InOrder.{IsInOrder}
 use Rattle.raft_progress.specs.progress.UpgradeFold.{IsFold}
 use Rattle.raft_progress.proofs.UpgradeLemmas.{not_seen, own_value, is_default, step, upgraded_none}
 use Rattle.raft_progress.specs.progress.VecProgress.{shown}
-use Rattle.raft_progress.proofs.progress.vec_progress.VecProgress.upgrade_quorum_set.Goals as goal
+use Rattle.raft_progress.proofs.progress.vec_progress.VecProgressProgress.upgrade_quorum_set.Goals as goal
 
 pub loop-entry-init : goal.loop-entry-init
 loop-entry-init g c =

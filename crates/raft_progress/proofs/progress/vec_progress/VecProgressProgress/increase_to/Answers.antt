@@ -2,7 +2,7 @@ use Rattle.std.proofs.Common.{refl, rules}
 use Rattle.raft_progress.specs.progress.Updated.{IsGreaterOf}
 use Rattle.raft_progress.specs.progress.VecProgress.{shown}
 use Rattle.raft_progress.proofs.FoldLemmas.{updated_weaker}
-use Rattle.raft_progress.proofs.progress.vec_progress.VecProgress.increase_to.Goals as goal
+use Rattle.raft_progress.proofs.progress.vec_progress.VecProgressProgress.increase_to.Goals as goal
 
 pub returns : goal.returns
 returns g c =
