@@ -172,14 +172,12 @@ pub(crate) fn write<
         (shown progress.old) id.now value result (shown progress.new) }
     ensures ordered { IsInOrder ID.eq P.cmp V.part_of QS.has_quorum (shown progress.new) }
 {
-    let found = progress.index(id);
-    if would_fall(progress.value_at(found), &value) {
+    if progress.would_fall(id, &value) {
         return Reply::WouldFall;
     }
-    if progress.apply_at(found, |current| *current = value) {
-        Reply::Granted(*progress.granted())
-    } else {
-        Reply::Unknown(*progress.granted())
+    match progress.update(id, value) {
+        Ok(granted) => Reply::Granted(*granted),
+        Err(granted) => Reply::Unknown(*granted),
     }
 }
 
@@ -195,20 +193,13 @@ pub(crate) fn increase<
         (shown progress.old) id.now value result (shown progress.new) }
     ensures ordered { IsInOrder ID.eq P.cmp V.part_of QS.has_quorum (shown progress.new) }
 {
-    let found = progress.index(id);
-    let current = progress.value_at(found);
+    let current = progress.try_get(id);
     if !is_not_greater(current, &value) && would_fall(current, &value) {
         return Reply::WouldFall;
     }
-    let known = progress.apply_at(found, |current| {
-        if value > *current {
-            *current = value;
-        }
-    });
-    if known {
-        Reply::Granted(*progress.granted())
-    } else {
-        Reply::Unknown(*progress.granted())
+    match progress.increase_to(id, value) {
+        Ok(granted) => Reply::Granted(*granted),
+        Err(granted) => Reply::Unknown(*granted),
     }
 }
 

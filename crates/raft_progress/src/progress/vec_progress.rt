@@ -243,7 +243,7 @@ impl<
     }
 
     /// The value at the place that a look-up has found.
-    pub(crate) fn value_at(&self, found: Option<usize>) -> Option<&V>
+    fn value_at(&self, found: Option<usize>) -> Option<&V>
         requires { ForSome found (λ place. place < length (shown self.now).walk) }
         ensures { (id : ID) → found ≡ position (λ e. ID.eq id e.0) (shown self.now).walk →
             option_copied result ≡ (state ID.eq (shown self.now)).value id }
@@ -315,7 +315,7 @@ impl<
 
     /// The same for the id whose place a look-up has found.
     #[inline(always)]
-    pub(crate) fn apply_at<F: FnOnce(&mut V)>(&mut self, found: Option<usize>, f: F) -> bool
+    fn apply_at<F: FnOnce(&mut V)>(&mut self, found: Option<usize>, f: F) -> bool
         requires within { ForSome found (λ place. place < length (shown self.old).walk) }
         requires ordered { IsInOrder ID.eq P.cmp V.part_of QS.has_quorum (shown self.old) }
         requires callable { (place : ℕ) (e : ID × V) → found ≡ Some place →
