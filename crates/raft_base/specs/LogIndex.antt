@@ -19,8 +19,8 @@ index_before (Some index) = last_of index
 index_before None = None
 
 -- the index so many places on
-abbrev pub moved_on : Option ℕ → ℕ → Option ℕ
-moved_on index places = last_of (next_index_of index + places)
+abbrev pub index_plus : Option ℕ → ℕ → Option ℕ
+index_plus index places = last_of (next_index_of index + places)
 
 -- one index is at most another; an absent one is below all others
 abbrev pub index_le : Option ℕ → Option ℕ → Bool

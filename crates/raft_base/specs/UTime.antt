@@ -11,5 +11,5 @@ abbrev pub moment_of : {T I : Type 0} → UTime T I → Option I
 moment_of s = s.utime
 
 -- the value with this moment, or with none
-abbrev pub stamped : {T I : Type 0} → T → Option I → UTime T I
-stamped value moment = record { «data» = value; utime = moment }
+abbrev pub utime_of : {T I : Type 0} → T → Option I → UTime T I
+utime_of value moment = record { «data» = value; utime = moment }

@@ -20,12 +20,12 @@ pub struct UTime<T, I: Instant> {
 
 impl<T: Drop, I: Instant> UTime<T, I> {
     ghost use Rattle.std.specs.Borrow.{sem, Lends};
-    ghost use Rattle.raft_base.specs.UTime.{data_of, moment_of, stamped};
+    ghost use Rattle.raft_base.specs.UTime.{data_of, moment_of, utime_of};
     ghost use Rattle.raft_base.specs.contracts.utime.UTime.{the_row};
 
     /// A value that is updated now.
     pub fn new(now: I, value: T) -> Self
-        ensures { result ≡ stamped value (Some now) }
+        ensures { result ≡ utime_of value (Some now) }
     {
         UTime {
             data: value,
@@ -35,7 +35,7 @@ impl<T: Drop, I: Instant> UTime<T, I> {
 
     /// A value that was never updated.
     pub fn without_utime(value: T) -> Self
-        ensures { result ≡ stamped value None }
+        ensures { result ≡ utime_of value None }
     {
         UTime {
             data: value,
@@ -59,7 +59,7 @@ impl<T: Drop, I: Instant> UTime<T, I> {
 
     /// Takes another value, updated now.
     pub fn update(&mut self, now: I, value: T)
-        ensures { self.new ≡ stamped value (Some now) }
+        ensures { self.new ≡ utime_of value (Some now) }
     {
         self.data = value;
         self.utime = Some(now);
@@ -68,7 +68,7 @@ impl<T: Drop, I: Instant> UTime<T, I> {
     /// Marks the value as updated now, which is not before its last update.
     pub fn touch(&mut self, now: I)
         requires { IsTrue (is_ge (option_cmp I.cmp (Some now) (moment_of self.old))) }
-        ensures { self.new ≡ stamped (data_of self.old) (Some now) }
+        ensures { self.new ≡ utime_of (data_of self.old) (Some now) }
     {
         self.utime = Some(now);
     }
@@ -83,7 +83,7 @@ impl<T: Drop, I: Instant> UTime<T, I> {
     /// The value, to be written. Its moment stays.
     pub fn get_mut(&mut self) -> &mut T
         ensures* written { sem 𝓛 (Lends (the_row T.row I.row) T.row self.entry result
-            (λ value. stamped value (moment_of self.old))) }
+            (λ value. utime_of value (moment_of self.old))) }
         ensures value { result.now ≡ data_of self.old }
     {
         &mut self.data

@@ -2,7 +2,7 @@
 ghost use Rattle.std.specs.Prelude.{◌≡◌, Some, if◌then◌else◌};
 ghost use Rattle.std.specs.Ordering.{is_ge};
 ghost use Rattle.std.specs.Option.{option_cmp};
-ghost use Rattle.raft_base.specs.UTime.{data_of, moment_of, stamped};
+ghost use Rattle.raft_base.specs.UTime.{data_of, moment_of, utime_of};
 
 use crate::growths::{is_free, refuse_each};
 use raft_base::{Instant, ServerState, UTime};
@@ -12,7 +12,7 @@ use std::test::Fail;
 /// Marks a value as updated now, unless it was updated later than that.
 fn touch_in_turn<T: Drop, I: Instant>(value: &mut UTime<T, I>, now: I)
     ensures { value.new ≡ (if is_ge (option_cmp I.cmp (Some now) (moment_of value.old))
-        then stamped (data_of value.old) (Some now) else value.old) }
+        then utime_of (data_of value.old) (Some now) else value.old) }
 {
     if Some(now) >= value.utime() {
         value.touch(now);
@@ -22,7 +22,7 @@ fn touch_in_turn<T: Drop, I: Instant>(value: &mut UTime<T, I>, now: I)
 /// Adds one to a count, at the moment that it has.
 fn count_up(count: &mut UTime<u8, u64>)
     requires { data_of count.old ≡ 7 }
-    ensures { count.new ≡ stamped 8 (moment_of count.old) }
+    ensures { count.new ≡ utime_of 8 (moment_of count.old) }
 {
     let value = count.get_mut();
     *value = *value + 1;

@@ -14,14 +14,14 @@ use Rattle.raft_members.specs.Majority.{is_voter_of}
 use Rattle.raft_members.proofs.NextLemmas.{next_shares, next_has_goal, right_true}
 use Rattle.raft_members.proofs.MajorityLemmas.{in_set}
 use Rattle.raft_members.proofs.MeetingLemmas.{voter_there}
-use Rattle.raft_members.proofs.UnionLemmas.{is_member-united}
+use Rattle.raft_members.proofs.UnionLemmas.{is_member-union_of}
 use Rattle.raft_members.proofs.AddedLemmas.{or_none, option_or_alike, option_trans}
 use Rattle.raft_members.proofs.ReachedLemmas.{self_coherent, quorum_reaches}
 use Rattle.raft_members.specs.Reached.{ChangeKeepsReached}
 use Rattle.raft_members.specs.Members.{MemberList, node_at, members_of, Says, Members}
 use Rattle.raft_members.specs.Refusal.{IsRefusal}
 use Rattle.raft_members.specs.Valid.{has_empty_config, FirstWithoutNode, FirstUnknown}
-use Rattle.raft_members.specs.Change.{changed, next_members, with_nodes, united, last_config, keeps_node}
+use Rattle.raft_members.specs.Change.{changed, next_members, with_nodes, union_of, last_config, keeps_node}
 use Rattle.raft_members.specs.declared.change_members.ChangeMembers.{ChangeMembers}
 use Rattle.raft_members.specs.declared.change_members.ChangeMembers.TheVariants.{AddVoterIds, AddVoters, RemoveVoters, ReplaceAllVoters, AddNodes, SetNodes, RemoveNodes, ReplaceAllNodes}
 use Rattle.raft_members.specs.declared.error.ChangeMembershipErrorOf.{ChangeMembershipErrorOf}
@@ -85,16 +85,16 @@ or_true a b = right_true _ _ (right_true _ _ refl)
 
 module _ {K N : Type 0} {eq : K → K → Bool} (laws : IsEquivalence eq) (cmp : K → K → Ordering) (ties : (x y : K) → eq x y ≡ eq_by_cmp cmp x y) {same : N → N → Bool} (alike : IsEquivalence same) (m : Members K N) (more : BTreeMap K N) (retain : Bool) where
   -- whom a change adds is a voter next
-  added_votes : (id : K) → is_some (get cmp more id) ≡ true → is_voter_of eq (next_configs eq m.configs (united cmp (last_config m.configs) (keys more))) id ≡ true
+  added_votes : (id : K) → is_some (get cmp more id) ≡ true → is_voter_of eq (next_configs eq m.configs (union_of cmp (last_config m.configs) (keys more))) id ≡ true
   added_votes id h =
-      let goal = united cmp (last_config m.configs) (keys more) in
+      let goal = union_of cmp (last_config m.configs) (keys more) in
       let named : is_member eq (keys more) id ≡ true = sym (in_set laws cmp ties id (keys more)) ∙ sym (is_some-lookup (is_at (cmp id)) more.entries) ∙ h in
-      voter_there laws (next_configs eq m.configs goal) goal id (next_has_goal (lists_equiv laws) m.configs goal) (is_member-united laws cmp ties id (last_config m.configs) (keys more) named)
+      voter_there laws (next_configs eq m.configs goal) goal id (next_has_goal (lists_equiv laws) m.configs goal) (is_member-union_of laws cmp ties id (last_config m.configs) (keys more) named)
 
   -- a step to voters with nodes, to which those nodes are added, is the change that adds the voters
-  pub more_says : (n r : MemberList K N) → Says same cmp n (next_members eq m (united cmp (last_config m.configs) (keys more)) retain) → r.configs ≡ n.configs → ((id : K) → node_at cmp r.nodes id ≡ option_or (node_at cmp n.nodes id) (get cmp more id)) → Says same cmp r (changed eq cmp m (AddVoters more) retain)
+  pub more_says : (n r : MemberList K N) → Says same cmp n (next_members eq m (union_of cmp (last_config m.configs) (keys more)) retain) → r.configs ≡ n.configs → ((id : K) → node_at cmp r.nodes id ≡ option_or (node_at cmp n.nodes id) (get cmp more id)) → Says same cmp r (changed eq cmp m (AddVoters more) retain)
   more_says n r s c u =
-      let next : List (List K) = next_configs eq m.configs (united cmp (last_config m.configs) (keys more)) in
+      let next : List (List K) = next_configs eq m.configs (union_of cmp (last_config m.configs) (keys more)) in
       (c ∙ s.0, λ id. rw (u id) (more_by alike (node_at cmp n.nodes id) (m.node id) (get cmp more id) (keeps_node eq m.configs next retain id) (λ h. ap (λ v. retain || (not (is_voter_of eq m.configs id) || v)) (added_votes id h) ∙ or_true retain (not (is_voter_of eq m.configs id))) (s.1 id)))
 
 -- the same configs with nodes that equal the given ones

@@ -6,7 +6,7 @@ use Rattle.std.specs.declared.cmp.Ordering.TheVariants.{Less, Equal, Greater}
 use Rattle.std.specs.Cmp.{IsEquivalence}
 use Rattle.std.specs.Ordering.{eq_by_cmp, is_eq, match_ordering}
 use Rattle.std.specs.Set.{is_member, merge_step}
-use Rattle.raft_members.specs.Change.{united}
+use Rattle.raft_members.specs.Change.{union_of}
 use Rattle.raft_members.proofs.NextLemmas.{left_true, right_true, equal_right}
 
 module _ {K : Type 0} {eq : K → K → Bool} (laws : IsEquivalence eq) (cmp : K → K → Ordering) (ties : (x y : K) → eq x y ≡ eq_by_cmp cmp x y) (q x : K) (xs : List K) (on : List K → List K) (has : (ys : List K) → is_member eq ys q ≡ true → is_member eq (on ys) q ≡ true) where
@@ -28,6 +28,6 @@ module _ {K : Type 0} {eq : K → K → Bool} (laws : IsEquivalence eq) (cmp : K
   step_has (y ∷ ys) m = step_by y ys (cmp x y) (λ i. cmp x y) (step_has ys) m
 
 -- a union has the members of its second list
-pub is_member-united : {K : Type 0} {eq : K → K → Bool} (laws : IsEquivalence eq) (cmp : K → K → Ordering) (ties : (x y : K) → eq x y ≡ eq_by_cmp cmp x y) (q : K) (xs ys : List K) → is_member eq ys q ≡ true → is_member eq (united cmp xs ys) q ≡ true
-is_member-united laws cmp ties q [] ys m = m
-is_member-united laws cmp ties q (x ∷ xs) ys m = step_has laws cmp ties q x xs (united cmp xs) (λ zs n. is_member-united laws cmp ties q xs zs n) ys m
+pub is_member-union_of : {K : Type 0} {eq : K → K → Bool} (laws : IsEquivalence eq) (cmp : K → K → Ordering) (ties : (x y : K) → eq x y ≡ eq_by_cmp cmp x y) (q : K) (xs ys : List K) → is_member eq ys q ≡ true → is_member eq (union_of cmp xs ys) q ≡ true
+is_member-union_of laws cmp ties q [] ys m = m
+is_member-union_of laws cmp ties q (x ∷ xs) ys m = step_has laws cmp ties q x xs (union_of cmp xs) (λ zs n. is_member-union_of laws cmp ties q xs zs n) ys m

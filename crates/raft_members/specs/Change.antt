@@ -18,8 +18,8 @@ abbrev pub last_config : {K : Type 0} → List (List K) → List K
 last_config configs = unwrap_or (slice_get configs (length configs - 1)) []
 
 -- the ids of either list, both in order
-abbrev pub united : {K : Type 0} → (K → K → Ordering) → List K → List K → List K
-united cmp xs ys = sorted_merge cmp true xs ys
+abbrev pub union_of : {K : Type 0} → (K → K → Ordering) → List K → List K → List K
+union_of cmp xs ys = sorted_merge cmp true xs ys
 
 -- the ids of the first list that the second lacks
 abbrev pub without : {K : Type 0} → (K → K → Bool) → List K → List K → List K
@@ -47,10 +47,10 @@ with_nodes m node = record { configs = m.configs; node = node }
 abbrev pub changed : {K N : Type 0} → (K → K → Bool) → (K → K → Ordering) → Members K N
     → ChangeMembers K N → Bool → Members K N
 changed eq cmp m (AddVoterIds ids) retain =
-    next_members eq m (united cmp (last_config m.configs) ids.keys) retain
+    next_members eq m (union_of cmp (last_config m.configs) ids.keys) retain
 changed eq cmp m (AddVoters nodes) retain =
     next_members eq (with_nodes m (λ id. option_or (m.node id) (get cmp nodes id)))
-    (united cmp (last_config m.configs) (keys nodes)) retain
+    (union_of cmp (last_config m.configs) (keys nodes)) retain
 changed eq cmp m (RemoveVoters ids) retain =
     next_members eq m (without eq (last_config m.configs) ids.keys) retain
 changed eq cmp m (ReplaceAllVoters ids) retain = next_members eq m ids.keys retain

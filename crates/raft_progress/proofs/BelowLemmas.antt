@@ -8,8 +8,8 @@ use Rattle.std.specs.Map.{lookup}
 use Rattle.std.specs.Set.{is_member}
 use Rattle.std.specs.List.{AllByRecursion}
 use Rattle.std.proofs.Common.{sym, ap, refl, ◌∙◌, true≢false}
-use Rattle.raft_progress.specs.progress.Upgrade.{CanUpgrade, IsBelow, IsLeastBelow}
-use Rattle.raft_progress.specs.Inner.Tests.{IsLeastPassing, among, comes_before, is_value_below}
+use Rattle.raft_progress.specs.progress.Upgrade.{CanUpgrade, InheritsBelow, IsLeastBelow}
+use Rattle.raft_progress.specs.Inner.Conditions.{IsLeastPassing, among, comes_before, is_value_below}
 use Rattle.raft_progress.proofs.FallingLemmas.{all_both}
 use Rattle.raft_progress.proofs.RecountLemmas.{AtMost-refl, AtMost-trans, AtMost-from_lt, AtMost-from_not_lt}
 use Rattle.raft_progress.proofs.CountedValueLemmas.{not_both}
@@ -85,7 +85,7 @@ module _ {ID V P : Type 0} {eq : ID → ID → Bool} (laws : IsEquivalence eq) (
       only true b h k = k
       only false b h k = absurd (true≢false (sym h))
 
-  value_there : (x : ID) (w : Option V) → lookup (eq x) walk ≡ w → test x ≡ true → IsBelow eq cmp part is_voter learners default (λ x. lookup (eq x) walk) x
+  value_there : (x : ID) (w : Option V) → lookup (eq x) walk ≡ w → test x ≡ true → InheritsBelow eq cmp part is_voter learners default (λ x. lookup (eq x) walk) x
   value_there x None e h = absurd (true≢false (sym (second_so (among eq voters learners x) _ h) ∙ ap (is_value_below cmp part (part default)) e))
   value_there x (Some v) e h =
       let t : (is_inherited x && is_lt (cmp (part v) (part default))) ≡ true = sym (is_value x v e) ∙ h in
@@ -93,7 +93,7 @@ module _ {ID V P : Type 0} {eq : ID → ID → Bool} (laws : IsEquivalence eq) (
 
   pub least_is_below : (id : ID) → IsLeastPassing id_cmp test walk (Some id) → IsLeastBelow eq id_cmp cmp part is_voter learners default (λ x. lookup (eq x) walk) id
   least_is_below id a = record {
-    is_below = value_there id (lookup (eq id) walk) refl a.0;
+    inherits_below = value_there id (lookup (eq id) walk) refl a.0;
     least = λ x b.
         let k = entry_of {R = λ y. test y ≡ true → is_le (id_cmp id y) ≡ true} walk x b.value b.present a.1 in
         let passes : test x ≡ true = is_value x b.value b.present ∙ both _ _ b.inherited b.below in
@@ -110,4 +110,4 @@ module _ {ID V P : Type 0} {eq : ID → ID → Bool} (laws : IsEquivalence eq) (
 
 -- a value below the default stands in the way
 pub below_refuses : {ID V P : Type 0} (eq : ID → ID → Bool) (id_cmp : ID → ID → Ordering) {cmp : P → P → Ordering} (o : IsTotalOrder cmp) (part : V → P) (is_voter : ID → Bool) (learners : List ID) (default : V) (old : ID → Option V) (id : ID) → IsLeastBelow eq id_cmp cmp part is_voter learners default old id → CanUpgrade eq cmp part is_voter learners default old → ⊥
-below_refuses eq id_cmp o part is_voter learners default old id b can = not_both o (part b.is_below.value) (part default) b.is_below.below (can id b.is_below.value b.is_below.present b.is_below.inherited)
+below_refuses eq id_cmp o part is_voter learners default old id b can = not_both o (part b.inherits_below.value) (part default) b.inherits_below.below (can id b.inherits_below.value b.inherits_below.present b.inherits_below.inherited)

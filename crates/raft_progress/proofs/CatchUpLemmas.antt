@@ -17,13 +17,13 @@ use Rattle.raft_base.proofs.LoggedLemmas.{prev_at, prev_rises}
 use Rattle.raft_base.specs.declared.log_id.LogIdOf.{LogIdOf}
 use Rattle.raft_base.specs.declared.log_id.log_id_range.LogIdRangeOf.{LogIdRangeOf}
 use Rattle.raft_members.proofs.AddedLemmas.{is_equal}
-use Rattle.raft_progress.specs.catch_up.CatchUp.{CaughtUp, can_agree, can_catch_up, has_request_ids, match_fits}
-use Rattle.raft_progress.specs.catch_up.HonestRun.{HonestRun, HonestRunEnds, TurnsLeadTo, new_run, replied, replied_to_logs, turn}
-use Rattle.raft_progress.specs.entry.EntryTable.{matched}
-use Rattle.raft_progress.specs.entry.Send.{IsSent, can_be_sent, end_of, sent, start_of}
+use Rattle.raft_progress.specs.catch_up.CatchUp.{MatchesAll, can_agree, can_catch_up, has_request_ids, match_fits}
+use Rattle.raft_progress.specs.catch_up.HonestRun.{HonestRun, HonestRunEnds, TurnsLeadTo, new_run, run_after_reply, run_after_logs, turn}
+use Rattle.raft_progress.specs.entry.EntryTable.{entry_after_ack}
+use Rattle.raft_progress.specs.entry.Send.{IsSent, can_be_sent, end_of, send_table, start_of}
 use Rattle.raft_progress.specs.inflight.Inflight.{is_idle}
 use Rattle.raft_progress.specs.inflight.InflightTable.{FollowsTable}
-use Rattle.raft_progress.specs.Inner.Turns.{Ready}
+use Rattle.raft_progress.specs.Inner.Turns.{IsBetweenTurns}
 use Rattle.raft_progress.specs.search.Search.{after_reply}
 use Rattle.raft_progress.specs.declared.entry.ProgressEntryOf.{ProgressEntryOf}
 use Rattle.raft_progress.specs.declared.inflight.InflightError.{InflightError}
@@ -84,7 +84,7 @@ module _ {C : Type 0} (eq : C → C → Bool) (cmp : C → C → Ordering) where
 
   -- what the test says
   pub ready_from : (log : LogView C) (n : ℕ) (entry : ProgressEntryOf C) (agree : ℕ) → can_catch_up eq cmp log entry agree n ≡ true
-      → Ready eq cmp log n entry agree × (entry.curr_inflight_id + 64 + next_index log.last + 1 < 2 ^ 64)
+      → IsBetweenTurns eq cmp log n entry agree × (entry.curr_inflight_id + 64 + next_index log.last + 1 < 2 ^ 64)
   ready_from log n entry agree can =
       let p = both (is_idle entry.inflight && can_be_sent entry log && nat_le 1 n && can_agree (next_index entry.matching) entry.searching_end (next_index log.purge_upto) agree && has_request_ids entry.curr_inflight_id (next_index log.last)) (match_fits eq cmp log entry) can in
       let q = five (is_idle entry.inflight) (can_be_sent entry log) (nat_le 1 n) (can_agree (next_index entry.matching) entry.searching_end (next_index log.purge_upto) agree) (has_request_ids entry.curr_inflight_id (next_index log.last)) p.0 in
@@ -105,7 +105,7 @@ module _ {C : Type 0} (eq : C → C → Bool) (cmp : C → C → Ordering) where
 
 -- from a start to here: a run, with so many conflicts and acks
 pub record Along {C : Type 0} (eq : C → C → Bool) (cmp : C → C → Ordering) (log : LogView C) (n : ℕ) (entry0 : ProgressEntryOf C) (agree0 : ℕ) (entry : ProgressEntryOf C) (agree conflicts acks : ℕ) : Type 0 where
-  pub ready : Ready eq cmp log n entry agree
+  pub ready : IsBetweenTurns eq cmp log n entry agree
   pub runs : (turns : ℕ) (end : HonestRun C) → TurnsLeadTo cmp log n turns (record { entry = entry; agree = agree; conflicts = conflicts; acks = acks }) end → (t : ℕ) × TurnsLeadTo cmp log n t (new_run entry0 agree0) end
   pub near : (k : ℕ) → Near k (entry0.searching_end - next_index entry0.matching) → (b : ℕ) × (conflicts + b ≡ k) × Near b (entry.searching_end - next_index entry.matching)
   pub part : next_index entry.matching < next_index log.last → acks * n ≤ next_index entry.matching - next_index entry0.matching
@@ -130,29 +130,29 @@ kept_after (Ok s) old (Err e) new h = absurd h
 kept_after (Err e) old (Ok u) new h = absurd h
 kept_after (Err e) old (Err f) new h = sym h.1
 
-pub acks_logs : {C U : Type 0} (cmp : C → C → Ordering) (old entry new : ProgressEntryOf C) (agree after c k id : ℕ) (range : LogIdRangeOf C) (result : Result U InflightError) → (if nat_lt agree (next_index range.prev) then Some (next_index range.prev - 1) else None) ≡ None → FollowsTable (matched cmp entry id range.last) entry result new → after ≡ max agree (next_index range.last)
-    → replied_to_logs cmp (record { entry = old; agree = agree; conflicts = c; acks = k }) entry id range ≡ record { entry = new; agree = after; conflicts = c; acks = k + 1 }
+pub acks_logs : {C U : Type 0} (cmp : C → C → Ordering) (old entry new : ProgressEntryOf C) (agree after c k id : ℕ) (range : LogIdRangeOf C) (result : Result U InflightError) → (if nat_lt agree (next_index range.prev) then Some (next_index range.prev - 1) else None) ≡ None → FollowsTable (entry_after_ack cmp entry id range.last) entry result new → after ≡ max agree (next_index range.last)
+    → run_after_logs cmp (record { entry = old; agree = agree; conflicts = c; acks = k }) entry id range ≡ record { entry = new; agree = after; conflicts = c; acks = k + 1 }
 acks_logs cmp old entry new agree after c k id range result none answer is =
-    rw (none_if (nat_lt agree (next_index range.prev)) (next_index range.prev - 1) none, kept_after (matched cmp entry id range.last) entry result new answer, is) refl
+    rw (none_if (nat_lt agree (next_index range.prev)) (next_index range.prev - 1) none, kept_after (entry_after_ack cmp entry id range.last) entry result new answer, is) refl
 
-pub turn_logs : {C : Type 0} (cmp : C → C → Ordering) (log : LogView C) (n : ℕ) (entry sending new : ProgressEntryOf C) (agree after c k d l id : ℕ) (range : LogIdRangeOf C) → sent cmp entry log n ≡ Ok sending → sending.inflight ≡ Logs id range
-    → replied_to_logs cmp (record { entry = entry; agree = agree; conflicts = c; acks = k }) sending id range ≡ record { entry = new; agree = after; conflicts = d; acks = l }
+pub turn_logs : {C : Type 0} (cmp : C → C → Ordering) (log : LogView C) (n : ℕ) (entry sending new : ProgressEntryOf C) (agree after c k d l id : ℕ) (range : LogIdRangeOf C) → send_table cmp entry log n ≡ Ok sending → sending.inflight ≡ Logs id range
+    → run_after_logs cmp (record { entry = entry; agree = agree; conflicts = c; acks = k }) sending id range ≡ record { entry = new; agree = after; conflicts = d; acks = l }
     → turn cmp log n (record { entry = entry; agree = agree; conflicts = c; acks = k }) ≡ Some (record { entry = new; agree = after; conflicts = d; acks = l })
-turn_logs cmp log n entry sending new agree after c k d l id range ok logs reply = rw ok (ap Some (ap (λ (f : InflightOf _). replied cmp (record { entry = entry; agree = agree; conflicts = c; acks = k }) sending f) logs ∙ reply))
+turn_logs cmp log n entry sending new agree after c k d l id range ok logs reply = rw ok (ap Some (ap (λ (f : InflightOf _). run_after_reply cmp (record { entry = entry; agree = agree; conflicts = c; acks = k }) sending f) logs ∙ reply))
 
 -- how far a run still is from its end
 abbrev pub to_go : {C : Type 0} → LogView C → ProgressEntryOf C → ℕ
 to_go log entry = measure (next_index entry.matching) entry.searching_end (next_index log.last)
 
 module _ {C : Type 0} (eq : C → C → Bool) (cmp : C → C → Ordering) (total : IsTotalOrder cmp) (reflexive : (x : C) → eq x x ≡ true) (log : LogView C) (logged : Logged cmp log) (n : ℕ) where
-  stands : (entry : ProgressEntryOf C) (agree : ℕ) → Ready eq cmp log n entry agree → Stands (next_index entry.matching) entry.searching_end (next_index log.last) (next_index log.purge_upto) agree
+  stands : (entry : ProgressEntryOf C) (agree : ℕ) → IsBetweenTurns eq cmp log n entry agree → Stands (next_index entry.matching) entry.searching_end (next_index log.last) (next_index log.purge_upto) agree
   stands entry agree ready = record { matched = ready.matched; agreed = ready.agreed; logged = ready.logged; kept = ready.kept }
 
   module _ (entry0 : ProgressEntryOf C) (agree0 : ℕ) where
     abbrev pub Here : ProgressEntryOf C → ℕ → ℕ → ℕ → Type 0
     Here entry agree conflicts acks = Along eq cmp log n entry0 agree0 entry agree conflicts acks
 
-    pub begins : Ready eq cmp log n entry0 agree0 → Here entry0 agree0 0 0
+    pub begins : IsBetweenTurns eq cmp log n entry0 agree0 → Here entry0 agree0 0 0
     begins ready = record { ready = ready; runs = λ turns end r. (turns, r); near = λ k h. (k, omega arith, h); part = λ lt. omega arith; all = (let s = ready.some in omega arith); first = omega arith; ids = omega arith; many = omega arith }
 
     refuse : (entry : ProgressEntryOf C) (agree c k : ℕ) → Here entry agree c k → Sends eq cmp total reflexive log logged n entry → agree < start_of entry log → Here (Refused log entry) agree (c + 1) k × (to_go log (Refused log entry) < to_go log entry)
@@ -232,7 +232,7 @@ module _ {C : Type 0} (eq : C → C → Bool) (cmp : C → C → Ordering) (tota
     ]
 
     -- an id is left for each turn
-    pub id_left : (entry : ProgressEntryOf C) (agree c k : ℕ) → Here entry agree c k → Ready eq cmp log n entry0 agree0 → entry0.curr_inflight_id + 64 + next_index log.last + 1 < 2 ^ 64 → (c ≤ 64) × (k ≤ next_index log.last) × (entry.curr_inflight_id + 1 < 2 ^ 64)
+    pub id_left : (entry : ProgressEntryOf C) (agree c k : ℕ) → Here entry agree c k → IsBetweenTurns eq cmp log n entry0 agree0 → entry0.curr_inflight_id + 64 + next_index log.last + 1 < 2 ^ 64 → (c ≤ 64) × (k ≤ next_index log.last) × (entry.curr_inflight_id + 1 < 2 ^ 64)
     id_left entry agree c k here ready0 left =
         let r3 = ready0.logged in let f = ready0.fits in
         let b = here.near 64 (omega arith) in
@@ -259,7 +259,7 @@ module _ {C : Type 0} (eq : C → C → Bool) (cmp : C → C → Ordering) (tota
       let s : option_cmp (log_id_cmp cmp) b a ≡ option_cmp (log_id_cmp cmp) l a = t.congr b l a (is_equal (option_cmp (log_id_cmp cmp) b l) (tied b l k)) in
       rw (t.antisymm a b, s, ← t.antisymm a l) h
 
-  pub not_lowered : (log : LogView C) (n : ℕ) (entry new : ProgressEntryOf C) (agree : ℕ) → Logged cmp log → Ready eq cmp log n entry agree → CaughtUp eq log new → id_le cmp entry.matching new.matching ≡ true
+  pub not_lowered : (log : LogView C) (n : ℕ) (entry new : ProgressEntryOf C) (agree : ℕ) → Logged cmp log → IsBetweenTurns eq cmp log n entry agree → MatchesAll eq log new → id_le cmp entry.matching new.matching ≡ true
   not_lowered log n entry new agree logged ready caught =
       le_same entry.matching log.last new.matching (elim ready.left [
         | inl same ↦ le_of_eq (option_cmp (log_id_cmp cmp) entry.matching log.last) (tied entry.matching log.last same)

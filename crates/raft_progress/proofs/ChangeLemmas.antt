@@ -9,22 +9,22 @@ use Rattle.raft_members.specs.declared.change_members.ChangeMembers.{ChangeMembe
 use Rattle.raft_progress.specs.Inner.UpgradedTo.{UpgradesTo}
 use Rattle.raft_progress.specs.progress.ProgressState.{ProgressState}
 use Rattle.raft_progress.specs.tracked.TrackedState.{Configs, TrackedState}
-use Rattle.raft_progress.specs.tracked.TrackedSteps.{GoesOver, IsChanged, IsSamePair}
+use Rattle.raft_progress.specs.tracked.TrackedSteps.{GoesOver, IsChanged, IsSameTracked}
 use Rattle.raft_progress.specs.declared.progress.steps.Reply.{Reply}
 use Rattle.raft_progress.specs.declared.progress.steps.Reply.TheVariants.{Granted, BelowDefault}
 use Rattle.raft_progress.proofs.TrackedLemmas.{says_configs, says_learners}
 use Rattle.raft_progress.proofs.UpdateLemmas.{IsSame-refl}
 
 -- a membership and its progress are the same as themselves
-pub IsSamePair-refl : {K N V P : Type 0} (t : TrackedState K N V P) → IsSamePair t t
-IsSamePair-refl t = record { membership = refl; progress = IsSame-refl t.progress }
+pub IsSameTracked-refl : {K N V P : Type 0} (t : TrackedState K N V P) → IsSameTracked t t
+IsSameTracked-refl t = record { membership = refl; progress = IsSame-refl t.progress }
 
 module _ {K N V P : Type 0} (eq : K → K → Bool) (id_cmp : K → K → Ordering) (same : N → N → Bool) (cmp : P → P → Ordering) (part : V → P) (IsClone : V → V → Type 0) where
   -- going over to what says the same
   goes_over : (old new : ProgressState K V P (Configs K)) (list : MemberList K N) (w : Members K N) → Says same id_cmp list w → (default : V) (reply : Reply K P) → GoesOver eq id_cmp cmp part IsClone old (members_of id_cmp list) default reply new → GoesOver eq id_cmp cmp part IsClone old w default reply new
   goes_over old new list w says default reply g = (g.0, g.1, says_configs eq id_cmp same list w says g.0 g.2, says_learners eq id_cmp same list w says g.1 g.3, g.4)
 
-  -- an accepted change: the pair goes over to the changed membership
+  -- an accepted change: both go over to the changed membership
   pub changed_step : (old : TrackedState K N V P) (change : ChangeMembers K N) (retain : Bool) (default : V) (next : MemberList K N) (new : TrackedState K N V P) → IsValid eq (changed eq id_cmp (members_of id_cmp old.membership) change retain) → Says same id_cmp next (changed eq id_cmp (members_of id_cmp old.membership) change retain) → (reply : Reply K P) → UpgradesTo eq id_cmp cmp part IsClone old next default reply new → IsChanged eq id_cmp same cmp part IsClone old change retain default reply new
   changed_step old change retain default next new valid says (Granted p) t =
       let w = changed eq id_cmp (members_of id_cmp old.membership) change retain in

@@ -12,7 +12,7 @@ use Rattle.std.proofs.lemmas.Option.{slice_get-get_or}
 use Rattle.std.proofs.lemmas.Map.Entries.{lookup_from_place}
 use Rattle.std.proofs.lemmas.List.Elements.{All-contains, All-take, All-from_recursion, recursion_from_All}
 use Rattle.raft_progress.specs.progress.CountedValue.{AtMost, IsCounted, has_part, reached}
-use Rattle.raft_progress.specs.Inner.Counts.{IsGreatest, at_least, reaches}
+use Rattle.raft_progress.specs.Inner.Recount.{IsGreatest, at_least, reaches}
 use Rattle.raft_progress.specs.progress.Walk.{state_of}
 use Rattle.raft_progress.proofs.ListLemmas.{all_weaker, or_right}
 

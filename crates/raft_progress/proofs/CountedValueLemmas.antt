@@ -12,7 +12,7 @@ use Rattle.std.proofs.lemmas.Cmp.{tied_itself, alike_right}
 use Rattle.std.proofs.lemmas.List.Elements.{All-take, recursion_from_All}
 use Rattle.std.proofs.lemmas.List.Sums.{prefix_len_passes, prefix_len-le-length}
 use Rattle.raft_progress.specs.progress.CountedValue.{AtMost, IsCounted, IsReached, has_part, reached}
-use Rattle.raft_progress.specs.Inner.Counts.{at_least, exceeds, front_test, reaches}
+use Rattle.raft_progress.specs.Inner.Recount.{at_least, exceeds, front_test, reaches}
 use Rattle.raft_progress.specs.progress.ProgressState.{ProgressState}
 use Rattle.raft_progress.specs.progress.Walk.{IsFalling, state_of}
 use Rattle.raft_progress.proofs.RecountLemmas.{AtMost-refl, AtMost-trans, AtMost-from_lt, AtMost-from_not_lt}

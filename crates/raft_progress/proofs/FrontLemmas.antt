@@ -6,7 +6,7 @@ use Rattle.std.specs.Map.{keys_of}
 use Rattle.std.specs.Set.{is_member}
 use Rattle.std.proofs.Common.{arith, ap, sym, refl, ◌∙◌, subst, true≢false, suc, zero}
 use Rattle.std.proofs.Math.Nat.{two-pow-succ}
-use Rattle.raft_progress.specs.Inner.Counts.{front_test}
+use Rattle.raft_progress.specs.Inner.Recount.{front_test}
 use Rattle.raft_progress.specs.Inner.Rises.{IsLeastFront}
 use Rattle.raft_progress.proofs.UpdateLemmas.{IsDistinct-voters}
 

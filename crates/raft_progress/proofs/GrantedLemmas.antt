@@ -52,14 +52,14 @@ module _ {ID V P QS : Type 0} (by : Comparisons ID V P) (o : IsTotalOrder by.cmp
   run_not_lower = run_keeps (IsShownStep by has_quorum is_voter) NotLower (λ s. AtMost-refl o s.granted) (λ a b c h k. AtMost-trans o a.granted b.granted c.granted h k) is_upgrade step_not_lower
 
 module _ {K N V P : Type 0} (by : Comparisons K V P) (o : IsTotalOrder by.cmp) (same : N → N → Bool) where
-  abbrev PairNotLower : TrackedShown K N V P → TrackedShown K N V P → Type 0
-  PairNotLower old new = AtMost by.cmp old.progress.granted new.progress.granted
+  abbrev TrackedNotLower : TrackedShown K N V P → TrackedShown K N V P → Type 0
+  TrackedNotLower old new = AtMost by.cmp old.progress.granted new.progress.granted
 
-  pair_step_not_lower : (old : TrackedShown K N V P) (step : Step K N V) (reply : Reply K P) (new : TrackedShown K N V P) → is_change step ≡ false → IsTrackedShownStep by same old step reply new → PairNotLower old new
+  pair_step_not_lower : (old : TrackedShown K N V P) (step : Step K N V) (reply : Reply K P) (new : TrackedShown K N V P) → is_change step ≡ false → IsTrackedShownStep by same old step reply new → TrackedNotLower old new
   pair_step_not_lower old (step_of.Update id value) reply new h s = answered_keeps o (λ t. t.progress.granted) _ old reply new s.answered (λ u. u.1.not_lower)
   pair_step_not_lower old (step_of.IncreaseTo id value) reply new h s = answered_keeps o (λ t. t.progress.granted) _ old reply new s.answered (λ u. u.1.not_lower)
   pair_step_not_lower old (step_of.Change change retain default) reply new h s = absurd (true≢false h)
 
   -- granted is at least what it was, where no step is a change
-  pub pair_run_not_lower : (old : TrackedShown K N V P) (steps : List (Step K N V)) (replies : List (Reply K P)) (new : TrackedShown K N V P) → IsTrackedShownRun by same old steps replies new → list_any is_change steps ≡ false → PairNotLower old new
-  pair_run_not_lower = run_keeps (IsTrackedShownStep by same) PairNotLower (λ t. AtMost-refl o t.progress.granted) (λ a b c h k. AtMost-trans o a.progress.granted b.progress.granted c.progress.granted h k) is_change pair_step_not_lower
+  pub tracked_run_not_lower : (old : TrackedShown K N V P) (steps : List (Step K N V)) (replies : List (Reply K P)) (new : TrackedShown K N V P) → IsTrackedShownRun by same old steps replies new → list_any is_change steps ≡ false → TrackedNotLower old new
+  tracked_run_not_lower = run_keeps (IsTrackedShownStep by same) TrackedNotLower (λ t. AtMost-refl o t.progress.granted) (λ a b c h k. AtMost-trans o a.progress.granted b.progress.granted c.progress.granted h k) is_change pair_step_not_lower

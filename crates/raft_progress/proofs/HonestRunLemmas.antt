@@ -15,13 +15,13 @@ use Rattle.raft_base.specs.Logged.{Logged}
 use Rattle.raft_base.proofs.LoggedLemmas.{prev_at, prev_rises}
 use Rattle.raft_base.specs.declared.log_id.LogIdOf.{LogIdOf}
 use Rattle.raft_base.specs.declared.log_id.log_id_range.LogIdRangeOf.{LogIdRangeOf}
-use Rattle.raft_progress.specs.catch_up.CatchUp.{CaughtUp}
+use Rattle.raft_progress.specs.catch_up.CatchUp.{MatchesAll}
 use Rattle.raft_progress.specs.catch_up.HonestRun.{turn}
-use Rattle.raft_progress.specs.entry.EntryTable.{conflicting, matched}
-use Rattle.raft_progress.specs.entry.Send.{end_of, sent, start_of}
+use Rattle.raft_progress.specs.entry.EntryTable.{entry_after_conflict, entry_after_ack}
+use Rattle.raft_progress.specs.entry.Send.{end_of, send_table, start_of}
 use Rattle.raft_progress.specs.inflight.Inflight.{is_idle}
 use Rattle.raft_base.specs.LogIndex.{index_le}
-use Rattle.raft_progress.specs.Inner.Turns.{Ready}
+use Rattle.raft_progress.specs.Inner.Turns.{IsBetweenTurns}
 use Rattle.raft_progress.specs.declared.entry.ProgressEntryOf.{ProgressEntryOf}
 use Rattle.raft_progress.specs.declared.inflight.InflightOf.TheVariants.{None as Idle, Logs}
 
@@ -121,7 +121,7 @@ module _ {C : Type 0} (eq : C → C → Bool) (cmp : C → C → Ordering) (tota
       sending entry = record entry { curr_inflight_id = entry.curr_inflight_id + 1; inflight = Logs (entry.curr_inflight_id + 1) (record { prev = prev_id log.id_at (start_of entry log); last = prev_id log.id_at (end_of entry log n) }) }
 
       -- where nothing is in flight and logs are sent, they are the ids from start to end
-      pub sent_logs : (entry : ProgressEntryOf C) → is_idle entry.inflight ≡ true → next_index log.purge_upto ≤ entry.searching_end → start_of entry log < end_of entry log n → sent cmp entry log n ≡ Ok (sending entry)
+      pub sent_logs : (entry : ProgressEntryOf C) → is_idle entry.inflight ≡ true → next_index log.purge_upto ≤ entry.searching_end → start_of entry log < end_of entry log n → send_table cmp entry log n ≡ Ok (sending entry)
       sent_logs entry idle long lt =
           let t : nat_lt entry.searching_end (next_index log.purge_upto) ≡ false = grind (arith, nat_tests) in
           let u : (start_of entry log == end_of entry log n) ≡ false = grind (arith, nat_tests) in
@@ -129,8 +129,8 @@ module _ {C : Type 0} (eq : C → C → Bool) (cmp : C → C → Ordering) (tota
           rw (idle, t, u, v) refl
 
       -- a follower that doesn't agree before the start
-      pub refused_turn : (entry : ProgressEntryOf C) (agree : ℕ) → Ready eq cmp log n entry agree → start_of entry log < end_of entry log n → agree < start_of entry log
-          → conflicting (sending entry) (Some (entry.curr_inflight_id + 1)) (start_of entry log - 1) ≡ Ok (record entry { curr_inflight_id = entry.curr_inflight_id + 1; inflight = Idle; searching_end = start_of entry log - 1 })
+      pub refused_turn : (entry : ProgressEntryOf C) (agree : ℕ) → IsBetweenTurns eq cmp log n entry agree → start_of entry log < end_of entry log n → agree < start_of entry log
+          → entry_after_conflict (sending entry) (Some (entry.curr_inflight_id + 1)) (start_of entry log - 1) ≡ Ok (record entry { curr_inflight_id = entry.curr_inflight_id + 1; inflight = Idle; searching_end = start_of entry log - 1 })
       refused_turn entry agree ready lt past =
           let r1 = ready.matched in let r2 = ready.agreed in let r3 = ready.logged in let r4 = ready.kept in
           let id = entry.curr_inflight_id + 1 in
@@ -142,8 +142,8 @@ module _ {C : Type 0} (eq : C → C → Bool) (cmp : C → C → Ordering) (tota
           let w : nat_lt (start_of entry log - 1) (next_index entry.matching) ≡ false = lt_false (start_of entry log - 1) (next_index entry.matching) (omega arith) in
           rw (t, u, v, w) refl
 
-      pub acked_turn : (entry : ProgressEntryOf C) (agree : ℕ) → Ready eq cmp log n entry agree → start_of entry log < end_of entry log n → start_of entry log ≤ agree
-          → matched cmp (sending entry) (entry.curr_inflight_id + 1) (prev_id log.id_at (end_of entry log n)) ≡ Ok (record entry { matching = prev_id log.id_at (end_of entry log n); curr_inflight_id = entry.curr_inflight_id + 1; inflight = Idle; searching_end = max entry.searching_end (end_of entry log n) })
+      pub acked_turn : (entry : ProgressEntryOf C) (agree : ℕ) → IsBetweenTurns eq cmp log n entry agree → start_of entry log < end_of entry log n → start_of entry log ≤ agree
+          → entry_after_ack cmp (sending entry) (entry.curr_inflight_id + 1) (prev_id log.id_at (end_of entry log n)) ≡ Ok (record entry { matching = prev_id log.id_at (end_of entry log n); curr_inflight_id = entry.curr_inflight_id + 1; inflight = Idle; searching_end = max entry.searching_end (end_of entry log n) })
       acked_turn entry agree ready lt past =
           let r1 = ready.matched in let r2 = ready.agreed in let r3 = ready.logged in let r4 = ready.kept in
           let id = entry.curr_inflight_id + 1 in
@@ -173,7 +173,7 @@ module _ {C : Type 0} (eq : C → C → Bool) (cmp : C → C → Ordering) (tota
       abbrev pub Sends : ProgressEntryOf C → Type 0
       Sends entry = (start_of entry log < end_of entry log n) × (next_index entry.matching < next_index log.last) × (next_index log.purge_upto < next_index log.last)
 
-      pub at_end : (entry : ProgressEntryOf C) (agree : ℕ) → Ready eq cmp log n entry agree → IsTrue (same_ids eq entry.matching log.last) → (sent cmp entry log n ≡ Err entry) × CaughtUp eq log entry
+      pub at_end : (entry : ProgressEntryOf C) (agree : ℕ) → IsBetweenTurns eq cmp log n entry agree → IsTrue (same_ids eq entry.matching log.last) → (send_table cmp entry log n ≡ Err entry) × MatchesAll eq log entry
       at_end entry agree ready same =
           let r1 = ready.matched in let r2 = ready.agreed in let r3 = ready.logged in let r4 = ready.kept in
           let e = same_next entry.matching log.last same in
@@ -184,13 +184,13 @@ module _ {C : Type 0} (eq : C → C → Bool) (cmp : C → C → Ordering) (tota
           let i = ready.idle in
           (rw (i, t, u, v) refl, record { idle = ready.idle; match_end = e; search_end = omega arith; last = same })
 
-      pub sends : (entry : ProgressEntryOf C) (agree : ℕ) → Ready eq cmp log n entry agree → (IsTrue (same_ids eq entry.matching log.last)) ⊎ Sends entry
+      pub sends : (entry : ProgressEntryOf C) (agree : ℕ) → IsBetweenTurns eq cmp log n entry agree → (IsTrue (same_ids eq entry.matching log.last)) ⊎ Sends entry
       sends entry agree ready = elim ready.left [
         | inl same ↦ inl same
         | inr more ↦ (let r0 = ready.some in let r1 = ready.matched in let r2 = ready.agreed in let r3 = ready.logged in let r4 = ready.kept in let m0 = more.0 in let m1 = more.1 in inr (omega arith, m0, m1))
       ]
 
-      pub turn_refused : (entry : ProgressEntryOf C) (agree c k : ℕ) → Ready eq cmp log n entry agree → Sends entry → agree < start_of entry log
+      pub turn_refused : (entry : ProgressEntryOf C) (agree c k : ℕ) → IsBetweenTurns eq cmp log n entry agree → Sends entry → agree < start_of entry log
           → turn cmp log n (record { entry = entry; agree = agree; conflicts = c; acks = k }) ≡ Some (record { entry = record entry { curr_inflight_id = entry.curr_inflight_id + 1; inflight = Idle; searching_end = start_of entry log - 1 }; agree = agree; conflicts = c + 1; acks = k })
       turn_refused entry agree c k ready lt past =
           let r1 = ready.matched in let r2 = ready.agreed in let r3 = ready.logged in let r4 = ready.kept in
@@ -201,7 +201,7 @@ module _ {C : Type 0} (eq : C → C → Bool) (cmp : C → C → Ordering) (tota
           let r = refused_turn entry agree ready lt.0 past in
           rw (sent_is, t, at, r) refl
 
-      pub turn_acked : (entry : ProgressEntryOf C) (agree c k : ℕ) → Ready eq cmp log n entry agree → Sends entry → start_of entry log ≤ agree
+      pub turn_acked : (entry : ProgressEntryOf C) (agree c k : ℕ) → IsBetweenTurns eq cmp log n entry agree → Sends entry → start_of entry log ≤ agree
           → turn cmp log n (record { entry = entry; agree = agree; conflicts = c; acks = k }) ≡ Some (record { entry = record entry { matching = prev_id log.id_at (end_of entry log n); curr_inflight_id = entry.curr_inflight_id + 1; inflight = Idle; searching_end = max entry.searching_end (end_of entry log n) }; agree = max agree (end_of entry log n); conflicts = c; acks = k + 1 })
       turn_acked entry agree c k ready lt past =
           let r1 = ready.matched in let r2 = ready.agreed in let r3 = ready.logged in let r4 = ready.kept in
@@ -214,7 +214,7 @@ module _ {C : Type 0} (eq : C → C → Bool) (cmp : C → C → Ordering) (tota
           rw (sent_is, t, r, at1) refl
 
       -- what is sent has an index that fits
-      pub sent_fits : (entry new : ProgressEntryOf C) (agree id : ℕ) (range : LogIdRangeOf C) → Ready eq cmp log n entry agree → sent cmp entry log n ≡ Ok new → new.inflight ≡ Logs id range → next_index range.last < 2 ^ 64
+      pub sent_fits : (entry new : ProgressEntryOf C) (agree id : ℕ) (range : LogIdRangeOf C) → IsBetweenTurns eq cmp log n entry agree → send_table cmp entry log n ≡ Ok new → new.inflight ≡ Logs id range → next_index range.last < 2 ^ 64
       sent_fits entry new agree id range ready ok logs = elim (sends entry agree ready) [
         | inl same ↦ (let e = (at_end entry agree ready same).0 in cc)
         | inr lt ↦ (let r2 = ready.agreed in let r4 = ready.kept in let l0 = lt.0 in let l1 = lt.1 in
@@ -226,19 +226,19 @@ module _ {C : Type 0} (eq : C → C → Bool) (cmp : C → C → Ordering) (tota
       ]
 
       -- logs are sent, or nothing
-      pub sent_none : (entry new : ProgressEntryOf C) (agree : ℕ) → Ready eq cmp log n entry agree → sent cmp entry log n ≡ Ok new → new.inflight ≡ Idle → ⊥
+      pub sent_none : (entry new : ProgressEntryOf C) (agree : ℕ) → IsBetweenTurns eq cmp log n entry agree → send_table cmp entry log n ≡ Ok new → new.inflight ≡ Idle → ⊥
       sent_none entry new agree ready ok is = elim (sends entry agree ready) [
         | inl same ↦ (let e = (at_end entry agree ready same).0 in cc)
         | inr lt ↦ (let r2 = ready.agreed in let r4 = ready.kept in let sent_is = sent_logs entry ready.idle (omega arith) lt.0 in cc)
       ]
 
-      pub ready_refused : (entry : ProgressEntryOf C) (agree : ℕ) → Ready eq cmp log n entry agree → Sends entry → agree < start_of entry log → Ready eq cmp log n (record entry { curr_inflight_id = entry.curr_inflight_id + 1; inflight = Idle; searching_end = start_of entry log - 1 }) agree
+      pub ready_refused : (entry : ProgressEntryOf C) (agree : ℕ) → IsBetweenTurns eq cmp log n entry agree → Sends entry → agree < start_of entry log → IsBetweenTurns eq cmp log n (record entry { curr_inflight_id = entry.curr_inflight_id + 1; inflight = Idle; searching_end = start_of entry log - 1 }) agree
       ready_refused entry agree ready lt past =
           let r1 = ready.matched in let r2 = ready.agreed in let r3 = ready.logged in let r4 = ready.kept in
           record { idle = refl; some = ready.some; matched = r1; agreed = omega arith; logged = omega arith; kept = r4; fits = ready.fits; left = ready.left }
 
-      pub ready_acked : (entry : ProgressEntryOf C) (agree : ℕ) → Ready eq cmp log n entry agree → Sends entry → start_of entry log ≤ agree
-          → Ready eq cmp log n (record entry { matching = prev_id log.id_at (end_of entry log n); curr_inflight_id = entry.curr_inflight_id + 1; inflight = Idle; searching_end = max entry.searching_end (end_of entry log n) }) (max agree (end_of entry log n))
+      pub ready_acked : (entry : ProgressEntryOf C) (agree : ℕ) → IsBetweenTurns eq cmp log n entry agree → Sends entry → start_of entry log ≤ agree
+          → IsBetweenTurns eq cmp log n (record entry { matching = prev_id log.id_at (end_of entry log n); curr_inflight_id = entry.curr_inflight_id + 1; inflight = Idle; searching_end = max entry.searching_end (end_of entry log n) }) (max agree (end_of entry log n))
       ready_acked entry agree ready lt past =
           let r1 = ready.matched in let r2 = ready.agreed in let r3 = ready.logged in let r4 = ready.kept in
           let l0 = lt.0 in let l1 = lt.1 in let l2 = lt.2 in

@@ -12,8 +12,8 @@ use Rattle.std.proofs.lemmas.List.Elements.{All-take, recursion_from_All}
 use Rattle.raft_progress.specs.progress.CountedValue.{AtMost, IsCounted, IsReached}
 use Rattle.raft_progress.specs.progress.ProgressState.{ProgressState}
 use Rattle.raft_progress.specs.progress.Walk.{IsFalling}
-use Rattle.raft_progress.specs.Inner.Counts.{at_least}
-use Rattle.raft_progress.specs.Inner.Tests.{ids_differ, never_rises}
+use Rattle.raft_progress.specs.Inner.Recount.{at_least}
+use Rattle.raft_progress.specs.Inner.Conditions.{ids_differ, never_rises}
 use Rattle.raft_progress.proofs.RecountLemmas.{AtMost-trans, AtMost-from_not_lt}
 use Rattle.raft_progress.proofs.CountedValueLemmas.{not_both}
 use Rattle.raft_progress.proofs.FallingLemmas.{lt_le}

@@ -4,7 +4,7 @@ use Rattle.std.specs.Cmp.{IsEquivalence}
 use Rattle.std.specs.Set.{is_member}
 use Rattle.std.specs.List.{IsDistinct, AllByRecursion, list_any}
 use Rattle.std.proofs.Common.{sym, ap, refl, ◌∙◌, true≢false}
-use Rattle.raft_progress.specs.Inner.Tests.{apart}
+use Rattle.raft_progress.specs.Inner.Conditions.{apart}
 use Rattle.raft_progress.specs.progress.NewProgress.{LearnersFit}
 use Rattle.raft_progress.proofs.ListLemmas.{member_flipped, or_right}
 use Rattle.raft_members.proofs.CallerLemmas.{is_member-alike}

@@ -11,7 +11,7 @@ use Rattle.std.proofs.lemmas.Map.{keys-set_value}
 use Rattle.raft_progress.specs.progress.NewProgress.{IsFirstWalk}
 use Rattle.raft_progress.specs.progress.Shown.{Shown, state}
 use Rattle.raft_progress.specs.progress.Updated.{IsSettled, IsUpdated, rises_past_granted}
-use Rattle.raft_progress.specs.progress.Walk.{put_after_last, risen}
+use Rattle.raft_progress.specs.progress.Walk.{put_after_last, walk_after_rise}
 
 -- what stands behind some entries and as many more
 drop_past : {ID V : Type 0} (xs ys : List (ID × V)) (n m : ℕ) → m ≡ length xs + n → drop m (keys_of (xs ++ ys)) ≡ drop n (keys_of ys)
@@ -33,14 +33,14 @@ put_length {ID} {V} cmp part e (x ∷ xs) = by (list_any (λ h. is_le (cmp (part
     by false h = omega arith
 
 -- an id among the first keys rises among them alone
-risen_keys : {ID V P : Type 0} (cmp : P → P → Ordering) (part : V → P) (is_id : ID → Bool) (before es : List (ID × V)) (n k : ℕ) → n ≡ length before + k → list_any is_id (take k (keys_of es)) ≡ true → drop n (keys_of (risen cmp part is_id before es)) ≡ drop k (keys_of es)
+risen_keys : {ID V P : Type 0} (cmp : P → P → Ordering) (part : V → P) (is_id : ID → Bool) (before es : List (ID × V)) (n k : ℕ) → n ≡ length before + k → list_any is_id (take k (keys_of es)) ≡ true → drop n (keys_of (walk_after_rise cmp part is_id before es)) ≡ drop k (keys_of es)
 risen_keys cmp part is_id before [] n zero same m = absurd (true≢false (sym m))
 risen_keys cmp part is_id before [] n (suc k) same m = absurd (true≢false (sym m))
 risen_keys cmp part is_id before (e ∷ es) n zero same m = absurd (true≢false (sym m))
 risen_keys {ID} {V} cmp part is_id before (e ∷ es) n (suc k) same m =
     let l = length-append before (e ∷ []) in by (is_id e.0) m (risen_keys cmp part is_id (before ++ e ∷ []) es n k (omega arith))
   where
-    by : (b : Bool) → (b || list_any is_id (take k (keys_of es))) ≡ true → (list_any is_id (take k (keys_of es)) ≡ true → drop n (keys_of (risen cmp part is_id (before ++ e ∷ []) es)) ≡ drop k (keys_of es)) → drop n (keys_of (cond b (put_after_last cmp part e before ++ es) (risen cmp part is_id (before ++ e ∷ []) es))) ≡ drop k (keys_of es)
+    by : (b : Bool) → (b || list_any is_id (take k (keys_of es))) ≡ true → (list_any is_id (take k (keys_of es)) ≡ true → drop n (keys_of (walk_after_rise cmp part is_id (before ++ e ∷ []) es)) ≡ drop k (keys_of es)) → drop n (keys_of (cond b (put_after_last cmp part e before ++ es) (walk_after_rise cmp part is_id (before ++ e ∷ []) es))) ≡ drop k (keys_of es)
     by true h later = let l = put_length cmp part e before in drop_past (put_after_last cmp part e before) es k n (omega arith)
     by false h later = later h
 

@@ -11,7 +11,7 @@ use Rattle.std.proofs.Common.{arith, sym, ap, refl, ◌∙◌, true≢false, suc
 use Rattle.std.proofs.lemmas.List.{append-nil}
 use Rattle.raft_progress.proofs.RisingLemmas.{get_at}
 use Rattle.raft_progress.specs.Inner.Rises.{LastAtLeast, RisesTo}
-use Rattle.raft_progress.specs.progress.Walk.{put_after_last, risen}
+use Rattle.raft_progress.specs.progress.Walk.{put_after_last, walk_after_rise}
 use Rattle.raft_progress.proofs.ListLemmas.{or_right}
 
 pub take_add : {X : Type 0} (xs ys : List X) (k n : ℕ) → n ≡ length xs + k → take n (xs ++ ys) ≡ xs ++ take k ys
@@ -105,7 +105,7 @@ module _ {ID V P : Type 0} {cmp : P → P → Ordering} (o : IsTotalOrder cmp) (
       shorter [] m = tt
       shorter (h ∷ hs) m = m
 
-  risen_at : (is_id : ID → Bool) (before front : List (ID × V)) (e : ID × V) (rest : List (ID × V)) → AllByRecursion (λ f. is_id f.0 ≡ false) front → is_id e.0 ≡ true → risen cmp part is_id before (front ++ (e ∷ rest)) ≡ put_after_last cmp part e (before ++ front) ++ rest
+  risen_at : (is_id : ID → Bool) (before front : List (ID × V)) (e : ID × V) (rest : List (ID × V)) → AllByRecursion (λ f. is_id f.0 ≡ false) front → is_id e.0 ≡ true → walk_after_rise cmp part is_id before (front ++ (e ∷ rest)) ≡ put_after_last cmp part e (before ++ front) ++ rest
   risen_at is_id before [] e rest a h = rw h (ap (λ xs. put_after_last cmp part e xs ++ rest) (sym (append-nil before)))
   risen_at is_id before (f ∷ fs) e rest a h = rw a.0 (risen_at is_id (before ++ f ∷ []) fs e rest a.1 h ∙ ap (λ xs. put_after_last cmp part e xs ++ rest) (append_assoc before (f ∷ []) fs))
 
@@ -114,7 +114,7 @@ module _ {ID V P : Type 0} {cmp : P → P → Ordering} (o : IsTotalOrder cmp) (
   all_below is_id (x ∷ xs) ys d h = (h 0 (omega arith), all_below is_id xs ys d (λ k l. h (suc k) (omega arith)))
 
   -- an entry that rises has risen in the walk
-  pub is_risen : (is_id : ID → Bool) (old : List (ID × V)) (from : ℕ) (new : List (ID × V)) (to : ℕ) (d : ID × V) → RisesTo cmp part old from new to → is_id (get_or old from d).0 ≡ true → ((k : ℕ) → k < from → is_id (get_or old k d).0 ≡ false) → new ≡ risen cmp part is_id [] old
+  pub is_risen : (is_id : ID → Bool) (old : List (ID × V)) (from : ℕ) (new : List (ID × V)) (to : ℕ) (d : ID × V) → RisesTo cmp part old from new to → is_id (get_or old from d).0 ≡ true → ((k : ℕ) → k < from → is_id (get_or old k d).0 ≡ false) → new ≡ walk_after_rise cmp part is_id [] old
   is_risen is_id old from new to d r h b =
       let p = r.passes in
       let was : old ≡ (p.front ++ p.passed) ++ (p.entry ∷ p.rest) = p.was ∙ sym (append_assoc p.front p.passed (p.entry ∷ p.rest)) in
@@ -125,4 +125,4 @@ module _ {ID V P : Type 0} {cmp : P → P → Ordering} (o : IsTotalOrder cmp) (
       ∙ sym (append_assoc p.front (p.entry ∷ p.passed) p.rest)
       ∙ ap (λ xs. xs ++ p.rest) (sym (put_moved p.entry p.front p.passed r.stops p.lesser))
       ∙ sym (risen_at is_id [] (p.front ++ p.passed) p.entry p.rest is_first is_it)
-      ∙ ap (risen cmp part is_id []) (sym was)
+      ∙ ap (walk_after_rise cmp part is_id []) (sym was)

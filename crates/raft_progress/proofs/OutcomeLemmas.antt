@@ -13,13 +13,13 @@ use Rattle.std.proofs.lemmas.List.Quantifiers.{position-Some}
 use Rattle.std.proofs.lemmas.List.Sums.{prefix_len_passes}
 use Rattle.raft_progress.specs.progress.CountedValue.{AtMost}
 use Rattle.raft_progress.specs.progress.InOrder.{IsInOrder, IsWalkInOrder}
-use Rattle.raft_progress.specs.Inner.Counts.{exceeds}
+use Rattle.raft_progress.specs.Inner.Recount.{exceeds}
 use Rattle.raft_progress.specs.Inner.Rises.{IsLeastFront}
 use Rattle.raft_progress.specs.Inner.Settled.{IsPutInOrder, IsRaised, IsSameGroup, IsScanned}
 use Rattle.raft_progress.specs.progress.ProgressState.{Writes}
 use Rattle.raft_progress.specs.progress.Shown.{Shown, state}
-use Rattle.raft_progress.specs.progress.Statistics.{counted_up}
-use Rattle.raft_progress.specs.progress.Walk.{risen, state_of}
+use Rattle.raft_progress.specs.progress.Statistics.{count_after}
+use Rattle.raft_progress.specs.progress.Walk.{walk_after_rise, state_of}
 use Rattle.raft_progress.proofs.RecountLemmas.{AtMost-from_lt, AtMost-from_not_lt, AtMost-refl}
 use Rattle.raft_progress.proofs.MovedLemmas.{is_risen}
 use Rattle.raft_progress.proofs.SettledLemmas as settles
@@ -34,10 +34,10 @@ pub record Outcome {ID V P QS : Type 0} (eq : ID → ID → Bool) (cmp : P → P
   pub voter_count : new.voter_count ≡ mid.voter_count
   pub updates : new.stat.update_count ≡ mid.stat.update_count
   pub not_lower : AtMost cmp mid.granted new.granted
-  pub rises : (is_member eq (take mid.voter_count (keys_of ws)) id && (is_lt (cmp (part v) (part w)) && is_lt (cmp mid.granted (part w)))) ≡ true → (new.walk ≡ risen cmp part (eq id) [] (set_value (eq id) ws w)) × (new.stat.move_count ≡ counted_up mid.stat.move_count 1)
+  pub rises : (is_member eq (take mid.voter_count (keys_of ws)) id && (is_lt (cmp (part v) (part w)) && is_lt (cmp mid.granted (part w)))) ≡ true → (new.walk ≡ walk_after_rise cmp part (eq id) [] (set_value (eq id) ws w)) × (new.stat.move_count ≡ count_after mid.stat.move_count 1)
   pub stays : (is_member eq (take mid.voter_count (keys_of ws)) id && (is_lt (cmp (part v) (part w)) && is_lt (cmp mid.granted (part w)))) ≡ false → (new.walk ≡ set_value (eq id) ws w) × (new.stat.move_count ≡ mid.stat.move_count)
   pub tests : ℕ
-  pub counts_tests : new.stat.is_quorum_count ≡ counted_up mid.stat.is_quorum_count tests
+  pub counts_tests : new.stat.is_quorum_count ≡ count_after mid.stat.is_quorum_count tests
   pub few_tests : (k : ℕ) → mid.voter_count < 2 ^ k → tests ≤ k
   pub tested_to_rise : is_lt (cmp mid.granted new.granted) ≡ true → 1 ≤ tests
   pub not_tested : (is_member eq (take mid.voter_count (keys_of ws)) id && (is_le (cmp (part v) mid.granted) && is_lt (cmp mid.granted (part w)))) ≡ false → (tests ≡ 0) × (new.granted ≡ mid.granted)
@@ -149,8 +149,8 @@ module _ {ID V P QS : Type 0} {eq : ID → ID → Bool} (laws : IsEquivalence eq
         get_or-set_below (x ∷ xs) (suc j) a d zero q = refl
         get_or-set_below (x ∷ xs) (suc j) a d (suc h) q = get_or-set_below xs j a d h (omega arith)
 
-    walk_risen : m.walk ≡ risen cmp part (eq id) [] (set_value (eq id) ws w)
-    walk_risen = subst (λ (es : List (ID × V)). m.walk ≡ risen cmp part (eq id) [] es) wrote (is_risen o part (eq id) mid.walk i (m.walk) raised.to e0 raised.rises first_at none_at)
+    walk_risen : m.walk ≡ walk_after_rise cmp part (eq id) [] (set_value (eq id) ws w)
+    walk_risen = subst (λ (es : List (ID × V)). m.walk ≡ walk_after_rise cmp part (eq id) [] es) wrote (is_risen o part (eq id) mid.walk i (m.walk) raised.to e0 raised.rises first_at none_at)
 
     written_m : (p : Shown ID V P QS) → p.walk ≡ m.walk → IsSameGroup m p → Writes eq (state_of eq mid.quorum_set ws mid.voter_count mid.default_part) id w (state eq p)
     written_m p s g = record {
@@ -223,7 +223,7 @@ module _ {ID V P QS : Type 0} {eq : ID → ID → Bool} (laws : IsEquivalence eq
         rises = λ h. (s.same_walk ∙ walk_risen, s.moves ∙ raised.moves);
         stays = λ h. absurd (true≢false (sym rise ∙ h));
         tests = s.tests;
-        counts_tests = s.counts ∙ ap (λ x. counted_up x s.tests) raised.tests;
+        counts_tests = s.counts ∙ ap (λ x. count_after x s.tests) raised.tests;
         few_tests = λ k h. scan.few k (let l = length_take_le (m.walk) mid.voter_count in omega arith);
         tested_to_rise = tested s.found refl;
         not_tested = λ h. absurd (true≢false (sym (passed (of_both _ _ rise).0 (ap (λ (x : P). is_le (cmp x mid.granted)) (sym before_is) ∙ t) high) ∙ h));

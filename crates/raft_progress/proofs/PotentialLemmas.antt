@@ -7,10 +7,10 @@ use Rattle.std.specs.Option.{option_eq}
 use Rattle.raft_base.specs.LogId.{id_lt, index_of, next_index}
 use Rattle.raft_base.specs.LogView.{LogView, prev_id}
 use Rattle.raft_base.specs.declared.log_id.LogIdOf.{LogIdOf}
-use Rattle.raft_progress.specs.entry.EntryTable.{conflicting, shortened}
-use Rattle.raft_progress.specs.entry.Send.{calc_mid, can_be_sent, end_of, sent, sent_idle, start_of}
+use Rattle.raft_progress.specs.entry.EntryTable.{entry_after_conflict, with_search_end}
+use Rattle.raft_progress.specs.entry.Send.{calc_mid, can_be_sent, end_of, send_table, idle_send_table, start_of}
 use Rattle.raft_progress.specs.inflight.Inflight.{is_idle, logs_from}
-use Rattle.raft_progress.specs.inflight.InflightTable.{conflicted}
+use Rattle.raft_progress.specs.inflight.InflightTable.{inflight_after_conflict}
 use Rattle.raft_progress.specs.search.Search.{Search, after_event, after_events, after_reply, after_send, new_search, one_if_accepted}
 use Rattle.raft_progress.specs.declared.entry.ProgressEntryOf.{ProgressEntryOf}
 use Rattle.raft_progress.specs.declared.inflight.InflightError.{InflightError}
@@ -30,7 +30,7 @@ module _ {L C : Type 0} (cmp : C → C → Ordering) (log_view : L → LogView C
   purged_step : (s : Search C) (event : SearchEvent L) → s.purged ≤ (after_event cmp log_view s event).purged
   purged_step s (Send log n) = by (can_be_sent s.entry (log_view log.now)) (nat_le s.purged (next_index (log_view log.now).purge_upto)) (λ t. grind (arith, nat_tests))
     where
-      by : (t u : Bool) → (u ≡ true → s.purged ≤ next_index (log_view log.now).purge_upto) → s.purged ≤ (if t && u then record { entry = after_send (sent cmp s.entry (log_view log.now) n); purged = next_index (log_view log.now).purge_upto; accepted = s.accepted } else s).purged
+      by : (t u : Bool) → (u ≡ true → s.purged ≤ next_index (log_view log.now).purge_upto) → s.purged ≤ (if t && u then record { entry = after_send (send_table cmp s.entry (log_view log.now) n); purged = next_index (log_view log.now).purge_upto; accepted = s.accepted } else s).purged
       by true true later = later refl
       by true false later = omega arith
       by false u later = omega arith
@@ -117,7 +117,7 @@ module _ (Fits : ℕ → ℕ → Type 0)
       refused e w = let z : accepted + 0 ≡ accepted = omega arith in rw z w
 
       -- a conflict at the index before the probe
-      accepted_probe : (index b : ℕ) → Within total m purged accepted entry → accepted + b ≡ total → Probing m purged b entry.searching_end (Some index) → Keeps (shortened entry index (Ok Idle))
+      accepted_probe : (index b : ℕ) → Within total m purged accepted entry → accepted + b ≡ total → Probing m purged b entry.searching_end (Some index) → Keeps (with_search_end entry index (Ok Idle))
       accepted_probe index b w sum (inl below) =
           let w0 : m ≡ next_index entry.matching = w.0 in
           let w1 : m ≤ entry.searching_end = w.1 in
@@ -140,12 +140,12 @@ module _ (Fits : ℕ → ℕ → Type 0)
                 rw t (w0, w1, (a, omega arith, open_shrinks m purged a (min entry.searching_end index) entry.searching_end (omega arith) stretch)))
           ]
 
-      by_tests : (t u : Bool) (e f : InflightError) (index b : ℕ) → Within total m purged accepted entry → accepted + b ≡ total → (u ≡ true → Probing m purged b entry.searching_end (Some index)) → Keeps (shortened entry index (if t then (if u then Ok Idle else Err e) else Err f))
+      by_tests : (t u : Bool) (e f : InflightError) (index b : ℕ) → Within total m purged accepted entry → accepted + b ≡ total → (u ≡ true → Probing m purged b entry.searching_end (Some index)) → Keeps (with_search_end entry index (if t then (if u then Ok Idle else Err e) else Err f))
       by_tests true true e f index b w sum h = accepted_probe index b w sum (h refl)
       by_tests true false e f index b w sum h = refused e w
       by_tests false u e f index b w sum h = refused f w
 
-      either_error : (t : Bool) (e f : InflightError) (index : ℕ) → Within total m purged accepted entry → Keeps (shortened entry index (if t then Err e else Err f))
+      either_error : (t : Bool) (e f : InflightError) (index : ℕ) → Within total m purged accepted entry → Keeps (with_search_end entry index (if t then Err e else Err f))
       either_error true e f index w = refused e w
       either_error false e f index w = refused f w
 
@@ -153,15 +153,15 @@ module _ (Fits : ℕ → ℕ → Type 0)
       same_index None index h = cc
       same_index (Some c) index h = let e : c ≡ index = grind (arith, nat_tests) in ap Some e
 
-      by_flight : (f : InflightOf C) (id index b : ℕ) → Within total m purged accepted entry → accepted + b ≡ total → Left m purged b entry.searching_end f → Keeps (shortened entry index (conflicted f id index))
+      by_flight : (f : InflightOf C) (id index b : ℕ) → Within total m purged accepted entry → accepted + b ≡ total → Left m purged b entry.searching_end f → Keeps (with_search_end entry index (inflight_after_conflict f id index))
       by_flight Idle id index b w sum h = refused (InvalidRequestId None id) w
       by_flight (Snapshot mine last) id index b w sum h = either_error (mine == id) _ _ index w
       by_flight (Logs mine range) id index b w sum h = by_tests (mine == id) _ _ _ index b w sum (λ same. let o = same_index (index_of range.prev) index same in subst (λ (q : Option ℕ). Probing m purged b entry.searching_end q) o h)
 
-      pub conflict_keeps : (id index : ℕ) → Within total m purged accepted entry → Keeps (conflicting entry (Some id) index)
+      pub conflict_keeps : (id index : ℕ) → Within total m purged accepted entry → Keeps (entry_after_conflict entry (Some id) index)
       conflict_keeps id index w = by_flight entry.inflight id index w.2.0 w w.2.1 w.2.2
 
-      pub heartbeat_keeps : (index : ℕ) → Within total m purged accepted entry → Within total m purged accepted (after_reply entry (conflicting entry None index))
+      pub heartbeat_keeps : (index : ℕ) → Within total m purged accepted entry → Within total m purged accepted (after_reply entry (entry_after_conflict entry None index))
       heartbeat_keeps index w =
           let w0 : m ≡ next_index entry.matching = w.0 in
           let w1 : m ≤ entry.searching_end = w.1 in
@@ -202,7 +202,7 @@ module _ (Fits : ℕ → ℕ → Type 0)
         same_ends cmp n true false long w left = unsent w
         same_ends cmp n false u long w left = (w.0, w.1, (w.2.0, w.2.1, logs_left cmp (id_lt cmp (prev_id log.id_at (start_of entry log)) (prev_id log.id_at (end_of entry log n))) w.2.0 entry.searching_end (start_of entry log) (end_of entry log n) (entry.curr_inflight_id + 1) w.1 long left (rw w.0 refl)))
 
-        idle_keeps : (cmp : C → C → Ordering) (n : ℕ) → entry.inflight ≡ Idle → Within total m purged accepted entry → Within total m (next_index log.purge_upto) accepted (after_send (sent_idle cmp entry log n))
+        idle_keeps : (cmp : C → C → Ordering) (n : ℕ) → entry.inflight ≡ Idle → Within total m purged accepted entry → Within total m (next_index log.purge_upto) accepted (after_send (idle_send_table cmp entry log n))
         idle_keeps cmp n idle w =
             let w0 : m ≡ next_index entry.matching = w.0 in
             let w1 : m ≤ entry.searching_end = w.1 in
@@ -213,7 +213,7 @@ module _ (Fits : ℕ → ℕ → Type 0)
                   rw t (same_ends cmp n (start_of entry log == end_of entry log n) (nat_lt (next_index entry.matching) entry.searching_end) long w left))
             ]
 
-        pub send_keeps : (cmp : C → C → Ordering) (n : ℕ) (t : Bool) → t ≡ is_idle entry.inflight → Within total m purged accepted entry → Within total m (next_index log.purge_upto) accepted (after_send (if t then sent_idle cmp entry log n else Err entry))
+        pub send_keeps : (cmp : C → C → Ordering) (n : ℕ) (t : Bool) → t ≡ is_idle entry.inflight → Within total m purged accepted entry → Within total m (next_index log.purge_upto) accepted (after_send (if t then idle_send_table cmp entry log n else Err entry))
         send_keeps cmp n true e w = idle_keeps cmp n (idle_is entry.inflight (sym e)) w
         send_keeps cmp n false e w = unsent w
 
@@ -236,8 +236,8 @@ module _ (Fits : ℕ → ℕ → Type 0)
       Keeps-search s = Within total m s.purged s.accepted s.entry
 
       sent_step : (s : Search C) (log : LogView C) (n : ℕ) (t u : Bool) → (u ≡ true → s.purged ≤ next_index log.purge_upto)
-          → (if t && u then record { entry = after_send (sent cmp s.entry log n); purged = next_index log.purge_upto; accepted = s.accepted } else s).purged ≤ last → SoundLog log → Keeps-search s
-          → Keeps-search (if t && u then record { entry = after_send (sent cmp s.entry log n); purged = next_index log.purge_upto; accepted = s.accepted } else s)
+          → (if t && u then record { entry = after_send (send_table cmp s.entry log n); purged = next_index log.purge_upto; accepted = s.accepted } else s).purged ≤ last → SoundLog log → Keeps-search s
+          → Keeps-search (if t && u then record { entry = after_send (send_table cmp s.entry log n); purged = next_index log.purge_upto; accepted = s.accepted } else s)
       sent_step s log n true true later within sound w = send_keeps total m s.purged s.accepted s.entry log sound.0 (later refl) (sound.1 within) cmp n (is_idle s.entry.inflight) refl w
       sent_step s log n true false later within sound w = w
       sent_step s log n false u later within sound w = w

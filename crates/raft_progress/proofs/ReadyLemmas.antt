@@ -11,8 +11,8 @@ use mathlib.Core.Logic.{∥∥₁_elim, ∥∥₁_prop}
 use Rattle.std.proofs.lemmas.List.{take_all}
 use Rattle.raft_progress.specs.progress.CountedValue.{IsCounted}
 use Rattle.raft_progress.specs.progress.InOrder.{IsInOrder}
-use Rattle.raft_progress.specs.Inner.Counts.{IsGreatest, at_least, reaches}
-use Rattle.raft_progress.specs.Inner.Tests.{ids_differ, never_rises}
+use Rattle.raft_progress.specs.Inner.Recount.{IsGreatest, at_least, reaches}
+use Rattle.raft_progress.specs.Inner.Conditions.{ids_differ, never_rises}
 use Rattle.raft_progress.specs.progress.Shown.{Shown, state}
 use Rattle.raft_progress.specs.progress.Answered.{IsAnswered}
 use Rattle.raft_progress.specs.progress.Steps.{IsIncreased, IsWritten}
@@ -84,9 +84,9 @@ ready_of {eq = eq} laws id_cmp {cmp} o part lists t h = record {
   };
 }
 
--- a step that keeps the membership is one of the pair
-pub answered_pair : {K N V P : Type 0} (Done : Shown K V P (Configs K) → Type 0) (old : TrackedShown K N V P) (reply : Reply K P) (new : TrackedShown K N V P) → new.membership ≡ old.membership → IsAnswered (λ (p : Shown K V P (Configs K)). p.granted) Done old.progress reply new.progress → IsAnswered (λ (t : TrackedShown K N V P). t.progress.granted) (λ t. (t.membership ≡ old.membership) × Done t.progress) old reply new
-answered_pair Done old reply new kept a = record {
+-- a step that keeps the membership is one of both
+pub answered_tracked : {K N V P : Type 0} (Done : Shown K V P (Configs K) → Type 0) (old : TrackedShown K N V P) (reply : Reply K P) (new : TrackedShown K N V P) → new.membership ≡ old.membership → IsAnswered (λ (p : Shown K V P (Configs K)). p.granted) Done old.progress reply new.progress → IsAnswered (λ (t : TrackedShown K N V P). t.progress.granted) (λ t. (t.membership ≡ old.membership) × Done t.progress) old reply new
+answered_tracked Done old reply new kept a = record {
   refused = λ r i. record { membership = kept i; progress = a.refused r i };
   done = λ r. (kept, a.done r);
   tells = a.tells;

@@ -8,7 +8,7 @@ use Rattle.std.proofs.Common.{arith, sym, ap, refl, ◌∙◌, true≢false, get
 use Rattle.std.proofs.lemmas.Cmp.{upto, tied_itself}
 use Rattle.std.proofs.lemmas.List.Elements.{All-more, All-weaker, Contains-get_or}
 use Rattle.raft_progress.specs.progress.CountedValue.{AtMost}
-use Rattle.raft_progress.specs.Inner.Counts.{IsGreatest, reaches}
+use Rattle.raft_progress.specs.Inner.Recount.{IsGreatest, reaches}
 
 -- what `<` says of `<=`
 pub AtMost-from_lt : {P : Type 0} (cmp : P → P → Ordering) (a b : P) → is_lt (cmp a b) ≡ true → AtMost cmp a b

@@ -14,8 +14,8 @@ use Rattle.raft_progress.specs.Inner.ShownAnswers.{IsShownChange, IsShownUpgrade
 use Rattle.raft_progress.specs.progress.Answered.{Tells, is_refused}
 use Rattle.raft_progress.specs.progress.Shown.{Shown, state}
 use Rattle.raft_progress.specs.tracked.TrackedState.{TrackedShown, tracked_state}
-use Rattle.raft_progress.specs.tracked.TrackedSteps.{IsChanged, IsSamePair}
-use Rattle.raft_progress.proofs.ChangeLemmas.{IsSamePair-refl, changed_step}
+use Rattle.raft_progress.specs.tracked.TrackedSteps.{IsChanged, IsSameTracked}
+use Rattle.raft_progress.proofs.ChangeLemmas.{IsSameTracked-refl, changed_step}
 use Rattle.raft_progress.proofs.UpdateLemmas.{IsSame-refl}
 use Rattle.raft_progress.specs.declared.progress.steps.Reply.{Reply}
 use Rattle.raft_progress.specs.declared.progress.steps.Reply.TheVariants.{Refused, BelowDefault, BadLearners, OutOfMemory}
@@ -36,8 +36,8 @@ module _ {K N V P : Type 0} (eq : K → K → Bool) (id_cmp : K → K → Orderi
     abbrev pub after : Members K N
     after = changed eq id_cmp (members_of id_cmp old.membership) change retain
 
-    same_pair : IsSamePair (tracked_state eq old) (tracked_state eq old)
-    same_pair = IsSamePair-refl (tracked_state eq old)
+    same_tracked : IsSameTracked (tracked_state eq old) (tracked_state eq old)
+    same_tracked = IsSameTracked-refl (tracked_state eq old)
 
     -- a reply that may answer the change with nothing changed does
     unchanged : (reply given : Reply K P) → reply ≡ given → new ≡ old → IsChanged eq id_cmp same cmp part IsClone (tracked_state eq old) change retain default given (tracked_state eq old) → is_refused given ≡ true → Tells given old.progress.granted
@@ -53,12 +53,12 @@ module _ {K N V P : Type 0} (eq : K → K → Bool) (id_cmp : K → K → Orderi
         → IfErr made (λ e. (reply ≡ refusal_reply e) × (new ≡ old))
         → IfOk made (λ next. ((reply ≡ OutOfMemory) × (new ≡ old)) ⊎ IsShownUpgradeTo eq id_cmp cmp part IsClone old next default reply new)
         → IsShownChange eq id_cmp same cmp part IsClone old change retain default reply new
-    change_answered (Ok next) reply valid says why refused (inl kept) = unchanged reply OutOfMemory kept.0 kept.1 same_pair refl tt
+    change_answered (Ok next) reply valid says why refused (inl kept) = unchanged reply OutOfMemory kept.0 kept.1 same_tracked refl tt
     change_answered (Ok next) reply valid says why refused (inr taken) = record {
       values = changed_step eq id_cmp same cmp part IsClone (tracked_state eq old) change retain default next (tracked_state eq new) valid says reply taken.values;
       answered = taken.answered;
     }
     change_answered (Err (InProgress e)) reply valid says why refused taken = absurd why
-    change_answered (Err (EmptyMembership e)) reply valid says why refused taken = unchanged reply (Refused None) refused.0 refused.1 (why, same_pair) refl tt
-    change_answered (Err (LearnerNotFound e)) reply valid says why refused taken = unchanged reply (Refused (Some e.node_id)) refused.0 refused.1 (why.0, why.1, same_pair) refl tt
-    change_answered (Err WantOfMemory) reply valid says why refused taken = unchanged reply OutOfMemory refused.0 refused.1 same_pair refl tt
+    change_answered (Err (EmptyMembership e)) reply valid says why refused taken = unchanged reply (Refused None) refused.0 refused.1 (why, same_tracked) refl tt
+    change_answered (Err (LearnerNotFound e)) reply valid says why refused taken = unchanged reply (Refused (Some e.node_id)) refused.0 refused.1 (why.0, why.1, same_tracked) refl tt
+    change_answered (Err WantOfMemory) reply valid says why refused taken = unchanged reply OutOfMemory refused.0 refused.1 same_tracked refl tt

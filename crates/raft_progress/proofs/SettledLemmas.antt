@@ -13,7 +13,7 @@ use Rattle.std.proofs.Math.Seq.{take-set-lt}
 use Rattle.std.proofs.lemmas.List.Quantifiers.{position-Some}
 use Rattle.raft_progress.specs.progress.CountedValue.{AtMost}
 use Rattle.raft_progress.specs.progress.InOrder.{IsWalkInOrder}
-use Rattle.raft_progress.specs.Inner.Counts.{exceeds, front_test}
+use Rattle.raft_progress.specs.Inner.Recount.{exceeds, front_test}
 use Rattle.raft_progress.specs.Inner.Rises.{IsLeastFront, Passed, RisesTo}
 use Rattle.raft_progress.specs.progress.Walk.{IsFalling}
 use Rattle.raft_progress.proofs.RecountLemmas.{AtMost-from_not_lt}

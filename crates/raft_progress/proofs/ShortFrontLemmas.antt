@@ -7,7 +7,7 @@ use Rattle.std.specs.Map.{keys_of}
 use Rattle.std.proofs.Common.{arith, refl, suc, zero, get_or, ltb, ltb-true, ltb-false}
 use Rattle.std.proofs.lemmas.Map.Entries.{length-keys_of}
 use Rattle.raft_members.specs.QuorumSize.{QuorumsHaveAtLeast}
-use Rattle.raft_progress.specs.Inner.Counts.{exceeds, front_test}
+use Rattle.raft_progress.specs.Inner.Recount.{exceeds, front_test}
 use Rattle.raft_progress.specs.Inner.Settled.{IsScanned}
 use Rattle.raft_progress.specs.progress.Shown.{Shown}
 use Rattle.raft_progress.proofs.UpdateLemmas.{IsDistinct-voters}

@@ -3,15 +3,15 @@ use Rattle.std.specs.Prelude.{◌≡◌, ℕ, ◌+◌, ◌*◌, ◌<◌, ◌≤�
 use Rattle.std.specs.declared.cmp.Ordering.{Ordering}
 use Rattle.std.proofs.Common.{arith, ◌∙◌, refl, ap, subst}
 use Rattle.raft_progress.specs.progress.Shown.{Shown, state}
-use Rattle.raft_progress.specs.progress.Statistics.{CountsGoOn, counted_up}
+use Rattle.raft_progress.specs.progress.Statistics.{CountsGoOn, count_after}
 use Rattle.raft_progress.specs.progress.Updated.{IsSettled, IsUpdated, rises_past_granted}
 use Rattle.raft_progress.specs.declared.progress.stat.Stat.{Stat}
 
 -- counting twice is counting the sum
-counted_twice : (old a b : ℕ) → counted_up (counted_up old a) b ≡ counted_up old (a + b)
+counted_twice : (old a b : ℕ) → count_after (count_after old a) b ≡ count_after old (a + b)
 counted_twice old a b = omega arith
 
-pub counted_none : (old : ℕ) → old < 2 ^ 64 → old ≡ counted_up old 0
+pub counted_none : (old : ℕ) → old < 2 ^ 64 → old ≡ count_after old 0
 counted_none old l = omega arith
 
 one_more : (n v : ℕ) → (n + 1) * v ≡ n * v + v
@@ -32,11 +32,11 @@ module _ {ID V P QS : Type 0} (eq : ID → ID → Bool) (cmp : P → P → Order
   fits : (d : ℕ) → new.voter_count < 2 ^ d → old.voter_count < 2 ^ d
   fits d h = subst (λ (v : ℕ). v < 2 ^ d) same h
 
-  updated_once : new.stat.update_count ≡ counted_up s.update_count (n + 1)
-  updated_once = u.counts ∙ ap (λ x. counted_up x 1) c.updated ∙ counted_twice s.update_count n 1
+  updated_once : new.stat.update_count ≡ count_after s.update_count (n + 1)
+  updated_once = u.counts ∙ ap (λ x. count_after x 1) c.updated ∙ counted_twice s.update_count n 1
 
   -- nothing but the update was counted
-  counts_unknown : new ≡ record old { stat = record old.stat { update_count = counted_up old.stat.update_count 1 } } → CountsGoOn (n + 1) new.voter_count s new.stat
+  counts_unknown : new ≡ record old { stat = record old.stat { update_count = count_after old.stat.update_count 1 } } → CountsGoOn (n + 1) new.voter_count s new.stat
   counts_unknown is = record {
     updated = updated_once;
     moved = let w = c.moved in let l = w.1 in (w.0, omega arith, ap (λ p. p.stat.move_count) is ∙ w.2);
@@ -63,12 +63,12 @@ module _ {ID V P QS : Type 0} (eq : ID → ID → Bool) (cmp : P → P → Order
               let m = t.few_tests d (fits d h) in
               let e = one_more n d in
               omega arith,
-          t.counts_tests ∙ ap (λ y. counted_up y t.tests) x.2 ∙ counted_twice s.is_quorum_count x.0 t.tests,
+          t.counts_tests ∙ ap (λ y. count_after y t.tests) x.2 ∙ counted_twice s.is_quorum_count x.0 t.tests,
         );
   }
     where
-      by : (b : Bool) → rises_past_granted eq cmp part old id v w ≡ b → (k : ℕ) × (k ≤ n + 1) × (new.stat.move_count ≡ counted_up s.move_count k)
-      by true h = let x = c.moved in let l = x.1 in (x.0 + 1, omega arith, (t.rises h).1 ∙ ap (λ y. counted_up y 1) x.2 ∙ counted_twice s.move_count x.0 1)
+      by : (b : Bool) → rises_past_granted eq cmp part old id v w ≡ b → (k : ℕ) × (k ≤ n + 1) × (new.stat.move_count ≡ count_after s.move_count k)
+      by true h = let x = c.moved in let l = x.1 in (x.0 + 1, omega arith, (t.rises h).1 ∙ ap (λ y. count_after y 1) x.2 ∙ counted_twice s.move_count x.0 1)
       by false h = let x = c.moved in let l = x.1 in (x.0, omega arith, (t.stays h).1 ∙ x.2)
 
   pub counts_more : CountsGoOn (n + 1) new.voter_count s new.stat

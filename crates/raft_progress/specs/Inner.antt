@@ -1,11 +1,11 @@
 -- What the private functions do, one step at a time. No public contract cites these words.
-pub mod Counts
+pub mod Conditions
 pub mod Placed
 pub mod Places
+pub mod Recount
 pub mod Refusal
 pub mod Rises
 pub mod Settled
 pub mod ShownAnswers
-pub mod Tests
 pub mod Turns
 pub mod UpgradedTo

@@ -2,10 +2,10 @@
 ghost use Rattle.std.specs.Prelude.{◌≡◌, ◌+◌, ◌-◌, ◌*◌, ◌/◌, ◌^◌, ◌<◌, ◌≤◌, ℕ, nat_lt, IsTrue, Some, None, if◌then◌else◌};
 ghost use Rattle.raft_base.specs.LogId.{id_le, next_index};
 ghost use Rattle.raft_base.specs.Logged.{Logged};
-ghost use Rattle.raft_progress.specs.catch_up.CatchUp.{CaughtUp, can_catch_up};
-ghost use Rattle.raft_progress.specs.catch_up.HonestRun.{HonestRunEnds, replied_to_logs};
+ghost use Rattle.raft_progress.specs.catch_up.CatchUp.{MatchesAll, can_catch_up};
+ghost use Rattle.raft_progress.specs.catch_up.HonestRun.{HonestRunEnds, run_after_logs};
 ghost use Rattle.raft_progress.specs.search.Search.{stretch};
-ghost use Rattle.raft_progress.specs.Inner.Turns.{Ready, TurnDone};
+ghost use Rattle.raft_progress.specs.Inner.Turns.{IsBetweenTurns, TurnDone};
 ghost use Rattle.raft_progress.specs.declared.entry.ProgressEntryOf.{ProgressEntryOf};
 
 use crate::entry::ProgressEntryOf;
@@ -67,7 +67,7 @@ pub fn catch_up_entry<C: Ord + Copy, L: LogStateReader<C>>(
         (can_catch_up C.eq C.cmp (L.log_view log.now) entry.old agree max_entries) }
     ensures run { HonestRunEnds C.cmp (L.log_view log.now) max_entries
         entry.old agree entry.new result.0 result.1 }
-    ensures caught_up { CaughtUp C.eq (L.log_view log.now) entry.new }
+    ensures caught_up { MatchesAll C.eq (L.log_view log.now) entry.new }
     ensures not_lowered { IsTrue (id_le C.cmp entry.old.matching entry.new.matching) }
     ensures conflicts { (k : ℕ) → stretch entry.old / 16 < 2 ^ k → result.0 ≤ k }
     ensures acks { let left =
@@ -104,7 +104,8 @@ fn take_turn<C: Ord + Copy, L: LogStateReader<C>>(
     max_entries: u64,
 ) -> Turn
     requires logged { Logged C.cmp (L.log_view log.now) }
-    requires ready { Ready C.eq C.cmp (L.log_view log.now) max_entries entry.old agree.old }
+    requires ready { IsBetweenTurns C.eq C.cmp (L.log_view log.now) max_entries entry.old
+        agree.old }
     requires id { entry.old.curr_inflight_id + 1 < 2 ^ 64 }
     ensures { TurnDone C.eq C.cmp (L.log_view log.now) max_entries
         entry.old agree.old result entry.new agree.new }
@@ -134,7 +135,7 @@ fn reply<C: Ord + Copy>(
 ) -> bool
     requires { next_index range.last < 2 ^ 64 }
     ensures { (old : ProgressEntryOf C) (c k : ℕ) →
-        replied_to_logs C.cmp
+        run_after_logs C.cmp
         (record { entry = old; agree = agree.old; conflicts = c; acks = k }) entry.old id range
         ≡ (if result
         then record { entry = entry.new; agree = agree.new; conflicts = c; acks = k + 1 }

@@ -2,9 +2,9 @@
 ghost use Rattle.std.specs.Prelude.{◌≡◌, ◌^◌, ◌<◌, ◌≤◌, nat_le, Ok, Err, None, if◌then◌else◌, IsTrue};
 ghost use Rattle.raft_base.specs.LogId.{next_index};
 ghost use Rattle.raft_base.specs.Validate.{first_false};
-ghost use Rattle.raft_progress.specs.entry.EntryTable.{conflicting, matched};
+ghost use Rattle.raft_progress.specs.entry.EntryTable.{entry_after_conflict, entry_after_ack};
 ghost use Rattle.raft_progress.specs.entry.EntryValid.{entry_relations};
-ghost use Rattle.raft_progress.specs.entry.Send.{IsSent, calc_mid, can_be_sent, sent};
+ghost use Rattle.raft_progress.specs.entry.Send.{IsSent, calc_mid, can_be_sent, send_table};
 ghost use Rattle.raft_progress.specs.inflight.Inflight.{is_after_prev, is_idle};
 ghost use Rattle.raft_progress.specs.inflight.InflightTable.{FollowsTable};
 ghost use Rattle.raft_progress.specs.declared.inflight.InflightOf.TheVariants.{None as Idle};
@@ -118,7 +118,7 @@ impl<C: Ord + Copy> ProgressEntryOf<C> {
         request_id: u64,
         matching: Option<LogIdOf<C>>,
     ) -> Result<(), InflightError>
-        ensures { FollowsTable (matched C.cmp self.old request_id matching)
+        ensures { FollowsTable (entry_after_ack C.cmp self.old request_id matching)
             self.old result self.new }
     {
         // On a copy, so that a refusal leaves the entry as it was.
@@ -144,7 +144,8 @@ impl<C: Ord + Copy> ProgressEntryOf<C> {
         request_id: Option<u64>,
         conflict: u64,
     ) -> Result<(), InflightError>
-        ensures { FollowsTable (conflicting self.old request_id conflict) self.old result self.new }
+        ensures { FollowsTable (entry_after_conflict self.old request_id conflict) self.old result
+            self.new }
     {
         let mut inflight = self.inflight;
         if let Some(id) = request_id {
@@ -189,7 +190,7 @@ impl<C: Ord + Copy> ProgressEntryOf<C> {
     ) -> Result<&InflightOf<C>, &InflightOf<C>>
         requires { IsTrue (can_be_sent self.old (L.log_view log.now)) }
         ensures* after { sem 𝓛 (Rests (the_row C.row) self.entry
-            (IsSent (sent C.cmp self.old (L.log_view log.now) max_entries) result)) }
+            (IsSent (send_table C.cmp self.old (L.log_view log.now) max_entries) result)) }
     {
         if self.send(log, max_entries) {
             Ok(&self.inflight)
@@ -201,7 +202,7 @@ impl<C: Ord + Copy> ProgressEntryOf<C> {
     /// Whether something was sent, or at least a request id taken.
     fn send<L: LogStateReader<C>>(&mut self, log: &L, max_entries: u64) -> bool
         requires { IsTrue (can_be_sent self.old (L.log_view log.now)) }
-        ensures { sent C.cmp self.old (L.log_view log.now) max_entries
+        ensures { send_table C.cmp self.old (L.log_view log.now) max_entries
             ≡ (if result then Ok self.new else Err self.new) }
     {
         if !self.inflight.is_none() {

@@ -3,7 +3,7 @@ ghost use Rattle.std.specs.Prelude.{◌≡◌, ◌↔◌, Some, IsSome, IsTrue};
 ghost use Rattle.std.specs.Result.{result_err};
 ghost use Rattle.raft_base.specs.Validate.{first_false};
 ghost use Rattle.raft_progress.specs.inflight.Inflight.{id_of, is_idle, is_sending_log, is_sending_snapshot, logs_from, request_of, with_id, wrong_id};
-ghost use Rattle.raft_progress.specs.inflight.InflightTable.{FollowsTable, acked, conflicted, is_within};
+ghost use Rattle.raft_progress.specs.inflight.InflightTable.{FollowsTable, inflight_after_ack, inflight_after_conflict, is_within};
 ghost use Rattle.raft_progress.specs.inflight.InflightValid.{inflight_relations};
 ghost use Rattle.raft_progress.specs.declared.inflight.InflightOf.TheVariants.{Snapshot};
 
@@ -190,7 +190,8 @@ impl<C: Ord + Copy> InflightOf<C> {
 
     /// Takes the reply that the follower has all up to a log id. The logs after it stay in flight.
     pub fn ack(&mut self, request_id: u64, upto: Option<LogIdOf<C>>) -> Result<(), InflightError>
-        ensures { FollowsTable (acked C.cmp self.old request_id upto) self.old result self.new }
+        ensures { FollowsTable (inflight_after_ack C.cmp self.old request_id upto) self.old result
+            self.new }
     {
         match *self {
             InflightOf::None => Err(InflightError::InvalidRequestId {
@@ -219,7 +220,8 @@ impl<C: Ord + Copy> InflightOf<C> {
     /// Takes the reply that the follower does not have the log before those in flight, which stands
     /// at an index. Nothing stays in flight.
     pub fn conflict(&mut self, request_id: u64, conflict: u64) -> Result<(), InflightError>
-        ensures { FollowsTable (conflicted self.old request_id conflict) self.old result self.new }
+        ensures { FollowsTable (inflight_after_conflict self.old request_id conflict) self.old
+            result self.new }
     {
         match *self {
             InflightOf::None => Err(InflightError::InvalidRequestId {

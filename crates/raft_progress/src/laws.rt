@@ -29,12 +29,12 @@ pub fn kept_parts_keep_order<ID: Copy + Ord, V: ProgressPart<P>, P: Copy + Ord, 
 ///
 /// It needs no replay: a new one and a clone have it too.
 pub fn quorums_know_granted<NID: NodeId, N: Node, V: ProgressPart<P>, P: Copy + Ord>(
-    pair: &Tracked<NID, N, V, P>,
+    cluster: &Tracked<NID, N, V, P>,
 )
-    ensures ready { IsReady NID.eq NID.cmp P.cmp V.part_of (tracked pair.now) }
+    ensures ready { IsReady NID.eq NID.cmp P.cmp V.part_of (tracked cluster.now) }
     ensures granted { IsCounted P.cmp V.part_of (has_quorum NID.eq)
-        (state NID.eq (tracked pair.now).progress) (tracked pair.now).progress.granted }
-    ensures quorums { QuorumsKnowGranted NID.eq P.cmp V.part_of (tracked pair.now) }
+        (state NID.eq (tracked cluster.now).progress) (tracked cluster.now).progress.granted }
+    ensures quorums { QuorumsKnowGranted NID.eq P.cmp V.part_of (tracked cluster.now) }
     ensures changed_quorums { ChangedQuorumsKnowGranted NID.eq NID.cmp P.cmp V.part_of
-        (tracked pair.now) }
+        (tracked cluster.now) }
 {}

@@ -114,8 +114,8 @@ pub trait Progress<ID: Copy + Ord, V: ProgressPart<P>, P: Copy + Ord, QS: Quorum
             (IsAnsweredUpdate ID.eq P.cmp V.part_of QS.has_quorum
             (Leaves F.FnOnce f) id.now result)) };
 
-    /// Writes the value of an id, and answers granted: as an error where the id is unknown. The part
-    /// may not fall: `VecProgress::would_fall` tells.
+    /// Writes the value of an id, and answers granted: as an error where the id is unknown. The
+    /// part may not fall: `VecProgress::would_fall` tells.
     fn update(&mut self, id: &ID, value: V) -> Result<&P, &P>
         requires ordered { IsInOrder ID.eq P.cmp V.part_of QS.has_quorum (shows self.old) }
         requires not_lower { IsNotLower ID.eq P.cmp V.part_of (shows self.old) id.now value }

@@ -1,5 +1,5 @@
 //! Whole callers, the first as on the page for callers.
-ghost use Rattle.raft_progress.specs.entry.Send.{sent};
+ghost use Rattle.raft_progress.specs.entry.Send.{send_table};
 ghost use Rattle.raft_progress.specs.progress.Comparisons.{comparisons};
 ghost use Rattle.raft_progress.specs.progress.CountedValue.{IsCounted};
 ghost use Rattle.raft_progress.specs.progress.InOrder.{IsInOrder};
@@ -76,19 +76,19 @@ pub fn granted_of<NID: NodeId, N: Node>(
         (tracked_state NID.eq last)
         × QuorumsKnowGranted NID.eq nat_cmp (λ v. v) last × (granted ≡ last.progress.granted)) }
 {
-    let mut pair = Tracked::new(membership, 0u64)?;
-    let _replies = replay(alloc, &mut pair, steps)?;
-    Ok(*pair.progress().granted())
+    let mut cluster = Tracked::new(membership, 0u64)?;
+    let _replies = replay(alloc, &mut cluster, steps)?;
+    Ok(*cluster.progress().granted())
 }
 
 /// What is granted of a membership and its progress, whether or not a replay has touched them: each
 /// quorum of the membership has a voter with at least that value.
-pub fn granted_now<NID: NodeId, N: Node>(pair: &Tracked<NID, N, u64, u64>) -> u64
-    ensures quorums { QuorumsKnowGranted NID.eq nat_cmp (λ v. v) (tracked pair.now) }
-    ensures granted { result ≡ (tracked pair.now).progress.granted }
+pub fn granted_now<NID: NodeId, N: Node>(cluster: &Tracked<NID, N, u64, u64>) -> u64
+    ensures quorums { QuorumsKnowGranted NID.eq nat_cmp (λ v. v) (tracked cluster.now) }
+    ensures granted { result ≡ (tracked cluster.now).progress.granted }
 {
-    quorums_know_granted(pair);
-    *pair.progress().granted()
+    quorums_know_granted(cluster);
+    *cluster.progress().granted()
 }
 
 /// Writes another value at an id, of the same part where it is a voter, and answers whether the id
@@ -120,7 +120,7 @@ pub fn sent_next<C: Ord + Copy, L: LogStateReader<C>>(
     log: &L,
 ) -> Option<InflightOf<C>>
     ensures { IfSome result (λ sending.
-        (sent C.cmp entry.old (L.log_view log.now) 64 ≡ Ok entry.new)
+        (send_table C.cmp entry.old (L.log_view log.now) 64 ≡ Ok entry.new)
         × (sending ≡ entry.new.inflight)) }
 {
     if !entry.can_send(log) {
@@ -172,8 +172,8 @@ fn a_caller_grants_before_any_step(rt: HostRuntime) -> Result<(), Fail> {
     let alloc = rt.alloc();
     let mut nodes = BTreeMap::new(alloc);
     nodes.insert(1u64, EmptyNode::new())?;
-    let pair = Tracked::new(Membership::from_nodes(alloc, nodes)?, 7u64)?;
-    assert_eq!(rt; granted_now(&pair), 7);
+    let cluster = Tracked::new(Membership::from_nodes(alloc, nodes)?, 7u64)?;
+    assert_eq!(rt; granted_now(&cluster), 7);
     Ok(())
 }
 

@@ -3,7 +3,7 @@
 use super::at_least::of_five;
 use super::calls::{self, Numbers};
 use super::steps::updated;
-use super::tracked::{self, Pair, members};
+use super::tracked::{self, TrackedNumbers, members};
 use super::{entry, inflight, search};
 use raft_base::{EmptyNode, LeaderId};
 use raft_base_tests::growths::{Call, Growth, is_free, is_swept, refuse_each};
@@ -259,7 +259,7 @@ impl Call for NewTracked {
 
     type Taken = Members;
 
-    type Answer = Pair;
+    type Answer = TrackedNumbers;
 
     fn borrowed(&self, _alloc: Global) -> Result<(), AllocError> {
         Ok(())
@@ -274,14 +274,14 @@ impl Call for NewTracked {
         growth: Growth,
         _borrowed: &mut (),
         membership: Members,
-    ) -> Result<Pair, AllocError> {
+    ) -> Result<TrackedNumbers, AllocError> {
         growth.refuse();
         Tracked::new(membership, 0)
     }
 }
 
 /// The voters 1 and 2 and the learner 3 at 0, as the worked steps begin.
-fn begun(alloc: Global) -> Result<Pair, AllocError> {
+fn begun(alloc: Global) -> Result<TrackedNumbers, AllocError> {
     Tracked::new(members(alloc, &[&[1, 2]])?, 0)
 }
 
@@ -289,13 +289,13 @@ fn begun(alloc: Global) -> Result<Pair, AllocError> {
 struct CloneTracked;
 
 impl Call for CloneTracked {
-    type Borrowed = Pair;
+    type Borrowed = TrackedNumbers;
 
     type Taken = ();
 
-    type Answer = Pair;
+    type Answer = TrackedNumbers;
 
-    fn borrowed(&self, alloc: Global) -> Result<Pair, AllocError> {
+    fn borrowed(&self, alloc: Global) -> Result<TrackedNumbers, AllocError> {
         begun(alloc)
     }
 
@@ -303,9 +303,14 @@ impl Call for CloneTracked {
         Ok(())
     }
 
-    fn run(&self, growth: Growth, pair: &mut Pair, _taken: ()) -> Result<Pair, AllocError> {
+    fn run(
+        &self,
+        growth: Growth,
+        cluster: &mut TrackedNumbers,
+        _taken: (),
+    ) -> Result<TrackedNumbers, AllocError> {
         growth.refuse();
-        pair.try_clone()
+        cluster.try_clone()
     }
 }
 
@@ -336,13 +341,13 @@ fn is_change(place: usize) -> bool {
 struct Replay;
 
 impl Call for Replay {
-    type Borrowed = Pair;
+    type Borrowed = TrackedNumbers;
 
     type Taken = Vec<Step<u64, EmptyNode, u64>>;
 
     type Answer = Replies;
 
-    fn borrowed(&self, alloc: Global) -> Result<Pair, AllocError> {
+    fn borrowed(&self, alloc: Global) -> Result<TrackedNumbers, AllocError> {
         begun(alloc)
     }
 
@@ -353,18 +358,18 @@ impl Call for Replay {
     fn run(
         &self,
         growth: Growth,
-        pair: &mut Pair,
+        cluster: &mut TrackedNumbers,
         steps: Self::Taken,
     ) -> Result<Replies, AllocError> {
         growth.refuse();
-        replay(growth.alloc, pair, steps)
+        replay(growth.alloc, cluster, steps)
     }
 
     fn is_right_after_refusal(
         &self,
         alloc: Global,
         replies: &Replies,
-        left: &Pair,
+        left: &TrackedNumbers,
     ) -> Result<Option<bool>, AllocError> {
         let Some(place) = refused_place(replies) else {
             return Ok(Some(false));

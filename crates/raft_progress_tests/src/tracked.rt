@@ -33,7 +33,7 @@ pub fn members(
 }
 
 /// A membership and the progress of its nodes.
-pub type Pair = Tracked<u64, EmptyNode, u64, u64>;
+pub type TrackedNumbers = Tracked<u64, EmptyNode, u64, u64>;
 
 /// A step as plain data: an id and its value, or the ids of a change; the last has a default.
 pub enum Row {
@@ -78,38 +78,40 @@ pub const ROWS: [(Row, Reply<u64, u64>); 10] = [
 ];
 
 /// Replays the steps of the rows as one list, and answers whether each has its reply.
-fn are_replied(alloc: Global, pair: &mut Pair) -> Result<bool, AllocError> {
+fn are_replied(alloc: Global, cluster: &mut TrackedNumbers) -> Result<bool, AllocError> {
     let mut steps = Vec::new(alloc);
     for (row, _) in &ROWS {
         steps.push(step(alloc, row)?)?;
     }
-    let replies = replay(alloc, pair, steps)?;
+    let replies = replay(alloc, cluster, steps)?;
     Ok(replies.iter().eq(ROWS.iter().map(|(_, reply)| reply)))
 }
 
 /// Whether the membership is joint, the values have their places, and what is granted and was
 /// counted is right. A change counts each node as an update, and each that rises as a move.
-fn is_ended(alloc: Global, pair: &Pair) -> Result<bool, AllocError> {
-    let progress = pair.progress();
+fn is_ended(alloc: Global, cluster: &TrackedNumbers) -> Result<bool, AllocError> {
+    let progress = cluster.progress();
     let walk = [(2, 7), (1, 5), (3, 4)];
     let is_right = progress.iter().copied().eq(walk.iter().copied())
         && *progress.granted() == 5
         && progress.stat().update_count == 8
         && progress.stat().move_count == 6;
-    Ok(is_right && *pair.membership() == members(alloc, &[&[1, 2], &[1, 2, 3]])?)
+    Ok(is_right && *cluster.membership() == members(alloc, &[&[1, 2], &[1, 2, 3]])?)
 }
 
 /// Whether a clone of a membership with its progress equals it.
-fn has_equal_clone(pair: &Pair) -> Result<bool, AllocError> {
-    Ok(pair.try_clone()? == *pair)
+fn has_equal_clone(cluster: &TrackedNumbers) -> Result<bool, AllocError> {
+    Ok(cluster.try_clone()? == *cluster)
 }
 
 #[test]
 fn a_replay_goes_on_after_each_refusal(rt: HostRuntime) -> Result<(), Fail> {
     let alloc = rt.alloc();
-    let mut pair = Tracked::new(members(alloc, &[&[1, 2]])?, 0)?;
+    let mut cluster = Tracked::new(members(alloc, &[&[1, 2]])?, 0)?;
     assert!(rt;
-        are_replied(alloc, &mut pair)? && is_ended(alloc, &pair)? && has_equal_clone(&pair)?
+        are_replied(alloc, &mut cluster)?
+            && is_ended(alloc, &cluster)?
+            && has_equal_clone(&cluster)?
     );
     Ok(())
 }

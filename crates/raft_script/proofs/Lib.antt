@@ -1,5 +1,5 @@
 pub mod ListLemmas
-pub mod NewPairLemmas
+pub mod NewTrackedLemmas
 pub mod NumberLemmas
 pub mod ReplyLemmas
 pub mod TakenLemmas

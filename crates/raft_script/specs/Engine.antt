@@ -49,8 +49,9 @@ EngineState = TrackedState ℕ EmptyNode ℕ ℕ
 abbrev pub shown_of : Engine → Option EngineShown
 shown_of engine = option_map tracked engine.tracked
 
-abbrev pub pair_of : Engine → Option EngineState
-pair_of engine = option_map (λ t. tracked_state.tracked_state nat_eq (tracked t)) engine.tracked
+abbrev pub engine_state : Engine → Option EngineState
+engine_state engine =
+    option_map (λ t. tracked_state.tracked_state nat_eq (tracked t)) engine.tracked
 
 -- the membership has the configs, and a node for each voter and learner, which all have the
 -- default; the progress counts by it
@@ -66,11 +67,11 @@ pub record IsStart (configs : List (List ℕ)) (learners : List ℕ) (default : 
   pub default_part : made.progress.default_part ≡ default
   pub counts_by : CountsBy nat_eq nat_cmp made
 
--- the step may be answered so, from one pair to another
+-- the step may be answered so, from one tracked progress to another
 abbrev pub IsEngineStep : EngineState → Step ℕ EmptyNode ℕ → Reply ℕ ℕ → EngineState → Type 0
 IsEngineStep old step reply new = IsTrackedRun by_number same_node old (step ∷ []) (reply ∷ []) new
 
--- a pair answers each step, and without one there is no reply
+-- a tracked progress answers each step, and without one there is no reply
 abbrev pub AnswersStep : Option EngineState → Step ℕ EmptyNode ℕ → Option (Reply ℕ ℕ)
     → Option EngineState → Type 0
 AnswersStep None step None new = new ≡ None

@@ -7,7 +7,7 @@ pub(crate) mod reply;
 
 ghost use Rattle.std.specs.Prelude.{◌≡◌, IfOk, OnErr};
 ghost use Rattle.std.specs.Bool.{OnFalse, OnTrue};
-ghost use Rattle.raft_script.specs.Engine.{pair_of};
+ghost use Rattle.raft_script.specs.Engine.{engine_state};
 ghost use Rattle.raft_script.specs.LineRun.{AnswersLine, IsLeftByFault, IsStepTooEarly, Prints, RunsCommand, RunsLine};
 
 use command::{Command, LineError};
@@ -79,10 +79,10 @@ fn answer_line<W: Write>(
 ) -> io::Result<bool>
     ensures answered { IfOk result (λ runs.
         Prints (W.contents replies.old) (W.contents replies.new)
-        (AnswersLine number (pair_of engine.old) line.now runs (pair_of engine.new))) }
+        (AnswersLine number (engine_state engine.old) line.now runs (engine_state engine.new))) }
     ensures unchanged { IfOk result (λ runs. OnFalse runs (engine.new ≡ engine.old)) }
-    ensures fault { OnErr result (IsLeftByFault (RunsLine (pair_of engine.old) line.now)
-        (pair_of engine.old) (pair_of engine.new)) }
+    ensures fault { OnErr result (IsLeftByFault (RunsLine (engine_state engine.old) line.now)
+        (engine_state engine.old) (engine_state engine.new)) }
 {
     match command::parse(alloc, line) {
         Ok(None) => Ok(true),
@@ -110,13 +110,13 @@ fn run_command<W: Write>(
 ) -> io::Result<bool>
     ensures runs { IfOk result (λ runs. OnTrue runs
         (Prints (W.contents replies.old) (W.contents replies.new)
-        (RunsCommand (pair_of engine.old) command (pair_of engine.new)))) }
+        (RunsCommand (engine_state engine.old) command (engine_state engine.new)))) }
     ensures too_early { IfOk result (λ runs. OnFalse runs
-        (IsStepTooEarly (pair_of engine.old) command)) }
+        (IsStepTooEarly (engine_state engine.old) command)) }
     ensures silent { IfOk result (λ runs. OnFalse runs (replies.new ≡ replies.old)) }
     ensures unchanged { IfOk result (λ runs. OnFalse runs (engine.new ≡ engine.old)) }
-    ensures fault { OnErr result (IsLeftByFault (RunsCommand (pair_of engine.old) command)
-        (pair_of engine.old) (pair_of engine.new)) }
+    ensures fault { OnErr result (IsLeftByFault (RunsCommand (engine_state engine.old) command)
+        (engine_state engine.old) (engine_state engine.new)) }
 {
     match command {
         Command::Init {

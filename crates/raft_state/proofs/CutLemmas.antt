@@ -10,12 +10,12 @@ use Rattle.std.proofs.lemmas.List.{append-nil, take_more_set, take_at}
 use Rattle.std.specs.Prelude.{slice_get}
 use Rattle.raft_base.specs.LogId.{next_index}
 use Rattle.raft_base.specs.declared.log_id.LogIdOf.{LogIdOf}
-use Rattle.raft_state.specs.FullLog.{end_index, filled, first_index, first_index_or, full_log, ids_of}
-use Rattle.raft_state.specs.Inner.KeyEdits.{cut, cut_after, cut_to, end_at, kept_after, kept_from, purged_keys}
+use Rattle.raft_state.specs.FullLog.{end_index, ids_of_keys, first_index, first_index_or, full_log, ids_of}
+use Rattle.raft_state.specs.Inner.KeyEdits.{keys_below, rest_up_to, keys_up_to, end_at, rest_from, keys_from, keys_after_purge}
 use Rattle.raft_state.specs.Inner.KeyList.{Rises, keys_to}
 use Rattle.raft_state.proofs.KeyListLemmas.{IsKeyList}
 use Rattle.raft_state.specs.Keys.{by_last_leader}
-use Rattle.raft_state.specs.LogEdits.{front, purged, rest}
+use Rattle.raft_state.specs.LogEdits.{front, log_after_purge, rest}
 use Rattle.raft_state.specs.LogReads.{first_id, last_id}
 use Rattle.raft_state.proofs.FullLogLemmas.{key_list_rises, key_list_rises_zero, next_by_place, rises_end}
 use Rattle.raft_state.proofs.AppendLemmas.{ids_split, one_id}
@@ -48,22 +48,22 @@ rest_ids c i (suc n) a = elim (cases_lt i a) [
       rw (t, m, p, rest_ids c (i + 1) n a, q, r) refl)
 ]
 
-pub front_above : {C : Type 0} (b : ℕ) (ks : List (LogIdOf C)) (e a : ℕ) → Rises b ks e → a ≤ b → front (filled ks e) a ≡ []
+pub front_above : {C : Type 0} (b : ℕ) (ks : List (LogIdOf C)) (e a : ℕ) → Rises b ks e → a ≤ b → front (ids_of_keys ks e) a ≡ []
 front_above b [] e a r le = refl
 front_above b (k ∷ ks) e a r le =
     let r0 = r.0 in
     let z : min (first_index_or ks e - k.index) (a - k.index) ≡ 0 = omega arith in
-    filter-append (λ id. nat_lt id.index a) (ids_of k.leader_id k.index (first_index_or ks e - k.index)) (filled ks e)
+    filter-append (λ id. nat_lt id.index a) (ids_of k.leader_id k.index (first_index_or ks e - k.index)) (ids_of_keys ks e)
     ∙ rw (front_ids k.leader_id k.index (first_index_or ks e - k.index) a, z) (front_above (k.index + 1) ks e a r.1 (omega arith))
 
-pub rest_above : {C : Type 0} (b : ℕ) (ks : List (LogIdOf C)) (e a : ℕ) → Rises b ks e → a ≤ b → rest (filled ks e) a ≡ filled ks e
+pub rest_above : {C : Type 0} (b : ℕ) (ks : List (LogIdOf C)) (e a : ℕ) → Rises b ks e → a ≤ b → rest (ids_of_keys ks e) a ≡ ids_of_keys ks e
 rest_above b [] e a r le = refl
 rest_above b (k ∷ ks) e a r le =
     let r0 = r.0 in
     let n = first_index_or ks e - k.index in
     let z : n - (a - k.index) ≡ n = omega arith in
     let p : max k.index a ≡ k.index = omega arith in
-    filter-append (λ id. nat_le a id.index) (ids_of k.leader_id k.index n) (filled ks e)
+    filter-append (λ id. nat_le a id.index) (ids_of k.leader_id k.index n) (ids_of_keys ks e)
     ∙ rw (rest_ids k.leader_id k.index n a, z, p, rest_above (k.index + 1) ks e a r.1 (omega arith)) refl
 
 -- the full log of a key and a last key at index j
@@ -80,12 +80,12 @@ one_to {C} k j le = elim (cases_lt k.index j) [
       rw (t, e) (append-nil (ids_of k.leader_id k.index (k.index + 1 - k.index))))
 ]
 
-pub full_cut_after : {C : Type 0} (k : LogIdOf C) (ks : List (LogIdOf C)) (e j : ℕ) → Rises (k.index + 1) ks e → e ≡ end_index (k ∷ ks) → k.index ≤ j → full_log (k ∷ cut_after k ks j) ≡ front (full_log (k ∷ ks)) (suc j)
+pub full_cut_after : {C : Type 0} (k : LogIdOf C) (ks : List (LogIdOf C)) (e j : ℕ) → Rises (k.index + 1) ks e → e ≡ end_index (k ∷ ks) → k.index ≤ j → full_log (k ∷ rest_up_to k ks j) ≡ front (full_log (k ∷ ks)) (suc j)
 full_cut_after k [] e j r is le =
     let t : nat_lt k.index (suc j) ≡ true = grind (arith, nat_tests) in rw (one_id k, t) refl
 full_cut_after k (l ∷ ks) e j r is le = filter-step (λ past. full_cut_after l ks e j r.1 is past) ∙ parts
   where
-    filter-step : (l.index ≤ j → full_log (l ∷ cut_after l ks j) ≡ front (full_log (l ∷ ks)) (suc j)) → full_log (k ∷ cut_after k (l ∷ ks) j) ≡ front (ids_of k.leader_id k.index (l.index - k.index)) (suc j) ++ front (full_log (l ∷ ks)) (suc j)
+    filter-step : (l.index ≤ j → full_log (l ∷ rest_up_to l ks j) ≡ front (full_log (l ∷ ks)) (suc j)) → full_log (k ∷ rest_up_to k (l ∷ ks) j) ≡ front (ids_of k.leader_id k.index (l.index - k.index)) (suc j) ++ front (full_log (l ∷ ks)) (suc j)
     filter-step more = let r0 = r.0 in elim (cases_lt j l.index) [
       | inl below ↦ (let t : nat_le l.index j ≡ false = grind (arith, nat_tests) in
           let m : min (l.index - k.index) (suc j - k.index) ≡ j + 1 - k.index = omega arith in
@@ -104,7 +104,7 @@ none_below [] = refl
 none_below (x ∷ xs) = let t : nat_lt x.index 0 ≡ false = grind (arith, nat_tests) in rw t (none_below xs)
 
 -- the keys of a truncation have the front of the full log
-pub full_cut : {C : Type 0} (cmp : C → C → Ordering) (ks : List (LogIdOf C)) (a : ℕ) → IsKeyList cmp ks → full_log (cut ks a) ≡ front (full_log ks) a
+pub full_cut : {C : Type 0} (cmp : C → C → Ordering) (ks : List (LogIdOf C)) (a : ℕ) → IsKeyList cmp ks → full_log (keys_below ks a) ≡ front (full_log ks) a
 full_cut cmp ks zero s = sym (none_below (full_log ks))
 full_cut cmp [] (suc j) s = refl
 full_cut cmp (k ∷ ks) (suc j) s =
@@ -132,7 +132,7 @@ module _ {C : Type 0} (cmp : C → C → Ordering) (same : (c : C) → IsTrue (i
     | inr past ↦ (let t : nat_lt k.index j ≡ false = grind (arith, nat_tests) in rw t tt)
   ]
 
-  cut_after_stays : (k : LogIdOf C) (ks : List (LogIdOf C)) (j : ℕ) → IsKeyList cmp (k ∷ ks) → k.index ≤ j → IsKeyList cmp (k ∷ cut_after k ks j)
+  cut_after_stays : (k : LogIdOf C) (ks : List (LogIdOf C)) (j : ℕ) → IsKeyList cmp (k ∷ ks) → k.index ≤ j → IsKeyList cmp (k ∷ rest_up_to k ks j)
   cut_after_stays k [] j s le = tt
   cut_after_stays k (l ∷ []) j s le = elim (cases_lt j l.index) [
     | inl below ↦ (let t : nat_le l.index j ≡ false = grind (arith, nat_tests) in rw t (ends_stay k j le))
@@ -140,10 +140,10 @@ module _ {C : Type 0} (cmp : C → C → Ordering) (same : (c : C) → IsTrue (i
   ]
   cut_after_stays k (l ∷ m ∷ ks) j s le = elim (cases_lt j l.index) [
     | inl below ↦ (let t : nat_le l.index j ≡ false = grind (arith, nat_tests) in rw t (ends_stay k j le))
-    | inr past ↦ (let t : nat_le l.index j ≡ true = grind (arith, nat_tests) in rw t (cons_key cmp k l (cut_after l (m ∷ ks) j) s.0 s.1 (cut_after_stays l (m ∷ ks) j s.2 past)))
+    | inr past ↦ (let t : nat_le l.index j ≡ true = grind (arith, nat_tests) in rw t (cons_key cmp k l (rest_up_to l (m ∷ ks) j) s.0 s.1 (cut_after_stays l (m ∷ ks) j s.2 past)))
   ]
 
-  pub cut_stays : (ks : List (LogIdOf C)) (a : ℕ) → IsKeyList cmp ks → IsKeyList cmp (cut ks a)
+  pub cut_stays : (ks : List (LogIdOf C)) (a : ℕ) → IsKeyList cmp ks → IsKeyList cmp (keys_below ks a)
   cut_stays ks zero s = tt
   cut_stays [] (suc j) s = tt
   cut_stays (k ∷ ks) (suc j) s = elim (cases_lt j k.index) [
@@ -151,7 +151,7 @@ module _ {C : Type 0} (cmp : C → C → Ordering) (same : (c : C) → IsTrue (i
     | inr past ↦ (let t : nat_le k.index j ≡ true = grind (arith, nat_tests) in rw t (cut_after_stays k ks j s past))
   ]
 
-  kept_after_stays : (k : LogIdOf C) (ks : List (LogIdOf C)) (a : ℕ) → IsKeyList cmp (k ∷ ks) → IsKeyList cmp (kept_after k ks a)
+  kept_after_stays : (k : LogIdOf C) (ks : List (LogIdOf C)) (a : ℕ) → IsKeyList cmp (k ∷ ks) → IsKeyList cmp (rest_from k ks a)
   kept_after_stays k [] a s = tt
   kept_after_stays k (l ∷ []) a s = elim (cases_lt a l.index) [
     | inl below ↦ (let t : nat_le l.index a ≡ false = grind (arith, nat_tests) in rw t (below, s.1))
@@ -162,29 +162,29 @@ module _ {C : Type 0} (cmp : C → C → Ordering) (same : (c : C) → IsTrue (i
     | inr past ↦ (let t : nat_le l.index a ≡ true = grind (arith, nat_tests) in rw t (kept_after_stays l (m ∷ ks) a s.2))
   ]
 
-  kept_stays : (ks : List (LogIdOf C)) (a : ℕ) → IsKeyList cmp ks → IsKeyList cmp (kept_from ks a)
+  kept_stays : (ks : List (LogIdOf C)) (a : ℕ) → IsKeyList cmp ks → IsKeyList cmp (keys_from ks a)
   kept_stays [] a s = tt
   kept_stays (k ∷ ks) a s = elim (cases_lt a k.index) [
     | inl below ↦ (let t : nat_le k.index a ≡ false = grind (arith, nat_tests) in rw t s)
     | inr past ↦ (let t : nat_le k.index a ≡ true = grind (arith, nat_tests) in rw t (kept_after_stays k ks a s))
   ]
 
-  purge_test : (t : Bool) (ks : List (LogIdOf C)) (upto : LogIdOf C) → IsKeyList cmp ks → IsKeyList cmp (if t then upto ∷ [] else kept_from ks upto.index)
+  purge_test : (t : Bool) (ks : List (LogIdOf C)) (upto : LogIdOf C) → IsKeyList cmp ks → IsKeyList cmp (if t then upto ∷ [] else keys_from ks upto.index)
   purge_test true ks upto s = tt
   purge_test false ks upto s = kept_stays ks upto.index s
 
-  pub purge_stays : (ks : List (LogIdOf C)) (upto : LogIdOf C) → IsKeyList cmp ks → IsKeyList cmp (purged_keys ks upto)
+  pub purge_stays : (ks : List (LogIdOf C)) (upto : LogIdOf C) → IsKeyList cmp ks → IsKeyList cmp (keys_after_purge ks upto)
   purge_stays ks upto s = purge_test (nat_le (end_index ks) upto.index) ks upto s
 
 -- the full log of what a purge keeps
-pub full_kept_after : {C : Type 0} (k : LogIdOf C) (ks : List (LogIdOf C)) (e a : ℕ) → Rises (k.index + 1) ks e → e ≡ end_index (k ∷ ks) → k.index ≤ a → a < e → full_log (kept_after k ks a) ≡ rest (full_log (k ∷ ks)) a
+pub full_kept_after : {C : Type 0} (k : LogIdOf C) (ks : List (LogIdOf C)) (e a : ℕ) → Rises (k.index + 1) ks e → e ≡ end_index (k ∷ ks) → k.index ≤ a → a < e → full_log (rest_from k ks a) ≡ rest (full_log (k ∷ ks)) a
 full_kept_after k [] e a r is le lt =
     let n : a + 1 - a ≡ (k.index + 1 - k.index) - (a - k.index) = omega arith in
     let p : max k.index a ≡ a = omega arith in
     sym (filter-append (λ id. nat_le a id.index) (ids_of k.leader_id k.index (k.index + 1 - k.index)) [] ∙ rw (rest_ids k.leader_id k.index (k.index + 1 - k.index) a, p, ← n) refl)
 full_kept_after k (l ∷ ks) e a r is le lt = by_place (λ past. full_kept_after l ks e a r.1 is past lt) ∙ sym (filter-append (λ id. nat_le a id.index) (ids_of k.leader_id k.index (l.index - k.index)) (full_log (l ∷ ks)))
   where
-    by_place : (l.index ≤ a → full_log (kept_after l ks a) ≡ rest (full_log (l ∷ ks)) a) → full_log (kept_after k (l ∷ ks) a) ≡ rest (ids_of k.leader_id k.index (l.index - k.index)) a ++ rest (full_log (l ∷ ks)) a
+    by_place : (l.index ≤ a → full_log (rest_from l ks a) ≡ rest (full_log (l ∷ ks)) a) → full_log (rest_from k (l ∷ ks) a) ≡ rest (ids_of k.leader_id k.index (l.index - k.index)) a ++ rest (full_log (l ∷ ks)) a
     by_place more = let r0 = r.0 in elim (cases_lt a l.index) [
       | inl below ↦ (let t : nat_le l.index a ≡ false = grind (arith, nat_tests) in
           let n : (l.index - k.index) - (a - k.index) ≡ l.index - a = omega arith in
@@ -233,13 +233,13 @@ pub first_full : {C : Type 0} (cmp : C → C → Ordering) (ks : List (LogIdOf C
 first_full cmp [] e s = refl
 first_full cmp (k ∷ ks) e s = let b = full_begins cmp k ks s in rw b.1 refl
 
-pub full_purged : {C : Type 0} (cmp : C → C → Ordering) (ks : List (LogIdOf C)) (upto : LogIdOf C) → IsKeyList cmp ks → full_log (purged_keys ks upto) ≡ purged (full_log ks) upto
+pub full_purged : {C : Type 0} (cmp : C → C → Ordering) (ks : List (LogIdOf C)) (upto : LogIdOf C) → IsKeyList cmp ks → full_log (keys_after_purge ks upto) ≡ log_after_purge (full_log ks) upto
 full_purged cmp ks upto s =
     let n = next_of_last (full_log ks) ks (last_full cmp ks s) in
     let f = first_full cmp ks 0 s in
     rw (n, f) (by_test ks s (nat_le (end_index ks) upto.index) refl)
   where
-    by_place : (k : LogIdOf _) (ks : List (LogIdOf _)) → IsKeyList cmp (k ∷ ks) → upto.index < end_index (k ∷ ks) → full_log (kept_from (k ∷ ks) upto.index) ≡ (if nat_lt upto.index k.index then full_log (k ∷ ks) else rest (full_log (k ∷ ks)) upto.index)
+    by_place : (k : LogIdOf _) (ks : List (LogIdOf _)) → IsKeyList cmp (k ∷ ks) → upto.index < end_index (k ∷ ks) → full_log (keys_from (k ∷ ks) upto.index) ≡ (if nat_lt upto.index k.index then full_log (k ∷ ks) else rest (full_log (k ∷ ks)) upto.index)
     by_place k ks s lt = elim (cases_lt upto.index k.index) [
       | inl below ↦ (let t : nat_le k.index upto.index ≡ false = grind (arith, nat_tests) in
           let u : nat_lt upto.index k.index ≡ true = grind (arith, nat_tests) in rw (t, u) refl)
@@ -248,21 +248,21 @@ full_purged cmp ks upto s =
           rw (t, u) (full_kept_after k ks (end_index (k ∷ ks)) upto.index (key_list_rises cmp k ks s) refl past lt))
     ]
 
-    by_test : (ks : List (LogIdOf _)) → IsKeyList cmp ks → (t : Bool) → t ≡ nat_le (end_index ks) upto.index → full_log (if t then upto ∷ [] else kept_from ks upto.index) ≡ (if t then upto ∷ [] else (if nat_lt upto.index (first_index ks) then full_log ks else rest (full_log ks) upto.index))
+    by_test : (ks : List (LogIdOf _)) → IsKeyList cmp ks → (t : Bool) → t ≡ nat_le (end_index ks) upto.index → full_log (if t then upto ∷ [] else keys_from ks upto.index) ≡ (if t then upto ∷ [] else (if nat_lt upto.index (first_index ks) then full_log ks else rest (full_log ks) upto.index))
     by_test ks s true e = one_key upto
     by_test [] s false e = let t : nat_lt upto.index 0 ≡ false = grind (arith, nat_tests) in rw t refl
     by_test (k ∷ ks) s false e = by_place k ks s (grind (arith, nat_tests))
 
 -- a purge leaves a log from the greater of the two indexes on
-kept_first : {C : Type 0} (k : LogIdOf C) (ks : List (LogIdOf C)) (a : ℕ) → first_index (kept_after k ks a) ≡ a
+kept_first : {C : Type 0} (k : LogIdOf C) (ks : List (LogIdOf C)) (a : ℕ) → first_index (rest_from k ks a) ≡ a
 kept_first k [] a = refl
 kept_first {C} k (l ∷ ks) a = by_test (nat_le l.index a) (kept_first l ks a)
   where
-    by_test : (t : Bool) → first_index (kept_after l ks a) ≡ a → first_index (if t then kept_after l ks a else record { leader_id = k.leader_id; index = a } ∷ l ∷ ks) ≡ a
+    by_test : (t : Bool) → first_index (rest_from l ks a) ≡ a → first_index (if t then rest_from l ks a else record { leader_id = k.leader_id; index = a } ∷ l ∷ ks) ≡ a
     by_test true e = e
     by_test false e = refl
 
-pub purged_first : {C : Type 0} (cmp : C → C → Ordering) (ks : List (LogIdOf C)) (upto : LogIdOf C) → IsKeyList cmp ks → first_index (purged_keys ks upto) ≡ max (first_index ks) upto.index
+pub purged_first : {C : Type 0} (cmp : C → C → Ordering) (ks : List (LogIdOf C)) (upto : LogIdOf C) → IsKeyList cmp ks → first_index (keys_after_purge ks upto) ≡ max (first_index ks) upto.index
 purged_first cmp [] upto s = let t : nat_le 0 upto.index ≡ true = grind (arith, nat_tests) in rw t (omega arith)
 purged_first {C} cmp (k ∷ ks) upto s = elim (cases_lt upto.index (end_index (k ∷ ks))) [
   | inr past ↦ (let t : nat_le (end_index (k ∷ ks)) upto.index ≡ true = grind (arith, nat_tests) in
@@ -275,65 +275,65 @@ purged_first {C} cmp (k ∷ ks) upto s = elim (cases_lt upto.index (end_index (k
 ]
 
 -- the edits by place
-cut_test : {C : Type 0} (t : Bool) (k l : LogIdOf C) (ks : List (LogIdOf C)) (j n : ℕ) (d : LogIdOf C) → (if t then suc (keys_to ks j) else 0) ≡ n → n < suc (length ks) → ((m : ℕ) → keys_to ks j ≡ m → m < length ks → cut_after l ks j ≡ take m ks ++ end_at (get_or (l ∷ ks) m d) j)
-    → (if t then l ∷ cut_after l ks j else end_at k j) ≡ take n (l ∷ ks) ++ end_at (get_or (k ∷ l ∷ ks) n d) j
+cut_test : {C : Type 0} (t : Bool) (k l : LogIdOf C) (ks : List (LogIdOf C)) (j n : ℕ) (d : LogIdOf C) → (if t then suc (keys_to ks j) else 0) ≡ n → n < suc (length ks) → ((m : ℕ) → keys_to ks j ≡ m → m < length ks → rest_up_to l ks j ≡ take m ks ++ end_at (get_or (l ∷ ks) m d) j)
+    → (if t then l ∷ rest_up_to l ks j else end_at k j) ≡ take n (l ∷ ks) ++ end_at (get_or (k ∷ l ∷ ks) n d) j
 cut_test true k l ks j zero d e lt ih = absurd (omega arith)
 cut_test true k l ks j (suc m) d e lt ih = ap (λ (r : List (LogIdOf _)). l ∷ r) (ih m (omega arith) (omega arith))
 cut_test false k l ks j zero d e lt ih = refl
 cut_test false k l ks j (suc m) d e lt ih = absurd (omega arith)
 
-cut_place : {C : Type 0} (k : LogIdOf C) (ks : List (LogIdOf C)) (j n : ℕ) (d : LogIdOf C) → keys_to ks j ≡ n → n < length ks → cut_after k ks j ≡ take n ks ++ end_at (get_or (k ∷ ks) n d) j
+cut_place : {C : Type 0} (k : LogIdOf C) (ks : List (LogIdOf C)) (j n : ℕ) (d : LogIdOf C) → keys_to ks j ≡ n → n < length ks → rest_up_to k ks j ≡ take n ks ++ end_at (get_or (k ∷ ks) n d) j
 cut_place k [] j n d e lt = absurd (omega arith)
 cut_place k (l ∷ ks) j n d e lt = cut_test (nat_le l.index j) k l ks j n d e lt (λ m e lt. cut_place l ks j m d e lt)
 
-first_test : {C : Type 0} (t : Bool) (k : LogIdOf C) (ks : List (LogIdOf C)) (j n : ℕ) (d : LogIdOf C) → (if t then suc (keys_to ks j) else 0) ≡ suc n → n < length ks → (if t then k ∷ cut_after k ks j else []) ≡ take (suc n) (k ∷ ks) ++ end_at (get_or (k ∷ ks) n d) j
+first_test : {C : Type 0} (t : Bool) (k : LogIdOf C) (ks : List (LogIdOf C)) (j n : ℕ) (d : LogIdOf C) → (if t then suc (keys_to ks j) else 0) ≡ suc n → n < length ks → (if t then k ∷ rest_up_to k ks j else []) ≡ take (suc n) (k ∷ ks) ++ end_at (get_or (k ∷ ks) n d) j
 first_test true k ks j n d e lt = ap (λ (r : List (LogIdOf _)). k ∷ r) (cut_place k ks j n d (omega arith) lt)
 first_test false k ks j n d e lt = absurd (omega arith)
 
-pub cut_at : {C : Type 0} (ks : List (LogIdOf C)) (j n : ℕ) (d : LogIdOf C) → keys_to ks j ≡ suc n → suc n < length ks → cut_to ks j ≡ take (suc n) ks ++ end_at (get_or ks n d) j
+pub cut_at : {C : Type 0} (ks : List (LogIdOf C)) (j n : ℕ) (d : LogIdOf C) → keys_to ks j ≡ suc n → suc n < length ks → keys_up_to ks j ≡ take (suc n) ks ++ end_at (get_or ks n d) j
 cut_at [] j n d e lt = absurd (omega arith)
 cut_at (k ∷ ks) j n d e lt = first_test (nat_le k.index j) k ks j n d e (omega arith)
 
-cut_after_all : {C : Type 0} (k : LogIdOf C) (ks : List (LogIdOf C)) (j : ℕ) → keys_to ks j ≡ length ks → cut_after k ks j ≡ ks
+cut_after_all : {C : Type 0} (k : LogIdOf C) (ks : List (LogIdOf C)) (j : ℕ) → keys_to ks j ≡ length ks → rest_up_to k ks j ≡ ks
 cut_after_all k [] j h = refl
 cut_after_all k (l ∷ ks) j h = step (λ e. cut_after_all l ks j e) (nat_le l.index j) h
   where
-    step : (keys_to ks j ≡ length ks → cut_after l ks j ≡ ks) → (t : Bool) → (if t then suc (keys_to ks j) else 0) ≡ suc (length ks) → (if t then l ∷ cut_after l ks j else end_at k j) ≡ l ∷ ks
+    step : (keys_to ks j ≡ length ks → rest_up_to l ks j ≡ ks) → (t : Bool) → (if t then suc (keys_to ks j) else 0) ≡ suc (length ks) → (if t then l ∷ rest_up_to l ks j else end_at k j) ≡ l ∷ ks
     step more true e = ap (λ (r : List (LogIdOf _)). l ∷ r) (more (omega arith))
     step more false e = absurd (omega arith)
 
-pub cut_all : {C : Type 0} (ks : List (LogIdOf C)) (j : ℕ) → keys_to ks j ≡ length ks → cut_to ks j ≡ ks
+pub cut_all : {C : Type 0} (ks : List (LogIdOf C)) (j : ℕ) → keys_to ks j ≡ length ks → keys_up_to ks j ≡ ks
 cut_all [] j h = refl
 cut_all (k ∷ ks) j h = step (nat_le k.index j) h
   where
-    step : (t : Bool) → (if t then suc (keys_to ks j) else 0) ≡ suc (length ks) → (if t then k ∷ cut_after k ks j else []) ≡ k ∷ ks
+    step : (t : Bool) → (if t then suc (keys_to ks j) else 0) ≡ suc (length ks) → (if t then k ∷ rest_up_to k ks j else []) ≡ k ∷ ks
     step true e = ap (λ (r : List (LogIdOf _)). k ∷ r) (cut_after_all k ks j (omega arith))
     step false e = absurd (omega arith)
 
-kept_place : {C : Type 0} (k : LogIdOf C) (ks : List (LogIdOf C)) (j n : ℕ) (d : LogIdOf C) → keys_to ks j ≡ n → kept_after k ks j ≡ (let x : LogIdOf C = record { leader_id = (get_or (k ∷ ks) n d).leader_id; index = j } in x) ∷ drop n ks
+kept_place : {C : Type 0} (k : LogIdOf C) (ks : List (LogIdOf C)) (j n : ℕ) (d : LogIdOf C) → keys_to ks j ≡ n → rest_from k ks j ≡ (let x : LogIdOf C = record { leader_id = (get_or (k ∷ ks) n d).leader_id; index = j } in x) ∷ drop n ks
 kept_place k [] j zero d e = refl
 kept_place k [] j (suc n) d e = absurd (omega arith)
 kept_place {C} k (l ∷ ks) j n d e = step (λ m e. kept_place l ks j m d e) (nat_le l.index j) n e
   where
-    step : ((m : ℕ) → keys_to ks j ≡ m → kept_after l ks j ≡ (let x : LogIdOf C = record { leader_id = (get_or (l ∷ ks) m d).leader_id; index = j } in x) ∷ drop m ks) → (t : Bool) (n : ℕ) → (if t then suc (keys_to ks j) else 0) ≡ n → (if t then kept_after l ks j else record { leader_id = k.leader_id; index = j } ∷ l ∷ ks) ≡ (let x : LogIdOf C = record { leader_id = (get_or (k ∷ l ∷ ks) n d).leader_id; index = j } in x) ∷ drop n (l ∷ ks)
+    step : ((m : ℕ) → keys_to ks j ≡ m → rest_from l ks j ≡ (let x : LogIdOf C = record { leader_id = (get_or (l ∷ ks) m d).leader_id; index = j } in x) ∷ drop m ks) → (t : Bool) (n : ℕ) → (if t then suc (keys_to ks j) else 0) ≡ n → (if t then rest_from l ks j else record { leader_id = k.leader_id; index = j } ∷ l ∷ ks) ≡ (let x : LogIdOf C = record { leader_id = (get_or (k ∷ l ∷ ks) n d).leader_id; index = j } in x) ∷ drop n (l ∷ ks)
     step more true zero e = absurd (omega arith)
     step more true (suc n) e = more n (omega arith)
     step more false zero e = refl
     step more false (suc n) e = absurd (omega arith)
 
-pub kept_at : {C : Type 0} (ks : List (LogIdOf C)) (j n : ℕ) (key : LogIdOf C) → keys_to ks j ≡ suc n → key ≡ get_or ks n key → kept_from ks j ≡ (let x : LogIdOf C = record { leader_id = key.leader_id; index = j } in x) ∷ drop (suc n) ks
+pub kept_at : {C : Type 0} (ks : List (LogIdOf C)) (j n : ℕ) (key : LogIdOf C) → keys_to ks j ≡ suc n → key ≡ get_or ks n key → keys_from ks j ≡ (let x : LogIdOf C = record { leader_id = key.leader_id; index = j } in x) ∷ drop (suc n) ks
 kept_at [] j n key e place = absurd (omega arith)
 kept_at {C} (k ∷ ks) j n key e place = rw (← place) at (step (nat_le k.index j) e)
   where
-    step : (t : Bool) → (if t then suc (keys_to ks j) else 0) ≡ suc n → (if t then kept_after k ks j else k ∷ ks) ≡ (let x : LogIdOf C = record { leader_id = (get_or (k ∷ ks) n key).leader_id; index = j } in x) ∷ drop (suc n) (k ∷ ks)
+    step : (t : Bool) → (if t then suc (keys_to ks j) else 0) ≡ suc n → (if t then rest_from k ks j else k ∷ ks) ≡ (let x : LogIdOf C = record { leader_id = (get_or (k ∷ ks) n key).leader_id; index = j } in x) ∷ drop (suc n) (k ∷ ks)
     step true e = kept_place k ks j n key (omega arith)
     step false e = absurd (omega arith)
 
-pub kept_all : {C : Type 0} (ks : List (LogIdOf C)) (j : ℕ) → keys_to ks j ≡ 0 → kept_from ks j ≡ ks
+pub kept_all : {C : Type 0} (ks : List (LogIdOf C)) (j : ℕ) → keys_to ks j ≡ 0 → keys_from ks j ≡ ks
 kept_all [] j h = refl
 kept_all (k ∷ ks) j h = step (nat_le k.index j) h
   where
-    step : (t : Bool) → (if t then suc (keys_to ks j) else 0) ≡ 0 → (if t then kept_after k ks j else k ∷ ks) ≡ k ∷ ks
+    step : (t : Bool) → (if t then suc (keys_to ks j) else 0) ≡ 0 → (if t then rest_from k ks j else k ∷ ks) ≡ k ∷ ks
     step true e = absurd (omega arith)
     step false e = refl
 
@@ -368,7 +368,7 @@ last_two eq (k ∷ l ∷ m ∷ ks) zero x y t len e = absurd (omega arith)
 last_two eq (k ∷ l ∷ m ∷ ks) (suc n) x y t len e = last_two eq (l ∷ m ∷ ks) n x y t (omega arith) e
 
 -- the calls' edits: n keys are not past the last index that stays
-from_end : {C : Type 0} (ks : List (LogIdOf C)) (a : ℕ) → (a ≡ 0 → ⊥) → cut ks a ≡ cut_to ks (a - 1)
+from_end : {C : Type 0} (ks : List (LogIdOf C)) (a : ℕ) → (a ≡ 0 → ⊥) → keys_below ks a ≡ keys_up_to ks (a - 1)
 from_end ks zero some = absurd (some refl)
 from_end ks (suc j) some = let e : suc j - 1 ≡ j = omega arith in rw e refl
 
@@ -376,23 +376,23 @@ before : (n : ℕ) → (n ≡ 0 → ⊥) → (m : ℕ) × (n ≡ suc m)
 before zero some = absurd (some refl)
 before (suc m) some = (m, refl)
 
-pub all_stay : {C : Type 0} (ks : List (LogIdOf C)) (a n : ℕ) → (a ≡ 0 → ⊥) → n ≡ keys_to ks (a - 1) → n ≡ length ks → ks ≡ cut ks a
+pub all_stay : {C : Type 0} (ks : List (LogIdOf C)) (a n : ℕ) → (a ≡ 0 → ⊥) → n ≡ keys_to ks (a - 1) → n ≡ length ks → ks ≡ keys_below ks a
 all_stay ks a n some count len = sym (from_end ks a some ∙ cut_all ks (a - 1) (sym count ∙ len))
 
-some_stay : {C : Type 0} (ks : List (LogIdOf C)) (a n : ℕ) (key : LogIdOf C) → (a ≡ 0 → ⊥) → n ≡ keys_to ks (a - 1) → (n ≡ 0 → ⊥) → n < length ks → key ≡ get_or ks (n - 1) key → cut ks a ≡ take n ks ++ end_at key (a - 1)
+some_stay : {C : Type 0} (ks : List (LogIdOf C)) (a n : ℕ) (key : LogIdOf C) → (a ≡ 0 → ⊥) → n ≡ keys_to ks (a - 1) → (n ≡ 0 → ⊥) → n < length ks → key ≡ get_or ks (n - 1) key → keys_below ks a ≡ take n ks ++ end_at key (a - 1)
 some_stay {C} ks a n key some count kept lt place =
     let b = before n kept in
     let one : n - 1 ≡ b.0 = let e = b.1 in omega arith in
     let here : key ≡ get_or ks b.0 key = subst (λ (q : ℕ). key ≡ get_or ks q key) one place in
     let at = cut_at ks (a - 1) b.0 key (sym count ∙ b.1) (let e = b.1 in omega arith) in
-    from_end ks a some ∙ subst (λ (x : LogIdOf C). cut_to ks (a - 1) ≡ take n ks ++ end_at x (a - 1)) (sym here) (rw (← b.1) at at)
+    from_end ks a some ∙ subst (λ (x : LogIdOf C). keys_up_to ks (a - 1) ≡ take n ks ++ end_at x (a - 1)) (sym here) (rw (← b.1) at at)
 
-pub cut_short : {C : Type 0} (ks : List (LogIdOf C)) (a n : ℕ) (key : LogIdOf C) → (a ≡ 0 → ⊥) → n ≡ keys_to ks (a - 1) → (n ≡ 0 → ⊥) → n < length ks → key ≡ get_or ks (n - 1) key → a - 1 ≤ key.index → take n ks ≡ cut ks a
+pub cut_short : {C : Type 0} (ks : List (LogIdOf C)) (a n : ℕ) (key : LogIdOf C) → (a ≡ 0 → ⊥) → n ≡ keys_to ks (a - 1) → (n ≡ 0 → ⊥) → n < length ks → key ≡ get_or ks (n - 1) key → a - 1 ≤ key.index → take n ks ≡ keys_below ks a
 cut_short ks a n key some count kept lt place le =
     let t : nat_lt key.index (a - 1) ≡ false = grind (arith, nat_tests) in
     sym (some_stay ks a n key some count kept lt place ∙ rw t (append-nil (take n ks)))
 
-pub cut_moved : {C : Type 0} (ks : List (LogIdOf C)) (a n : ℕ) (key : LogIdOf C) → (a ≡ 0 → ⊥) → n ≡ keys_to ks (a - 1) → (n ≡ 0 → ⊥) → n < length ks → key ≡ get_or ks (n - 1) key → key.index < a - 1 → take (n + 1) (set ks n (record { leader_id = key.leader_id; index = a - 1 })) ≡ cut ks a
+pub cut_moved : {C : Type 0} (ks : List (LogIdOf C)) (a n : ℕ) (key : LogIdOf C) → (a ≡ 0 → ⊥) → n ≡ keys_to ks (a - 1) → (n ≡ 0 → ⊥) → n < length ks → key ≡ get_or ks (n - 1) key → key.index < a - 1 → take (n + 1) (set ks n (record { leader_id = key.leader_id; index = a - 1 })) ≡ keys_below ks a
 cut_moved {C} ks a n key some count kept lt place less =
     let t : nat_lt key.index (a - 1) ≡ true = grind (arith, nat_tests) in
     take_more_set ks n (record { leader_id = key.leader_id; index = a - 1 }) lt ∙ sym (some_stay ks a n key some count kept lt place ∙ rw t refl)
@@ -403,22 +403,22 @@ next_at {C} (k ∷ ks) key lt place =
     let e : length (k ∷ ks) - 1 ≡ length ks = omega arith in
     next_by_place k ks key ∙ ap (λ (x : LogIdOf C). x.index + 1) (sym (subst (λ (q : ℕ). key ≡ get_or (k ∷ ks) q key) e place))
 
-pub purged_past : {C : Type 0} (ks : List (LogIdOf C)) (upto key : LogIdOf C) → 0 < length ks → key ≡ get_or ks (length ks - 1) key → key.index < upto.index → set (take 1 ks) 0 upto ≡ purged_keys ks upto
+pub purged_past : {C : Type 0} (ks : List (LogIdOf C)) (upto key : LogIdOf C) → 0 < length ks → key ≡ get_or ks (length ks - 1) key → key.index < upto.index → set (take 1 ks) 0 upto ≡ keys_after_purge ks upto
 purged_past [] upto key some place lt = absurd (omega arith)
 purged_past (k ∷ ks) upto key some place lt =
     let n = next_at (k ∷ ks) key some place in
     let t : nat_le (end_index (k ∷ ks)) upto.index ≡ true = grind (arith, nat_tests, n) in rw t refl
 
-purged_within : {C : Type 0} (ks : List (LogIdOf C)) (upto key : LogIdOf C) → 0 < length ks → key ≡ get_or ks (length ks - 1) key → upto.index ≤ key.index → purged_keys ks upto ≡ kept_from ks upto.index
+purged_within : {C : Type 0} (ks : List (LogIdOf C)) (upto key : LogIdOf C) → 0 < length ks → key ≡ get_or ks (length ks - 1) key → upto.index ≤ key.index → keys_after_purge ks upto ≡ keys_from ks upto.index
 purged_within ks upto key some place le =
     let n = next_at ks key some place in
     let t : nat_le (end_index ks) upto.index ≡ false = grind (arith, nat_tests, n) in rw t refl
 
-pub purged_none : {C : Type 0} (ks : List (LogIdOf C)) (upto key : LogIdOf C) (n : ℕ) → 0 < length ks → key ≡ get_or ks (length ks - 1) key → upto.index ≤ key.index → n ≡ keys_to ks upto.index → n ≡ 0 → ks ≡ purged_keys ks upto
+pub purged_none : {C : Type 0} (ks : List (LogIdOf C)) (upto key : LogIdOf C) (n : ℕ) → 0 < length ks → key ≡ get_or ks (length ks - 1) key → upto.index ≤ key.index → n ≡ keys_to ks upto.index → n ≡ 0 → ks ≡ keys_after_purge ks upto
 purged_none ks upto key n some place le count none = sym (purged_within ks upto key some place le ∙ kept_all ks upto.index (sym count ∙ none))
 
 pub purged_moved : {C : Type 0} (ks : List (LogIdOf C)) (upto key first : LogIdOf C) (n : ℕ) → 0 < length ks → key ≡ get_or ks (length ks - 1) key → upto.index ≤ key.index → n ≡ keys_to ks upto.index → (n ≡ 0 → ⊥) → n ≤ length ks → first ≡ get_or ks (n - 1) first
-    → set (take (length ks - (n - 1)) (drop (n - 1) ks ++ take (n - 1) ks)) 0 (record { leader_id = first.leader_id; index = upto.index }) ≡ purged_keys ks upto
+    → set (take (length ks - (n - 1)) (drop (n - 1) ks ++ take (n - 1) ks)) 0 (record { leader_id = first.leader_id; index = upto.index }) ≡ keys_after_purge ks upto
 purged_moved {C} ks upto key first n some place le count kept bound here =
     let b = before n kept in
     let one : n - 1 ≡ b.0 = let e = b.1 in omega arith in

@@ -7,7 +7,7 @@ use Rattle.std.specs.declared.cmp.Ordering.TheVariants.{Less, Equal, Greater}
 use Rattle.std.specs.Ordering.{is_le, is_eq, is_gt, ordering_reverse}
 use Rattle.std.specs.Cmp.{IsTotalOrder, upto}
 use Rattle.raft_base.specs.declared.log_id.LogIdOf.{LogIdOf}
-use Rattle.raft_state.specs.Inner.KeyEdits.{added, added_after, added_all}
+use Rattle.raft_state.specs.Inner.KeyEdits.{keys_after_append, rest_after_append, keys_after_extend}
 use Rattle.raft_state.specs.LogConditions.{all_follow, ends_share_leader, follows}
 use Rattle.raft_state.specs.LogReads.{first_id, last_id}
 use Rattle.raft_state.proofs.AppendLemmas.{itself, some_after}
@@ -30,22 +30,22 @@ EndsWith eq (k ∷ []) y = IsTrue (eq k.leader_id y.leader_id)
 EndsWith eq (k ∷ l ∷ ks) y = EndsWith eq (l ∷ ks) y
 
 module _ {C : Type 0} (eq : C → C → Bool) (same : (c : C) → eq c c ≡ true) (trans : (a b c : C) → eq a b ≡ true → eq b c ≡ true → eq a c ≡ true) (turn : (a b : C) → eq a b ≡ true → eq b a ≡ true) where
-  past_first : (k l : LogIdOf C) (xs : List (LogIdOf C)) (z : LogIdOf C) → 1 ≤ length xs → added_after eq k (l ∷ xs) z ≡ l ∷ added_after eq l xs z
+  past_first : (k l : LogIdOf C) (xs : List (LogIdOf C)) (z : LogIdOf C) → 1 ≤ length xs → rest_after_append eq k (l ∷ xs) z ≡ l ∷ rest_after_append eq l xs z
   past_first k l [] z some = absurd (omega arith)
   past_first k l (x ∷ xs) z some = refl
 
   -- an append by the last key's leader gives way to the next one by that leader
-  merged_after : (k : LogIdOf C) (ks : List (LogIdOf C)) (y z : LogIdOf C) → EndsWith eq (k ∷ ks) y → added_after eq k (added_after eq k ks y) z ≡ added_after eq k ks z
+  merged_after : (k : LogIdOf C) (ks : List (LogIdOf C)) (y z : LogIdOf C) → EndsWith eq (k ∷ ks) y → rest_after_append eq k (rest_after_append eq k ks y) z ≡ rest_after_append eq k ks z
   merged_after k [] y z h = rw h refl
   merged_after k (l ∷ []) y z h = by_last (eq k.leader_id l.leader_id) refl
     where
-      by_last : (t : Bool) → t ≡ eq k.leader_id l.leader_id → added_after eq k (if t then y ∷ [] else l ∷ y ∷ []) z ≡ (if t then z ∷ [] else l ∷ z ∷ [])
+      by_last : (t : Bool) → t ≡ eq k.leader_id l.leader_id → rest_after_append eq k (if t then y ∷ [] else l ∷ y ∷ []) z ≡ (if t then z ∷ [] else l ∷ z ∷ [])
       by_last true e = let near : eq k.leader_id y.leader_id ≡ true = trans k.leader_id l.leader_id y.leader_id (sym e) h in rw near refl
       by_last false e = rw h refl
   merged_after k (l ∷ m ∷ ks) y z h =
-      past_first k l (added_after eq l (m ∷ ks) y) z (some_after eq same l (m ∷ ks) y) ∙ ap (λ (r : List (LogIdOf C)). l ∷ r) (merged_after l (m ∷ ks) y z h)
+      past_first k l (rest_after_append eq l (m ∷ ks) y) z (some_after eq same l (m ∷ ks) y) ∙ ap (λ (r : List (LogIdOf C)). l ∷ r) (merged_after l (m ∷ ks) y z h)
 
-  merged : (ks : List (LogIdOf C)) (y z : LogIdOf C) → EndsWith eq ks y → added eq (added eq ks y) z ≡ added eq ks z
+  merged : (ks : List (LogIdOf C)) (y z : LogIdOf C) → EndsWith eq ks y → keys_after_append eq (keys_after_append eq ks y) z ≡ keys_after_append eq ks z
   merged [] y z h = absurd h
   merged (k ∷ ks) y z h = ap (λ (r : List (LogIdOf C)). k ∷ r) (merged_after k ks y z h)
 
@@ -53,25 +53,25 @@ module _ {C : Type 0} (eq : C → C → Bool) (same : (c : C) → eq c c ≡ tru
   ends_cons k [] y h = absurd h
   ends_cons k (x ∷ xs) y h = h
 
-  ends_after : (k : LogIdOf C) (ks : List (LogIdOf C)) (x y : LogIdOf C) → eq x.leader_id y.leader_id ≡ true → EndsWith eq (added_after eq k ks x) y
+  ends_after : (k : LogIdOf C) (ks : List (LogIdOf C)) (x y : LogIdOf C) → eq x.leader_id y.leader_id ≡ true → EndsWith eq (rest_after_append eq k ks x) y
   ends_after k [] x y e = e
   ends_after k (l ∷ []) x y e = by_last (eq k.leader_id l.leader_id)
     where
       by_last : (t : Bool) → EndsWith eq (if t then x ∷ [] else l ∷ x ∷ []) y
       by_last true = e
       by_last false = e
-  ends_after k (l ∷ m ∷ ks) x y e = ends_cons l (added_after eq l (m ∷ ks) x) y (ends_after l (m ∷ ks) x y e)
+  ends_after k (l ∷ m ∷ ks) x y e = ends_cons l (rest_after_append eq l (m ∷ ks) x) y (ends_after l (m ∷ ks) x y e)
 
   -- after an append the last key is the log id
-  ends_added : (ks : List (LogIdOf C)) (x y : LogIdOf C) → eq x.leader_id y.leader_id ≡ true → EndsWith eq (added eq ks x) y
+  ends_added : (ks : List (LogIdOf C)) (x y : LogIdOf C) → eq x.leader_id y.leader_id ≡ true → EndsWith eq (keys_after_append eq ks x) y
   ends_added [] x y e = e
-  ends_added (k ∷ ks) x y e = ends_cons k (added_after eq k ks x) y (ends_after k ks x y e)
+  ends_added (k ∷ ks) x y e = ends_cons k (rest_after_append eq k ks x) y (ends_after k ks x y e)
 
   -- of log ids of one leader, the first one and the last one make the keys
-  pub added_by_ends : (ks : List (LogIdOf C)) (x y : LogIdOf C) (ids : List (LogIdOf C)) → OfLeader eq x.leader_id (y ∷ ids) → added_all eq (added eq (added eq ks x) y) ids ≡ added eq (added eq ks x) (last_or y ids)
+  pub added_by_ends : (ks : List (LogIdOf C)) (x y : LogIdOf C) (ids : List (LogIdOf C)) → OfLeader eq x.leader_id (y ∷ ids) → keys_after_extend eq (keys_after_append eq (keys_after_append eq ks x) y) ids ≡ keys_after_append eq (keys_after_append eq ks x) (last_or y ids)
   added_by_ends ks x y [] h = refl
   added_by_ends ks x y (z ∷ ids) h =
-      ap (λ (r : List (LogIdOf C)). added_all eq r ids) (merged (added eq ks x) y z (ends_added ks x y h.0)) ∙ added_by_ends ks x z ids h.1
+      ap (λ (r : List (LogIdOf C)). keys_after_extend eq r ids) (merged (keys_after_append eq ks x) y z (ends_added ks x y h.0)) ∙ added_by_ends ks x z ids h.1
 
 -- what is between equal leaders is equal to them
 le_chain_of : (o p q : Ordering) → (is_gt o ≡ false → is_gt p ≡ false → is_gt q ≡ false) → is_le o ≡ true → is_le p ≡ true → is_le q ≡ true

@@ -6,11 +6,11 @@ use Rattle.std.specs.Option.{option_or}
 use Rattle.std.proofs.lemmas.Bool.Decides.{nat_tests}
 use Rattle.raft_base.specs.declared.log_id.LogIdOf.{LogIdOf}
 use Rattle.raft_state.specs.FullLog.{full_log}
-use Rattle.raft_state.specs.Inner.KeyEdits.{added, added_after, added_all}
+use Rattle.raft_state.specs.Inner.KeyEdits.{keys_after_append, rest_after_append, keys_after_extend}
 use Rattle.raft_state.proofs.KeyListLemmas.{IsKeyList}
 use Rattle.raft_state.specs.Keys.{key_follows, may_be_keys}
 use Rattle.raft_state.specs.LogConditions.{all_follow, follows}
-use Rattle.raft_state.specs.LogEdits.{appended, extended, missing}
+use Rattle.raft_state.specs.LogEdits.{log_after_append, log_after_extend, missing_ids}
 use Rattle.raft_state.specs.LogReads.{last_id}
 use Rattle.raft_state.proofs.AppendLemmas.{CanAppend, same_append, same_ids, same_refl}
 use Rattle.raft_state.proofs.SameLogLemmas.{SameLog, both, both_true}
@@ -55,23 +55,23 @@ last_cons : {C : Type 0} (k : LogIdOf C) (xs : List (LogIdOf C)) (y : LogIdOf C)
 last_cons k [] y h = cc
 last_cons k (x ∷ xs) y h = h
 
-last_after_added : {C : Type 0} (eq : C → C → Bool) (k : LogIdOf C) (ks : List (LogIdOf C)) (id : LogIdOf C) → last_id (added_after eq k ks id) ≡ Some id
+last_after_added : {C : Type 0} (eq : C → C → Bool) (k : LogIdOf C) (ks : List (LogIdOf C)) (id : LogIdOf C) → last_id (rest_after_append eq k ks id) ≡ Some id
 last_after_added eq k [] id = refl
 last_after_added eq k (l ∷ []) id = if_last (eq k.leader_id l.leader_id) l id
-last_after_added eq k (l ∷ m ∷ ks) id = last_cons l (added_after eq l (m ∷ ks) id) id (last_after_added eq l (m ∷ ks) id)
+last_after_added eq k (l ∷ m ∷ ks) id = last_cons l (rest_after_append eq l (m ∷ ks) id) id (last_after_added eq l (m ∷ ks) id)
 
-pub last_added : {C : Type 0} (eq : C → C → Bool) (ks : List (LogIdOf C)) (id : LogIdOf C) → last_id (added eq ks id) ≡ Some id
+pub last_added : {C : Type 0} (eq : C → C → Bool) (ks : List (LogIdOf C)) (id : LogIdOf C) → last_id (keys_after_append eq ks id) ≡ Some id
 last_added eq [] id = refl
-last_added eq (k ∷ ks) id = last_cons k (added_after eq k ks id) id (last_after_added eq k ks id)
+last_added eq (k ∷ ks) id = last_cons k (rest_after_append eq k ks id) id (last_after_added eq k ks id)
 
 last_or_new : {C : Type 0} (id : LogIdOf C) (ids : List (LogIdOf C)) (o : Option (LogIdOf C)) → option_or (last_id ids) (Some id) ≡ option_or (last_id (id ∷ ids)) o
 last_or_new id [] o = refl
 last_or_new id (x ∷ xs) o = rw (last_of_some x xs) refl
 
 -- and after several ones that of the last one
-pub last_added_all : {C : Type 0} (eq : C → C → Bool) (ks ids : List (LogIdOf C)) → last_id (added_all eq ks ids) ≡ option_or (last_id ids) (last_id ks)
+pub last_added_all : {C : Type 0} (eq : C → C → Bool) (ks ids : List (LogIdOf C)) → last_id (keys_after_extend eq ks ids) ≡ option_or (last_id ids) (last_id ks)
 last_added_all eq ks [] = refl
-last_added_all eq ks (id ∷ ids) = last_added_all eq (added eq ks id) ids ∙ rw (last_added eq ks id) (last_or_new id ids (last_id ks))
+last_added_all eq ks (id ∷ ids) = last_added_all eq (keys_after_append eq ks id) ids ∙ rw (last_added eq ks id) (last_or_new id ids (last_id ks))
 
 module _ {C : Type 0} (eq : C → C → Bool) (same : (c : C) → eq c c ≡ true) (trans : (a b c : C) → eq a b ≡ true → eq b c ≡ true → eq a c ≡ true) where
   same_trans : (xs ys zs : List (LogIdOf C)) → SameLog eq xs ys → SameLog eq ys zs → SameLog eq xs zs
@@ -82,7 +82,7 @@ module _ {C : Type 0} (eq : C → C → Bool) (same : (c : C) → eq c c ≡ tru
   same_trans (x ∷ xs) (y ∷ ys) [] h g = absurd g
   same_trans (x ∷ xs) (y ∷ ys) (z ∷ zs) h g = (trans x.leader_id y.leader_id z.leader_id h.0 g.0, h.1 ∙ g.1, same_trans xs ys zs h.2 g.2)
 
-  same_missing : (xs ys : List (LogIdOf C)) (i : ℕ) → SameLog eq xs ys → SameLog eq (missing xs i) (missing ys i)
+  same_missing : (xs ys : List (LogIdOf C)) (i : ℕ) → SameLog eq xs ys → SameLog eq (missing_ids xs i) (missing_ids ys i)
   same_missing [] [] i h = tt
   same_missing [] (y ∷ ys) i h = absurd h
   same_missing (x ∷ xs) [] i h = absurd h
@@ -91,29 +91,29 @@ module _ {C : Type 0} (eq : C → C → Bool) (same : (c : C) → eq c c ≡ tru
   same_missing (x ∷ w ∷ xs) (y ∷ []) i h = absurd h.2
   same_missing (x ∷ w ∷ xs) (y ∷ z ∷ ys) i h = same_missing (w ∷ xs) (z ∷ ys) i h.2
 
-  pub same_appended : (xs ys : List (LogIdOf C)) (id : LogIdOf C) → SameLog eq xs ys → SameLog eq (appended xs id) (appended ys id)
-  same_appended xs ys id h = same_append eq same (xs ++ missing xs id.index) (ys ++ missing ys id.index) (id ∷ []) (id ∷ []) (same_append eq same xs ys (missing xs id.index) (missing ys id.index) h (same_missing xs ys id.index h)) (same_refl eq same (id ∷ []))
+  pub same_appended : (xs ys : List (LogIdOf C)) (id : LogIdOf C) → SameLog eq xs ys → SameLog eq (log_after_append xs id) (log_after_append ys id)
+  same_appended xs ys id h = same_append eq same (xs ++ missing_ids xs id.index) (ys ++ missing_ids ys id.index) (id ∷ []) (id ∷ []) (same_append eq same xs ys (missing_ids xs id.index) (missing_ids ys id.index) h (same_missing xs ys id.index h)) (same_refl eq same (id ∷ []))
 
-  pub same_extended : (xs ys ids : List (LogIdOf C)) → SameLog eq xs ys → SameLog eq (extended xs ids) (extended ys ids)
+  pub same_extended : (xs ys ids : List (LogIdOf C)) → SameLog eq xs ys → SameLog eq (log_after_extend xs ids) (log_after_extend ys ids)
   same_extended xs ys [] h = h
-  same_extended xs ys (id ∷ ids) h = same_extended (appended xs id) (appended ys id) ids (same_appended xs ys id h)
+  same_extended xs ys (id ∷ ids) h = same_extended (log_after_append xs id) (log_after_append ys id) ids (same_appended xs ys id h)
 
   module _ (cmp : C → C → Ordering) (less : (a b : C) → IsTrue (is_le (cmp a b)) → eq a b ≡ false → IsTrue (is_lt (cmp a b))) (upto : (a b c : C) → eq a b ≡ true → IsTrue (is_le (cmp b c)) → IsTrue (is_le (cmp a c))) where
     -- keys after several appends: a key list, with the full log of the same appends
-    pub all_stay : (ks ids : List (LogIdOf C)) → IsKeyList cmp ks → IsTrue (all_follow cmp (last_id ks) ids) → IsKeyList cmp (added_all eq ks ids)
+    pub all_stay : (ks ids : List (LogIdOf C)) → IsKeyList cmp ks → IsTrue (all_follow cmp (last_id ks) ids) → IsKeyList cmp (keys_after_extend eq ks ids)
     all_stay ks [] s h = s
     all_stay ks (id ∷ ids) s h =
         let b = both (follows cmp (last_id ks) id) (all_follow cmp (Some id) ids) h in
-        all_stay (added eq ks id) ids (stays_key_list eq same cmp less upto ks id s (can_append cmp ks id b.0)) (rw (last_added eq ks id) b.1)
+        all_stay (keys_after_append eq ks id) ids (stays_key_list eq same cmp less upto ks id s (can_append cmp ks id b.0)) (rw (last_added eq ks id) b.1)
 
-    pub full_after_all : (ks ids : List (LogIdOf C)) → IsKeyList cmp ks → IsTrue (all_follow cmp (last_id ks) ids) → SameLog eq (full_log (added_all eq ks ids)) (extended (full_log ks) ids)
+    pub full_after_all : (ks ids : List (LogIdOf C)) → IsKeyList cmp ks → IsTrue (all_follow cmp (last_id ks) ids) → SameLog eq (full_log (keys_after_extend eq ks ids)) (log_after_extend (full_log ks) ids)
     full_after_all ks [] s h = same_refl eq same (full_log ks)
     full_after_all ks (id ∷ ids) s h =
         let b = both (follows cmp (last_id ks) id) (all_follow cmp (Some id) ids) h in
         let can = can_append cmp ks id b.0 in
-        same_trans (full_log (added_all eq (added eq ks id) ids)) (extended (full_log (added eq ks id)) ids) (extended (appended (full_log ks) id) ids)
-        (full_after_all (added eq ks id) ids (stays_key_list eq same cmp less upto ks id s can) (rw (last_added eq ks id) b.1))
-        (same_extended (full_log (added eq ks id)) (appended (full_log ks) id) ids (full_after eq same cmp ks id s can))
+        same_trans (full_log (keys_after_extend eq (keys_after_append eq ks id) ids)) (log_after_extend (full_log (keys_after_append eq ks id)) ids) (log_after_extend (log_after_append (full_log ks) id) ids)
+        (full_after_all (keys_after_append eq ks id) ids (stays_key_list eq same cmp less upto ks id s can) (rw (last_added eq ks id) b.1))
+        (same_extended (full_log (keys_after_append eq ks id)) (log_after_append (full_log ks) id) ids (full_after eq same cmp ks id s can))
 
 -- a key or none is left
 pub short_list : {C : Type 0} (cmp : C → C → Ordering) (ks : List (LogIdOf C)) (n : ℕ) → length ks ≤ n + 1 → may_be_keys cmp (drop n ks) ≡ true

@@ -9,7 +9,7 @@ use Rattle.std.specs.List.Sorted.{IsPartitionedBy}
 use Rattle.std.proofs.lemmas.List.Folds.{find-append}
 use Rattle.std.proofs.lemmas.Bool.Decides.{nat_tests}
 use Rattle.raft_base.specs.declared.log_id.LogIdOf.{LogIdOf}
-use Rattle.raft_state.specs.FullLog.{end_index, filled, first_index, first_index_or, full_log, ids_of}
+use Rattle.raft_state.specs.FullLog.{end_index, ids_of_keys, first_index, first_index_or, full_log, ids_of}
 use Rattle.raft_state.specs.Inner.KeyList.{Rises, keys_to}
 use Rattle.raft_state.proofs.KeyListLemmas.{IsKeyList}
 use Rattle.raft_state.specs.LogReads.{id_at}
@@ -60,14 +60,14 @@ past_first [] j e k h = inl h
 past_first (l ∷ ls) j e k h = inr (let o = or_some (covering ls j) l k in grind (arith, nat_tests))
 
 -- the id at an index is that of the last key that is not past it
-pub at_filled : {C : Type 0} (b : ℕ) (ks : List (LogIdOf C)) (e j : ℕ) → Rises b ks e → id_at (filled ks e) j ≡ (if nat_lt j e then option_map (λ (k : LogIdOf C). let id : LogIdOf C = record { leader_id = k.leader_id; index = j } in id) (covering ks j) else None)
+pub at_filled : {C : Type 0} (b : ℕ) (ks : List (LogIdOf C)) (e j : ℕ) → Rises b ks e → id_at (ids_of_keys ks e) j ≡ (if nat_lt j e then option_map (λ (k : LogIdOf C). let id : LogIdOf C = record { leader_id = k.leader_id; index = j } in id) (covering ks j) else None)
 at_filled {C} b [] e j r = grind (arith, nat_tests)
 at_filled {C} b (k ∷ ks) e j r =
     let f = rises_first (k.index + 1) ks e r.1 in
     let g = rises_end (k.index + 1) ks e r.1 in
     let ih = at_filled (k.index + 1) ks e j r.1 in
     let n = first_index_or ks e - k.index in
-    rw (find-append (λ (id : LogIdOf C). id.index == j) (ids_of k.leader_id k.index n) (filled ks e))
+    rw (find-append (λ (id : LogIdOf C). id.index == j) (ids_of k.leader_id k.index n) (ids_of_keys ks e))
     (elim (cases_lt j k.index) [
       | inl below ↦ (let none : find (λ (id : LogIdOf C). id.index == j) (ids_of k.leader_id k.index n) ≡ None = ids_below k.leader_id k.index n j below in
           let gone : covering ks j ≡ None = covering_below ks j e (omega arith) in grind (arith, nat_tests))

@@ -3,7 +3,7 @@ use Rattle.std.proofs.Common.{◌≡◌, ℕ, zero, suc, ◌+◌, ◌-◌, ◌�
 use Rattle.std.specs.declared.cmp.Ordering.{Ordering}
 use Rattle.raft_base.specs.declared.log_id.LogIdOf.{LogIdOf}
 use Rattle.raft_state.specs.FullLog.{full_log, ids_of}
-use Rattle.raft_state.specs.Inner.KeyEdits.{added_after}
+use Rattle.raft_state.specs.Inner.KeyEdits.{rest_after_append}
 use Rattle.raft_state.proofs.KeyListLemmas.{IsKeyList}
 use Rattle.raft_state.specs.Keys.{by_last_leader}
 use Rattle.raft_state.specs.LogReads.{last_id, last_two_share_leader}
@@ -67,8 +67,8 @@ module _ {C : Type 0} (eq : C → C → Bool) where
     after_one true k l id e = congr k.leader_id l.leader_id id.leader_id (sym e)
     after_one false k l id e = refl
 
-    pub two_added : (k : LogIdOf C) (ks : List (LogIdOf C)) (id : LogIdOf C) → IfSome (last_id (k ∷ ks)) (λ last. last_two_share_leader eq (k ∷ added_after eq k ks id) ≡ eq last.leader_id id.leader_id)
+    pub two_added : (k : LogIdOf C) (ks : List (LogIdOf C)) (id : LogIdOf C) → IfSome (last_id (k ∷ ks)) (λ last. last_two_share_leader eq (k ∷ rest_after_append eq k ks id) ≡ eq last.leader_id id.leader_id)
     two_added k [] id = refl
     two_added k (l ∷ []) id = after_one (eq k.leader_id l.leader_id) k l id refl
     two_added k (l ∷ m ∷ ks) id =
-        rw (two_after_one k (l ∷ added_after eq l (m ∷ ks) id) (omega (arith, some_after eq same l (m ∷ ks) id))) (two_added l (m ∷ ks) id)
+        rw (two_after_one k (l ∷ rest_after_append eq l (m ∷ ks) id) (omega (arith, some_after eq same l (m ∷ ks) id))) (two_added l (m ∷ ks) id)

@@ -5,7 +5,7 @@ use Rattle.std.specs.Cmp.{IsEquivalence}
 use Rattle.raft_base.specs.LogId.{same_ids}
 use Rattle.raft_base.specs.declared.log_id.LogIdOf.{LogIdOf}
 use Rattle.raft_state.specs.FullLog.{end_index, first_index, first_index_or}
-use Rattle.raft_state.specs.LogEdits.{appended, extended, front, purged, rest}
+use Rattle.raft_state.specs.LogEdits.{log_after_append, log_after_extend, front, log_after_purge, rest}
 use Rattle.raft_state.specs.LogReads.{first_id, id_at, last_id}
 use Rattle.raft_state.specs.SameLog.{FindsSame, KeepsSame}
 use Rattle.raft_state.proofs.ExtendLemmas.{same_appended, same_extended}
@@ -48,7 +48,7 @@ module _ {C : Type 0} (eq : C → C → Bool) where
   same_tests same false true upto xs ys us vs h g = h
   same_tests same false false upto xs ys us vs h g = g
 
-  same_purged : (same : (c : C) → eq c c ≡ true) (xs ys : List (LogIdOf C)) (upto : LogIdOf C) → SameLog eq xs ys → SameLog eq (purged xs upto) (purged ys upto)
+  same_purged : (same : (c : C) → eq c c ≡ true) (xs ys : List (LogIdOf C)) (upto : LogIdOf C) → SameLog eq xs ys → SameLog eq (log_after_purge xs upto) (log_after_purge ys upto)
   same_purged same xs ys upto h =
       rw (same_end_index xs ys h, same_first_index xs ys 0 h)
       (same_tests same (nat_le (end_index ys) upto.index) (nat_lt upto.index (first_index ys)) upto xs ys (rest xs upto.index) (rest ys upto.index) h (same_filter (nat_le upto.index) xs ys h))
@@ -98,11 +98,11 @@ module _ {C : Type 0} (eq : C → C → Bool) (eqs : IsEquivalence eq) where
   trans : (a b c : C) → eq a b ≡ true → eq b c ≡ true → eq a c ≡ true
   trans a b c h g = eqs.congr a b c h ∙ g
 
-  pub appended_keeps : (id : LogIdOf C) → KeepsSame eq (λ log. appended log id)
-  appended_keeps id a b h = is_same eq (appended a id) (appended b id) (same_appended eq eqs.refl trans a b id (says_same eq a b h))
+  pub appended_keeps : (id : LogIdOf C) → KeepsSame eq (λ log. log_after_append log id)
+  appended_keeps id a b h = is_same eq (log_after_append a id) (log_after_append b id) (same_appended eq eqs.refl trans a b id (says_same eq a b h))
 
-  pub extended_keeps : (ids : List (LogIdOf C)) → KeepsSame eq (λ log. extended log ids)
-  extended_keeps ids a b h = is_same eq (extended a ids) (extended b ids) (same_extended eq eqs.refl trans a b ids (says_same eq a b h))
+  pub extended_keeps : (ids : List (LogIdOf C)) → KeepsSame eq (λ log. log_after_extend log ids)
+  extended_keeps ids a b h = is_same eq (log_after_extend a ids) (log_after_extend b ids) (same_extended eq eqs.refl trans a b ids (says_same eq a b h))
 
-  pub purged_keeps : (upto : LogIdOf C) → KeepsSame eq (λ log. purged log upto)
-  purged_keeps upto a b h = is_same eq (purged a upto) (purged b upto) (same_purged eq eqs.refl a b upto (says_same eq a b h))
+  pub purged_keeps : (upto : LogIdOf C) → KeepsSame eq (λ log. log_after_purge log upto)
+  purged_keeps upto a b h = is_same eq (log_after_purge a upto) (log_after_purge b upto) (same_purged eq eqs.refl a b upto (says_same eq a b h))

@@ -7,7 +7,7 @@ use Rattle.raft_base.specs.LogId.{id_lt, next_index}
 use Rattle.raft_base.specs.LogView.{LogView, prev_id}
 use Rattle.raft_base.specs.Logged.{Logged}
 use Rattle.raft_base.proofs.LoggedLemmas.{prev_at, prev_rises}
-use Rattle.raft_progress.specs.entry.Send.{can_be_sent, end_of, sent, start_of}
+use Rattle.raft_progress.specs.entry.Send.{can_be_sent, end_of, send_table, start_of}
 use Rattle.raft_progress.specs.inflight.Inflight.{is_idle}
 use Rattle.raft_progress.specs.declared.entry.ProgressEntryOf.{ProgressEntryOf}
 use Rattle.raft_progress.specs.declared.inflight.InflightOf.TheVariants.{Logs, Snapshot}
@@ -54,7 +54,7 @@ module _ {C : Type 0} (cmp : C → C → Ordering) (log : LogView C) (logged : L
     abbrev with_snapshot : ProgressEntryOf C → ProgressEntryOf C
     with_snapshot entry = record entry { curr_inflight_id = entry.curr_inflight_id + 1; inflight = Snapshot (entry.curr_inflight_id + 1) log.snapshot }
 
-    sent_logs : (entry : ProgressEntryOf C) → is_idle entry.inflight ≡ true → next_index log.purge_upto ≤ entry.searching_end → start_of entry log < end_of entry log n → sent cmp entry log n ≡ Ok (with_logs entry)
+    sent_logs : (entry : ProgressEntryOf C) → is_idle entry.inflight ≡ true → next_index log.purge_upto ≤ entry.searching_end → start_of entry log < end_of entry log n → send_table cmp entry log n ≡ Ok (with_logs entry)
     sent_logs entry idle long lt =
         let t : nat_lt entry.searching_end (next_index log.purge_upto) ≡ false = lt_false entry.searching_end (next_index log.purge_upto) long in
         let u : (start_of entry log == end_of entry log n) ≡ false = eq_false (start_of entry log) (end_of entry log n) lt in
@@ -62,7 +62,7 @@ module _ {C : Type 0} (cmp : C → C → Ordering) (log : LogView C) (logged : L
         rw (idle, t, u, v) refl
 
     -- what is sent is from the log
-    pub sends_from_log : (entry new : ProgressEntryOf C) → is_idle entry.inflight ≡ true → IsTrue (can_be_sent entry log) → sent cmp entry log n ≡ Ok new → FromLog log n entry new.inflight
+    pub sends_from_log : (entry new : ProgressEntryOf C) → is_idle entry.inflight ≡ true → IsTrue (can_be_sent entry log) → send_table cmp entry log n ≡ Ok new → FromLog log n entry new.inflight
     sends_from_log entry new idle can ok =
         let two = first_and_third (nat_le (next_index entry.matching) entry.searching_end) (nat_lt (next_index log.last) (2 ^ 64)) (nat_le entry.searching_end (next_index log.last)) (nat_lt (next_index log.purge_upto) (2 ^ 64)) (nat_lt (entry.curr_inflight_id + 1) (2 ^ 64)) (rw idle at can) in
         let me : next_index entry.matching ≤ entry.searching_end = true_le (next_index entry.matching) entry.searching_end two.0 in
@@ -70,7 +70,7 @@ module _ {C : Type 0} (cmp : C → C → Ordering) (log : LogView C) (logged : L
         let pl = logged.purged in
         elim (cases_lt entry.searching_end (next_index log.purge_upto)) [
           | inl short ↦ (let t : nat_lt entry.searching_end (next_index log.purge_upto) ≡ true = lt_true entry.searching_end (next_index log.purge_upto) short in
-              let s : sent cmp entry log n ≡ Ok (with_snapshot entry) = rw (idle, t) refl in
+              let s : send_table cmp entry log n ≡ Ok (with_snapshot entry) = rw (idle, t) refl in
               subst (λ (x : ProgressEntryOf C). FromLog log n entry x.inflight) (ok_inside _ _ (sym s ∙ ok)) refl)
           | inr long ↦ elim (cases_lt (start_of entry log) (end_of entry log n)) [
             | inl lt ↦ subst (λ (x : ProgressEntryOf C). FromLog log n entry x.inflight) (ok_inside _ _ (sym (sent_logs entry idle long lt) ∙ ok)) (refl, prev_at cmp log logged (start_of entry log) (omega arith) (omega arith), refl, prev_at cmp log logged (end_of entry log n) (omega arith) (omega arith))
@@ -78,10 +78,10 @@ module _ {C : Type 0} (cmp : C → C → Ordering) (log : LogView C) (logged : L
                 let u : (start_of entry log == end_of entry log n) ≡ true = eq_true (start_of entry log) (end_of entry log n) (omega arith) in
                 elim (cases_lt (next_index entry.matching) entry.searching_end) [
                   | inl wide ↦ (let v : nat_lt (next_index entry.matching) entry.searching_end ≡ true = lt_true (next_index entry.matching) entry.searching_end wide in
-                      let s : sent cmp entry log n ≡ Ok (with_snapshot entry) = rw (idle, t, u, v) refl in
+                      let s : send_table cmp entry log n ≡ Ok (with_snapshot entry) = rw (idle, t, u, v) refl in
                       subst (λ (x : ProgressEntryOf C). FromLog log n entry x.inflight) (ok_inside _ _ (sym s ∙ ok)) refl)
                   | inr shut ↦ (let v : nat_lt (next_index entry.matching) entry.searching_end ≡ false = lt_false (next_index entry.matching) entry.searching_end shut in
-                      let s : sent cmp entry log n ≡ Err entry = rw (idle, t, u, v) refl in absurd (not_both entry new (sym s ∙ ok)))
+                      let s : send_table cmp entry log n ≡ Err entry = rw (idle, t, u, v) refl in absurd (not_both entry new (sym s ∙ ok)))
                 ])
           ]
         ]

@@ -25,14 +25,15 @@ end_index log = next_index (last_id log)
 
 -- the log ids from the first key's index up to below e: each key's leader
 -- has the indexes up to the next key
-abbrev pub filled : {C : Type 0} → List (LogIdOf C) → ℕ → List (LogIdOf C)
-filled [] e = []
-filled (k ∷ ks) e = ids_of k.leader_id k.index (first_index_or ks e - k.index) ++ filled ks e
+abbrev pub ids_of_keys : {C : Type 0} → List (LogIdOf C) → ℕ → List (LogIdOf C)
+ids_of_keys [] e = []
+ids_of_keys (k ∷ ks) e =
+    ids_of k.leader_id k.index (first_index_or ks e - k.index) ++ ids_of_keys ks e
 
 -- the full log of keys: at each index from the first key's to the last key's, the
 -- leader of the last key not past it
 abbrev pub full_log : {C : Type 0} → List (LogIdOf C) → List (LogIdOf C)
-full_log keys = filled keys (end_index keys)
+full_log keys = ids_of_keys keys (end_index keys)
 
 -- the same indexes, under leaders that are equal by their own equality
 abbrev pub same_log : {C : Type 0} → (C → C → Bool) → List (LogIdOf C) → List (LogIdOf C) → Bool

@@ -42,9 +42,9 @@ known_node cmp m None = None
 known_node cmp m (Some id) = with_node id (node_at cmp m.nodes id)
 
 -- the node that a committed vote is for, where the membership has it
-abbrev pub leading_node : {K N L : Type 0} → (K → K → Ordering) → (L → Option K) → MemberList K N
+abbrev pub known_leader : {K N L : Type 0} → (K → K → Ordering) → (L → Option K) → MemberList K N
     → VoteIn L → Option (K × N)
-leading_node cmp voted m vote =
+known_leader cmp voted m vote =
     if vote.committed then known_node cmp m (voted vote.leader_id) else None
 
 -- a request is forwarded to an equal node under this id, or to no one

@@ -7,7 +7,7 @@ use Rattle.std.specs.declared.cmp.Ordering.{Ordering}
 use Rattle.raft_base.specs.LogId.{id_le, log_id_cmp}
 use Rattle.raft_base.specs.LogView.{LogView}
 use Rattle.raft_base.specs.declared.log_id.LogIdOf.{LogIdOf}
-use Rattle.raft_progress.specs.catch_up.CatchUp.{CaughtUp}
+use Rattle.raft_progress.specs.catch_up.CatchUp.{MatchesAll}
 use Rattle.raft_progress.specs.catch_up.HonestRun.{HonestRunEnds}
 use Rattle.raft_progress.specs.progress.InOrder.{IsInOrder}
 use Rattle.raft_progress.specs.progress.Shown.{Shown, state}
@@ -66,7 +66,7 @@ module _ {ID C QS : Type 0} (eq : ID → ID → Bool) where
   -- a follower has all
   abbrev pub IsCaughtUp : (C → C → Bool) → LogView C → Followers ID C QS → ID → Type 0
   IsCaughtUp same_leader log p id = (entry : ProgressEntryOf C)
-      × ((state eq p).value id ≡ Some entry) × CaughtUp same_leader log entry
+      × ((state eq p).value id ≡ Some entry) × MatchesAll same_leader log entry
 
   -- at least one voter ran, and the voters that ran are a quorum
   abbrev pub QuorumRan : (QS → (ID → Bool) → Bool) → Followers ID C QS → List ID → Type 0

@@ -1,7 +1,7 @@
 //! Catching up a follower with the state of its leader.
 ghost use Rattle.std.specs.Prelude.{◌≡◌, ◌+◌, ◌-◌, ◌*◌, ◌/◌, ◌^◌, ◌<◌, ◌≤◌, ℕ, List, IsTrue};
 ghost use Rattle.raft_base.specs.LogId.{id_le, next_index};
-ghost use Rattle.raft_progress.specs.catch_up.CatchUp.{CaughtUp};
+ghost use Rattle.raft_progress.specs.catch_up.CatchUp.{MatchesAll};
 ghost use Rattle.raft_progress.specs.catch_up.HonestRun.{HonestRunEnds};
 ghost use Rattle.raft_progress.specs.progress.VecProgress.{shown};
 ghost use Rattle.raft_progress.specs.search.Search.{stretch};
@@ -48,7 +48,7 @@ impl<
         requires { IsTrue (state_can_catch_up C.eq C.cmp self.now entry.old agree max_entries) }
         ensures run { HonestRunEnds C.cmp (view_of self.now) max_entries
             entry.old agree entry.new result.0 result.1 }
-        ensures caught_up { CaughtUp C.eq (view_of self.now) entry.new }
+        ensures caught_up { MatchesAll C.eq (view_of self.now) entry.new }
         ensures not_lowered { IsTrue (id_le C.cmp entry.old.matching entry.new.matching) }
         ensures conflicts { (k : ℕ) → stretch entry.old / 16 < 2 ^ k → result.0 ≤ k }
         ensures acks { let left =

@@ -3,7 +3,7 @@ ghost use Rattle.std.specs.Prelude.{◌≡◌, ◌+◌, ◌≤◌, ◌&&◌, max
 ghost use Rattle.std.specs.Option.{is_some, option_copied, option_or};
 ghost use Rattle.raft_state.specs.FullLog.{full_log, first_index, end_index, same_log};
 ghost use Rattle.raft_state.specs.LogReads.{id_at, first_id, last_id, last_two_share_leader, leader_count};
-ghost use Rattle.raft_state.specs.LogEdits.{appended, extended, front, purged};
+ghost use Rattle.raft_state.specs.LogEdits.{log_after_append, log_after_extend, front, log_after_purge};
 ghost use Rattle.raft_state.specs.LogConditions.{follows, all_follow, all_follow_of_one_leader, may_be_purged_to};
 ghost use Rattle.raft_state.specs.Keys.{may_be_keys, by_last_leader};
 
@@ -83,7 +83,7 @@ impl<C: Ord + Copy> LogIdListOf<C> {
         requires { IsTrue (all_follow_of_one_leader C.cmp C.eq (last_id (full_log self.old))
             (map LID.id_of new_ids.now)) }
         ensures ok { OnOk result (IsTrue (same_log C.eq (full_log self.new)
-            (extended (full_log self.old) (map LID.id_of new_ids.now)))) }
+            (log_after_extend (full_log self.old) (map LID.id_of new_ids.now)))) }
         ensures last { OnOk result (last_id (full_log self.new)
             ≡ option_or (last_id (map LID.id_of new_ids.now)) (last_id (full_log self.old))) }
         ensures err { OnErr result (self.new ≡ self.old) }
@@ -107,7 +107,7 @@ impl<C: Ord + Copy> LogIdListOf<C> {
         requires { IsTrue (all_follow C.cmp (last_id (full_log self.old))
             (map LID.id_of new_ids.now)) }
         ensures ok { OnOk result (IsTrue (same_log C.eq (full_log self.new)
-            (extended (full_log self.old) (map LID.id_of new_ids.now)))) }
+            (log_after_extend (full_log self.old) (map LID.id_of new_ids.now)))) }
         ensures last { OnOk result (last_id (full_log self.new)
             ≡ option_or (last_id (map LID.id_of new_ids.now)) (last_id (full_log self.old))) }
         ensures err { OnErr result (self.new ≡ self.old) }
@@ -133,7 +133,7 @@ impl<C: Ord + Copy> LogIdListOf<C> {
     pub fn append(&mut self, new_log_id: LogIdOf<C>) -> Result<(), AllocError>
         requires { IsTrue (follows C.cmp (last_id (full_log self.old)) new_log_id) }
         ensures ok { OnOk result (IsTrue (same_log C.eq (full_log self.new)
-            (appended (full_log self.old) new_log_id))) }
+            (log_after_append (full_log self.old) new_log_id))) }
         ensures last { OnOk result (last_id (full_log self.new) ≡ Some new_log_id) }
         ensures last_two { IfSome (last_id (full_log self.old)) (λ last. OnOk result
             (last_two_share_leader C.eq (full_log self.new)
@@ -168,7 +168,8 @@ impl<C: Ord + Copy> LogIdListOf<C> {
     /// `upto`. Only an empty list wants memory.
     pub fn purge(&mut self, upto: &LogIdOf<C>) -> Result<(), AllocError>
         requires { IsTrue (may_be_purged_to C.cmp (last_id (full_log self.old)) upto.now) }
-        ensures ok { OnOk result (full_log self.new ≡ purged (full_log self.old) upto.now) }
+        ensures ok { OnOk result (full_log self.new ≡ log_after_purge (full_log self.old)
+            upto.now) }
         ensures first { OnOk result (first_index (full_log self.new)
             ≡ max (first_index (full_log self.old)) upto.now.index) }
         ensures was_empty { OnErr result (full_log self.old ≡ []) }

@@ -13,16 +13,16 @@ ghost use Rattle.raft_state.specs.Accepted.{leader_of, accepted_id, after_accept
 ghost use Rattle.raft_state.specs.Commit.{state_after_commit, committed_before, state_commits, state_may_commit};
 ghost use Rattle.raft_state.specs.FirstDenied.{first_denied};
 ghost use Rattle.raft_state.specs.FullLog.{full_log, same_log};
-ghost use Rattle.raft_state.specs.Leads.{is_initialized, is_leading, server_state_of, leading_node, ForwardsTo};
+ghost use Rattle.raft_state.specs.Leads.{is_initialized, is_leading, server_state_of, known_leader, ForwardsTo};
 ghost use Rattle.raft_state.specs.LogConditions.{all_follow, all_follow_of_one_leader};
-ghost use Rattle.raft_state.specs.LogEdits.{extended, purged};
+ghost use Rattle.raft_state.specs.LogEdits.{log_after_extend, log_after_purge};
 ghost use Rattle.raft_state.specs.LogReads.{last_id};
 ghost use Rattle.raft_state.specs.Memberships.{in_effect};
 ghost use Rattle.raft_state.specs.NewState.{IsNewState, HasNewVote};
 ghost use Rattle.raft_state.specs.Purge.{may_purge};
 ghost use Rattle.raft_state.specs.SnapshotMeta.{IsSnapshotCopy};
 ghost use Rattle.raft_state.specs.StateView.{view_of, vote_of};
-ghost use Rattle.raft_state.specs.Valid.{broken_relation, fits_purged_next, is_logged, upto_relation};
+ghost use Rattle.raft_state.specs.Valid.{broken_relation, fits_purged_next, has_purge_id, upto_relation};
 
 use crate::accepted::AcceptedIn;
 use crate::io_state::{IOStateIn, LogIOIdOf};
@@ -328,7 +328,7 @@ impl<
         requires { IsTrue (all_follow_of_one_leader C.cmp C.eq
             (last_id (full_log self.old.log_ids)) (map LID.id_of new_log_ids.now)) }
         ensures log { OnOk result (IsTrue (same_log C.eq (full_log self.new.log_ids)
-            (extended (full_log self.old.log_ids) (map LID.id_of new_log_ids.now)))) }
+            (log_after_extend (full_log self.old.log_ids) (map LID.id_of new_log_ids.now)))) }
         ensures last { OnOk result (last_id (full_log self.new.log_ids)
             ≡ option_or (last_id (map LID.id_of new_log_ids.now))
             (last_id (full_log self.old.log_ids))) }
@@ -347,7 +347,7 @@ impl<
         requires { IsTrue (all_follow C.cmp (last_id (full_log self.old.log_ids))
             (map LID.id_of new_log_ids.now)) }
         ensures log { OnOk result (IsTrue (same_log C.eq (full_log self.new.log_ids)
-            (extended (full_log self.old.log_ids) (map LID.id_of new_log_ids.now)))) }
+            (log_after_extend (full_log self.old.log_ids) (map LID.id_of new_log_ids.now)))) }
         ensures last { OnOk result (last_id (full_log self.new.log_ids)
             ≡ option_or (last_id (map LID.id_of new_log_ids.now))
             (last_id (full_log self.old.log_ids))) }
@@ -478,7 +478,7 @@ impl<
     pub fn purge_log(&mut self, upto: &LogIdOf<C>) -> Result<(), AllocError>
         requires { IsTrue (may_purge C.cmp (full_log self.old.log_ids) upto.now) }
         ensures log { OnOk result
-            (full_log self.new.log_ids ≡ purged (full_log self.old.log_ids) upto.now) }
+            (full_log self.new.log_ids ≡ log_after_purge (full_log self.old.log_ids) upto.now) }
         ensures rest { OnOk result (self.new ≡ record self.old {
           purged_next = upto.now.index + 1;
           log_ids = self.new.log_ids;
@@ -497,7 +497,7 @@ impl<
     /// A valid state may have a purge point that is not in its log: its relations compare log ids
     /// by their leaders first.
     pub fn purge_upto_is_logged(&self) -> bool
-        ensures exact { result ≡ is_logged C.eq (view_of self.now) self.now.purge_upto }
+        ensures exact { result ≡ has_purge_id C.eq (view_of self.now) self.now.purge_upto }
         ensures logged { broken_relation C.cmp self.now ≡ None → IsTrue result →
             Logged C.cmp (view_of self.now) }
     {
@@ -507,7 +507,7 @@ impl<
 
     // Whether the purge point is absent or the log id at its index.
     fn has_purge_upto(&self) -> bool
-        ensures { result ≡ is_logged C.eq (view_of self.now) self.now.purge_upto }
+        ensures { result ≡ has_purge_id C.eq (view_of self.now) self.now.purge_upto }
     {
         match self.purge_upto {
             None => true,
@@ -561,9 +561,9 @@ impl<
     /// effect has it. Where there is none, no memory is taken.
     pub fn forward_to_leader(&self) -> Result<ForwardToLeader<NID, N>, AllocError>
         requires { ClonesAreEqual N.eq N.is_clone }
-        ensures node { IfOk result (ForwardsTo N.eq (leading_node NID.cmp L.voted
+        ensures node { IfOk result (ForwardsTo N.eq (known_leader NID.cmp L.voted
             (in_effect self.now.membership_state) (vote_of self.now))) }
-        ensures no_memory { leading_node NID.cmp L.voted
+        ensures no_memory { known_leader NID.cmp L.voted
             (in_effect self.now.membership_state) (vote_of self.now)
             ≡ None → IsOk result }
     {

@@ -2,7 +2,7 @@
 ghost use Rattle.std.specs.Prelude.{◌≡◌, IfOk, OnOk, OnErr, IsTrue, Some, false};
 ghost use Rattle.raft_state.specs.FullLog.{full_log, same_log};
 ghost use Rattle.raft_state.specs.LogReads.{last_id};
-ghost use Rattle.raft_state.specs.LogEdits.{appended, front};
+ghost use Rattle.raft_state.specs.LogEdits.{log_after_append, front};
 ghost use Rattle.raft_state.specs.LogConditions.{follows};
 
 use super::words::{call_is_right, log_ids};
@@ -21,7 +21,7 @@ fn replace_from<C: Ord + Copy>(
 ) -> Result<bool, AllocError>
     ensures replaced { IfOk result (λ taken. IsTrue taken →
         IsTrue (same_log C.eq (full_log list.new)
-        (appended (front (full_log list.old) id.index) id))) }
+        (log_after_append (front (full_log list.old) id.index) id))) }
     ensures refused { IfOk result (λ taken. taken ≡ false →
         full_log list.new ≡ front (full_log list.old) id.index) }
     ensures err { OnErr result (full_log list.new ≡ front (full_log list.old) id.index) }
@@ -43,7 +43,7 @@ fn take_both<C: Ord + Copy>(
     requires first { IsTrue (follows C.cmp (last_id (full_log list.old)) first) }
     requires second { IsTrue (follows C.cmp (Some first) second) }
     ensures both { OnOk result (IsTrue (same_log C.eq (full_log list.new)
-        (appended (appended (full_log list.old) first) second))) }
+        (log_after_append (log_after_append (full_log list.old) first) second))) }
     ensures last { OnOk result (last_id (full_log list.new) ≡ Some second) }
 {
     same_logs_stay_same::<C>();

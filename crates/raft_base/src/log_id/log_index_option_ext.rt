@@ -1,7 +1,7 @@
 //! Indexes that may be absent, as that of the last entry of a log that may be empty.
 ghost use Rattle.std.specs.Prelude.{◌≡◌, ◌+◌, ◌<◌, ◌^◌, ℕ, nat_lt, IsSome};
 ghost use Rattle.std.specs.declared.option.Option.{Option};
-ghost use Rattle.raft_base.specs.LogIndex.{index_before, moved_on, next_index_of};
+ghost use Rattle.raft_base.specs.LogIndex.{index_before, index_plus, next_index_of};
 
 /// Steps between an index that may be absent and those beside it.
 pub trait LogIndexOptionExt: Sized {
@@ -29,7 +29,7 @@ pub trait LogIndexOptionExt: Sized {
     /// The index so many places on; where `can_add` is true.
     fn add(&self, places: u64) -> Self
         requires { next_index_of (shown self.now) + places < 2 ^ 64 }
-        ensures { shown result ≡ moved_on (shown self.now) places };
+        ensures { shown result ≡ index_plus (shown self.now) places };
 }
 
 impl LogIndexOptionExt for Option<u64> {

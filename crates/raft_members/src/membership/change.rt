@@ -7,7 +7,7 @@ ghost use Rattle.std.specs.BTreeSet.{contains};
 ghost use Rattle.raft_members.specs.Coherence.{is_coherent};
 ghost use Rattle.raft_members.specs.Members.{node_at, members_of, Says};
 ghost use Rattle.raft_members.specs.Valid.{IsValid};
-ghost use Rattle.raft_members.specs.Change.{next_members, with_nodes, changed, last_config, united, without};
+ghost use Rattle.raft_members.specs.Change.{next_members, with_nodes, changed, last_config, union_of, without};
 ghost use Rattle.raft_members.specs.declared.change_members.ChangeMembers.TheVariants.{AddVoters};
 ghost use Rattle.raft_members.specs.Refusal.{IsRefusal};
 ghost use Rattle.raft_members.specs.declared.error.ChangeMembershipErrorOf.TheVariants.{OutOfMemory};
@@ -103,7 +103,7 @@ impl<NID: NodeId, N: Node> Membership<NID, N> {
         requires { ClonesAreEqual N.eq N.is_clone }
         ensures { IfOk result (λ m. Says N.eq NID.cmp m
             (next_members NID.eq (members_of NID.cmp self.now)
-            (united NID.cmp (last_config self.now.configs) ids.keys) retain)) }
+            (union_of NID.cmp (last_config self.now.configs) ids.keys) retain)) }
     {
         let alloc = *self.configs.allocator();
         let goal = configs::last_with(alloc, &self.configs, ids)?;

@@ -9,7 +9,7 @@ ghost use Rattle.raft_members.specs.Majority.{is_voter_of};
 ghost use Rattle.raft_members.specs.Coherence.{next_configs};
 ghost use Rattle.raft_members.specs.Valid.{is_empty_config, has_empty_config};
 ghost use Rattle.raft_members.specs.Inner.Configs.{ids_of_configs};
-ghost use Rattle.raft_members.specs.Change.{last_config, united, without};
+ghost use Rattle.raft_members.specs.Change.{last_config, union_of, without};
 
 use super::ids;
 use crate::quorum::ids_of_each;
@@ -58,7 +58,7 @@ pub fn last_with<ID: Copy + Ord>(
     ids: BTreeSet<ID>,
 ) -> Result<BTreeSet<ID>, AllocError>
     ensures { IfOk result (λ set.
-        set.keys ≡ united ID.cmp (last_config (ids_of_configs configs.now)) ids.keys) }
+        set.keys ≡ union_of ID.cmp (last_config (ids_of_configs configs.now)) ids.keys) }
 {
     match configs.last() {
         None => Ok(ids),
@@ -105,7 +105,7 @@ fn union<ID: Copy + Ord>(
     these: &BTreeSet<ID>,
     others: &BTreeSet<ID>,
 ) -> Result<BTreeSet<ID>, AllocError>
-    ensures { IfOk result (λ set. set.keys ≡ united ID.cmp these.now.keys others.now.keys) }
+    ensures { IfOk result (λ set. set.keys ≡ union_of ID.cmp these.now.keys others.now.keys) }
 {
     let mut set = BTreeSet::new(alloc);
     for id in these.union(others) {

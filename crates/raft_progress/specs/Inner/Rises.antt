@@ -3,7 +3,7 @@ use Rattle.std.specs.Prelude.{◌≡◌, ℕ, ◌+◌, ◌^◌, ◌<◌, ◌≤�
 use Rattle.std.specs.declared.cmp.Ordering.{Ordering}
 use Rattle.std.specs.Ordering.{is_lt}
 use Rattle.std.specs.List.{AllByRecursion}
-use Rattle.raft_progress.specs.Inner.Counts.{front_test}
+use Rattle.raft_progress.specs.Inner.Recount.{front_test}
 use Rattle.raft_progress.specs.progress.CountedValue.{AtMost}
 
 module _ {ID V P : Type 0} (cmp : P → P → Ordering) (part : V → P) where

@@ -4,10 +4,10 @@ use Rattle.std.specs.declared.cmp.Ordering.{Ordering}
 use Rattle.std.specs.Ordering.{is_le, is_lt}
 use Rattle.std.specs.List.{prefix_len}
 use Rattle.std.proofs.Common.{get_or}
-use Rattle.raft_progress.specs.Inner.Counts.{exceeds}
+use Rattle.raft_progress.specs.Inner.Recount.{exceeds}
 use Rattle.raft_progress.specs.Inner.Rises.{IsLeastFront, RisesTo}
 use Rattle.raft_progress.specs.progress.Shown.{Shown}
-use Rattle.raft_progress.specs.progress.Statistics.{counted_up}
+use Rattle.raft_progress.specs.progress.Statistics.{count_after}
 
 -- the parts that no step changes
 pub record IsSameGroup {ID V P QS : Type 0} (old new : Shown ID V P QS) : Type 0 where
@@ -27,7 +27,7 @@ module _ {ID V P QS : Type 0} (eq : ID → ID → Bool) (cmp : P → P → Order
     pub tests : ℕ
     pub scanned : IsLeastFront eq (has_quorum old.quorum_set) (take old.voter_count old.walk) place
         (prefix_len (exceeds cmp part old.granted) (take old.voter_count old.walk)) found tests
-    pub counts : new.stat.is_quorum_count ≡ counted_up old.stat.is_quorum_count tests
+    pub counts : new.stat.is_quorum_count ≡ count_after old.stat.is_quorum_count tests
     pub stays : found ≡ None → new.granted ≡ old.granted
     pub rises : (k : ℕ) → found ≡ Some k
         → (f : ID × V) × (f ≡ get_or (take old.voter_count old.walk) (k - 1) f)
@@ -36,17 +36,17 @@ module _ {ID V P QS : Type 0} (eq : ID → ID → Bool) (cmp : P → P → Order
 module _ {ID V P QS : Type 0} (eq : ID → ID → Bool) (cmp : P → P → Ordering) (part : V → P)
     (has_quorum : QS → (ID → Bool) → Bool) where
   -- the voter has risen to a place, and the fronts past it were tested where they had to be
-  pub record IsRaised (old : Shown ID V P QS) (place : ℕ) (looks : Bool) (new : Shown ID V P QS)
+  pub record IsRaised (old : Shown ID V P QS) (place : ℕ) (may_grant : Bool) (new : Shown ID V P QS)
       : Type 0 where
     pub middle : Shown ID V P QS
     pub group : IsSameGroup old middle
     pub granted : middle.granted ≡ old.granted
     pub tests : middle.stat.is_quorum_count ≡ old.stat.is_quorum_count
-    pub moves : middle.stat.move_count ≡ counted_up old.stat.move_count 1
+    pub moves : middle.stat.move_count ≡ count_after old.stat.move_count 1
     pub to : ℕ
     pub rises : RisesTo cmp part old.walk place middle.walk to
-    pub looked : looks ≡ true → IsScanned eq cmp part has_quorum middle to new
-    pub kept : looks ≡ false → new ≡ middle
+    pub looked : may_grant ≡ true → IsScanned eq cmp part has_quorum middle to new
+    pub kept : may_grant ≡ false → new ≡ middle
 
 module _ {ID V P QS : Type 0} (eq : ID → ID → Bool) (cmp : P → P → Ordering) (part : V → P)
     (has_quorum : QS → (ID → Bool) → Bool) where

@@ -3,7 +3,7 @@ use Rattle.std.specs.Prelude.{◌≡◌, ℕ, ◌+◌, ◌<◌, ◌≤◌, ◌^�
 use Rattle.std.specs.declared.cmp.Ordering.{Ordering}
 use Rattle.raft_base.specs.LogId.{id_le, next_index, same_ids}
 use Rattle.raft_base.specs.LogView.{LogView, prev_id}
-use Rattle.raft_progress.specs.catch_up.CatchUp.{CaughtUp}
+use Rattle.raft_progress.specs.catch_up.CatchUp.{MatchesAll}
 use Rattle.raft_progress.specs.catch_up.HonestRun.{turn}
 use Rattle.raft_progress.specs.inflight.Inflight.{is_idle}
 use Rattle.raft_progress.specs.declared.catch_up.Turn.{Turn}
@@ -11,7 +11,8 @@ use Rattle.raft_progress.specs.declared.catch_up.Turn.TheVariants.{Ended, Refuse
 use Rattle.raft_progress.specs.declared.entry.ProgressEntryOf.{ProgressEntryOf}
 
 -- where a run may begin, and stands between its turns
-pub record Ready {C : Type 0} (eq : C → C → Bool) (cmp : C → C → Ordering) (log : LogView C) (n : ℕ)
+pub record IsBetweenTurns {C : Type 0} (eq : C → C → Bool) (cmp : C → C → Ordering)
+    (log : LogView C) (n : ℕ)
     (entry : ProgressEntryOf C) (agree : ℕ) : Type 0 where
   pub idle : is_idle entry.inflight ≡ true
   pub some : 1 ≤ n
@@ -32,7 +33,7 @@ module _ {C : Type 0} (eq : C → C → Bool) (cmp : C → C → Ordering) (log 
   abbrev pub TurnDone : ProgressEntryOf C → ℕ → Turn → ProgressEntryOf C → ℕ → Type 0
   TurnDone entry agree Ended new after =
       ((c k : ℕ) → turn cmp log n (record { entry = entry; agree = agree; conflicts = c; acks = k })
-      ≡ None) × (new ≡ entry) × (after ≡ agree) × CaughtUp eq log entry
+      ≡ None) × (new ≡ entry) × (after ≡ agree) × MatchesAll eq log entry
   TurnDone entry agree Refused new after =
       (c k : ℕ) → turn cmp log n (record { entry = entry; agree = agree; conflicts = c; acks = k })
       ≡ Some (record { entry = new; agree = after; conflicts = c + 1; acks = k })

@@ -39,7 +39,7 @@ can_catch_up eq cmp log entry agree max_entries =
 
 -- all is sent and matched: nothing is in flight, the search ends after the last
 -- log id, and the match is that one
-pub record CaughtUp {C : Type 0} (eq : C → C → Bool) (log : LogView C) (entry : ProgressEntryOf C)
+pub record MatchesAll {C : Type 0} (eq : C → C → Bool) (log : LogView C) (entry : ProgressEntryOf C)
     : Type 0 where
   pub idle : is_idle entry.inflight ≡ true
   pub match_end : next_index entry.matching ≡ next_index log.last

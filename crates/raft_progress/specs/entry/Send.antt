@@ -25,9 +25,9 @@ end_of entry log max_entries = min (start_of entry log + max_entries) (next_inde
 -- A send where nothing is in flight: a snapshot where each match that is still possible is purged,
 -- or where there is no log to probe with; nothing where there is no log to send; else logs. What is
 -- sent takes the next request id.
-abbrev pub sent_idle : {C : Type 0} → (C → C → Ordering) → ProgressEntryOf C → LogView C → ℕ
+abbrev pub idle_send_table : {C : Type 0} → (C → C → Ordering) → ProgressEntryOf C → LogView C → ℕ
     → Result (ProgressEntryOf C) (ProgressEntryOf C)
-sent_idle cmp entry log max_entries =
+idle_send_table cmp entry log max_entries =
     let matched = next_index entry.matching in
     let end = entry.searching_end in
     let purged = next_index log.purge_upto in
@@ -43,10 +43,10 @@ sent_idle cmp entry log max_entries =
 
 -- the entry after a send, as Err where nothing was sent: something is in flight
 -- already, or there is no log to send
-abbrev pub sent : {C : Type 0} → (C → C → Ordering) → ProgressEntryOf C → LogView C → ℕ
+abbrev pub send_table : {C : Type 0} → (C → C → Ordering) → ProgressEntryOf C → LogView C → ℕ
     → Result (ProgressEntryOf C) (ProgressEntryOf C)
-sent cmp entry log max_entries =
-    if is_idle entry.inflight then sent_idle cmp entry log max_entries else Err entry
+send_table cmp entry log max_entries =
+    if is_idle entry.inflight then idle_send_table cmp entry log max_entries else Err entry
 
 -- a send may be made where something is in flight; else the match is below the end of the search,
 -- which is not past the log, and no index nor the request id is the greatest u64

@@ -25,22 +25,24 @@ abbrev pub if_mine : {S : Type 0} → ℕ → ℕ → Result S InflightError →
 if_mine mine id answer = if mine == id then answer else Err (InvalidRequestId (Some mine) id)
 
 -- the follower has all up to an id: the logs after it stay in flight; a snapshot has come
-abbrev pub acked : {C : Type 0} → (C → C → Ordering) → InflightOf C → ℕ → Option (LogIdOf C)
+abbrev pub inflight_after_ack : {C : Type 0} → (C → C → Ordering) → InflightOf C → ℕ
+    → Option (LogIdOf C)
     → Result (InflightOf C) InflightError
-acked cmp Idle id upto = Err (InvalidRequestId None id)
-acked cmp (Logs mine range) id upto =
+inflight_after_ack cmp Idle id upto = Err (InvalidRequestId None id)
+inflight_after_ack cmp (Logs mine range) id upto =
     if_mine mine id (if is_within cmp range upto then Ok (logs_from cmp mine upto range.last)
     else Err AckOutOfRange)
-acked cmp (Snapshot mine last) id upto =
+inflight_after_ack cmp (Snapshot mine last) id upto =
     if_mine mine id (if id_lt cmp upto last then Err SnapshotAckRegress else Ok Idle)
 
 -- the follower does not have the log before those in flight: nothing stays in flight
-abbrev pub conflicted : {C : Type 0} → InflightOf C → ℕ → ℕ → Result (InflightOf C) InflightError
-conflicted Idle id index = Err (InvalidRequestId None id)
-conflicted (Logs mine range) id index =
+abbrev pub inflight_after_conflict : {C : Type 0} → InflightOf C → ℕ → ℕ
+    → Result (InflightOf C) InflightError
+inflight_after_conflict Idle id index = Err (InvalidRequestId None id)
+inflight_after_conflict (Logs mine range) id index =
     if_mine mine id (if option_eq nat_eq (index_of range.prev) (Some index) then Ok Idle
     else Err ConflictNotAtPrev)
-conflicted (Snapshot mine last) id index = if_mine mine id (Err ConflictOnSnapshot)
+inflight_after_conflict (Snapshot mine last) id index = if_mine mine id (Err ConflictOnSnapshot)
 
 -- a call does what a table says: the value becomes the table's, or the refusal is the
 -- table's and the value is as it was

@@ -7,13 +7,13 @@ abbrev pub no_counts : Stat
 no_counts = record { update_count = 0; move_count = 0; is_quorum_count = 0 }
 
 -- a count that stays at the greatest u64
-abbrev pub counted_up : ℕ → ℕ → ℕ
-counted_up old more = min (old + more) (2 ^ 64 - 1)
+abbrev pub count_after : ℕ → ℕ → ℕ
+count_after old more = min (old + more) (2 ^ 64 - 1)
 
 -- the counts have gone on over some updates: each is counted, at most one move for each, and for
 -- each at most as many quorum tests as the number of voters has binary digits
 pub record CountsGoOn (updates voters : ℕ) (old new : Stat) : Type 0 where
-  pub updated : new.update_count ≡ counted_up old.update_count updates
-  pub moved : (k : ℕ) × (k ≤ updates) × (new.move_count ≡ counted_up old.move_count k)
+  pub updated : new.update_count ≡ count_after old.update_count updates
+  pub moved : (k : ℕ) × (k ≤ updates) × (new.move_count ≡ count_after old.move_count k)
   pub tested : (k : ℕ) × ((d : ℕ) → voters < 2 ^ d → k ≤ updates * d)
-      × (new.is_quorum_count ≡ counted_up old.is_quorum_count k)
+      × (new.is_quorum_count ≡ count_after old.is_quorum_count k)

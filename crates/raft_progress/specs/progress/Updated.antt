@@ -6,8 +6,8 @@ use Rattle.std.specs.Ordering.{is_le, is_lt, partial_gt}
 use Rattle.std.specs.Map.{set_value}
 use Rattle.raft_progress.specs.progress.CountedValue.{AtMost}
 use Rattle.raft_progress.specs.progress.ProgressState.{Writes}
-use Rattle.raft_progress.specs.progress.Statistics.{counted_up}
-use Rattle.raft_progress.specs.progress.Walk.{risen}
+use Rattle.raft_progress.specs.progress.Statistics.{count_after}
+use Rattle.raft_progress.specs.progress.Walk.{walk_after_rise}
 use Rattle.raft_progress.specs.progress.Shown.{Shown, state}
 
 module _ {ID V P QS : Type 0} (eq : ID → ID → Bool) (cmp : P → P → Ordering) (part : V → P) where
@@ -30,12 +30,12 @@ module _ {ID V P QS : Type 0} (eq : ID → ID → Bool) (cmp : P → P → Order
   pub record IsSettled (old : Shown ID V P QS) (id : ID) (v w : V) (new : Shown ID V P QS)
       : Type 0 where
     pub rises : rises_past_granted old id v w ≡ true
-        → (new.walk ≡ risen cmp part (eq id) [] (set_value (eq id) old.walk w))
-        × (new.stat.move_count ≡ counted_up old.stat.move_count 1)
+        → (new.walk ≡ walk_after_rise cmp part (eq id) [] (set_value (eq id) old.walk w))
+        × (new.stat.move_count ≡ count_after old.stat.move_count 1)
     pub stays : rises_past_granted old id v w ≡ false
         → (new.walk ≡ set_value (eq id) old.walk w) × (new.stat.move_count ≡ old.stat.move_count)
     pub tests : ℕ
-    pub counts_tests : new.stat.is_quorum_count ≡ counted_up old.stat.is_quorum_count tests
+    pub counts_tests : new.stat.is_quorum_count ≡ count_after old.stat.is_quorum_count tests
     pub few_tests : (k : ℕ) → old.voter_count < 2 ^ k → tests ≤ k
     pub tested_to_rise : is_lt (cmp old.granted new.granted) ≡ true → 1 ≤ tests
     pub not_tested : passes_granted old id v w ≡ false → (tests ≡ 0) × (new.granted ≡ old.granted)
@@ -44,7 +44,7 @@ module _ {ID V P QS : Type 0} (eq : ID → ID → Bool) (cmp : P → P → Order
   -- unknown id nothing but the count of updates has changed.
   pub record IsUpdated (Left : V → V → Type 0) (old : Shown ID V P QS) (id : ID)
       (new : Shown ID V P QS) : Type 0 where
-    pub counts : new.stat.update_count ≡ counted_up old.stat.update_count 1
+    pub counts : new.stat.update_count ≡ count_after old.stat.update_count 1
     pub same_voter_count : new.voter_count ≡ old.voter_count
     pub not_lower : AtMost cmp old.granted new.granted
     pub known : (v : V) → (state eq old).value id ≡ Some v
@@ -52,7 +52,7 @@ module _ {ID V P QS : Type 0} (eq : ID → ID → Bool) (cmp : P → P → Order
         × IsSettled old id v w new
     pub unknown : (state eq old).value id ≡ None
         → new ≡ record old {
-          stat = record old.stat { update_count = counted_up old.stat.update_count 1 };
+          stat = record old.stat { update_count = count_after old.stat.update_count 1 };
         }
 
 module _ {ID V P QS : Type 0} (eq : ID → ID → Bool) (cmp : P → P → Ordering) (part : V → P) where

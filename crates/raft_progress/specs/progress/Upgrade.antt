@@ -34,7 +34,7 @@ module _ {ID V P : Type 0} (eq : ID → ID → Bool) (cmp : P → P → Ordering
       → AtMost cmp (part default) (part v)
 
   -- an id whose inherited value is below the default
-  pub record IsBelow (learners : List ID) (default : V) (old : ID → Option V) (x : ID)
+  pub record InheritsBelow (learners : List ID) (default : V) (old : ID → Option V) (x : ID)
       : Type 0 where
     pub inherited : (is_voter x || is_member eq learners x) ≡ true
     pub value : V
@@ -46,6 +46,6 @@ module _ {ID V P : Type 0} (eq : ID → ID → Bool) (id_cmp : ID → ID → Ord
   -- the least such id
   pub record IsLeastBelow (learners : List ID) (default : V) (old : ID → Option V) (id : ID)
       : Type 0 where
-    pub is_below : IsBelow eq cmp part is_voter learners default old id
-    pub least : (x : ID) → IsBelow eq cmp part is_voter learners default old x
+    pub inherits_below : InheritsBelow eq cmp part is_voter learners default old id
+    pub least : (x : ID) → InheritsBelow eq cmp part is_voter learners default old x
         → is_le (id_cmp id x) ≡ true

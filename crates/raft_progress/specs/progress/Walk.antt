@@ -39,7 +39,8 @@ module _ {ID V P : Type 0} (cmp : P → P → Ordering) (part : V → P) where
 
   -- the walk, before and then the rest, in which an id of the rest has risen: its entry is put, by
   -- put_after_last, among all those before it
-  abbrev pub risen : (ID → Bool) → List (ID × V) → List (ID × V) → List (ID × V)
-  risen is_id before [] = before
-  risen is_id before (e ∷ es) =
-      if is_id e.0 then put_after_last e before ++ es else risen is_id (before ++ e ∷ []) es
+  abbrev pub walk_after_rise : (ID → Bool) → List (ID × V) → List (ID × V) → List (ID × V)
+  walk_after_rise is_id before [] = before
+  walk_after_rise is_id before (e ∷ es) =
+      if is_id e.0 then put_after_last e before ++ es
+      else walk_after_rise is_id (before ++ e ∷ []) es

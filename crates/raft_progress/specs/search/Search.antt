@@ -3,8 +3,8 @@ use Rattle.std.specs.Prelude.{ℕ, ◌+◌, ◌-◌, ◌≤◌, ◌≡◌, true,
 use Rattle.std.specs.declared.cmp.Ordering.{Ordering}
 use Rattle.raft_base.specs.LogId.{next_index}
 use Rattle.raft_base.specs.LogView.{LogView}
-use Rattle.raft_progress.specs.entry.EntryTable.{conflicting}
-use Rattle.raft_progress.specs.entry.Send.{can_be_sent, sent}
+use Rattle.raft_progress.specs.entry.EntryTable.{entry_after_conflict}
+use Rattle.raft_progress.specs.entry.Send.{can_be_sent, send_table}
 use Rattle.raft_progress.specs.inflight.Inflight.{is_idle}
 use Rattle.raft_progress.specs.declared.entry.ProgressEntryOf.{ProgressEntryOf}
 use Rattle.raft_progress.specs.declared.search.SearchEvent.{SearchEvent}
@@ -43,7 +43,7 @@ module _ {L C : Type 0} (cmp : C → C → Ordering) (log_view : L → LogView C
   after_sending search log max_entries =
       if can_be_sent search.entry log && nat_le search.purged (next_index log.purge_upto)
       then record {
-        entry = after_send (sent cmp search.entry log max_entries);
+        entry = after_send (send_table cmp search.entry log max_entries);
         purged = next_index log.purge_upto;
         accepted = search.accepted;
       }
@@ -53,14 +53,15 @@ module _ {L C : Type 0} (cmp : C → C → Ordering) (log_view : L → LogView C
   abbrev pub after_event : Search C → SearchEvent L → Search C
   after_event search (Send log max_entries) = after_sending search (log_view log.now) max_entries
   after_event search (Conflict request_id index) =
-      let answer = conflicting search.entry (Some request_id) index in
+      let answer = entry_after_conflict search.entry (Some request_id) index in
       record {
         entry = after_reply search.entry answer;
         purged = search.purged;
         accepted = search.accepted + one_if_accepted answer;
       }
   after_event search (Heartbeat index) =
-      record search { entry = after_reply search.entry (conflicting search.entry None index) }
+      record search
+      { entry = after_reply search.entry (entry_after_conflict search.entry None index) }
 
   -- the search after events, one after another
   abbrev pub after_events : Search C → List (SearchEvent L) → Search C

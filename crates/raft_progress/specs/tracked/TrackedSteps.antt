@@ -17,7 +17,7 @@ use Rattle.raft_progress.specs.declared.tracked.step.Step.TheVariants.{Update, I
 
 module _ {K N V P : Type 0} where
   -- the same membership and the same progress
-  pub record IsSamePair (old new : TrackedState K N V P) : Type 0 where
+  pub record IsSameTracked (old new : TrackedState K N V P) : Type 0 where
     pub membership : new.membership ≡ old.membership
     pub progress : IsSame old.progress new.progress
 
@@ -34,7 +34,7 @@ module _ {K N V P : Type 0} (eq : K → K → Bool) (id_cmp : K → K → Orderi
 module _ {K N V P : Type 0} (eq : K → K → Bool) (id_cmp : K → K → Ordering) (same : N → N → Bool)
     (cmp : P → P → Ordering) (part : V → P) (IsClone : V → V → Type 0) where
   -- going over to a membership is answered so: it is refused for an empty config, else for the
-  -- first voter without a node, and else the pair goes over to it; or a growth was refused
+  -- first voter without a node, and else both go over to it; or a growth was refused
   abbrev pub IsChangedTo : TrackedState K N V P → Members K N → V → Reply K P → TrackedState K N V P
       → Type 0
   IsChangedTo old next default (Granted p) new =
@@ -44,14 +44,14 @@ module _ {K N V P : Type 0} (eq : K → K → Bool) (id_cmp : K → K → Orderi
       IsValid eq next × (new.membership ≡ old.membership)
       × GoesOver eq id_cmp cmp part IsClone old.progress next default (BelowDefault id) new.progress
   IsChangedTo old next default (Refused None) new =
-      (has_empty_config next.configs ≡ true) × IsSamePair old new
+      (has_empty_config next.configs ≡ true) × IsSameTracked old new
   IsChangedTo old next default (Refused (Some id)) new =
       (has_empty_config next.configs ≡ false) × FirstWithoutNode eq id_cmp next (Some id)
-      × IsSamePair old new
-  IsChangedTo old next default OutOfMemory new = IsSamePair old new
+      × IsSameTracked old new
+  IsChangedTo old next default OutOfMemory new = IsSameTracked old new
   IsChangedTo old next default reply new = ⊥
 
-  -- a change of the membership is answered so: the pair goes over to what the change makes of it
+  -- a change of the membership is answered so: both go over to what the change makes of it
   abbrev pub IsChanged : TrackedState K N V P → ChangeMembers K N → Bool → V → Reply K P
       → TrackedState K N V P → Type 0
   IsChanged old change retain default reply new =
@@ -75,4 +75,4 @@ module _ {K N V P : Type 0} (by : Comparisons K V P) (same : N → N → Bool) w
   -- The steps may be answered so, one after another.
   abbrev pub IsTrackedRun : TrackedState K N V P → List (Step K N V) → List (Reply K P)
       → TrackedState K N V P → Type 0
-  IsTrackedRun old steps replies new = Runs IsTrackedStep IsSamePair old steps replies new
+  IsTrackedRun old steps replies new = Runs IsTrackedStep IsSameTracked old steps replies new

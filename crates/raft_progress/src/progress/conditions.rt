@@ -2,8 +2,8 @@
 //! no inherited value is below a default.
 ghost use Rattle.std.specs.Prelude.{◌≡◌};
 ghost use Rattle.std.specs.List.{list_all, list_any};
-ghost use Rattle.raft_progress.specs.Inner.Counts.{at_least};
-ghost use Rattle.raft_progress.specs.Inner.Tests.{among, apart, comes_before, ids_differ, is_ordered, never_rises};
+ghost use Rattle.raft_progress.specs.Inner.Recount.{at_least};
+ghost use Rattle.raft_progress.specs.Inner.Conditions.{among, apart, comes_before, ids_differ, is_ordered, never_rises};
 
 use super::part::ProgressPart;
 

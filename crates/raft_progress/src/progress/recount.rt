@@ -2,7 +2,7 @@
 ghost use Rattle.std.specs.Prelude.{◌≡◌, ◌≤◌, length, filter, take};
 ghost use Rattle.std.specs.List.{IsDistinct};
 ghost use Rattle.std.specs.Map.{keys_of};
-ghost use Rattle.raft_progress.specs.Inner.Counts.{IsGreatest, at_least, reaches};
+ghost use Rattle.raft_progress.specs.Inner.Recount.{IsGreatest, at_least, reaches};
 
 use super::part::ProgressPart;
 use raft_members::quorum::QuorumSet;

@@ -121,8 +121,8 @@ fn find_refusal<ID: Copy + Ord, V: ProgressPart<P> + Drop, P: Copy + Ord, QS: Qu
 }
 
 /// Upgrades to another quorum set, unless a refusal was found: then it is what is answered.
-// A function of its own, so that a clause says this: by those of `try_upgrade` want of memory may be
-// answered in place of any refusal.
+// A function of its own, so that a clause says this: by those of `try_upgrade` want of memory may
+// be answered in place of any refusal.
 fn upgrade_unless_refused<
     ID: Copy + Ord,
     V: ProgressPart<P> + Clone + Drop,

@@ -7,7 +7,7 @@ ghost use Rattle.raft_progress.specs.Inner.Rises.{RisesTo};
 use super::part::ProgressPart;
 
 /// Whether the part of the entry at a place is less than another part.
-fn is_below<ID: Copy, V: ProgressPart<P>, P: Copy + Ord>(
+fn has_part_below<ID: Copy, V: ProgressPart<P>, P: Copy + Ord>(
     walk: &[(ID, V)],
     place: usize,
     part: P,
@@ -37,7 +37,7 @@ pub(crate) fn move_up<ID: Copy, V: ProgressPart<P>, P: Copy + Ord>(
     let part = walk[place].1.part();
     let mut at = place;
     while at > 0 {
-        if !is_below(walk, at - 1, part) {
+        if !has_part_below(walk, at - 1, part) {
             return at;
         }
         walk.swap(at - 1, at);

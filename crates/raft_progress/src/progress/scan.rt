@@ -3,7 +3,7 @@ ghost use Rattle.std.specs.Prelude.{◌≡◌, ◌+◌, ◌^◌, ◌<◌, ◌≤
 ghost use Rattle.std.specs.List.{IsDistinct, prefix_len};
 ghost use Rattle.std.specs.Map.{keys_of};
 ghost use Rattle.std.specs.Set.{is_member};
-ghost use Rattle.raft_progress.specs.Inner.Counts.{exceeds};
+ghost use Rattle.raft_progress.specs.Inner.Recount.{exceeds};
 ghost use Rattle.raft_progress.specs.Inner.Rises.{IsLeastFront};
 
 use super::part::ProgressPart;

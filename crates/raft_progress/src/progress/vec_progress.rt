@@ -64,7 +64,7 @@ impl<
     ghost use Rattle.raft_progress.specs.progress.Shown.{state};
     ghost use Rattle.raft_progress.specs.progress.Updated.{IsNotLower, IsUpdated, NeverFalls};
     ghost use Rattle.raft_progress.specs.progress.Upgrade.{CanUpgrade, IsLeastBelow};
-    ghost use Rattle.raft_progress.specs.Inner.Tests.{IsLeastPassing, among, is_value_below};
+    ghost use Rattle.raft_progress.specs.Inner.Conditions.{IsLeastPassing, among, is_value_below};
     ghost use Rattle.raft_progress.specs.progress.Statistics.{CountsGoOn, no_counts};
     ghost use Rattle.raft_progress.specs.progress.Steps.{falls};
     ghost use Rattle.raft_progress.specs.progress.VecProgress.{shown};
@@ -179,7 +179,7 @@ impl<
     {
         let mut least = None;
         for entry in &self.walk {
-            if self.is_below(voters, learners, part, &entry.0) && is_before(entry.0, least) {
+            if self.inherits_below(voters, learners, part, &entry.0) && is_before(entry.0, least) {
                 least = Some(entry.0);
             }
         }
@@ -187,7 +187,7 @@ impl<
     }
 
     /// Whether an id is one of the voters or learners, and its value is below a part.
-    fn is_below(&self, voters: &[ID], learners: &[ID], part: P, id: &ID) -> bool
+    fn inherits_below(&self, voters: &[ID], learners: &[ID], part: P, id: &ID) -> bool
         ensures { result ≡ (among ID.eq voters.now learners.now id.now
             && is_value_below P.cmp V.part_of part ((state ID.eq (shown self.now)).value id.now)) }
     {
@@ -360,21 +360,21 @@ impl<
         }
     }
 
-    /// Moves the voter at a place up, and where `counts` looks for the
+    /// Moves the voter at a place up, and where `may_grant` looks for the
     /// greatest part that a quorum has reached.
     #[inline(always)]
-    fn raise(&mut self, place: usize, counts: bool)
+    fn raise(&mut self, place: usize, may_grant: bool)
         requires within { place < (shown self.old).voter_count }
         requires distinct { IsDistinct ID.eq (keys_of (shown self.old).walk) }
         ensures { IsRaised ID.eq P.cmp V.part_of QS.has_quorum
-            (shown self.old) place counts (shown self.new) }
+            (shown self.old) place may_grant (shown self.new) }
     {
         self.stat.move_count = self.stat.move_count.saturating_add(1);
         let to = move_up(&mut self.walk, place);
         if to < place && !self.stale {
             self.places.rise(to, place);
         }
-        if counts {
+        if may_grant {
             self.scan(to);
         }
     }

@@ -19,11 +19,11 @@ pub struct Engine {
 
 impl Engine {
     ghost use Rattle.std.specs.Prelude.{IfOk, OnErr, OnOk, IfSome, IsNone, IsSomeAnd, map};
-    ghost use Rattle.raft_script.specs.Engine.{AnswersStep, GrantedIsKnown, IsStart, pair_of, shown_of};
+    ghost use Rattle.raft_script.specs.Engine.{AnswersStep, GrantedIsKnown, IsStart, engine_state, shown_of};
 
     /// An engine before any `init`.
     pub fn new() -> Engine
-        ensures { IsNone (pair_of result) }
+        ensures { IsNone (engine_state result) }
     {
         Engine { tracked: None }
     }
@@ -36,7 +36,7 @@ impl Engine {
         configs: Vec<BTreeSet<u64>>,
         learners: BTreeSet<u64>,
     ) -> Result<(), AllocError>
-        ensures ok { OnOk result (IsSomeAnd (pair_of self.new)
+        ensures ok { OnOk result (IsSomeAnd (engine_state self.new)
             (IsStart (map (λ c. c.keys) configs.items) learners.keys default)) }
         ensures err { OnErr result (self.new ≡ self.old) }
     {
@@ -53,7 +53,7 @@ impl Engine {
         step: ScriptStep,
     ) -> Result<Option<Reply<u64, u64>>, AllocError>
         ensures ok { IfOk result (λ reply.
-            AnswersStep (pair_of self.old) step reply (pair_of self.new)) }
+            AnswersStep (engine_state self.old) step reply (engine_state self.new)) }
         ensures err { OnErr result (shown_of self.new ≡ shown_of self.old) }
         ensures known { OnOk result (IfSome (shown_of self.new) GrantedIsKnown) }
     {

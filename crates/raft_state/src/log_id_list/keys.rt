@@ -6,7 +6,7 @@ ghost use Rattle.raft_state.specs.LogReads.{id_at, last_id, last_two_share_leade
 ghost use Rattle.raft_state.specs.LogConditions.{follows, all_follow, ends_share_leader};
 ghost use Rattle.raft_state.specs.Keys.{key_follows, may_be_keys, by_last_leader as last_leader_keys};
 ghost use Rattle.raft_state.specs.Inner.KeyList.{Rises, keys_to};
-ghost use Rattle.raft_state.specs.Inner.KeyEdits.{added, added_all, cut, purged_keys};
+ghost use Rattle.raft_state.specs.Inner.KeyEdits.{keys_after_append, keys_after_extend, keys_below, keys_after_purge};
 
 use raft_base::{LogIdOf, RaftLogId};
 use std::alloc::AllocError;
@@ -75,7 +75,7 @@ pub fn share_leader<C: Ord + Copy, LID: RaftLogId<C>>(ids: &[LID]) -> bool
 
 /// Appends a log id, in place of the last key where the last two share a leader.
 pub fn append<C: Ord + Copy>(keys: &mut Vec<LogIdOf<C>>, id: LogIdOf<C>) -> Result<(), AllocError>
-    ensures ok { OnOk result (keys.new.items ≡ added C.eq keys.old.items id) }
+    ensures ok { OnOk result (keys.new.items ≡ keys_after_append C.eq keys.old.items id) }
     ensures err { OnErr result (keys.new.items ≡ keys.old.items) }
     ensures room { vec_len keys.old < vec_capacity keys.old → IsOk result }
     ensures no_memory { IsTrue (last_two_share_leader C.eq keys.old.items) → IsOk result }
@@ -97,7 +97,7 @@ pub fn extend<C: Ord + Copy, LID: RaftLogId<C>>(
     ids: &[LID],
 ) -> Result<(), AllocError>
     ensures ok { OnOk result
-        (keys.new.items ≡ added_all C.eq keys.old.items (map LID.id_of ids.now)) }
+        (keys.new.items ≡ keys_after_extend C.eq keys.old.items (map LID.id_of ids.now)) }
     ensures err { OnErr result (keys.new.items ≡ keys.old.items) }
     ensures no_memory { ids.now ≡ [] → IsOk result }
 {
@@ -116,7 +116,7 @@ pub fn extend_by_ends<C: Ord + Copy, LID: RaftLogId<C>>(
     requires follow { IsTrue (all_follow C.cmp (last_id keys.old.items) (map LID.id_of ids.now)) }
     requires one_leader { IsTrue (ends_share_leader C.eq (map LID.id_of ids.now)) }
     ensures ok { OnOk result
-        (keys.new.items ≡ added_all C.eq keys.old.items (map LID.id_of ids.now)) }
+        (keys.new.items ≡ keys_after_extend C.eq keys.old.items (map LID.id_of ids.now)) }
     ensures err { OnErr result (keys.new.items ≡ keys.old.items) }
     ensures no_memory { ids.now ≡ [] → IsOk result }
 {
@@ -133,7 +133,7 @@ pub fn extend_by_ends<C: Ord + Copy, LID: RaftLogId<C>>(
 /// Leaves the keys of the log ids below an index.
 pub fn truncate<C: Ord + Copy>(keys: &mut Vec<LogIdOf<C>>, at: u64)
     requires { IsTrue (may_be_keys C.cmp keys.old.items) }
-    ensures { keys.new.items ≡ cut keys.old.items at }
+    ensures { keys.new.items ≡ keys_below keys.old.items at }
 {
     if at == 0 {
         keys.clear();
@@ -161,7 +161,7 @@ pub fn truncate<C: Ord + Copy>(keys: &mut Vec<LogIdOf<C>>, at: u64)
 /// Leaves the keys of what a purge leaves.
 pub fn purge<C: Ord + Copy>(keys: &mut Vec<LogIdOf<C>>, upto: LogIdOf<C>) -> Result<(), AllocError>
     requires { IsTrue (may_be_keys C.cmp keys.old.items) }
-    ensures ok { OnOk result (keys.new.items ≡ purged_keys keys.old.items upto) }
+    ensures ok { OnOk result (keys.new.items ≡ keys_after_purge keys.old.items upto) }
     ensures was_empty { OnErr result (keys.old.items ≡ []) }
     ensures err { OnErr result (keys.new.items ≡ keys.old.items) }
 {

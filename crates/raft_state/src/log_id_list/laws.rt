@@ -4,7 +4,7 @@ ghost use Rattle.std.specs.Prelude.{◌≡◌, ℕ, List, max};
 ghost use Rattle.std.specs.Cmp.{IsEquivalence};
 ghost use Rattle.raft_base.specs.declared.log_id.LogIdOf.{LogIdOf};
 ghost use Rattle.raft_state.specs.FullLog.{full_log, first_index, same_log};
-ghost use Rattle.raft_state.specs.LogEdits.{appended, extended, front, purged};
+ghost use Rattle.raft_state.specs.LogEdits.{log_after_append, log_after_extend, front, log_after_purge};
 ghost use Rattle.raft_state.specs.LogReads.{first_id, id_at, last_id};
 ghost use Rattle.raft_state.specs.SameLog.{FindsSame, KeepsSame};
 ghost use Rattle.raft_state.specs.LogOrder.{AreConsecutive, LeadersNeverFall};
@@ -38,7 +38,7 @@ pub fn log_is_in_order<C: Ord + Copy>(list: &LogIdListOf<C>)
 
 /// What a purge leaves of a list's log begins at the greater of its first index and that of `upto`.
 pub fn purged_log_begins<C: Ord + Copy>(list: &LogIdListOf<C>, upto: &LogIdOf<C>)
-    ensures { first_index (purged (full_log list.now) upto.now)
+    ensures { first_index (log_after_purge (full_log list.now) upto.now)
         ≡ max (first_index (full_log list.now)) upto.now.index }
 {
     let _keys = list.key_log_ids();
@@ -50,10 +50,10 @@ pub fn purged_log_begins<C: Ord + Copy>(list: &LogIdListOf<C>, upto: &LogIdOf<C>
 /// So what the contracts say of one call after another composes.
 pub fn same_logs_stay_same<C: Ord + Copy>()
     ensures equality { IsEquivalence (same_log C.eq) }
-    ensures appended { (id : LogIdOf C) → KeepsSame C.eq (λ log. appended log id) }
-    ensures extended { (ids : List (LogIdOf C)) → KeepsSame C.eq (λ log. extended log ids) }
+    ensures appended { (id : LogIdOf C) → KeepsSame C.eq (λ log. log_after_append log id) }
+    ensures extended { (ids : List (LogIdOf C)) → KeepsSame C.eq (λ log. log_after_extend log ids) }
     ensures front { (at : ℕ) → KeepsSame C.eq (λ log. front log at) }
-    ensures purged { (upto : LogIdOf C) → KeepsSame C.eq (λ log. purged log upto) }
+    ensures purged { (upto : LogIdOf C) → KeepsSame C.eq (λ log. log_after_purge log upto) }
 {}
 
 /// Logs that are the same have equal log ids at each index, first and last.

@@ -6,7 +6,7 @@ ghost use Rattle.raft_members.specs.Coherence.{is_coherent};
 ghost use Rattle.raft_members.specs.Members.{members_of, Says};
 ghost use Rattle.raft_members.specs.ReplaceAll.{OnlyMemory, TwoChanges};
 ghost use Rattle.raft_members.specs.Valid.{IsValid};
-ghost use Rattle.raft_state.specs.Apply.{applied, in_progress, IsApplyRefusal};
+ghost use Rattle.raft_state.specs.Apply.{members_after_change, in_progress, IsApplyRefusal};
 ghost use Rattle.raft_state.specs.Memberships.{in_effect};
 ghost use Rattle.raft_state.specs.Inner.Refusal.{refusal_of};
 
@@ -46,10 +46,10 @@ impl<'m, C: Ord + Copy + Default + Debug + Drop, NID: NodeId, N: Node> ChangeHan
         requires { ClonesAreEqual N.eq N.is_clone }
         ensures committed { IfOk result (λ _. in_progress C.eq self.now.state.now ≡ None) }
         ensures valid { IfOk result (λ _. IsValid NID.eq
-            (applied NID.eq NID.cmp self.now.state.now change retain)) }
+            (members_after_change NID.eq NID.cmp self.now.state.now change retain)) }
         ensures valid_itself { IfOk result (λ m. IsValid NID.eq (members_of NID.cmp m)) }
         ensures changed { IfOk result (λ m. Says N.eq NID.cmp m
-            (applied NID.eq NID.cmp self.now.state.now change retain)) }
+            (members_after_change NID.eq NID.cmp self.now.state.now change retain)) }
         ensures coherent { IfOk result (λ m. let old = in_effect self.now.state.now in
             0 < length old.configs → is_coherent NID.eq old.configs m.configs ≡ true) }
         ensures two_changes { IfOk result (TwoChanges NID.eq NID.cmp
@@ -57,7 +57,7 @@ impl<'m, C: Ord + Copy + Default + Debug + Drop, NID: NodeId, N: Node> ChangeHan
 
         // An earlier change comes first. Without one, the refusals are those of a change.
         ensures refused { IfErr result (IsApplyRefusal C.eq NID.eq NID.cmp self.now.state.now
-            (applied NID.eq NID.cmp self.now.state.now change retain)) }
+            (members_after_change NID.eq NID.cmp self.now.state.now change retain)) }
         ensures only_memory { IfErr result (λ e. in_progress C.eq self.now.state.now ≡ None →
             OnlyMemory NID.eq (members_of NID.cmp (in_effect self.now.state.now)) change e) }
     {

@@ -1,7 +1,7 @@
 use Rattle.std.proofs.Common.{◌≡◌, ℕ, ◌-◌, Bool, true, false, nat_lt, if◌then◌else◌, Some, None, refl}
 use Rattle.raft_base.specs.LogId.{next_index}
-use Rattle.raft_progress.specs.entry.EntryTable.{shortened}
-use Rattle.raft_progress.specs.inflight.InflightTable.{conflicted}
+use Rattle.raft_progress.specs.entry.EntryTable.{with_search_end}
+use Rattle.raft_progress.specs.inflight.InflightTable.{inflight_after_conflict}
 use Rattle.raft_progress.proofs.CatchUpLemmas.{acks_logs, kept_after}
 use Rattle.raft_progress.proofs.catch_up.reply.Goals as goal
 
@@ -15,7 +15,7 @@ returns-in-Some g c = λ old conflicts acks.
     let entry = c.args.entry.now in
     let end = next_index c.args.range.prev in
     let refused = some_if (nat_lt c.args.agree.now end) (end - 1) c.in-Some.index (rw c.refused_at.ensures at c.in-Some.is) in
-    let kept = kept_after (shortened entry c.in-Some.index (conflicted entry.inflight c.args.id c.in-Some.index)) entry c.update_conflicting.result c.update_conflicting.new.self c.update_conflicting.ensures in
+    let kept = kept_after (with_search_end entry c.in-Some.index (inflight_after_conflict entry.inflight c.args.id c.in-Some.index)) entry c.update_conflicting.result c.update_conflicting.new.self c.update_conflicting.ensures in
     rw (refused.0, refused.1, kept) refl
 
 pub returns-in-None : goal.returns-in-None

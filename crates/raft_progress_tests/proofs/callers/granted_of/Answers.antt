@@ -4,10 +4,10 @@ use Rattle.raft_progress_tests.proofs.callers.granted_of.Goals as goal
 
 pub returns : goal.returns
 returns g c = (
-  tracked c.in_ok-pair.pair,
-  tracked c.replay.new.pair,
+  tracked c.in_ok-cluster.cluster,
+  tracked c.replay.new.cluster,
   c.in_ok-_replies._replies.items,
-  c.in_ok-pair.ensures.membership,
+  c.in_ok-cluster.ensures.membership,
   c.in_ok-_replies.ensures.run,
   c.replay.ensures.quorums,
   c.granted.ensures ∙ ap (λ p. p.granted) c.progress.ensures,

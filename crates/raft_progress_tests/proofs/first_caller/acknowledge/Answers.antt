@@ -1,6 +1,6 @@
 use Rattle.std.proofs.Common.{[], ◌∷◌, ap, nat_eq, ◌≡◌, refl}
 use Rattle.std.specs.Cmp.{nat_eq_equiv}
-use Rattle.raft_progress.specs.Inner.Tests.{apart}
+use Rattle.raft_progress.specs.Inner.Conditions.{apart}
 use Rattle.raft_progress.proofs.LearnersFitLemmas.{apart_fits}
 use Rattle.raft_progress_tests.proofs.first_caller.acknowledge.Goals as goal
 

@@ -1,6 +1,6 @@
 use Rattle.std.proofs.Common.{◌≡◌, ◌++◌}
-use Rattle.raft_members.specs.Change.{united}
+use Rattle.raft_members.specs.Change.{union_of}
 use Rattle.raft_members.proofs.membership.configs.union.Given as goal
 
 abbrev pub invariant-loop-id : goal.invariant-loop-id
-invariant-loop-id g l = united g.ID.Ord.cmp l.these.keys l.others.keys ≡ l.set.keys ++ l.id-iterator
+invariant-loop-id g l = union_of g.ID.Ord.cmp l.these.keys l.others.keys ≡ l.set.keys ++ l.id-iterator

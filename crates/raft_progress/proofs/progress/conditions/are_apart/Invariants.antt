@@ -1,5 +1,5 @@
 use Rattle.std.proofs.Common.{◌≡◌, drop}
-use Rattle.raft_progress.specs.Inner.Tests.{apart}
+use Rattle.raft_progress.specs.Inner.Conditions.{apart}
 use Rattle.raft_progress.proofs.progress.conditions.are_apart.Given as goal
 
 -- the learners are apart where those from here on are

@@ -1,5 +1,5 @@
 use Rattle.std.proofs.Common.{◌≡◌, drop}
-use Rattle.raft_progress.specs.Inner.Tests.{ids_differ}
+use Rattle.raft_progress.specs.Inner.Conditions.{ids_differ}
 use Rattle.raft_progress.proofs.progress.conditions.has_distinct_ids.Given as goal
 
 -- the answer is that of the entries from here on

@@ -1,5 +1,5 @@
 use Rattle.std.proofs.Common.{◌≡◌, ◌-◌, drop}
-use Rattle.raft_progress.specs.Inner.Tests.{never_rises}
+use Rattle.raft_progress.specs.Inner.Conditions.{never_rises}
 use Rattle.raft_progress.proofs.progress.conditions.is_falling.Given as goal
 
 -- the answer is that of the voters from the one before on

@@ -1,5 +1,5 @@
 use Rattle.std.proofs.Common.{take}
-use Rattle.raft_progress.specs.Inner.Counts.{IsGreatest}
+use Rattle.raft_progress.specs.Inner.Recount.{IsGreatest}
 use Rattle.raft_progress.proofs.progress.recount.count.Given as goal
 
 -- the best so far is the greatest among the voters so far

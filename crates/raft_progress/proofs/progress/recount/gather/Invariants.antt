@@ -1,6 +1,6 @@
 use Rattle.std.proofs.Common.{◌≡◌, ◌≤◌, take, filter}
 use Rattle.std.specs.Map.{keys_of}
-use Rattle.raft_progress.specs.Inner.Counts.{at_least}
+use Rattle.raft_progress.specs.Inner.Recount.{at_least}
 use Rattle.raft_progress.proofs.progress.recount.gather.Given as goal
 
 -- the front of the room has the ids of the voters so far

@@ -2,7 +2,7 @@ use Rattle.std.proofs.Common.{ap, ◌∙◌, sym, subst}
 use Rattle.std.specs.List.{IsDistinct}
 use Rattle.std.specs.Set.{is_member}
 use Rattle.std.proofs.lemmas.Map.Made.{IsDistinct-keys_filter}
-use Rattle.raft_progress.specs.Inner.Counts.{at_least}
+use Rattle.raft_progress.specs.Inner.Recount.{at_least}
 use Rattle.raft_progress.proofs.progress.recount.is_reached.Goals as goal
 
 pub returns : goal.returns

@@ -25,18 +25,18 @@ loop-at-preserved g c =
           passed_more g.P.Ord.cmp g.V.ProgressPart.part_of c.args.walk.now.items c.args.place c.loop-at.walk.items (c.loop-at.at - 1)
           (subst (λ (n : ℕ). Passed g.P.Ord.cmp g.V.ProgressPart.part_of c.args.walk.now.items c.args.place c.loop-at.walk.items n) e c.loop-at.invariant.passes)
           c.swap.new.self.items (c.swap.ensures.items ∙ ap (swap c.loop-at.walk.items (c.loop-at.at - 1)) e)
-          (λ d. ap (λ q. is_lt (g.P.Ord.cmp (g.V.ProgressPart.part_of (get_or c.loop-at.walk.items (c.loop-at.at - 1) d).1) q)) (ap (λ (n : ℕ). g.V.ProgressPart.part_of (get_or c.loop-at.walk.items n d).1) (sym e) ∙ c.loop-at.invariant.carries d) ∙ sym (rw c.deref.ensures.value at (c.is_below.ensures d)) ∙ c.if-not-is_below.false);
+          (λ d. ap (λ q. is_lt (g.P.Ord.cmp (g.V.ProgressPart.part_of (get_or c.loop-at.walk.items (c.loop-at.at - 1) d).1) q)) (ap (λ (n : ℕ). g.V.ProgressPart.part_of (get_or c.loop-at.walk.items n d).1) (sym e) ∙ c.loop-at.invariant.carries d) ∙ sym (rw c.deref.ensures.value at (c.has_part_below.ensures d)) ∙ c.if-not-has_part_below.false);
       carries = λ d. ap (λ (e : g.row.ID.Denot × g.row.V.Denot). g.V.ProgressPart.part_of e.1) (c.swap.ensures.by_index.0 d) ∙ c.loop-at.invariant.carries d;
     }
 
-pub returns-then-not-is_below : goal.returns-then-not-is_below
-returns-then-not-is_below g c =
+pub returns-then-not-has_part_below : goal.returns-then-not-has_part_below
+returns-then-not-has_part_below g c =
     let e : c.loop-at.at ≡ c.loop-at.at - 1 + 1 = omega arith in
     subst (λ (n : ℕ). RisesTo g.P.Ord.cmp g.V.ProgressPart.part_of c.args.walk.now.items c.args.place c.loop-at.walk.items n) (sym e)
     (rises_stop g.P.Ord.cmp g.V.ProgressPart.part_of c.args.walk.now.items c.args.place c.loop-at.walk.items (c.loop-at.at - 1)
     (subst (λ (n : ℕ). Passed g.P.Ord.cmp g.V.ProgressPart.part_of c.args.walk.now.items c.args.place c.loop-at.walk.items n) e c.loop-at.invariant.passes)
     g.met.P.Ord.total
-    (λ d. ap (λ q. is_lt (g.P.Ord.cmp (g.V.ProgressPart.part_of (get_or c.loop-at.walk.items (c.loop-at.at - 1) d).1) q)) (ap (λ (n : ℕ). g.V.ProgressPart.part_of (get_or c.loop-at.walk.items n d).1) (sym e) ∙ c.loop-at.invariant.carries d) ∙ sym (rw c.deref.ensures.value at (c.is_below.ensures d)) ∙ c.if-not-is_below.true))
+    (λ d. ap (λ q. is_lt (g.P.Ord.cmp (g.V.ProgressPart.part_of (get_or c.loop-at.walk.items (c.loop-at.at - 1) d).1) q)) (ap (λ (n : ℕ). g.V.ProgressPart.part_of (get_or c.loop-at.walk.items n d).1) (sym e) ∙ c.loop-at.invariant.carries d) ∙ sym (rw c.deref.ensures.value at (c.has_part_below.ensures d)) ∙ c.if-not-has_part_below.true))
 
 pub returns : goal.returns
 returns g c =
@@ -45,8 +45,8 @@ returns g c =
     (rises_front g.P.Ord.cmp g.V.ProgressPart.part_of c.args.walk.now.items c.args.place c.loop-at.walk.items
     (subst (λ (n : ℕ). Passed g.P.Ord.cmp g.V.ProgressPart.part_of c.args.walk.now.items c.args.place c.loop-at.walk.items n) e c.loop-at.invariant.passes))
 
-pub is_below-requires : goal.is_below-requires
-is_below-requires g c = rw c.deref.ensures.value (before_within _ (passed_within g.P.Ord.cmp g.V.ProgressPart.part_of c.args.walk.now.items c.args.place c.loop-at.walk.items c.loop-at.at c.loop-at.invariant.passes))
+pub has_part_below-requires : goal.has_part_below-requires
+has_part_below-requires g c = rw c.deref.ensures.value (before_within _ (passed_within g.P.Ord.cmp g.V.ProgressPart.part_of c.args.walk.now.items c.args.place c.loop-at.walk.items c.loop-at.at c.loop-at.invariant.passes))
 
 pub swap-requires-clause-i_in_bounds : goal.swap-requires-clause-i_in_bounds
 swap-requires-clause-i_in_bounds g c = rw c.loop-at.walk.ok.0 (before_within _ (passed_within g.P.Ord.cmp g.V.ProgressPart.part_of c.args.walk.now.items c.args.place c.loop-at.walk.items c.loop-at.at c.loop-at.invariant.passes))

@@ -1,7 +1,7 @@
 use Rattle.std.proofs.Common.{◌≡◌, ◌≤◌, take}
 use Rattle.std.specs.List.{prefix_len}
 use Rattle.std.specs.Map.{keys_of}
-use Rattle.raft_progress.specs.Inner.Counts.{exceeds}
+use Rattle.raft_progress.specs.Inner.Recount.{exceeds}
 use Rattle.raft_progress.proofs.progress.scan.gather_leading.Given as goal
 
 -- all voters so far lead, and the front of the room has their ids

@@ -3,26 +3,26 @@ use Rattle.std.proofs.Common.{refl}
 use Rattle.raft_progress.specs.progress.ShownSteps.{IsIncreasedTo, IsUpdatedTo}
 use Rattle.raft_progress.specs.tracked.Tracked.{tracked}
 use Rattle.raft_progress.specs.progress.VecProgress.{shown}
-use Rattle.raft_progress.proofs.ReadyLemmas.{answered_pair, ready_increased, ready_of, ready_written}
+use Rattle.raft_progress.proofs.ReadyLemmas.{answered_tracked, ready_increased, ready_of, ready_written}
 use Rattle.raft_progress.proofs.tracked.replay_steps.answer.Goals as goal
 
 pub write-requires : goal.write-requires
-write-requires g c = (ready_of g.met.NID.Eq.laws g.NID.Ord.cmp g.met.P.Ord.total g.V.ProgressPart.part_of (Coded-set (coded_list (coded_list g.row.NID.coded))) (tracked c.args.pair.now) c.args.pair.now.ready).ordered
+write-requires g c = (ready_of g.met.NID.Eq.laws g.NID.Ord.cmp g.met.P.Ord.total g.V.ProgressPart.part_of (Coded-set (coded_list (coded_list g.row.NID.coded))) (tracked c.args.cluster.now) c.args.cluster.now.ready).ordered
 
 pub increase-requires : goal.increase-requires
-increase-requires g c = (ready_of g.met.NID.Eq.laws g.NID.Ord.cmp g.met.P.Ord.total g.V.ProgressPart.part_of (Coded-set (coded_list (coded_list g.row.NID.coded))) (tracked c.args.pair.now) c.args.pair.now.ready).ordered
+increase-requires g c = (ready_of g.met.NID.Eq.laws g.NID.Ord.cmp g.met.P.Ord.total g.V.ProgressPart.part_of (Coded-set (coded_list (coded_list g.row.NID.coded))) (tracked c.args.cluster.now) c.args.cluster.now.ready).ordered
 
-pub invariant_of-pair : goal.invariant_of-pair
-invariant_of-pair g c = record {
+pub invariant_of-cluster : goal.invariant_of-cluster
+invariant_of-cluster g c = record {
   ready = ∣
-      ready_written g.met.NID.Eq.laws g.NID.Ord.cmp g.met.P.Ord.total g.V.ProgressPart.part_of (Coded-set (coded_list (coded_list g.row.NID.coded))) (tracked c.args.pair.now) (record { membership = c.args.pair.now.membership; progress = shown c.write.new.progress }) refl c.args.pair.now.ready c.write.ensures.ordered c.in-Update.id c.in-Update.value c.write.result c.write.ensures.step.values
+      ready_written g.met.NID.Eq.laws g.NID.Ord.cmp g.met.P.Ord.total g.V.ProgressPart.part_of (Coded-set (coded_list (coded_list g.row.NID.coded))) (tracked c.args.cluster.now) (record { membership = c.args.cluster.now.membership; progress = shown c.write.new.progress }) refl c.args.cluster.now.ready c.write.ensures.ordered c.in-Update.id c.in-Update.value c.write.result c.write.ensures.step.values
       ∣₁;
 }
 
-pub invariant_of-pair-in-IncreaseTo : goal.invariant_of-pair-in-IncreaseTo
-invariant_of-pair-in-IncreaseTo g c = record {
+pub invariant_of-cluster-in-IncreaseTo : goal.invariant_of-cluster-in-IncreaseTo
+invariant_of-cluster-in-IncreaseTo g c = record {
   ready = ∣
-      ready_increased g.met.NID.Eq.laws g.NID.Ord.cmp g.met.P.Ord.total g.V.ProgressPart.part_of (Coded-set (coded_list (coded_list g.row.NID.coded))) (tracked c.args.pair.now) (record { membership = c.args.pair.now.membership; progress = shown c.increase.new.progress }) refl c.args.pair.now.ready c.increase.ensures.ordered c.in-IncreaseTo.id c.in-IncreaseTo.value c.increase.result g.V.PartialOrd.partial_cmp c.increase.ensures.step.values
+      ready_increased g.met.NID.Eq.laws g.NID.Ord.cmp g.met.P.Ord.total g.V.ProgressPart.part_of (Coded-set (coded_list (coded_list g.row.NID.coded))) (tracked c.args.cluster.now) (record { membership = c.args.cluster.now.membership; progress = shown c.increase.new.progress }) refl c.args.cluster.now.ready c.increase.ensures.ordered c.in-IncreaseTo.id c.in-IncreaseTo.value c.increase.result g.V.PartialOrd.partial_cmp c.increase.ensures.step.values
       ∣₁;
 }
 
@@ -31,8 +31,8 @@ returns-in-Update g c =
     rw c.in-Update.is
     record {
       values = (refl, c.write.ensures.step.values);
-      answered = answered_pair (IsUpdatedTo g.NID.PartialEq.eq g.P.Ord.cmp g.V.ProgressPart.part_of (shown c.args.pair.now.progress) c.in-Update.id c.in-Update.value) (tracked c.args.pair.now) c.write.result (record { membership = c.args.pair.now.membership; progress = shown c.write.new.progress }) refl c.write.ensures.step.answered;
-      ready = ready_written g.met.NID.Eq.laws g.NID.Ord.cmp g.met.P.Ord.total g.V.ProgressPart.part_of (Coded-set (coded_list (coded_list g.row.NID.coded))) (tracked c.args.pair.now) (record { membership = c.args.pair.now.membership; progress = shown c.write.new.progress }) refl c.args.pair.now.ready c.write.ensures.ordered c.in-Update.id c.in-Update.value c.write.result c.write.ensures.step.values;
+      answered = answered_tracked (IsUpdatedTo g.NID.PartialEq.eq g.P.Ord.cmp g.V.ProgressPart.part_of (shown c.args.cluster.now.progress) c.in-Update.id c.in-Update.value) (tracked c.args.cluster.now) c.write.result (record { membership = c.args.cluster.now.membership; progress = shown c.write.new.progress }) refl c.write.ensures.step.answered;
+      ready = ready_written g.met.NID.Eq.laws g.NID.Ord.cmp g.met.P.Ord.total g.V.ProgressPart.part_of (Coded-set (coded_list (coded_list g.row.NID.coded))) (tracked c.args.cluster.now) (record { membership = c.args.cluster.now.membership; progress = shown c.write.new.progress }) refl c.args.cluster.now.ready c.write.ensures.ordered c.in-Update.id c.in-Update.value c.write.result c.write.ensures.step.values;
     }
 
 pub returns-in-IncreaseTo : goal.returns-in-IncreaseTo
@@ -40,8 +40,8 @@ returns-in-IncreaseTo g c =
     rw c.in-IncreaseTo.is
     record {
       values = (refl, c.increase.ensures.step.values);
-      answered = answered_pair (IsIncreasedTo g.NID.PartialEq.eq g.P.Ord.cmp g.V.ProgressPart.part_of g.V.PartialOrd.partial_cmp (shown c.args.pair.now.progress) c.in-IncreaseTo.id c.in-IncreaseTo.value) (tracked c.args.pair.now) c.increase.result (record { membership = c.args.pair.now.membership; progress = shown c.increase.new.progress }) refl c.increase.ensures.step.answered;
-      ready = ready_increased g.met.NID.Eq.laws g.NID.Ord.cmp g.met.P.Ord.total g.V.ProgressPart.part_of (Coded-set (coded_list (coded_list g.row.NID.coded))) (tracked c.args.pair.now) (record { membership = c.args.pair.now.membership; progress = shown c.increase.new.progress }) refl c.args.pair.now.ready c.increase.ensures.ordered c.in-IncreaseTo.id c.in-IncreaseTo.value c.increase.result g.V.PartialOrd.partial_cmp c.increase.ensures.step.values;
+      answered = answered_tracked (IsIncreasedTo g.NID.PartialEq.eq g.P.Ord.cmp g.V.ProgressPart.part_of g.V.PartialOrd.partial_cmp (shown c.args.cluster.now.progress) c.in-IncreaseTo.id c.in-IncreaseTo.value) (tracked c.args.cluster.now) c.increase.result (record { membership = c.args.cluster.now.membership; progress = shown c.increase.new.progress }) refl c.increase.ensures.step.answered;
+      ready = ready_increased g.met.NID.Eq.laws g.NID.Ord.cmp g.met.P.Ord.total g.V.ProgressPart.part_of (Coded-set (coded_list (coded_list g.row.NID.coded))) (tracked c.args.cluster.now) (record { membership = c.args.cluster.now.membership; progress = shown c.increase.new.progress }) refl c.args.cluster.now.ready c.increase.ensures.ordered c.in-IncreaseTo.id c.in-IncreaseTo.value c.increase.result g.V.PartialOrd.partial_cmp c.increase.ensures.step.values;
     }
 
 pub returns-in-Change : goal.returns-in-Change
@@ -50,5 +50,5 @@ returns-in-Change g c =
     record {
       values = c.change_members.ensures.values;
       answered = c.change_members.ensures.answered;
-      ready = ready_of g.met.NID.Eq.laws g.NID.Ord.cmp g.met.P.Ord.total g.V.ProgressPart.part_of (Coded-set (coded_list (coded_list g.row.NID.coded))) (tracked c.change_members.new.pair) c.change_members.new.pair.ready;
+      ready = ready_of g.met.NID.Eq.laws g.NID.Ord.cmp g.met.P.Ord.total g.V.ProgressPart.part_of (Coded-set (coded_list (coded_list g.row.NID.coded))) (tracked c.change_members.new.cluster) c.change_members.new.cluster.ready;
     }

@@ -13,5 +13,5 @@ invariant-loop-step g l =
     record {
       left : l.yielded ++ into_iter_items l.step-iterator ≡ l.fn.steps.items;
       room : vec_len l.replies + length (into_iter_items l.step-iterator) ≤ vec_capacity l.replies;
-      run : IsTrackedShownRun by g.N.PartialEq.eq (tracked l.fn.pair) l.yielded l.replies.items (tracked l.pair);
+      run : IsTrackedShownRun by g.N.PartialEq.eq (tracked l.fn.cluster) l.yielded l.replies.items (tracked l.cluster);
     }

@@ -16,7 +16,7 @@ pub upgrade_quorum_set-requires-clause-learners_fit : goal.upgrade_quorum_set-re
 upgrade_quorum_set-requires-clause-learners_fit g c = learners_of_fit g.NID.PartialEq.eq (members_of g.NID.Ord.cmp c.args.next) c.args.configs c.args.learners.now c.requires.voters c.requires.are_learners
 
 pub upgrade_quorum_set-requires-clause-ordered : goal.upgrade_quorum_set-requires-clause-ordered
-upgrade_quorum_set-requires-clause-ordered g c = (ready_of g.met.NID.Eq.laws g.NID.Ord.cmp g.met.P.Ord.total g.V.ProgressPart.part_of (Coded-set (coded_list (coded_list g.row.NID.coded))) (tracked c.args.pair.now) c.args.pair.now.ready).ordered
+upgrade_quorum_set-requires-clause-ordered g c = (ready_of g.met.NID.Eq.laws g.NID.Ord.cmp g.met.P.Ord.total g.V.ProgressPart.part_of (Coded-set (coded_list (coded_list g.row.NID.coded))) (tracked c.args.cluster.now) c.args.cluster.now.ready).ordered
 
 pub returns-in-Some-clause-step : goal.returns-in-Some-clause-step
 returns-in-Some-clause-step g c = record {
@@ -30,7 +30,7 @@ returns-in-Some-clause-step g c = record {
       (
         learners_of_fit g.NID.PartialEq.eq (members_of g.NID.Ord.cmp c.args.next) c.args.configs c.args.learners.now c.requires.voters c.requires.are_learners,
         c.requires.some c.in-Some.id c.in-Some.is,
-        IsSame-refl (state g.NID.PartialEq.eq (shown c.args.pair.now.progress)),
+        IsSame-refl (state g.NID.PartialEq.eq (shown c.args.cluster.now.progress)),
       ),
     ),
   );
@@ -59,16 +59,16 @@ returns-in_ok-upgraded-in-None-clause-step g c = record {
     done = λ r. record {
       configs = c.args.configs;
       has_configs = c.requires.configs;
-      fold = subst (λ (ls : List g.row.NID.Denot). IsUpgradeFold g.NID.PartialEq.eq g.NID.Ord.cmp g.P.Ord.cmp g.V.ProgressPart.part_of g.V.Clone.is_clone (has_quorum g.NID.PartialEq.eq) (is_voter g.NID.PartialEq.eq) (shown c.args.pair.now.progress) c.args.configs ls c.args.default (shown c.in_ok-upgraded-in-None.upgraded)) c.requires.learners c.in_ok-upgraded-in-None.ensures.fold;
+      fold = subst (λ (ls : List g.row.NID.Denot). IsUpgradeFold g.NID.PartialEq.eq g.NID.Ord.cmp g.P.Ord.cmp g.V.ProgressPart.part_of g.V.Clone.is_clone (has_quorum g.NID.PartialEq.eq) (is_voter g.NID.PartialEq.eq) (shown c.args.cluster.now.progress) c.args.configs ls c.args.default (shown c.in_ok-upgraded-in-None.upgraded)) c.requires.learners c.in_ok-upgraded-in-None.ensures.fold;
     };
     tells = c.granted.ensures;
   };
 }
 
-pub invariant_of-pair : goal.invariant_of-pair
-invariant_of-pair g c = record {
+pub invariant_of-cluster : goal.invariant_of-cluster
+invariant_of-cluster g c = record {
   ready = ∣
-      ready_upgraded g.NID.PartialEq.eq g.NID.Ord.cmp g.P.Ord.cmp g.V.ProgressPart.part_of c.args.next c.args.configs c.args.learners.now c.requires.voters c.requires.configs c.requires.are_learners g.V.Clone.is_clone c.args.default ((state g.NID.PartialEq.eq (shown c.args.pair.now.progress)).value) (shown c.in_ok-upgraded-in-None.upgraded) c.in_ok-upgraded-in-None.ensures.ordered
+      ready_upgraded g.NID.PartialEq.eq g.NID.Ord.cmp g.P.Ord.cmp g.V.ProgressPart.part_of c.args.next c.args.configs c.args.learners.now c.requires.voters c.requires.configs c.requires.are_learners g.V.Clone.is_clone c.args.default ((state g.NID.PartialEq.eq (shown c.args.cluster.now.progress)).value) (shown c.in_ok-upgraded-in-None.upgraded) c.in_ok-upgraded-in-None.ensures.ordered
       c.in_ok-upgraded-in-None.ensures.made
       ∣₁;
 }

@@ -1,10 +1,10 @@
 use Rattle.std.proofs.Common.{arith, sym, ap, ◌∙◌, subst, ◌≡◌, ◌<◌, ◌+◌, ◌++◌, ◌∷◌, [], get_or, take, length, List, Option, ◌&&◌}
 use Rattle.std.specs.Map.{lookup}
 use Rattle.std.proofs.lemmas.List.{take_more}
-use Rattle.raft_progress.specs.Inner.Tests.{IsLeastPassing, among, is_value_below}
+use Rattle.raft_progress.specs.Inner.Conditions.{IsLeastPassing, among, is_value_below}
 use Rattle.raft_progress.proofs.BelowLemmas.{least_falls, least_holds, least_stays}
 use Rattle.raft_progress.proofs.progress.vec_progress.VecProgress.least_of.Goals as goal
-use Rattle.raft_progress.proofs.progress.vec_progress.VecProgress.least_of.Goals.{then-is_below+then-is_before, else-is_below, else-is_below-via-then-is_below+else-is_before, else-is_below-via-else-is_below}
+use Rattle.raft_progress.proofs.progress.vec_progress.VecProgress.least_of.Goals.{then-inherits_below+then-is_before, else-inherits_below, else-inherits_below-via-then-inherits_below+else-is_before, else-inherits_below-via-else-inherits_below}
 
 pub loop-entry-preserved : goal.loop-entry-preserved
 loop-entry-preserved g c =
@@ -13,15 +13,15 @@ loop-entry-preserved g c =
     let l : c.loop-entry.entry-index < length c.args.self.now.walk.items = rw (← c.deref-entry-items.ensures.value) (omega arith) in
     let more : take (c.loop-entry.entry-index + 1) c.args.self.now.walk.items ≡ take c.loop-entry.entry-index c.args.self.now.walk.items ++ c.entry-item.result ∷ [] = take_more c.args.self.now.walk.items c.loop-entry.entry-index c.entry-item.result l ∙ ap (λ e. take c.loop-entry.entry-index c.args.self.now.walk.items ++ e ∷ []) (sym is) in
     let seen = take c.loop-entry.entry-index c.args.self.now.walk.items in
-    subst (λ (es : List (g.row.ID.Denot × g.row.V.Denot)). IsLeastPassing g.ID.Ord.cmp test es c.if-is_below.least) (sym more)
-    (elim c.if-is_below.branch [
-      | then-is_below+then-is_before w ↦
+    subst (λ (es : List (g.row.ID.Denot × g.row.V.Denot)). IsLeastPassing g.ID.Ord.cmp test es c.if-inherits_below.least) (sym more)
+    (elim c.if-inherits_below.branch [
+      | then-inherits_below+then-is_before w ↦
           subst (λ (o : Option g.row.ID.Denot). IsLeastPassing g.ID.Ord.cmp test (seen ++ c.entry-item.result ∷ []) o) (sym w.least-is)
-          (least_falls g.met.ID.Ord.total test seen c.entry-item.result c.loop-entry.least (sym c.is_below.ensures ∙ w.if-is_below.true) (sym w.is_before.ensures ∙ w.if-is_before.true) c.loop-entry.invariant)
-      | else-is_below w ↦
+          (least_falls g.met.ID.Ord.total test seen c.entry-item.result c.loop-entry.least (sym c.inherits_below.ensures ∙ w.if-inherits_below.true) (sym w.is_before.ensures ∙ w.if-is_before.true) c.loop-entry.invariant)
+      | else-inherits_below w ↦
           subst (λ (o : Option g.row.ID.Denot). IsLeastPassing g.ID.Ord.cmp test (seen ++ c.entry-item.result ∷ []) o) (sym w.least-is)
-          (elim w.else-is_below.branch [
-            | else-is_below-via-then-is_below+else-is_before w' ↦ least_holds g.met.ID.Ord.total test seen c.entry-item.result c.loop-entry.least (sym w'.is_before.ensures ∙ w'.if-is_before.false) c.loop-entry.invariant
-            | else-is_below-via-else-is_below w' ↦ least_stays g.met.ID.Ord.total test seen c.entry-item.result c.loop-entry.least (sym c.is_below.ensures ∙ w'.if-is_below.false) c.loop-entry.invariant
+          (elim w.else-inherits_below.branch [
+            | else-inherits_below-via-then-inherits_below+else-is_before w' ↦ least_holds g.met.ID.Ord.total test seen c.entry-item.result c.loop-entry.least (sym w'.is_before.ensures ∙ w'.if-is_before.false) c.loop-entry.invariant
+            | else-inherits_below-via-else-inherits_below w' ↦ least_stays g.met.ID.Ord.total test seen c.entry-item.result c.loop-entry.least (sym c.inherits_below.ensures ∙ w'.if-inherits_below.false) c.loop-entry.invariant
           ])
     ])

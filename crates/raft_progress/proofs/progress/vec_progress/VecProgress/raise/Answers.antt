@@ -63,8 +63,8 @@ scan-requires g c =
           (distinct_moved g.met.ID.Eq.laws p.front p.passed p.entry p.rest (subst (λ (es : List (g.row.ID.Denot × g.row.V.Denot)). IsDistinct g.ID.PartialEq.eq (keys_of es)) p.was c.requires.distinct));
     }
 
-pub returns-then-counts : goal.returns-then-counts
-returns-then-counts g c =
+pub returns-then-may_grant : goal.returns-then-may_grant
+returns-then-may_grant g c =
     let same : shown c.if-to-place.self ≡ record (shown c.args.self.now) { walk = c.move_up-to.new.walk.items; stat = record c.args.self.now.stat { move_count = c.saturating_add-self.result } } =
     elim c.if-to-place.branch [
       | then-to-place+then-not-self w ↦ ap (λ p. shown p) w.self-is
@@ -82,11 +82,11 @@ returns-then-counts g c =
       to = c.move_up-to.result;
       rises = subst (λ (es : List (g.row.ID.Denot × g.row.V.Denot)). RisesTo g.P.Ord.cmp g.V.ProgressPart.part_of c.args.self.now.walk.items c.args.place es c.move_up-to.result) (sym (ap (λ p. p.walk) same)) c.move_up-to.ensures;
       looked = λ e. c.scan.ensures;
-      kept = λ e. absurd (true≢false (sym c.if-counts.true ∙ e));
+      kept = λ e. absurd (true≢false (sym c.if-may_grant.true ∙ e));
     }
 
-pub returns-else-counts : goal.returns-else-counts
-returns-else-counts g c =
+pub returns-else-may_grant : goal.returns-else-may_grant
+returns-else-may_grant g c =
     let same : shown c.if-to-place.self ≡ record (shown c.args.self.now) { walk = c.move_up-to.new.walk.items; stat = record c.args.self.now.stat { move_count = c.saturating_add-self.result } } =
     elim c.if-to-place.branch [
       | then-to-place+then-not-self w ↦ ap (λ p. shown p) w.self-is
@@ -103,6 +103,6 @@ returns-else-counts g c =
       moves = ap (λ p. p.stat.move_count) same ∙ c.saturating_add-self.ensures;
       to = c.move_up-to.result;
       rises = subst (λ (es : List (g.row.ID.Denot × g.row.V.Denot)). RisesTo g.P.Ord.cmp g.V.ProgressPart.part_of c.args.self.now.walk.items c.args.place es c.move_up-to.result) (sym (ap (λ p. p.walk) same)) c.move_up-to.ensures;
-      looked = λ e. absurd (true≢false (sym e ∙ c.if-counts.false));
+      looked = λ e. absurd (true≢false (sym e ∙ c.if-may_grant.false));
       kept = λ e. refl;
     }

@@ -2,7 +2,7 @@ use Rattle.std.specs.Prelude.{max}
 use Rattle.std.specs.List.{prefix_len}
 use Rattle.std.proofs.Common.{ap, arith, is_lt, refl, sym, take, ◌∙◌, ◌≡◌, ◌-◌, ◌^◌, ◌<◌, ◌≤◌, false}
 use Rattle.std.proofs.lemmas.List.Sums.{prefix_len-le-length}
-use Rattle.raft_progress.specs.Inner.Counts.{exceeds}
+use Rattle.raft_progress.specs.Inner.Recount.{exceeds}
 use Rattle.raft_progress.specs.progress.VecProgress.{shown}
 use Rattle.raft_progress.proofs.SettledLemmas.{get_take}
 use Rattle.raft_progress.proofs.ShortFrontLemmas.{lead_ends, length_take_le, not_scanned, scanned_from}

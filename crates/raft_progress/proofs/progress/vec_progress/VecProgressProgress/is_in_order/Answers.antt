@@ -2,8 +2,8 @@ use Rattle.std.proofs.Common.{sym, ap, ◌∙◌, ◌&&◌, true≢false, is_eq,
 use Rattle.std.specs.List.{IsDistinct, list_all}
 use Rattle.std.specs.Cmp.{first_so, second_so}
 use Rattle.std.specs.Map.{keys_of}
-use Rattle.raft_progress.specs.Inner.Counts.{IsGreatest, at_least}
-use Rattle.raft_progress.specs.Inner.Tests.{ids_differ, never_rises}
+use Rattle.raft_progress.specs.Inner.Recount.{IsGreatest, at_least}
+use Rattle.raft_progress.specs.Inner.Conditions.{ids_differ, never_rises}
 use Rattle.raft_progress.specs.progress.Walk.{state_of}
 use Rattle.raft_progress.proofs.CountedAfreshLemmas.{IsCounted-from_greatest}
 use Rattle.raft_progress.proofs.InOrderLemmas.{counted_once, counted_tied, distinct_from_test, equal_from_test, falling_from_test, lowest_from_test, test_from_distinct, test_from_falling, test_from_lowest}

@@ -47,7 +47,7 @@ module _ (configs : List (List ℕ)) (learners : List ℕ) (default : ℕ) (made
   made_configs : made.membership.configs ≡ configs
   made_configs = ap (λ (m : MemberList ℕ EmptyNode). m.configs) same ∙ same_configs
 
-  -- a new pair of a membership and its progress has the configs, and voters and learners at the default
+  -- a new membership with its progress has the configs, and voters and learners at the default
   pub is_new : (joint : Configs ℕ) (ids : List ℕ) → new_progress.IsNew nat_eq (λ v w. w ≡ v) part (is_voter nat_eq joint) joint ids default (state nat_eq made.progress) → IsReady nat_eq nat_cmp nat_cmp part made → IsStart configs learners default (tracked_state nat_eq made)
   is_new joint ids new ready =
       let known : (id : ℕ) → is_some ((state nat_eq made.progress).value id) ≡ (is_voter_of nat_eq configs id || is_member nat_eq learners id) = λ id.
