@@ -2,21 +2,19 @@
 use Rattle.std.specs.Prelude.{◌≡◌, Bool, true, false, Option, Some, None, not, if◌then◌else◌, cond, refl, MatchBool}
 use Rattle.std.specs.declared.cmp.Ordering.{Ordering}
 use Rattle.std.specs.Option.{is_some}
-use Rattle.std.specs.Ordering.{is_le, partial_gt}
-use Rattle.std.specs.Cmp.{IsEquivalence, IsTotalOrder}
+use Rattle.std.specs.Ordering.{partial_gt}
+use Rattle.std.specs.Cmp.{IsEquivalence}
 use Rattle.std.proofs.Common.{ap, sym, subst, true≢false, ◌∙◌}
-use Rattle.std.proofs.lemmas.Cmp.{tied_itself}
-use Rattle.raft_progress.specs.Inner.ShownAnswers.{IsShownIncrease, IsShownWrite}
-use Rattle.raft_progress.specs.progress.CountedValue.{AtMost, IsCounted}
+use Rattle.raft_progress.specs.Inner.ShownAnswers.{IsShownIncrease}
+use Rattle.raft_progress.specs.progress.CountedValue.{IsCounted}
 use Rattle.raft_progress.specs.progress.InOrder.{IsInOrder}
 use Rattle.raft_progress.specs.progress.ProgressState.{IsSame, ProgressState, Writes}
 use Rattle.raft_progress.specs.progress.Shown.{Shown, state}
 use Rattle.raft_progress.specs.progress.Steps.{IsIncreased, IsWritten, falls, stays}
 use Rattle.raft_progress.specs.progress.Updated.{IsUpdated}
 use Rattle.raft_progress.specs.declared.progress.steps.Reply.{Reply}
-use Rattle.raft_progress.specs.declared.progress.steps.Reply.TheVariants.{Granted, Unknown}
-use Rattle.raft_progress.proofs.RecountLemmas.{AtMost-from_not_lt}
-use Rattle.raft_progress.proofs.UpdateLemmas.{lookup_alike, unknown_same}
+use Rattle.raft_progress.specs.declared.progress.steps.Reply.TheVariants.{Granted}
+use Rattle.raft_progress.proofs.UpdateLemmas.{lookup_alike}
 
 module _ {ID V P QS : Type 0} where
   -- what is the same everywhere is the same
@@ -58,48 +56,11 @@ module _ {ID V P QS : Type 0} {eq : ID → ID → Bool} (laws : IsEquivalence eq
           let same = written_same eq (state eq old) (state eq new) id v (λ x y h. lookup_alike laws x y h old.walk) e (subst (λ (w : V). Writes eq (state eq old) id w (state eq new)) is k.2) in
           (granted, refl, subst (λ (s : ProgressState ID V P QS). IsCounted cmp part has_quorum s granted) (same_is_equal (state eq old) (state eq new) same) counted, same)
 
--- a value that goes up where it is greater, and whose part does not fall then, has at least the part that was there
-pub not_lowered : {V P : Type 0} {cmp : P → P → Ordering} (o : IsTotalOrder cmp) (partial_cmp : V → V → Option Ordering) (part : V → P) (value v w : V) → w ≡ (if partial_gt partial_cmp value v then value else v) → (stays partial_cmp (Some v) value ≡ false → falls cmp part (Some v) value ≡ false) → AtMost cmp (part v) (part w)
-not_lowered {V} {P} {cmp} o partial_cmp part value v w is up = by (partial_gt partial_cmp value v) refl
-  where
-    by : (b : Bool) → partial_gt partial_cmp value v ≡ b → AtMost cmp (part v) (part w)
-    by true t = subst (λ (x : V). AtMost cmp (part v) (part x)) (sym (is ∙ ap (λ b. cond b value v) t)) (AtMost-from_not_lt o (part value) (part v) (up (ap not t)))
-    by false t = subst (λ (x : V). AtMost cmp (part v) (part x)) (sym (is ∙ ap (λ b. cond b value v) t)) (ap is_le (tied_itself o (part v)))
-
--- what a reply to a write and to an increase says of a progress that was updated
-module _ {ID V P QS : Type 0} {eq : ID → ID → Bool} (laws : IsEquivalence eq) (cmp : P → P → Ordering) (part : V → P) (has_quorum : QS → (ID → Bool) → Bool) (old new : Shown ID V P QS) (id : ID) (value : V) (granted : P) (is_granted : granted ≡ new.granted) (before : IsInOrder eq cmp part has_quorum old) (after : IsInOrder eq cmp part has_quorum new) where
+-- what a reply to an increase says of a progress that was updated
+module _ {ID V P QS : Type 0} {eq : ID → ID → Bool} (laws : IsEquivalence eq) (cmp : P → P → Ordering) (part : V → P) (has_quorum : QS → (ID → Bool) → Bool) (old new : Shown ID V P QS) (id : ID) (value : V) (granted : P) (is_granted : granted ≡ new.granted) (after : IsInOrder eq cmp part has_quorum new) where
   present : (o : Option V) → is_some o ≡ true → (v : V) × (o ≡ Some v)
   present (Some v) h = (v, refl)
   present None h = absurd (true≢false (sym h))
-
-  absent : (o : Option V) → is_some o ≡ false → o ≡ None
-  absent (Some v) h = absurd (true≢false h)
-  absent None h = refl
-
-  module _ (u : IsUpdated eq cmp part (λ v w. w ≡ value) old id new) where
-    pub write_known : is_some ((state eq old).value id) ≡ true → falls cmp part ((state eq old).value id) value ≡ false → IsShownWrite eq cmp part has_quorum old id value (Granted granted) new
-    write_known h up =
-        let v = present ((state eq old).value id) h in
-        let k = u.known v.0 v.1 in
-        record {
-          values = (v.0, v.1, sym (ap (λ o. falls cmp part o value) v.1) ∙ up, subst (λ (w : V). Writes eq (state eq old) id w (state eq new)) k.1 k.2, subst (IsCounted cmp part has_quorum (state eq new)) (sym is_granted) after.counted);
-          answered = record { refused = λ r. absurd (true≢false (sym r)); done = λ r. u; tells = is_granted };
-        }
-
-  module _ (Left : V → V → Type 0) (u : IsUpdated eq cmp part Left old id new) (h : is_some ((state eq old).value id) ≡ false) where
-    none : (state eq old).value id ≡ None
-    none = absent ((state eq old).value id) h
-
-    counted_before : IsCounted cmp part has_quorum (state eq old) granted
-    counted_before = subst (IsCounted cmp part has_quorum (state eq old)) (sym (is_granted ∙ ap (λ p. p.granted) (u.unknown none))) before.counted
-
-    pub unknown_values : IsWritten eq cmp part has_quorum (state eq old) id value (Unknown granted) (state eq new)
-    unknown_values = (none, counted_before, unknown_same eq cmp part Left old id new u none)
-
-    pub unknown_increase : (partial_cmp : V → V → Option Ordering) → IsIncreased eq cmp partial_cmp part has_quorum (state eq old) id value (Unknown granted) (state eq new)
-    unknown_increase partial_cmp =
-        subst (λ (b : Bool). MatchBool b ((p : P) × (◌≡◌ {A = Reply ID P} (Unknown granted) (Granted p)) × IsCounted cmp part has_quorum (state eq old) p × IsSame (state eq old) (state eq new)) (IsWritten eq cmp part has_quorum (state eq old) id value (Unknown granted) (state eq new)))
-        (sym (ap (λ o. stays partial_cmp o value) none)) unknown_values
 
   pub increase_known : (partial_cmp : V → V → Option Ordering) (u : IsUpdated eq cmp part (λ v w. w ≡ (if partial_gt partial_cmp value v then value else v)) old id new) → is_some ((state eq old).value id) ≡ true → (stays partial_cmp ((state eq old).value id) value ≡ false → falls cmp part ((state eq old).value id) value ≡ false) → IsShownIncrease eq cmp partial_cmp part has_quorum old id value (Granted granted) new
   increase_known partial_cmp u h up =

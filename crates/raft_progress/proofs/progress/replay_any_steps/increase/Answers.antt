@@ -17,6 +17,6 @@ returns-in-Ok-clause-step g c =
       | else-not-is_not_greater-via-then-not-is_not_greater+else-would_fall b ↦ λ s. sym b.would_fall.ensures ∙ b.if-would_fall.false
       | else-not-is_not_greater-via-else-not-is_not_greater b ↦ λ s. absurd (true≢false (sym b.if-not-is_not_greater.false ∙ c.is_not_greater.ensures ∙ s))
     ] in
-    increase_known g.met.ID.Eq.laws g.P.Ord.cmp g.V.ProgressPart.part_of g.QS.QuorumSet.has_quorum (shown c.args.progress.now) (shown c.increase_to.follows.lender-at-none) c.args.id.now c.args.value c.in-Ok.granted.now (MatchResult-at_ok _ _ c.in-Ok.granted c.in-Ok.is h.granted) c.requires h.ordered g.V.PartialOrd.partial_cmp h.updated
+    increase_known g.met.ID.Eq.laws g.P.Ord.cmp g.V.ProgressPart.part_of g.QS.QuorumSet.has_quorum (shown c.args.progress.now) (shown c.increase_to.follows.lender-at-none) c.args.id.now c.args.value c.in-Ok.granted.now (MatchResult-at_ok _ _ c.in-Ok.granted c.in-Ok.is h.granted) h.ordered g.V.PartialOrd.partial_cmp h.updated
     (h.known.0 (ap is_ok c.in-Ok.is))
     (λ s. ap (λ o. falls g.P.Ord.cmp g.V.ProgressPart.part_of o c.args.value) (sym read) ∙ up (ap (λ o. stays g.V.PartialOrd.partial_cmp o c.args.value) read ∙ s))
