@@ -1,11 +1,10 @@
 -- A map that tells the places of ids.
-use Rattle.std.specs.Prelude.{◌≡◌, ℕ, ◌+◌, ◌-◌, ◌<◌, ◌≤◌, Bool, true, false, ◌||◌, List, [], ◌∷◌, ◌++◌, length, Option, Some, None, position, slice_get}
+use Rattle.std.specs.Prelude.{◌≡◌, ℕ, ◌+◌, ◌-◌, ◌<◌, ◌≤◌, Bool, true, false, List, [], ◌∷◌, ◌++◌, length, Option, Some, None, position, slice_get}
 use Rattle.std.specs.Cmp.{IsEquivalence}
 use Rattle.std.specs.Map.{keys_of, values_of}
-use Rattle.std.specs.Set.{is_member}
 use Rattle.std.specs.List.{IsDistinct}
 use Rattle.std.specs.Option.{is_some, option_map}
-use Rattle.std.proofs.Common.{arith, sym, ap, refl, ◌∙◌, true≢false, get_or, set, subst, suc, zero, ltb, ltb-true, ltb-false, length-append}
+use Rattle.std.proofs.Common.{arith, sym, ap, refl, ◌∙◌, get_or, set, subst, suc, zero, ltb, ltb-true, ltb-false, length-append}
 use Rattle.std.proofs.lemmas.List.{get_or-append-add, get_or_append_left, length-map}
 use Rattle.std.proofs.lemmas.Bool.Decides.{nat_tests}
 use Rattle.std.proofs.lemmas.List.Quantifiers.{position-Some}
@@ -76,15 +75,6 @@ module _ (first last : ℕ) where
   after_passed k l m = grind (arith, nat_tests)
 
 module _ {ID : Type 0} {eq : ID → ID → Bool} (laws : IsEquivalence eq) where
-  -- a member has a place
-  place_of_member : (ids : List ID) (x : ID) → is_member eq ids x ≡ true → (k : ℕ) × (k < length ids) × (eq x (get_or ids k x) ≡ true)
-  place_of_member [] x m = absurd (true≢false (sym m))
-  place_of_member (i ∷ ids) x m = by (eq x i) refl m (place_of_member ids x)
-    where
-      by : (b : Bool) → eq x i ≡ b → (b || is_member eq ids x) ≡ true → (is_member eq ids x ≡ true → (k : ℕ) × (k < length ids) × (eq x (get_or ids k x) ≡ true)) → (k : ℕ) × (k < length (i ∷ ids)) × (eq x (get_or (i ∷ ids) k x) ≡ true)
-      by true e h more = (0, omega arith, e)
-      by false e h more = let r = more h in let l = r.1 in (suc r.0, omega arith, r.2)
-
   differs : (ids : List ID) → IsDistinct eq ids → (i k : ℕ) (x : ID) → i < length ids → k < length ids → (i ≡ k → ⊥) → eq (get_or ids i x) (get_or ids k x) ≡ false
   differs ids d i k x l m n = by (ltb i k) refl
     where
