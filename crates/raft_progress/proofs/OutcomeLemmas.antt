@@ -150,33 +150,33 @@ module _ {ID V P QS : Type 0} {eq : ID → ID → Bool} (laws : IsEquivalence eq
         get_or-set_below (x ∷ xs) (suc j) a d (suc h) q = get_or-set_below xs j a d h (omega arith)
 
     walk_risen : m.walk ≡ walk_after_rise cmp part (eq id) [] (set_value (eq id) ws w)
-    walk_risen = subst (λ (es : List (ID × V)). m.walk ≡ walk_after_rise cmp part (eq id) [] es) wrote (is_risen o part (eq id) mid.walk i (m.walk) raised.to e0 raised.rises first_at none_at)
+    walk_risen = subst (λ (es : List (ID × V)). m.walk ≡ walk_after_rise cmp part (eq id) [] es) wrote (is_risen o part (eq id) mid.walk i (m.walk) raised.to e0 raised.risen.rises first_at none_at)
 
     written_m : (p : Shown ID V P QS) → p.walk ≡ m.walk → IsSameGroup m p → Writes eq (state_of eq mid.quorum_set ws mid.voter_count mid.default_part) id w (state eq p)
     written_m p s g = record {
-      quorum_set = g.quorum_set ∙ raised.group.quorum_set;
-      is_voter = λ x. ap (λ es. is_member eq (take p.voter_count (keys_of es)) x) s ∙ ap (λ k. is_member eq (take k (keys_of (m.walk))) x) (g.voter_count ∙ raised.group.voter_count) ∙ settles.voters_to laws o part has_quorum mid.quorum_set (superset mid.quorum_set) mid.default_part mid.voter_count ws mid.granted r id i e0 at is w up mid.walk next_is keys_same value_written was voter high (m.walk) raised.to raised.rises x;
-      value = λ x. ap (λ es. lookup (eq x) es) s ∙ settles.written_to laws o part has_quorum mid.quorum_set (superset mid.quorum_set) mid.default_part mid.voter_count ws mid.granted r id i e0 at is w up mid.walk next_is keys_same value_written was voter high (m.walk) raised.to raised.rises x;
-      default_part = g.default_part ∙ raised.group.default_part;
+      quorum_set = g.quorum_set ∙ raised.risen.group.quorum_set;
+      is_voter = λ x. ap (λ es. is_member eq (take p.voter_count (keys_of es)) x) s ∙ ap (λ k. is_member eq (take k (keys_of (m.walk))) x) (g.voter_count ∙ raised.risen.group.voter_count) ∙ settles.voters_to laws o part has_quorum mid.quorum_set (superset mid.quorum_set) mid.default_part mid.voter_count ws mid.granted r id i e0 at is w up mid.walk next_is keys_same value_written was voter high (m.walk) raised.to raised.risen.rises x;
+      value = λ x. ap (λ es. lookup (eq x) es) s ∙ settles.written_to laws o part has_quorum mid.quorum_set (superset mid.quorum_set) mid.default_part mid.voter_count ws mid.granted r id i e0 at is w up mid.walk next_is keys_same value_written was voter high (m.walk) raised.to raised.risen.rises x;
+      default_part = g.default_part ∙ raised.risen.group.default_part;
     }
 
     moved_outcome : is_le (cmp before mid.granted) ≡ false → Outcome eq cmp part has_quorum mid ws id e0.1 w new
     moved_outcome t =
         subst (λ (p : Shown ID V P QS). Outcome eq cmp part has_quorum mid ws id e0.1 w p) (sym (raised.kept t))
         record {
-          ordered = order_alike eq cmp part has_quorum mid.quorum_set m.quorum_set (m.walk) mid.voter_count m.voter_count mid.default_part m.default_part mid.granted m.granted raised.group.quorum_set raised.group.voter_count raised.group.default_part raised.granted
-              (settles.order_moved laws o part has_quorum mid.quorum_set (superset mid.quorum_set) mid.default_part mid.voter_count ws mid.granted r id i e0 at is w up mid.walk next_is keys_same value_written was voter high (m.walk) raised.to raised.rises (above_of t));
+          ordered = order_alike eq cmp part has_quorum mid.quorum_set m.quorum_set (m.walk) mid.voter_count m.voter_count mid.default_part m.default_part mid.granted m.granted raised.risen.group.quorum_set raised.risen.group.voter_count raised.risen.group.default_part raised.risen.granted
+              (settles.order_moved laws o part has_quorum mid.quorum_set (superset mid.quorum_set) mid.default_part mid.voter_count ws mid.granted r id i e0 at is w up mid.walk next_is keys_same value_written was voter high (m.walk) raised.to raised.risen.rises (above_of t));
           written = written_m m refl record { quorum_set = refl; voter_count = refl; default_part = refl; updates = refl };
-          voter_count = raised.group.voter_count;
-          updates = raised.group.updates;
-          not_lower = subst (AtMost cmp mid.granted) (sym raised.granted) (AtMost-refl o mid.granted);
-          rises = λ h. (walk_risen, raised.moves);
+          voter_count = raised.risen.group.voter_count;
+          updates = raised.risen.group.updates;
+          not_lower = subst (AtMost cmp mid.granted) (sym raised.risen.granted) (AtMost-refl o mid.granted);
+          rises = λ h. (walk_risen, raised.risen.moves);
           stays = λ h. absurd (true≢false (sym rise ∙ h));
           tests = 0;
-          counts_tests = raised.tests ∙ counted_none mid.stat.is_quorum_count fits;
+          counts_tests = raised.risen.tests ∙ counted_none mid.stat.is_quorum_count fits;
           few_tests = λ k h. omega arith;
-          tested_to_rise = λ h. absurd (true≢false (sym h ∙ ap (λ (x : P). is_lt (cmp mid.granted x)) raised.granted ∙ ap is_lt (tied_itself o mid.granted)));
-          not_tested = λ h. (refl, raised.granted);
+          tested_to_rise = λ h. absurd (true≢false (sym h ∙ ap (λ (x : P). is_lt (cmp mid.granted x)) raised.risen.granted ∙ ap is_lt (tied_itself o mid.granted)));
+          not_tested = λ h. (refl, raised.risen.granted);
         }
 
     module _ (t : is_le (cmp before mid.granted) ≡ true) where
@@ -185,45 +185,45 @@ module _ {ID V P QS : Type 0} {eq : ID → ID → Bool} (laws : IsEquivalence eq
 
       scan : IsLeastFront eq (has_quorum mid.quorum_set) (take mid.voter_count (m.walk)) raised.to (prefix_len (exceeds cmp part mid.granted) (take mid.voter_count (m.walk))) s.found s.tests
       scan =
-          subst (λ (x : QS). IsLeastFront eq (has_quorum x) (take mid.voter_count (m.walk)) raised.to (prefix_len (exceeds cmp part mid.granted) (take mid.voter_count (m.walk))) s.found s.tests) raised.group.quorum_set
-          (subst (λ (x : ℕ). IsLeastFront eq (has_quorum m.quorum_set) (take x (m.walk)) raised.to (prefix_len (exceeds cmp part mid.granted) (take x (m.walk))) s.found s.tests) raised.group.voter_count
-          (subst (λ (x : P). IsLeastFront eq (has_quorum m.quorum_set) (take m.voter_count (m.walk)) raised.to (prefix_len (exceeds cmp part x) (take m.voter_count (m.walk))) s.found s.tests) raised.granted s.scanned))
+          subst (λ (x : QS). IsLeastFront eq (has_quorum x) (take mid.voter_count (m.walk)) raised.to (prefix_len (exceeds cmp part mid.granted) (take mid.voter_count (m.walk))) s.found s.tests) raised.risen.group.quorum_set
+          (subst (λ (x : ℕ). IsLeastFront eq (has_quorum m.quorum_set) (take x (m.walk)) raised.to (prefix_len (exceeds cmp part mid.granted) (take x (m.walk))) s.found s.tests) raised.risen.group.voter_count
+          (subst (λ (x : P). IsLeastFront eq (has_quorum m.quorum_set) (take m.voter_count (m.walk)) raised.to (prefix_len (exceeds cmp part x) (take m.voter_count (m.walk))) s.found s.tests) raised.risen.granted s.scanned))
 
       ordered_new : (found : Option ℕ) → s.found ≡ found → IsWalkInOrder eq cmp part has_quorum mid.quorum_set (m.walk) mid.voter_count mid.default_part new.granted
       ordered_new None none =
-          subst (λ (x : P). IsWalkInOrder eq cmp part has_quorum mid.quorum_set (m.walk) mid.voter_count mid.default_part x) (sym (s.stays none ∙ raised.granted))
-          (settles.order_none laws o part has_quorum mid.quorum_set (superset mid.quorum_set) mid.default_part mid.voter_count ws mid.granted r id i e0 at is w up mid.walk next_is keys_same value_written was voter high (m.walk) raised.to raised.rises s.found s.tests scan none)
+          subst (λ (x : P). IsWalkInOrder eq cmp part has_quorum mid.quorum_set (m.walk) mid.voter_count mid.default_part x) (sym (s.stays none ∙ raised.risen.granted))
+          (settles.order_none laws o part has_quorum mid.quorum_set (superset mid.quorum_set) mid.default_part mid.voter_count ws mid.granted r id i e0 at is w up mid.walk next_is keys_same value_written was voter high (m.walk) raised.to raised.risen.rises s.found s.tests scan none)
       ordered_new (Some k) some =
           let f = s.rises k some in
           subst (λ (x : P). IsWalkInOrder eq cmp part has_quorum mid.quorum_set (m.walk) mid.voter_count mid.default_part x) (sym f.2)
-          (settles.order_found laws o part has_quorum mid.quorum_set (superset mid.quorum_set) mid.default_part mid.voter_count ws mid.granted r id i e0 at is w up mid.walk next_is keys_same value_written was voter high (m.walk) raised.to raised.rises s.found s.tests scan k f.0 some (f.1 ∙ ap (λ x. get_or (take x (m.walk)) (k - 1) f.0) raised.group.voter_count))
+          (settles.order_found laws o part has_quorum mid.quorum_set (superset mid.quorum_set) mid.default_part mid.voter_count ws mid.granted r id i e0 at is w up mid.walk next_is keys_same value_written was voter high (m.walk) raised.to raised.risen.rises s.found s.tests scan k f.0 some (f.1 ∙ ap (λ x. get_or (take x (m.walk)) (k - 1) f.0) raised.risen.group.voter_count))
 
       never_less : (found : Option ℕ) → s.found ≡ found → AtMost cmp mid.granted new.granted
-      never_less None none = subst (AtMost cmp mid.granted) (sym (s.stays none ∙ raised.granted)) (AtMost-refl o mid.granted)
+      never_less None none = subst (AtMost cmp mid.granted) (sym (s.stays none ∙ raised.risen.granted)) (AtMost-refl o mid.granted)
       never_less (Some k) some =
           let f = s.rises k some in
           let voters = take m.voter_count m.walk in
           let low = s.scanned.above k some in
           let far = s.scanned.within k some in
           let over : is_lt (cmp m.granted (part (get_or voters (k - 1) f.0).1)) ≡ true = prefix_len_passes (exceeds cmp part m.granted) voters (k - 1) f.0 (omega arith) in
-          subst (AtMost cmp mid.granted) (sym f.2) (AtMost-from_lt cmp mid.granted (part f.0.1) (ap (λ (x : P). is_lt (cmp x (part f.0.1))) (sym raised.granted) ∙ ap (λ (e : ID × V). is_lt (cmp m.granted (part e.1))) f.1 ∙ over))
+          subst (AtMost cmp mid.granted) (sym f.2) (AtMost-from_lt cmp mid.granted (part f.0.1) (ap (λ (x : P). is_lt (cmp x (part f.0.1))) (sym raised.risen.granted) ∙ ap (λ (e : ID × V). is_lt (cmp m.granted (part e.1))) f.1 ∙ over))
 
       tested : (found : Option ℕ) → s.found ≡ found → is_lt (cmp mid.granted new.granted) ≡ true → 1 ≤ s.tests
-      tested None none h = absurd (true≢false (sym h ∙ ap (λ (x : P). is_lt (cmp mid.granted x)) (s.stays none ∙ raised.granted) ∙ ap is_lt (tied_itself o mid.granted)))
+      tested None none h = absurd (true≢false (sym h ∙ ap (λ (x : P). is_lt (cmp mid.granted x)) (s.stays none ∙ raised.risen.granted) ∙ ap is_lt (tied_itself o mid.granted)))
       tested (Some k) some h = scan.tested k some
 
       scanned_outcome : Outcome eq cmp part has_quorum mid ws id e0.1 w new
       scanned_outcome = record {
-        ordered = order_alike eq cmp part has_quorum mid.quorum_set new.quorum_set new.walk mid.voter_count new.voter_count mid.default_part new.default_part new.granted new.granted (s.group.quorum_set ∙ raised.group.quorum_set) (s.group.voter_count ∙ raised.group.voter_count) (s.group.default_part ∙ raised.group.default_part) refl
+        ordered = order_alike eq cmp part has_quorum mid.quorum_set new.quorum_set new.walk mid.voter_count new.voter_count mid.default_part new.default_part new.granted new.granted (s.group.quorum_set ∙ raised.risen.group.quorum_set) (s.group.voter_count ∙ raised.risen.group.voter_count) (s.group.default_part ∙ raised.risen.group.default_part) refl
             (subst (λ (es : List (ID × V)). IsWalkInOrder eq cmp part has_quorum mid.quorum_set es mid.voter_count mid.default_part new.granted) (sym s.same_walk) (ordered_new s.found refl));
         written = written_m new s.same_walk s.group;
-        voter_count = s.group.voter_count ∙ raised.group.voter_count;
-        updates = s.group.updates ∙ raised.group.updates;
+        voter_count = s.group.voter_count ∙ raised.risen.group.voter_count;
+        updates = s.group.updates ∙ raised.risen.group.updates;
         not_lower = never_less s.found refl;
-        rises = λ h. (s.same_walk ∙ walk_risen, s.moves ∙ raised.moves);
+        rises = λ h. (s.same_walk ∙ walk_risen, s.moves ∙ raised.risen.moves);
         stays = λ h. absurd (true≢false (sym rise ∙ h));
         tests = s.tests;
-        counts_tests = s.counts ∙ ap (λ x. count_after x s.tests) raised.tests;
+        counts_tests = s.counts ∙ ap (λ x. count_after x s.tests) raised.risen.tests;
         few_tests = λ k h. scan.few k (let l = length_take_le (m.walk) mid.voter_count in omega arith);
         tested_to_rise = tested s.found refl;
         not_tested = λ h. absurd (true≢false (sym (passed (of_both _ _ rise).0 (ap (λ (x : P). is_le (cmp x mid.granted)) (sym before_is) ∙ t) high) ∙ h));

@@ -33,18 +33,23 @@ module _ {ID V P QS : Type 0} (eq : ID → ID → Bool) (cmp : P → P → Order
         → (f : ID × V) × (f ≡ get_or (take old.voter_count old.walk) (k - 1) f)
         × (new.granted ≡ part f.1)
 
+module _ {ID V P QS : Type 0} (cmp : P → P → Ordering) (part : V → P) where
+  -- the voter has risen to a place, and nothing is granted yet
+  pub record IsRisen (old : Shown ID V P QS) (place to : ℕ) (new : Shown ID V P QS) : Type 0 where
+    pub group : IsSameGroup old new
+    pub granted : new.granted ≡ old.granted
+    pub tests : new.stat.is_quorum_count ≡ old.stat.is_quorum_count
+    pub moves : new.stat.move_count ≡ count_after old.stat.move_count 1
+    pub rises : RisesTo cmp part old.walk place new.walk to
+
 module _ {ID V P QS : Type 0} (eq : ID → ID → Bool) (cmp : P → P → Ordering) (part : V → P)
     (has_quorum : QS → (ID → Bool) → Bool) where
   -- the voter has risen to a place, and the fronts past it were tested where they had to be
   pub record IsRaised (old : Shown ID V P QS) (place : ℕ) (may_grant : Bool) (new : Shown ID V P QS)
       : Type 0 where
     pub middle : Shown ID V P QS
-    pub group : IsSameGroup old middle
-    pub granted : middle.granted ≡ old.granted
-    pub tests : middle.stat.is_quorum_count ≡ old.stat.is_quorum_count
-    pub moves : middle.stat.move_count ≡ count_after old.stat.move_count 1
     pub to : ℕ
-    pub rises : RisesTo cmp part old.walk place middle.walk to
+    pub risen : IsRisen cmp part old place to middle
     pub looked : may_grant ≡ true → IsScanned eq cmp part has_quorum middle to new
     pub kept : may_grant ≡ false → new ≡ middle
 

@@ -55,7 +55,8 @@ impl<ID: Copy + Ord> Places<ID> {
         ensures { result ≡ place_in ID.eq self.now.entries.items id.now }
     {
         if self.entries.len() <= FEW {
-            return match self.entries.iter().find(|entry| *id == entry.0) {
+            let id = *id;
+            return match self.entries.iter().find(|entry| id == entry.0) {
                 Some(entry) => Some(entry.1),
                 None => None,
             };

@@ -1,5 +1,5 @@
 //! How a voter moves up in the walk.
-ghost use Rattle.std.specs.Prelude.{◌≡◌, ◌<◌, length, ◌&&◌};
+ghost use Rattle.std.specs.Prelude.{◌≡◌, ◌<◌, length};
 ghost use Rattle.std.specs.Ordering.{is_lt};
 ghost use Rattle.std.proofs.Common.{get_or};
 ghost use Rattle.raft_progress.specs.Inner.Rises.{RisesTo};
@@ -17,13 +17,6 @@ fn has_part_below<ID: Copy, V: ProgressPart<P>, P: Copy + Ord>(
         result ≡ is_lt (P.cmp (V.part_of (get_or walk.now place d).1) part) }
 {
     walk[place].1.part().cmp(&part).is_lt()
-}
-
-/// Whether a part has risen to one that exceeds granted.
-pub(crate) fn is_raised<P: Copy + Ord>(before: P, after: P, granted: P) -> bool
-    ensures { result ≡ (is_lt (P.cmp before after) && is_lt (P.cmp granted after)) }
-{
-    before.cmp(&after).is_lt() && granted.cmp(&after).is_lt()
 }
 
 /// Moves an entry up past the entries directly before it whose part is less, and answers its place.

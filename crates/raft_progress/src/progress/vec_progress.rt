@@ -10,7 +10,7 @@ use super::part::ProgressPart;
 use super::places::Places;
 use super::recount::count;
 use super::replay_any_steps::would_fall;
-use super::rise::{is_raised, move_up};
+use super::rise::move_up;
 use super::scan::{gather_leading, least_front};
 use super::stat::Stat;
 use super::walk::{clone_walk, copy_ids, place_all, write_at};
@@ -58,7 +58,7 @@ impl<
     ghost use Rattle.std.specs.List.{IsDistinct};
     ghost use Rattle.raft_progress.specs.progress.CountedValue.{AtMost};
     ghost use Rattle.raft_progress.specs.progress.InOrder.{IsInOrder};
-    ghost use Rattle.raft_progress.specs.Inner.Settled.{IsPutInOrder, IsRaised, IsScanned};
+    ghost use Rattle.raft_progress.specs.Inner.Settled.{IsPutInOrder, IsRisen, IsScanned};
     ghost use Rattle.raft_progress.specs.progress.Lends.{Leaves, LendsWalk};
     ghost use Rattle.raft_progress.specs.progress.NewProgress.{IsFirstWalk, IsNew, LearnersFit};
     ghost use Rattle.raft_progress.specs.progress.Shown.{state};
@@ -355,28 +355,30 @@ impl<
             (shown self.old) place before (shown self.new) }
     {
         let granted = self.granted;
-        if place < self.voter_count && is_raised(before, after, granted) {
-            self.raise(place, before.cmp(&granted).is_le());
+        if place >= self.voter_count || !granted.cmp(&after).is_lt() {
+            return;
+        }
+        if before.cmp(&granted).is_le() {
+            let to = self.raise(place);
+            self.scan(to);
+        } else if before.cmp(&after).is_lt() {
+            self.raise(place);
         }
     }
 
-    /// Moves the voter at a place up, and where `may_grant` looks for the
-    /// greatest part that a quorum has reached.
+    /// Moves the voter at a place up, and answers its place.
     #[inline(always)]
-    fn raise(&mut self, place: usize, may_grant: bool)
-        requires within { place < (shown self.old).voter_count }
-        requires distinct { IsDistinct ID.eq (keys_of (shown self.old).walk) }
-        ensures { IsRaised ID.eq P.cmp V.part_of QS.has_quorum
-            (shown self.old) place may_grant (shown self.new) }
+    fn raise(&mut self, place: usize) -> usize
+        requires { place < (shown self.old).voter_count }
+        ensures risen { IsRisen P.cmp V.part_of (shown self.old) place result (shown self.new) }
+        ensures within { result ≤ place }
     {
         self.stat.move_count = self.stat.move_count.saturating_add(1);
         let to = move_up(&mut self.walk, place);
         if to < place && !self.stale {
             self.places.rise(to, place);
         }
-        if may_grant {
-            self.scan(to);
-        }
+        to
     }
 
     /// Looks for the least front past a place that is a quorum, while its parts exceed granted.

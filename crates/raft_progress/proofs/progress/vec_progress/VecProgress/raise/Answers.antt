@@ -1,19 +1,17 @@
-use Rattle.std.proofs.Common.{refl, ap, arith, sym, ◌∙◌, ◌≡◌, ◌≤◌, length, subst, List, true≢false}
-use Rattle.std.specs.List.{IsDistinct}
+use Rattle.std.proofs.Common.{ap, arith, sym, ◌∙◌, ◌≡◌, ◌≤◌, length, subst, List}
 use Rattle.std.specs.Map.{keys_of}
 use Rattle.std.proofs.lemmas.Map.Entries.{length-keys_of}
 use Rattle.raft_progress.specs.Inner.Places.{place_in}
 use Rattle.raft_progress.specs.Inner.Rises.{RisesTo}
 use Rattle.raft_progress.specs.progress.VecProgress.{shown}
-use Rattle.raft_progress.proofs.MovedLemmas.{distinct_moved}
 use Rattle.raft_progress.proofs.PlacesLemmas.{before_passed, passed_length, passed_nothing, place_ranked, tells_after}
 use Rattle.raft_progress.proofs.progress.vec_progress.VecProgress.raise.Goals as goal
-use Rattle.raft_progress.proofs.progress.vec_progress.VecProgress.raise.Goals.{then-to-place+then-not-self, else-to-place, else-to-place-via-then-to-place+else-not-self, else-to-place-via-else-to-place}
+use Rattle.raft_progress.proofs.progress.vec_progress.VecProgress.raise.Goals.{else-to-place-via-then-to-place+else-not-self, else-to-place-via-else-to-place}
 
 pub rise-requires : goal.rise-requires
 rise-requires g c =
     let f = c.args.self.now.voters_fit in
-    let l = c.requires.within in
+    let l = c.requires in
     record {
       ascending = omega arith;
       within = place_ranked g.met.ID.Eq.laws c.args.self.now.places.entries.items c.args.self.now.places.ranks.items c.args.self.now.places.inverse (keys_of c.args.self.now.walk.items) c.args.place (rw (length-keys_of c.args.self.now.walk.items) (omega arith)) (c.args.self.now.agree c.if-not-self.true);
@@ -43,66 +41,17 @@ invariant_of-self-else-to-place g c =
       agree = λ fresh. rw same (c.args.self.now.agree fresh);
     }
 
-pub scan-requires : goal.scan-requires
-scan-requires g c =
-    let same : shown c.if-to-place.self ≡ record (shown c.args.self.now) { walk = c.move_up-to.new.walk.items; stat = record c.args.self.now.stat { move_count = c.saturating_add-self.result } } =
-    elim c.if-to-place.branch [
-      | then-to-place+then-not-self w ↦ ap (λ p. shown p) w.self-is
-      | else-to-place w ↦ elim w.else-to-place.branch [
-        | else-to-place-via-then-to-place+else-not-self w' ↦ ap (λ p. shown p) (w.self-is ∙ w'.self-is)
-        | else-to-place-via-else-to-place w' ↦ ap (λ p. shown p) (w.self-is ∙ w'.self-is)
-      ]
-    ] in
-    let p = c.move_up-to.ensures.passes in
-    let at = p.now_at in
-    let was = p.was_at in
-    let within = c.requires.within in
-    record {
-      within = rw (ap (λ p. p.voter_count) same) (omega arith);
-      distinct = subst (λ (es : List (g.row.ID.Denot × g.row.V.Denot)). IsDistinct g.ID.PartialEq.eq (keys_of es)) (sym (ap (λ p. p.walk) same ∙ p.now))
-          (distinct_moved g.met.ID.Eq.laws p.front p.passed p.entry p.rest (subst (λ (es : List (g.row.ID.Denot × g.row.V.Denot)). IsDistinct g.ID.PartialEq.eq (keys_of es)) p.was c.requires.distinct));
-    }
-
-pub returns-then-may_grant : goal.returns-then-may_grant
-returns-then-may_grant g c =
-    let same : shown c.if-to-place.self ≡ record (shown c.args.self.now) { walk = c.move_up-to.new.walk.items; stat = record c.args.self.now.stat { move_count = c.saturating_add-self.result } } =
-    elim c.if-to-place.branch [
-      | then-to-place+then-not-self w ↦ ap (λ p. shown p) w.self-is
-      | else-to-place w ↦ elim w.else-to-place.branch [
-        | else-to-place-via-then-to-place+else-not-self w' ↦ ap (λ p. shown p) (w.self-is ∙ w'.self-is)
-        | else-to-place-via-else-to-place w' ↦ ap (λ p. shown p) (w.self-is ∙ w'.self-is)
-      ]
+pub returns-else-to-place-clause-risen : goal.returns-else-to-place-clause-risen
+returns-else-to-place-clause-risen g c =
+    let same : shown c.else-to-place.self ≡ record (shown c.args.self.now) { walk = c.move_up-to.new.walk.items; stat = record c.args.self.now.stat { move_count = c.saturating_add-self.result } } =
+    elim c.else-to-place.branch [
+      | else-to-place-via-then-to-place+else-not-self w ↦ ap (λ p. shown p) w.self-is
+      | else-to-place-via-else-to-place w ↦ ap (λ p. shown p) w.self-is
     ] in
     record {
-      middle = shown c.if-to-place.self;
       group = record { quorum_set = ap (λ p. p.quorum_set) same; voter_count = ap (λ p. p.voter_count) same; default_part = ap (λ p. p.default_part) same; updates = ap (λ p. p.stat.update_count) same };
       granted = ap (λ p. p.granted) same;
       tests = ap (λ p. p.stat.is_quorum_count) same;
       moves = ap (λ p. p.stat.move_count) same ∙ c.saturating_add-self.ensures;
-      to = c.move_up-to.result;
       rises = subst (λ (es : List (g.row.ID.Denot × g.row.V.Denot)). RisesTo g.P.Ord.cmp g.V.ProgressPart.part_of c.args.self.now.walk.items c.args.place es c.move_up-to.result) (sym (ap (λ p. p.walk) same)) c.move_up-to.ensures;
-      looked = λ e. c.scan.ensures;
-      kept = λ e. absurd (true≢false (sym c.if-may_grant.true ∙ e));
-    }
-
-pub returns-else-may_grant : goal.returns-else-may_grant
-returns-else-may_grant g c =
-    let same : shown c.if-to-place.self ≡ record (shown c.args.self.now) { walk = c.move_up-to.new.walk.items; stat = record c.args.self.now.stat { move_count = c.saturating_add-self.result } } =
-    elim c.if-to-place.branch [
-      | then-to-place+then-not-self w ↦ ap (λ p. shown p) w.self-is
-      | else-to-place w ↦ elim w.else-to-place.branch [
-        | else-to-place-via-then-to-place+else-not-self w' ↦ ap (λ p. shown p) (w.self-is ∙ w'.self-is)
-        | else-to-place-via-else-to-place w' ↦ ap (λ p. shown p) (w.self-is ∙ w'.self-is)
-      ]
-    ] in
-    record {
-      middle = shown c.if-to-place.self;
-      group = record { quorum_set = ap (λ p. p.quorum_set) same; voter_count = ap (λ p. p.voter_count) same; default_part = ap (λ p. p.default_part) same; updates = ap (λ p. p.stat.update_count) same };
-      granted = ap (λ p. p.granted) same;
-      tests = ap (λ p. p.stat.is_quorum_count) same;
-      moves = ap (λ p. p.stat.move_count) same ∙ c.saturating_add-self.ensures;
-      to = c.move_up-to.result;
-      rises = subst (λ (es : List (g.row.ID.Denot × g.row.V.Denot)). RisesTo g.P.Ord.cmp g.V.ProgressPart.part_of c.args.self.now.walk.items c.args.place es c.move_up-to.result) (sym (ap (λ p. p.walk) same)) c.move_up-to.ensures;
-      looked = λ e. absurd (true≢false (sym e ∙ c.if-may_grant.false));
-      kept = λ e. refl;
     }
