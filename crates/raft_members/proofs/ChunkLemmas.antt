@@ -1,8 +1,8 @@
 -- A test of a list, made of its chunks.
-use Rattle.std.specs.Prelude.{◌≡◌, ℕ, zero, suc, ◌+◌, ◌*◌, Bool, ◌||◌, List, drop, take}
+use Rattle.std.specs.Prelude.{◌≡◌, ℕ, zero, suc, ◌+◌, ◌*◌, ◌≤◌, Bool, true, false, ◌||◌, List, [], ◌∷◌, drop, take}
 use Rattle.std.specs.List.{list_any}
 use Rattle.std.specs.Simd.{first_chunks}
-use Rattle.std.proofs.Common.{arith, sym, ap, ◌∙◌}
+use Rattle.std.proofs.Common.{arith, sym, ap, refl, ◌∙◌}
 use Rattle.std.proofs.Math.Bool.{or_assoc}
 use Rattle.std.proofs.Math.Nat.{suc-mul, zero-mul}
 use Rattle.std.proofs.lemmas.List.{drop-drop, take-append-drop}
@@ -31,3 +31,13 @@ module _ {X : Type 0} (p : X → Bool) (n : ℕ) where
       ap (λ a. a || list_any p rest) (sym e ∙ ap (list_any (list_any p)) c)
       ∙ ap (λ ys. list_any (list_any p) (first_chunks n k xs) || list_any p ys) r
       ∙ list_any-first_chunks k xs
+
+module _ {X : Type 0} (p : X → Bool) where
+  -- the first n elements, and those behind the first k of them, are all
+  pub list_any-ends : (n k : ℕ) (xs : List X) → k ≤ n → (list_any p (take n xs) || list_any p (drop k xs)) ≡ list_any p xs
+  list_any-ends zero zero xs l = refl
+  list_any-ends zero (suc k) xs l = absurd (omega arith)
+  list_any-ends (suc n) zero [] l = refl
+  list_any-ends (suc n) (suc k) [] l = refl
+  list_any-ends (suc n) zero (x ∷ xs) l = elim (p x) as (λ b. ((b || list_any p (take n xs)) || (b || list_any p xs)) ≡ (b || list_any p xs)) [ true ↦ refl | false ↦ list_any-ends n zero xs (omega arith) ]
+  list_any-ends (suc n) (suc k) (x ∷ xs) l = elim (p x) as (λ b. ((b || list_any p (take n xs)) || list_any p (drop k xs)) ≡ (b || list_any p xs)) [ true ↦ refl | false ↦ list_any-ends n k xs (omega arith) ]

@@ -21,10 +21,12 @@ impl<ID: Copy + Ord, QS: QuorumSet<ID>> QuorumSet<ID> for Joint<ID, QS, Vec<QS>>
         list_all-weaker (λ c. QS.has_quorum c s) (λ c. QS.has_quorum c t)
         (λ c. QS.superset c s t h) j.items };
 
+    #[inline(always)]
     fn is_quorum(&self, ids: &[ID]) -> bool {
         is_quorum_of_each(self.children(), ids)
     }
 
+    #[inline(always)]
     fn least_quorum_size(&self) -> usize {
         least_of_each(self.children())
     }
@@ -44,10 +46,12 @@ impl<'a, ID: Copy + Ord, QS: QuorumSet<ID>> QuorumSet<ID> for Joint<ID, QS, &'a 
         list_all-weaker (λ c. QS.has_quorum c s) (λ c. QS.has_quorum c t)
         (λ c. QS.superset c s t h) j.now };
 
+    #[inline(always)]
     fn is_quorum(&self, ids: &[ID]) -> bool {
         is_quorum_of_each(self.children(), ids)
     }
 
+    #[inline(always)]
     fn least_quorum_size(&self) -> usize {
         least_of_each(self.children())
     }
@@ -58,6 +62,7 @@ impl<'a, ID: Copy + Ord, QS: QuorumSet<ID>> QuorumSet<ID> for Joint<ID, QS, &'a 
 }
 
 /// Whether the ids are a quorum of each child.
+#[inline(always)]
 fn is_quorum_of_each<ID: Copy + Ord, QS: QuorumSet<ID>>(children: &[QS], ids: &[ID]) -> bool
     ensures { IsDistinct ID.eq ids.now →
         result ≡ list_all (λ c. QS.has_quorum c (is_member ID.eq ids.now)) children.now }
@@ -71,10 +76,15 @@ fn is_quorum_of_each<ID: Copy + Ord, QS: QuorumSet<ID>>(children: &[QS], ids: &[
 }
 
 /// The greatest bound of the children: a quorum of all has as many ids as one of each.
+#[inline(always)]
 fn least_of_each<ID: Copy + Ord, QS: QuorumSet<ID>>(children: &[QS]) -> usize
     ensures { QuorumsHaveAtLeast ID.eq
         (λ s. list_all (λ c. QS.has_quorum c s) children.now) result }
 {
+    // Two lists, as a change of voters has, are asked without a loop.
+    if let [old, new] = children {
+        return old.least_quorum_size().max(new.least_quorum_size());
+    }
     let mut greatest = 0;
     for child in children {
         greatest = child.least_quorum_size().max(greatest);

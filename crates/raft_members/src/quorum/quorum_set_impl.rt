@@ -1,6 +1,6 @@
 //! Lists and sets of voters as quorum sets: a quorum has more than half
 //! of the voters. Shared quorum sets.
-ghost use Rattle.std.specs.Prelude.{◌≡◌, Bool, IfOk, count_by, nat_lt};
+ghost use Rattle.std.specs.Prelude.{◌≡◌, ◌*◌, ◌≤◌, ◌||◌, Bool, IfOk, count_by, length, nat_lt};
 ghost use Rattle.std.specs.List.{IsDistinct, list_any};
 ghost use Rattle.std.specs.Set.{is_member};
 ghost use Rattle.std.specs.Fn.{AnyResult};
@@ -113,11 +113,44 @@ fn has_majority<ID: Copy + Ord>(voters: &[ID], ids: &[ID]) -> bool
     if voters.len() >= CHUNK {
         return has_majority_of_many(voters, ids);
     }
-    // So that the search of the voters for an id need not ask whether there are any.
-    if voters.is_empty() {
-        return false;
+    if voters.len() >= 4 {
+        return has_majority_at_ends::<ID, 4>(voters, ids);
+    }
+    if voters.len() >= 2 {
+        return has_majority_at_ends::<ID, 2>(voters, ids);
     }
     exceeds(ids, voters.len() / 2, |id| has_singly(voters, id))
+}
+
+/// The same for a list of at least `N` voters, and at most twice as many.
+// How many are compared is known when it is compiled, so that a comparison does not ask for the
+// end.
+#[inline(always)]
+fn has_majority_at_ends<ID: Copy + Ord, const N: usize>(voters: &[ID], ids: &[ID]) -> bool
+    requires { (N ≤ length voters.now) × (length voters.now ≤ 2 * N) }
+    ensures { IsDistinct ID.eq ids.now →
+        result ≡ is_majority ID.eq voters.now (is_member ID.eq ids.now) }
+{
+    let (Some(first), Some(last)) = (voters.first_chunk::<N>(), voters.last_chunk::<N>()) else {
+        return false;
+    };
+    exceeds(
+        ids,
+        voters.len() / 2,
+        |id| -> bool
+            ensures { result ≡ (list_any (λ y. ID.eq y id) first.entry.now
+                || list_any (λ y. ID.eq y id) last.entry.now) }
+        { has_at_ends(first, last, id) },
+    )
+}
+
+/// Whether the id is among the first voters or the last ones.
+#[inline(always)]
+fn has_at_ends<ID: Copy + Ord, const N: usize>(first: &[ID; N], last: &[ID; N], id: ID) -> bool
+    ensures { result ≡
+        (list_any (λ y. ID.eq y id) first.now || list_any (λ y. ID.eq y id) last.now) }
+{
+    first.iter().any(|voter| *voter == id) || last.iter().rev().any(|voter| *voter == id)
 }
 
 /// The same for a long list.
