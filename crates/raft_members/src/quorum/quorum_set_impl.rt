@@ -122,7 +122,8 @@ fn has_majority<ID: Copy + Ord>(voters: &[ID], ids: &[ID]) -> bool
     exceeds(ids, voters.len() / 2, |id| has_singly(voters, id))
 }
 
-/// The same for a list of at least `N` voters, and at most twice as many.
+/// The same for a list of at least `N` voters, and at most twice as many: its first `N` and its
+/// last are all.
 // How many are compared is known when it is compiled, so that a comparison does not ask for the
 // end.
 #[inline(always)]
@@ -132,7 +133,7 @@ fn has_majority_at_ends<ID: Copy + Ord, const N: usize>(voters: &[ID], ids: &[ID
         result ≡ is_majority ID.eq voters.now (is_member ID.eq ids.now) }
 {
     let (Some(first), Some(last)) = (voters.first_chunk::<N>(), voters.last_chunk::<N>()) else {
-        return false;
+        unreachable!()
     };
     exceeds(
         ids,
