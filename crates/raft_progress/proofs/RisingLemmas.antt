@@ -1,5 +1,5 @@
 -- Moving an entry up, one neighbour at a time.
-use Rattle.std.specs.Prelude.{◌≡◌, ℕ, ◌+◌, ◌<◌, ◌≤◌, Bool, true, false, List, [], ◌∷◌, ◌++◌, length}
+use Rattle.std.specs.Prelude.{◌≡◌, ℕ, ◌+◌, ◌-◌, ◌<◌, ◌≤◌, Bool, true, false, List, [], ◌∷◌, ◌++◌, length}
 use Rattle.std.specs.declared.cmp.Ordering.{Ordering}
 use Rattle.std.specs.Ordering.{is_lt}
 use Rattle.std.specs.List.{swap}
@@ -60,6 +60,20 @@ last_split (x ∷ y ∷ ys) zero l = absurd (omega arith)
 last_split (x ∷ y ∷ ys) (suc n) l =
     let r = last_split (y ∷ ys) n (omega arith) in
     record { init = x ∷ r.init; last = r.last; is = ap (λ zs. x ∷ zs) r.is; init_length = ap suc r.init_length }
+
+-- the elements on both sides of a cut have changed places
+pub swap_at_cut : {X : Type 0} (front back : List X) (n : ℕ) (d e : X) → 0 < n → length front ≡ n → 0 < length back → set front (n - 1) (get_or back 0 e) ++ set back 0 (get_or front (n - 1) d) ≡ swap (front ++ back) (n - 1) n
+swap_at_cut front [] n d e some l more = absurd (omega arith)
+swap_at_cut front (b ∷ bs) n d e some l more =
+    let s = last_split front (n - 1) (omega arith) in
+    let last_is : get_or front (n - 1) d ≡ s.last =
+    ap (λ xs. get_or xs (n - 1) d) s.is ∙ ap (λ k. get_or (s.init ++ s.last ∷ []) k d) (sym s.init_length) ∙ get_at s.init s.last [] d in
+    let front_is : set front (n - 1) b ≡ s.init ++ b ∷ [] =
+    ap (λ xs. set xs (n - 1) b) s.is ∙ ap (λ k. set (s.init ++ s.last ∷ []) k b) (sym s.init_length) ∙ set_at s.init s.last b [] in
+    let next : n ≡ suc (length s.init) = let h = s.init_length in omega arith in
+    let swapped : swap (front ++ b ∷ bs) (n - 1) n ≡ s.init ++ b ∷ s.last ∷ bs =
+    ap (λ xs. swap (xs ++ b ∷ bs) (n - 1) n) s.is ∙ ap (λ xs. swap xs (n - 1) n) (append_assoc s.init (s.last ∷ []) (b ∷ bs)) ∙ ap (λ k. swap (s.init ++ s.last ∷ b ∷ bs) k n) (sym s.init_length) ∙ ap (λ k. swap (s.init ++ s.last ∷ b ∷ bs) (length s.init) k) next ∙ swap_neighbours s.init s.last b bs in
+    ap (λ xs. xs ++ get_or front (n - 1) d ∷ bs) front_is ∙ append_assoc s.init (b ∷ []) (get_or front (n - 1) d ∷ bs) ∙ ap (λ x. s.init ++ b ∷ x ∷ bs) last_is ∙ sym swapped
 
 pub record SplitAt {X : Type 0} (xs : List X) (n : ℕ) : Type 0 where
   pub front : List X

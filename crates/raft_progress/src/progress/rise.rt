@@ -1,10 +1,12 @@
 //! How a voter moves up in the walk.
-ghost use Rattle.std.specs.Prelude.{◌≡◌, ◌<◌, length};
+ghost use Rattle.std.specs.Prelude.{◌≡◌, ◌-◌, ◌<◌, length};
+ghost use Rattle.std.specs.List.{swap};
 ghost use Rattle.std.specs.Ordering.{is_lt};
 ghost use Rattle.std.proofs.Common.{get_or};
 ghost use Rattle.raft_progress.specs.Inner.Rises.{RisesTo};
 
 use super::part::ProgressPart;
+use std::mem;
 
 /// Whether the part of the entry at a place is less than another part.
 fn has_part_below<ID: Copy, V: ProgressPart<P>, P: Copy + Ord>(
@@ -17,6 +19,19 @@ fn has_part_below<ID: Copy, V: ProgressPart<P>, P: Copy + Ord>(
         result ≡ is_lt (P.cmp (V.part_of (get_or walk.now place d).1) part) }
 {
     walk[place].1.part().cmp(&part).is_lt()
+}
+
+/// Exchanges the entry at a place with the one before it.
+// Id and value apart: to swap whole entries is to copy one of them aside and back.
+fn exchange<ID: Copy, V>(walk: &mut Vec<(ID, V)>, place: usize)
+    requires { (0 < place) × (place < length walk.old.items) }
+    ensures { walk.new.items ≡ swap walk.old.items (place - 1) place }
+{
+    let (front, back) = walk.split_at_mut(place);
+    let before = &mut front[place - 1];
+    let entry = &mut back[0];
+    mem::swap(&mut before.0, &mut entry.0);
+    mem::swap(&mut before.1, &mut entry.1);
 }
 
 /// Moves an entry up past the entries directly before it whose part is less, and answers its place.
@@ -33,7 +48,7 @@ pub(crate) fn move_up<ID: Copy, V: ProgressPart<P>, P: Copy + Ord>(
         if !has_part_below(walk, at - 1, part) {
             return at;
         }
-        walk.swap(at - 1, at);
+        exchange(walk, at);
         at -= 1;
     }
     at

@@ -66,7 +66,7 @@ pub(crate) fn least_front<ID: Copy + Ord, V, QS: QuorumSet<ID>>(
     let mut left = voters.len();
     while failed < end {
         left /= 2;
-        let front = failed + 1 + left.min(end - failed - 1);
+        let front = end.min((failed + 1).saturating_add(left));
         if test_front(quorum_set, &room[..front], &mut tests) {
             end = front - 1;
         } else {

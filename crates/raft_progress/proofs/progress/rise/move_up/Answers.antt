@@ -1,5 +1,6 @@
 use Rattle.std.proofs.Common.{arith, get_or, is_lt, ◌≡◌, ◌+◌, ◌-◌, ◌<◌, subst, sym, ◌∙◌, ℕ, ap}
 use Rattle.std.specs.List.{swap}
+use Rattle.std.proofs.lemmas.List.Edits.{swapped_from_swap}
 use Rattle.raft_progress.specs.Inner.Rises.{Passed, RisesTo}
 use Rattle.raft_progress.proofs.PlacesLemmas.{any_default}
 use Rattle.raft_progress.proofs.RisingLemmas.{passed_none, passed_more, passed_within, rises_stop, rises_front}
@@ -20,13 +21,16 @@ loop-at-init g c = record {
 pub loop-at-preserved : goal.loop-at-preserved
 loop-at-preserved g c =
     let e : c.loop-at.at ≡ c.loop-at.at - 1 + 1 = omega arith in
+    let at_within = passed_within g.P.Ord.cmp g.V.ProgressPart.part_of c.args.walk.now.items c.args.place c.loop-at.walk.items c.loop-at.at c.loop-at.invariant.passes in
+    let moved : (d : g.row.ID.Denot × g.row.V.Denot) → get_or c.exchange.new.walk.items (c.loop-at.at - 1) d ≡ get_or c.loop-at.walk.items c.loop-at.at d =
+    λ d. (swapped_from_swap c.loop-at.walk.items c.exchange.new.walk.items (c.loop-at.at - 1) c.loop-at.at d (before_within _ at_within) at_within c.exchange.ensures).0 in
     record {
       passes =
           passed_more g.P.Ord.cmp g.V.ProgressPart.part_of c.args.walk.now.items c.args.place c.loop-at.walk.items (c.loop-at.at - 1)
           (subst (λ (n : ℕ). Passed g.P.Ord.cmp g.V.ProgressPart.part_of c.args.walk.now.items c.args.place c.loop-at.walk.items n) e c.loop-at.invariant.passes)
-          c.swap.new.self.items (c.swap.ensures.items ∙ ap (swap c.loop-at.walk.items (c.loop-at.at - 1)) e)
+          c.exchange.new.walk.items (c.exchange.ensures ∙ ap (swap c.loop-at.walk.items (c.loop-at.at - 1)) e)
           (λ d. ap (λ q. is_lt (g.P.Ord.cmp (g.V.ProgressPart.part_of (get_or c.loop-at.walk.items (c.loop-at.at - 1) d).1) q)) (ap (λ (n : ℕ). g.V.ProgressPart.part_of (get_or c.loop-at.walk.items n d).1) (sym e) ∙ c.loop-at.invariant.carries d) ∙ sym (rw c.deref.ensures.value at (c.has_part_below.ensures d)) ∙ c.if-not-has_part_below.false);
-      carries = λ d. ap (λ (e : g.row.ID.Denot × g.row.V.Denot). g.V.ProgressPart.part_of e.1) (c.swap.ensures.by_index.0 d) ∙ c.loop-at.invariant.carries d;
+      carries = λ d. ap (λ (e : g.row.ID.Denot × g.row.V.Denot). g.V.ProgressPart.part_of e.1) (moved d) ∙ c.loop-at.invariant.carries d;
     }
 
 pub returns-then-not-has_part_below : goal.returns-then-not-has_part_below
@@ -48,8 +52,5 @@ returns g c =
 pub has_part_below-requires : goal.has_part_below-requires
 has_part_below-requires g c = rw c.deref.ensures.value (before_within _ (passed_within g.P.Ord.cmp g.V.ProgressPart.part_of c.args.walk.now.items c.args.place c.loop-at.walk.items c.loop-at.at c.loop-at.invariant.passes))
 
-pub swap-requires-clause-i_in_bounds : goal.swap-requires-clause-i_in_bounds
-swap-requires-clause-i_in_bounds g c = rw c.loop-at.walk.ok.0 (before_within _ (passed_within g.P.Ord.cmp g.V.ProgressPart.part_of c.args.walk.now.items c.args.place c.loop-at.walk.items c.loop-at.at c.loop-at.invariant.passes))
-
-pub swap-requires-clause-j_in_bounds : goal.swap-requires-clause-j_in_bounds
-swap-requires-clause-j_in_bounds g c = rw c.loop-at.walk.ok.0 (passed_within g.P.Ord.cmp g.V.ProgressPart.part_of c.args.walk.now.items c.args.place c.loop-at.walk.items c.loop-at.at c.loop-at.invariant.passes)
+pub exchange-requires : goal.exchange-requires
+exchange-requires g c = (omega arith, passed_within g.P.Ord.cmp g.V.ProgressPart.part_of c.args.walk.now.items c.args.place c.loop-at.walk.items c.loop-at.at c.loop-at.invariant.passes)

@@ -1,4 +1,4 @@
-use Rattle.std.proofs.Common.{arith, sym, ◌∙◌, ◌+◌, ◌≤◌}
+use Rattle.std.proofs.Common.{arith, sym, ◌∙◌, ◌≤◌}
 use Rattle.raft_progress.proofs.FrontLemmas.{front_tested, halves_failed, halves_found, halves_missed, halves_none, halves_passed, tests_fit}
 use Rattle.raft_progress.proofs.progress.scan.least_front.Goals as goal
 
@@ -15,21 +15,23 @@ loop-failed-init g c = record {
 
 pub loop-failed-preserved-then-test_front : goal.loop-failed-preserved-then-test_front
 loop-failed-preserved-then-test_front g c =
-    let e = c.min.ensures in
-    let l : c.loop-failed.failed + 1 + c.min.result ≤ c.args.high = let w = c.loop-failed.invariant.halves.within in omega arith in
-    let tested = front_tested g.met.ID.Eq.laws (g.QS.QuorumSet.has_quorum c.args.quorum_set.now) c.args.voters.now c.requires.distinct c.args.room.now c.args.high (c.loop-failed.failed + 1 + c.min.result) l c.requires.gathered c.test_front.result c.test_front.ensures.quorum in
+    let e = c.min-front.ensures in
+    let a = c.saturating_add.ensures in
+    let l : c.min-front.result ≤ c.args.high = let w = c.loop-failed.invariant.halves.within in omega arith in
+    let tested = front_tested g.met.ID.Eq.laws (g.QS.QuorumSet.has_quorum c.args.quorum_set.now) c.args.voters.now c.requires.distinct c.args.room.now c.args.high c.min-front.result l c.requires.gathered c.test_front.result c.test_front.ensures.quorum in
     record {
-      halves = rw c.test_front.ensures.counted (halves_passed g.ID.PartialEq.eq (g.QS.QuorumSet.has_quorum c.args.quorum_set.now) c.args.voters.now c.args.low c.args.high c.loop-failed.failed c.loop-failed.end c.loop-failed.left c.loop-failed.tests c.loop-failed.invariant.halves c.loop-failed-test.true (c.loop-failed.failed + 1 + c.min.result) (omega arith) (sym tested ∙ c.if-test_front.true));
+      halves = rw c.test_front.ensures.counted (halves_passed g.ID.PartialEq.eq (g.QS.QuorumSet.has_quorum c.args.quorum_set.now) c.args.voters.now c.args.low c.args.high c.loop-failed.failed c.loop-failed.end c.loop-failed.left c.loop-failed.tests c.loop-failed.invariant.halves c.loop-failed-test.true c.min-front.result (omega arith) (sym tested ∙ c.if-test_front.true));
       fits = c.loop-failed.invariant.fits;
     }
 
 pub loop-failed-preserved : goal.loop-failed-preserved
 loop-failed-preserved g c =
-    let e = c.min.ensures in
-    let l : c.loop-failed.failed + 1 + c.min.result ≤ c.args.high = let w = c.loop-failed.invariant.halves.within in omega arith in
-    let tested = front_tested g.met.ID.Eq.laws (g.QS.QuorumSet.has_quorum c.args.quorum_set.now) c.args.voters.now c.requires.distinct c.args.room.now c.args.high (c.loop-failed.failed + 1 + c.min.result) l c.requires.gathered c.test_front.result c.test_front.ensures.quorum in
+    let e = c.min-front.ensures in
+    let a = c.saturating_add.ensures in
+    let l : c.min-front.result ≤ c.args.high = let w = c.loop-failed.invariant.halves.within in omega arith in
+    let tested = front_tested g.met.ID.Eq.laws (g.QS.QuorumSet.has_quorum c.args.quorum_set.now) c.args.voters.now c.requires.distinct c.args.room.now c.args.high c.min-front.result l c.requires.gathered c.test_front.result c.test_front.ensures.quorum in
     record {
-      halves = rw c.test_front.ensures.counted (halves_failed g.ID.PartialEq.eq (g.QS.QuorumSet.has_quorum c.args.quorum_set.now) c.args.voters.now c.args.low c.args.high c.loop-failed.failed c.loop-failed.end c.loop-failed.left c.loop-failed.tests c.loop-failed.invariant.halves c.loop-failed-test.true (c.loop-failed.failed + 1 + c.min.result) (omega arith) (g.met.QS.QuorumSet.superset c.args.quorum_set.now) (sym tested ∙ c.if-test_front.false));
+      halves = rw c.test_front.ensures.counted (halves_failed g.ID.PartialEq.eq (g.QS.QuorumSet.has_quorum c.args.quorum_set.now) c.args.voters.now c.args.low c.args.high c.loop-failed.failed c.loop-failed.end c.loop-failed.left c.loop-failed.tests c.loop-failed.invariant.halves c.loop-failed-test.true c.min-front.result (omega arith) (g.met.QS.QuorumSet.superset c.args.quorum_set.now) (sym tested ∙ c.if-test_front.false));
       fits = c.loop-failed.invariant.fits;
     }
 
