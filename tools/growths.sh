@@ -1,7 +1,8 @@
 #!/usr/bin/env bash
 # Runs the tests that the gate has built once more, with `refuse_growths.c` in front of the heap: each
 # growth of memory of a call is refused in turn, or all of them. Prints a line for each such call, and
-# fails where one is wrong, where nothing refused its growths, or where a crate's tests have no such call.
+# fails where one is wrong, where nothing refused its growths, or where the calls and the numbers of their
+# growths are not those of `growths.txt`, which has a line for each, as often as the call is made.
 set -u -o pipefail
 cd "$(dirname "$0")/.."
 toolchain=$(dirname "$(rt doc | head -n 1)")/toolchain/bin
@@ -11,6 +12,9 @@ trap 'rm -rf "$folder"' EXIT
     -o "$folder/refuse.so" tools/refuse_growths.c || exit 1
 right=0
 wrong=0
+
+# Notes calls that have run, with their growths, for a crate.
+note() { sed "s/^/$1, /" >> "$folder/ran"; }
 
 # Runs a crate's tests one by one, and judges what they say of growths.
 run_tests() {
@@ -22,6 +26,7 @@ run_tests() {
     lines=$(grep -E '^.+: ([0-9]+ growths|no growths|in ample memory|wrong)$' <<< "$said")
     echo "$1:"
     echo "$lines"
+    note "$1" <<< "$lines"
     right=$((right + $(grep -c ' growths$' <<< "$lines")))
     if [ -z "$lines" ] || grep -qv ' growths$' <<< "$lines" || grep ': failed$' <<< "$said"; then
         wrong=$((wrong + 1))
@@ -76,9 +81,14 @@ run_program() {
         fi
     done
     echo "raft_script: $count growths"
+    note raft_script <<< "the twelve lines: $count growths"
     [ "$count" -gt 0 ] && [ "$status $output" = "2 $whole" ] || wrong=$((wrong + 1))
 }
 
 run_program
+if ! diff <(LC_ALL=C sort tools/growths.txt) <(LC_ALL=C sort "$folder/ran"); then
+    echo 'tools/growths.txt: wrong, a line with < has not run, one with > is not in it'
+    wrong=$((wrong + 1))
+fi
 echo "growths: $right calls are right, $wrong parts are wrong"
 [ "$wrong" = 0 ]

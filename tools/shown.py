@@ -3,7 +3,8 @@
 
 Each block of Rust in a document stands in one file of the crates: its `use` lines name what that
 file uses, and its other parts, from one empty line to the next, stand there as they are printed.
-Only clauses may be left out. Each table of a script has the lines and replies of a script's files.
+Only clauses may be left out, and on a page for callers no `use` of a name that the program has. Each
+table of a script has the lines and replies of a script's files.
 """
 import pathlib
 import re
@@ -50,6 +51,23 @@ def stands_at(part, lines, marks, at):
     return True
 
 
+def lacks(block, text):
+    """The names that a block takes from what its file uses, and does not use itself."""
+    lines = [line for line in block if not USE.match(line)]
+    parts = {False: "", True: ""}
+    for line, is_clause in zip(lines, are_clauses(lines)):
+        parts[is_clause] += line + "\n"
+    lacking = []
+    for name in used_in(text) - used_in("\n".join(block)):
+        if name.startswith("super::") or "_tests::" in name:
+            continue
+        word = re.split(r"::|\.", name)[-1].replace("◌", "")
+        part = parts[name.startswith("Rattle.")]
+        if re.search(rf"\b{word}\b", part) if word.isidentifier() else f" {word} " in part:
+            lacking.append(name)
+    return sorted(lacking)
+
+
 def stands_in(block, text):
     """Whether a block of Rust stands in a file."""
     uses = [line for line in block if USE.match(line)]
@@ -89,6 +107,11 @@ def main():
     for document in documents:
         text = document.read_text()
         shown = [any(stands_in(block, file) for file in files) for block in blocks_of(text)]
+        for block in blocks_of(text) if document.name == "CALLING.md" else []:
+            lacking = min((lacks(block, file) for file in files if stands_in(block, file)), key=len, default=[])
+            failed += len(lacking) > 0
+            for name in lacking:
+                print(f"shown: {document.relative_to(ROOT)}: a program lacks a `use` of {name}")
         shown += [script in scripts for script in scripts_of(text)]
         found += sum(shown)
         failed += len(shown) - sum(shown)

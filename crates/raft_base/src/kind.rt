@@ -98,6 +98,13 @@ pub trait LeaderIdentity: Eq + Copy + Default + Debug + Display + 'static {
 
     /// Leaders that do not compare stand on the same side of each third one.
     ghost incomparable: { IncomparableAlike order };
+
+    /// The default leader is of term 0, before each term in which a node votes.
+    ghost default_term: { (a : Self) → Self.is_default a → term_of a ≡ 0 };
+
+    /// What is kept by default is what is kept of a default leader.
+    ghost default_committed: { (c : Self.Committed) → Self.Committed.is_default c
+        → (a : Self) × Self.is_default a × (c ≡ committed a) };
 }
 
 /// A kind of leader ids: its leaders over each type of node ids.
@@ -229,4 +236,8 @@ impl<NID: NodeId> LeaderIdentity for LeaderId<NID> {
     ghost made = { λ t n. (refl, refl, refl) };
 
     ghost incomparable = { λ a b c h. never_none _ h };
+
+    ghost default_term = { λ a h. h.0 };
+
+    ghost default_committed = { λ c h. (c, h, refl) };
 }

@@ -1,5 +1,5 @@
 //! Who leads in standard Raft, where a node votes once in a term.
-ghost use Rattle.std.specs.Prelude.{◌≡◌, Some, nat_eq, refl};
+ghost use Rattle.std.specs.Prelude.{◌≡◌, Some, None, nat_eq, refl};
 ghost use Rattle.std.specs.Ordering.{nat_cmp};
 ghost use Rattle.raft_base.specs.LeaderIdStd.{std_leader_cmp, voted_cmp};
 ghost use Rattle.raft_base.specs.LeaderIdStdLaws.{alike_above, alike_below, first_decides, term_at_most, term_then_voted-partial};
@@ -197,4 +197,8 @@ impl<NID: NodeId> LeaderIdentity for LeaderId<NID> {
           λ k. alike_below NID.eq a.term b.term c.term a.voted_for b.voted_for c.voted_for h k,
           λ k. alike_above NID.eq a.term b.term c.term a.voted_for b.voted_for c.voted_for h k,
         )) };
+
+    ghost default_term = { λ a h. h.0 };
+
+    ghost default_committed = { λ c h. (record { term = c.term; voted_for = None }, (h, refl), refl) };
 }

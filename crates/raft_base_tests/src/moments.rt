@@ -74,7 +74,7 @@ fn states_differ() -> bool {
 /// Whether a list of texts is cloned with its moment.
 fn is_cloned(alloc: Global) -> Result<bool, AllocError> {
     let stamped = UTime::new(3u64, String::from_str(alloc, "voted")?);
-    Ok(stamped.try_clone()? == stamped)
+    Ok(stamped.try_clone()? == stamped && stamped.clone()? == stamped)
 }
 
 #[test]

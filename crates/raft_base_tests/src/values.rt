@@ -125,14 +125,32 @@ fn defaults_are_zero(alloc: Global) -> Result<bool, AllocError> {
             && <()>::default_node(alloc)? == ()
             && EmptyNode::default_node(alloc)? == EmptyNode::new()
             && EmptyNode::default() == EmptyNode {}
-            && BasicNode::default_node(alloc)? == BasicNode::new(alloc, "")?
-            && BasicNode::new(alloc, "here")? != BasicNode::new(alloc, "there")?,
+            && BasicNode::default_node(alloc)? == BasicNode::new(alloc, "")?,
     )
 }
 
 #[test]
 fn defaults_are_zero_and_not_committed(rt: HostRuntime) -> Result<(), Fail> {
     assert!(rt; defaults_are_zero(rt.alloc())?);
+    Ok(())
+}
+
+/// Whether a node equals itself, and not another.
+fn equals_itself_alone(node: &BasicNode, other: &BasicNode) -> bool {
+    *node == *node && *node != *other
+}
+
+#[test]
+fn nodes_are_cloned_and_compared(rt: HostRuntime) -> Result<(), Fail> {
+    let alloc = rt.alloc();
+    let (here, there) = (
+        BasicNode::new(alloc, "here")?,
+        BasicNode::new(alloc, "there")?,
+    );
+    assert!(rt; here.clone()? == here);
+    refuse_each(alloc);
+    let is_right = equals_itself_alone(&here, &there);
+    assert!(rt; is_free(&rt, alloc, "comparison of nodes", is_right)?);
     Ok(())
 }
 

@@ -1,6 +1,6 @@
 -- Quorums of a stated size: how they are counted, which lists of ids have the same ones, that two of them
 -- share an id, and clones of their sets.
-use Rattle.std.specs.Prelude.{◌≡◌, ◌&&◌, ℕ, ◌+◌, ◌*◌, ◌-◌, ◌<◌, ◌≤◌, Bool, IsTrue, List, length, count_by, nat_eq}
+use Rattle.std.specs.Prelude.{◌≡◌, ◌&&◌, ℕ, ◌+◌, ◌-◌, ◌<◌, ◌≤◌, Bool, IsTrue, List, length, count_by, nat_eq}
 use Rattle.std.proofs.Common.{arith, ap, subst, sym, ◌∙◌, leb, ltb}
 use Rattle.std.proofs.lemmas.Bool.{leb-true, le-leb, lt-leb, ltb_from_iff}
 use Rattle.std.proofs.lemmas.List.Sums.{length-filter, count_by-le-length}
@@ -28,8 +28,8 @@ use Rattle.raft_members.proofs.MeetingLemmas.{shared}
 above : (k n : ℕ) → 1 ≤ k → ltb (k - 1) n ≡ leb k n
 above k n p = sym (ltb_from_iff ((λ e. let l = leb-true _ _ e in omega arith), (λ l. le-leb _ _ (omega arith))))
 
-share : (n a b k : ℕ) → n < 2 * k → k ≤ a → k ≤ b → n < a + b
-share n a b k h i j = omega arith
+share : (n a b k l : ℕ) → n < k + l → k ≤ a → l ≤ b → n < a + b
+share n a b k l h i j = omega arith
 
 module _ {K : Type 0} {eq : K → K → Bool} (laws : IsEquivalence eq) where
   -- distinct ids are a quorum if those of them that are among the voters are more than one less
@@ -41,11 +41,11 @@ module _ {K : Type 0} {eq : K → K → Bool} (laws : IsEquivalence eq) where
       count_same zs = simp (flipped laws)
 
   pub at_least_meet : AtLeastQuorumsMeet eq
-  at_least_meet ids need s t n hs ht =
+  at_least_meet ids need other s t n hs ht =
       let u = unique_keys eq ids in
       let a : need ≤ length (filter s u) = rw length-filter (leb-true need (count_by s u) hs) in
-      let b : need ≤ length (filter t u) = rw length-filter (leb-true need (count_by t u) ht) in
-      let m : ShareMember eq u s t = shared laws s t u (share (length u) (length (filter s u)) (length (filter t u)) need n a b) in
+      let b : other ≤ length (filter t u) = rw length-filter (leb-true other (count_by t u) ht) in
+      let m : ShareMember eq u s t = shared laws s t u (share (length u) (length (filter s u)) (length (filter t u)) need other n a b) in
       (m.0, sym (is_member-unique_keys laws ids m.0) ∙ m.1, m.2, m.3)
 
 module _ {K : Type 0} {eq : K → K → Bool} (laws : IsEquivalence eq) (kept given : List K) (same : (x : K) → is_member eq kept x ≡ is_member eq given x) where

@@ -9,7 +9,7 @@ use Rattle.std.proofs.lemmas.Map.Made.{distinct_count-le}
 use Rattle.std.proofs.lemmas.List.Sums.{length-filter}
 use Rattle.raft_members.specs.Majority.{is_majority, is_joint_majority, is_voter_of}
 use Rattle.raft_members.specs.Coherence.{has_config, is_coherent}
-use Rattle.raft_members.specs.Meeting.{ShareMember, MajorityHasVoter, QuorumsMeet, CoherentQuorumsMeet}
+use Rattle.raft_members.specs.Meeting.{ShareMember, MajorityHasVoter, QuorumsMeet, CoherentQuorumsMeet, EqualConfigsHaveSameQuorums}
 use Rattle.raft_members.proofs.MajorityLemmas.{is_member-alike, is_member-unique_keys}
 use Rattle.raft_members.proofs.NextLemmas.{left_true, right_true, equal_right}
 
@@ -97,25 +97,42 @@ module _ {K : Type 0} {e : K → K → Bool} (laws : IsEquivalence e) where
   voter_there [] d k h m = cc
   voter_there (c ∷ cs) d k h m = voter_step c cs d k (pointwise e c d) refl (λ h'. voter_there cs d k h' m) h m
 
-  -- a config that equals one of cs, with a majority in t
-  abbrev pub SharedMajority : List (List K) → (K → Bool) → Type 0
-  SharedMajority cs t = (d : List K) × (has_config e cs d ≡ true) × (is_majority e d t ≡ true)
+  -- a config that equals one of cs, with a majority in t, and whose members are voters of ds
+  abbrev pub SharedMajority : List (List K) → List (List K) → (K → Bool) → Type 0
+  SharedMajority cs ds t = (d : List K) × (has_config e cs d ≡ true) × (is_majority e d t ≡ true) × ((q : K) → is_member e d q ≡ true → is_voter_of e ds q ≡ true)
 
-  shared_step : (cs : List (List K)) (d : List K) (ds : List (List K)) (t : K → Bool) (b : Bool) → has_config e cs d ≡ b → (is_coherent e cs ds ≡ true → is_joint_majority e ds t ≡ true → SharedMajority cs t) → (b || is_coherent e cs ds) ≡ true → (is_majority e d t && is_joint_majority e ds t) ≡ true → SharedMajority cs t
-  shared_step cs d ds t true p next h q = (d, p, first_so _ _ q)
-  shared_step cs d ds t false p next h q = next h (second_so _ _ q)
+  shared_step : (cs : List (List K)) (d : List K) (ds : List (List K)) (t : K → Bool) (b : Bool) → has_config e cs d ≡ b → (is_coherent e cs ds ≡ true → is_joint_majority e ds t ≡ true → SharedMajority cs ds t) → (b || is_coherent e cs ds) ≡ true → (is_majority e d t && is_joint_majority e ds t) ≡ true → SharedMajority cs (d ∷ ds) t
+  shared_step cs d ds t true p next h q = (d, p, first_so _ _ q, λ x m. left_true _ _ m)
+  shared_step cs d ds t false p next h q = let n = next h (second_so _ _ q) in (n.0, n.1, n.2, λ x m. right_true _ _ (n.3 x m))
 
   -- a quorum of coherent configs has a majority of a shared one
-  pub shared_majority : (cs ds : List (List K)) (t : K → Bool) → is_coherent e cs ds ≡ true → is_joint_majority e ds t ≡ true → SharedMajority cs t
+  pub shared_majority : (cs ds : List (List K)) (t : K → Bool) → is_coherent e cs ds ≡ true → is_joint_majority e ds t ≡ true → SharedMajority cs ds t
   shared_majority cs [] t h q = cc
   shared_majority cs (d ∷ ds) t h q = shared_step cs d ds t (has_config e cs d) refl (shared_majority cs ds t) h q
 
-  -- quorums of coherent configs share a voter; equal ids must be in s alike
+  -- quorums of coherent configs share a voter of both; equal ids must be in s alike
   pub coherent_meet : CoherentQuorumsMeet e
   coherent_meet cs ds s t r co hs ht =
       let d = shared_majority cs ds t co ht in
       let m = majorities_meet d.0 s t (each_majority s r cs d.0 hs d.1) d.2 in
-      (m.0, voter_there cs d.0 m.0 d.1 m.1, m.2, m.3)
+      (m.0, voter_there cs d.0 m.0 d.1 m.1, d.3 m.0 m.1, m.2, m.3)
+
+  -- ---- equal lists of configs
+
+  equal_voters : (cs ds : List (List K)) → pointwise (pointwise e) cs ds ≡ true → (q : K) → is_voter_of e ds q ≡ is_voter_of e cs q
+  equal_voters [] [] h q = refl
+  equal_voters [] (d ∷ ds) h q = cc
+  equal_voters (c ∷ cs) [] h q = cc
+  equal_voters (c ∷ cs) (d ∷ ds) h q = λ i. sym (same_members c d q (first_so _ _ h)) i || equal_voters cs ds (second_so _ _ h) q i
+
+  equal_quorums : (s : K → Bool) (r : (x y : K) → e x y ≡ true → s x ≡ s y) (cs ds : List (List K)) → pointwise (pointwise e) cs ds ≡ true → is_joint_majority e ds s ≡ is_joint_majority e cs s
+  equal_quorums s r [] [] h = refl
+  equal_quorums s r [] (d ∷ ds) h = cc
+  equal_quorums s r (c ∷ cs) [] h = cc
+  equal_quorums s r (c ∷ cs) (d ∷ ds) h = λ i. sym (same_majority s r c d (first_so _ _ h)) i && equal_quorums s r cs ds (second_so _ _ h) i
+
+  pub equal_configs : EqualConfigsHaveSameQuorums e
+  equal_configs cs ds h = record { voters = equal_voters cs ds h; quorums = λ set r. equal_quorums set r cs ds h }
 
   -- two quorums of one list of configs share a voter, one of its first config
   pub quorums_meet : QuorumsMeet e

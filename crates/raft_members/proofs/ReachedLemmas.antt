@@ -18,7 +18,7 @@ module _ {K : Type 0} {e : K → K → Bool} (laws : IsEquivalence e) where
     reaches_by : VotersReached e cs voter reached → EachQuorumKnows e ds voter reached
     reaches_by (inl h) t q =
         let m = coherent_meet laws cs ds (λ k. voter k && reached k) t granted.respects_equality co h q in
-        (m.0, m.3, first_so _ _ m.2, second_so _ _ m.2)
+        (m.0, m.4, first_so _ _ m.3, second_so _ _ m.3)
     reaches_by (inr h) t q =
         let s = shared_majority laws cs ds t co q in
         let m = majority_member laws s.0 t s.2 in

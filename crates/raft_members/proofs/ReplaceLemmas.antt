@@ -1,23 +1,26 @@
--- Voters that are replaced by a goal, by one change and by two.
+-- Voters that are replaced by a goal, and what two changes of voters lead to.
 use Rattle.std.specs.Prelude.{◌≡◌, ◌⊎◌, ◌<◌, ◌-◌, Bool, true, false, not, cond, ◌||◌, Option, Some, None, List, [], ◌∷◌, length, is_some, refl}
 use Rattle.std.proofs.Common.{sym, ◌∙◌, ap, arith, inl, inr, subst}
 use Rattle.std.specs.declared.cmp.Ordering.{Ordering}
+use Rattle.std.specs.declared.cmp.Ordering.TheVariants.{Equal}
 use Rattle.std.specs.Cmp.{IsEquivalence}
 use Rattle.std.specs.Cmp.Lexicographic.{pointwise, lists_equiv}
-use Rattle.std.specs.List.{list_any, slice_get}
+use Rattle.std.specs.BTreeMap.{keys}
+use Rattle.std.specs.List.{filter, list_any, slice_get}
 use Rattle.std.specs.Option.{unwrap_or}
 use Rattle.std.specs.Set.{is_member}
 use Rattle.std.proofs.lemmas.Map.Keys.{any_passes_from_place}
 use Rattle.raft_members.specs.Coherence.{has_config, next_configs}
 use Rattle.raft_members.specs.Majority.{is_voter_of}
+use Rattle.raft_members.proofs.UnionLemmas.{union_again}
 use Rattle.raft_members.proofs.NextLemmas.{has_last, next_if_has, next_if_lacks, next_if_none, next_has_goal}
-use Rattle.raft_members.specs.Members.{Members, MemberList, Says}
-use Rattle.raft_members.specs.Change.{next_members, last_config, changed}
+use Rattle.raft_members.specs.Members.{Members, MemberList, Says, members_of}
+use Rattle.raft_members.specs.Change.{next_members, last_config, changed, union_of, without}
 use Rattle.raft_members.specs.Valid.{has_empty_config, is_empty_config}
 use Rattle.raft_members.specs.Refusal.{IsRefusal}
-use Rattle.raft_members.specs.ReplaceAll.{CanReplace, OnlyMemory, TwoChanges}
+use Rattle.raft_members.specs.ReplaceAll.{CanReplace, LeadsToGoal, OnlyMemory, TwoChanges}
 use Rattle.raft_members.specs.declared.change_members.ChangeMembers.{ChangeMembers}
-use Rattle.raft_members.specs.declared.change_members.ChangeMembers.TheVariants.{ReplaceAllVoters}
+use Rattle.raft_members.specs.declared.change_members.ChangeMembers.TheVariants.{AddVoterIds, AddVoters, RemoveVoters, ReplaceAllVoters}
 use Rattle.raft_members.specs.declared.error.ChangeMembershipErrorOf.{ChangeMembershipErrorOf}
 use Rattle.raft_members.specs.declared.error.ChangeMembershipErrorOf.TheVariants.{InProgress, EmptyMembership, LearnerNotFound, OutOfMemory}
 
@@ -40,6 +43,20 @@ split false b f g h = g h
 must_false : (b : Bool) → (b ≡ true → ⊥) → b ≡ false
 must_false true f = absurd (f refl)
 must_false false f = refl
+
+-- the goal is the last of what stands next
+last_is : {K : Type 0} (ds : List (List K)) (last goal : List K) → (ds ≡ goal ∷ []) ⊎ (ds ≡ last ∷ goal ∷ []) → last_config ds ≡ goal
+last_is ds last goal (inl h) = ap last_config h
+last_is ds last goal (inr h) = ap last_config h
+
+passed_by : {K : Type 0} (test : K → Bool) (x : K) (ys : List K) (b : Bool) → test x ≡ b → filter test ys ≡ ys → filter test (cond b (x ∷ ys) ys) ≡ cond b (x ∷ ys) ys
+passed_by test x ys true h same = rw h (ap (λ zs. x ∷ zs) same)
+passed_by test x ys false h same = same
+
+-- what has passed a test passes it again
+filter_again : {K : Type 0} (test : K → Bool) (xs : List K) → filter test (filter test xs) ≡ filter test xs
+filter_again test [] = refl
+filter_again test (x ∷ xs) = passed_by test x (filter test xs) (test x) refl (filter_again test xs)
 
 module _ {K : Type 0} (e : K → K → Bool) (cs : List (List K)) (goal : List K) where
   either_by : (b : Bool) (k : Option (List K)) → has_config e cs goal ≡ b → slice_get cs (length cs - 1) ≡ k → (next_configs e cs goal ≡ goal ∷ []) ⊎ (next_configs e cs goal ≡ last_config cs ∷ goal ∷ [])
@@ -96,9 +113,23 @@ module _ {K N : Type 0} {e : K → K → Bool} (laws : IsEquivalence e) (cmp : K
   only_memory (ReplaceAllVoters g) r h = replaced_only_memory g.keys r h
   only_memory _ r h = tt
 
-  pub two_changes : (same : N → N → Bool) (c : ChangeMembers K N) (n : MemberList K N) → Says same cmp n (changed e cmp m c retain) → TwoChanges e cmp m c n
-  two_changes same (ReplaceAllVoters g) n s = record {
-    configs = subst (λ (cs : List (List K)). (cs ≡ g.keys ∷ []) ⊎ (cs ≡ last_config m.configs ∷ g.keys ∷ [])) (sym s.0) (next_either e m.configs g.keys);
-    again = λ again. next_if_has (pointwise e) n.configs g.keys (ap (λ cs. has_config e cs g.keys) s.0 ∙ next_has_goal (lists_equiv laws) m.configs g.keys);
-  }
-  two_changes same _ n s = tt
+  -- a change whose goal is a function of the last config, and fixed by it, leads there in two
+  leads_to : (c : ChangeMembers K N) (n : MemberList K N) (aim : List K → List K) → aim (aim (last_config m.configs)) ≡ aim (last_config m.configs) → n.configs ≡ next_configs e m.configs (aim (last_config m.configs)) → ((again : Bool) → (changed e cmp (members_of cmp n) c again).configs ≡ next_configs e n.configs (aim (last_config n.configs))) → LeadsToGoal e cmp m c (aim (last_config m.configs)) n
+  leads_to c n aim fixed is next =
+      let goal = aim (last_config m.configs) in
+      let either : (n.configs ≡ goal ∷ []) ⊎ (n.configs ≡ last_config m.configs ∷ goal ∷ []) = subst (λ (cs : List (List K)). (cs ≡ goal ∷ []) ⊎ (cs ≡ last_config m.configs ∷ goal ∷ [])) (sym is) (next_either e m.configs goal) in
+      record {
+        configs = either;
+        again = λ again.
+            next again
+            ∙ ap (λ last. next_configs e n.configs (aim last)) (last_is n.configs (last_config m.configs) goal either)
+            ∙ ap (next_configs e n.configs) fixed
+            ∙ next_if_has (pointwise e) n.configs goal (ap (λ cs. has_config e cs goal) is ∙ next_has_goal (lists_equiv laws) m.configs goal);
+      }
+
+  pub two_changes : ((x : K) → cmp x x ≡ Equal) → (same : N → N → Bool) (c : ChangeMembers K N) (n : MemberList K N) → Says same cmp n (changed e cmp m c retain) → TwoChanges e cmp m c n
+  two_changes ties same (AddVoterIds ids) n s = leads_to (AddVoterIds ids) n (λ last. union_of cmp last ids.keys) (union_again cmp ties (last_config m.configs) ids.keys) s.0 (λ again. refl)
+  two_changes ties same (AddVoters nodes) n s = leads_to (AddVoters nodes) n (λ last. union_of cmp last (keys nodes)) (union_again cmp ties (last_config m.configs) (keys nodes)) s.0 (λ again. refl)
+  two_changes ties same (RemoveVoters ids) n s = leads_to (RemoveVoters ids) n (λ last. without e last ids.keys) (filter_again (λ id. not (is_member e ids.keys id)) (last_config m.configs)) s.0 (λ again. refl)
+  two_changes ties same (ReplaceAllVoters g) n s = leads_to (ReplaceAllVoters g) n (λ last. g.keys) refl s.0 (λ again. refl)
+  two_changes ties same _ n s = tt

@@ -1,5 +1,5 @@
--- What a union of sorted lists has.
-use Rattle.std.specs.Prelude.{◌≡◌, Bool, true, false, ◌||◌, List, [], ◌∷◌}
+-- What a union of sorted lists has, and that it adds nothing twice.
+use Rattle.std.specs.Prelude.{◌≡◌, Bool, true, false, ◌||◌, List, [], ◌∷◌, refl}
 use Rattle.std.proofs.Common.{◌∙◌, ap}
 use Rattle.std.specs.declared.cmp.Ordering.{Ordering}
 use Rattle.std.specs.declared.cmp.Ordering.TheVariants.{Less, Equal, Greater}
@@ -31,3 +31,22 @@ module _ {K : Type 0} {eq : K → K → Bool} (laws : IsEquivalence eq) (cmp : K
 pub is_member-union_of : {K : Type 0} {eq : K → K → Bool} (laws : IsEquivalence eq) (cmp : K → K → Ordering) (ties : (x y : K) → eq x y ≡ eq_by_cmp cmp x y) (q : K) (xs ys : List K) → is_member eq ys q ≡ true → is_member eq (union_of cmp xs ys) q ≡ true
 is_member-union_of laws cmp ties q [] ys m = m
 is_member-union_of laws cmp ties q (x ∷ xs) ys m = step_has laws cmp ties q x xs (union_of cmp xs) (λ zs n. is_member-union_of laws cmp ties q xs zs n) ys m
+
+module _ {K : Type 0} (cmp : K → K → Ordering) (ties : (x : K) → cmp x x ≡ Equal) where
+  union_self : (ys : List K) → union_of cmp ys ys ≡ ys
+  union_self [] = refl
+  union_self (y ∷ ys) = rw (ties y) (ap (λ zs. y ∷ zs) (union_self ys))
+
+  again_by : (x : K) (xs : List K) (y : K) (ys : List K) (o : Ordering) → cmp x y ≡ o → union_of cmp (union_of cmp xs (y ∷ ys)) (y ∷ ys) ≡ union_of cmp xs (y ∷ ys) → union_of cmp (union_of cmp xs ys) ys ≡ union_of cmp xs ys → union_of cmp (union_of cmp (x ∷ xs) ys) ys ≡ union_of cmp (x ∷ xs) ys → union_of cmp (match_ordering o (x ∷ union_of cmp xs (y ∷ ys)) (x ∷ union_of cmp xs ys) (y ∷ union_of cmp (x ∷ xs) ys)) (y ∷ ys) ≡ match_ordering o (x ∷ union_of cmp xs (y ∷ ys)) (x ∷ union_of cmp xs ys) (y ∷ union_of cmp (x ∷ xs) ys)
+  again_by x xs y ys Less e less tie greater = rw e (ap (λ zs. x ∷ zs) less)
+  again_by x xs y ys Equal e less tie greater = rw e (ap (λ zs. x ∷ zs) tie)
+  again_by x xs y ys Greater e less tie greater = rw (ties y) (ap (λ zs. y ∷ zs) greater)
+
+  again_step : (x : K) (xs : List K) → ((ys : List K) → union_of cmp (union_of cmp xs ys) ys ≡ union_of cmp xs ys) → (ys : List K) → union_of cmp (union_of cmp (x ∷ xs) ys) ys ≡ union_of cmp (x ∷ xs) ys
+  again_step x xs next [] = refl
+  again_step x xs next (y ∷ ys) = again_by x xs y ys (cmp x y) refl (next (y ∷ ys)) (next ys) (again_step x xs next ys)
+
+  -- a union of what has the second list already adds nothing
+  pub union_again : (xs ys : List K) → union_of cmp (union_of cmp xs ys) ys ≡ union_of cmp xs ys
+  union_again [] ys = union_self ys
+  union_again (x ∷ xs) ys = again_step x xs (union_again xs) ys

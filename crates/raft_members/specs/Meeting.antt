@@ -1,5 +1,6 @@
 -- How quorums meet: the voters that two of them share.
-use Rattle.std.specs.Prelude.{◌≡◌, ◌*◌, ◌<◌, ℕ, Bool, true, false, List, [], length}
+use Rattle.std.specs.Prelude.{◌≡◌, ◌+◌, ◌<◌, ℕ, Bool, true, false, IsTrue, List, [], length}
+use Rattle.std.specs.Cmp.Lexicographic.{pointwise}
 use Rattle.std.specs.Set.{distinct_count, is_member}
 use Rattle.raft_members.specs.Majority.{has_at_least, is_majority, is_joint_majority, is_voter_of}
 use Rattle.raft_members.specs.Coherence.{is_coherent}
@@ -14,6 +15,12 @@ module _ {K : Type 0} (eq : K → K → Bool) where
   abbrev pub ShareVoter : List (List K) → (K → Bool) → (K → Bool) → Type 0
   ShareVoter configs s t =
       (id : K) × (is_voter_of eq configs id ≡ true) × (s id ≡ true) × (t id ≡ true)
+
+  -- some voter of both lists of configs is in both sets
+  abbrev pub ShareCommonVoter : List (List K) → List (List K) → (K → Bool) → (K → Bool) → Type 0
+  ShareCommonVoter these others s t =
+      (id : K) × (is_voter_of eq these id ≡ true) × (is_voter_of eq others id ≡ true)
+      × (s id ≡ true) × (t id ≡ true)
 
   -- of two equal ids, a set has both or neither
   abbrev pub RespectsEquality : (K → Bool) → Type 0
@@ -32,12 +39,25 @@ module _ {K : Type 0} (eq : K → K → Bool) where
       → is_joint_majority eq configs s ≡ true → is_joint_majority eq configs t ≡ true
       → ShareVoter configs s t
 
-  -- a quorum of some configs and a quorum of others that are coherent with them share a voter
+  -- a quorum of some configs and a quorum of others that are coherent with them share a voter, who
+  -- is one of both
   abbrev pub CoherentQuorumsMeet : Type 0
   CoherentQuorumsMeet =
       (these others : List (List K)) (s t : K → Bool) → RespectsEquality s
       → is_coherent eq these others ≡ true → is_joint_majority eq these s ≡ true
-      → is_joint_majority eq others t ≡ true → ShareVoter these s t
+      → is_joint_majority eq others t ≡ true → ShareCommonVoter these others s t
+
+  -- the same voters, and the same quorums among the sets that have both or neither of equal ids
+  pub record HaveSameQuorums (these others : List (List K)) : Type 0 where
+    pub voters : (id : K) → is_voter_of eq others id ≡ is_voter_of eq these id
+    pub quorums : (set : K → Bool) → RespectsEquality set
+        → is_joint_majority eq others set ≡ is_joint_majority eq these set
+
+  -- configs that are equal, one after the other, have the same voters and quorums
+  abbrev pub EqualConfigsHaveSameQuorums : Type 0
+  EqualConfigsHaveSameQuorums =
+      (these others : List (List K)) → IsTrue (pointwise (pointwise eq) these others)
+      → HaveSameQuorums these others
 
   -- an empty config has no quorum
   abbrev pub EmptyConfigHasNoQuorum : Type 0
@@ -47,11 +67,13 @@ module _ {K : Type 0} (eq : K → K → Bool) where
   abbrev pub NoConfigsTakeEverySet : Type 0
   NoConfigsTakeEverySet = (s : K → Bool) → is_joint_majority eq [] s ≡ true
 
-  -- two quorums of a stated size share one of the ids, where twice that size is more than there
-  -- are ids, equal ones counted once
+  -- a quorum of one stated size and one of another share one of the ids, where the sizes together
+  -- are more than there are ids, equal ones counted once
   abbrev pub AtLeastQuorumsMeet : Type 0
-  AtLeastQuorumsMeet = (ids : List K) (need : ℕ) (s t : K → Bool) → distinct_count eq ids < 2 * need
-      → has_at_least eq ids need s ≡ true → has_at_least eq ids need t ≡ true → ShareMember ids s t
+  AtLeastQuorumsMeet =
+      (ids : List K) (need other : ℕ) (s t : K → Bool) → distinct_count eq ids < need + other
+      → has_at_least eq ids need s ≡ true → has_at_least eq ids other t ≡ true
+      → ShareMember ids s t
 
   -- where more ids are needed than there are, equal ones counted once, no set is a quorum
   abbrev pub NeedPastIdsHasNoQuorum : Type 0

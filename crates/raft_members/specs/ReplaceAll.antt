@@ -1,12 +1,13 @@
--- Changes that replace all voters by a goal.
+-- Changes that replace all voters by a goal, and the goal to which each change of voters leads.
 use Rattle.std.specs.Prelude.{◌≡◌, ◌⊎◌, ◌<◌, Bool, true, Option, Some, None, List, [], ◌∷◌, length, is_some, IfSome, IsSomeAnd}
+use Rattle.std.specs.BTreeMap.{keys}
 use Rattle.std.specs.Set.{is_member}
 use Rattle.std.specs.declared.cmp.Ordering.{Ordering}
 use Rattle.raft_members.specs.Members.{MemberList, Members, members_of}
 use Rattle.raft_members.specs.Valid.{IsValid}
-use Rattle.raft_members.specs.Change.{last_config, changed}
+use Rattle.raft_members.specs.Change.{last_config, changed, union_of, without}
 use Rattle.raft_members.specs.declared.change_members.ChangeMembers.{ChangeMembers}
-use Rattle.raft_members.specs.declared.change_members.ChangeMembers.TheVariants.{ReplaceAllVoters}
+use Rattle.raft_members.specs.declared.change_members.ChangeMembers.TheVariants.{AddVoterIds, AddVoters, RemoveVoters, ReplaceAllVoters}
 use Rattle.raft_members.specs.declared.error.ChangeMembershipErrorOf.{ChangeMembershipErrorOf}
 use Rattle.raft_members.specs.declared.error.ChangeMembershipErrorOf.TheVariants.{OutOfMemory}
 
@@ -42,8 +43,17 @@ pub record LeadsToGoal {K N : Type 0} (eq : K → K → Bool) (cmp : K → K →
   pub again : (retain : Bool)
       → (changed eq cmp (members_of cmp next) change retain).configs ≡ goal ∷ []
 
--- where a change replaces the voters by a goal, two such changes lead to it
+-- the voters that a change of voters leads to from these members
+abbrev pub goal_from : {K N : Type 0} → (K → K → Bool) → (K → K → Ordering) → Members K N
+    → ChangeMembers K N → Option (List K)
+goal_from eq cmp m (AddVoterIds ids) = Some (union_of cmp (last_config m.configs) ids.keys)
+goal_from eq cmp m (AddVoters nodes) = Some (union_of cmp (last_config m.configs) (keys nodes))
+goal_from eq cmp m (RemoveVoters ids) = Some (without eq (last_config m.configs) ids.keys)
+goal_from eq cmp m (ReplaceAllVoters ids) = Some ids.keys
+goal_from eq cmp m _ = None
+
+-- a change of voters, made twice, leads to its goal
 abbrev pub TwoChanges : {K N : Type 0} → (K → K → Bool) → (K → K → Ordering) → Members K N
     → ChangeMembers K N → MemberList K N → Type 0
 TwoChanges eq cmp m change next =
-    IfSome (goal_of change) (λ goal. LeadsToGoal eq cmp m change goal next)
+    IfSome (goal_from eq cmp m change) (λ goal. LeadsToGoal eq cmp m change goal next)

@@ -71,7 +71,7 @@ fn is_accepted(alloc: Global, kind: &str) -> Result<bool, AllocError> {
 
 // A change that always lacks memory fails here: each kind is accepted in ample memory.
 #[test]
-fn always_out_of_memory(rt: HostRuntime) -> Result<(), Fail> {
+fn each_kind_is_accepted(rt: HostRuntime) -> Result<(), Fail> {
     for kind in KINDS {
         assert!(rt; is_accepted(rt.alloc(), kind)?, "of {kind}");
     }

@@ -2,7 +2,7 @@
 
 use super::lines::change;
 use super::words::{configs, ids, members, nodes};
-use super::{memberships, quorums};
+use super::{memberships, quorums, texts};
 use raft_base::{CommittedLeaderId, LogId, MessageSummary};
 use raft_base_tests::growths::{Call, Growth, is_free, is_swept, refuse_each};
 use raft_members::quorum::{FindCoherent, Joint, QuorumSet};
@@ -11,6 +11,7 @@ use raft_members::{
 };
 use std::alloc::{AllocError, Global};
 use std::collections::{BTreeMap, BTreeSet};
+use std::rc::Rc;
 use std::test::Fail;
 
 type Members = Membership<u64, u64>;
@@ -293,6 +294,40 @@ fn no_growths_of_quorums(rt: HostRuntime) -> Result<(), Fail> {
     let is_right = quorums::each_answers(&list, &set, &[1, 2], false)
         && quorums::each_answers(&list, &set, &[4, 2, 1], true);
     assert!(rt; is_free(&rt, alloc, "is_quorum of a list and of a set", is_right)?);
+    let shared: Rc<quorums::Sets> = Rc::new(alloc, Joint::from(configs(alloc, "1,2,3/3,4")?))?;
+    refuse_each(alloc);
+    let is_right = quorums::joint_answers(&shared, &[1, 2, 3], false)
+        && quorums::joint_answers(&shared, &[1, 3, 4], true);
+    assert!(rt;
+        is_free(
+            &rt,
+            alloc,
+            "is_quorum of a shared and of a borrowed joint",
+            is_right
+        )?
+    );
+    Ok(())
+}
+
+/// Whether a value equals itself, and not another.
+fn equals_itself_alone<T: PartialEq>(value: &T, other: &T) -> bool {
+    *value == *value && *value != *other
+}
+
+#[test]
+fn no_growths_of_comparisons(rt: HostRuntime) -> Result<(), Fail> {
+    let alloc = rt.alloc();
+    let (add, add_other) = (change(alloc, "add", "3=30")?, change(alloc, "add", "3=31")?);
+    let (few, few_other) = (
+        texts::quorum_not_enough(alloc, 1)?,
+        texts::quorum_not_enough(alloc, 2)?,
+    );
+    let (outside, refused) = (texts::not_in_members(alloc)?, texts::not_allowed());
+    refuse_each(alloc);
+    let is_right = equals_itself_alone(&add, &add_other)
+        && equals_itself_alone(&few, &few_other)
+        && equals_itself_alone(&outside, &refused);
+    assert!(rt; is_free(&rt, alloc, "comparison of changes and of errors", is_right)?);
     Ok(())
 }
 

@@ -15,6 +15,8 @@ mod first_caller;
 #[cfg(test)]
 mod growths;
 #[cfg(test)]
+mod laws;
+#[cfg(test)]
 mod lines;
 #[cfg(test)]
 mod memberships;

@@ -1,7 +1,7 @@
 //! Quorums of lists, sets, joints and shared sets.
 ghost use Rattle.std.specs.Prelude.{◌≤◌};
 
-use raft_members::quorum::{AsJoint, AtLeast, Coherent, FindCoherent, Joint, QuorumSet, laws};
+use raft_members::quorum::{AsJoint, AtLeast, Coherent, FindCoherent, Joint, QuorumSet};
 use std::alloc::{AllocError, Global};
 use std::collections::BTreeSet;
 use std::rc::Rc;
@@ -72,12 +72,12 @@ fn ids_are_sorted_and_distinct(rt: HostRuntime) -> Result<(), Fail> {
     Ok(())
 }
 
-type Sets = Joint<u64, BTreeSet<u64>, Vec<BTreeSet<u64>>>;
+pub type Sets = Joint<u64, BTreeSet<u64>, Vec<BTreeSet<u64>>>;
 
 type BorrowedSets<'a> = Joint<u64, BTreeSet<u64>, &'a [BTreeSet<u64>]>;
 
 /// Whether a joint, shared, itself and borrowed, answers a set of ids as wanted.
-fn joint_answers(shared: &Rc<Sets>, ids: &[u64], want: bool) -> bool {
+pub fn joint_answers(shared: &Rc<Sets>, ids: &[u64], want: bool) -> bool {
     let borrowed: BorrowedSets<'_> = shared.children().as_joint();
     borrowed.is_quorum(ids) == want
         && (**shared).is_quorum(ids) == want
@@ -118,7 +118,8 @@ fn joint(alloc: Global, configs: &[&[u64]]) -> Result<Configs, AllocError> {
 fn joint_has_ids(alloc: Global, shared: &Rc<Configs>, want: &[u64]) -> Result<bool, AllocError> {
     let borrowed: Joint<u64, Vec<u64>, &[Vec<u64>]> = shared.children().as_joint();
     let again = borrowed.try_clone()?;
-    Ok(again == borrowed && has_ids(alloc, &again, want)? && has_ids(alloc, shared, want)?)
+    let is_cloned = again == borrowed && borrowed.clone()? == borrowed;
+    Ok(is_cloned && has_ids(alloc, &again, want)? && has_ids(alloc, shared, want)?)
 }
 
 #[test]
@@ -163,7 +164,7 @@ fn the_next_joint_shares_a_child(rt: HostRuntime) -> Result<(), Fail> {
         let from = joint(rt.alloc(), from)?;
         let want = joint(rt.alloc(), want)?;
         assert!(rt; leads_to(rt.alloc(), &from, goal, &want)?, "to {goal:?}");
-        assert!(rt; from.try_clone()? == from);
+        assert!(rt; from.try_clone()? == from && from.clone()? == from);
     }
     Ok(())
 }
@@ -204,19 +205,6 @@ fn a_joint_is_coherent_with_its_child(rt: HostRuntime) -> Result<(), Fail> {
     let second = [2].to_vec(rt.alloc())?;
     let third = [3].to_vec(rt.alloc())?;
     assert!(rt; has_a_child(&both, &second, &third));
-    Ok(())
-}
-
-// The laws are generic; here they stand at one id type.
-#[test]
-fn laws_hold_of_plain_ids(_rt: HostRuntime) -> Result<(), Fail> {
-    laws::majority_has_voter::<u64>();
-    laws::quorums_meet::<u64>();
-    laws::coherent_quorums_meet::<u64>();
-    laws::empty_config_has_no_quorum::<u64>();
-    laws::no_configs_take_every_set::<u64>();
-    laws::at_least_quorums_meet::<u64>();
-    laws::need_past_ids_has_no_quorum::<u64>();
     Ok(())
 }
 

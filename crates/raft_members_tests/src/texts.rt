@@ -149,20 +149,26 @@ fn lack_entry_prints(alloc: Global) -> Result<bool, AllocError> {
     Ok(prints(alloc, &lack, lacks)? && displays(alloc, &unknown, purged.as_str())?)
 }
 
-/// Whether the error of too few nodes for a quorum prints itself.
-fn quorum_not_enough_prints(alloc: Global) -> Result<bool, AllocError> {
+/// The error that a node alone is no quorum of the voters 1 and 2.
+pub fn quorum_not_enough(alloc: Global, node: u64) -> Result<QuorumNotEnough<u64>, AllocError> {
     let mut got = BTreeSet::new(alloc);
-    got.insert(1u64)?;
+    got.insert(node)?;
     let cluster = members(alloc, "1,2", "1=4,2=5")?.to_string(alloc)?;
+    Ok(QuorumNotEnough { cluster, got })
+}
+
+/// Whether the error of too few nodes for a quorum prints itself, and equals its clone.
+fn quorum_not_enough_prints(alloc: Global) -> Result<bool, AllocError> {
+    let error = quorum_not_enough(alloc, 1)?;
     let texts = (
         "not enough for a quorum, cluster: {voters:[{1:4,2:5}], learners:[]}, got: {1}",
         "QuorumNotEnough { cluster: \"{voters:[{1:4,2:5}], learners:[]}\", got: {1} }",
     );
-    prints(alloc, &QuorumNotEnough { cluster, got }, texts)
+    Ok(error.clone()? == error && prints(alloc, &error, texts)?)
 }
 
 /// The error of a node that belongs to a cluster already.
-fn not_allowed() -> InitializeError<u64, u64> {
+pub fn not_allowed() -> InitializeError<u64, u64> {
     NotAllowed {
         last_log_id: None,
         vote: Vote::new(1, 2),
@@ -171,7 +177,7 @@ fn not_allowed() -> InitializeError<u64, u64> {
 }
 
 /// The error of a node that is no member.
-fn not_in_members(alloc: Global) -> Result<InitializeError<u64, u64>, AllocError> {
+pub fn not_in_members(alloc: Global) -> Result<InitializeError<u64, u64>, AllocError> {
     Ok(NotInMembers {
         node_id: 9,
         membership: members(alloc, "1,2", "1=4,3=6")?,

@@ -66,22 +66,37 @@ pub list_all-mapped : {X Y : Type 0} (f : X → Y) (t : Y → Bool) (xs : List X
 list_all-mapped f t [] = refl
 list_all-mapped f t (x ∷ xs) = ap (λ b. t (f x) && b) (list_all-mapped f t xs)
 
+module _ {K N V P : Type 0} {eq : K → K → Bool} (laws : IsEquivalence eq) {id_cmp : K → K → Ordering} {cmp : P → P → Ordering} (o : IsTotalOrder cmp) (part : V → P) (t : TrackedShown K N V P) (r : IsReady eq id_cmp cmp part t) where
+  abbrev pub voter : K → Bool
+  voter = (state eq t.progress).is_voter
+
+  abbrev pub knows_granted : K → Bool
+  knows_granted id = has_part cmp part t.progress.granted ((state eq t.progress).value id)
+
+  pub larger : (s u : K → Bool) → ((x : K) → s x ≡ true → u x ≡ true) → has_quorum eq t.progress.quorum_set s ≡ true → has_quorum eq t.progress.quorum_set u ≡ true
+  larger s u h = list_all-weaker (λ c. is_majority eq c.items s) (λ c. is_majority eq c.items u) (λ c. is_majority-superset eq c.items s u h) t.progress.quorum_set.items
+
+  -- a quorum that is counted is one of the membership's configs
+  pub by_configs : (s : K → Bool) → has_quorum eq t.progress.quorum_set s ≡ true → is_joint_majority eq t.membership.configs s ≡ true
+  by_configs s q = ap (λ cs. is_joint_majority eq cs s) (sym r.counts_by.configs) ∙ list_all-mapped (λ c. c.items) (λ c. is_majority eq c s) t.progress.quorum_set.items ∙ q
+
+  -- what is granted is granted in the configs of the membership
+  pub is_granted : 0 < length t.membership.configs → IsGranted eq t.membership.configs voter knows_granted
+  is_granted some = record {
+    has_config = some;
+    are_voters = λ id v. r.counts_by.voters id ∙ v;
+    respects_equality = knows_alike laws o part (has_quorum eq) t.progress larger r.ordered;
+    voters_reached = by (granted_reached laws o part (has_quorum eq) t.progress larger r.ordered);
+  }
+    where
+      by : (has_quorum eq t.progress.quorum_set (λ id. voter id && knows_granted id) ≡ true) ⊎ ((id : K) → voter id ≡ true → knows_granted id ≡ true) → VotersReached eq t.membership.configs voter knows_granted
+      by (inl q) = inl (by_configs (λ id. voter id && knows_granted id) q)
+      by (inr all) = inr all
+
 -- the membership half of what is granted: each quorum of the membership, and of what one change makes of it, knows of it
 pub each_quorum_knows : {K N V P : Type 0} {eq : K → K → Bool} (laws : IsEquivalence eq) (id_cmp : K → K → Ordering) {cmp : P → P → Ordering} (o : IsTotalOrder cmp) (part : V → P) (t : TrackedShown K N V P) → IsReady eq id_cmp cmp part t → 0 < length t.membership.configs
     → EachQuorumKnows eq t.membership.configs (state eq t.progress).is_voter (λ id. has_part cmp part t.progress.granted ((state eq t.progress).value id))
     × ((change : ChangeMembers K N) (retain : Bool) → EachQuorumKnows eq (changed eq id_cmp (members_of id_cmp t.membership) change retain).configs (state eq t.progress).is_voter (λ id. has_part cmp part t.progress.granted ((state eq t.progress).value id)))
-each_quorum_knows {K} {N} {V} {P} {eq} laws id_cmp {cmp} o part t r some =
-    let superset = λ (s u : K → Bool) (h : (x : K) → s x ≡ true → u x ≡ true). list_all-weaker (λ c. is_majority eq c.items s) (λ c. is_majority eq c.items u) (λ c. is_majority-superset eq c.items s u h) t.progress.quorum_set.items in
-    let knows = λ (id : K). has_part cmp part t.progress.granted ((state eq t.progress).value id) in
-    let granted : IsGranted eq t.membership.configs (state eq t.progress).is_voter knows = record {
-      has_config = some;
-      are_voters = λ id v. r.counts_by.voters id ∙ v;
-      respects_equality = knows_alike laws o part (has_quorum eq) t.progress superset r.ordered;
-      voters_reached = by (granted_reached laws o part (has_quorum eq) t.progress superset r.ordered);
-    } in
-    let known = change_keeps_reached laws id_cmp (members_of id_cmp t.membership) (state eq t.progress).is_voter knows granted in
+each_quorum_knows {eq = eq} laws id_cmp {cmp} o part t r some =
+    let known = change_keeps_reached laws id_cmp (members_of id_cmp t.membership) (state eq t.progress).is_voter (λ id. has_part cmp part t.progress.granted ((state eq t.progress).value id)) (is_granted laws o part t r some) in
     (known.quorums, known.changed_quorums)
-  where
-    by : (has_quorum eq t.progress.quorum_set (λ id. (state eq t.progress).is_voter id && has_part cmp part t.progress.granted ((state eq t.progress).value id)) ≡ true) ⊎ ((id : K) → (state eq t.progress).is_voter id ≡ true → has_part cmp part t.progress.granted ((state eq t.progress).value id) ≡ true) → VotersReached eq t.membership.configs (state eq t.progress).is_voter (λ id. has_part cmp part t.progress.granted ((state eq t.progress).value id))
-    by (inl q) = inl (ap (λ cs. is_joint_majority eq cs (λ id. (state eq t.progress).is_voter id && has_part cmp part t.progress.granted ((state eq t.progress).value id))) (sym r.counts_by.configs) ∙ list_all-mapped (λ c. c.items) (λ c. is_majority eq c (λ id. (state eq t.progress).is_voter id && has_part cmp part t.progress.granted ((state eq t.progress).value id))) t.progress.quorum_set.items ∙ q)
-    by (inr all) = inr all

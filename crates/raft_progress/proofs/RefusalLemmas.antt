@@ -1,7 +1,8 @@
 -- A step that was refused has changed nothing.
-use Rattle.std.specs.Prelude.{◌≡◌, ◌⊎◌, Bool, true, Err, IfErr, IfOk, List, None, Ok, Result, Some, refl}
+use Rattle.std.specs.Prelude.{◌≡◌, Bool, true, Err, IfErr, IfOk, List, None, Ok, OnErr, Result, Some, refl}
 use Rattle.std.specs.declared.cmp.Ordering.{Ordering}
-use Rattle.std.proofs.Common.{inl, inr, subst, sym, true≢false, ◌∙◌}
+use Rattle.std.specs.Result.{result_unwrap_or}
+use Rattle.std.proofs.Common.{subst, sym, true≢false, ◌∙◌}
 use Rattle.raft_members.specs.Change.{changed}
 use Rattle.raft_members.specs.Members.{MemberList, Members, Says, members_of}
 use Rattle.raft_members.specs.Refusal.{IsRefusal}
@@ -10,9 +11,10 @@ use Rattle.raft_members.specs.declared.change_members.ChangeMembers.{ChangeMembe
 use Rattle.raft_members.specs.declared.error.ChangeMembershipErrorOf.{ChangeMembershipErrorOf}
 use Rattle.raft_members.specs.declared.error.ChangeMembershipErrorOf.TheVariants.{InProgress, EmptyMembership, LearnerNotFound, OutOfMemory as WantOfMemory}
 use Rattle.raft_progress.specs.Inner.Refusal.{RefusesUpgrade, refusal_reply}
-use Rattle.raft_progress.specs.Inner.ShownAnswers.{IsShownChange, IsShownUpgradeTo, IsShownUpgrade}
+use Rattle.raft_progress.specs.Inner.ShownAnswers.{IsShownChange, IsShownUpgrade}
 use Rattle.raft_progress.specs.progress.Answered.{Tells, is_refused}
 use Rattle.raft_progress.specs.progress.Shown.{Shown, state}
+use Rattle.raft_progress.specs.tracked.SingleSteps.{IsTrackedChangeTo}
 use Rattle.raft_progress.specs.tracked.TrackedState.{TrackedShown, tracked_state}
 use Rattle.raft_progress.specs.tracked.TrackedSteps.{IsChanged, IsSameTracked}
 use Rattle.raft_progress.proofs.ChangeLemmas.{IsSameTracked-refl, changed_step}
@@ -29,6 +31,15 @@ module _ {ID V P QS : Type 0} (eq : ID → ID → Bool) (id_cmp : ID → ID → 
     refused_upgrade BadLearners r = record { values = (r, IsSame-refl (state eq old)); answered = record { refused = λ h. refl; done = λ h. absurd (true≢false h); tells = tt } }
     refused_upgrade (BelowDefault id) r = record { values = (r.0, r.1, IsSame-refl (state eq old)); answered = record { refused = λ h. refl; done = λ h. absurd (true≢false h); tells = tt } }
     refused_upgrade reply r = absurd r
+
+-- going over to a membership is answered by its reply, or by want of memory where nothing has changed
+pub change_or_memory : {K N V P E : Type 0} (eq : K → K → Bool) (id_cmp : K → K → Ordering) (cmp : P → P → Ordering) (part : V → P) (IsClone : V → V → Type 0) (old new : TrackedShown K N V P) (next : MemberList K N) (default : V) (made : Result (Reply K P) E)
+    → IfOk made (λ reply. IsTrackedChangeTo eq id_cmp cmp part IsClone old next default reply new) → OnErr made (new ≡ old)
+    → IsTrackedChangeTo eq id_cmp cmp part IsClone old next default (result_unwrap_or made OutOfMemory) new
+change_or_memory eq id_cmp cmp part IsClone old new next default (Ok reply) step kept = step
+change_or_memory {K} {N} {V} {P} eq id_cmp cmp part IsClone old new next default (Err e) step kept =
+    subst (λ (n : TrackedShown K N V P). IsTrackedChangeTo eq id_cmp cmp part IsClone old next default OutOfMemory n) (sym kept)
+    record { values = IsSameTracked-refl (tracked_state eq old); answered = record { refused = λ h. refl; done = λ h. absurd (true≢false h); tells = tt } }
 
 module _ {K N V P : Type 0} (eq : K → K → Bool) (id_cmp : K → K → Ordering) (same : N → N → Bool) (cmp : P → P → Ordering) (part : V → P) (IsClone : V → V → Type 0)
     (old new : TrackedShown K N V P) (change : ChangeMembers K N) (retain : Bool) (default : V)
@@ -51,10 +62,9 @@ module _ {K N V P : Type 0} (eq : K → K → Bool) (id_cmp : K → K → Orderi
     pub change_answered : {C : Type 0} (made : Result (MemberList K N) (ChangeMembershipErrorOf C K)) (reply : Reply K P)
         → IfOk made (λ m. IsValid eq after) → IfOk made (λ m. Says same id_cmp m after) → IfErr made (IsRefusal eq id_cmp after)
         → IfErr made (λ e. (reply ≡ refusal_reply e) × (new ≡ old))
-        → IfOk made (λ next. ((reply ≡ OutOfMemory) × (new ≡ old)) ⊎ IsShownUpgradeTo eq id_cmp cmp part IsClone old next default reply new)
+        → IfOk made (λ next. IsTrackedChangeTo eq id_cmp cmp part IsClone old next default reply new)
         → IsShownChange eq id_cmp same cmp part IsClone old change retain default reply new
-    change_answered (Ok next) reply valid says why refused (inl kept) = unchanged reply OutOfMemory kept.0 kept.1 same_tracked refl tt
-    change_answered (Ok next) reply valid says why refused (inr taken) = record {
+    change_answered (Ok next) reply valid says why refused taken = record {
       values = changed_step eq id_cmp same cmp part IsClone (tracked_state eq old) change retain default next (tracked_state eq new) valid says reply taken.values;
       answered = taken.answered;
     }

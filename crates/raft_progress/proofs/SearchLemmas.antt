@@ -67,26 +67,6 @@ module _ {L C : Type 0} (cmp : C → C → Ordering) (log_view : L → LogView C
         sound (Conflict id index ∷ es) = (tt, sound es)
         sound (Heartbeat index ∷ es) = (tt, sound es)
 
-module _ {L C : Type 0} (cmp : C → C → Ordering) (log_view : L → LogView C) (index : ℕ) where
-  -- a send has its purge point before an index
-  abbrev pub IsPurgedWithin : SearchEvent L → Type 0
-  IsPurgedWithin (Send log n) = next_index (log_view log.now).purge_upto ≤ index
-  IsPurgedWithin event = ⊤
-
-  either_within : (t : Bool) (s u : Search C) → s.purged ≤ index → u.purged ≤ index → (if t then u else s).purged ≤ index
-  either_within true s u l m = m
-  either_within false s u l m = l
-
-  -- where no send of a list has its purge point at or past an index, none that was not skipped has
-  pub none_purged_past : (search : Search C) (events : List (SearchEvent L)) → search.purged ≤ index → AllByRecursion IsPurgedWithin events → NonePurgedPast (after_events cmp log_view search events) index
-  none_purged_past search [] l all = l
-  none_purged_past search (Send log n ∷ es) l all =
-      let view = log_view log.now in
-      let next : Search C = record { entry = after_send (send_table cmp search.entry view n); purged = next_index view.purge_upto; accepted = search.accepted } in
-      none_purged_past (after_event cmp log_view search (Send log n)) es (either_within (can_be_sent search.entry view && nat_le search.purged (next_index view.purge_upto)) search next l all.0) all.1
-  none_purged_past search (Conflict id i ∷ es) l all = none_purged_past (after_event cmp log_view search (Conflict id i)) es l all.1
-  none_purged_past search (Heartbeat i ∷ es) l all = none_purged_past (after_event cmp log_view search (Heartbeat i)) es l all.1
-
 -- an event at a place, and then those after it
 pub next_event : {L C : Type 0} (cmp : C → C → Ordering) (log_view : L → LogView C) (s t : Search C) (events : List (SearchEvent L)) (i : ℕ) (x : SearchEvent L) → i < length events → x ≡ get_or events i x → after_event cmp log_view s x ≡ t
     → after_events cmp log_view t (drop (i + 1) events) ≡ after_events cmp log_view s (drop i events)

@@ -1,4 +1,4 @@
--- A clone of a tracked progress is ready.
+-- A clone of a progress in order is in order, and that of a tracked one is ready.
 use Rattle.std.specs.Prelude.{◌≡◌, ℕ, Bool, true, false, ◌&&◌, ◌||◌, cond, List, [], ◌∷◌, Some, is_some, map, take}
 use Rattle.std.specs.Cmp.{IsEquivalence, first_so, second_so}
 use Rattle.std.specs.Ordering.{eq_by_cmp}
@@ -10,6 +10,7 @@ use Rattle.std.proofs.Common.{ap, refl, suc, sym, zero, ◌∙◌, true≢false}
 use Rattle.raft_members.specs.Majority.{is_majority, is_voter_of}
 use Rattle.raft_members.specs.Members.{node_at, same_members, same_nodes}
 use Rattle.raft_progress.specs.progress.Equal.{IsCloned}
+use Rattle.raft_progress.specs.progress.Kept.{ClonesKeepOrder}
 use Rattle.raft_progress.specs.progress.Shown.{Shown}
 use Rattle.raft_progress.specs.tracked.TrackedState.{Configs, HasSameConfigs, IsReady, TrackedShown, has_quorum}
 use Rattle.raft_progress.proofs.HeadlineLemmas.{list_all-mapped}
@@ -38,6 +39,11 @@ module _ {ID V : Type 0} (IsClone : V → V → Type 0) where
       by : (b : Bool) → is_some (lookup test fs) ≡ is_some (lookup test es) → is_some (cond b (Some f.1) (lookup test fs)) ≡ is_some (cond b (Some e.1) (lookup test es))
       by true r = refl
       by false r = r
+
+-- a clone of a progress in order is in order
+pub clones_keep_order : {ID V P QS : Type 0} (eq : ID → ID → Bool) (cmp : P → P → Ordering) (part : V → P) (has_quorum : QS → (ID → Bool) → Bool) (IsClone : V → V → Type 0) (IsSetClone : QS → QS → Type 0) → ClonesKeepOrder ID V P QS eq part cmp has_quorum IsClone IsSetClone
+clones_keep_order eq cmp part has_quorum IsClone IsSetClone clones sets old new c =
+    order_alike eq cmp part has_quorum old new (sets old.quorum_set new.quorum_set c.quorum_set) c.voter_count c.default_part c.granted (zip_keys IsClone old.walk new.walk c.walk) (zip_parts IsClone part clones old.voter_count old.walk new.walk c.walk)
 
 -- equal nodes are at the same ids
 nodes_there : {K N : Type 0} {eq : K → K → Bool} (laws : IsEquivalence eq) (id_cmp : K → K → Ordering) → ((x y : K) → eq x y ≡ eq_by_cmp id_cmp x y) → (same : N → N → Bool) (xs ys : List (K × N)) → same_nodes eq same xs ys ≡ true → (id : K) → is_some (node_at id_cmp ys id) ≡ is_some (node_at id_cmp xs id)

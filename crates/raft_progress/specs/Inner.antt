@@ -8,4 +8,3 @@ pub mod Rises
 pub mod Settled
 pub mod ShownAnswers
 pub mod Turns
-pub mod UpgradedTo

@@ -2,3 +2,4 @@
 pub mod EntryTable
 pub mod EntryValid
 pub mod Send
+pub mod LateReply

@@ -19,3 +19,5 @@ pub mod Steps
 pub mod ShownSteps
 pub mod Equal
 pub mod EqualLaws
+pub mod Threshold
+pub mod Calls

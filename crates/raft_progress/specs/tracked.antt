@@ -2,6 +2,10 @@
 pub mod TrackedState
 pub mod Tracked
 pub mod TrackedNew
+pub mod Over
 pub mod TrackedSteps
 pub mod TrackedShownSteps
+pub mod SingleSteps
 pub mod Headline
+pub mod Known
+pub mod Elected

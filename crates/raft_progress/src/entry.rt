@@ -1,16 +1,20 @@
 //! What a leader keeps of a follower: how far their logs match, and what is in flight to it.
-ghost use Rattle.std.specs.Prelude.{◌≡◌, ◌^◌, ◌<◌, ◌≤◌, nat_le, Ok, Err, None, if◌then◌else◌, IsTrue};
-ghost use Rattle.raft_base.specs.LogId.{next_index};
+ghost use Rattle.std.specs.Prelude.{◌≡◌, ◌^◌, ◌<◌, ◌≤◌, nat_le, Ok, Err, None, if◌then◌else◌, IsTrue, OnOk, ℕ};
+ghost use Rattle.raft_base.specs.LogId.{id_le, next_index};
 ghost use Rattle.raft_base.specs.Validate.{first_false};
 ghost use Rattle.raft_progress.specs.entry.EntryTable.{entry_after_conflict, entry_after_ack};
+ghost use Rattle.raft_progress.specs.entry.LateReply.{RefusesRepliesTo};
 ghost use Rattle.raft_progress.specs.entry.EntryValid.{entry_relations};
 ghost use Rattle.raft_progress.specs.entry.Send.{IsSent, calc_mid, can_be_sent, send_table};
 ghost use Rattle.raft_progress.specs.inflight.Inflight.{is_after_prev, is_idle};
 ghost use Rattle.raft_progress.specs.inflight.InflightTable.{FollowsTable};
+ghost use Rattle.raft_base.specs.LogView.{LogView};
+ghost use Rattle.raft_progress.specs.declared.entry.ProgressEntryOf.{ProgressEntryOf};
 ghost use Rattle.raft_progress.specs.declared.inflight.InflightOf.TheVariants.{None as Idle};
 
 use crate::inflight::{InflightError, InflightOf};
 use crate::progress::ProgressPart;
+pub use crate::search::{SearchEvent, search_run};
 use raft_base::{
     CommittedLeaderId, DisplayOption, Invalid, LogIdOf, LogIdOptionExt, LogStateReader, Validate,
 };
@@ -112,14 +116,18 @@ impl<C: Ord + Copy> ProgressEntryOf<C> {
         }
     }
 
-    /// Takes the reply that the follower has all up to a log id: it matches up to it.
+    /// Takes the reply that the follower has all up to a log id: it matches up to it, and the entry
+    /// is valid then, whatever it was before. The match is never lowered.
     pub fn update_matching(
         &mut self,
         request_id: u64,
         matching: Option<LogIdOf<C>>,
     ) -> Result<(), InflightError>
-        ensures { FollowsTable (entry_after_ack C.cmp self.old request_id matching)
+        ensures table { FollowsTable (entry_after_ack C.cmp self.old request_id matching)
             self.old result self.new }
+        ensures matched { OnOk result (self.new.matching ≡ matching) }
+        ensures valid { OnOk result (first_false (entry_relations C.cmp self.new) ≡ None) }
+        ensures not_lowered { IsTrue (id_le C.cmp self.old.matching self.new.matching) }
     {
         // On a copy, so that a refusal leaves the entry as it was.
         let mut inflight = self.inflight;
@@ -159,6 +167,22 @@ impl<C: Ord + Copy> ProgressEntryOf<C> {
         }
         self.inflight = inflight;
         Ok(())
+    }
+
+    /// Takes what is in flight as lost: nothing is in flight, and `next_send` sends again.
+    ///
+    /// Of a request that was lost, or whose reply was, no reply ends what is in flight, and each
+    /// `next_send` answers `Err`. So a leader calls this where a reply stays out for too long.
+    /// A late reply is refused by its id: nothing is in flight, and what is sent next takes a
+    /// greater one.
+    pub fn give_up(&mut self)
+        ensures idle { self.new ≡ record self.old { inflight = Idle } }
+        ensures refuses_late { (id : ℕ) → RefusesRepliesTo C.cmp self.new id }
+        ensures refuses_older { (log : LogView C) (max_entries : ℕ) (sent : ProgressEntryOf C) →
+            send_table C.cmp self.new log max_entries ≡ Ok sent →
+            (id : ℕ) → id ≤ self.old.curr_inflight_id → RefusesRepliesTo C.cmp sent id }
+    {
+        self.inflight = InflightOf::None;
     }
 
     /// Whether `next_send` may be called with a log.

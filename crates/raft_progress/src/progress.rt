@@ -28,7 +28,7 @@ pub use vec_progress::VecProgress;
 /// The values of voters and learners over a quorum set, and what
 /// a quorum of the voters has reached.
 pub trait Progress<ID: Copy + Ord, V: ProgressPart<P>, P: Copy + Ord, QS: QuorumSet<ID>>: Drop {
-    ghost use Rattle.std.specs.Prelude.{◌≡◌, ◌↔◌, IfOk, IsSome, IsTrue, Some, length};
+    ghost use Rattle.std.specs.Prelude.{◌≡◌, ◌↔◌, false, IfOk, IsSome, IsTrue, Some, length};
     ghost use Rattle.std.specs.Borrow.{sem};
     ghost use Rattle.std.specs.Fn.{FnOnceTakesAtMut};
     ghost use Rattle.std.specs.Option.{ForSome, option_copied, option_copied_mut};
@@ -39,6 +39,7 @@ pub trait Progress<ID: Copy + Ord, V: ProgressPart<P>, P: Copy + Ord, QS: Quorum
     ghost use Rattle.raft_progress.specs.progress.Shown.{Shown, learner_ids, state};
     ghost use Rattle.raft_progress.specs.progress.ProgressState.{voter_of};
     ghost use Rattle.raft_progress.specs.progress.Statistics.{CountsGoOn};
+    ghost use Rattle.raft_progress.specs.progress.Steps.{falls};
     ghost use Rattle.raft_progress.specs.progress.Upgrade.{CanUpgrade, IsUpgraded};
     ghost use Rattle.raft_progress.specs.progress.Updated.{IsGreaterOf, IsNotLower, IsNotLowerIfGreater, NeverFalls};
     ghost use Rattle.raft_progress.specs.progress.UpgradeFold.{IsUpgradeFold};
@@ -74,14 +75,21 @@ pub trait Progress<ID: Copy + Ord, V: ProgressPart<P>, P: Copy + Ord, QS: Quorum
     fn is_voter(&self, id: &ID) -> Option<bool>
         ensures { result ≡ voter_of (state ID.eq (shows self.now)) id.now };
 
+    /// The number of voters, whose binary digits bound the quorum tests of an update.
+    fn voter_count(&self) -> usize
+        ensures { result ≡ (shows self.now).voter_count };
+
     /// Whether the progress is in order: the condition of the updates and of an upgrade.
     ///
-    /// It can be lost only by a write through `get_mut`, or through `VecProgress::iter_mut`, that
-    /// changes an id or a voter's part. The test changes nothing and takes no memory.
+    /// A new progress is, and each call here leaves it so. A write through `get_mut`, or through
+    /// `VecProgress::iter_mut`, may lose it where it changes an id or a voter's part. The test
+    /// changes nothing and takes no memory.
     fn is_in_order(&mut self) -> bool
         ensures answer { IsTrue result ↔
             IsInOrder ID.eq P.cmp V.part_of QS.has_quorum (shows self.old) }
-        ensures same { shows self.new ≡ shows self.old };
+        ensures same { shows self.new ≡ shows self.old }
+        ensures ordered { IsTrue result →
+            IsInOrder ID.eq P.cmp V.part_of QS.has_quorum (shows self.new) };
 
     /// The quorum set.
     fn quorum_set(&self) -> &QS
@@ -114,8 +122,17 @@ pub trait Progress<ID: Copy + Ord, V: ProgressPart<P>, P: Copy + Ord, QS: Quorum
             (IsAnsweredUpdate ID.eq P.cmp V.part_of QS.has_quorum
             (Leaves F.FnOnce f) id.now result)) };
 
+    /// Whether a value's part is below that of the id's value, so that it may not be written.
+    ///
+    /// It is the test for the condition of `update`, and of `increase_to` with a greater value.
+    fn would_fall(&self, id: &ID, value: &V) -> bool
+        ensures answer { result
+            ≡ falls P.cmp V.part_of ((state ID.eq (shows self.now)).value id.now) value.now }
+        ensures not_lower { result ≡ false →
+            IsNotLower ID.eq P.cmp V.part_of (shows self.now) id.now value.now };
+
     /// Writes the value of an id, and answers granted: as an error where the id is unknown. The
-    /// part may not fall: `VecProgress::would_fall` tells.
+    /// part may not fall: `would_fall` tells.
     fn update(&mut self, id: &ID, value: V) -> Result<&P, &P>
         requires ordered { IsInOrder ID.eq P.cmp V.part_of QS.has_quorum (shows self.old) }
         requires not_lower { IsNotLower ID.eq P.cmp V.part_of (shows self.old) id.now value }
@@ -124,7 +141,7 @@ pub trait Progress<ID: Copy + Ord, V: ProgressPart<P>, P: Copy + Ord, QS: Quorum
             (λ v w. w ≡ value) id.now result)) };
 
     /// Writes the value of an id where it is greater than the present one, and counts an update
-    /// either way. The part of a greater value may not fall: `VecProgress::would_fall` tells.
+    /// either way. The part of a greater value may not fall: `would_fall` tells.
     fn increase_to(&mut self, id: &ID, value: V) -> Result<&P, &P>
     where
         V: PartialOrd,

@@ -33,7 +33,8 @@ pub enum SearchEvent<'a, L> {
 
 /// Takes events one after another, and answers how many conflicts were accepted.
 ///
-/// A send is skipped where `can_send` is false, and where its purge point is before that of an
+/// The match stays, and the end of the search never grows nor passes it. A send is skipped where
+/// `can_send` is false, and where its purge point is before that of an
 /// earlier send that was not skipped. A reply that is refused changes nothing. Each probe halves
 /// the stretch that is left, so the accepted conflicts are few: at most the binary digits of the
 /// stretch from the match to the end of the search, and at most those of a sixteenth of it, or one
@@ -44,6 +45,10 @@ pub fn search_run<C: Ord + Copy, L: LogStateReader<C>>(
 ) -> u64
     ensures run { let search = after_events C.cmp L.log_view (new_search entry.old) events.now in
         (result ≡ search.accepted) × (entry.new ≡ search.entry) }
+    ensures matching { entry.new.matching ≡ entry.old.matching }
+    ensures end { entry.new.searching_end ≤ entry.old.searching_end }
+    ensures within { next_index entry.old.matching ≤ entry.old.searching_end →
+        next_index entry.new.matching ≤ entry.new.searching_end }
     ensures digits { CanSearch entry.old → (k : ℕ) → stretch entry.old < 2 ^ k → result ≤ k }
     ensures near_digits { CanSearch entry.old
         → NonePurgedPast (after_events C.cmp L.log_view (new_search entry.old) events.now)

@@ -5,7 +5,9 @@ ghost use Rattle.raft_members.specs.Members.{members_of};
 ghost use Rattle.raft_progress.specs.tracked.TrackedState.{AreLearners, IsReady};
 ghost use Rattle.raft_progress.specs.progress.VecProgress.{shown};
 
+mod membership_progress;
 mod replay_steps;
+mod single_steps;
 mod step;
 
 use crate::progress::{ProgressPart, VecProgress};
@@ -27,8 +29,8 @@ pub type MembershipProgress<NID, V, P> = VecProgress<
 /// A membership, and the progress of its voters and learners.
 ///
 /// A quorum of the progress is a quorum of the membership, and its learners are the membership's.
-/// Both change only together, by `replay`. So the progress is always in order, and counts by the
-/// membership.
+/// Both change only together, by `replay`, `update` and `change_to`. So the progress is always in
+/// order, and counts by the membership.
 #[derive(Debug, PartialEq, Eq, Drop)]
 pub struct Tracked<NID: NodeId, N: Node, V: ProgressPart<P>, P: Copy + Ord> {
     membership: Membership<NID, N>,
@@ -59,10 +61,7 @@ impl<NID: NodeId, N: Node, V: ProgressPart<P> + Drop, P: Copy + Ord> Tracked<NID
         ensures ready { IfOk result (λ made.
             IsReady NID.eq NID.cmp P.cmp V.part_of (tracked made)) }
     {
-        let alloc = *membership.get_joint_config().allocator();
-        let configs = membership.to_quorum_set()?;
-        let learners = learners_of(alloc, &membership)?;
-        let progress = VecProgress::new(alloc, configs, &learners, default)?;
+        let progress = MembershipProgress::of(&membership, default)?;
         Ok(Tracked {
             membership,
             progress,

@@ -256,24 +256,37 @@ const UPGRADE: Script = Script {
 
 // An upgrade that always lacks memory fails here.
 #[test]
-fn always_out_of_memory(rt: HostRuntime) -> Result<(), Fail> {
+fn an_upgrade_is_made(rt: HostRuntime) -> Result<(), Fail> {
     assert!(rt; plays(&rt, rt.alloc(), &[0, 1, 2], &[], &UPGRADE)?);
     Ok(())
 }
 
-const REFUSED_UPGRADES: Script = Script {
+const BEFORE_UPGRADES: Script = Script {
     rows: &[
         (Row::Update(0, 5), Reply::Granted(0)),
         (Row::Update(1, 6), Reply::Granted(5)),
         (Row::Update(5, 9), Reply::Granted(5)),
-        (Row::Upgrade(&[0, 1, 2], &[5], 1), Reply::BelowDefault(2)),
-        (Row::Upgrade(&[0, 1, 2], &[5, 5], 1), Reply::BadLearners),
-        (Row::Upgrade(&[0, 1, 2], &[2], 0), Reply::BadLearners),
     ],
     walk: &[(1, 6), (0, 5), (2, 0), (5, 9)],
     updates: 3,
     moves: 2,
 };
+
+const REFUSED_UPGRADES: &[(Row, Reply<u64, u64>)] = &[
+    (Row::Upgrade(&[0, 1, 2], &[5], 1), Reply::BelowDefault(2)),
+    (Row::Upgrade(&[0, 1, 2], &[5, 5], 1), Reply::BadLearners),
+    (Row::Upgrade(&[0, 1, 2], &[2], 0), Reply::BadLearners),
+];
+
+/// Whether refused steps are replied to, and leave a progress as it was.
+fn stays(
+    alloc: Global,
+    progress: &mut Numbers,
+    refused: &[(Row, Reply<u64, u64>)],
+) -> Result<bool, AllocError> {
+    let before = progress.clone()?;
+    Ok(are_replied(alloc, progress, refused)? && *progress == before)
+}
 
 /// Whether an upgrade to the same voters may be made exactly where it lowers no value.
 fn may_upgrade(alloc: Global, progress: &Numbers) -> Result<bool, AllocError> {
@@ -289,7 +302,8 @@ fn may_upgrade(alloc: Global, progress: &Numbers) -> Result<bool, AllocError> {
 fn upgrades_are_refused(rt: HostRuntime) -> Result<(), Fail> {
     let alloc = rt.alloc();
     let mut progress: Numbers = made(&rt, alloc, first_ids(alloc, 3)?, &[5], 0)?;
-    assert!(rt; is_replayed(alloc, &mut progress, &REFUSED_UPGRADES)?);
+    assert!(rt; is_replayed(alloc, &mut progress, &BEFORE_UPGRADES)?);
+    assert!(rt; stays(alloc, &mut progress, REFUSED_UPGRADES)?);
     assert!(rt; may_upgrade(alloc, &progress)?);
     Ok(())
 }
@@ -309,7 +323,7 @@ const UPDATES: Script = Script {
 
 // A replay goes on after a refused step, and one that always lacks memory fails here.
 #[test]
-fn replay_always_alloc_error(rt: HostRuntime) -> Result<(), Fail> {
+fn a_replay_goes_on_after_a_refused_step(rt: HostRuntime) -> Result<(), Fail> {
     assert!(rt; plays(&rt, rt.alloc(), &[1, 2, 3], &[], &UPDATES)?);
     Ok(())
 }

@@ -43,11 +43,16 @@ impl QuorumSet<u64> for Asked {
 
 type Progress = VecProgress<u64, u64, u64, Asked>;
 
-fn make_asked(alloc: Global, n: u64) -> Result<Asked, AllocError> {
-    Ok(Asked {
-        voters: first_ids(alloc, n)?,
+/// Such a list of these voters, which has not been asked.
+fn with_voters(voters: Vec<u64>) -> Asked {
+    Asked {
+        voters,
         calls: Cell::new(0),
-    })
+    }
+}
+
+fn make_asked(alloc: Global, n: u64) -> Result<Asked, AllocError> {
+    Ok(with_voters(first_ids(alloc, n)?))
 }
 
 /// Updates, each with what it answers: granted, as an error where the id is unknown.
@@ -248,27 +253,37 @@ fn a_hundred_voters(rt: HostRuntime) -> Result<(), Fail> {
     Ok(())
 }
 
-/// Whether five updates, four moves and so many quorum tests were counted. In an upgrade each old
-/// id counts an update, and each that rises past what was granted by then a move.
-fn counts_are(stat: &Stat, tests: u64) -> bool {
-    stat.update_count == 5 && stat.move_count == 4 && stat.is_quorum_count == tests
+/// Whether five updates, so many moves and so many quorum tests were counted. In an upgrade each
+/// old id counts an update, and each voter that rises past what was granted by then a move.
+fn counts_are(stat: &Stat, moves: u64, tests: u64) -> bool {
+    stat.update_count == 5 && stat.move_count == moves && stat.is_quorum_count == tests
 }
+
+/// Voters and learners, and what the upgrade to them grants, the moves that are counted with it,
+/// and the walk that it leaves.
+type UpgradeRow<'a> = (&'a [u64], &'a [u64], u64, u64, &'a [(u64, u64)]);
 
 #[test]
 fn an_upgrade_counts_its_calls(rt: HostRuntime) -> Result<(), Fail> {
     let alloc = rt.alloc();
-    let mut progress = made(&rt, alloc, make_asked(alloc, 3)?, &[], 0)?;
-    compare_updates(&rt, &mut progress, &[(0, 5, Ok(0)), (1, 6, Ok(5))], 2);
-    let before = progress.stat().is_quorum_count;
-    let upgrade = AnyStep::Upgrade {
-        quorum_set: make_asked(alloc, 3)?,
-        learners: Vec::new(alloc),
-        default: 0,
-    };
-    let reply = replied(&rt, alloc, &mut progress, upgrade)?;
-    assert!(rt; reply == Some(Reply::Granted(5)));
-    let calls = progress.quorum_set().calls.get();
-    assert!(rt; counts_are(progress.stat(), before.saturating_add(calls)));
-    assert!(rt; has_walk(&progress, &[(1, 6), (0, 5), (2, 0)]));
+    let rows: [UpgradeRow<'_>; 2] = [
+        (&[0, 1, 2], &[], 5, 4, &[(1, 6), (0, 5), (2, 0)]),
+        (&[2, 3, 4], &[1], 0, 2, &[(2, 0), (3, 0), (4, 0), (1, 6)]),
+    ];
+    for (voters, learners, granted, moves, walk) in rows {
+        let mut progress = made(&rt, alloc, make_asked(alloc, 3)?, &[], 0)?;
+        compare_updates(&rt, &mut progress, &[(0, 5, Ok(0)), (1, 6, Ok(5))], 2);
+        let before = progress.stat().is_quorum_count;
+        let upgrade = AnyStep::Upgrade {
+            quorum_set: with_voters(voters.to_vec(alloc)?),
+            learners: learners.to_vec(alloc)?,
+            default: 0,
+        };
+        let reply = replied(&rt, alloc, &mut progress, upgrade)?;
+        assert!(rt; reply == Some(Reply::Granted(granted)));
+        let calls = progress.quorum_set().calls.get();
+        assert!(rt; counts_are(progress.stat(), moves, before.saturating_add(calls)));
+        assert!(rt; has_walk(&progress, walk));
+    }
     Ok(())
 }

@@ -1,5 +1,5 @@
 //! Ten thousand events, each given to an entry and to a plain table: a follower may reply anything.
-//! The same without acks, as searches.
+//! A thousand entries take ten each, and one takes all. The same without acks, as searches.
 ghost use Rattle.std.specs.Prelude.{◌≤◌};
 
 use super::entry::{Answer, Call, answer_of};
@@ -242,30 +242,42 @@ fn has_each_heartbeat(met: &Heartbeats) -> bool {
     met.below_match > 0 && met.below_prev > 0
 }
 
-/// Whether entries, one after another, answer all events as the table, and each case is met.
-fn answers_as_the_table(logs: &Logs, events: u64) -> bool {
-    let mut met = Met::default();
-    let mut entry = first_entry(0);
-    for counter in 0..events {
-        if counter % LIFE == 0 {
-            entry = first_entry(counter);
-        }
-        let (log, call, from) = (log_at(logs, counter), event(counter), entry);
-        let (want, left) = table(from, log, call);
-        if answer_of(&mut entry, log, call) != want || entry != left {
-            return false;
-        }
-        count(&mut met, from, call, want);
-    }
+/// Whether each case was met.
+fn has_each(met: &Met) -> bool {
     has_each_refusal(&met.refused)
         && has_each_send(&met.sends)
         && has_each_heartbeat(&met.heartbeats)
 }
 
-/// Whether the same of the logs that are made.
+/// What is met by entries, one after another, that live so many events each, where they answer all
+/// of them as the table.
+fn met_as_by_the_table(logs: &Logs, events: u64, life: u64) -> Option<Met>
+    requires { 1 ≤ life }
+{
+    let mut met = Met::default();
+    let mut entry = first_entry(0);
+    for counter in 0..events {
+        if counter % life == 0 {
+            entry = first_entry(counter);
+        }
+        let (log, call, from) = (log_at(logs, counter), event(counter), entry);
+        let (want, left) = table(from, log, call);
+        if answer_of(&mut entry, log, call) != want || entry != left {
+            return None;
+        }
+        count(&mut met, from, call, want);
+    }
+    Some(met)
+}
+
+/// Whether many short lives meet each case, and a long one, whose entry is in states that only a
+/// history makes, is answered too.
 fn any_events_are_answered(alloc: Global) -> Result<bool, AllocError> {
     let logs = make_logs(alloc)?;
-    Ok(answers_as_the_table(&logs, 10_000))
+    let Some(met) = met_as_by_the_table(&logs, 10_000, LIFE) else {
+        return Ok(false);
+    };
+    Ok(has_each(&met) && met_as_by_the_table(&logs, 10_000, 10_000).is_some())
 }
 
 #[test]

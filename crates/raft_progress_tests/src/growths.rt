@@ -4,7 +4,7 @@ use super::at_least::of_five;
 use super::calls::{self, Numbers};
 use super::steps::updated;
 use super::tracked::{self, TrackedNumbers, members};
-use super::{entry, inflight, search};
+use super::{entry, inflight, leader, search};
 use raft_base::{EmptyNode, LeaderId};
 use raft_base_tests::growths::{Call, Growth, is_free, is_swept, refuse_each};
 use raft_base_tests::plain_log::{PlainLog, id, log_below};
@@ -55,12 +55,33 @@ fn moved(alloc: Global) -> Result<Numbers, AllocError> {
         return Err(AllocError);
     }
     let mut progress = VecProgress::new(alloc, voters, &[5], 0)?;
+    let _replies = replay_any(alloc, &mut progress, first_steps(alloc)?)?;
+    Ok(progress)
+}
+
+/// The updates that move it.
+fn first_steps(alloc: Global) -> Result<Vec<AnyStep<u64, u64, Vec<u64>>>, AllocError> {
     let steps = vec![in alloc;
         AnyStep::Update(1, 5),
         AnyStep::Update(2, 6),
         AnyStep::Update(5, 9),
     ]?;
-    let _replies = replay_any(alloc, &mut progress, steps)?;
+    Ok(steps)
+}
+
+/// The same, of which the learner was made as 8 and became 5 through `iter_mut` before the updates.
+fn renamed(alloc: Global) -> Result<Numbers, AllocError> {
+    let voters = [1, 2, 3].to_vec(alloc)?;
+    if !Numbers::learners_fit(alloc, &voters, &[8])? {
+        return Err(AllocError);
+    }
+    let mut progress: Numbers = VecProgress::new(alloc, voters, &[8], 0)?;
+    for entry in progress.iter_mut() {
+        if entry.0 == 8 {
+            entry.0 = 5;
+        }
+    }
+    let _replies = replayed(alloc, &mut progress, first_steps(alloc)?)?;
     Ok(progress)
 }
 
@@ -380,12 +401,49 @@ impl Call for Replay {
     }
 }
 
+/// A change of the voters to a joint, as a leader makes it.
+struct ChangeTo;
+
+impl Call for ChangeTo {
+    type Borrowed = TrackedNumbers;
+
+    type Taken = Members;
+
+    type Answer = Reply<u64, u64>;
+
+    fn borrowed(&self, alloc: Global) -> Result<TrackedNumbers, AllocError> {
+        begun(alloc)
+    }
+
+    fn taken(&self, alloc: Global) -> Result<Members, AllocError> {
+        members(alloc, &[&[1, 2], &[2, 3]])
+    }
+
+    fn run(
+        &self,
+        growth: Growth,
+        cluster: &mut TrackedNumbers,
+        to: Members,
+    ) -> Result<Reply<u64, u64>, AllocError> {
+        growth.refuse();
+        match cluster.change_to(to, 0) {
+            Reply::OutOfMemory => Err(AllocError),
+            reply => Ok(reply),
+        }
+    }
+}
+
 #[test]
 fn growths_of_tracked(rt: HostRuntime) -> Result<(), Fail> {
     let alloc = rt.alloc();
     assert!(rt; is_swept(&rt, alloc, "Tracked::new", &NewTracked)?);
     assert!(rt; is_swept(&rt, alloc, "Tracked::try_clone", &CloneTracked)?);
+    assert!(rt; is_swept(&rt, alloc, "Tracked::change_to", &ChangeTo)?);
     assert!(rt; is_swept(&rt, alloc, "replay", &Replay)?);
+    let (cluster, same) = (begun(alloc)?, begun(alloc)?);
+    refuse_each(alloc);
+    let is_right = cluster == same;
+    assert!(rt; is_free(&rt, alloc, "Tracked::eq", is_right)?);
     Ok(())
 }
 
@@ -435,13 +493,39 @@ fn reads_back(progress: &Numbers, before: &Numbers) -> bool {
         && *progress != *before
 }
 
+/// Whether it is updated as it should be, and then reads back.
+fn goes_on(rt: &impl Abort, progress: &mut Numbers, before: &Numbers) -> bool {
+    *progress == *before && are_granted(rt, progress) && reads_back(progress, before)
+}
+
+#[test]
+fn no_growths_of_ballots(rt: HostRuntime) -> Result<(), Fail> {
+    let alloc = rt.alloc();
+    let mut ballot = leader::ballot(alloc)?;
+    refuse_each(alloc);
+    let is_right = leader::are_counted(&mut ballot);
+    assert!(rt; is_free(&rt, alloc, "Tracked::update", is_right)?);
+    Ok(())
+}
+
 #[test]
 fn no_growths_of_progresses(rt: HostRuntime) -> Result<(), Fail> {
     let alloc = rt.alloc();
     let (mut progress, before) = (moved(alloc)?, moved(alloc)?);
+    let (mut copy, mut copy_of_renamed) = (before.clone()?, renamed(alloc)?.clone()?);
     refuse_each(alloc);
-    let is_right = are_granted(&rt, &mut progress) && reads_back(&progress, &before);
+    let is_right = goes_on(&rt, &mut progress, &before);
     assert!(rt; is_free(&rt, alloc, "VecProgress, updates and reads", is_right)?);
+    refuse_each(alloc);
+    let is_right = goes_on(&rt, &mut copy, &before) && goes_on(&rt, &mut copy_of_renamed, &before);
+    assert!(rt;
+        is_free(
+            &rt,
+            alloc,
+            "VecProgress, a clone's updates and reads",
+            is_right
+        )?
+    );
     Ok(())
 }
 

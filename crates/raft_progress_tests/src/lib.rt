@@ -20,6 +20,10 @@ mod growths;
 #[cfg(test)]
 mod inflight;
 #[cfg(test)]
+mod laws;
+#[cfg(test)]
+mod leader;
+#[cfg(test)]
 mod log_ids;
 #[cfg(test)]
 mod search;

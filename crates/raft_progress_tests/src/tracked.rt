@@ -12,7 +12,8 @@ use std::alloc::{AllocError, Global};
 use std::collections::BTreeSet;
 use std::test::Fail;
 
-fn ids(alloc: Global, ids: &[u64]) -> Result<BTreeSet<u64>, AllocError> {
+/// A set of ids.
+pub fn ids(alloc: Global, ids: &[u64]) -> Result<BTreeSet<u64>, AllocError> {
     let mut set = BTreeSet::new(alloc);
     for id in ids {
         set.insert(*id)?;
@@ -126,6 +127,15 @@ fn joint(alloc: Global, configs: &[&[u64]]) -> Result<Configs, AllocError> {
     Ok(Joint::new(children))
 }
 
+type UpgradeRow<'a> = (
+    &'a [&'a [u64]],
+    &'a [u64],
+    u64,
+    Reply<u64, u64>,
+    (u64, u64),
+    &'a [(u64, u64, u64)],
+);
+
 #[test]
 fn upgrades_through_a_joint(rt: HostRuntime) -> Result<(), Fail> {
     let alloc = rt.alloc();
@@ -134,28 +144,29 @@ fn upgrades_through_a_joint(rt: HostRuntime) -> Result<(), Fail> {
     for (id, value, granted) in [(0, 5, 0), (1, 6, 5), (5, 9, 5)] {
         assert!(rt; updated(&rt, &mut progress, id, value) == Ok(granted));
     }
-    // Configs and learners, what the upgrade to them grants, a value that it takes over, and
+    // Configs, learners and a default, the reply to the upgrade to them, a value afterwards, and
     // updates.
-    let rows: [(&[&[u64]], u64, u64, (u64, u64), &[(u64, u64, u64)]); 2] = [
+    let rows: [UpgradeRow<'_>; 4] = [
+        (&[&[0, 1, 2]], &[5], 1, Reply::BelowDefault(2), (5, 9), &[]),
+        (&[&[0, 1, 2]], &[5, 5], 1, Reply::BadLearners, (5, 9), &[]),
         (
             &[&[0, 1, 2], &[3, 4, 5]],
-            6,
+            &[6],
             0,
+            Reply::Granted(0),
             (5, 9),
             &[(3, 7, 5), (4, 8, 5)],
         ),
-        (&[&[3, 4, 5]], 1, 8, (1, 6), &[]),
+        (&[&[3, 4, 5]], &[1], 0, Reply::Granted(8), (1, 6), &[]),
     ];
-    for (configs, learner, granted, (id, value), updates) in rows {
+    for (configs, learners, default, want, (id, value), updates) in rows {
         let upgrade = AnyStep::Upgrade {
             quorum_set: joint(alloc, configs)?,
-            learners: [learner].to_vec(alloc)?,
-            default: 0,
+            learners: learners.to_vec(alloc)?,
+            default,
         };
         let reply = replied(&rt, alloc, &mut progress, upgrade)?;
-        assert!(rt;
-            reply == Some(Reply::Granted(granted)) && progress.try_get(&id) == Some(&value)
-        );
+        assert!(rt; reply == Some(want) && progress.try_get(&id) == Some(&value));
         for (id, value, granted) in updates {
             assert!(rt; updated(&rt, &mut progress, *id, *value) == Ok(*granted));
         }

@@ -1,45 +1,53 @@
 //! One theorem, three uses: what is granted where a value is a match, a vote, or a moment.
 ghost use Rattle.std.specs.Prelude.{◌≡◌};
 
-use raft_members::quorum::{Joint, QuorumSet};
-use raft_progress::{AnyStep, ProgressPart, Reply, VecProgress, replay_any};
+use raft_base::EmptyNode;
+use raft_members::Membership;
+use raft_progress::{ProgressPart, Reply, Step, Tracked, replay};
 use std::alloc::{AllocError, Global};
+use std::collections::BTreeSet;
 use std::test::Fail;
 
-/// What is granted after each of these updates, from the default on.
-fn granted<V: ProgressPart<V> + Copy + Ord + Drop, QS: QuorumSet<u64> + Drop>(
+/// What is granted over some configs after each of these updates, from the default on.
+fn granted<V: ProgressPart<V> + Copy + Ord + Drop>(
     alloc: Global,
-    voters: QS,
+    configs: Vec<BTreeSet<u64>>,
     default: V,
     updates: &[(u64, V)],
 ) -> Result<Vec<Reply<u64, V>>, AllocError>
     requires { (v w : V) → V.is_clone v w → V.part_of w ≡ V.part_of v }
 {
-    let mut progress = VecProgress::new(alloc, voters, &[], default)?;
+    let membership = Membership::<u64, EmptyNode>::new(configs, ())?;
+    let mut cluster = Tracked::new(membership, default)?;
     let mut steps = Vec::new(alloc);
     for (id, value) in updates {
-        steps.push(AnyStep::Update(*id, *value))?;
+        steps.push(Step::Update(*id, *value))?;
     }
-    replay_any(alloc, &mut progress, steps)
+    replay(alloc, &mut cluster, steps)
+}
+
+/// A config.
+fn config(alloc: Global, voters: &[u64]) -> Result<BTreeSet<u64>, AllocError> {
+    voters.iter().copied().collect(alloc)
 }
 
 /// Matches of 1, 2 and 3: granted is the commit index.
 fn commit_index(alloc: Global) -> Result<Vec<Reply<u64, u64>>, AllocError> {
-    let voters = vec![in alloc; 1, 2, 3]?;
-    granted(alloc, voters, 0, &[(1, 4), (2, 6)]) // 0, 4
+    let configs = vec![in alloc; config(alloc, &[1, 2, 3])?]?;
+    granted(alloc, configs, 0, &[(1, 4), (2, 6)]) // 0, 4
 }
 
-/// Votes over a joint of {1,2,3} and {3,4,5}: granted says that a quorum of both has voted.
+/// Votes over {1,2,3} and {3,4,5} together: granted says that a quorum of both has voted.
 fn election(alloc: Global) -> Result<Vec<Reply<u64, bool>>, AllocError> {
-    let children = vec![in alloc; vec![in alloc; 1, 2, 3]?, vec![in alloc; 3, 4, 5]?]?;
+    let configs = vec![in alloc; config(alloc, &[1, 2, 3])?, config(alloc, &[3, 4, 5])?]?;
     let votes = [(1, true), (2, true), (4, true), (3, true)];
-    granted(alloc, Joint::from(children), false, &votes) // false, false, false, true
+    granted(alloc, configs, false, &votes) // false, false, false, true
 }
 
 /// Moments of the last replies of 1, 2 and 3: granted says since when a quorum has been heard.
 fn lease(alloc: Global) -> Result<Vec<Reply<u64, u64>>, AllocError> {
-    let voters = vec![in alloc; 1, 2, 3]?;
-    granted(alloc, voters, 0, &[(1, 100), (2, 70), (3, 90), (2, 130)]) // 0, 70, 90, 100
+    let configs = vec![in alloc; config(alloc, &[1, 2, 3])?]?;
+    granted(alloc, configs, 0, &[(1, 100), (2, 70), (3, 90), (2, 130)]) // 0, 70, 90, 100
 }
 
 /// Whether these are granted, one after the other.

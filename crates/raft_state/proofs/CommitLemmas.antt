@@ -20,7 +20,7 @@ use Rattle.raft_state.specs.Valid.{broken_relation, upto_relation}
 use Rattle.raft_state.specs.declared.raft_state.RaftStateIn.{RaftStateIn}
 
 -- relations of which the first one holds, and so do the others: none is broken
-hold_all : {E : Type 0} (t : Bool) (e : E) (others : Option E) → t ≡ true → others ≡ None → (if t then others else Some e) ≡ None
+pub hold_all : {E : Type 0} (t : Bool) (e : E) (others : Option E) → t ≡ true → others ≡ None → (if t then others else Some e) ≡ None
 hold_all t e others h o = rw h o
 
 module _ {C : Type 0} {cmp : C → C → Ordering} (total : IsTotalOrder cmp) where

@@ -2,6 +2,7 @@ pub mod KeyListLemmas
 pub mod SameLogLemmas
 pub mod FullLogLemmas
 pub mod AppendLemmas
+pub mod AppendedLemmas
 pub mod CutLemmas
 pub mod ExtendLemmas
 pub mod EndsLemmas
@@ -18,3 +19,6 @@ pub mod RoundLemmas
 pub mod RefusalLemmas
 pub mod DeniedLemmas
 pub mod CommitLemmas
+pub mod FrontLemmas
+pub mod TruncateLemmas
+pub mod InstallLemmas

@@ -14,7 +14,7 @@ use Rattle.raft_state.proofs.LoggedLemmas.{step_keys}
 use Rattle.raft_progress.proofs.RecountLemmas.{AtMost-refl, AtMost-trans}
 
 -- consecutive indexes from i on
-abbrev From : {C : Type 0} → ℕ → List (LogIdOf C) → Type 0
+abbrev pub From : {C : Type 0} → ℕ → List (LogIdOf C) → Type 0
 From i [] = Unit {0}
 From i (k ∷ ks) = (k.index ≡ i) × From (i + 1) ks
 
@@ -22,7 +22,7 @@ from_ids : {C : Type 0} (c : C) (i n : ℕ) (ys : List (LogIdOf C)) → From (i 
 from_ids c i zero ys h = let e : i + zero ≡ i = omega arith in rw e at h
 from_ids c i (suc n) ys h = let e : i + suc n ≡ (i + 1) + n = omega arith in (refl, from_ids c (i + 1) n ys (rw e at h))
 
-from_full : {C : Type 0} (cmp : C → C → Ordering) (k : LogIdOf C) (ks : List (LogIdOf C)) → IsKeyList cmp (k ∷ ks) → From k.index (full_log (k ∷ ks))
+pub from_full : {C : Type 0} (cmp : C → C → Ordering) (k : LogIdOf C) (ks : List (LogIdOf C)) → IsKeyList cmp (k ∷ ks) → From k.index (full_log (k ∷ ks))
 from_full cmp k [] s = rw (one_key k) (refl, tt)
 from_full cmp k (l ∷ ks) s =
     let up = rises_once cmp k l ks s in
@@ -41,7 +41,7 @@ consecutive cmp (k ∷ ks) s n id e = rw (first_full cmp (k ∷ ks) 0 s) (from_p
 
 module _ {C : Type 0} (cmp : C → C → Ordering) (total : IsTotalOrder cmp) where
   -- leaders from c on, none below the one before it
-  abbrev Above : C → List (LogIdOf C) → Type 0
+  abbrev pub Above : C → List (LogIdOf C) → Type 0
   Above c [] = Unit {0}
   Above c (k ∷ ks) = IsTrue (is_le (cmp c k.leader_id)) × Above k.leader_id ks
 
@@ -49,7 +49,7 @@ module _ {C : Type 0} (cmp : C → C → Ordering) (total : IsTotalOrder cmp) wh
   above_ids b c i zero ys le h lower = lower b le
   above_ids b c i (suc n) ys le h lower = (le, above_ids c c (i + 1) n ys (AtMost-refl total c) h lower)
 
-  above_full : (b : C) (k : LogIdOf C) (ks : List (LogIdOf C)) → IsKeyList cmp (k ∷ ks) → IsTrue (is_le (cmp b k.leader_id)) → Above b (full_log (k ∷ ks))
+  pub above_full : (b : C) (k : LogIdOf C) (ks : List (LogIdOf C)) → IsKeyList cmp (k ∷ ks) → IsTrue (is_le (cmp b k.leader_id)) → Above b (full_log (k ∷ ks))
   above_full b k [] s le = rw (one_key k) (le, tt)
   above_full b k (l ∷ ks) s le =
       let t = tail_keys cmp k l ks s in

@@ -1,10 +1,12 @@
 pub mod Accepted
+pub mod Appended
 pub mod Apply
 pub mod CatchUp
 pub mod Commit
 pub mod FirstDenied
 pub mod FullLog
 pub mod FullLogLaws
+pub mod Install
 pub mod IOState
 pub mod Entry
 pub mod Inner
@@ -26,4 +28,5 @@ pub mod Round
 pub mod SameLog
 pub mod SnapshotMeta
 pub mod StateView
+pub mod Truncate
 pub mod Valid

@@ -3,14 +3,17 @@
 #![tactic(auto)]
 
 pub mod accepted;
+pub mod append;
 pub mod catch_up;
 pub mod entry;
+pub mod install;
 pub mod io_state;
 pub mod laws;
 pub mod log_id_list;
 pub mod membership_state;
 pub mod raft_state;
 pub mod snapshot_meta;
+pub mod truncate;
 pub mod vote_state_reader;
 
 pub use accepted::{Accepted, AcceptedIn, AcceptedOf};

@@ -202,7 +202,7 @@ impl<C: Ord + Copy + Drop, NID: NodeId, N: Node> MembershipStateOf<C, NID, N> {
     }
 
     // True where another membership is effective than before.
-    fn take_over(
+    pub(crate) fn take_over(
         &mut self,
         membership: Rc<EffectiveMembershipOf<C, NID, N>>,
         upto: u64,
@@ -300,7 +300,7 @@ impl<C: Ord + Copy + Drop, NID: NodeId, N: Node> MembershipStateOf<C, NID, N> {
     }
 
     // True where the committed membership is effective again.
-    fn revert(&mut self, since: u64) -> Result<bool, AllocError>
+    pub(crate) fn revert(&mut self, since: u64) -> Result<bool, AllocError>
         ensures ok { OnOk result (self.new ≡ after_truncate since self.old) }
         ensures reverted { IfOk result (λ reverted. reverted ≡ is_cut since self.old) }
         ensures err { OnErr result (self.new ≡ self.old) }

@@ -24,16 +24,21 @@ ghost use Rattle.raft_state.specs.SnapshotMeta.{IsSnapshotCopy};
 ghost use Rattle.raft_state.specs.StateView.{view_of, vote_of};
 ghost use Rattle.raft_state.specs.Valid.{broken_relation, fits_purged_next, has_purge_id, upto_relation};
 
+pub use crate::accepted::Accepted;
 use crate::accepted::AcceptedIn;
+pub use crate::io_state::{IOState, LogIOId};
 use crate::io_state::{IOStateIn, LogIOIdOf};
 use crate::log_id_list::LogIdListOf;
 use crate::membership_state::MembershipStateOf;
+pub use crate::membership_state::{ChangeHandler, MembershipState};
+pub use crate::snapshot_meta::SnapshotMeta;
 use crate::snapshot_meta::SnapshotMetaOf;
-use crate::vote_state_reader::VoteStateReader;
+pub use crate::vote_state_reader::VoteStateReader;
+pub use raft_base::LogStateReader;
 use raft_base::order::{log_id_at_most, log_id_below, same_optional_log_ids};
 use raft_base::{
-    Instant, Invalid, LeaderAdv, LeaderIdentity, LeaderKind, LogIdOf, LogStateReader, Node, NodeId,
-    RaftLogId, ServerState, UTime, Validate, VoteIn,
+    Instant, Invalid, LeaderAdv, LeaderIdentity, LeaderKind, LogIdOf, Node, NodeId, RaftLogId,
+    ServerState, UTime, Validate, VoteIn,
 };
 use raft_members::ForwardToLeader;
 use std::alloc::{AllocError, Global};
@@ -306,6 +311,10 @@ impl<
 
     /// Takes a log id that was accepted of the vote's leader, if it is greater than the last one;
     /// where `can_accept` is true.
+    ///
+    /// A follower calls this once it has appended a leader's entries, or found that it has them: up
+    /// to there, and no further, its log is the leader's, so it may commit what is committed up to
+    /// there. A leader calls it for each entry that it appends to its own log.
     pub fn update_accepted(&mut self, accepted: Option<LogIdOf<C>>)
         requires committed { (vote_of self.old).committed ≡ true }
         requires no_lesser_leader { IsTrue (partial_ge L.order (vote_of self.old).leader_id
@@ -321,6 +330,9 @@ impl<
 
     /// Appends log ids of one leader to the log, as `LogIdListOf::extend_from_same_leader`;
     /// `log_ids.can_extend_from_same_leader` tests them.
+    ///
+    /// Memberships stay as they are. Whoever appends entries that store memberships makes these
+    /// effective too, as `append_entries` does; else the state is valid, and counts by old quorums.
     pub fn extend_log_ids_from_same_leader<LID: RaftLogId<C>>(
         &mut self,
         new_log_ids: &[LID],
@@ -340,6 +352,8 @@ impl<
     }
 
     /// Appends log ids to the log, as `LogIdListOf::extend`; `log_ids.can_extend` tests them.
+    ///
+    /// Memberships stay as they are, as with `extend_log_ids_from_same_leader`.
     pub fn extend_log_ids<LID: RaftLogId<C>>(
         &mut self,
         new_log_ids: &[LID],
@@ -540,7 +554,8 @@ impl<
     }
 
     /// Whether the node of an id leads or asks to lead: it has a node in the effective membership,
-    /// and the vote is for it. A learner that was a voter may lead until its removal is committed.
+    /// and the vote is for it. It need not be a voter: a leader that a change keeps as a learner leads
+    /// on until another vote, or a membership without it, takes its place.
     pub fn is_leading(&self, id: &NID) -> bool
         ensures { result ≡ is_leading NID.eq NID.cmp L.voted
             (in_effect self.now.membership_state) (vote_of self.now) id.now }

@@ -11,7 +11,8 @@ use raft_base_tests::growths::{Call, Growth, is_free, is_swept, refuse_each};
 use raft_members::StoredMembership;
 use raft_members_tests::words::members;
 use raft_state::{
-    Entry, EntryPayload, LogIdList, MembershipState, RaftState, SnapshotMeta, is_key_list,
+    Entry, EntryPayload, FromAppData, LogIdList, MembershipState, RaftState, SnapshotMeta,
+    is_key_list,
 };
 use std::alloc::{AllocError, Global};
 use std::io;
@@ -26,14 +27,22 @@ type State = RaftState<u64, u64, u64>;
 
 type Rows = &'static [(u64, u64)];
 
-/// A list with these keys, that has no room for more.
-fn list(alloc: Global, keys: &[(u64, u64)]) -> Result<List, AllocError> {
-    let keys = ids::<LeaderAdv>(alloc, keys)?;
-    if is_key_list(&keys) {
-        List::new(keys).try_clone()
+/// A list with these keys, that has room for so many more.
+fn list_with_room(alloc: Global, keys: &[(u64, u64)], room: usize) -> Result<List, AllocError> {
+    let mut all = Vec::with_capacity(alloc, keys.len().saturating_add(room))?;
+    for (leader, index) in keys {
+        all.push(log_id::<LeaderAdv>(*leader, *index))?;
+    }
+    if is_key_list(&all) {
+        Ok(List::new(all))
     } else {
         List::try_default(alloc)
     }
+}
+
+/// A list with these keys, that has no room for more.
+fn list(alloc: Global, keys: &[(u64, u64)]) -> Result<List, AllocError> {
+    list_with_room(alloc, keys, 0)
 }
 
 /// A call that changes a list.
@@ -45,11 +54,13 @@ enum Edit {
     Purge,
 }
 
-/// Such a call, the keys of the list, and the log ids that it is given.
+/// Such a call, the keys of the list, for how many more it has room, and the log ids that it is
+/// given.
 #[derive(Clone, Copy)]
 struct ListEdit {
     edit: Edit,
     keys: Rows,
+    room: usize,
     ids: Rows,
 }
 
@@ -61,7 +72,7 @@ impl Call for ListEdit {
     type Answer = ();
 
     fn borrowed(&self, alloc: Global) -> Result<List, AllocError> {
-        list(alloc, self.keys)
+        list_with_room(alloc, self.keys, self.room)
     }
 
     fn taken(&self, alloc: Global) -> Result<Vec<LogId<u64>>, AllocError> {
@@ -82,24 +93,39 @@ impl Call for ListEdit {
     }
 }
 
+/// Keys, log ids of a leader each, and log ids of one.
+const KEYS: Rows = &[(1, 1), (2, 3)];
+
+const SEVERAL: Rows = &[(3, 7), (4, 8), (5, 9), (6, 10)];
+
+const OF_ONE: Rows = &[(3, 7), (3, 8), (3, 9)];
+
+// Each call from every room that is too little: with some, an earlier key fits and a later one
+// doesn't.
 #[test]
 fn growths_of_lists(rt: HostRuntime) -> Result<(), Fail> {
-    let keys: Rows = &[(1, 1), (2, 3)];
-    let several: Rows = &[(3, 7), (4, 8), (5, 9), (6, 10)];
-    let of_one: Rows = &[(3, 7), (3, 8), (3, 9)];
     let same = Edit::ExtendFromSameLeader;
-    for (name, edit, keys, ids) in [
-        ("LogIdList::append", Edit::Append, keys, of_one),
-        ("LogIdList::extend", Edit::Extend, keys, several),
-        ("LogIdList::extend_from_same_leader", same, keys, of_one),
+    for (name, edit, keys, ids, need) in [
+        ("LogIdList::append", Edit::Append, KEYS, OF_ONE, 1),
+        ("LogIdList::extend", Edit::Extend, KEYS, SEVERAL, 4),
+        ("LogIdList::extend_from_same_leader", same, KEYS, OF_ONE, 2),
         (
             "LogIdList::purge of an empty list",
             Edit::Purge,
             &[],
-            of_one,
+            OF_ONE,
+            1,
         ),
     ] {
-        assert!(rt; is_swept(&rt, rt.alloc(), name, &ListEdit { edit, keys, ids })?);
+        for room in 0..need {
+            let call = ListEdit {
+                edit,
+                keys,
+                room,
+                ids,
+            };
+            assert!(rt; is_swept(&rt, rt.alloc(), name, &call)?, "room for {room}");
+        }
     }
     Ok(())
 }
@@ -117,7 +143,7 @@ impl Call for LogEdit {
 
     fn borrowed(&self, alloc: Global) -> Result<State, AllocError> {
         let mut state = State::try_default(alloc)?;
-        state.log_ids = list(alloc, self.0.keys)?;
+        state.log_ids = self.0.borrowed(alloc)?;
         Ok(state)
     }
 
@@ -177,27 +203,33 @@ impl Call for StateClone {
 
 #[test]
 fn growths_of_states(rt: HostRuntime) -> Result<(), Fail> {
-    let keys: Rows = &[(1, 1), (2, 3)];
-    let several: Rows = &[(3, 7), (4, 8), (5, 9), (6, 10)];
-    let of_one: Rows = &[(3, 7), (3, 8), (3, 9)];
     let same = Edit::ExtendFromSameLeader;
-    for (name, edit, keys, ids) in [
-        ("RaftState::extend_log_ids", Edit::Extend, keys, several),
+    for (name, edit, keys, ids, need) in [
+        ("RaftState::extend_log_ids", Edit::Extend, KEYS, SEVERAL, 4),
         (
             "RaftState::extend_log_ids_from_same_leader",
             same,
-            keys,
-            of_one,
+            KEYS,
+            OF_ONE,
+            2,
         ),
         (
             "RaftState::purge_log of an empty log",
             Edit::Purge,
             &[],
-            of_one,
+            OF_ONE,
+            1,
         ),
     ] {
-        let call = LogEdit(ListEdit { edit, keys, ids });
-        assert!(rt; is_swept(&rt, rt.alloc(), name, &call)?);
+        for room in 0..need {
+            let call = LogEdit(ListEdit {
+                edit,
+                keys,
+                room,
+                ids,
+            });
+            assert!(rt; is_swept(&rt, rt.alloc(), name, &call)?, "room for {room}");
+        }
     }
     assert!(rt; is_swept(&rt, rt.alloc(), "RaftState::try_clone", &StateClone)?);
     Ok(())
@@ -386,6 +418,22 @@ fn append_is_free(rt: &impl Print, alloc: Global) -> io::Result<bool> {
     )
 }
 
+/// Whether an entry equals itself, and not another.
+fn equals_itself_alone(entry: &Entry<u64, u64, u64>, other: &Entry<u64, u64, u64>) -> bool {
+    *entry == *entry && *entry != *other
+}
+
+/// Whether entries are compared without memory.
+fn entries_are_free(rt: &impl Print, alloc: Global) -> io::Result<bool> {
+    let (stores, data) = (
+        EntrySummary::Whole.borrowed(alloc)?,
+        Entry::from_app_data(7),
+    );
+    refuse_each(alloc);
+    let is_right = equals_itself_alone(&stores, &data);
+    is_free(rt, alloc, "comparison of entries", is_right)
+}
+
 /// Whether memberships are committed, cut off and taken over without memory: they are shared.
 fn moves_are_free(rt: &impl Print, alloc: Global) -> io::Result<bool> {
     let from = memberships::state::<LeaderAdv>(alloc)?;
@@ -405,6 +453,7 @@ fn no_growths_of_lists(rt: HostRuntime) -> Result<(), Fail> {
 #[test]
 fn no_growths_of_memberships(rt: HostRuntime) -> Result<(), Fail> {
     assert!(rt; append_is_free(&rt, rt.alloc())? && moves_are_free(&rt, rt.alloc())?);
+    assert!(rt; entries_are_free(&rt, rt.alloc())?);
     Ok(())
 }
 

@@ -14,6 +14,8 @@ mod entries;
 #[cfg(test)]
 mod first_caller;
 #[cfg(test)]
+mod follower_turn;
+#[cfg(test)]
 mod followers;
 #[cfg(test)]
 mod growths;

@@ -97,6 +97,10 @@ impl LeaderIdentity for RegionLeader {
     ghost made = { λ t n. (refl, refl, refl) };
 
     ghost incomparable = { λ a b c h. never_none _ h };
+
+    ghost default_term = { λ a h. h.0 };
+
+    ghost default_committed = { λ c h. (c, h, refl) };
 }
 
 /// The kind of these leader ids.

@@ -1,9 +1,9 @@
 //! A leader's turns with its followers, as in the README, and a change of its members.
 
 use super::rows::{Row, id, ids};
-use raft_base::{CommittedLeaderId, EmptyNode, LeaderAdv, LogId, UTime, Vote};
+use raft_base::{CommittedLeaderId, EmptyNode, LeaderAdv, LogId, LogIdRange, UTime, Vote};
 use raft_members::{ChangeMembers, ChangeMembershipError, Membership};
-use raft_progress::{InflightOf, MembershipProgress, Progress, ProgressEntry};
+use raft_progress::{Inflight, MembershipProgress, Progress, ProgressEntry};
 use raft_state::{LogIdList, RaftState, is_key_list};
 use std::alloc::{AllocError, Global};
 use std::collections::{BTreeMap, BTreeSet};
@@ -14,54 +14,70 @@ type State = RaftState<u64, EmptyNode, u64>;
 
 type Followers = MembershipProgress<u64, ProgressEntry<u64>, Option<LogId<u64>>>;
 
-/// Puts in flight what is sent next to a follower, and answers the request and its last log.
-fn send(state: &State, followers: &mut Followers, id: u64) -> Option<(u64, Option<LogId<u64>>)> {
+/// What a follower makes of what it was sent.
+#[derive(Clone, Copy)]
+enum Answer {
+    /// It has all up to this log id.
+    Matches(Option<LogId<u64>>),
+    /// Its log has no such log id at this index.
+    Conflicts(u64),
+}
+
+/// Puts in flight what is sent next to a follower, logs or a snapshot, and answers it. What was
+/// sent before and is lost is given up first.
+fn send(state: &State, followers: &mut Followers, id: u64, is_lost: bool) -> Option<Inflight<u64>> {
     let entry = followers.get_mut(&id)?;
+    if is_lost {
+        entry.give_up();
+    }
     if !entry.can_send(state) {
         return None;
     }
     match entry.next_send(state, 64) {
-        Ok(InflightOf::Logs { id, log_id_range }) => Some((*id, log_id_range.last)),
-        _ => None,
-    }
-}
-
-/// Takes a follower's ack of all up to a log id, and answers what a quorum then has.
-fn take_ack(
-    followers: &mut Followers,
-    id: u64,
-    request_id: u64,
-    upto: Option<LogId<u64>>,
-) -> Option<LogId<u64>> {
-    let mut entry = *followers.try_get(&id)?;
-    let is_taken = entry.update_matching(request_id, upto).is_ok();
-    if !is_taken || !followers.is_in_order() || followers.would_fall(&id, &entry) {
-        return None;
-    }
-    match followers.update(&id, entry) {
-        Ok(granted) => *granted,
+        Ok(sent) => Some(*sent),
         Err(_) => None,
     }
 }
 
-/// A leader sends to a follower, which acks all of it, and commits what a quorum then has: an entry
-/// of an earlier leader only with one of its own.
-fn turn(state: &mut State, followers: &mut Followers, id: u64) -> Result<bool, AllocError> {
-    let Some((request_id, last)) = send(state, followers, id) else {
-        return Ok(false);
+/// Takes a follower's reply to a request. One to a request that is not in flight is refused.
+fn take_reply(followers: &mut Followers, id: u64, request_id: u64, answer: Answer) -> bool {
+    let Some(mut entry) = followers.try_get(&id).copied() else {
+        return false;
     };
-    // Here the logs go out, and the follower's ack comes in.
-    let granted = take_ack(followers, id, request_id, last);
-    let Some(log_id) = granted else {
-        return Ok(false);
+    let is_taken = match answer {
+        Answer::Matches(upto) => entry.update_matching(request_id, upto).is_ok(),
+        Answer::Conflicts(index) => entry.update_conflicting(Some(request_id), index).is_ok(),
     };
-    let is_own = state
-        .vote_ref()
-        .is_same_leader(log_id.committed_leader_id());
+    if !is_taken || !followers.is_in_order() || followers.would_fall(&id, &entry) {
+        return false;
+    }
+    followers.update(&id, entry).is_ok()
+}
+
+/// Commits what a quorum has: an entry of an earlier leader only with one of this leader's own.
+fn commit(state: &mut State, followers: &Followers) -> Result<bool, AllocError> {
+    let granted = *followers.granted();
+    let is_own = match granted {
+        Some(log_id) => state
+            .vote_ref()
+            .is_same_leader(log_id.committed_leader_id()),
+        None => false,
+    };
     if !is_own || !state.can_commit(&granted) {
         return Ok(false);
     }
     Ok(state.update_committed(&granted)?.is_some())
+}
+
+/// A turn with a follower that acks all that it is sent.
+fn turn(state: &mut State, followers: &mut Followers, id: u64) -> Result<bool, AllocError> {
+    let (request_id, last) = match send(state, followers, id, false) {
+        Some(Inflight::Logs { id, log_id_range }) => (id, log_id_range.last),
+        Some(Inflight::Snapshot { id, last_log_id }) => (id, last_log_id),
+        _ => return Ok(false),
+    };
+    let is_taken = take_reply(followers, id, request_id, Answer::Matches(last));
+    Ok(is_taken && commit(state, followers)?)
 }
 
 /// Goes over to the voters and learners of another membership. Of a new one no log is known to
@@ -164,5 +180,63 @@ fn a_change_of_members_asks_for_a_third(rt: HostRuntime) -> Result<(), Fail> {
     let mut state = leader(rt.alloc(), &[(1, 0), (2, 5), (2, 9)])?;
     let mut followers = followers(&rt, rt.alloc(), 10)?;
     assert!(rt; changes(rt.alloc(), &mut state, &mut followers)?);
+    Ok(())
+}
+
+/// Whether a snapshot up to (2, 7) is what is sent in a request.
+fn is_snapshot(sent: Option<Inflight<u64>>, request_id: u64) -> bool {
+    let last_log_id = id::<LeaderAdv>(Some((2, 7)));
+    sent == Some(Inflight::Snapshot {
+        id: request_id,
+        last_log_id,
+    })
+}
+
+/// Whether the logs after a row up to another one are what is sent in a request.
+fn are_logs(sent: Option<Inflight<u64>>, request_id: u64, after: Row, upto: Row) -> bool {
+    let log_id_range = LogIdRange::new(id::<LeaderAdv>(after), id::<LeaderAdv>(upto));
+    sent == Some(Inflight::Logs {
+        id: request_id,
+        log_id_range,
+    })
+}
+
+/// Whether a follower whose log parts from the leader's below the purge point is sent a snapshot,
+/// and again once it is lost, and goes on with logs.
+fn goes_on_past_a_purge(state: &mut State, followers: &mut Followers) -> Result<bool, AllocError> {
+    let snapshot = id::<LeaderAdv>(Some((2, 7)));
+    state.snapshot_meta.last_log_id = snapshot;
+    state.purge_upto = id::<LeaderAdv>(Some((1, 5)));
+    let is_probed = are_logs(
+        send(state, followers, 2, false),
+        1,
+        Some((1, 5)),
+        Some((2, 9)),
+    ) && take_reply(followers, 2, 1, Answer::Conflicts(5));
+    let is_sent = is_snapshot(send(state, followers, 2, false), 2);
+    let is_waiting = send(state, followers, 2, false) == None;
+    let is_sent_again = is_snapshot(send(state, followers, 2, true), 3);
+    let is_late = !take_reply(followers, 2, 2, Answer::Matches(snapshot));
+    let is_taken = take_reply(followers, 2, 3, Answer::Matches(snapshot));
+    let goes_on = are_logs(
+        send(state, followers, 2, false),
+        4,
+        Some((2, 7)),
+        Some((2, 9)),
+    ) && take_reply(
+        followers,
+        2,
+        4,
+        Answer::Matches(id::<LeaderAdv>(Some((2, 9)))),
+    );
+    Ok(is_probed && is_sent && is_waiting && is_sent_again && is_late && is_taken && goes_on)
+}
+
+#[test]
+fn a_lost_snapshot_is_sent_again(rt: HostRuntime) -> Result<(), Fail> {
+    let mut state = leader(rt.alloc(), &[(1, 5), (2, 6), (2, 9)])?;
+    let mut followers = followers(&rt, rt.alloc(), 10)?;
+    assert!(rt; goes_on_past_a_purge(&mut state, &mut followers)?);
+    assert!(rt; grants(&followers, None) && turn(&mut state, &mut followers, 3)?);
     Ok(())
 }

@@ -1,10 +1,8 @@
 -- What the private steps of a replay do to all that a progress shows.
 use Rattle.std.specs.Prelude.{Bool, List, Option}
 use Rattle.std.specs.declared.cmp.Ordering.{Ordering}
-use Rattle.raft_members.specs.Members.{MemberList}
 use Rattle.raft_members.specs.declared.change_members.ChangeMembers.{ChangeMembers}
 use Rattle.raft_progress.specs.progress.Answered.{IsAnswered}
-use Rattle.raft_progress.specs.Inner.UpgradedTo.{UpgradesTo}
 use Rattle.raft_progress.specs.progress.Shown.{Shown, state}
 use Rattle.raft_progress.specs.progress.ShownSteps.{IsIncreasedTo, IsUpdatedTo}
 use Rattle.raft_progress.specs.progress.Steps.{IsAnsweredUpgrade, IsIncreased, IsWritten}
@@ -47,16 +45,6 @@ module _ {ID V P QS : Type 0} (eq : ID → ID → Bool) (id_cmp : ID → ID → 
         quorum_set learners default reply (state eq new)
     pub answered : Answered (IsUpgradeFold eq id_cmp cmp part IsClone has_quorum is_voter old
         quorum_set learners default) old reply new
-
-module _ {K N V P : Type 0} (eq : K → K → Bool) (id_cmp : K → K → Ordering) (cmp : P → P → Ordering)
-    (part : V → P) (IsClone : V → V → Type 0) where
-  -- a membership and the progress over it take the place of the old ones, or are refused
-  pub record IsShownUpgradeTo (old : TrackedShown K N V P) (next : MemberList K N) (default : V)
-      (reply : Reply K P) (new : TrackedShown K N V P) : Type 0 where
-    pub values : UpgradesTo eq id_cmp cmp part IsClone (tracked_state eq old) next default reply
-        (tracked_state eq new)
-    pub answered : IsAnswered (λ t. t.progress.granted)
-        (IsChangeFold eq id_cmp cmp part IsClone old default) old reply new
 
 module _ {K N V P : Type 0} (eq : K → K → Bool) (id_cmp : K → K → Ordering) (same : N → N → Bool)
     (cmp : P → P → Ordering) (part : V → P) (IsClone : V → V → Type 0) where

@@ -1,7 +1,8 @@
--- What stays when values are written in place.
+-- What stays when values are written in place, and when a progress is cloned.
 use Rattle.std.specs.Prelude.{◌≡◌, Bool, true, Some, map, take}
 use Rattle.std.specs.declared.cmp.Ordering.{Ordering}
 use Rattle.std.specs.Map.{keys_of, set_value}
+use Rattle.raft_progress.specs.progress.Equal.{IsCloned}
 use Rattle.raft_progress.specs.progress.InOrder.{IsInOrder}
 use Rattle.raft_progress.specs.progress.Shown.{Shown, state}
 
@@ -34,4 +35,14 @@ module _ (ID V P QS : Type 0) (eq : ID → ID → Bool) (part : V → P) where
   abbrev pub KeptPartsKeepOrder : (P → P → Ordering) → (QS → (ID → Bool) → Bool) → Type 0
   KeptPartsKeepOrder cmp has_quorum =
       (old new : Shown ID V P QS) → KeepsParts part old new
+      → IsInOrder eq cmp part has_quorum old → IsInOrder eq cmp part has_quorum new
+
+  -- a clone of a progress in order is in order, where clones of values have the part of their
+  -- source, and those of quorum sets its quorums
+  abbrev pub ClonesKeepOrder : (P → P → Ordering) → (QS → (ID → Bool) → Bool) → (V → V → Type 0)
+      → (QS → QS → Type 0) → Type 0
+  ClonesKeepOrder cmp has_quorum IsClone IsSetClone =
+      ((v w : V) → IsClone v w → part w ≡ part v)
+      → ((c d : QS) → IsSetClone c d → (set : ID → Bool) → has_quorum d set ≡ has_quorum c set)
+      → (old new : Shown ID V P QS) → IsCloned IsClone IsSetClone old new
       → IsInOrder eq cmp part has_quorum old → IsInOrder eq cmp part has_quorum new

@@ -66,7 +66,6 @@ impl<
     ghost use Rattle.raft_progress.specs.progress.Upgrade.{CanUpgrade, IsLeastBelow};
     ghost use Rattle.raft_progress.specs.Inner.Conditions.{IsLeastPassing, among, is_value_below};
     ghost use Rattle.raft_progress.specs.progress.Statistics.{CountsGoOn, no_counts};
-    ghost use Rattle.raft_progress.specs.progress.Steps.{falls};
     ghost use Rattle.raft_progress.specs.progress.VecProgress.{shown};
 
     /// A progress in which each voter and each learner has a clone of the default.
@@ -230,16 +229,6 @@ impl<
         ensures { result ≡ position (λ e. ID.eq id.now e.0) ((shown self.now).walk) }
     {
         self.walk.iter().position(|entry| *id == entry.0)
-    }
-
-    /// Whether a value's part is below that of the id's value, so that it may not be written.
-    ///
-    /// It is the test for the condition of `update`, and of `increase_to` with a greater value.
-    pub fn would_fall(&self, id: &ID, value: &V) -> bool
-        ensures { result
-            ≡ falls P.cmp V.part_of ((state ID.eq (shown self.now)).value id.now) value.now }
-    {
-        would_fall(self.try_get(id), value)
     }
 
     /// The value at the place that a look-up has found.
@@ -568,6 +557,10 @@ impl<ID: Copy + Ord, V: ProgressPart<P> + Drop, P: Copy + Ord, QS: QuorumSet<ID>
         }
     }
 
+    fn voter_count(&self) -> usize {
+        self.voter_count
+    }
+
     fn is_in_order(&mut self) -> bool {
         let voters = &self.walk[..self.voter_count];
         if !is_ordered(&self.walk, voters, self.granted, self.default_part) {
@@ -583,6 +576,10 @@ impl<ID: Copy + Ord, V: ProgressPart<P> + Drop, P: Copy + Ord, QS: QuorumSet<ID>
 
     fn iter(&self) -> std::slice::Iter<(ID, V)> {
         self.walk.iter()
+    }
+
+    fn would_fall(&self, id: &ID, value: &V) -> bool {
+        would_fall(self.try_get(id), value)
     }
 
     #[inline(always)]

@@ -1,34 +1,26 @@
 //! A replay of steps on a membership and its progress.
-ghost use Rattle.std.specs.Prelude.{◌≡◌, ◌⊎◌, false, IfErr, IfOk, None, Ok, OnErr, Some};
+ghost use Rattle.std.specs.Prelude.{◌≡◌, false, IfErr, IfOk, OnErr};
 ghost use Rattle.std.specs.List.{list_any};
-ghost use Rattle.std.specs.Option.{ForSome};
 ghost use Rattle.std.specs.Set.{ClonesAreEqual};
-ghost use Rattle.raft_members.specs.Learners.{learners_of};
-ghost use Rattle.raft_members.specs.Majority.{is_voter_of};
-ghost use Rattle.raft_members.specs.Members.{members_of};
 ghost use Rattle.raft_progress.specs.progress.Comparisons.{comparisons};
 ghost use Rattle.raft_progress.specs.progress.CountedValue.{AtMost, IsCounted};
 ghost use Rattle.raft_progress.specs.tracked.Headline.{ChangedQuorumsKnowGranted, QuorumsKnowGranted};
+ghost use Rattle.raft_progress.specs.tracked.SingleSteps.{IsTrackedChangeTo};
 ghost use Rattle.raft_progress.specs.Inner.Refusal.{refusal_reply};
-ghost use Rattle.raft_progress.specs.Inner.ShownAnswers.{IsShownChange, IsShownUpgradeTo};
-ghost use Rattle.raft_progress.specs.declared.progress.steps.Reply.TheVariants.{BelowDefault};
-ghost use Rattle.raft_progress.specs.declared.progress.steps.Reply.TheVariants.{OutOfMemory};
+ghost use Rattle.raft_progress.specs.Inner.ShownAnswers.{IsShownChange};
 ghost use Rattle.raft_progress.specs.progress.Shown.{state};
 ghost use Rattle.raft_progress.specs.tracked.Tracked.{tracked};
 ghost use Rattle.raft_progress.specs.tracked.TrackedShownSteps.{IsTrackedShownRun, IsTrackedShownStep, is_change};
-ghost use Rattle.raft_progress.specs.tracked.TrackedState.{AreLearners, HasConfigs, is_voter};
 ghost use Rattle.raft_progress.specs.tracked.TrackedState.{IsReady, has_quorum, tracked_state};
 ghost use Rattle.raft_progress.specs.tracked.TrackedSteps.{IsTrackedRun};
-ghost use Rattle.raft_progress.specs.progress.Upgrade.{CanUpgrade, IsLeastBelow};
 
+use super::Tracked;
 use super::step::Step;
-use super::{Tracked, learners_of};
-use crate::progress::{Progress, ProgressPart, Reply, increase, write};
+use crate::progress::{ProgressPart, Reply, increase};
 use raft_base::{Node, NodeId};
 use raft_members::change_members::ChangeMembers;
 use raft_members::error::ChangeMembershipError;
 use raft_members::membership::Membership;
-use raft_members::quorum::Joint;
 use std::alloc::{AllocError, Global};
 
 /// Makes one step.
@@ -42,7 +34,7 @@ fn answer<NID: NodeId, N: Node, V: ProgressPart<P> + PartialOrd + Clone + Drop, 
         IsTrackedShownStep by N.eq (tracked cluster.old) step result (tracked cluster.new) }
 {
     match step {
-        Step::Update(id, value) => write(&mut cluster.progress, &id, value),
+        Step::Update(id, value) => cluster.update(&id, value),
         Step::IncreaseTo(id, value) => increase(&mut cluster.progress, &id, value),
         Step::Change {
             change,
@@ -79,16 +71,11 @@ fn answer_change<NID: NodeId, N: Node, V: ProgressPart<P> + Clone + Drop, P: Cop
     requires clones_have_the_part { (v w : V) → V.is_clone v w → V.part_of w ≡ V.part_of v }
     ensures refused { IfErr made (λ e. (result ≡ refusal_reply e)
         × (tracked cluster.new ≡ tracked cluster.old)) }
-    ensures changed { IfOk made (λ next.
-        ((result ≡ OutOfMemory) × (tracked cluster.new ≡ tracked cluster.old))
-        ⊎ IsShownUpgradeTo NID.eq NID.cmp P.cmp V.part_of V.is_clone
+    ensures changed { IfOk made (λ next. IsTrackedChangeTo NID.eq NID.cmp P.cmp V.part_of V.is_clone
         (tracked cluster.old) next default result (tracked cluster.new)) }
 {
     match made {
-        Ok(next) => match upgrade_to(cluster, next, default) {
-            Ok(reply) => reply,
-            Err(_) => Reply::OutOfMemory,
-        },
+        Ok(next) => cluster.change_to(next, default),
         Err(ChangeMembershipError::EmptyMembership(_)) => Reply::Refused(None),
         Err(ChangeMembershipError::LearnerNotFound(missing)) => Reply::Refused(Some(
             missing.node_id,
@@ -96,64 +83,6 @@ fn answer_change<NID: NodeId, N: Node, V: ProgressPart<P> + Clone + Drop, P: Cop
         // A change of a membership alone is never in progress.
         Err(ChangeMembershipError::InProgress(_) | ChangeMembershipError::OutOfMemory) => {
             Reply::OutOfMemory
-        }
-    }
-}
-
-/// Puts a membership, and the progress upgraded to it, in place of the old ones, unless an
-/// inherited value is below the new default.
-fn upgrade_to<NID: NodeId, N: Node, V: ProgressPart<P> + Clone + Drop, P: Copy + Ord>(
-    cluster: &mut Tracked<NID, N, V, P>,
-    next: Membership<NID, N>,
-    default: V,
-) -> Result<Reply<NID, P>, AllocError>
-    requires clones_have_the_part { (v w : V) → V.is_clone v w → V.part_of w ≡ V.part_of v }
-    ensures step { IfOk result (λ reply. IsShownUpgradeTo NID.eq NID.cmp P.cmp V.part_of V.is_clone
-        (tracked cluster.old) next default reply (tracked cluster.new)) }
-    ensures err { OnErr result (tracked cluster.new ≡ tracked cluster.old) }
-{
-    let alloc = *next.get_joint_config().allocator();
-    let configs = next.to_quorum_set()?;
-    let learners = learners_of(alloc, &next)?;
-    let below = cluster.progress.least_below(&configs, &learners, &default)?;
-    upgrade_unless_below(cluster, below, next, configs, &learners, default)
-}
-
-/// Upgrades to a membership, by its configs and its learners. Where an inherited value is below
-/// the new default, the least such id is what is answered.
-// A function of its own, so that a clause says this, as for a change that was refused.
-fn upgrade_unless_below<NID: NodeId, N: Node, V: ProgressPart<P> + Clone + Drop, P: Copy + Ord>(
-    cluster: &mut Tracked<NID, N, V, P>,
-    below: Option<NID>,
-    next: Membership<NID, N>,
-    configs: Joint<NID, Vec<NID>, Vec<Vec<NID>>>,
-    learners: &[NID],
-    default: V,
-) -> Result<Reply<NID, P>, AllocError>
-    requires clones_have_the_part { (v w : V) → V.is_clone v w → V.part_of w ≡ V.part_of v }
-    requires configs { HasConfigs (members_of NID.cmp next) configs }
-    requires voters { (id : NID) → is_voter NID.eq configs id ≡ is_voter_of NID.eq next.configs id }
-    requires learners { learners.now ≡ learners_of NID.eq next }
-    requires are_learners { AreLearners NID.eq (members_of NID.cmp next) learners.now }
-    requires none { below ≡ None → CanUpgrade NID.eq P.cmp V.part_of (is_voter NID.eq configs)
-        learners.now default (state NID.eq (tracked cluster.old).progress).value }
-    requires some { ForSome below (IsLeastBelow NID.eq NID.cmp P.cmp V.part_of
-        (is_voter NID.eq configs) learners.now default
-        (state NID.eq (tracked cluster.old).progress).value) }
-    ensures below { (id : NID) → below ≡ Some id → result ≡ Ok (BelowDefault id) }
-    ensures step { IfOk result (λ reply. IsShownUpgradeTo NID.eq NID.cmp P.cmp V.part_of V.is_clone
-        (tracked cluster.old) next default reply (tracked cluster.new)) }
-    ensures err { OnErr result (tracked cluster.new ≡ tracked cluster.old) }
-{
-    match below {
-        Some(id) => Ok(Reply::BelowDefault(id)),
-        None => {
-            let upgraded = cluster
-                .progress
-                .upgrade_quorum_set(configs, learners, default)?;
-            cluster.progress = upgraded;
-            cluster.membership = next;
-            Ok(Reply::Granted(*cluster.progress.granted()))
         }
     }
 }

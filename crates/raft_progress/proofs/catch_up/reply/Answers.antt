@@ -21,4 +21,4 @@ returns-in-Some g c = λ old conflicts acks.
 pub returns-in-None : goal.returns-in-None
 returns-in-None g c = λ old conflicts acks.
     acks_logs g.C.Ord.cmp old c.args.entry.now c.update_matching.new.self c.args.agree.now c.max.result conflicts acks c.args.id c.args.range c.update_matching.result
-    (rw c.refused_at.ensures at c.in-None.is) c.update_matching.ensures (rw c.next_index.ensures at c.max.ensures)
+    (rw c.refused_at.ensures at c.in-None.is) c.update_matching.ensures.table (rw c.next_index.ensures at c.max.ensures)

@@ -1,4 +1,5 @@
 use Rattle.std.proofs.Common.{arith, ◌∙◌}
+use Rattle.raft_progress.proofs.SearchKeepsLemmas.{kept_at_end}
 use Rattle.raft_progress.proofs.SearchLemmas.{accepted_at_end, next_event, within_digits, within_near_digits, within_one_more}
 use Rattle.raft_progress.proofs.search.search_run.Goals as goal
 
@@ -22,3 +23,15 @@ pub returns-clause-one_more : goal.returns-clause-one_more
 returns-clause-one_more g c can k fits =
     rw (accepted_at_end g.C.Ord.cmp g.L.LogStateReader.log_view _ _ c.args.events.now c.loop-event.event-index c.loop-event-test.false c.loop-event.invariant.same_end)
     (within_one_more g.C.Ord.cmp g.L.LogStateReader.log_view g.met.L.LogStateReader.indexed c.args.entry.now c.args.events.now can k fits)
+
+pub returns-clause-matching : goal.returns-clause-matching
+returns-clause-matching g c =
+    (kept_at_end g.C.Ord.cmp g.L.LogStateReader.log_view _ _ c.args.events.now c.loop-event.event-index c.loop-event-test.false c.loop-event.invariant.same_end).matching
+
+pub returns-clause-end : goal.returns-clause-end
+returns-clause-end g c =
+    (kept_at_end g.C.Ord.cmp g.L.LogStateReader.log_view _ _ c.args.events.now c.loop-event.event-index c.loop-event-test.false c.loop-event.invariant.same_end).end
+
+pub returns-clause-within : goal.returns-clause-within
+returns-clause-within g c =
+    (kept_at_end g.C.Ord.cmp g.L.LogStateReader.log_view _ _ c.args.events.now c.loop-event.event-index c.loop-event-test.false c.loop-event.invariant.same_end).within

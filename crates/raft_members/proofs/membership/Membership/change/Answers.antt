@@ -1,4 +1,5 @@
 use Rattle.std.proofs.Common.{◌≡◌}
+use Rattle.std.proofs.lemmas.Cmp.{tied_itself}
 use Rattle.std.proofs.lemmas.Result.{IfErr-weaker, IfOk-weaker}
 use Rattle.raft_members.specs.Change.{changed}
 use Rattle.raft_members.specs.Members.{members_of}
@@ -16,7 +17,7 @@ pub returns-clause-two_changes : goal.returns-clause-two_changes
 returns-clause-two_changes g c =
     let old = members_of g.NID.Ord.cmp c.args.self.now in
     IfOk-weaker c.if_valid.result (λ m. m ≡ c.in_ok-next.next) (TwoChanges g.NID.PartialEq.eq g.NID.Ord.cmp old c.args.change)
-    (λ m is. rw is (two_changes g.met.NID.Eq.laws g.NID.Ord.cmp old c.args.retain g.N.PartialEq.eq c.args.change c.in_ok-next.next c.in_ok-next.ensures))
+    (λ m is. rw is (two_changes g.met.NID.Eq.laws g.NID.Ord.cmp old c.args.retain (tied_itself g.met.NID.Ord.total) g.N.PartialEq.eq c.args.change c.in_ok-next.next c.in_ok-next.ensures))
     c.if_valid.ensures.same
 
 pub returns-clause-only_memory : goal.returns-clause-only_memory

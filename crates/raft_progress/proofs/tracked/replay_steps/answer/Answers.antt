@@ -1,26 +1,16 @@
 use Rattle.std.specs.Coded.{Coded-set, coded_list}
 use Rattle.std.proofs.Common.{refl}
-use Rattle.raft_progress.specs.progress.ShownSteps.{IsIncreasedTo, IsUpdatedTo}
+use Rattle.raft_progress.specs.progress.ShownSteps.{IsIncreasedTo}
 use Rattle.raft_progress.specs.tracked.Tracked.{tracked}
 use Rattle.raft_progress.specs.progress.VecProgress.{shown}
-use Rattle.raft_progress.proofs.ReadyLemmas.{answered_tracked, ready_increased, ready_of, ready_written}
+use Rattle.raft_progress.proofs.ReadyLemmas.{answered_tracked, ready_increased, ready_of}
 use Rattle.raft_progress.proofs.tracked.replay_steps.answer.Goals as goal
-
-pub write-requires : goal.write-requires
-write-requires g c = (ready_of g.met.NID.Eq.laws g.NID.Ord.cmp g.met.P.Ord.total g.V.ProgressPart.part_of (Coded-set (coded_list (coded_list g.row.NID.coded))) (tracked c.args.cluster.now) c.args.cluster.now.ready).ordered
 
 pub increase-requires : goal.increase-requires
 increase-requires g c = (ready_of g.met.NID.Eq.laws g.NID.Ord.cmp g.met.P.Ord.total g.V.ProgressPart.part_of (Coded-set (coded_list (coded_list g.row.NID.coded))) (tracked c.args.cluster.now) c.args.cluster.now.ready).ordered
 
 pub invariant_of-cluster : goal.invariant_of-cluster
 invariant_of-cluster g c = record {
-  ready = ∣
-      ready_written g.met.NID.Eq.laws g.NID.Ord.cmp g.met.P.Ord.total g.V.ProgressPart.part_of (Coded-set (coded_list (coded_list g.row.NID.coded))) (tracked c.args.cluster.now) (record { membership = c.args.cluster.now.membership; progress = shown c.write.new.progress }) refl c.args.cluster.now.ready c.write.ensures.ordered c.in-Update.id c.in-Update.value c.write.result c.write.ensures.step.values
-      ∣₁;
-}
-
-pub invariant_of-cluster-in-IncreaseTo : goal.invariant_of-cluster-in-IncreaseTo
-invariant_of-cluster-in-IncreaseTo g c = record {
   ready = ∣
       ready_increased g.met.NID.Eq.laws g.NID.Ord.cmp g.met.P.Ord.total g.V.ProgressPart.part_of (Coded-set (coded_list (coded_list g.row.NID.coded))) (tracked c.args.cluster.now) (record { membership = c.args.cluster.now.membership; progress = shown c.increase.new.progress }) refl c.args.cluster.now.ready c.increase.ensures.ordered c.in-IncreaseTo.id c.in-IncreaseTo.value c.increase.result g.V.PartialOrd.partial_cmp c.increase.ensures.step.values
       ∣₁;
@@ -30,9 +20,13 @@ pub returns-in-Update : goal.returns-in-Update
 returns-in-Update g c =
     rw c.in-Update.is
     record {
-      values = (refl, c.write.ensures.step.values);
-      answered = answered_tracked (IsUpdatedTo g.NID.PartialEq.eq g.P.Ord.cmp g.V.ProgressPart.part_of (shown c.args.cluster.now.progress) c.in-Update.id c.in-Update.value) (tracked c.args.cluster.now) c.write.result (record { membership = c.args.cluster.now.membership; progress = shown c.write.new.progress }) refl c.write.ensures.step.answered;
-      ready = ready_written g.met.NID.Eq.laws g.NID.Ord.cmp g.met.P.Ord.total g.V.ProgressPart.part_of (Coded-set (coded_list (coded_list g.row.NID.coded))) (tracked c.args.cluster.now) (record { membership = c.args.cluster.now.membership; progress = shown c.write.new.progress }) refl c.args.cluster.now.ready c.write.ensures.ordered c.in-Update.id c.in-Update.value c.write.result c.write.ensures.step.values;
+      values = (c.update.ensures.step.membership, c.update.ensures.step.values);
+      answered = record {
+        refused = c.update.ensures.step.answered.refused;
+        done = λ r. (c.update.ensures.step.membership, c.update.ensures.step.answered.done r);
+        tells = c.update.ensures.step.answered.tells;
+      };
+      ready = c.update.ensures.ready;
     }
 
 pub returns-in-IncreaseTo : goal.returns-in-IncreaseTo

@@ -57,3 +57,7 @@ returns-clause-answer g c =
       }),
       (λ r. c.is_eq.ensures ∙ ap is_eq (c.cmp.ensures ∙ counted_once g.met.P.Ord.total g.V.ProgressPart.part_of g.QS.QuorumSet.has_quorum s c.count-counted.result c.args.self.now.granted k r.counted)),
     )
+
+-- only the room has changed
+pub returns-clause-ordered : goal.returns-clause-ordered
+returns-clause-ordered g c = (returns-clause-answer g c).0

@@ -1,0 +1,167 @@
+//! Callers of the laws of quorums, each as an engine has the need.
+ghost use Rattle.std.specs.Prelude.{◌≡◌, ◌+◌, ◌<◌, true, false, IfOk, IfSome, IsTrue, length};
+ghost use Rattle.std.specs.List.{IsDistinct};
+ghost use Rattle.std.specs.Set.{ClonesAreEqual, distinct_count, is_member};
+ghost use Rattle.raft_members.specs.AtLeast.{ids_of, need_of};
+ghost use Rattle.raft_members.specs.Meeting.{HaveSameQuorums, ShareCommonVoter, ShareMember, ShareVoter};
+ghost use Rattle.raft_members.specs.Stored.{membership_of};
+
+use super::words::{ids, members};
+use raft_base::{Node, NodeId};
+use raft_members::quorum::laws::{
+    at_least_quorums_meet, coherent_quorums_meet, empty_config_has_no_quorum,
+    equal_configs_have_same_quorums, majority_has_voter, need_past_ids_has_no_quorum,
+    no_configs_take_every_set, quorums_meet,
+};
+use raft_members::quorum::{AtLeast, Joint, QuorumSet};
+use raft_members::{
+    ChangeMembers, ChangeMembershipError, Membership, StoredMembership, StoredMembershipOf,
+};
+use std::alloc::{AllocError, Global};
+use std::test::Fail;
+
+/// Whether ids are a majority of a config. Then one of them is in it: no one but voters decides.
+fn has_decided<ID: Copy + Ord>(config: &Vec<ID>, ids: &[ID]) -> bool
+    ensures { IsDistinct ID.eq ids.now → IsTrue result →
+        (id : ID) × (is_member ID.eq config.now.items id ≡ true)
+        × (is_member ID.eq ids.now id ≡ true) }
+{
+    majority_has_voter::<ID>();
+    config.is_quorum(ids)
+}
+
+/// Whether two candidates have both been elected. Then some voter has voted for both.
+fn are_both_elected<NID: NodeId, N: Node>(
+    members: &Membership<NID, N>,
+    first: &[NID],
+    second: &[NID],
+) -> Result<bool, AllocError>
+    ensures { IsDistinct NID.eq first.now → IsDistinct NID.eq second.now →
+        0 < length members.now.configs →
+        IfOk result (λ both. IsTrue both → ShareVoter NID.eq members.now.configs
+        (is_member NID.eq first.now) (is_member NID.eq second.now)) }
+{
+    let quorums = members.to_quorum_set()?;
+    if !quorums.is_quorum(first) {
+        return Ok(false);
+    }
+    quorums_meet::<NID>();
+    let has_second = quorums.is_quorum(second);
+    Ok(has_second)
+}
+
+/// Changes the members where a quorum of them, and one of the new ones, has voted. Then some voter
+/// of both memberships is in both quorums.
+fn change_elected<NID: NodeId, N: Node>(
+    from: &Membership<NID, N>,
+    change: ChangeMembers<NID, N>,
+    before: &[NID],
+    after: &[NID],
+) -> Result<Option<Membership<NID, N>>, ChangeMembershipError<NID>>
+    requires { ClonesAreEqual N.eq N.is_clone }
+    ensures { IsDistinct NID.eq before.now → IsDistinct NID.eq after.now →
+        0 < length from.now.configs →
+        IfOk result (λ made. IfSome made (λ to. ShareCommonVoter NID.eq from.now.configs
+        to.configs (is_member NID.eq before.now) (is_member NID.eq after.now))) }
+{
+    let quorums = from.to_quorum_set()?;
+    if !quorums.is_quorum(before) {
+        return Ok(None);
+    }
+    let to = from.change(change, true)?;
+    let later = to.to_quorum_set()?;
+    coherent_quorums_meet::<NID>();
+    let is_later_quorum = later.is_quorum(after);
+    if !is_later_quorum {
+        return Ok(None);
+    }
+    Ok(Some(to))
+}
+
+/// Whether one quorum has committed and another one, of another size, has elected. Then some id is
+/// in both.
+fn has_committed_and_elected<ID: Copy + Ord>(
+    commits: &AtLeast<ID>,
+    elects: &AtLeast<ID>,
+    holders: &[ID],
+    voters: &[ID],
+) -> bool
+    ensures { ids_of elects.now ≡ ids_of commits.now →
+        distinct_count ID.eq (ids_of commits.now) < need_of commits.now + need_of elects.now →
+        IsDistinct ID.eq holders.now → IsDistinct ID.eq voters.now → IsTrue result →
+        ShareMember ID.eq (ids_of commits.now)
+        (is_member ID.eq holders.now) (is_member ID.eq voters.now) }
+{
+    if !commits.is_quorum(holders) {
+        return false;
+    }
+    at_least_quorums_meet::<ID>();
+    let is_elected = elects.is_quorum(voters);
+    is_elected
+}
+
+/// Whether ids are a quorum: never, where more are needed than there are.
+fn is_enough<ID: Copy + Ord>(quorums: &AtLeast<ID>, ids: &[ID]) -> bool
+    ensures { distinct_count ID.eq (ids_of quorums.now) < need_of quorums.now →
+        IsDistinct ID.eq ids.now → result ≡ false }
+{
+    need_past_ids_has_no_quorum::<ID>();
+    quorums.is_quorum(ids)
+}
+
+/// Whether ids decide for an empty config, and where there are no configs: never, and always. So who
+/// asks before a cluster has begun asks first whether it has a config.
+fn decide_for_none<ID: Copy + Ord>(alloc: Global, ids: &[ID]) -> (bool, bool)
+    ensures empty { IsDistinct ID.eq ids.now → result.0 ≡ false }
+    ensures no_configs { IsDistinct ID.eq ids.now → result.1 ≡ true }
+{
+    empty_config_has_no_quorum::<ID>();
+    no_configs_take_every_set::<ID>();
+    let empty: Vec<ID> = Vec::new(alloc);
+    let configs: Vec<Vec<ID>> = Vec::new(alloc);
+    (empty.is_quorum(ids), Joint::from(configs).is_quorum(ids))
+}
+
+/// A clone of a stored membership, which has the same voters and quorums.
+fn copy_of<C: Copy, NID: NodeId, N: Node>(
+    stored: &StoredMembershipOf<C, NID, N>,
+) -> Result<StoredMembershipOf<C, NID, N>, AllocError>
+    requires { ClonesAreEqual N.eq N.is_clone }
+    ensures { IfOk result (λ copy. HaveSameQuorums NID.eq (membership_of stored.now).configs
+        (membership_of copy).configs) }
+{
+    equal_configs_have_same_quorums::<NID>();
+    stored.try_clone()
+}
+
+#[test]
+fn laws_at_work(rt: HostRuntime) -> Result<(), Fail> {
+    let alloc = rt.alloc();
+    let from = members(alloc, "1,2,3", "1=1,2=2,3=3,4=4")?;
+    assert!(rt; has_decided(&[1u64, 2, 3].to_vec(alloc)?, &[2, 3]));
+    assert!(rt; are_both_elected(&from, &[1, 2], &[2, 3])?);
+    let change = ChangeMembers::AddVoterIds(ids(alloc, "4")?);
+    let to = change_elected(&from, change, &[1, 2], &[1, 2, 4])?;
+    assert!(rt; to.is_some_and(|to| to.is_voter(&4)));
+    Ok(())
+}
+
+// Of five, two commit and four elect; six of five is none.
+#[test]
+fn laws_of_stated_sizes_at_work(rt: HostRuntime) -> Result<(), Fail> {
+    let alloc = rt.alloc();
+    let five: [u64; 5] = [1, 2, 3, 4, 5];
+    let commits = AtLeast::new(alloc, &five, 2)?;
+    let elects = AtLeast::new(alloc, &five, 4)?;
+    assert!(rt; has_committed_and_elected(&commits, &elects, &[1, 2], &[2, 3, 4, 5]));
+    assert!(rt; !is_enough(&AtLeast::new(alloc, &five, 6)?, &five));
+    assert!(rt; decide_for_none(alloc, &five) == (false, true));
+    Ok(())
+}
+
+#[test]
+fn a_copy_has_the_quorums(rt: HostRuntime) -> Result<(), Fail> {
+    let stored = StoredMembership::new(None, members(rt.alloc(), "1,2/2,3", "1=1,2=2,3=3")?);
+    assert!(rt; copy_of(&stored)? == stored);
+    Ok(())
+}

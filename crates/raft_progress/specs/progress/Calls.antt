@@ -1,0 +1,69 @@
+-- Calls of a progress as steps of a run, and how runs compose.
+use Rattle.std.specs.Prelude.{◌≡◌, Bool, List, ◌++◌, None, Some}
+use Rattle.std.proofs.Common.{Global, Vec}
+use Rattle.raft_progress.specs.progress.Comparisons.{Comparisons}
+use Rattle.raft_progress.specs.progress.InOrder.{IsInOrder}
+use Rattle.raft_progress.specs.progress.NewProgress.{LearnersFit}
+use Rattle.raft_progress.specs.progress.Run.{Runs}
+use Rattle.raft_progress.specs.progress.Shown.{Shown, state}
+use Rattle.raft_progress.specs.progress.ShownSteps.{IsDone, IsShownStep}
+use Rattle.raft_progress.specs.progress.Updated.{IsNotLower, IsNotLowerIfGreater}
+use Rattle.raft_progress.specs.progress.Upgrade.{CanUpgrade, IsUpgraded}
+use Rattle.raft_progress.specs.declared.progress.steps.AnyStep.{AnyStep}
+use Rattle.raft_progress.specs.declared.progress.steps.AnyStep.TheVariants.{IncreaseTo, Update, Upgrade}
+use Rattle.raft_progress.specs.declared.progress.steps.Reply.{Reply}
+use Rattle.raft_progress.specs.declared.progress.steps.Reply.TheVariants.{Granted, Unknown}
+
+-- two runs, one from where the other has left, are one
+abbrev pub Compose : {S A R : Type 0} → (S → A → R → S → Type 0) → Type 0
+Compose {S} {A} {R} Step =
+    (old middle new : S) (steps more : List A) (replies others : List R)
+    → Runs Step (λ a b. b ≡ a) old steps replies middle
+    → Runs Step (λ a b. b ≡ a) middle more others new
+    → Runs Step (λ a b. b ≡ a) old (steps ++ more) (replies ++ others) new
+
+module _ (ID V P QS : Type 0) (by : Comparisons ID V P) (has_quorum : QS → (ID → Bool) → Bool)
+    (is_voter : QS → ID → Bool) where
+  -- runs of a progress compose
+  abbrev pub RunsCompose : Type 0
+  RunsCompose = Compose (IsShownStep {QS = QS} by has_quorum is_voter)
+
+  -- the step was made: of a known id it is answered by what is granted, and of an unknown one by
+  -- what is granted and that the id is unknown
+  pub record IsMadeOf (id : ID) (step : AnyStep ID V QS) (old new : Shown ID V P QS) : Type 0 where
+    pub known : (v : V) → (state by.eq old).value id ≡ Some v
+        → IsShownStep by has_quorum is_voter old step (Granted new.granted) new
+    pub unknown : (state by.eq old).value id ≡ None
+        → IsShownStep by has_quorum is_voter old step (Unknown new.granted) new
+
+  -- an update that may be made, and was made, is a step
+  abbrev pub UpdatesAreSteps : Type 0
+  UpdatesAreSteps =
+      (old new : Shown ID V P QS) (id : ID) (value : V)
+      → IsInOrder by.eq by.cmp by.part has_quorum old
+      → IsNotLower by.eq by.cmp by.part old id value
+      → IsDone by has_quorum is_voter old (Update id value) new
+      → IsInOrder by.eq by.cmp by.part has_quorum new → IsMadeOf id (Update id value) old new
+
+  -- so is an increase
+  abbrev pub IncreasesAreSteps : Type 0
+  IncreasesAreSteps =
+      (old new : Shown ID V P QS) (id : ID) (value : V)
+      → IsInOrder by.eq by.cmp by.part has_quorum old
+      → IsNotLowerIfGreater by.eq by.cmp by.part by.partial_cmp old id value
+      → IsDone by has_quorum is_voter old (IncreaseTo id value) new
+      → IsInOrder by.eq by.cmp by.part has_quorum new → IsMadeOf id (IncreaseTo id value) old new
+
+  -- and an upgrade, answered by what is granted
+  abbrev pub UpgradesAreSteps : Type 0
+  UpgradesAreSteps =
+      (old new : Shown ID V P QS) (quorum_set : QS) (learners : Vec ID Global) (default : V)
+      → LearnersFit by.eq (is_voter quorum_set) learners.items
+      → CanUpgrade by.eq by.cmp by.part (is_voter quorum_set) learners.items default
+      (state by.eq old).value
+      → IsUpgraded by.eq by.IsClone by.part (is_voter quorum_set) quorum_set learners.items default
+      (state by.eq old).value (state by.eq new)
+      → IsDone by has_quorum is_voter old (Upgrade quorum_set learners default) new
+      → IsInOrder by.eq by.cmp by.part has_quorum new
+      → IsShownStep by has_quorum is_voter old (Upgrade quorum_set learners default)
+      (Granted new.granted) new

@@ -1,0 +1,9 @@
+-- A progress over a membership, kept apart from it.
+use Rattle.raft_members.specs.Members.{MemberList}
+use Rattle.raft_progress.specs.progress.Shown.{Shown}
+use Rattle.raft_progress.specs.tracked.TrackedState.{Configs, TrackedShown}
+
+-- the membership and the progress as one
+abbrev pub over : {K N V P : Type 0} → MemberList K N → Shown K V P (Configs K)
+    → TrackedShown K N V P
+over membership progress = record { membership = membership; progress = progress }

@@ -1,0 +1,95 @@
+//! The progress of a membership's voters and learners, where the membership is kept apart.
+ghost use Rattle.std.specs.Prelude.{◌≡◌, ◌↔◌, IfOk, IsTrue};
+ghost use Rattle.raft_members.specs.Learners.{learners_of};
+ghost use Rattle.raft_members.specs.Majority.{is_voter_of};
+ghost use Rattle.raft_progress.specs.progress.InOrder.{IsInOrder};
+ghost use Rattle.raft_progress.specs.progress.Shown.{state};
+ghost use Rattle.raft_progress.specs.progress.Upgrade.{CanUpgrade, IsUpgraded};
+ghost use Rattle.raft_progress.specs.progress.UpgradeFold.{IsUpgradeFold};
+ghost use Rattle.raft_progress.specs.progress.VecProgress.{shown};
+ghost use Rattle.raft_progress.specs.tracked.Over.{over};
+ghost use Rattle.raft_progress.specs.tracked.TrackedNew.{BeginsOver};
+ghost use Rattle.raft_progress.specs.tracked.TrackedState.{IsReady, has_quorum, is_voter};
+
+use super::learners_of;
+use crate::progress::{Progress, ProgressPart, VecProgress};
+use raft_base::{Node, NodeId};
+use raft_members::membership::Membership;
+use raft_members::quorum::Joint;
+use std::alloc::AllocError;
+
+/// What a `MembershipProgress` has beside the calls of any progress: voters and learners come from
+/// one membership, so they fit.
+impl<NID: NodeId, V: ProgressPart<P> + Drop, P: Copy + Ord> VecProgress<
+    NID,
+    V,
+    P,
+    Joint<NID, Vec<NID>, Vec<Vec<NID>>>,
+> {
+    /// A new progress of a membership's voters, by the quorums of its configs, and of its
+    /// learners, ascending. Each has a clone of the default.
+    pub fn of<N: Node>(membership: &Membership<NID, N>, default: V) -> Result<Self, AllocError>
+    where
+        V: Clone,
+        requires clones_have_the_part { (w : V) → V.is_clone default w →
+            V.part_of w ≡ V.part_of default }
+        ensures begins { IfOk result (λ made.
+            BeginsOver NID.eq NID.cmp P.cmp V.part_of V.is_clone default
+            (over membership.now (shown made))) }
+        ensures ready { IfOk result (λ made.
+            IsReady NID.eq NID.cmp P.cmp V.part_of (over membership.now (shown made))) }
+    {
+        let alloc = *membership.get_joint_config().allocator();
+        let configs = membership.to_quorum_set()?;
+        let learners = learners_of(alloc, membership)?;
+        VecProgress::new(alloc, configs, &learners, default)
+    }
+
+    /// Whether no value that `upgraded_to` would take over is below the new default.
+    ///
+    /// It is the test for the condition of `upgraded_to`.
+    pub fn can_upgrade_to<N: Node>(
+        &self,
+        membership: &Membership<NID, N>,
+        default: &V,
+    ) -> Result<bool, AllocError>
+        ensures { IfOk result (λ can. IsTrue can ↔ CanUpgrade NID.eq P.cmp V.part_of
+            (is_voter_of NID.eq membership.now.configs) (learners_of NID.eq membership.now)
+            default.now (state NID.eq (shown self.now)).value) }
+    {
+        let alloc = *membership.get_joint_config().allocator();
+        let configs = membership.to_quorum_set()?;
+        let learners = learners_of(alloc, membership)?;
+        self.can_upgrade(&configs, &learners, default)
+    }
+
+    /// A progress over another membership that takes over the values of the ids that it has too.
+    /// All others have a clone of the default. `self` stays as it is.
+    pub fn upgraded_to<N: Node>(
+        &self,
+        membership: &Membership<NID, N>,
+        default: V,
+    ) -> Result<Self, AllocError>
+    where
+        V: Clone,
+        requires ordered { IsInOrder NID.eq P.cmp V.part_of (has_quorum NID.eq) (shown self.now) }
+        requires clones_have_the_part { (v w : V) → V.is_clone v w → V.part_of w ≡ V.part_of v }
+        requires can_upgrade { CanUpgrade NID.eq P.cmp V.part_of
+            (is_voter_of NID.eq membership.now.configs) (learners_of NID.eq membership.now)
+            default (state NID.eq (shown self.now)).value }
+        ensures made { IfOk result (λ made. IsUpgraded NID.eq V.is_clone V.part_of
+            (is_voter NID.eq (shown made).quorum_set) (shown made).quorum_set
+            (learners_of NID.eq membership.now) default (state NID.eq (shown self.now)).value
+            (state NID.eq (shown made))) }
+        ensures fold { IfOk result (λ made. IsUpgradeFold NID.eq NID.cmp P.cmp V.part_of V.is_clone
+            (has_quorum NID.eq) (is_voter NID.eq) (shown self.now) (shown made).quorum_set
+            (learners_of NID.eq membership.now) default (shown made)) }
+        ensures ready { IfOk result (λ made.
+            IsReady NID.eq NID.cmp P.cmp V.part_of (over membership.now (shown made))) }
+    {
+        let alloc = *membership.get_joint_config().allocator();
+        let configs = membership.to_quorum_set()?;
+        let learners = learners_of(alloc, membership)?;
+        self.upgrade_quorum_set(configs, &learners, default)
+    }
+}

@@ -1,0 +1,124 @@
+//! Steps of a membership and its progress, one at a time, as a leader makes them.
+ghost use Rattle.std.specs.Prelude.{◌≡◌, IfOk, None, Ok, OnErr, Some};
+ghost use Rattle.std.specs.Option.{ForSome};
+ghost use Rattle.raft_members.specs.Learners.{learners_of};
+ghost use Rattle.raft_members.specs.Majority.{is_voter_of};
+ghost use Rattle.raft_members.specs.Members.{members_of};
+ghost use Rattle.raft_progress.specs.progress.CountedValue.{AtMost, IsCounted};
+ghost use Rattle.raft_progress.specs.progress.Shown.{state};
+ghost use Rattle.raft_progress.specs.progress.Upgrade.{CanUpgrade, IsLeastBelow};
+ghost use Rattle.raft_progress.specs.tracked.Headline.{ChangedQuorumsKnowGranted, QuorumsKnowGranted};
+ghost use Rattle.raft_progress.specs.tracked.SingleSteps.{IsTrackedChangeTo, IsTrackedUpdate};
+ghost use Rattle.raft_progress.specs.tracked.Tracked.{tracked};
+ghost use Rattle.raft_progress.specs.tracked.TrackedState.{AreLearners, HasConfigs, is_voter};
+ghost use Rattle.raft_progress.specs.tracked.TrackedState.{IsReady, has_quorum};
+ghost use Rattle.raft_progress.specs.declared.progress.steps.Reply.TheVariants.{BelowDefault};
+
+use super::{Tracked, learners_of};
+use crate::progress::{Progress, ProgressPart, Reply, write};
+use raft_base::{Node, NodeId};
+use raft_members::membership::Membership;
+use raft_members::quorum::Joint;
+use std::alloc::AllocError;
+
+impl<NID: NodeId, N: Node, V: ProgressPart<P> + Drop, P: Copy + Ord> Tracked<NID, N, V, P> {
+    /// Writes the value of an id: what a replay does at `Step::Update`, with no list of steps and
+    /// no memory.
+    ///
+    /// An unknown id and a part that would fall are answered, as `Unknown` and `WouldFall`.
+    /// What a value holds beside its part is changed on a copy that is written back: a leader
+    /// copies an entry from `progress`, calls `next_send` on the copy, and updates with it.
+    pub fn update(&mut self, id: &NID, value: V) -> Reply<NID, P>
+        ensures step { IsTrackedUpdate NID.eq P.cmp V.part_of
+            (tracked self.old) id.now value result (tracked self.new) }
+        ensures ready { IsReady NID.eq NID.cmp P.cmp V.part_of (tracked self.new) }
+        ensures granted { IsCounted P.cmp V.part_of (has_quorum NID.eq)
+            (state NID.eq (tracked self.new).progress) (tracked self.new).progress.granted }
+        ensures never_falls { AtMost P.cmp (tracked self.old).progress.granted
+            (tracked self.new).progress.granted }
+        ensures quorums { QuorumsKnowGranted NID.eq P.cmp V.part_of (tracked self.new) }
+        ensures changed_quorums { ChangedQuorumsKnowGranted NID.eq NID.cmp P.cmp V.part_of
+            (tracked self.new) }
+    {
+        write(&mut self.progress, id, value)
+    }
+
+    /// Goes over to a membership that is given, as one that has come through a leader's log, and
+    /// to its voters and learners. Ids that stay keep their values, and all others have the default.
+    ///
+    /// It answers `Granted`; or `BelowDefault` with the least id whose value stays and is below the
+    /// default, or `OutOfMemory`, and then all is as it was.
+    pub fn change_to(&mut self, membership: Membership<NID, N>, default: V) -> Reply<NID, P>
+    where
+        V: Clone,
+        requires clones_have_the_part { (v w : V) → V.is_clone v w → V.part_of w ≡ V.part_of v }
+        ensures step { IsTrackedChangeTo NID.eq NID.cmp P.cmp V.part_of V.is_clone
+            (tracked self.old) membership default result (tracked self.new) }
+        ensures ready { IsReady NID.eq NID.cmp P.cmp V.part_of (tracked self.new) }
+        ensures granted { IsCounted P.cmp V.part_of (has_quorum NID.eq)
+            (state NID.eq (tracked self.new).progress) (tracked self.new).progress.granted }
+        ensures quorums { QuorumsKnowGranted NID.eq P.cmp V.part_of (tracked self.new) }
+        ensures changed_quorums { ChangedQuorumsKnowGranted NID.eq NID.cmp P.cmp V.part_of
+            (tracked self.new) }
+    {
+        upgrade_to(self, membership, default).unwrap_or(Reply::OutOfMemory)
+    }
+}
+
+/// Puts a membership, and the progress upgraded to it, in place of the old ones, unless an
+/// inherited value is below the new default.
+fn upgrade_to<NID: NodeId, N: Node, V: ProgressPart<P> + Clone + Drop, P: Copy + Ord>(
+    cluster: &mut Tracked<NID, N, V, P>,
+    next: Membership<NID, N>,
+    default: V,
+) -> Result<Reply<NID, P>, AllocError>
+    requires clones_have_the_part { (v w : V) → V.is_clone v w → V.part_of w ≡ V.part_of v }
+    ensures step { IfOk result (λ reply. IsTrackedChangeTo NID.eq NID.cmp P.cmp V.part_of V.is_clone
+        (tracked cluster.old) next default reply (tracked cluster.new)) }
+    ensures err { OnErr result (tracked cluster.new ≡ tracked cluster.old) }
+{
+    let alloc = *next.get_joint_config().allocator();
+    let configs = next.to_quorum_set()?;
+    let learners = learners_of(alloc, &next)?;
+    let below = cluster.progress.least_below(&configs, &learners, &default)?;
+    upgrade_unless_below(cluster, below, next, configs, &learners, default)
+}
+
+/// Upgrades to a membership, by its configs and its learners. Where an inherited value is below
+/// the new default, the least such id is what is answered.
+// A function of its own, so that a clause says this, as for a change that was refused.
+fn upgrade_unless_below<NID: NodeId, N: Node, V: ProgressPart<P> + Clone + Drop, P: Copy + Ord>(
+    cluster: &mut Tracked<NID, N, V, P>,
+    below: Option<NID>,
+    next: Membership<NID, N>,
+    configs: Joint<NID, Vec<NID>, Vec<Vec<NID>>>,
+    learners: &[NID],
+    default: V,
+) -> Result<Reply<NID, P>, AllocError>
+    requires clones_have_the_part { (v w : V) → V.is_clone v w → V.part_of w ≡ V.part_of v }
+    requires configs { HasConfigs (members_of NID.cmp next) configs }
+    requires voters { (id : NID) → is_voter NID.eq configs id ≡ is_voter_of NID.eq next.configs id }
+    requires learners { learners.now ≡ learners_of NID.eq next }
+    requires are_learners { AreLearners NID.eq (members_of NID.cmp next) learners.now }
+    requires none { below ≡ None → CanUpgrade NID.eq P.cmp V.part_of (is_voter NID.eq configs)
+        learners.now default (state NID.eq (tracked cluster.old).progress).value }
+    requires some { ForSome below (IsLeastBelow NID.eq NID.cmp P.cmp V.part_of
+        (is_voter NID.eq configs) learners.now default
+        (state NID.eq (tracked cluster.old).progress).value) }
+    ensures below { (id : NID) → below ≡ Some id → result ≡ Ok (BelowDefault id) }
+    ensures step { IfOk result (λ reply. IsTrackedChangeTo NID.eq NID.cmp P.cmp V.part_of V.is_clone
+        (tracked cluster.old) next default reply (tracked cluster.new)) }
+    ensures err { OnErr result (tracked cluster.new ≡ tracked cluster.old) }
+{
+    match below {
+        Some(id) => Ok(Reply::BelowDefault(id)),
+        None => {
+            let upgraded = cluster
+                .progress
+                .upgrade_quorum_set(configs, learners, default)?;
+            cluster.progress = upgraded;
+            cluster.membership = next;
+            Ok(Reply::Granted(*cluster.progress.granted()))
+        }
+    }
+}

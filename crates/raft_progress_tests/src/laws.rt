@@ -1,0 +1,273 @@
+//! Callers of the laws of progresses, each as an engine has the need.
+ghost use Rattle.std.specs.Ordering.{bool_cmp, nat_cmp};
+ghost use Rattle.std.specs.Prelude.{◌≡◌, ◌↔◌, ◌⊎◌, ◌/◌, ◌<◌, ◌≤◌, ◌^◌, ℕ, Bool, true, false, IfOk, IsTrue, length};
+ghost use Rattle.std.specs.List.{AllByRecursion, list_any};
+ghost use Rattle.std.specs.Set.{ClonesAreEqual};
+ghost use Rattle.raft_base.specs.LogId.{next_index};
+ghost use Rattle.raft_members.specs.Coherence.{is_coherent};
+ghost use Rattle.raft_progress.specs.progress.Comparisons.{comparisons};
+ghost use Rattle.raft_progress.specs.progress.CountedValue.{AtMost};
+ghost use Rattle.raft_progress.specs.progress.ShownSteps.{IsShownStep};
+ghost use Rattle.raft_progress.specs.progress.Updated.{IsNotLower};
+ghost use Rattle.raft_progress.specs.declared.progress.steps.AnyStep.TheVariants.{Update};
+ghost use Rattle.raft_progress.specs.declared.progress.steps.Reply.{Reply};
+ghost use Rattle.raft_progress.specs.progress.InOrder.{IsInOrder};
+ghost use Rattle.raft_progress.specs.progress.ProgressState.{IsSame};
+ghost use Rattle.raft_progress.specs.progress.Shown.{state};
+ghost use Rattle.raft_progress.specs.progress.Threshold.{QuorumReached, QuorumsHavePart, QuorumsShareVoter};
+ghost use Rattle.raft_progress.specs.progress.VecProgress.{shown};
+ghost use Rattle.raft_progress.specs.search.Purged.{IsPurgedWithin};
+ghost use Rattle.raft_progress.specs.search.Search.{CanSearch, stretch};
+ghost use Rattle.raft_progress.specs.tracked.Elected.{NoneVotedPast};
+ghost use Rattle.raft_progress.specs.tracked.Known.{QuorumsKnow};
+ghost use Rattle.raft_progress.specs.tracked.Tracked.{tracked};
+ghost use Rattle.raft_progress.specs.tracked.TrackedShownSteps.{is_change};
+
+use super::steps::{first_ids, made};
+use raft_base::{EmptyNode, LogStateReader, Node, NodeId};
+use raft_members::quorum::QuorumSet;
+use raft_members::{ChangeMembers, Membership};
+use raft_progress::entry::ProgressEntryOf;
+use raft_progress::laws::{
+    calls_are_runs, clones_keep_order, counted_values_tie, granted_is_threshold, granted_meet,
+    known_stays, meeting_quorums_know_granted, none_purged_past, quorums_know_granted,
+};
+use raft_progress::progress::{Progress, ProgressPart, VecProgress};
+use raft_progress::search::{SearchEvent, search_run};
+use raft_progress::tracked::{Step, Tracked, replay};
+use std::alloc::{AllocError, Global};
+use std::collections::BTreeMap;
+use std::test::Fail;
+
+/// Whether a part is granted: an index committed, a vote won, a quorum heard since a moment. It is
+/// exactly where it is at most the default's, or a quorum of the voters has reached it.
+fn is_granted<ID: Copy + Ord, V: ProgressPart<P> + Drop, P: Copy + Ord, QS: QuorumSet<ID> + Drop>(
+    progress: &VecProgress<ID, V, P, QS>,
+    part: P,
+) -> bool
+    requires { IsInOrder ID.eq P.cmp V.part_of QS.has_quorum (shown progress.now) }
+    ensures { IsTrue result ↔ (AtMost P.cmp part (shown progress.now).default_part
+        ⊎ QuorumReached P.cmp V.part_of QS.has_quorum (state ID.eq (shown progress.now)) part) }
+{
+    granted_is_threshold::<ID, V, P, QS>();
+    part.cmp(progress.granted()).is_le()
+}
+
+/// Takes an ack, which is a step of a run.
+fn acked<
+    ID: Copy + Ord,
+    V: ProgressPart<P> + PartialOrd + Clone + Drop,
+    P: Copy + Ord,
+    QS: QuorumSet<ID> + Drop,
+>(progress: &mut VecProgress<ID, V, P, QS>, id: &ID, value: V)
+    requires ordered { IsInOrder ID.eq P.cmp V.part_of QS.has_quorum (shown progress.old) }
+    requires not_lower { IsNotLower ID.eq P.cmp V.part_of (shown progress.old) id.now value }
+    ensures { let by = comparisons ID.Ord P.Ord V.PartialOrd V.ProgressPart V.Clone in
+        (reply : Reply ID P) × IsShownStep by QS.has_quorum QS.is_voter (shown progress.old)
+        (Update id.now value) reply (shown progress.new) }
+{
+    calls_are_runs::<ID, V, P, QS>();
+    let _ = progress.update(id, value);
+}
+
+/// What is granted over quorums that share voters, of whatever kind: each of them knows it.
+fn granted_of<ID: Copy + Ord, V: ProgressPart<P> + Drop, P: Copy + Ord, QS: QuorumSet<ID> + Drop>(
+    progress: &VecProgress<ID, V, P, QS>,
+) -> P
+    requires ordered { IsInOrder ID.eq P.cmp V.part_of QS.has_quorum (shown progress.now) }
+    requires share { QuorumsShareVoter P.cmp V.part_of QS.has_quorum
+        (state ID.eq (shown progress.now)) }
+    ensures { QuorumsHavePart P.cmp V.part_of QS.has_quorum
+        (state ID.eq (shown progress.now)) result }
+{
+    meeting_quorums_know_granted::<ID, V, P, QS>();
+    *progress.granted()
+}
+
+/// Whether two progresses of the same voters and values grant the same, however they came to be.
+fn grant_alike<ID: Copy + Ord, V: ProgressPart<P> + Drop, P: Copy + Ord, QS: QuorumSet<ID> + Drop>(
+    one: &VecProgress<ID, V, P, QS>,
+    other: &VecProgress<ID, V, P, QS>,
+) -> bool
+    requires one { IsInOrder ID.eq P.cmp V.part_of QS.has_quorum (shown one.now) }
+    requires other { IsInOrder ID.eq P.cmp V.part_of QS.has_quorum (shown other.now) }
+    requires same { IsSame (state ID.eq (shown one.now)) (state ID.eq (shown other.now)) }
+    ensures { IsTrue result }
+{
+    counted_values_tie::<ID, V, P, QS>();
+    one.granted().cmp(other.granted()).is_eq()
+}
+
+/// A clone that may go on with updates, without a test of its order.
+fn copy_of<
+    ID: Copy + Ord,
+    V: ProgressPart<P> + Clone + Drop,
+    P: Copy + Ord,
+    QS: QuorumSet<ID> + Clone + Drop,
+>(progress: &VecProgress<ID, V, P, QS>) -> Result<VecProgress<ID, V, P, QS>, AllocError>
+    requires ordered { IsInOrder ID.eq P.cmp V.part_of QS.has_quorum (shown progress.now) }
+    requires values { (v w : V) → V.is_clone v w → V.part_of w ≡ V.part_of v }
+    requires quorum_sets { (c d : QS) → QS.is_clone c d → (set : ID → Bool) →
+        QS.has_quorum d set ≡ QS.has_quorum c set }
+    ensures { IfOk result (λ copy.
+        IsInOrder ID.eq P.cmp V.part_of QS.has_quorum (shown copy)) }
+{
+    clones_keep_order::<ID, V, P, QS>();
+    progress.clone()
+}
+
+/// Makes a step, a change of the members say, if a match is granted: then each quorum of the members
+/// that there are now still has a voter that matches it, though less may be granted.
+fn step_once_granted<NID: NodeId, N: Node>(
+    alloc: Global,
+    cluster: &mut Tracked<NID, N, u64, u64>,
+    matched: u64,
+    step: Vec<Step<NID, N, u64>>,
+) -> Result<bool, AllocError>
+    requires nodes { ClonesAreEqual N.eq N.is_clone }
+    requires one { length step.items ≡ 1 }
+    ensures { 0 < length (tracked cluster.old).membership.configs →
+        QuorumsKnow NID.eq nat_cmp (λ (v : ℕ). v) (tracked cluster.old) matched →
+        IfOk result (λ _. (0 < length (tracked cluster.new).membership.configs)
+        × QuorumsKnow NID.eq nat_cmp (λ (v : ℕ). v) (tracked cluster.new) matched) }
+{
+    if *cluster.progress().granted() < matched {
+        return Ok(false);
+    }
+    quorums_know_granted(cluster);
+    known_stays::<NID, N, u64, u64>();
+    let _replies = replay(alloc, cluster, step)?;
+    Ok(true)
+}
+
+/// Takes acks, which change no members: what each quorum knew it knows.
+fn take_acks<NID: NodeId, N: Node>(
+    alloc: Global,
+    cluster: &mut Tracked<NID, N, u64, u64>,
+    acks: Vec<Step<NID, N, u64>>,
+) -> Result<(), AllocError>
+    requires nodes { ClonesAreEqual N.eq N.is_clone }
+    requires acks { list_any is_change acks.items ≡ false }
+    ensures configs { IfOk result (λ _. (tracked cluster.new).membership
+        ≡ (tracked cluster.old).membership) }
+    ensures known { IfOk result (λ _. (p : ℕ) →
+        QuorumsKnow NID.eq nat_cmp (λ (v : ℕ). v) (tracked cluster.old) p →
+        QuorumsKnow NID.eq nat_cmp (λ (v : ℕ). v) (tracked cluster.new) p) }
+{
+    known_stays::<NID, N, u64, u64>();
+    let _replies = replay(alloc, cluster, acks)?;
+    Ok(())
+}
+
+/// Makes two steps, each if a match is granted, with acks between: over both changes each quorum of
+/// the members has a voter that matches it.
+fn change_twice<NID: NodeId, N: Node>(
+    alloc: Global,
+    cluster: &mut Tracked<NID, N, u64, u64>,
+    matched: u64,
+    first: Vec<Step<NID, N, u64>>,
+    acks: Vec<Step<NID, N, u64>>,
+    second: Vec<Step<NID, N, u64>>,
+) -> Result<bool, AllocError>
+    requires nodes { ClonesAreEqual N.eq N.is_clone }
+    requires first { length first.items ≡ 1 }
+    requires acks { list_any is_change acks.items ≡ false }
+    requires second { length second.items ≡ 1 }
+    ensures { 0 < length (tracked cluster.old).membership.configs →
+        QuorumsKnow NID.eq nat_cmp (λ (v : ℕ). v) (tracked cluster.old) matched →
+        IfOk result (λ _.
+        QuorumsKnow NID.eq nat_cmp (λ (v : ℕ). v) (tracked cluster.new) matched) }
+{
+    let _is_changed = step_once_granted(alloc, cluster, matched, first)?;
+    take_acks(alloc, cluster, acks)?;
+    let is_changed = step_once_granted(alloc, cluster, matched, second)?;
+    Ok(is_changed)
+}
+
+/// Whether a candidate has won, whose log ends at an index that is at least the match of each who
+/// voted for it. Where it has, no more than that is committed: it lacks nothing.
+fn has_won<NID: NodeId, N: Node>(
+    matches: &Tracked<NID, N, u64, u64>,
+    votes: &Tracked<NID, N, bool, bool>,
+    last: u64,
+) -> bool
+    requires one_change { is_coherent NID.eq (tracked matches.now).membership.configs
+        (tracked votes.now).membership.configs ≡ true }
+    requires from_false { (tracked votes.now).progress.default_part ≡ false }
+    requires up_to_date { NoneVotedPast NID.eq NID.cmp nat_cmp (λ (v : ℕ). v) bool_cmp
+        (λ (v : Bool). v) (tracked matches.now) (tracked votes.now) last }
+    ensures { IsTrue result → AtMost nat_cmp (tracked matches.now).progress.granted last }
+{
+    quorums_know_granted(matches);
+    quorums_know_granted(votes);
+    granted_meet::<NID, N, N, u64, u64, bool, bool>();
+    *votes.progress().granted()
+}
+
+/// Runs a search over logs that are not purged past the match: the sharper bound holds.
+fn conflicts_of<C: Ord + Copy, L: LogStateReader<C>>(
+    entry: &mut ProgressEntryOf<C>,
+    events: &[SearchEvent<'_, L>],
+) -> u64
+    requires can { CanSearch entry.old }
+    requires purged { AllByRecursion (IsPurgedWithin L.log_view (next_index entry.old.matching))
+        events.now }
+    ensures { (k : ℕ) → stretch entry.old / 16 < 2 ^ k → result ≤ k }
+{
+    none_purged_past::<C, L>();
+    search_run(entry, events)
+}
+
+/// Voters 1 to 3 of a cluster, and a fourth node.
+fn cluster<V: ProgressPart<V> + Copy + Ord + Drop>(
+    alloc: Global,
+    default: V,
+) -> Result<Tracked<u64, EmptyNode, V, V>, AllocError>
+    requires { (w : V) → V.is_clone default w → V.part_of w ≡ V.part_of default }
+{
+    let mut nodes = BTreeMap::new(alloc);
+    for id in 1..4u64 {
+        nodes.insert(id, EmptyNode::new())?;
+    }
+    Tracked::new(Membership::from_nodes(alloc, nodes)?, default)
+}
+
+/// A change to the voters 1 and 2, as a list of steps.
+fn change_to_two(alloc: Global) -> Result<Vec<Step<u64, EmptyNode, u64>>, AllocError>
+    ensures { IfOk result (λ steps. length steps.items ≡ 1) }
+{
+    let change = ChangeMembers::replace_all(alloc, &[1, 2])?;
+    let steps = vec![in alloc;
+        Step::Change {
+            change,
+            retain: true,
+            default: 0
+        },
+    ]?;
+    Ok(steps)
+}
+
+#[test]
+fn a_match_stays_known_over_two_changes(rt: HostRuntime) -> Result<(), Fail> {
+    let alloc = rt.alloc();
+    let mut cluster = cluster(alloc, 0u64)?;
+    take_acks(
+        alloc,
+        &mut cluster,
+        vec![in alloc; Step::Update(1, 4), Step::Update(2, 4)]?,
+    )?;
+    let acks = vec![in alloc; Step::Update(1, 5)]?;
+    let first = change_to_two(alloc)?;
+    let second = change_to_two(alloc)?;
+    assert!(rt; change_twice(alloc, &mut cluster, 4, first, acks, second)?);
+    assert_eq!(rt; *cluster.progress().granted(), 4);
+    Ok(())
+}
+
+#[test]
+fn a_copy_grants_alike(rt: HostRuntime) -> Result<(), Fail> {
+    let progress = made(&rt, rt.alloc(), first_ids(rt.alloc(), 3)?, &[5], 7u64)?;
+    let copy = progress.clone()?;
+    assert_eq!(rt; *copy.granted(), 7);
+    Ok(())
+}

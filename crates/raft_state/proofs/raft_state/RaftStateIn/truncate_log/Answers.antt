@@ -1,0 +1,12 @@
+use Rattle.raft_state.proofs.ExtendLemmas.{is_key_list}
+use Rattle.raft_state.proofs.FrontLemmas.{from_first}
+use Rattle.raft_state.proofs.TruncateLemmas.{cut_stays_valid}
+use Rattle.raft_state.specs.FullLog.{first_index, full_log}
+use Rattle.raft_state.proofs.raft_state.RaftStateIn.truncate_log.Goals as goal
+
+pub returns-clause-valid : goal.returns-clause-valid
+returns-clause-valid g c valid =
+    let s = c.args.self.now in
+    let canonical = rw c.key_log_ids-keys.ensures.keys at c.key_log_ids-keys.ensures.canonical in
+    let row = from_first g.C.Ord.cmp s.log_ids (is_key_list g.C.Ord.cmp s.log_ids canonical) in
+    cut_stays_valid g.met.C.Ord.total s c.args.since (first_index (full_log s.log_ids)) c.truncate.new.self c.revert.new.self row c.truncate.ensures c.in_ok-reverted.ensures.ok c.requires valid

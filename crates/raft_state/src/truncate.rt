@@ -1,0 +1,79 @@
+//! Cutting off the end of a log, with the memberships in it.
+ghost use Rattle.std.specs.Prelude.{◌≡◌, None, false, IsTrue, IfOk, IsOk, OnOk, OnErr};
+ghost use Rattle.raft_state.specs.FullLog.{full_log};
+ghost use Rattle.raft_state.specs.LogEdits.{front};
+ghost use Rattle.raft_state.specs.LogReads.{last_id};
+ghost use Rattle.raft_state.specs.MembershipMoves.{after_truncate, is_cut};
+ghost use Rattle.raft_state.specs.Truncate.{may_truncate};
+ghost use Rattle.raft_state.specs.Valid.{broken_relation};
+
+use crate::log_id_list::LogIdListOf;
+use crate::raft_state::RaftStateIn;
+use raft_base::order::{index_below, log_id_at_most};
+use raft_base::{Instant, LeaderIdentity, LogIdOf, LogIdOptionExt, Node, NodeId};
+use std::alloc::AllocError;
+
+impl<
+    NID: NodeId,
+    N: Node,
+    I: Instant,
+    C: Ord + Copy + Default + Drop + 'static,
+    L: LeaderIdentity<Id = NID, Committed = C> + Drop,
+> RaftStateIn<NID, N, I, L, C> {
+    /// Whether `truncate_log` may be called with an index: it is past what is committed, the
+    /// committed log id is not above the last one that stays, and the memberships may be cut there.
+    ///
+    /// The second says more than the first only where the committed log id is not in the log: log
+    /// ids compare by their leaders first.
+    pub fn can_truncate_log(&self, since: u64) -> bool
+        ensures { result ≡ may_truncate C.cmp since self.now }
+    {
+        index_below(self.committed.index(), Some(since))
+            && log_id_at_most(self.committed, last_below(&self.log_ids, since))
+            && self.membership_state.can_truncate(since)
+    }
+
+    /// Cuts the log off from an index on, as a follower does with log ids that conflict with the
+    /// leader's; where `can_truncate_log` is true. True where the effective membership was cut off
+    /// with it, and the committed one is effective again: only that wants memory. A valid state
+    /// stays valid.
+    ///
+    /// After an error nothing has changed.
+    pub fn truncate_log(&mut self, since: u64) -> Result<bool, AllocError>
+        requires { IsTrue (may_truncate C.cmp since self.old) }
+        ensures log { OnOk result
+            (full_log self.new.log_ids ≡ front (full_log self.old.log_ids) since) }
+        ensures ok { OnOk result (self.new ≡ record self.old {
+          log_ids = self.new.log_ids;
+          membership_state = after_truncate since self.old.membership_state;
+        }) }
+        ensures answer { IfOk result (λ reverted.
+            reverted ≡ is_cut since self.old.membership_state) }
+        ensures err { OnErr result (self.new ≡ self.old) }
+        ensures valid { broken_relation C.cmp self.old ≡ None →
+            broken_relation C.cmp self.new ≡ None }
+        ensures no_memory { is_cut since self.old.membership_state ≡ false → IsOk result }
+    {
+        // Its contract says that indexes are consecutive.
+        let _keys = self.log_ids.key_log_ids();
+        let reverted = self.membership_state.revert(since)?;
+        self.log_ids.truncate(since);
+        Ok(reverted)
+    }
+}
+
+/// The last log id with an index below this one, if there is one.
+pub(crate) fn last_below<C: Ord + Copy>(log_ids: &LogIdListOf<C>, index: u64) -> Option<LogIdOf<C>>
+    ensures { result ≡ last_id (front (full_log log_ids.now) index) }
+{
+    // Its contract says that indexes are consecutive.
+    let _keys = log_ids.key_log_ids();
+    let last = log_ids.last().copied();
+    if index_below(last.index(), Some(index)) {
+        last
+    } else if index == 0 {
+        None
+    } else {
+        log_ids.get(index - 1)
+    }
+}
