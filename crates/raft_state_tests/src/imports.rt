@@ -243,7 +243,7 @@ mod state {
         };
     }
 
-    mod raft_state {
+    mod whole_state {
         pub use raft_state::raft_state::{
             Accepted, ChangeHandler, IOState, LogIOId, LogStateReader, MembershipState, RaftState,
             RaftStateIn, RaftStateOf, SnapshotMeta, VoteStateReader,
