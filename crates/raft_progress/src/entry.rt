@@ -18,6 +18,7 @@ pub use crate::search::{SearchEvent, search_run};
 use raft_base::{
     CommittedLeaderId, DisplayOption, Invalid, LogIdOf, LogIdOptionExt, LogStateReader, Validate,
 };
+use std::alloc::AllocError;
 use std::fmt;
 
 /// What a leader keeps of a follower.
@@ -25,7 +26,7 @@ use std::fmt;
 /// The last log that both have lies from the match on and below the end of the search. Probes
 /// narrow this stretch: logs are sent that begin inside it, and an ack raises the match, a conflict
 /// lowers the end. Its part in a progress is the match.
-#[derive(Clone, Copy, PartialEq, Eq)]
+#[derive(Copy, PartialEq, Eq)]
 pub struct ProgressEntryOf<C> {
     /// The last log id that is known to match.
     pub matching: Option<LogIdOf<C>>,
@@ -39,6 +40,15 @@ pub struct ProgressEntryOf<C> {
 
 /// What a leader keeps of a follower, with the default leader ids.
 pub type ProgressEntry<NID> = ProgressEntryOf<CommittedLeaderId<NID>>;
+
+// By hand, since a derived one clones the leaders, and a clone of a leader need not be the same.
+impl<C: Copy> Clone for ProgressEntryOf<C> {
+    ghost is_clone = { λ entry copy. copy ≡ entry };
+
+    fn clone(&self) -> Result<Self, AllocError> {
+        Ok(*self)
+    }
+}
 
 impl<C: Ord + Copy> ProgressPart<Option<LogIdOf<C>>> for ProgressEntryOf<C> {
     ghost part_of = { λ entry. entry.matching };

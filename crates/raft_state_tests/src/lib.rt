@@ -31,8 +31,9 @@ mod region;
 mod rows;
 #[cfg(test)]
 mod texts;
+pub mod turn;
 #[cfg(test)]
-mod turn;
+mod turns;
 #[cfg(test)]
 mod whole;
 #[cfg(test)]

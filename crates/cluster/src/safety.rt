@@ -1,0 +1,107 @@
+//! What Raft promises of a whole cluster, looked after at each event.
+
+use crate::server::{Role, Server};
+use crate::types::{Leader, LogId};
+use anyhow::{Result, bail, ensure};
+use raft_base::{LeaderKind, LogIdOptionExt, LogStateReader, Validate, log_id_at_most};
+use std::alloc::Global;
+use std::collections::BTreeMap;
+
+/// Who was elected, and what was committed.
+#[derive(Drop)]
+pub struct History<K: LeaderKind<u64>> {
+    /// The server that each leader is.
+    leaders: BTreeMap<Leader<K>, u64>,
+    /// The log id at each index, and the leader under which it was first known to be committed.
+    committed: Vec<(LogId<K>, Leader<K>)>,
+}
+
+impl<K: LeaderKind<u64>> History<K> {
+    /// Nothing has happened.
+    pub fn new(alloc: Global) -> Self {
+        History {
+            leaders: BTreeMap::new(alloc),
+            committed: Vec::new(alloc),
+        }
+    }
+
+    /// A server is elected: it has to be the only leader of that id, and to have in its log all that
+    /// was committed under earlier ones.
+    pub fn elect(&mut self, server: &Server<K>) -> Result<()> {
+        let leader = K::to_committed(server.vote().leader_id());
+        let before = self.leaders.insert(leader, server.id)?;
+        ensure!(
+            before.is_none_or(|id| id == server.id),
+            "two leaders {leader}"
+        );
+        let state = &server.state;
+        for (log_id, by) in &self.committed {
+            let has_it = log_id.index < state.purged_next
+                || state.get_log_id(log_id.index) == Some(*log_id);
+            ensure!(has_it || leader <= *by, "leader {leader} lacks {log_id}");
+        }
+        Ok(())
+    }
+
+    /// A server knows more to be committed, which has to be what others know. It answers how many
+    /// entries nobody knew of.
+    pub fn commit(&mut self, server: &Server<K>) -> Result<u64> {
+        let state = &server.state;
+        let by = K::to_committed(server.vote().leader_id());
+        let known = self.committed.len();
+        let first = state.last_purged_log_id().copied().index().unwrap_or(0);
+        for index in first..state.committed.next_index() {
+            let Some(log_id) = state.get_log_id(index) else {
+                bail!("{index} is committed and not in the log");
+            };
+            match self.committed.get(index as usize) {
+                Some(known) => ensure!(known.0 == log_id, "{log_id} and {} committed", known.0),
+                None => self.committed.push((log_id, by))?,
+            }
+        }
+        Ok(self.committed.len().saturating_sub(known) as u64)
+    }
+}
+
+/// Whether a server is well by itself: its state is valid, its disk has its log, and as a leader it
+/// knows of no match past it.
+pub fn check_server<K: LeaderKind<u64>>(server: &Server<K>) -> Result<()> {
+    let state = &server.state;
+    state.validate()?;
+    ensure!(
+        state.purge_upto_is_logged(),
+        "the purge point is not logged"
+    );
+    let last = server.last();
+    let length = last.next_index().saturating_sub(state.purged_next);
+    ensure!(
+        server.disk.len() as u64 == length,
+        "the disk has another log"
+    );
+    if let Role::Leader(followers) = &server.role {
+        for (id, follower) in followers.iter() {
+            ensure!(
+                log_id_at_most(follower.matching, last),
+                "{id} matches past the log"
+            );
+        }
+    }
+    Ok(())
+}
+
+/// Whether two servers have the same entries up to the last log id that both have.
+pub fn check_match<K: LeaderKind<u64>>(one: &Server<K>, other: &Server<K>) -> Result<()> {
+    let mut is_shared = false;
+    for (index, entry) in one.disk.iter().rev() {
+        let Some(second) = other.disk.get(index) else {
+            continue;
+        };
+        if second.log_id == entry.log_id {
+            is_shared = true;
+            ensure!(second == entry, "two entries {}", entry.log_id);
+        } else {
+            ensure!(!is_shared, "logs part at {index} and meet later");
+        }
+    }
+    Ok(())
+}

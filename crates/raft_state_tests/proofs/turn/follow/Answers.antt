@@ -1,7 +1,0 @@
-use Rattle.raft_progress.specs.progress.VecProgress.{shown}
-use Rattle.raft_state_tests.proofs.InOrderLemmas.{still_in_order}
-use Rattle.raft_state_tests.proofs.turn.follow.Goals as goal
-
-pub upgrade_quorum_set-requires-clause-ordered : goal.upgrade_quorum_set-requires-clause-ordered
-upgrade_quorum_set-requires-clause-ordered c =
-    still_in_order (shown c.args.followers.now) (shown c.is_in_order.new.self) c.is_in_order.ensures.same (c.is_in_order.ensures.answer.0 c.if-not-is_in_order.false)

@@ -1,0 +1,43 @@
+//! A follower's turn with what a leader sends.
+
+use super::message::{Logs, Outcome};
+use super::types::State;
+use anyhow::{Result, ensure};
+use raft_base::{LeaderKind, LogStateReader};
+
+/// Takes a leader's logs: what conflicts is cut off, what is new is appended, and what the leader
+/// has committed of them is committed.
+pub fn take_logs<K: LeaderKind<u64>>(state: &mut State<K>, logs: &Logs<K>) -> Result<Outcome<K>> {
+    if let Some(prev) = &logs.prev {
+        ensure!(state.can_ask(prev), "{prev} is unheard of");
+        if !state.has_log_id(prev) {
+            cut::<K>(state, prev.index)?;
+            return Ok(Outcome::Conflicts(prev.index));
+        }
+    }
+    ensure!(state.can_ask_all(&logs.entries), "entries are unheard of");
+    let new = &logs.entries[state.first_conflicting_index(&logs.entries)..];
+    if let Some(first) = new.first() {
+        cut::<K>(state, first.log_id.index)?;
+    }
+    ensure!(state.can_append_entries(new), "entries do not follow");
+    state.append_entries(new)?;
+    ensure!(state.can_accept(), "it has accepted a greater leader's");
+    state.update_accepted(logs.last());
+    let committed = logs.committed.min(state.accepted().copied());
+    ensure!(state.can_commit(&committed), "members are not in turn");
+    state.update_committed(&committed)?;
+    Ok(Outcome::Matches(logs.last()))
+}
+
+/// Cuts a log off from an index on, if it goes so far.
+fn cut<K: LeaderKind<u64>>(state: &mut State<K>, since: u64) -> Result<()> {
+    if state.get_log_id(since).is_some() {
+        ensure!(
+            state.can_truncate_log(since),
+            "{since} is committed and would be cut off"
+        );
+        state.truncate_log(since)?;
+    }
+    Ok(())
+}
