@@ -1,10 +1,9 @@
 -- Calls of a progress are steps of a run, and runs compose.
-use Rattle.std.specs.Prelude.{◌≡◌, Bool, true, false, List, [], ◌∷◌, ◌++◌, None, MatchBool, Option, Some, not, refl}
+use Rattle.std.specs.Prelude.{◌≡◌, Bool, true, false, [], ◌∷◌, None, MatchBool, Option, Some, not, refl}
 use Rattle.std.specs.Cmp.{IsEquivalence, IsTotalOrder}
 use Rattle.std.specs.Option.{ForSome, is_some}
 use Rattle.std.specs.Ordering.{is_lt, partial_gt}
-use Rattle.std.specs.declared.cmp.Ordering.{Ordering}
-use Rattle.std.proofs.Common.{ap, subst, sym, ◌∙◌, true≢false}
+use Rattle.std.proofs.Common.{ap, subst, sym, true≢false}
 use Rattle.raft_progress.specs.progress.Calls.{Compose, IncreasesAreSteps, UpdatesAreSteps, UpgradesAreSteps}
 use Rattle.raft_progress.specs.progress.Comparisons.{Comparisons}
 use Rattle.raft_progress.specs.progress.CountedValue.{AtMost, IsCounted}

@@ -1,21 +1,19 @@
 -- What was granted before a change is known after it.
-use Rattle.std.specs.Prelude.{◌≡◌, ◌<◌, ◌*◌, ℕ, Bool, true, false, ◌&&◌, ◌||◌, cond, List, [], ◌∷◌, Option, Some, None, count_by, length, nat_lt, refl}
+use Rattle.std.specs.Prelude.{◌≡◌, ◌*◌, ℕ, Bool, true, false, ◌&&◌, ◌||◌, cond, List, [], ◌∷◌, Option, Some, None, count_by, length, nat_lt, refl}
 use Rattle.std.specs.Cmp.{IsEquivalence, IsTotalOrder, first_so, second_so}
 use Rattle.std.specs.Cmp.Derive.{both_true}
 use Rattle.std.specs.Ordering.{is_le}
 use Rattle.std.specs.declared.cmp.Ordering.{Ordering}
-use Rattle.std.specs.List.{AllByRecursion, list_all}
+use Rattle.std.specs.List.{AllByRecursion}
 use Rattle.std.specs.Set.{is_member, unique_keys}
 use Rattle.std.proofs.Common.{arith, ap, subst, sym, ◌∙◌, true≢false}
 use Rattle.std.proofs.lemmas.List.Sums.{sum_by-cons}
 use Rattle.raft_members.specs.Majority.{is_joint_majority, is_majority, is_voter_of}
-use Rattle.raft_members.specs.declared.change_members.ChangeMembers.{ChangeMembers}
 use Rattle.raft_members.proofs.MajorityLemmas.{is_member-unique_keys}
 use Rattle.raft_progress.specs.progress.CountedValue.{has_part}
 use Rattle.raft_progress.specs.progress.Shown.{state}
 use Rattle.raft_progress.specs.progress.Upgrade.{Inherits}
 use Rattle.raft_progress.specs.tracked.Known.{ChangeKeepsGranted}
-use Rattle.raft_progress.specs.tracked.TrackedState.{IsReady, TrackedShown, is_voter}
 use Rattle.raft_progress.proofs.HeadlineLemmas.{each_quorum_knows}
 use Rattle.raft_progress.proofs.ListLemmas.{all_weaker, or_right}
 

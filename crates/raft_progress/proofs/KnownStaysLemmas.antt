@@ -1,9 +1,8 @@
 -- What each quorum knows it knows after a run, over the changes that are made while it is granted.
 use Rattle.std.specs.Prelude.{◌≡◌, ◌<◌, Bool, true, false, ◌&&◌, ◌||◌, cond, length, not, List, [], ◌∷◌, Option, Some, None, MatchBool, refl}
 use Rattle.std.specs.Cmp.{IsEquivalence, IsTotalOrder}
-use Rattle.std.specs.Ordering.{is_le, is_lt}
+use Rattle.std.specs.Ordering.{is_lt}
 use Rattle.std.specs.declared.cmp.Ordering.{Ordering}
-use Rattle.std.specs.List.{list_any}
 use Rattle.std.proofs.Common.{arith, ap, subst, sym, ◌∙◌, true≢false}
 use Rattle.raft_members.specs.Coherence.{is_coherent}
 use Rattle.raft_members.specs.Majority.{is_joint_majority}
@@ -14,9 +13,8 @@ use Rattle.raft_progress.specs.progress.Answered.{IsAnswered, is_refused}
 use Rattle.raft_progress.specs.progress.Comparisons.{Comparisons}
 use Rattle.raft_progress.specs.progress.CountedValue.{AtMost, IsCounted, has_part}
 use Rattle.raft_progress.specs.progress.ProgressState.{IsSame, ProgressState, Writes}
-use Rattle.raft_progress.specs.progress.Run.{Runs}
-use Rattle.raft_progress.specs.progress.Shown.{Shown, state}
-use Rattle.raft_progress.specs.progress.Steps.{IsIncreased, IsWritten, falls, stays}
+use Rattle.raft_progress.specs.progress.Shown.{state}
+use Rattle.raft_progress.specs.progress.Steps.{IsIncreased, IsWritten, stays}
 use Rattle.raft_progress.specs.tracked.Known.{GrantedAtChanges, KnownOverChanges, KnownStays, QuorumsKnow, granted_after}
 use Rattle.raft_progress.specs.tracked.TrackedShownSteps.{IsTrackedDone, IsTrackedShownRun, IsTrackedShownStep, is_change}
 use Rattle.raft_progress.specs.tracked.TrackedState.{Configs, IsReady, TrackedShown, has_quorum}

@@ -1,15 +1,15 @@
 -- What the events of a search keep of an entry: its match, and that the search ends no later.
-use Rattle.std.proofs.Common.{◌≡◌, ◌∙◌, ◌≤◌, ℕ, Bool, true, false, nat_le, nat_lt, ◌&&◌, ◌||◌, ◌==◌, ◌+◌, if◌then◌else◌, Result, Ok, Err, Option, Some, None, List, [], ◌∷◌, length, drop, refl, sym, subst, arith}
+use Rattle.std.proofs.Common.{◌≡◌, ◌∙◌, ◌≤◌, ℕ, Bool, true, false, nat_le, nat_lt, ◌&&◌, ◌||◌, ◌==◌, ◌+◌, if◌then◌else◌, Result, Ok, Err, List, [], ◌∷◌, length, drop, refl, sym, subst, arith}
 use Rattle.std.proofs.lemmas.Bool.Decides.{nat_tests}
 use Rattle.std.proofs.lemmas.List.{at_drop_all}
 use Rattle.std.specs.declared.cmp.Ordering.{Ordering}
 use Rattle.raft_base.specs.LogId.{next_index}
 use Rattle.raft_base.specs.LogView.{LogView, prev_id}
-use Rattle.raft_progress.specs.entry.EntryTable.{entry_after_conflict, with_search_end}
+use Rattle.raft_progress.specs.entry.EntryTable.{with_search_end}
 use Rattle.raft_progress.specs.entry.Send.{can_be_sent, end_of, send_table, start_of}
 use Rattle.raft_progress.specs.inflight.Inflight.{is_idle, logs_from}
 use Rattle.raft_progress.specs.inflight.InflightTable.{inflight_after_conflict}
-use Rattle.raft_progress.specs.search.Search.{Search, after_event, after_events, after_reply, after_send, after_sending}
+use Rattle.raft_progress.specs.search.Search.{Search, after_event, after_events, after_reply, after_send}
 use Rattle.raft_progress.specs.declared.entry.ProgressEntryOf.{ProgressEntryOf}
 use Rattle.raft_progress.specs.declared.inflight.InflightError.{InflightError}
 use Rattle.raft_progress.specs.declared.inflight.InflightError.TheVariants.{ConflictBelowMatching}

@@ -1,13 +1,10 @@
 -- The bounds on the conflicts that a search accepts.
-use Rattle.std.specs.Prelude.{⊤}
-use Rattle.std.specs.List.{AllByRecursion}
-use Rattle.std.proofs.Common.{◌≡◌, ◌∙◌, Bool, true, false, ◌&&◌, nat_le, if◌then◌else◌, ℕ, zero, suc, ◌+◌, ◌/◌, ◌^◌, ◌<◌, ◌≤◌, refl, sym, ap, arith, List, [], ◌∷◌, IfSome, length, get_or, drop, drop-cons, add-one}
+use Rattle.std.proofs.Common.{◌≡◌, ◌∙◌, ℕ, zero, suc, ◌+◌, ◌/◌, ◌^◌, ◌<◌, ◌≤◌, refl, sym, ap, arith, List, [], ◌∷◌, IfSome, length, get_or, drop, drop-cons, add-one}
 use Rattle.std.proofs.lemmas.List.{at_drop_all}
 use Rattle.std.specs.declared.cmp.Ordering.{Ordering}
 use Rattle.raft_base.specs.LogId.{next_index}
 use Rattle.raft_base.specs.LogView.{LogView}
-use Rattle.raft_progress.specs.entry.Send.{can_be_sent, send_table}
-use Rattle.raft_progress.specs.search.Search.{CanSearch, NonePurgedPast, Search, after_event, after_events, after_send, new_search, stretch}
+use Rattle.raft_progress.specs.search.Search.{CanSearch, NonePurgedPast, Search, after_event, after_events, new_search, stretch}
 use Rattle.raft_progress.specs.declared.entry.ProgressEntryOf.{ProgressEntryOf}
 use Rattle.raft_progress.specs.declared.search.SearchEvent.{SearchEvent}
 use Rattle.raft_progress.specs.declared.search.SearchEvent.TheVariants.{Send, Conflict, Heartbeat}

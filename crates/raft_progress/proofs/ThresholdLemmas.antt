@@ -1,5 +1,5 @@
 -- What granted says of any part and of any quorum.
-use Rattle.std.specs.Prelude.{◌≡◌, ◌⊎◌, ℕ, Bool, true, false, ◌&&◌, List, [], ◌∷◌, Option, Some, None, map, take}
+use Rattle.std.specs.Prelude.{◌≡◌, ◌⊎◌, Bool, true, false, ◌&&◌, List, [], ◌∷◌, Option, Some, None, take}
 use Rattle.std.specs.Cmp.{IsEquivalence, IsTotalOrder, first_so, second_so}
 use Rattle.std.specs.Ordering.{is_le, is_lt}
 use Rattle.std.specs.declared.cmp.Ordering.{Ordering}
@@ -13,7 +13,7 @@ use Rattle.raft_progress.specs.Inner.Recount.{at_least}
 use Rattle.raft_progress.specs.progress.CountedValue.{AtMost, has_part, reached}
 use Rattle.raft_progress.specs.progress.InOrder.{IsInOrder}
 use Rattle.raft_progress.specs.progress.Shown.{Shown, state}
-use Rattle.raft_progress.specs.progress.Threshold.{CountedValuesTie, GrantedIsThreshold, MeetingQuorumsKnowGranted, QuorumReached}
+use Rattle.raft_progress.specs.progress.Threshold.{CountedValuesTie, GrantedIsThreshold, QuorumReached}
 use Rattle.raft_progress.proofs.CountedAfreshLemmas.{found, members, voter_value}
 use Rattle.raft_progress.proofs.HeadlineLemmas.{granted_reached}
 use Rattle.raft_progress.proofs.InOrderLemmas.{counted_once, counted_tied}

@@ -1,5 +1,6 @@
 -- What the private functions do, one step at a time. No public contract cites these words.
 pub mod Conditions
+pub mod Lent
 pub mod Placed
 pub mod Places
 pub mod Recount

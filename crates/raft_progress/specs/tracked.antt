@@ -6,6 +6,7 @@ pub mod Over
 pub mod TrackedSteps
 pub mod TrackedShownSteps
 pub mod SingleSteps
+pub mod TrackedCalls
 pub mod Headline
 pub mod Known
 pub mod Elected

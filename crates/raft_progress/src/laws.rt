@@ -12,6 +12,7 @@ ghost use Rattle.raft_progress.specs.tracked.Headline.{ChangedQuorumsKnowGranted
 ghost use Rattle.raft_progress.specs.tracked.Headline.{QuorumsKnowGranted};
 ghost use Rattle.raft_progress.specs.tracked.Known.{ChangeKeepsGranted, KnownOverChanges, KnownStays};
 ghost use Rattle.raft_progress.specs.tracked.Tracked.{tracked};
+ghost use Rattle.raft_progress.specs.tracked.TrackedCalls.{ReplaysCompose, TrackedChangesAreSteps, TrackedUpdatesAreSteps};
 ghost use Rattle.raft_progress.specs.tracked.TrackedState.{IsReady, has_quorum};
 
 use crate::progress::ProgressPart;
@@ -96,6 +97,23 @@ pub fn calls_are_runs<
         IncreasesAreSteps ID V P QS by QS.has_quorum QS.is_voter }
     ensures upgrades { let by = comparisons ID.Ord P.Ord V.PartialOrd V.ProgressPart V.Clone in
         UpgradesAreSteps ID V P QS by QS.has_quorum QS.is_voter }
+{}
+
+/// The same of a membership with its progress: an update, and going over to what a change makes of
+/// the membership, are steps of a replay, and two replays, one from where the other has left, are
+/// one.
+pub fn tracked_calls_are_runs<
+    NID: NodeId,
+    N: Node,
+    V: ProgressPart<P> + PartialOrd + Clone,
+    P: Copy + Ord,
+>()
+    ensures compose { let by = comparisons NID.Ord P.Ord V.PartialOrd V.ProgressPart V.Clone in
+        ReplaysCompose NID N V P by N.eq }
+    ensures updates { let by = comparisons NID.Ord P.Ord V.PartialOrd V.ProgressPart V.Clone in
+        TrackedUpdatesAreSteps NID N V P by N.eq }
+    ensures changes { let by = comparisons NID.Ord P.Ord V.PartialOrd V.ProgressPart V.Clone in
+        TrackedChangesAreSteps NID N V P by N.eq }
 {}
 
 /// Once a change has been made, each quorum of the new membership has a voter whose present part is

@@ -11,7 +11,6 @@ use Rattle.raft_progress.specs.progress.Updated.{IsNotLower, IsNotLowerIfGreater
 use Rattle.raft_progress.specs.progress.Upgrade.{CanUpgrade, IsUpgraded}
 use Rattle.raft_progress.specs.declared.progress.steps.AnyStep.{AnyStep}
 use Rattle.raft_progress.specs.declared.progress.steps.AnyStep.TheVariants.{IncreaseTo, Update, Upgrade}
-use Rattle.raft_progress.specs.declared.progress.steps.Reply.{Reply}
 use Rattle.raft_progress.specs.declared.progress.steps.Reply.TheVariants.{Granted, Unknown}
 
 -- two runs, one from where the other has left, are one

@@ -1,7 +1,7 @@
 -- What a `VecProgress` shows, and what is left of one whose entries have been lent. This file and
 -- no other reads its private fields.
 use Rattle.raft_progress.specs.progress.Shown.{Shown}
-use Rattle.std.specs.Prelude.{List, ◌≤◌, true}
+use Rattle.std.specs.Prelude.{Bool, List, ◌≤◌, true}
 use Rattle.std.specs.Vec.{with_items}
 use Rattle.std.proofs.Common.{sym, ◌∙◌, subst, true≢false}
 use Rattle.std.specs.declared.cmp.Ord as order_ghosts
@@ -22,6 +22,12 @@ shown p =
       granted = p.granted;
       stat = p.stat;
     }
+
+-- whether its map of places is not asked any more
+abbrev pub is_stale : {ID V P QS : Type 0} {o : order_ghosts.Ghosts ID} {e : eq_ghosts.Ghosts ID}
+    {q : partial_ghosts.Ghosts ID}
+    → VecProgress ID V P QS o e q → Bool
+is_stale p = p.stale
 
 -- the progress with other entries in its walk, as many as before, and
 -- a map that is not asked any more

@@ -54,10 +54,11 @@ impl<
     ghost use Rattle.std.specs.Borrow.{sem};
     ghost use Rattle.std.specs.Slice.Iter.{iter_mut_name, iter_mut_rest};
     ghost use Rattle.std.specs.Fn.{FnOnceTakesAtMut};
-    ghost use Rattle.std.specs.Option.{ForSome, option_copied};
+    ghost use Rattle.std.specs.Option.{ForSome, option_copied, option_copied_mut};
     ghost use Rattle.std.specs.List.{IsDistinct};
     ghost use Rattle.raft_progress.specs.progress.CountedValue.{AtMost};
     ghost use Rattle.raft_progress.specs.progress.InOrder.{IsInOrder};
+    ghost use Rattle.raft_progress.specs.Inner.Lent.{LendsUnmarked};
     ghost use Rattle.raft_progress.specs.Inner.Settled.{IsPutInOrder, IsRisen, IsScanned};
     ghost use Rattle.raft_progress.specs.progress.Lends.{Leaves, LendsWalk};
     ghost use Rattle.raft_progress.specs.progress.NewProgress.{IsFirstWalk, IsNew, LearnersFit};
@@ -66,7 +67,7 @@ impl<
     ghost use Rattle.raft_progress.specs.progress.Upgrade.{CanUpgrade, IsLeastBelow};
     ghost use Rattle.raft_progress.specs.Inner.Conditions.{IsLeastPassing, among, is_value_below};
     ghost use Rattle.raft_progress.specs.progress.Statistics.{CountsGoOn, no_counts};
-    ghost use Rattle.raft_progress.specs.progress.VecProgress.{shown};
+    ghost use Rattle.raft_progress.specs.progress.VecProgress.{is_stale, shown};
 
     /// A progress in which each voter and each learner has a clone of the default.
     ///
@@ -264,6 +265,21 @@ impl<
         self.walk.iter_mut()
     }
 
+    /// The value of an id, to be written. The map is not marked as stale, since no id is lent.
+    fn value_mut(&mut self, id: &ID) -> Option<&mut V>
+        ensures* writes_back { sem 𝓛 (LendsUnmarked ID.row V.row P.row QS.row ID.Ord.own
+            ID.PartialEq ID.PartialOrd.own self.entry id.now result) }
+        ensures value { option_copied_mut result ≡ (state ID.eq (shown self.old)).value id.now }
+    {
+        match self.index(id) {
+            Some(place) => {
+                let entry = &mut self.walk[place];
+                Some(&mut entry.1)
+            }
+            None => None,
+        }
+    }
+
     /// Changes the value of an id by `f`, recounts granted, and answers whether the id is known.
     #[inline(always)]
     fn apply<F: FnOnce(&mut V)>(&mut self, id: &ID, f: F) -> bool
@@ -276,6 +292,7 @@ impl<
             (shown self.old) id.now (shown self.new) }
         ensures ordered { IsInOrder ID.eq P.cmp V.part_of QS.has_quorum (shown self.new) }
         ensures known { result ≡ is_some ((state ID.eq (shown self.old)).value id.now) }
+        ensures mark { is_stale self.new ≡ is_stale self.old }
     {
         if self.stale {
             return self.apply_searching(id, f);
@@ -297,6 +314,7 @@ impl<
             (shown self.old) id.now (shown self.new) }
         ensures ordered { IsInOrder ID.eq P.cmp V.part_of QS.has_quorum (shown self.new) }
         ensures known { result ≡ is_some ((state ID.eq (shown self.old)).value id.now) }
+        ensures mark { is_stale self.new ≡ is_stale self.old }
     {
         let found = self.place_in_walk(id);
         self.apply_at(found, f)
@@ -318,6 +336,7 @@ impl<
         ensures ordered { (id : ID) → found ≡ position (λ e. ID.eq id e.0) (shown self.old).walk →
             IsInOrder ID.eq P.cmp V.part_of QS.has_quorum (shown self.new) }
         ensures known { result ≡ is_some found }
+        ensures mark { is_stale self.new ≡ is_stale self.old }
     {
         // The proof knows that a count fits a u64 once it has been read.
         let _counts = (self.stat.move_count, self.stat.is_quorum_count);
@@ -340,8 +359,9 @@ impl<
         requires at { (e : ID × V) → slice_get (shown self.old).walk place ≡ Some e →
             after ≡ V.part_of e.1 }
         requires distinct { IsDistinct ID.eq (keys_of (shown self.old).walk) }
-        ensures { IsPutInOrder ID.eq P.cmp V.part_of QS.has_quorum
+        ensures put { IsPutInOrder ID.eq P.cmp V.part_of QS.has_quorum
             (shown self.old) place before (shown self.new) }
+        ensures mark { is_stale self.new ≡ is_stale self.old }
     {
         let granted = self.granted;
         if place >= self.voter_count || !granted.cmp(&after).is_lt() {
@@ -361,6 +381,7 @@ impl<
         requires { place < (shown self.old).voter_count }
         ensures risen { IsRisen P.cmp V.part_of (shown self.old) place result (shown self.new) }
         ensures within { result ≤ place }
+        ensures mark { is_stale self.new ≡ is_stale self.old }
     {
         self.stat.move_count = self.stat.move_count.saturating_add(1);
         let to = move_up(&mut self.walk, place);
@@ -377,8 +398,9 @@ impl<
     fn scan(&mut self, place: usize)
         requires within { place < (shown self.old).voter_count }
         requires distinct { IsDistinct ID.eq (keys_of (shown self.old).walk) }
-        ensures { IsScanned ID.eq P.cmp V.part_of QS.has_quorum
+        ensures scanned { IsScanned ID.eq P.cmp V.part_of QS.has_quorum
             (shown self.old) place (shown self.new) }
+        ensures mark { is_stale self.new ≡ is_stale self.old }
     {
         // The proof knows that a count fits a u64 once it has been read.
         let _count = self.stat.is_quorum_count;
@@ -395,8 +417,9 @@ impl<
     #[inline(never)]
     fn test_fronts(&mut self, place: usize)
         requires distinct { IsDistinct ID.eq (keys_of (shown self.old).walk) }
-        ensures { IsScanned ID.eq P.cmp V.part_of QS.has_quorum
+        ensures scanned { IsScanned ID.eq P.cmp V.part_of QS.has_quorum
             (shown self.old) place (shown self.new) }
+        ensures mark { is_stale self.new ≡ is_stale self.old }
     {
         let voters = &self.walk[..self.voter_count];
         let high = gather_leading(voters, self.granted, &mut self.room);
@@ -456,12 +479,14 @@ impl<ID: Copy + Ord, V: Eq, P: Copy + Ord, QS: Eq> Eq for VecProgress<ID, V, P, 
 impl<ID: Copy + Ord, V: Clone, P: Copy + Ord, QS: Drop> VecProgress<ID, V, P, QS> {
     ghost use Rattle.std.specs.Prelude.{◌≡◌, IfOk};
     ghost use Rattle.raft_progress.specs.progress.Equal.{IsCloned};
-    ghost use Rattle.raft_progress.specs.progress.VecProgress.{shown};
+    ghost use Rattle.raft_progress.specs.progress.VecProgress.{is_stale, shown};
 
-    /// A clone of the values over a quorum set, which reserves the room that `new` does.
+    /// A clone of the values over a quorum set, which reserves the room that `new` does. Where the
+    /// map here is not marked as stale, that of the clone is not, and so it tells every place.
     pub(crate) fn clone_over(&self, quorum_set: QS) -> Result<Self, AllocError>
-        ensures { IfOk result (λ made.
+        ensures cloned { IfOk result (λ made.
             IsCloned V.is_clone (λ old new. new ≡ quorum_set) (shown self.now) (shown made)) }
+        ensures mark { IfOk result (λ made. is_stale made ≡ is_stale self.now) }
     {
         let alloc = *self.walk.allocator();
         Ok(VecProgress {
@@ -541,13 +566,7 @@ impl<ID: Copy + Ord, V: ProgressPart<P> + Drop, P: Copy + Ord, QS: QuorumSet<ID>
     }
 
     fn get_mut(&mut self, id: &ID) -> Option<&mut V> {
-        match self.index(id) {
-            Some(place) => {
-                let entry = &mut self.walk[place];
-                Some(&mut entry.1)
-            }
-            None => None,
-        }
+        self.value_mut(id)
     }
 
     fn is_voter(&self, id: &ID) -> Option<bool> {

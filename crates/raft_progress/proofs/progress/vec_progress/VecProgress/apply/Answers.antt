@@ -26,4 +26,5 @@ returns g c =
       updated = c.apply_at.ensures.updated c.args.id.now found;
       ordered = c.apply_at.ensures.ordered c.args.id.now found;
       known = c.apply_at.ensures.known ∙ ap is_some found ∙ found_is_known (g.ID.PartialEq.eq c.args.id.now) p.walk.items;
+      mark = c.apply_at.ensures.mark;
     }

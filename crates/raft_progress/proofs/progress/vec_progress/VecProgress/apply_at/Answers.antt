@@ -34,7 +34,7 @@ returns-in-Some-clause-updated g c = λ id found.
     let is = wrote g.met.ID.Eq.laws c.args.self.now.walk.items id c.in-Some.place h.0 (sym found ∙ c.in-Some.is) h.2 h.1 in
     let here : h.0 ≡ get_or c.args.self.now.walk.items c.in-Some.place h.0 = sym (get_or_from_slice_get c.args.self.now.walk.items c.in-Some.place h.0 h.0 h.2) in
     let fits : c.args.self.now.stat.is_quorum_count < 2 ^ 64 = omega arith in
-    let oc = outcome g.met.ID.Eq.laws g.met.P.Ord.total g.V.ProgressPart.part_of g.QS.QuorumSet.has_quorum g.met.QS.QuorumSet.superset _ (shown c.settle.new.self) c.args.self.now.walk.items c.requires.ordered id c.in-Some.place h.0 (sym found ∙ c.in-Some.is) here h.1 (c.requires.not_lower c.in-Some.place h.0 h.1 c.in-Some.is h.2 h.3) h.4 before (h.4 ∙ is) c.write_at-before.result.0 h.5 fits c.settle.ensures in
+    let oc = outcome g.met.ID.Eq.laws g.met.P.Ord.total g.V.ProgressPart.part_of g.QS.QuorumSet.has_quorum g.met.QS.QuorumSet.superset _ (shown c.settle.new.self) c.args.self.now.walk.items c.requires.ordered id c.in-Some.place h.0 (sym found ∙ c.in-Some.is) here h.1 (c.requires.not_lower c.in-Some.place h.0 h.1 c.in-Some.is h.2 h.3) h.4 before (h.4 ∙ is) c.write_at-before.result.0 h.5 fits c.settle.ensures.put in
     record {
       counts = oc.updates ∙ c.saturating_add-self.ensures;
       same_voter_count = oc.voter_count;
@@ -57,7 +57,7 @@ returns-in-Some-clause-ordered g c = λ id found.
     let is = wrote g.met.ID.Eq.laws c.args.self.now.walk.items id c.in-Some.place h.0 (sym found ∙ c.in-Some.is) h.2 h.1 in
     let here : h.0 ≡ get_or c.args.self.now.walk.items c.in-Some.place h.0 = sym (get_or_from_slice_get c.args.self.now.walk.items c.in-Some.place h.0 h.0 h.2) in
     let fits : c.args.self.now.stat.is_quorum_count < 2 ^ 64 = omega arith in
-    let oc = outcome g.met.ID.Eq.laws g.met.P.Ord.total g.V.ProgressPart.part_of g.QS.QuorumSet.has_quorum g.met.QS.QuorumSet.superset _ (shown c.settle.new.self) c.args.self.now.walk.items c.requires.ordered id c.in-Some.place h.0 (sym found ∙ c.in-Some.is) here h.1 (c.requires.not_lower c.in-Some.place h.0 h.1 c.in-Some.is h.2 h.3) h.4 before (h.4 ∙ is) c.write_at-before.result.0 h.5 fits c.settle.ensures in
+    let oc = outcome g.met.ID.Eq.laws g.met.P.Ord.total g.V.ProgressPart.part_of g.QS.QuorumSet.has_quorum g.met.QS.QuorumSet.superset _ (shown c.settle.new.self) c.args.self.now.walk.items c.requires.ordered id c.in-Some.place h.0 (sym found ∙ c.in-Some.is) here h.1 (c.requires.not_lower c.in-Some.place h.0 h.1 c.in-Some.is h.2 h.3) h.4 before (h.4 ∙ is) c.write_at-before.result.0 h.5 fits c.settle.ensures.put in
     oc.ordered
 
 pub returns-in-None-clause-updated : goal.returns-in-None-clause-updated

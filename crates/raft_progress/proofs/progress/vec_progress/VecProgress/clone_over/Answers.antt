@@ -6,8 +6,8 @@ use Rattle.raft_progress.proofs.CloneLemmas.{same_ids, same_length}
 use Rattle.raft_progress.proofs.PlacesLemmas.{tells_alike}
 use Rattle.raft_progress.proofs.progress.vec_progress.VecProgress.clone_over.Goals as goal
 
-pub returns : goal.returns
-returns g c = record {
+pub returns-clause-cloned : goal.returns-clause-cloned
+returns-clause-cloned g c = record {
   quorum_set = refl;
   walk = subst (λ (es : List (g.row.ID.Denot × g.row.V.Denot)). AllZip (λ d e. (e.0 ≡ d.0) × g.V.Clone.is_clone d.1 e.1) es c.in_ok-clone_walk.field-0.items) c.deref.ensures.value c.in_ok-clone_walk.ensures;
   voter_count = refl;

@@ -10,14 +10,14 @@ use Rattle.raft_progress.proofs.UpdateLemmas.{IsDistinct-voters}
 use Rattle.raft_progress.proofs.progress.vec_progress.VecProgress.scan.Goals as goal
 use Rattle.raft_progress.proofs.progress.vec_progress.VecProgress.scan.Goals.{else-short-self-via-then-short-self+else-is_lt, else-short-self-via-else-short-self}
 
-pub returns-then-is_lt : goal.returns-then-is_lt
-returns-then-is_lt g c =
+pub returns-then-is_lt-clause-scanned : goal.returns-then-is_lt-clause-scanned
+returns-then-is_lt-clause-scanned g c =
     let p = c.args.self.now in
     let short_is : c.max-short.result ≡ max (c.least_quorum_size-least.result - 1) c.args.place = rw (c.max-short.ensures, c.saturating_sub.ensures) refl in
-    scanned_from g.met.ID.Eq.laws g.P.Ord.cmp g.V.ProgressPart.part_of g.QS.QuorumSet.has_quorum (shown p) (IsDistinct-voters g.met.ID.Eq.laws p.voter_count p.walk.items c.requires.distinct) c.least_quorum_size-least.result c.least_quorum_size-least.ensures c.args.place c.max-short.result short_is (shown c.test_fronts.new.self) c.test_fronts.ensures
+    scanned_from g.met.ID.Eq.laws g.P.Ord.cmp g.V.ProgressPart.part_of g.QS.QuorumSet.has_quorum (shown p) (IsDistinct-voters g.met.ID.Eq.laws p.voter_count p.walk.items c.requires.distinct) c.least_quorum_size-least.result c.least_quorum_size-least.ensures c.args.place c.max-short.result short_is (shown c.test_fronts.new.self) c.test_fronts.ensures.scanned
 
-pub returns-else-short-self : goal.returns-else-short-self
-returns-else-short-self g c =
+pub returns-else-short-self-clause-scanned : goal.returns-else-short-self-clause-scanned
+returns-else-short-self-clause-scanned g c =
     let p = c.args.self.now in
     let short_is : c.max-short.result ≡ max (c.least_quorum_size-least.result - 1) c.args.place = rw (c.max-short.ensures, c.saturating_sub.ensures) refl in
     let fits : p.stat.is_quorum_count < 2 ^ 64 = omega arith in

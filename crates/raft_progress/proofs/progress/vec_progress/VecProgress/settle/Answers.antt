@@ -20,8 +20,8 @@ and_false : (b c : Bool) → c ≡ false → (b && c) ≡ false
 and_false true c e = e
 and_false false c e = refl
 
-pub returns-then-place-self : goal.returns-then-place-self
-returns-then-place-self g c =
+pub returns-then-place-self-clause-put : goal.returns-then-place-self-clause-put
+returns-then-place-self-clause-put g c =
     let e = element_at c.args.self.now.walk.items c.args.place c.requires.within in
     let same : c.args.after ≡ g.V.ProgressPart.part_of e.0.1 = c.requires.at e.0 e.1 in
     let rises : Bool = is_lt (g.P.Ord.cmp c.args.before (g.V.ProgressPart.part_of e.0.1)) && is_lt (g.P.Ord.cmp c.args.self.now.granted (g.V.ProgressPart.part_of e.0.1)) in
@@ -46,8 +46,8 @@ scan-requires-clause-distinct g c =
     subst (λ (es : List (g.row.ID.Denot × g.row.V.Denot)). IsDistinct g.ID.PartialEq.eq (keys_of es)) (sym p.now)
     (distinct_moved g.met.ID.Eq.laws p.front p.passed p.entry p.rest (subst (λ (es : List (g.row.ID.Denot × g.row.V.Denot)). IsDistinct g.ID.PartialEq.eq (keys_of es)) p.was c.requires.distinct))
 
-pub returns-then-is_le : goal.returns-then-is_le
-returns-then-is_le g c =
+pub returns-then-is_le-clause-put : goal.returns-then-is_le-clause-put
+returns-then-is_le-clause-put g c =
     let e = element_at c.args.self.now.walk.items c.args.place c.requires.within in
     let same : c.args.after ≡ g.V.ProgressPart.part_of e.0.1 = c.requires.at e.0 e.1 in
     let high : is_lt (g.P.Ord.cmp c.args.self.now.granted c.args.after) ≡ true = cc in
@@ -61,14 +61,14 @@ returns-then-is_le g c =
         middle = shown c.raise-to.new.self;
         to = c.raise-to.result;
         risen = c.raise-to.ensures.risen;
-        looked = λ f. c.scan.ensures;
+        looked = λ f. c.scan.ensures.scanned;
         kept = λ f. absurd (true≢false (sym low ∙ f));
       };
       kept = λ h. absurd (true≢false (sym yes ∙ h));
     }
 
-pub returns-then-is_lt : goal.returns-then-is_lt
-returns-then-is_lt g c =
+pub returns-then-is_lt-clause-put : goal.returns-then-is_lt-clause-put
+returns-then-is_lt-clause-put g c =
     let e = element_at c.args.self.now.walk.items c.args.place c.requires.within in
     let same : c.args.after ≡ g.V.ProgressPart.part_of e.0.1 = c.requires.at e.0 e.1 in
     let high : is_lt (g.P.Ord.cmp c.args.self.now.granted c.args.after) ≡ true = cc in
@@ -89,8 +89,8 @@ returns-then-is_lt g c =
       kept = λ h. absurd (true≢false (sym yes ∙ h));
     }
 
-pub returns-else-is_lt : goal.returns-else-is_lt
-returns-else-is_lt g c =
+pub returns-else-is_lt-clause-put : goal.returns-else-is_lt-clause-put
+returns-else-is_lt-clause-put g c =
     let e = element_at c.args.self.now.walk.items c.args.place c.requires.within in
     let same : c.args.after ≡ g.V.ProgressPart.part_of e.0.1 = c.requires.at e.0 e.1 in
     let down : is_lt (g.P.Ord.cmp c.args.before c.args.after) ≡ false = cc in

@@ -28,8 +28,8 @@ index-requires g c =
     let z = ap (length {A = g.row.ID.Denot × g.row.V.Denot}) c.deref.ensures.value in
     omega arith
 
-pub returns-in-Some : goal.returns-in-Some
-returns-in-Some g c = record {
+pub returns-in-Some-clause-scanned : goal.returns-in-Some-clause-scanned
+returns-in-Some-clause-scanned g c = record {
   group = record { quorum_set = refl; voter_count = refl; default_part = refl; updates = refl };
   same_walk = refl;
   moves = refl;
@@ -51,8 +51,8 @@ returns-in-Some g c = record {
       );
 }
 
-pub returns-in_default : goal.returns-in_default
-returns-in_default g c = record {
+pub returns-in_default-clause-scanned : goal.returns-in_default-clause-scanned
+returns-in_default-clause-scanned g c = record {
   group = record { quorum_set = refl; voter_count = refl; default_part = refl; updates = refl };
   same_walk = refl;
   moves = refl;

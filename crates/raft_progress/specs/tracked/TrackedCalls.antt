@@ -1,0 +1,39 @@
+-- Calls of a membership and its progress as steps of a replay, and how replays compose.
+use Rattle.std.specs.Prelude.{Bool}
+use Rattle.raft_members.specs.Change.{changed}
+use Rattle.raft_members.specs.Members.{MemberList, Says, members_of}
+use Rattle.raft_members.specs.Valid.{IsValid}
+use Rattle.raft_members.specs.declared.change_members.ChangeMembers.{ChangeMembers}
+use Rattle.raft_progress.specs.progress.Calls.{Compose}
+use Rattle.raft_progress.specs.progress.Comparisons.{Comparisons}
+use Rattle.raft_progress.specs.tracked.SingleSteps.{IsTrackedChangeTo, IsTrackedUpdate}
+use Rattle.raft_progress.specs.tracked.TrackedShownSteps.{IsTrackedShownStep}
+use Rattle.raft_progress.specs.tracked.TrackedState.{IsReady, TrackedShown}
+use Rattle.raft_progress.specs.declared.progress.steps.Reply.{Reply}
+use Rattle.raft_progress.specs.declared.tracked.step.Step.TheVariants.{Change, Update}
+
+module _ (K N V P : Type 0) (by : Comparisons K V P) (same : N → N → Bool) where
+  -- replays compose
+  abbrev pub ReplaysCompose : Type 0
+  ReplaysCompose = Compose (IsTrackedShownStep {V = V} {P = P} by same)
+
+  -- an update, however it was answered, is a step
+  abbrev pub TrackedUpdatesAreSteps : Type 0
+  TrackedUpdatesAreSteps =
+      (old new : TrackedShown K N V P) (id : K) (value : V) (reply : Reply K P)
+      → IsTrackedUpdate by.eq by.cmp by.part old id value reply new
+      → IsReady by.eq by.id_cmp by.cmp by.part new
+      → IsTrackedShownStep by same old (Update id value) reply new
+
+  -- so is going over to a membership that says what a change makes of the present one, where that
+  -- is valid
+  abbrev pub TrackedChangesAreSteps : Type 0
+  TrackedChangesAreSteps =
+      (old new : TrackedShown K N V P) (change : ChangeMembers K N) (retain : Bool)
+      (next : MemberList K N) (default : V) (reply : Reply K P)
+      → IsValid by.eq (changed by.eq by.id_cmp (members_of by.id_cmp old.membership) change retain)
+      → Says same by.id_cmp next
+      (changed by.eq by.id_cmp (members_of by.id_cmp old.membership) change retain)
+      → IsTrackedChangeTo by.eq by.id_cmp by.cmp by.part by.IsClone old next default reply new
+      → IsReady by.eq by.id_cmp by.cmp by.part new
+      → IsTrackedShownStep by same old (Change change retain default) reply new
