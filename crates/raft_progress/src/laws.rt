@@ -99,9 +99,9 @@ pub fn calls_are_runs<
         UpgradesAreSteps ID V P QS by QS.has_quorum QS.is_voter }
 {}
 
-/// The same of a membership with its progress: an update, and going over to what a change makes of
-/// the membership, are steps of a replay, and two replays, one from where the other has left, are
-/// one.
+/// Calls of a `Tracked` that are made are steps of a replay, and two replays, one from where the
+/// other has left, are one. The calls are an update, and going over to what a change makes of the
+/// membership.
 pub fn tracked_calls_are_runs<
     NID: NodeId,
     N: Node,

@@ -81,9 +81,11 @@ pub trait Progress<ID: Copy + Ord, V: ProgressPart<P>, P: Copy + Ord, QS: Quorum
 
     /// Whether the progress is in order: the condition of the updates and of an upgrade.
     ///
-    /// A new progress is, and each call here leaves it so. A write through `get_mut`, or through
-    /// `VecProgress::iter_mut`, may lose it where it changes an id or a voter's part. The test
-    /// changes nothing and takes no memory.
+    /// A new progress is, and each call here but `get_mut` leaves it so. It can be lost only by a
+    /// write through `get_mut`, or through `VecProgress::iter_mut`, that changes an id or a voter's
+    /// part (`laws::kept_parts_keep_order`), and not each such write loses it. A clone of one in
+    /// order is in order where clones of values have the part of their source, and those of quorum
+    /// sets its quorums (`laws::clones_keep_order`). The test changes nothing.
     fn is_in_order(&mut self) -> bool
         ensures answer { IsTrue result ↔
             IsInOrder ID.eq P.cmp V.part_of QS.has_quorum (shows self.old) }

@@ -1,16 +1,20 @@
 //! Callers of the laws of progresses, each as an engine has the need.
 ghost use Rattle.std.specs.Ordering.{bool_cmp, nat_cmp};
-ghost use Rattle.std.specs.Prelude.{◌≡◌, ◌↔◌, ◌⊎◌, ◌/◌, ◌<◌, ◌≤◌, ◌^◌, ℕ, Bool, true, false, IfOk, IsTrue, length};
+ghost use Rattle.std.specs.Prelude.{◌≡◌, ◌↔◌, ◌⊎◌, ◌/◌, ◌<◌, ◌≤◌, ◌^◌, ◌++◌, ◌∷◌, ℕ, Bool, true, false, IfOk, IsTrue, length};
 ghost use Rattle.std.specs.List.{AllByRecursion, list_any};
 ghost use Rattle.std.specs.Set.{ClonesAreEqual};
 ghost use Rattle.raft_base.specs.LogId.{next_index};
 ghost use Rattle.raft_members.specs.Coherence.{is_coherent};
 ghost use Rattle.raft_progress.specs.progress.Comparisons.{comparisons};
 ghost use Rattle.raft_progress.specs.progress.CountedValue.{AtMost};
-ghost use Rattle.raft_progress.specs.progress.ShownSteps.{IsShownStep};
-ghost use Rattle.raft_progress.specs.progress.Updated.{IsNotLower};
-ghost use Rattle.raft_progress.specs.declared.progress.steps.AnyStep.TheVariants.{Update};
+ghost use Rattle.raft_progress.specs.progress.NewProgress.{LearnersFit};
+ghost use Rattle.raft_progress.specs.progress.ShownSteps.{IsShownRun, IsShownStep};
+ghost use Rattle.raft_progress.specs.progress.Updated.{IsNotLower, IsNotLowerIfGreater};
+ghost use Rattle.raft_progress.specs.progress.Upgrade.{CanUpgrade};
+ghost use Rattle.raft_progress.specs.declared.progress.steps.AnyStep.TheVariants.{IncreaseTo, Update, Upgrade};
 ghost use Rattle.raft_progress.specs.declared.progress.steps.Reply.{Reply};
+ghost use Rattle.raft_progress.specs.declared.progress.steps.Reply.TheVariants.{Granted};
+ghost use Rattle.raft_progress.specs.declared.tracked.step.Step.TheVariants.{Change, Update as TrackedUpdate};
 ghost use Rattle.raft_progress.specs.progress.InOrder.{IsInOrder};
 ghost use Rattle.raft_progress.specs.progress.ProgressState.{IsSame};
 ghost use Rattle.raft_progress.specs.progress.Shown.{state};
@@ -21,18 +25,19 @@ ghost use Rattle.raft_progress.specs.search.Search.{CanSearch, stretch};
 ghost use Rattle.raft_progress.specs.tracked.Elected.{NoneVotedPast};
 ghost use Rattle.raft_progress.specs.tracked.Known.{QuorumsKnow};
 ghost use Rattle.raft_progress.specs.tracked.Tracked.{tracked};
-ghost use Rattle.raft_progress.specs.tracked.TrackedShownSteps.{is_change};
+ghost use Rattle.raft_progress.specs.tracked.TrackedShownSteps.{IsTrackedShownRun, IsTrackedShownStep, is_change};
 
 use super::steps::{first_ids, made};
 use raft_base::{EmptyNode, LogStateReader, Node, NodeId};
 use raft_members::quorum::QuorumSet;
-use raft_members::{ChangeMembers, Membership};
+use raft_members::{ChangeMembers, ChangeMembershipError, Membership};
 use raft_progress::entry::ProgressEntryOf;
 use raft_progress::laws::{
     calls_are_runs, clones_keep_order, counted_values_tie, granted_is_threshold, granted_meet,
     known_stays, meeting_quorums_know_granted, none_purged_past, quorums_know_granted,
+    tracked_calls_are_runs,
 };
-use raft_progress::progress::{Progress, ProgressPart, VecProgress};
+use raft_progress::progress::{AnyStep, Progress, ProgressPart, Reply, VecProgress, replay_any};
 use raft_progress::search::{SearchEvent, search_run};
 use raft_progress::tracked::{Step, Tracked, replay};
 use std::alloc::{AllocError, Global};
@@ -68,6 +73,125 @@ fn acked<
 {
     calls_are_runs::<ID, V, P, QS>();
     let _ = progress.update(id, value);
+}
+
+/// Takes the value of a reply where it is greater than what is there, which is a step of a run.
+fn heard<
+    ID: Copy + Ord,
+    V: ProgressPart<P> + PartialOrd + Clone + Drop,
+    P: Copy + Ord,
+    QS: QuorumSet<ID> + Drop,
+>(progress: &mut VecProgress<ID, V, P, QS>, id: &ID, value: V)
+    requires ordered { IsInOrder ID.eq P.cmp V.part_of QS.has_quorum (shown progress.old) }
+    requires not_lower { IsNotLowerIfGreater ID.eq P.cmp V.part_of V.partial_cmp
+        (shown progress.old) id.now value }
+    ensures { let by = comparisons ID.Ord P.Ord V.PartialOrd V.ProgressPart V.Clone in
+        (reply : Reply ID P) × IsShownStep by QS.has_quorum QS.is_voter (shown progress.old)
+        (IncreaseTo id.now value) reply (shown progress.new) }
+{
+    calls_are_runs::<ID, V, P, QS>();
+    let _ = progress.increase_to(id, value);
+}
+
+/// Goes over to other voters and learners, which is a step of a run.
+fn gone_over<
+    ID: Copy + Ord,
+    V: ProgressPart<P> + PartialOrd + Clone + Drop,
+    P: Copy + Ord,
+    QS: QuorumSet<ID> + Drop,
+>(
+    progress: &VecProgress<ID, V, P, QS>,
+    quorum_set: QS,
+    learners: Vec<ID>,
+    default: V,
+) -> Result<VecProgress<ID, V, P, QS>, AllocError>
+    requires ordered { IsInOrder ID.eq P.cmp V.part_of QS.has_quorum (shown progress.now) }
+    requires values { (v w : V) → V.is_clone v w → V.part_of w ≡ V.part_of v }
+    requires learners_fit { LearnersFit ID.eq (QS.is_voter quorum_set) learners.items }
+    requires can_upgrade { CanUpgrade ID.eq P.cmp V.part_of (QS.is_voter quorum_set)
+        learners.items default (state ID.eq (shown progress.now)).value }
+    ensures { let by = comparisons ID.Ord P.Ord V.PartialOrd V.ProgressPart V.Clone in
+        IfOk result (λ made. IsShownStep by QS.has_quorum QS.is_voter (shown progress.now)
+        (Upgrade quorum_set learners default) (Granted (shown made).granted) (shown made)) }
+{
+    calls_are_runs::<ID, V, P, QS>();
+    progress.upgrade_quorum_set(quorum_set, &learners, default)
+}
+
+/// Makes the steps of two turns, each turn's as they come: together they are one run.
+fn two_turns<
+    ID: Copy + Ord,
+    V: ProgressPart<P> + PartialOrd + Clone + Drop,
+    P: Copy + Ord,
+    QS: QuorumSet<ID> + Drop,
+>(
+    alloc: Global,
+    progress: &mut VecProgress<ID, V, P, QS>,
+    first: Vec<AnyStep<ID, V, QS>>,
+    second: Vec<AnyStep<ID, V, QS>>,
+) -> Result<(Vec<Reply<ID, P>>, Vec<Reply<ID, P>>), AllocError>
+    requires ordered { IsInOrder ID.eq P.cmp V.part_of QS.has_quorum (shown progress.old) }
+    requires values { (v w : V) → V.is_clone v w → V.part_of w ≡ V.part_of v }
+    ensures { let by = comparisons ID.Ord P.Ord V.PartialOrd V.ProgressPart V.Clone in
+        IfOk result (λ replies. IsShownRun by QS.has_quorum QS.is_voter (shown progress.old)
+        (first.items ++ second.items) (replies.0.items ++ replies.1.items)
+        (shown progress.new)) }
+{
+    calls_are_runs::<ID, V, P, QS>();
+    let replies = replay_any(alloc, progress, first)?;
+    let others = replay_any(alloc, progress, second)?;
+    Ok((replies, others))
+}
+
+/// Takes an ack by a call of its own, and the steps of a turn after it: together they are one
+/// replay.
+fn acked_before_turn<
+    NID: NodeId,
+    N: Node,
+    V: ProgressPart<P> + PartialOrd + Clone + Drop,
+    P: Copy + Ord,
+>(
+    alloc: Global,
+    cluster: &mut Tracked<NID, N, V, P>,
+    id: NID,
+    value: V,
+    turn: Vec<Step<NID, N, V>>,
+) -> Result<(Reply<NID, P>, Vec<Reply<NID, P>>), AllocError>
+    requires nodes { ClonesAreEqual N.eq N.is_clone }
+    requires values { (v w : V) → V.is_clone v w → V.part_of w ≡ V.part_of v }
+    ensures { let by = comparisons NID.Ord P.Ord V.PartialOrd V.ProgressPart V.Clone in
+        IfOk result (λ replies. IsTrackedShownRun by N.eq (tracked cluster.old)
+        (TrackedUpdate id value ∷ turn.items) (replies.0 ∷ replies.1.items)
+        (tracked cluster.new)) }
+{
+    tracked_calls_are_runs::<NID, N, V, P>();
+    let reply = cluster.update(&id, value);
+    let replies = replay(alloc, cluster, turn)?;
+    Ok((reply, replies))
+}
+
+/// Goes over to what a change makes of the members, once it has come through the log, which is a
+/// step of a replay.
+fn gone_over_to<
+    NID: NodeId,
+    N: Node,
+    V: ProgressPart<P> + PartialOrd + Clone + Drop,
+    P: Copy + Ord,
+>(
+    cluster: &mut Tracked<NID, N, V, P>,
+    change: ChangeMembers<NID, N>,
+    retain: bool,
+    default: V,
+) -> Result<Reply<NID, P>, ChangeMembershipError<NID>>
+    requires nodes { ClonesAreEqual N.eq N.is_clone }
+    requires values { (v w : V) → V.is_clone v w → V.part_of w ≡ V.part_of v }
+    ensures { let by = comparisons NID.Ord P.Ord V.PartialOrd V.ProgressPart V.Clone in
+        IfOk result (λ reply. IsTrackedShownStep by N.eq (tracked cluster.old)
+        (Change change retain default) reply (tracked cluster.new)) }
+{
+    tracked_calls_are_runs::<NID, N, V, P>();
+    let next = cluster.membership().change(change, retain)?;
+    Ok(cluster.change_to(next, default))
 }
 
 /// What is granted over quorums that share voters, of whatever kind: each of them knows it.
@@ -269,5 +393,48 @@ fn a_copy_grants_alike(rt: HostRuntime) -> Result<(), Fail> {
     let progress = made(&rt, rt.alloc(), first_ids(rt.alloc(), 3)?, &[5], 7u64)?;
     let copy = progress.clone()?;
     assert_eq!(rt; *copy.granted(), 7);
+    Ok(())
+}
+
+#[test]
+fn two_turns_are_one_run(rt: HostRuntime) -> Result<(), Fail> {
+    let alloc = rt.alloc();
+    let mut progress = made(&rt, alloc, first_ids(alloc, 3)?, &[5], 0u64)?;
+    let first = vec![in alloc; AnyStep::Update(0, 4), AnyStep::Update(7, 1)]?;
+    let second = vec![in alloc; AnyStep::IncreaseTo(1, 6)]?;
+    let (replies, others) = two_turns(alloc, &mut progress, first, second)?;
+    assert!(rt;
+        replies.get(1) == Some(&Reply::Unknown(0)) && others.first() == Some(&Reply::Granted(4))
+    );
+    Ok(())
+}
+
+#[test]
+fn a_progress_goes_over(rt: HostRuntime) -> Result<(), Fail> {
+    let alloc = rt.alloc();
+    let mut progress = made(&rt, alloc, first_ids(alloc, 3)?, &[5], 4u64)?;
+    let voters = vec![in alloc; 1, 2, 6]?;
+    let learners = vec![in alloc; 0]?;
+    let fits = VecProgress::<u64, u64, u64, Vec<u64>>::learners_fit(alloc, &voters, &learners)?;
+    assert!(rt; fits);
+    let can = progress.can_upgrade(&voters, &learners, &2)?;
+    assert!(rt; can);
+    let ordered = progress.is_in_order();
+    assert!(rt; ordered);
+    let next = gone_over(&progress, voters, learners, 2)?;
+    assert!(rt; *next.granted() == 4 && next.try_get(&6) == Some(&2));
+    Ok(())
+}
+
+#[test]
+fn a_change_is_a_step(rt: HostRuntime) -> Result<(), Fail> {
+    let alloc = rt.alloc();
+    let mut cluster = cluster(alloc, 0u64)?;
+    let turn = vec![in alloc; Step::Update(2, 5)]?;
+    let (reply, replies) = acked_before_turn(alloc, &mut cluster, 1, 4, turn)?;
+    assert!(rt; reply == Reply::Granted(0) && replies.first() == Some(&Reply::Granted(4)));
+    let change = ChangeMembers::replace_all(alloc, &[1, 2])?;
+    let changed = gone_over_to(&mut cluster, change, true, 0);
+    assert!(rt; changed == Ok(Reply::Granted(4)));
     Ok(())
 }

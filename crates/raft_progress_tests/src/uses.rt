@@ -1,69 +1,98 @@
 //! One theorem, three uses: what is granted where a value is a match, a vote, or a moment.
-ghost use Rattle.std.specs.Prelude.{◌≡◌};
+ghost use Rattle.std.specs.Prelude.{◌≡◌, ◌↔◌, ◌<◌, ◌≤◌, ℕ, false, nat_le, IsTrue};
+ghost use Rattle.raft_progress.specs.tracked.Tracked.{tracked};
+ghost use Rattle.raft_progress_tests.specs.Uses.{MajorityOfEach};
 
-use raft_base::EmptyNode;
+use raft_base::{EmptyNode, Node, NodeId};
 use raft_members::Membership;
-use raft_progress::{ProgressPart, Reply, Step, Tracked, replay};
+use raft_members::quorum::Joint;
+use raft_progress::laws::{granted_is_threshold, quorums_know_granted};
+use raft_progress::{Progress, ProgressPart, Tracked};
 use std::alloc::{AllocError, Global};
 use std::collections::BTreeSet;
 use std::test::Fail;
 
-/// What is granted over some configs after each of these updates, from the default on.
-fn granted<V: ProgressPart<V> + Copy + Ord + Drop>(
-    alloc: Global,
-    configs: Vec<BTreeSet<u64>>,
-    default: V,
-    updates: &[(u64, V)],
-) -> Result<Vec<Reply<u64, V>>, AllocError>
-    requires { (v w : V) → V.is_clone v w → V.part_of w ≡ V.part_of v }
+/// The configs of a membership, as a quorum set.
+type Configs<NID> = Joint<NID, Vec<NID>, Vec<Vec<NID>>>;
+
+/// The commit index: an index is committed exactly where a majority of each config matches it.
+fn commit_index<NID: NodeId, N: Node>(matches: &Tracked<NID, N, u64, u64>) -> u64
+    ensures { (index : ℕ) → (tracked matches.now).progress.default_part < index → index ≤ result
+        ↔ MajorityOfEach NID.eq (tracked matches.now) (λ matched. nat_le index matched) }
 {
-    let membership = Membership::<u64, EmptyNode>::new(configs, ())?;
-    let mut cluster = Tracked::new(membership, default)?;
-    let mut steps = Vec::new(alloc);
-    for (id, value) in updates {
-        steps.push(Step::Update(*id, *value))?;
+    quorums_know_granted(matches);
+    granted_is_threshold::<NID, u64, u64, Configs<NID>>();
+    *matches.progress().granted()
+}
+
+/// Whether a candidate is elected: exactly where a majority of each config has voted `true`.
+fn is_elected<NID: NodeId, N: Node>(votes: &Tracked<NID, N, bool, bool>) -> bool
+    ensures { (tracked votes.now).progress.default_part ≡ false → IsTrue result
+        ↔ MajorityOfEach NID.eq (tracked votes.now) (λ voted. voted) }
+{
+    quorums_know_granted(votes);
+    granted_is_threshold::<NID, bool, bool, Configs<NID>>();
+    *votes.progress().granted()
+}
+
+/// Whether a lease from a moment on is held: exactly where a majority of each config has replied
+/// then or later.
+fn holds_lease<NID: NodeId, N: Node>(replies: &Tracked<NID, N, u64, u64>, since: u64) -> bool
+    ensures { (tracked replies.now).progress.default_part < since → IsTrue result
+        ↔ MajorityOfEach NID.eq (tracked replies.now) (λ last. nat_le since last) }
+{
+    quorums_know_granted(replies);
+    granted_is_threshold::<NID, u64, u64, Configs<NID>>();
+    since <= *replies.progress().granted()
+}
+
+/// A membership of these configs, with a progress from a default on.
+fn cluster<V: ProgressPart<V> + Copy + Ord + Drop>(
+    alloc: Global,
+    configs: &[&[u64]],
+    default: V,
+) -> Result<Tracked<u64, EmptyNode, V, V>, AllocError>
+    requires { (w : V) → V.is_clone default w → V.part_of w ≡ V.part_of default }
+{
+    let mut sets: Vec<BTreeSet<u64>> = Vec::new(alloc);
+    for config in configs {
+        sets.push(config.iter().copied().collect(alloc)?)?;
     }
-    replay(alloc, &mut cluster, steps)
-}
-
-/// A config.
-fn config(alloc: Global, voters: &[u64]) -> Result<BTreeSet<u64>, AllocError> {
-    voters.iter().copied().collect(alloc)
-}
-
-/// Matches of 1, 2 and 3: granted is the commit index.
-fn commit_index(alloc: Global) -> Result<Vec<Reply<u64, u64>>, AllocError> {
-    let configs = vec![in alloc; config(alloc, &[1, 2, 3])?]?;
-    granted(alloc, configs, 0, &[(1, 4), (2, 6)]) // 0, 4
-}
-
-/// Votes over {1,2,3} and {3,4,5} together: granted says that a quorum of both has voted.
-fn election(alloc: Global) -> Result<Vec<Reply<u64, bool>>, AllocError> {
-    let configs = vec![in alloc; config(alloc, &[1, 2, 3])?, config(alloc, &[3, 4, 5])?]?;
-    let votes = [(1, true), (2, true), (4, true), (3, true)];
-    granted(alloc, configs, false, &votes) // false, false, false, true
-}
-
-/// Moments of the last replies of 1, 2 and 3: granted says since when a quorum has been heard.
-fn lease(alloc: Global) -> Result<Vec<Reply<u64, u64>>, AllocError> {
-    let configs = vec![in alloc; config(alloc, &[1, 2, 3])?]?;
-    granted(alloc, configs, 0, &[(1, 100), (2, 70), (3, 90), (2, 130)]) // 0, 70, 90, 100
-}
-
-/// Whether these are granted, one after the other.
-fn are<V: Copy + Ord>(replies: &[Reply<u64, V>], want: &[V]) -> bool {
-    replies
-        .iter()
-        .zip(want)
-        .all(|(reply, want)| *reply == Reply::Granted(*want))
-        && replies.len() == want.len()
+    Tracked::new(Membership::new(sets, ())?, default)
 }
 
 #[test]
-fn a_match_a_vote_and_a_moment(rt: HostRuntime) -> Result<(), Fail> {
-    let alloc = rt.alloc();
-    assert!(rt; are(&commit_index(alloc)?, &[0, 4]));
-    assert!(rt; are(&election(alloc)?, &[false, false, false, true]));
-    assert!(rt; are(&lease(alloc)?, &[0, 70, 90, 100]));
+fn a_match(rt: HostRuntime) -> Result<(), Fail> {
+    let mut matches = cluster(rt.alloc(), &[&[1, 2, 3]], 0u64)?;
+    for (id, matched, committed) in [(1, 4, 0), (2, 6, 4)] {
+        let _ = matches.update(&id, matched);
+        assert_eq!(rt; commit_index(&matches), committed);
+    }
+    Ok(())
+}
+
+#[test]
+fn a_vote(rt: HostRuntime) -> Result<(), Fail> {
+    let mut votes = cluster(rt.alloc(), &[&[1, 2, 3], &[3, 4, 5]], false)?;
+    for (id, has_won) in [(1, false), (2, false), (4, false), (3, true)] {
+        let _ = votes.update(&id, true);
+        assert_eq!(rt; is_elected(&votes), has_won);
+    }
+    Ok(())
+}
+
+#[test]
+fn a_moment(rt: HostRuntime) -> Result<(), Fail> {
+    let mut replies = cluster(rt.alloc(), &[&[1, 2, 3]], 0u64)?;
+    let rows = [
+        (1, 100, 0, 1),
+        (2, 70, 70, 71),
+        (3, 90, 90, 91),
+        (2, 130, 100, 101),
+    ];
+    for (id, moment, heard, past) in rows {
+        let _ = replies.update(&id, moment);
+        assert!(rt; holds_lease(&replies, heard) && !holds_lease(&replies, past));
+    }
     Ok(())
 }
