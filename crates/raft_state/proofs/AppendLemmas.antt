@@ -1,7 +1,8 @@
 -- What an append to the keys does to the full log.
 use Rattle.std.proofs.Common.{◌≡◌, ℕ, zero, suc, ◌+◌, ◌-◌, ◌<◌, ◌≤◌, Bool, true, false, List, [], ◌∷◌, ◌++◌, if◌then◌else◌, IsTrue, refl, sym, arith, append_assoc, length, get_or, set, ap}
 use Rattle.std.specs.declared.cmp.Ordering.{Ordering}
-use Rattle.std.specs.Ordering.{is_le, is_lt, is_eq}
+use Rattle.std.proofs.lemmas.Bool.Decides.{nat_tests}
+use Rattle.std.specs.Ordering.{is_le, is_lt, is_eq, nat_cmp, ordering_then}
 use Rattle.std.specs.Cmp.{IsTotalOrder}
 use Rattle.std.proofs.lemmas.Cmp.{tied_itself}
 use Rattle.std.specs.declared.cmp.Ordering.TheVariants.{Less, Equal, Greater}
@@ -36,6 +37,12 @@ equal_of : (o : Ordering) → is_eq o ≡ true → o ≡ Equal
 equal_of Less h = cc
 equal_of Equal h = refl
 equal_of Greater h = cc
+
+-- of log ids the leaders decide, and under one leader the indexes
+pub then_below : (o : Ordering) (i j : ℕ) → is_le o ≡ true → i ≤ j → is_le (ordering_then o (nat_cmp i j)) ≡ true
+then_below Less i j h le = refl
+then_below Equal i j h le = grind (arith, nat_tests)
+then_below Greater i j h le = cc
 
 lt_not_eq : (o : Ordering) (t : Bool) → t ≡ is_eq o → is_lt o ≡ true → t ≡ true → ⊥
 lt_not_eq Less t e h f = cc

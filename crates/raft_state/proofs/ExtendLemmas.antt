@@ -1,18 +1,22 @@
 -- What appending several ids does to the full log.
-use Rattle.std.proofs.Common.{◌≡◌, ℕ, zero, suc, ◌+◌, ◌-◌, ◌≤◌, Bool, true, false, List, [], ◌∷◌, ◌++◌, if◌then◌else◌, IsTrue, nat_lt, refl, arith, length, drop, ◌∙◌, Option, Some}
+use Rattle.std.proofs.Common.{◌≡◌, ℕ, zero, suc, ◌+◌, ◌-◌, ◌≤◌, Bool, true, false, List, [], ◌∷◌, ◌++◌, if◌then◌else◌, IsTrue, nat_lt, refl, arith, length, drop, subst, ◌∙◌, Option, Some, None}
 use Rattle.std.specs.declared.cmp.Ordering.{Ordering}
 use Rattle.std.specs.Ordering.{is_le, is_lt}
 use Rattle.std.specs.Option.{option_or}
+use Rattle.std.specs.Cmp.{IsTotalOrder}
 use Rattle.std.proofs.lemmas.Bool.Decides.{nat_tests}
+use Rattle.raft_base.specs.LogId.{id_le}
+use Rattle.raft_base.specs.LogIdLaws.{optional-log_id_cmp-total}
 use Rattle.raft_base.specs.declared.log_id.LogIdOf.{LogIdOf}
+use Rattle.raft_progress.proofs.RecountLemmas.{AtMost-refl, AtMost-trans}
 use Rattle.raft_state.specs.FullLog.{full_log}
 use Rattle.raft_state.specs.Inner.KeyEdits.{keys_after_append, rest_after_append, keys_after_extend}
 use Rattle.raft_state.proofs.KeyListLemmas.{IsKeyList}
 use Rattle.raft_state.specs.Keys.{key_follows, may_be_keys}
 use Rattle.raft_state.specs.LogConditions.{all_follow, follows}
 use Rattle.raft_state.specs.LogEdits.{log_after_append, log_after_extend, missing_ids}
-use Rattle.raft_state.specs.LogReads.{last_id}
-use Rattle.raft_state.proofs.AppendLemmas.{CanAppend, same_append, same_ids, same_refl}
+use Rattle.raft_state.specs.LogReads.{first_id, last_id}
+use Rattle.raft_state.proofs.AppendLemmas.{CanAppend, same_append, same_ids, same_refl, then_below}
 use Rattle.raft_state.proofs.SameLogLemmas.{SameLog, both, both_true}
 use Rattle.raft_state.proofs.EndsLemmas.{last_of_some}
 use Rattle.raft_state.proofs.AppendLemmas.{full_after, stays_key_list}
@@ -114,6 +118,32 @@ module _ {C : Type 0} (eq : C → C → Bool) (same : (c : C) → eq c c ≡ tru
         same_trans (full_log (keys_after_extend eq (keys_after_append eq ks id) ids)) (log_after_extend (full_log (keys_after_append eq ks id)) ids) (log_after_extend (log_after_append (full_log ks) id) ids)
         (full_after_all (keys_after_append eq ks id) ids (stays_key_list eq same cmp less upto ks id s can) (rw (last_added eq ks id) b.1))
         (same_extended (full_log (keys_after_append eq ks id)) (log_after_append (full_log ks) id) ids (full_after eq same cmp ks id s can))
+
+-- a log id that may come after the last one is above it
+pub step_above : {C : Type 0} (cmp : C → C → Ordering) (last : Option (LogIdOf C)) (id : LogIdOf C) → IsTrue (follows cmp last id) → id_le cmp last (Some id) ≡ true
+step_above cmp None id h = refl
+step_above cmp (Some l) id h =
+    let b = both (nat_lt l.index id.index) (is_le (cmp l.leader_id id.leader_id)) h in let b0 = b.0 in
+    then_below (cmp l.leader_id id.leader_id) l.index id.index b.1 (grind (arith, nat_tests))
+
+-- and so is the last one of several
+pub extend_raises : {C : Type 0} {cmp : C → C → Ordering} → IsTotalOrder cmp → (last : Option (LogIdOf C)) (ids : List (LogIdOf C)) → IsTrue (all_follow cmp last ids)
+    → id_le cmp last (option_or (last_id ids) last) ≡ true
+extend_raises total last [] h = AtMost-refl (optional-log_id_cmp-total total) last
+extend_raises {C} {cmp} total last (id ∷ ids) h =
+    let b = both (follows cmp last id) (all_follow cmp (Some id) ids) h in
+    AtMost-trans (optional-log_id_cmp-total total) last (Some id) (option_or (last_id (id ∷ ids)) last) (step_above cmp last id b.0)
+    (subst (λ (o : Option (LogIdOf C)). id_le cmp (Some id) o ≡ true) (last_or_new id ids last) (extend_raises total (Some id) ids b.1))
+
+-- a log that is extended begins as before, and an empty one with the first of the log ids
+first_stays : {C : Type 0} (x : LogIdOf C) (log ids : List (LogIdOf C)) → first_id (log_after_extend (x ∷ log) ids) ≡ Some x
+first_stays x log [] = refl
+first_stays x log (id ∷ ids) = first_stays x (log ++ missing_ids (x ∷ log) id.index ++ id ∷ []) ids
+
+pub first_extended : {C : Type 0} (log ids : List (LogIdOf C)) → first_id (log_after_extend log ids) ≡ option_or (first_id log) (first_id ids)
+first_extended [] [] = refl
+first_extended [] (id ∷ ids) = first_stays id [] ids
+first_extended (x ∷ log) ids = first_stays x log ids
 
 -- a key or none is left
 pub short_list : {C : Type 0} (cmp : C → C → Ordering) (ks : List (LogIdOf C)) (n : ℕ) → length ks ≤ n + 1 → may_be_keys cmp (drop n ks) ≡ true

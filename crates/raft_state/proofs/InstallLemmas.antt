@@ -17,12 +17,12 @@ use Rattle.raft_members.specs.Stored.{log_id_of}
 use Rattle.raft_members.specs.declared.membership.stored.StoredMembershipOf.{StoredMembershipOf}
 use Rattle.raft_progress.proofs.RecountLemmas.{AtMost-refl, AtMost-trans}
 use Rattle.raft_base.specs.declared.log_id.validate.Invalid.TheVariants.{PurgedNext, LastPurgedPastUpto, SnapshotPastCommitted, CommittedPastLast}
-use Rattle.raft_state.proofs.AppendLemmas.{itself, upto_equal}
+use Rattle.raft_state.proofs.AppendLemmas.{itself, then_below, upto_equal}
 use Rattle.raft_state.proofs.CommitLemmas.{hold_all}
 use Rattle.raft_state.proofs.FrontLemmas.{front_none, from_first, last_at, rest_first, rest_last}
 use Rattle.raft_state.proofs.KeyListLemmas.{IsKeyList}
 use Rattle.raft_state.proofs.LoggedLemmas.{all_hold}
-use Rattle.raft_state.proofs.OrderLemmas.{Above, From, above_full}
+use Rattle.raft_state.proofs.OrderLemmas.{From, above_full, last_at_least}
 use Rattle.raft_state.proofs.SameLogLemmas.{both}
 use Rattle.raft_state.proofs.TruncateLemmas.{memberships_stay}
 use Rattle.raft_state.specs.Accepted.{after_accept}
@@ -41,12 +41,12 @@ use Rattle.raft_state.specs.declared.raft_state.RaftStateIn.{RaftStateIn}
 use Rattle.raft_state.specs.declared.snapshot_meta.SnapshotMetaOf.{SnapshotMetaOf}
 
 -- a log id that equals the one of a list there
-found : {C : Type 0} (eq : C → C → Bool) (o : Option (LogIdOf C)) (id : LogIdOf C) → same_ids eq o (Some id) ≡ true → (x : LogIdOf C) × (o ≡ Some x) × (eq x.leader_id id.leader_id ≡ true) × (x.index ≡ id.index)
+pub found : {C : Type 0} (eq : C → C → Bool) (o : Option (LogIdOf C)) (id : LogIdOf C) → same_ids eq o (Some id) ≡ true → (x : LogIdOf C) × (o ≡ Some x) × (eq x.leader_id id.leader_id ≡ true) × (x.index ≡ id.index)
 found eq None id h = cc
 found eq (Some x) id h = let d = both (eq x.leader_id id.leader_id) (nat_eq x.index id.index) h in let d1 = d.1 in (x, refl, d.0, grind (arith, nat_tests))
 
 -- what is there is not past the last index
-within : {C : Type 0} (b j : ℕ) (xs : List (LogIdOf C)) (x : LogIdOf C) → From b xs → id_at xs j ≡ Some x → (b ≤ j) × (j < b + length xs)
+pub within : {C : Type 0} (b j : ℕ) (xs : List (LogIdOf C)) (x : LogIdOf C) → From b xs → id_at xs j ≡ Some x → (b ≤ j) × (j < b + length xs)
 within b j [] x h e = cc
 within b j (y ∷ ys) x h e = let h0 = h.0 in let n : length (y ∷ ys) ≡ suc (length ys) = refl in by (y.index == j) refl e (λ k. within (b + 1) j ys x h.1 k)
   where
@@ -59,11 +59,6 @@ leaders_first : (o : Ordering) (i j : ℕ) → is_le (ordering_then o (nat_cmp i
 leaders_first Less i j h = refl
 leaders_first Equal i j h = refl
 leaders_first Greater i j h = cc
-
-then_below : (o : Ordering) (i j : ℕ) → is_le o ≡ true → i ≤ j → is_le (ordering_then o (nat_cmp i j)) ≡ true
-then_below Less i j h le = refl
-then_below Equal i j h le = grind (arith, nat_tests)
-then_below Greater i j h le = cc
 
 either : (a b : Bool) → a ≡ true → a || b ≡ true
 either true b h = refl
@@ -110,35 +105,6 @@ pub record IsFrom {C : Type 0} (cmp : C → C → Ordering) (id : LogIdOf C) (lo
   pub last_at_least : id_le cmp (Some id) (last_id log) ≡ true
 
 module _ {C : Type 0} (cmp : C → C → Ordering) (eq : C → C → Bool) (total : IsTotalOrder cmp) (law : (x y : C) → eq x y ≡ is_eq (cmp x y)) (turn : (x y : C) → eq x y ≡ true → eq y x ≡ true) where
-  -- the last log id of a log is at least each of it
-  last_above : (c : C) (b i : ℕ) (x : LogIdOf C) (xs : List (LogIdOf C)) → Above cmp total c (x ∷ xs) → From b (x ∷ xs) → i ≤ b → (z : LogIdOf C) × (last_id (x ∷ xs) ≡ Some z) × (is_le (cmp c z.leader_id) ≡ true) × (i ≤ z.index)
-  last_above c b i x [] a h le = let h0 = h.0 in (x, refl, a.0, omega arith)
-  last_above c b i x (y ∷ ys) a h le =
-      let z = last_above x.leader_id (b + 1) i y ys a.1 h.1 (omega arith) in
-      (z.0, z.1, AtMost-trans total c x.leader_id z.0.leader_id a.0 z.2, z.3)
-
-  last_at_least : (c : C) (b j : ℕ) (xs : List (LogIdOf C)) (x : LogIdOf C) → Above cmp total c xs → From b xs → id_at xs j ≡ Some x → (z : LogIdOf C) × (last_id xs ≡ Some z) × (is_le (cmp x.leader_id z.leader_id) ≡ true) × (j ≤ z.index)
-  last_at_least c b j [] x a h e = cc
-  last_at_least c b j (y ∷ ys) x a h e = by (y.index == j) refl e (λ k. last_at_least y.leader_id (b + 1) j ys x a.1 h.1 k)
-    where
-      here : y.index ≡ j → y ≡ x → (z : LogIdOf C) × (last_id (y ∷ ys) ≡ Some z) × (is_le (cmp x.leader_id z.leader_id) ≡ true) × (j ≤ z.index)
-      here at f =
-          let h0 = h.0 in
-          let own : Above cmp total y.leader_id (y ∷ ys) = (AtMost-refl total y.leader_id, a.1) in
-          let z = last_above y.leader_id b j y ys own h (omega arith) in
-          (z.0, z.1, subst (λ (w : LogIdOf C). is_le (cmp w.leader_id z.0.leader_id) ≡ true) f z.2, z.3)
-
-      later : (zs : List (LogIdOf C)) → id_at zs j ≡ Some x → ((z : LogIdOf C) × (last_id zs ≡ Some z) × (is_le (cmp x.leader_id z.leader_id) ≡ true) × (j ≤ z.index))
-          → (z : LogIdOf C) × (last_id (y ∷ zs) ≡ Some z) × (is_le (cmp x.leader_id z.leader_id) ≡ true) × (j ≤ z.index)
-      later [] e last = cc
-      later (w ∷ ws) e last = last
-
-      by : (t : Bool) → t ≡ (y.index == j) → (if t then Some y else id_at ys j) ≡ Some x
-          → (id_at ys j ≡ Some x → (z : LogIdOf C) × (last_id ys ≡ Some z) × (is_le (cmp x.leader_id z.leader_id) ≡ true) × (j ≤ z.index))
-          → (z : LogIdOf C) × (last_id (y ∷ ys) ≡ Some z) × (is_le (cmp x.leader_id z.leader_id) ≡ true) × (j ≤ z.index)
-      by true t e rest = let f : y ≡ x = cc in here (grind (arith, nat_tests)) f
-      by false t e rest = later ys e (rest e)
-
   alone : (id : LogIdOf C) → IsFrom cmp id (id ∷ [])
   alone id = let r = AtMost-refl (optional-log_id_cmp-total total) (Some id) in record { first = id; is_first = refl; index = refl; first_at_most = r; last_at_least = r }
 
@@ -159,7 +125,7 @@ module _ {C : Type 0} (cmp : C → C → Ordering) (eq : C → C → Bool) (tota
           let f = found eq (id_at (full_log (k ∷ ks)) id.index) id h in
           let f3 = f.3 in
           let w = within (first_index (full_log (k ∷ ks))) id.index (full_log (k ∷ ks)) f.0 row f.1 in let w0 = w.0 in
-          let z = last_at_least k.leader_id (first_index (full_log (k ∷ ks))) id.index (full_log (k ∷ ks)) f.0 (above_full cmp total k.leader_id k ks s (AtMost-refl total k.leader_id)) row f.1 in
+          let z = last_at_least cmp total k.leader_id (first_index (full_log (k ∷ ks))) id.index (full_log (k ∷ ks)) f.0 (above_full cmp total k.leader_id k ks s (AtMost-refl total k.leader_id)) row f.1 in
           let t : nat_lt id.index (first_index (full_log (k ∷ ks))) ≡ false = grind (arith, nat_tests) in
           rw t (record {
             first = f.0;
@@ -193,7 +159,7 @@ module _ {C : Type 0} (cmp : C → C → Ordering) (eq : C → C → Bool) (tota
       whole [] is h = cc
       whole (k ∷ ks) is h =
           let f = found eq (id_at (full_log (k ∷ ks)) id.index) id h in
-          let z = last_at_least k.leader_id (first_index (full_log (k ∷ ks))) id.index (full_log (k ∷ ks)) f.0 (above_full cmp total k.leader_id k ks is (AtMost-refl total k.leader_id)) (from_first cmp (k ∷ ks) is) f.1 in
+          let z = last_at_least cmp total k.leader_id (first_index (full_log (k ∷ ks))) id.index (full_log (k ∷ ks)) f.0 (above_full cmp total k.leader_id k ks is (AtMost-refl total k.leader_id)) (from_first cmp (k ∷ ks) is) f.1 in
           let z3 = z.3 in
           let t : nat_le id.index z.0.index ≡ true = grind (arith, nat_tests) in
           rw z.1 (either (nat_le id.index z.0.index) (is_le (cmp z.0.leader_id id.leader_id)) t)

@@ -20,5 +20,9 @@ pub mod RefusalLemmas
 pub mod DeniedLemmas
 pub mod CommitLemmas
 pub mod FrontLemmas
+pub mod KeptLemmas
 pub mod TruncateLemmas
+pub mod StateExtendLemmas
+pub mod StatePurgeLemmas
 pub mod InstallLemmas
+pub mod CommittedLemmas

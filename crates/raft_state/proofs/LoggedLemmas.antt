@@ -19,7 +19,7 @@ use Rattle.raft_base.specs.LogId.{next_index, id_le, index_of, same_ids}
 use Rattle.raft_base.specs.LogIndex.{index_le}
 use Rattle.raft_base.specs.LogView.{LogView, prev_id}
 use Rattle.raft_base.specs.Logged.{Logged}
-use Rattle.raft_state.specs.Valid.{fits_purged_next, has_purge_id}
+use Rattle.raft_state.specs.Valid.{fits_purged_next, none_or_logged}
 
 -- a log of these keys with this purge point
 abbrev pub log_of_keys : {C : Type 0} → List (LogIdOf C) → Option (LogIdOf C) → LogView C → LogView C
@@ -168,6 +168,6 @@ some_there eq (Some x) u h = refl
 -- the purge point of a valid state is in its log, or its log begins at index 0
 pub purge_in : {C : Type 0} (cmp : C → C → Ordering) (eq : C → C → Bool) (next : ℕ) (keys : List (LogIdOf C)) (purge : Option (LogIdOf C)) (rest : LogView C)
     → fits_purged_next next (first_id (full_log keys)) ≡ true → id_le cmp (if next == 0 then None else first_id (full_log keys)) purge ≡ true
-    → has_purge_id eq (log_of_keys keys purge rest) purge ≡ true → PurgeIn keys purge
+    → none_or_logged eq (log_of_keys keys purge rest) purge ≡ true → PurgeIn keys purge
 purge_in cmp eq next keys None rest h k l = begins cmp next (full_log keys) (next == 0) refl h k
 purge_in cmp eq next keys (Some u) rest h k l = some_there eq (id_at (full_log keys) u.index) u l

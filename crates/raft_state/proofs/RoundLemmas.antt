@@ -1,8 +1,9 @@
 -- What stands between the visits of a round, and what is granted after it.
-use Rattle.std.proofs.Common.{◌≡◌, ◌⊎◌, inl, inr, ℕ, ◌+◌, Bool, true, false, ◌&&◌, ◌||◌, List, [], ◌∷◌, ◌++◌, length, Option, Some, refl, sym, ap, ◌∙◌, subst, arith, if◌then◌else◌}
+use Rattle.std.proofs.Common.{◌≡◌, ◌⊎◌, inl, inr, ℕ, ◌+◌, ◌≤◌, Bool, true, false, ◌&&◌, ◌||◌, List, [], ◌∷◌, ◌++◌, length, Option, Some, refl, sym, ap, ◌∙◌, subst, arith, if◌then◌else◌}
 use Rattle.std.proofs.lemmas.List.{append_assoc, append-nil}
 use Rattle.std.proofs.lemmas.Cmp.{tied_itself}
 use Rattle.std.specs.Cmp.{IsEquivalence, IsTotalOrder, first_so, second_so}
+use Rattle.std.specs.Map.{keys_of}
 use Rattle.std.specs.Option.{option_cmp}
 use Rattle.std.specs.Ordering.{eq_by_cmp, ordering_reverse}
 use Rattle.std.specs.Set.{is_member}
@@ -15,7 +16,9 @@ use Rattle.raft_members.proofs.AddedLemmas.{is_equal}
 use Rattle.raft_progress.proofs.CatchUpLemmas.{le_of_eq, tied}
 use Rattle.raft_progress.specs.progress.CountedValue.{IsReached, reached}
 use Rattle.raft_progress.specs.progress.ProgressState.{Writes}
+use Rattle.raft_progress.proofs.RecountLemmas.{AtMost-refl, AtMost-trans}
 use Rattle.raft_progress.specs.progress.Shown.{Shown, state}
+use Rattle.raft_progress.specs.progress.Statistics.{count_after}
 use Rattle.raft_progress.specs.progress.Updated.{IsUpdated}
 use Rattle.raft_progress.specs.declared.entry.ProgressEntryOf.{ProgressEntryOf}
 use Rattle.raft_state.specs.Round.{Followers, HasRun, IsCaughtUp, IsInOrderByMatch, IsRound, IsRoundEnd, NonePastLast, QuorumRan, Visits}
@@ -91,6 +94,64 @@ module _ {ID C QS : Type 0} {eq : ID → ID → Bool} (e : IsEquivalence eq) (cm
       | inr now ↦ inr (rw r.3 (in_front r.0 pair.0 r.1 x now.0 now.1))
     ]
   ]
+
+  -- those that ran are among the followers
+  ran_few : (did : Bool) (id : ID) (rest : List ID) (m : ℕ) → length rest ≤ m → length (if did then id ∷ rest else rest) ≤ m + 1
+  ran_few true id rest m le = let s : length (id ∷ rest) ≡ length rest + 1 = omega arith in omega arith
+  ran_few false id rest m le = omega arith
+
+  pub few : (old : Followers ID C QS) (pairs : List (ID × ℕ)) (ran : List ID) (new : Followers ID C QS) → IsRound eq cmp has_quorum log n can old pairs ran new → length ran ≤ length pairs
+  few old [] ran new r = rw r.0 (omega arith)
+  few old (pair ∷ pairs) ran new r =
+      let s : length (pair ∷ pairs) ≡ length pairs + 1 = omega arith in
+      rw (r.3, s) (ran_few r.0 pair.0 r.1 (length pairs) (few r.2 pairs r.1 new r.5))
+
+  ran_among : (did : Bool) (id : ID) (rest ids : List ID) (x : ID) → is_member eq (if did then id ∷ rest else rest) x ≡ true → (is_member eq rest x ≡ true → is_member eq ids x ≡ true) → is_member eq (id ∷ ids) x ≡ true
+  ran_among true id rest ids x h more = by (eq x id) h
+    where
+      by : (b : Bool) → (b || is_member eq rest x) ≡ true → (b || is_member eq ids x) ≡ true
+      by true h = refl
+      by false h = more h
+  ran_among false id rest ids x h more = or_right (eq x id) (is_member eq ids x) (more h)
+
+  pub among : (old : Followers ID C QS) (pairs : List (ID × ℕ)) (ran : List ID) (new : Followers ID C QS) → IsRound eq cmp has_quorum log n can old pairs ran new
+      → (x : ID) → is_member eq ran x ≡ true → is_member eq (keys_of pairs) x ≡ true
+  among old [] ran new r x h = let g : is_member eq [] x ≡ true = rw r.0 at h in cc
+  among old (pair ∷ pairs) ran new r x h = ran_among r.0 pair.0 r.1 (keys_of pairs) x (rw r.3 at h) (among r.2 pairs r.1 new r.5 x)
+
+  -- each run is an update, and where none ran nothing has changed
+  pub record Counts (ran : ℕ) (old new : Followers ID C QS) : Type 0 where
+    pub updates : 1 ≤ ran → new.stat.update_count ≡ count_after old.stat.update_count ran
+    pub none_ran : ran ≡ 0 → new ≡ old
+
+  visit_counts : (old : Followers ID C QS) (id : ID) (agree : ℕ) (did : Bool) (middle new : Followers ID C QS) (rest : List ID) → Visits eq cmp has_quorum log n can old id agree did middle
+      → Counts (length rest) middle new → Counts (length (if did then id ∷ rest else rest)) old new
+  visit_counts old id agree true middle new [] v c = record {
+    updates = λ some. ap (λ (p : Followers ID C QS). p.stat.update_count) (c.none_ran refl) ∙ v.updated.counts;
+    none_ran = λ none. absurd (omega arith);
+  }
+  visit_counts old id agree true middle new (x ∷ rest) v c = record {
+    updates = λ some. (let more = c.updates (omega arith) in let one = v.updated.counts in omega arith);
+    none_ran = λ none. absurd (omega arith);
+  }
+  visit_counts old id agree false middle new rest v c = record {
+    updates = λ some. rw (← v.same) (c.updates some);
+    none_ran = λ none. c.none_ran none ∙ v.same;
+  }
+
+  pub counts : (old : Followers ID C QS) (pairs : List (ID × ℕ)) (ran : List ID) (new : Followers ID C QS) → IsRound eq cmp has_quorum log n can old pairs ran new → Counts (length ran) old new
+  counts old [] ran new r = rw r.0 (record { updates = λ some. absurd (omega arith); none_ran = λ none. r.1 })
+  counts old (pair ∷ pairs) ran new r = rw r.3 (visit_counts old pair.0 pair.1 r.0 r.2 new r.1 r.4 (counts r.2 pairs r.1 new r.5))
+
+  -- granted never falls
+  visit_not_lower : IsTotalOrder cmp → (old : Followers ID C QS) (id : ID) (agree : ℕ) (did : Bool) (new : Followers ID C QS) → Visits eq cmp has_quorum log n can old id agree did new → id_le cmp old.granted new.granted ≡ true
+  visit_not_lower total old id agree true new v = v.updated.not_lower
+  visit_not_lower total old id agree false new v = rw v.same (AtMost-refl (optional-log_id_cmp-total total) old.granted)
+
+  pub not_lower : IsTotalOrder cmp → (old : Followers ID C QS) (pairs : List (ID × ℕ)) (ran : List ID) (new : Followers ID C QS) → IsRound eq cmp has_quorum log n can old pairs ran new → id_le cmp old.granted new.granted ≡ true
+  not_lower total old [] ran new r = rw r.1 (AtMost-refl (optional-log_id_cmp-total total) old.granted)
+  not_lower total old (pair ∷ pairs) ran new r =
+      AtMost-trans (optional-log_id_cmp-total total) old.granted r.2.granted new.granted (visit_not_lower total old pair.0 pair.1 r.0 r.2 r.4) (not_lower total r.2 pairs r.1 new r.5)
 
   -- some followers ran so far and are caught up, and any round from here is one from the start
   pub record Along (same_leader : C → C → Bool) (old : Followers ID C QS) (pairs : List (ID × ℕ)) (count : ℕ) (now : Followers ID C QS) (left : List (ID × ℕ)) : Type 0 where
@@ -212,16 +273,24 @@ module _ {ID C QS : Type 0} {same_leader : C → C → Bool} {eq : ID → ID →
   pub round_end : (count : ℕ) → count ≡ length ran → IsRoundEnd eq same_leader cmp has_quorum log n can old pairs count new ran
   round_end count is = record {
     counted = is;
+    few = rw is (few e cmp has_quorum log n can old pairs ran new round);
+    among = among e cmp has_quorum log n can old pairs ran new round;
     round = round;
     caught_up = caught;
     others = others;
     voters = stays.is_voter;
     quorum_set = stays.quorum_set;
     default_part = stays.default_part;
+    updates = λ some. rw is (all.updates (rw is at some));
+    none_ran = λ none. all.none_ran (sym is ∙ none);
+    not_lower = not_lower e cmp has_quorum log n can total old pairs ran new round;
     last_at_most = grants;
     last_at_least = grants_no_more;
   }
     where
+      all : Counts e cmp has_quorum log n can (length ran) old new
+      all = counts e cmp has_quorum log n can old pairs ran new round
+
       others : (id : ID) → is_member eq ran id ≡ false → (state eq new).value id ≡ (state eq old).value id
       others id h = elim (kept_or_ran e cmp has_quorum log n can old pairs ran new round id) [
         | inl same ↦ same

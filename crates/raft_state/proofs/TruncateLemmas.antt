@@ -27,7 +27,7 @@ use Rattle.raft_state.specs.Truncate.{may_truncate}
 use Rattle.raft_state.specs.Valid.{broken_relation, fits_purged_next, upto_relation}
 use Rattle.raft_state.specs.declared.raft_state.RaftStateIn.{RaftStateIn}
 
-none_at_most : {C : Type 0} (cmp : C → C → Ordering) (a : Option (LogIdOf C)) → id_le cmp None a ≡ true
+pub none_at_most : {C : Type 0} (cmp : C → C → Ordering) (a : Option (LogIdOf C)) → id_le cmp None a ≡ true
 none_at_most cmp None = refl
 none_at_most cmp (Some a) = refl
 

@@ -9,11 +9,13 @@ pub mod FullLogLaws
 pub mod Install
 pub mod IOState
 pub mod Entry
+pub mod EntryLaws
 pub mod Inner
 pub mod Keys
 pub mod Leads
 pub mod LogConditions
 pub mod LogEdits
+pub mod LogKept
 pub mod LogOrder
 pub mod LogReads
 pub mod LogReadsLaws

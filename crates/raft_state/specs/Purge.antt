@@ -1,10 +1,11 @@
--- When the log of a state may be purged.
-use Rattle.std.specs.Prelude.{◌+◌, ◌^◌, Bool, ◌&&◌, nat_le, nat_lt, List}
+-- When the log of a state may be purged, and where it begins then.
+use Rattle.std.specs.Prelude.{◌+◌, ◌^◌, Bool, ◌&&◌, nat_le, nat_lt, List, Option, Some}
+use Rattle.std.specs.Option.{option_or}
 use Rattle.std.specs.declared.cmp.Ordering.{Ordering}
 use Rattle.raft_base.specs.declared.log_id.LogIdOf.{LogIdOf}
 use Rattle.raft_state.specs.FullLog.{first_index}
 use Rattle.raft_state.specs.LogConditions.{may_be_purged_to}
-use Rattle.raft_state.specs.LogReads.{last_id}
+use Rattle.raft_state.specs.LogReads.{id_at, last_id}
 
 -- the list may be purged to the log id, which is not below the first one by
 -- index, and has an index after it
@@ -12,3 +13,8 @@ abbrev pub may_purge : {C : Type 0} → (C → C → Ordering) → List (LogIdOf
 may_purge cmp log upto =
     may_be_purged_to cmp (last_id log) upto && nat_le (first_index log) upto.index
     && nat_lt (upto.index + 1) (2 ^ 64)
+
+-- the first log id of a log that is purged so: the one at that index, or where there is none the log
+-- id itself
+abbrev pub first_after_purge : {C : Type 0} → List (LogIdOf C) → LogIdOf C → Option (LogIdOf C)
+first_after_purge log upto = option_or (id_at log upto.index) (Some upto)

@@ -1,6 +1,7 @@
 -- A round of catching up: followers, one after the other.
-use Rattle.std.specs.Prelude.{◌≡◌, ℕ, Bool, true, false, ◌&&◌, if◌then◌else◌, IsTrue}
+use Rattle.std.specs.Prelude.{◌≡◌, ℕ, ◌≤◌, Bool, true, false, ◌&&◌, if◌then◌else◌, IsTrue}
 use Rattle.std.specs.Prelude.{List, [], ◌∷◌, length, Option, Some}
+use Rattle.std.specs.Map.{keys_of}
 use Rattle.std.specs.Option.{ForSome, option_cmp}
 use Rattle.std.specs.Set.{is_member}
 use Rattle.std.specs.declared.cmp.Ordering.{Ordering}
@@ -11,6 +12,7 @@ use Rattle.raft_progress.specs.catch_up.CatchUp.{MatchesAll}
 use Rattle.raft_progress.specs.catch_up.HonestRun.{HonestRunEnds}
 use Rattle.raft_progress.specs.progress.InOrder.{IsInOrder}
 use Rattle.raft_progress.specs.progress.Shown.{Shown, state}
+use Rattle.raft_progress.specs.progress.Statistics.{count_after}
 use Rattle.raft_progress.specs.progress.Updated.{IsUpdated}
 use Rattle.raft_progress.specs.declared.entry.ProgressEntryOf.{ProgressEntryOf}
 
@@ -82,12 +84,15 @@ module _ {ID C QS : Type 0} (eq : ID → ID → Bool) where
 module _ {ID C QS : Type 0} (eq : ID → ID → Bool) (same_leader : C → C → Bool)
     (cmp : C → C → Ordering) (has_quorum : QS → (ID → Bool) → Bool) (log : LogView C)
     (max_entries : ℕ) (can : ProgressEntryOf C → ℕ → ℕ → Bool) where
-  -- after a round in which so many ran: each of those has all, every other value stays, and so do
-  -- voters, quorum set and default part; where a quorum ran, the last log id is granted, or more
-  -- where a voter's match was past it before
+  -- after a round in which so many of the followers ran: each of those has all, every other value
+  -- stays, and so do voters, quorum set and default part; each run is an update, and without one
+  -- nothing has changed; granted never falls, and where a quorum ran, the last log id is granted, or
+  -- more where a voter's match was past it before
   pub record IsRoundEnd (old : Followers ID C QS) (pairs : List (ID × ℕ)) (count : ℕ)
       (new : Followers ID C QS) (ran : List ID) : Type 0 where
     pub counted : count ≡ length ran
+    pub few : count ≤ length pairs
+    pub among : (id : ID) → is_member eq ran id ≡ true → is_member eq (keys_of pairs) id ≡ true
     pub round : IsRound eq cmp has_quorum log max_entries can old pairs ran new
     pub caught_up : (id : ID) → is_member eq ran id ≡ true → IsCaughtUp eq same_leader log new id
     pub others : (id : ID) → is_member eq ran id ≡ false
@@ -95,6 +100,10 @@ module _ {ID C QS : Type 0} (eq : ID → ID → Bool) (same_leader : C → C →
     pub voters : (id : ID) → (state eq new).is_voter id ≡ (state eq old).is_voter id
     pub quorum_set : new.quorum_set ≡ old.quorum_set
     pub default_part : new.default_part ≡ old.default_part
+    pub updates : 1 ≤ count
+        → new.stat.update_count ≡ count_after old.stat.update_count count
+    pub none_ran : count ≡ 0 → new ≡ old
+    pub not_lower : IsTrue (id_le cmp old.granted new.granted)
     pub last_at_most : QuorumRan eq has_quorum old ran → IsTrue (id_le cmp log.last new.granted)
     pub last_at_least : QuorumRan eq has_quorum old ran → NonePastLast eq cmp log old
         → IsTrue (id_le cmp new.granted log.last)

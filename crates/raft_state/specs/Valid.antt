@@ -44,6 +44,6 @@ abbrev pub broken_relation : {K N I L C : Type 0} → (C → C → Ordering) →
 broken_relation cmp s = first_false (state_relations cmp s)
 
 -- a log id is absent, or it is the one that the log has at its index
-abbrev pub has_purge_id : {C : Type 0} → (C → C → Bool) → LogView C → Option (LogIdOf C) → Bool
-has_purge_id eq log None = true
-has_purge_id eq log (Some id) = same_ids eq (log.id_at id.index) (Some id)
+abbrev pub none_or_logged : {C : Type 0} → (C → C → Bool) → LogView C → Option (LogIdOf C) → Bool
+none_or_logged eq log None = true
+none_or_logged eq log (Some id) = same_ids eq (log.id_at id.index) (Some id)

@@ -1,11 +1,12 @@
 //! Appending log entries, with the memberships that they store.
-ghost use Rattle.std.specs.Prelude.{◌≡◌, IsTrue, IfOk, OnOk, OnErr, map, is_some};
+ghost use Rattle.std.specs.Prelude.{◌≡◌, None, IsTrue, IfOk, OnOk, OnErr, map, is_some};
 ghost use Rattle.std.specs.Option.{option_or};
 ghost use Rattle.std.specs.Set.{ClonesAreEqual};
 ghost use Rattle.raft_state.specs.Appended.{may_append_entries, memberships_follow, begins_at_zero, AppendsMemberships};
 ghost use Rattle.raft_state.specs.FullLog.{full_log, same_log};
 ghost use Rattle.raft_state.specs.LogEdits.{log_after_extend};
 ghost use Rattle.raft_state.specs.LogReads.{last_id};
+ghost use Rattle.raft_state.specs.Valid.{broken_relation};
 ghost use Rattle.raft_members.specs.Stored.{log_id_of};
 
 use crate::entry::RaftEntry;
@@ -37,7 +38,7 @@ impl<
 
     /// Appends entries to the log, as `extend_log_ids` does, and makes the memberships that they
     /// store effective, one after the other; where `can_append_entries` is true. The memberships
-    /// are clones.
+    /// are clones. A valid state stays valid.
     ///
     /// After an error nothing has changed.
     pub fn append_entries<Ent: RaftEntry<C, Membership<NID, N>>>(
@@ -59,6 +60,8 @@ impl<
           membership_state = self.new.membership_state;
         } }
         ensures err { OnErr result (self.new ≡ self.old) }
+        ensures valid { broken_relation C.cmp self.old ≡ None →
+            broken_relation C.cmp self.new ≡ None }
     {
         let membership_state = self.memberships_after(entries)?;
         self.log_ids.extend(entries)?;

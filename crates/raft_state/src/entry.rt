@@ -79,6 +79,7 @@ fn default_log_id<C: Default>() -> LogIdOf<C>
 
 impl<C, NID: NodeId, N: Node, D> RaftPayload<Membership<NID, N>> for EntryOf<C, NID, N, D> {
     ghost use Rattle.raft_state.specs.Entry.{is_blank_payload, payload_membership};
+    ghost use Rattle.raft_state.specs.EntryLaws.{blank_stores_none as none_in_blank};
 
     ghost blank = { λ entry. is_blank_payload entry.payload };
 
@@ -91,6 +92,8 @@ impl<C, NID: NodeId, N: Node, D> RaftPayload<Membership<NID, N>> for EntryOf<C, 
     fn get_membership(&self) -> Option<&Membership<NID, N>> {
         self.payload.get_membership()
     }
+
+    ghost blank_stores_none = { λ entry is_blank. none_in_blank entry.payload is_blank };
 }
 
 impl<C: Copy, NID: NodeId, N: Node, D> RaftLogId<C> for EntryOf<C, NID, N, D> {
@@ -137,6 +140,10 @@ impl<C: Copy + fmt::Debug + fmt::Display, NID: NodeId, N: Node, D> RaftEntry<C, 
             payload: EntryPayload::Membership(membership),
         }
     }
+
+    ghost keeps_membership = { λ entry id. refl };
+
+    ghost keeps_blank = { λ entry id. refl };
 }
 
 impl<C: Default, NID: NodeId, N: Node, D> FromAppData<D> for EntryOf<C, NID, N, D> {

@@ -1,9 +1,12 @@
 //! The log ids of a whole log, kept by few of them.
-ghost use Rattle.std.specs.Prelude.{◌≡◌, ◌+◌, ◌≤◌, ◌&&◌, max, length, map, [], Some, IsOkAnd, IfOk, IfSome, IsOk, OnOk, OnErr, IsTrue, nat_eq, nat_le, nat_lt};
+ghost use Rattle.std.specs.Prelude.{◌≡◌, ℕ, ◌+◌, ◌≤◌, ◌<◌, ◌&&◌, min, max, length, map, [], Some, IsOkAnd, IfOk, IfSome, IsOk, OnOk, OnErr, IsTrue, nat_eq, nat_le, nat_lt, if◌then◌else◌};
 ghost use Rattle.std.specs.Option.{is_some, option_copied, option_or};
+ghost use Rattle.raft_base.specs.LogId.{id_le};
+ghost use Rattle.raft_base.specs.LogView.{prev_id};
 ghost use Rattle.raft_state.specs.FullLog.{full_log, first_index, end_index, same_log};
 ghost use Rattle.raft_state.specs.LogReads.{id_at, first_id, last_id, last_two_share_leader, leader_count};
 ghost use Rattle.raft_state.specs.LogEdits.{log_after_append, log_after_extend, front, log_after_purge};
+ghost use Rattle.raft_state.specs.LogKept.{HasIds, KeepsIds};
 ghost use Rattle.raft_state.specs.LogConditions.{follows, all_follow, all_follow_of_one_leader, may_be_purged_to};
 ghost use Rattle.raft_state.specs.Keys.{may_be_keys, by_last_leader};
 
@@ -86,6 +89,11 @@ impl<C: Ord + Copy> LogIdListOf<C> {
             (log_after_extend (full_log self.old) (map LID.id_of new_ids.now)))) }
         ensures last { OnOk result (last_id (full_log self.new)
             ≡ option_or (last_id (map LID.id_of new_ids.now)) (last_id (full_log self.old))) }
+        ensures not_lowered { OnOk result (IsTrue (id_le C.cmp (last_id (full_log self.old))
+            (last_id (full_log self.new)))) }
+        ensures kept { OnOk result (KeepsIds C.eq (full_log self.old) (full_log self.new)) }
+        ensures own { OnOk result
+            (HasIds C.eq (map LID.id_of new_ids.now) (full_log self.new)) }
         ensures err { OnErr result (self.new ≡ self.old) }
         ensures no_memory { new_ids.now ≡ [] → IsOk result }
     {
@@ -110,6 +118,11 @@ impl<C: Ord + Copy> LogIdListOf<C> {
             (log_after_extend (full_log self.old) (map LID.id_of new_ids.now)))) }
         ensures last { OnOk result (last_id (full_log self.new)
             ≡ option_or (last_id (map LID.id_of new_ids.now)) (last_id (full_log self.old))) }
+        ensures not_lowered { OnOk result (IsTrue (id_le C.cmp (last_id (full_log self.old))
+            (last_id (full_log self.new)))) }
+        ensures kept { OnOk result (KeepsIds C.eq (full_log self.old) (full_log self.new)) }
+        ensures own { OnOk result
+            (HasIds C.eq (map LID.id_of new_ids.now) (full_log self.new)) }
         ensures err { OnErr result (self.new ≡ self.old) }
         ensures no_memory { new_ids.now ≡ [] → IsOk result }
     {
@@ -138,6 +151,9 @@ impl<C: Ord + Copy> LogIdListOf<C> {
         ensures last_two { IfSome (last_id (full_log self.old)) (λ last. OnOk result
             (last_two_share_leader C.eq (full_log self.new)
             ≡ C.eq last.leader_id new_log_id.leader_id)) }
+        ensures kept { OnOk result (KeepsIds C.eq (full_log self.old) (full_log self.new)) }
+        ensures own { OnOk result
+            (id_at (full_log self.new) new_log_id.index ≡ Some new_log_id) }
         ensures err { OnErr result (self.new ≡ self.old) }
         ensures no_memory { IsTrue (last_two_share_leader C.eq (full_log self.old)) → IsOk result }
     {
@@ -155,7 +171,14 @@ impl<C: Ord + Copy> LogIdListOf<C> {
 
     /// Keeps the log ids with index below `at`. It takes no memory.
     pub fn truncate(&mut self, at: u64)
-        ensures { full_log self.new ≡ front (full_log self.old) at }
+        ensures log { full_log self.new ≡ front (full_log self.old) at }
+        ensures last { last_id (full_log self.new)
+            ≡ prev_id (id_at (full_log self.old)) (min at (end_index (full_log self.old))) }
+        ensures end { end_index (full_log self.new)
+            ≡ (if nat_lt (first_index (full_log self.old)) at
+            then min at (end_index (full_log self.old)) else 0) }
+        ensures kept { (index : ℕ) → index < at →
+            id_at (full_log self.new) index ≡ id_at (full_log self.old) index }
     {
         keys::truncate(&mut self.key_log_ids, at);
     }
@@ -172,6 +195,14 @@ impl<C: Ord + Copy> LogIdListOf<C> {
             upto.now) }
         ensures first { OnOk result (first_index (full_log self.new)
             ≡ max (first_index (full_log self.old)) upto.now.index) }
+        ensures last { OnOk result (last_id (full_log self.new)
+            ≡ (if nat_le (end_index (full_log self.old)) upto.now.index
+            then Some upto.now else last_id (full_log self.old))) }
+        ensures end { OnOk result (end_index (full_log self.new)
+            ≡ max (end_index (full_log self.old)) (upto.now.index + 1)) }
+        ensures kept { OnOk result ((index : ℕ) → upto.now.index ≤ index →
+            index < end_index (full_log self.old) →
+            id_at (full_log self.new) index ≡ id_at (full_log self.old) index) }
         ensures was_empty { OnErr result (full_log self.old ≡ []) }
         ensures err { OnErr result (self.new ≡ self.old) }
     {

@@ -1,28 +1,30 @@
 //! The whole state of a node.
-ghost use Rattle.std.specs.Prelude.{◌≡◌, ◌+◌, ◌&&◌, true, false, IsTrue, IfOk, IsOk, OnOk, OnErr, None, [], map};
+ghost use Rattle.std.specs.Prelude.{◌≡◌, ◌+◌, ◌≤◌, ◌&&◌, ℕ, true, false, IsTrue, IfOk, IfSome, IsOk, OnOk, OnErr, None, Some, [], map, length, take, slice_get};
 ghost use Rattle.std.specs.List.{list_all};
 ghost use Rattle.std.specs.Option.{option_copied, option_or};
 ghost use Rattle.std.specs.Ordering.{partial_ge};
 ghost use Rattle.std.specs.Set.{ClonesAreEqual};
 ghost use Rattle.raft_base.specs.Logged.{Logged};
-ghost use Rattle.raft_base.specs.LogId.{id_le};
+ghost use Rattle.raft_base.specs.LogId.{id_le, index_of};
+ghost use Rattle.raft_base.specs.LogIndex.{index_lt};
 ghost use Rattle.raft_base.specs.LogView.{has_id, may_ask};
 ghost use Rattle.raft_base.specs.UTime.{moment_of};
 ghost use Rattle.raft_members.specs.Majority.{is_voter_of};
 ghost use Rattle.raft_state.specs.Accepted.{leader_of, accepted_id, after_accept};
+ghost use Rattle.raft_state.specs.Appended.{begins_at_zero};
 ghost use Rattle.raft_state.specs.Commit.{state_after_commit, committed_before, state_commits, state_may_commit};
 ghost use Rattle.raft_state.specs.FirstDenied.{first_denied};
 ghost use Rattle.raft_state.specs.FullLog.{full_log, same_log};
 ghost use Rattle.raft_state.specs.Leads.{is_initialized, is_leading, server_state_of, known_leader, ForwardsTo};
 ghost use Rattle.raft_state.specs.LogConditions.{all_follow, all_follow_of_one_leader};
-ghost use Rattle.raft_state.specs.LogEdits.{log_after_extend, log_after_purge};
+ghost use Rattle.raft_state.specs.LogEdits.{front, log_after_extend, log_after_purge};
 ghost use Rattle.raft_state.specs.LogReads.{last_id};
 ghost use Rattle.raft_state.specs.Memberships.{in_effect};
 ghost use Rattle.raft_state.specs.NewState.{IsNewState, HasNewVote};
-ghost use Rattle.raft_state.specs.Purge.{may_purge};
+ghost use Rattle.raft_state.specs.Purge.{first_after_purge, may_purge};
 ghost use Rattle.raft_state.specs.SnapshotMeta.{IsSnapshotCopy};
 ghost use Rattle.raft_state.specs.StateView.{view_of, vote_of};
-ghost use Rattle.raft_state.specs.Valid.{broken_relation, fits_purged_next, has_purge_id, upto_relation};
+ghost use Rattle.raft_state.specs.Valid.{broken_relation, fits_purged_next, none_or_logged, upto_relation};
 
 pub use crate::accepted::Accepted;
 use crate::accepted::AcceptedIn;
@@ -223,12 +225,14 @@ impl<
     ghost use Rattle.raft_state.specs.contracts.raft_state.RaftStateIn.{the_row};
     ghost use Rattle.raft_state.specs.contracts.io_state.IOStateIn.{the_row as the_io_row};
 
-    /// The state of a new node, in place of a `Default`, which has no allocator.
+    /// The state of a new node, in place of a `Default`, which has no allocator. Its vote is of term
+    /// 0, before each term in which a node votes.
     pub fn try_default(alloc: Global) -> Result<Self, AllocError>
         ensures new { IfOk result IsNewState }
         ensures new_vote { IfOk result (λ s. (leader : L) × (granted : C)
             × L.Default.is_default leader × C.Default.is_default granted
             × HasNewVote leader granted s) }
+        ensures first_term { IfOk result (λ s. L.term_of (vote_of s).leader_id ≡ 0) }
         ensures valid { IfOk result (λ s. broken_relation C.cmp s ≡ None) }
     {
         // What can be refused is made first, so that little is owned at each way out.
@@ -331,8 +335,9 @@ impl<
     /// Appends log ids of one leader to the log, as `LogIdListOf::extend_from_same_leader`;
     /// `log_ids.can_extend_from_same_leader` tests them.
     ///
-    /// Memberships stay as they are. Whoever appends entries that store memberships makes these
-    /// effective too, as `append_entries` does; else the state is valid, and counts by old quorums.
+    /// A valid state stays valid, but an empty log has to begin at index 0. Memberships stay as they
+    /// are: whoever appends entries that store memberships makes these effective too, as
+    /// `append_entries` does; else the state is valid, and counts by old quorums.
     pub fn extend_log_ids_from_same_leader<LID: RaftLogId<C>>(
         &mut self,
         new_log_ids: &[LID],
@@ -346,14 +351,19 @@ impl<
             (last_id (full_log self.old.log_ids))) }
         ensures rest { self.new ≡ record self.old { log_ids = self.new.log_ids } }
         ensures err { OnErr result (self.new ≡ self.old) }
+        ensures valid { broken_relation C.cmp self.old ≡ None → IsTrue
+            (begins_at_zero (full_log self.old.log_ids) (map LID.id_of new_log_ids.now)) →
+            broken_relation C.cmp self.new ≡ None }
         ensures no_memory { new_log_ids.now ≡ [] → IsOk result }
     {
-        self.log_ids.extend_from_same_leader(new_log_ids)
+        self.log_ids.extend_from_same_leader(new_log_ids)?;
+        Ok(())
     }
 
     /// Appends log ids to the log, as `LogIdListOf::extend`; `log_ids.can_extend` tests them.
     ///
-    /// Memberships stay as they are, as with `extend_log_ids_from_same_leader`.
+    /// Memberships stay as they are, and a valid state valid, as with
+    /// `extend_log_ids_from_same_leader`.
     pub fn extend_log_ids<LID: RaftLogId<C>>(
         &mut self,
         new_log_ids: &[LID],
@@ -367,9 +377,13 @@ impl<
             (last_id (full_log self.old.log_ids))) }
         ensures rest { self.new ≡ record self.old { log_ids = self.new.log_ids } }
         ensures err { OnErr result (self.new ≡ self.old) }
+        ensures valid { broken_relation C.cmp self.old ≡ None → IsTrue
+            (begins_at_zero (full_log self.old.log_ids) (map LID.id_of new_log_ids.now)) →
+            broken_relation C.cmp self.new ≡ None }
         ensures no_memory { new_log_ids.now ≡ [] → IsOk result }
     {
-        self.log_ids.extend(new_log_ids)
+        self.log_ids.extend(new_log_ids)?;
+        Ok(())
     }
 
     /// Whether `update_committed` may be called with a log id: it is not greater than the committed
@@ -452,8 +466,13 @@ impl<
     pub fn first_conflicting_index<Ent: RaftLogId<C>>(&self, entries: &[Ent]) -> usize
         requires { IsTrue (list_all (λ e. may_ask C.cmp (view_of self.now) (Ent.id_of e))
             entries.now) }
-        ensures { result ≡ first_denied (λ e. has_id C.eq (view_of self.now) (Ent.id_of e))
+        ensures place { result ≡ first_denied (λ e. has_id C.eq (view_of self.now) (Ent.id_of e))
             entries.now }
+        ensures within { result ≤ length entries.now }
+        ensures before { IsTrue (list_all (λ e. has_id C.eq (view_of self.now) (Ent.id_of e))
+            (take result entries.now)) }
+        ensures at { IfSome (slice_get entries.now result)
+            (λ e. has_id C.eq (view_of self.now) (Ent.id_of e) ≡ false) }
     {
         for (place, entry) in entries.iter().enumerate() {
             if !self.has_entry(entry) {
@@ -486,7 +505,8 @@ impl<
     }
 
     /// Takes the log as purged up to a log id, where `can_purge_log` is true. Only an empty log
-    /// wants memory.
+    /// wants memory. Where the log id at that index is at most the purge point, a valid state stays
+    /// valid.
     ///
     /// After an error nothing has changed.
     pub fn purge_log(&mut self, upto: &LogIdOf<C>) -> Result<(), AllocError>
@@ -499,7 +519,12 @@ impl<
         }) }
         ensures was_empty { OnErr result (full_log self.old.log_ids ≡ []) }
         ensures err { OnErr result (self.new ≡ self.old) }
+        ensures valid { broken_relation C.cmp self.old ≡ None → IsTrue (id_le C.cmp
+            (first_after_purge (full_log self.old.log_ids) upto.now) self.old.purge_upto) →
+            broken_relation C.cmp self.new ≡ None }
     {
+        // Its contract says that indexes are consecutive.
+        let _keys = self.log_ids.key_log_ids();
         self.log_ids.purge(upto)?;
         self.purged_next = upto.index + 1;
         Ok(())
@@ -511,21 +536,37 @@ impl<
     /// A valid state may have a purge point that is not in its log: its relations compare log ids
     /// by their leaders first.
     pub fn purge_upto_is_logged(&self) -> bool
-        ensures exact { result ≡ has_purge_id C.eq (view_of self.now) self.now.purge_upto }
+        ensures exact { result ≡ none_or_logged C.eq (view_of self.now) self.now.purge_upto }
         ensures logged { broken_relation C.cmp self.now ≡ None → IsTrue result →
             Logged C.cmp (view_of self.now) }
     {
         let _keys = self.log_ids.key_log_ids();
-        self.has_purge_upto()
+        self.is_none_or_logged(self.purge_upto)
     }
 
-    // Whether the purge point is absent or the log id at its index.
-    fn has_purge_upto(&self) -> bool
-        ensures { result ≡ has_purge_id C.eq (view_of self.now) self.now.purge_upto }
+    /// Whether the committed log id is absent or the log id at its index, as the last purged one is.
+    /// The log may then be cut off anywhere past it.
+    ///
+    /// A valid state may have committed a log id that is not in its log: its relations compare log
+    /// ids by their leaders first.
+    pub fn committed_is_logged(&self) -> bool
+        ensures exact { result ≡ none_or_logged C.eq (view_of self.now) self.now.committed }
+        ensures cut { IsTrue result → (since : ℕ) →
+            IsTrue (index_lt (index_of self.now.committed) (Some since)) → IsTrue (id_le C.cmp
+            self.now.committed (last_id (front (full_log self.now.log_ids) since))) }
     {
-        match self.purge_upto {
+        // Its contract says that indexes are consecutive.
+        let _keys = self.log_ids.key_log_ids();
+        self.is_none_or_logged(self.committed)
+    }
+
+    // Whether a log id is absent or the one at its index.
+    fn is_none_or_logged(&self, log_id: Option<LogIdOf<C>>) -> bool
+        ensures { result ≡ none_or_logged C.eq (view_of self.now) log_id }
+    {
+        match log_id {
             None => true,
-            Some(upto) => same_optional_log_ids(self.log_ids.get(upto.index), Some(upto)),
+            Some(id) => same_optional_log_ids(self.log_ids.get(id.index), Some(id)),
         }
     }
 

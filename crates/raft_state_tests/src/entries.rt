@@ -1,4 +1,5 @@
 //! Calls of log entries.
+ghost use Rattle.std.specs.Prelude.{◌≡◌};
 
 use raft_base::{CommittedLeaderId, LogId, LogIdOf, RaftLogId, leader_id_std};
 use raft_members::Membership;
@@ -24,6 +25,18 @@ fn are_as_made<C: Copy + Eq, E: RaftEntry<C, Members> + Drop>(
         && !stores.is_blank()
         && stores.get_membership().is_some()
         && *stores.get_log_id() == log_id
+}
+
+/// Whether an entry with a membership keeps it under another log id, over any entry type.
+fn keeps_membership<C: Copy + Eq, E: RaftEntry<C, Members> + Drop>(
+    entry: &mut E,
+    log_id: LogIdOf<C>,
+) -> bool
+    ensures membership { E.membership entry.new ≡ E.membership entry.old }
+    ensures blank { E.blank entry.new ≡ E.blank entry.old }
+{
+    entry.set_log_id(&log_id);
+    entry.get_membership().is_some() && !entry.is_blank() && *entry.get_log_id() == log_id
 }
 
 /// The same, over an entry type with the default leader ids.
@@ -65,7 +78,12 @@ fn data_is_kept(alloc: Global, log_id: LogId<u64>) -> Result<bool, AllocError> {
         return Ok(false);
     }
     let payload = EntryPayload::Membership(members(alloc, "1,2", "1=4,3=6")?);
-    are_cloned(&data, &Data { log_id, payload }, &Data::default())
+    let mut stores = Data {
+        log_id: LogId::default(),
+        payload,
+    };
+    let is_kept = keeps_membership::<CommittedLeaderId<u64>, Data>(&mut stores, log_id);
+    Ok(is_kept && are_cloned(&data, &stores, &Data::default())?)
 }
 
 #[test]

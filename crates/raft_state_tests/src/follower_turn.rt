@@ -8,13 +8,13 @@ use raft_state::{EntryOf, EntryPayload, SnapshotMetaOf};
 use std::alloc::{AllocError, Global};
 use std::test::Fail;
 
-type Entry<K> = EntryOf<<K as LeaderKind<u64>>::Committed, u64, u64, u64>;
+pub type Entry<K> = EntryOf<<K as LeaderKind<u64>>::Committed, u64, u64, u64>;
 
-type Snapshot<K> = SnapshotMetaOf<<K as LeaderKind<u64>>::Committed, u64, u64>;
+pub type Snapshot<K> = SnapshotMetaOf<<K as LeaderKind<u64>>::Committed, u64, u64>;
 
 /// A state that has accepted nothing, of the leader 1 of term 9: with the log (1,1) to (1,3) and
 /// (3,4), committed up to a row, and memberships at two rows.
-fn follower<K: LeaderKind<u64>>(
+pub fn follower<K: LeaderKind<u64>>(
     alloc: Global,
     committed: Row,
     members: Row,
@@ -29,7 +29,10 @@ fn follower<K: LeaderKind<u64>>(
 }
 
 /// Cuts a log off from an index on, if that may be.
-fn cut<K: LeaderKind<u64>>(state: &mut State<K>, since: u64) -> Result<Option<bool>, AllocError> {
+pub fn cut<K: LeaderKind<u64>>(
+    state: &mut State<K>,
+    since: u64,
+) -> Result<Option<bool>, AllocError> {
     if state.can_truncate_log(since) {
         Ok(Some(state.truncate_log(since)?))
     } else {
@@ -83,7 +86,7 @@ fn keeps_members<K: LeaderKind<u64>>(alloc: Global) -> Result<bool, AllocError> 
 }
 
 /// A snapshot up to a row, with its membership at a row.
-fn snapshot<K: LeaderKind<u64>>(
+pub fn snapshot<K: LeaderKind<u64>>(
     alloc: Global,
     upto: Row,
     members: Row,
@@ -193,7 +196,7 @@ fn members(alloc: Global) -> Result<Membership<u64, u64>, AllocError> {
 }
 
 /// An entry of each kind, one after the other from a log id on, with a membership at the second one.
-fn entries<K: LeaderKind<u64>>(
+pub fn entries<K: LeaderKind<u64>>(
     alloc: Global,
     leader: u64,
     index: u64,

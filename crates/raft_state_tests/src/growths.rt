@@ -2,11 +2,12 @@
 //! turn or all of them.
 
 use super::catch_up::{catches_up_right, hundred, rounds_right};
+use super::follower_turn::{self, cut, entries, follower, snapshot};
 use super::followers::{Followers, followers};
 use super::memberships::{self, answers, are_at, commit_leads, cut_leads};
 use super::rows::{Effective, effective, ids, log_id};
 use super::whole::{self, accepts, commits, is_of_its_node, reads, valid_state, writes_io};
-use raft_base::{LeaderAdv, LogId, MessageSummary, Validate};
+use raft_base::{LeaderAdv, LogId, LogStateReader, MessageSummary, Validate};
 use raft_base_tests::growths::{Call, Growth, is_free, is_swept, refuse_each};
 use raft_members::StoredMembership;
 use raft_members_tests::words::members;
@@ -235,6 +236,90 @@ fn growths_of_states(rt: HostRuntime) -> Result<(), Fail> {
     Ok(())
 }
 
+/// The entries that a follower appends, with a membership among them.
+struct AppendEntries;
+
+impl Call for AppendEntries {
+    type Borrowed = State;
+
+    type Taken = Vec<follower_turn::Entry<LeaderAdv>>;
+
+    type Answer = ();
+
+    fn borrowed(&self, alloc: Global) -> Result<State, AllocError> {
+        follower::<LeaderAdv>(alloc, Some((1, 1)), None, Some((1, 2)))
+    }
+
+    fn taken(&self, alloc: Global) -> Result<Vec<follower_turn::Entry<LeaderAdv>>, AllocError> {
+        entries::<LeaderAdv>(alloc, 4, 5)
+    }
+
+    fn run(
+        &self,
+        growth: Growth,
+        state: &mut State,
+        entries: Vec<follower_turn::Entry<LeaderAdv>>,
+    ) -> Result<(), AllocError> {
+        growth.refuse();
+        if state.can_append_entries(&entries) {
+            state.append_entries(&entries)
+        } else {
+            Ok(())
+        }
+    }
+}
+
+/// The snapshot up to a log id that a follower installs, whose log has that one or another there.
+#[derive(Clone, Copy)]
+struct InstallSnapshot(u64, u64);
+
+impl Call for InstallSnapshot {
+    type Borrowed = State;
+
+    type Taken = follower_turn::Snapshot<LeaderAdv>;
+
+    type Answer = ();
+
+    fn borrowed(&self, alloc: Global) -> Result<State, AllocError> {
+        follower::<LeaderAdv>(alloc, Some((1, 1)), None, Some((3, 4)))
+    }
+
+    fn taken(&self, alloc: Global) -> Result<follower_turn::Snapshot<LeaderAdv>, AllocError> {
+        snapshot::<LeaderAdv>(alloc, Some((self.0, self.1)), Some((1, 2)))
+    }
+
+    fn run(
+        &self,
+        growth: Growth,
+        state: &mut State,
+        meta: follower_turn::Snapshot<LeaderAdv>,
+    ) -> Result<(), AllocError> {
+        growth.refuse();
+        if state.can_install_snapshot(&meta) {
+            state.install_snapshot(meta)
+        } else {
+            Ok(())
+        }
+    }
+}
+
+#[test]
+fn growths_of_a_followers_calls(rt: HostRuntime) -> Result<(), Fail> {
+    let alloc = rt.alloc();
+    assert!(rt; is_swept(&rt, alloc, "RaftState::append_entries", &AppendEntries)?);
+    let (logged, denied) = (InstallSnapshot(1, 3), InstallSnapshot(2, 4));
+    assert!(rt; is_swept(&rt, alloc, "RaftState::install_snapshot, logged", &logged)?);
+    assert!(rt;
+        is_swept(
+            &rt,
+            alloc,
+            "RaftState::install_snapshot, not logged",
+            &denied
+        )?
+    );
+    Ok(())
+}
+
 /// The summary of the memberships of a node.
 struct Summary;
 
@@ -460,11 +545,7 @@ fn no_growths_of_memberships(rt: HostRuntime) -> Result<(), Fail> {
 /// Whether a state is validated, compared and read without memory.
 fn state_reads_are_free(rt: &impl Print, alloc: Global) -> io::Result<bool> {
     let state = valid_state::<LeaderAdv>(alloc)?;
-    // Its purge point is not in its log.
-    let other = whole::state::<LeaderAdv>(
-        alloc,
-        (2, Some((3, 0)), Some((3, 4)), None, None, None),
-    )?;
+    let other = whole::unlogged::<LeaderAdv>(alloc)?;
     refuse_each(alloc);
     let is_right = reads::<LeaderAdv>(&state, &other)
         && state.validate() == Ok(())
@@ -508,11 +589,26 @@ fn commit_is_free(rt: &impl Print, alloc: Global) -> io::Result<bool> {
     is_free(rt, alloc, "RaftState::update_committed", is_right)
 }
 
+/// Whether a log is cut off without memory, with its effective membership: they are shared.
+fn cut_is_free(rt: &impl Print, alloc: Global) -> io::Result<bool> {
+    let mut state = follower::<LeaderAdv>(alloc, Some((1, 1)), None, Some((1, 3)))?;
+    refuse_each(alloc);
+    let is_cut = cut::<LeaderAdv>(&mut state, 2) == Ok(Some(true));
+    let is_right = is_cut && state.last_log_id() == Some(&log_id::<LeaderAdv>(1, 1));
+    is_free(
+        rt,
+        alloc,
+        "RaftState::{can_truncate_log, truncate_log}",
+        is_right,
+    )
+}
+
 #[test]
 fn no_growths_of_states(rt: HostRuntime) -> Result<(), Fail> {
     let alloc = rt.alloc();
     assert!(rt; state_reads_are_free(&rt, alloc)? && io_is_free(&rt, alloc)?);
     assert!(rt; accepted_is_free(&rt, alloc)? && commit_is_free(&rt, alloc)?);
+    assert!(rt; cut_is_free(&rt, alloc)?);
     Ok(())
 }
 

@@ -122,7 +122,8 @@ fn is_lent<K: LeaderKind<u64>>(read: Option<&LogIdOf<K::Committed>>, want: Row) 
     read.copied() == id::<K>(want)
 }
 
-/// Whether a valid state reads as it should, and tells whether its purge point is in its log.
+/// Whether a valid state reads as it should, and tells whether its purge point and what is committed
+/// are in its log.
 pub fn reads<K: LeaderKind<u64>>(state: &State<K>, other: &State<K>) -> bool {
     let first = Some((1, 1));
     let last = Some((3, 4));
@@ -141,14 +142,37 @@ pub fn reads<K: LeaderKind<u64>>(state: &State<K>, other: &State<K>) -> bool {
         is_lent::<K>(state.io_purged(), None),
         state.purge_upto_is_logged(),
         !other.purge_upto_is_logged(),
+        state.committed_is_logged(),
+        !other.committed_is_logged(),
     ];
     !are_right.contains(&false)
 }
 
-/// The same, of the first valid state and of one whose purge point is not in its log.
+/// A valid state of whose log neither the purge point nor what is committed is one.
+pub fn unlogged<K: LeaderKind<u64>>(alloc: Global) -> Result<State<K>, AllocError> {
+    let not_in_log = Some((3, 0));
+    state::<K>(
+        alloc,
+        (
+            2,
+            not_in_log,
+            not_in_log,
+            None,
+            NO_MEMBERSHIP,
+            NO_MEMBERSHIP,
+        ),
+    )
+}
+
+/// The same, of the first valid state and of one that has neither in its log. Of a new state nothing
+/// is committed.
 fn reads_right<K: LeaderKind<u64>>(alloc: Global) -> Result<bool, AllocError> {
-    let other = state::<K>(alloc, (2, Some((3, 0)), Some((3, 4)), None, None, None))?;
-    Ok(reads::<K>(&valid_state::<K>(alloc)?, &other))
+    let other = unlogged::<K>(alloc)?;
+    Ok(
+        other.validate() == Ok(())
+            && reads::<K>(&valid_state::<K>(alloc)?, &other)
+            && State::<K>::try_default(alloc)?.committed_is_logged(),
+    )
 }
 
 /// Whether the first of some entries that the log does not have is at a place.

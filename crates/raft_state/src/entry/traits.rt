@@ -1,7 +1,7 @@
 //! What a log entry offers, for entry types of a caller's own.
 //!
 //! The traits are over any type of memberships, which is `Membership<NID, N>` for the entries here.
-ghost use Rattle.std.specs.Prelude.{◌≡◌, Bool, Some, true};
+ghost use Rattle.std.specs.Prelude.{◌≡◌, Bool, None, Some, false, true};
 ghost use Rattle.std.specs.declared.option.Option.{Option};
 ghost use Rattle.std.specs.Option.{option_copied};
 
@@ -23,10 +23,17 @@ pub trait RaftPayload<M> {
     /// The membership, if there is one.
     fn get_membership(&self) -> Option<&M>
         ensures { option_copied result ≡ membership self.now };
+
+    /// A blank value stores no membership.
+    ghost blank_stores_none: { (a : Self) → blank a ≡ true → membership a ≡ None };
 }
 
 /// A log entry. The first parameter is the committed leader id of its log id.
+///
+/// Whatever log id it is given, an entry holds what it held before.
 pub trait RaftEntry<C, M>: RaftPayload<M> + RaftLogId<C> + Debug + Display + Sized {
+    ghost use Rattle.raft_base.specs.declared.log_id.LogIdOf.{LogIdOf};
+
     /// A blank entry.
     fn new_blank(log_id: LogIdOf<C>) -> Self
         ensures log_id { Self.id_of result ≡ log_id }
@@ -35,7 +42,16 @@ pub trait RaftEntry<C, M>: RaftPayload<M> + RaftLogId<C> + Debug + Display + Siz
     /// An entry that stores a membership.
     fn new_membership(log_id: LogIdOf<C>, membership: M) -> Self
         ensures log_id { Self.id_of result ≡ log_id }
-        ensures membership { Self.membership result ≡ Some membership };
+        ensures membership { Self.membership result ≡ Some membership }
+        ensures not_blank { Self.blank result ≡ false };
+
+    /// Under another log id an entry stores the same membership.
+    ghost keeps_membership: { (a : Self) (id : LogIdOf C)
+        → Self.membership (Self.with_id a id) ≡ Self.membership a };
+
+    /// And it is blank where it was.
+    ghost keeps_blank: { (a : Self) (id : LogIdOf C)
+        → Self.blank (Self.with_id a id) ≡ Self.blank a };
 }
 
 /// A log entry that is made of a program's own data, before it is given its log id.

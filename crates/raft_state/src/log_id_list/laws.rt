@@ -7,7 +7,7 @@ ghost use Rattle.raft_state.specs.FullLog.{full_log, first_index, same_log};
 ghost use Rattle.raft_state.specs.LogEdits.{log_after_append, log_after_extend, front, log_after_purge};
 ghost use Rattle.raft_state.specs.LogReads.{first_id, id_at, last_id};
 ghost use Rattle.raft_state.specs.SameLog.{FindsSame, KeepsSame};
-ghost use Rattle.raft_state.specs.LogOrder.{AreConsecutive, LeadersNeverFall};
+ghost use Rattle.raft_state.specs.LogOrder.{AreConsecutive, AreFound, LeadersNeverFall, LeadersNeverFallByIndex, NoneAboveLast};
 
 use super::LogIdListOf;
 use raft_base::LogIdOf;
@@ -28,10 +28,14 @@ pub fn truncate_twice<C: Ord + Copy>(list: &mut LogIdListOf<C>, at: u64)
     list.truncate(at);
 }
 
-/// The indexes of a list's log are consecutive, and its leaders never fall.
+/// The indexes of a list's log are consecutive, so the log id at each place is the one at its index;
+/// its leaders never fall, and none of its log ids is above the last one.
 pub fn log_is_in_order<C: Ord + Copy>(list: &LogIdListOf<C>)
     ensures indexes { AreConsecutive (full_log list.now) }
+    ensures found { AreFound (full_log list.now) }
     ensures leaders { LeadersNeverFall C.cmp (full_log list.now) }
+    ensures leaders_by_index { LeadersNeverFallByIndex C.cmp (full_log list.now) }
+    ensures last { NoneAboveLast C.cmp (full_log list.now) }
 {
     let _keys = list.key_log_ids();
 }
