@@ -6,9 +6,9 @@ use crate::events::Event;
 use crate::leader::Change;
 use crate::message::Envelope;
 use crate::server::{Role, Server};
-use crate::types::Payload;
+use crate::types::{Payload, end};
 use anyhow::{Result, ensure};
-use raft_base::{EmptyNode, Instant, LeaderKind, LogIdOptionExt, log_id_at_most};
+use raft_base::{EmptyNode, Instant, LeaderKind, log_id_at_most};
 use raft_state_tests::turn::Followers;
 use std::alloc::{AllocError, Global};
 use std::collections::{BTreeMap, BTreeSet};
@@ -97,8 +97,8 @@ pub fn change<K: LeaderKind<u64>>(
         nodes.insert(id, EmptyNode::new())?;
         Change::AddNodes(nodes)
     } else if dice.chance(80) {
-        let end = server.last().next_index();
-        Change::ReplaceAllVoters(some_close(server.alloc, followers, end, dice)?)
+        let least = end(server.last());
+        Change::ReplaceAllVoters(some_close(server.alloc, followers, least, dice)?)
     } else {
         let mut ids = BTreeSet::new(server.alloc);
         ids.insert(id)?;
@@ -108,16 +108,16 @@ pub fn change<K: LeaderKind<u64>>(
     Ok(is_made.then_some(Event::Changed))
 }
 
-/// Some of the members that have all but the last three entries of a log.
+/// Some of the members that have all but the last three entries of a log that ends before an index.
 fn some_close<K: LeaderKind<u64>>(
     alloc: Global,
     followers: &Followers<K>,
-    end: u64,
+    least: u64,
     dice: &mut Dice,
 ) -> Result<BTreeSet<u64>, AllocError> {
     let mut ids = BTreeSet::new(alloc);
     for (id, follower) in followers.iter() {
-        if follower.matching.next_index().saturating_add(3) >= end && dice.chance(75) {
+        if end(follower.matching).saturating_add(3) >= least && dice.chance(75) {
             ids.insert(*id)?;
         }
     }

@@ -2,7 +2,7 @@
 
 use crate::network::Network;
 use crate::server::{Role, Server};
-use crate::types::Members;
+use crate::types::{Members, end};
 use anyhow::Result;
 use raft_base::{LeaderKind, LogIdOptionExt, LogStateReader, ServerState};
 use std::alloc::Global;
@@ -25,9 +25,9 @@ pub fn line<K: LeaderKind<u64>>(
     servers: &[Server<K>],
     network: &Network<K>,
 ) -> Result<String> {
-    let mut end = WIDTH;
+    let mut last = WIDTH;
     for server in servers {
-        end = server.last().next_index().max(end);
+        last = end(server.last()).max(last);
     }
     let mut text = format!(in alloc; "{event:>4} ")?;
     for server in servers {
@@ -38,7 +38,7 @@ pub fn line<K: LeaderKind<u64>>(
         };
         let term = K::term(server.vote().leader_id());
         write!(text, "{sign}{}{term:<2}", letter(server))?;
-        for index in end.saturating_sub(WIDTH)..end {
+        for index in last.saturating_sub(WIDTH)..last {
             text.push(mark(server, index))?;
         }
     }
@@ -77,7 +77,11 @@ fn mark<K: LeaderKind<u64>>(server: &Server<K>, index: u64) -> char {
 pub fn leader<K: LeaderKind<u64>>(servers: &[Server<K>]) -> Option<&Server<K>> {
     let mut leader: Option<&Server<K>> = None;
     for server in servers {
-        if server.leads() && leader.is_none_or(|other| server.vote() > other.vote()) {
+        let is_greater = match leader {
+            Some(other) => server.vote() > other.vote(),
+            None => true,
+        };
+        if server.leads() && is_greater {
             leader = Some(server);
         }
     }

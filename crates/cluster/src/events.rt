@@ -89,10 +89,11 @@ impl Counts {
 
 impl fmt::Display for Counts {
     fn fmt<W: fmt::Write>(&self, f: &mut fmt::Formatter<W>) -> fmt::Result {
-        let mut sign = "";
-        for (event, count) in &self.counts {
-            write!(f, "{sign}{count} {event}")?;
-            sign = ", ";
+        for (place, (event, count)) in self.counts.iter().enumerate() {
+            if place > 0 {
+                f.write_str(", ")?;
+            }
+            write!(f, "{count} {event}")?;
         }
         Ok(())
     }

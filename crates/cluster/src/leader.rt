@@ -3,9 +3,9 @@
 use crate::fault::Fault;
 use crate::message::{Envelope, Message};
 use crate::server::{Ballot, Role, Server};
-use crate::types::{Entry, Inflight, LogId, Members, Payload, Vote};
+use crate::types::{Entry, Inflight, LogId, Members, Payload, Vote, end};
 use anyhow::{Result, bail, ensure};
-use raft_base::{EmptyNode, LeaderKind, LogIdOptionExt, LogIdRangeOf};
+use raft_base::{EmptyNode, LeaderKind, LogIdRangeOf};
 use raft_members::{ChangeMembers, ChangeMembershipErrorOf};
 use raft_progress::Progress;
 use raft_state_tests::turn::{Followers, Logs, Reply};
@@ -82,7 +82,7 @@ impl<K: LeaderKind<u64>> Server<K> {
         vote.commit();
         self.save_vote(now, vote);
         self.is_behind = false;
-        let end = self.last().next_index();
+        let end = end(self.last());
         self.role = Role::Leader(Followers::new(self.members().try_clone()?, end)?);
         self.propose(Payload::Blank)
     }
@@ -92,7 +92,7 @@ impl<K: LeaderKind<u64>> Server<K> {
         let Some(leader) = self.vote().committed_leader_id() else {
             bail!("it does not lead");
         };
-        let end = self.last().next_index();
+        let end = end(self.last());
         let is_change = matches!(&payload, Payload::Membership(_));
         self.write(LogId::<K>::new(leader, end), payload)?;
         if is_change {
@@ -162,7 +162,7 @@ impl<K: LeaderKind<u64>> Server<K> {
     /// The entries of a range.
     fn logs(&self, range: LogIdRangeOf<K::Committed>) -> Result<Logs<K>> {
         let mut entries = Vec::new(self.alloc);
-        for index in range.prev.next_index()..range.last.next_index() {
+        for index in end(range.prev)..end(range.last) {
             let Some(entry) = self.disk.get(&index) else {
                 bail!("entry {index} is to be sent and is purged");
             };

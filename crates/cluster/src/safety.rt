@@ -1,7 +1,7 @@
 //! What Raft promises of a whole cluster, looked after at each event.
 
 use crate::server::{Role, Server};
-use crate::types::{Leader, LogId};
+use crate::types::{Leader, LogId, end};
 use anyhow::{Result, bail, ensure};
 use raft_base::{LeaderKind, LogIdOptionExt, LogStateReader, Validate, log_id_at_most};
 use std::alloc::Global;
@@ -50,7 +50,7 @@ impl<K: LeaderKind<u64>> History<K> {
         let by = K::to_committed(server.vote().leader_id());
         let known = self.committed.len();
         let first = state.last_purged_log_id().copied().index().unwrap_or(0);
-        for index in first..state.committed.next_index() {
+        for index in first..end(state.committed) {
             let Some(log_id) = state.get_log_id(index) else {
                 bail!("{index} is committed and not in the log");
             };
@@ -73,7 +73,7 @@ pub fn check_server<K: LeaderKind<u64>>(server: &Server<K>) -> Result<()> {
         "the purge point is not logged"
     );
     let last = server.last();
-    let length = last.next_index().saturating_sub(state.purged_next);
+    let length = end(last).saturating_sub(state.purged_next);
     ensure!(
         server.disk.len() as u64 == length,
         "the disk has another log"

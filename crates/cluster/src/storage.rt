@@ -1,7 +1,7 @@
 //! What a server does by itself: it applies, builds snapshots, purges, and starts again.
 
 use crate::server::{Role, Server};
-use crate::types::{LogId, Snapshot, State};
+use crate::types::{LogId, Snapshot, State, end};
 use anyhow::{Result, ensure};
 use raft_base::{LeaderKind, LogIdOptionExt, LogStateReader, UTime, log_id_at_most, log_id_below};
 use raft_members::EffectiveMembershipOf;
@@ -11,14 +11,10 @@ use std::rc::Rc;
 impl<K: LeaderKind<u64>> Server<K> {
     /// Applies what is committed, no more than so many entries.
     pub fn apply(&mut self, most: u64) {
-        let next = self.state.io_state().applied.next_index();
-        let end = self
-            .state
-            .committed
-            .next_index()
-            .min(next.saturating_add(most));
-        if next < end {
-            let applied = self.state.get_log_id(end - 1);
+        let next = end(self.state.io_state().applied);
+        let last = end(self.state.committed).min(next.saturating_add(most));
+        if next < last {
+            let applied = self.state.get_log_id(last - 1);
             if log_id_below(self.state.io_state().applied, applied) {
                 self.state.io_state_mut().update_applied(applied);
             }
@@ -38,7 +34,7 @@ impl<K: LeaderKind<u64>> Server<K> {
         {
             return Ok(());
         }
-        let name = format!(in self.alloc; "{}-{}", self.id, applied.next_index())?;
+        let name = format!(in self.alloc; "{}-{}", self.id, end(applied))?;
         self.state.snapshot_meta = Snapshot::<K> {
             last_log_id: applied,
             last_membership: membership.stored_membership().try_clone()?,
@@ -90,7 +86,7 @@ impl<K: LeaderKind<u64>> Server<K> {
         state.vote = UTime::new(now, *state.io_state.vote());
         state.snapshot_meta = self.state.snapshot_meta.try_clone()?;
         state.purge_upto = state.io_state.purged;
-        state.purged_next = state.purge_upto.next_index();
+        state.purged_next = end(state.purge_upto);
         state.log_ids = self.log_on_disk(state.purge_upto)?;
         state.membership_state = self.members_on_disk()?;
         // A membership is proposed once the one before it is committed.
