@@ -83,13 +83,13 @@ fn run<K: LeaderKind<u64>>(
     let every = plan.number(3, 20);
     for event in 0..plan.number(2, 1000) {
         if event.checked_rem(every) == Some(0) {
-            println!(rt; "{}", cluster.line()?)?;
+            println!(rt; "{}", cluster.line()?.trim_end())?;
         }
         cluster.step().context(format_args!("event {event}"))?;
     }
     let is_settled = cluster.settle(SETTLE).context("at the end")?;
     if every > 0 {
-        println!(rt; "{}", cluster.line()?)?;
+        println!(rt; "{}", cluster.line()?.trim_end())?;
     }
     total.add_all(cluster.counts())?;
     total.add(Event::Safe, 1)?;
