@@ -2,17 +2,15 @@
 
 use raft_base::EmptyNode;
 use raft_members::Membership;
-use raft_progress::{Progress, Step, Tracked, replay};
-use std::collections::BTreeMap;
+use raft_progress::{Progress, Tracked};
 
 fn main(rt: HostRuntime) -> Result<(), anyhow::Error> {
-    let mut nodes = BTreeMap::new(rt.alloc());
-    for id in 1..4u64 {
-        nodes.insert(id, EmptyNode::new())?;
+    let voters = [1, 2, 3].iter().copied().collect(rt.alloc())?;
+    let members = Membership::<u64, EmptyNode>::new(vec![in rt.alloc(); voters]?, ())?;
+    let mut cluster = Tracked::new(members, 0u64)?;
+    for (id, matching) in [(1, 4), (2, 6)] {
+        let _reply = cluster.update(&id, matching);
     }
-    let mut cluster = Tracked::new(Membership::from_nodes(rt.alloc(), nodes)?, 0u64)?;
-    let steps = vec![in rt.alloc(); Step::Update(1, 4), Step::Update(2, 6)]?;
-    let _replies = replay(rt.alloc(), &mut cluster, steps)?;
     println!(rt; "granted {}", cluster.progress().granted())?;
     Ok(())
 }
