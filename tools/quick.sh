@@ -26,7 +26,9 @@ run_tests() {
 run_program() {
     local input=/dev/null
     [ -e "$1/stdin" ] && input=$1/stdin
-    if (cd "$1" && rt try 2> /dev/null) < "$input" | diff - "$1/stdout"; then
+    local words=()
+    [ -e "$1/args" ] && mapfile -t words < "$1/args"
+    if (cd "$1" && rt try -- "${words[@]}" 2> /dev/null) < "$input" | diff - "$1/stdout"; then
         passed=$((passed + 1))
     else
         failed=$((failed + 1))
@@ -35,6 +37,6 @@ run_program() {
 }
 
 for tests in *_tests raft_script; do run_tests "$tests"; done
-for program in raft_script watch; do run_program "$program"; done
+for program in raft_script watch cluster; do run_program "$program"; done
 echo "$passed passed, $failed failed, none proved"
 [ "$failed" = 0 ]
