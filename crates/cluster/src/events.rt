@@ -39,7 +39,7 @@ impl fmt::Display for Event {
         f.write_str(match self {
             Event::Any => "events",
             Event::Elected => "elected",
-            Event::Changed => "change",
+            Event::Changed => "changes",
             Event::Committed => "committed",
             Event::CutBack => "cut back",
             Event::Installed => "installs",
@@ -90,8 +90,10 @@ impl Counts {
 impl fmt::Display for Counts {
     fn fmt<W: fmt::Write>(&self, f: &mut fmt::Formatter<W>) -> fmt::Result {
         for (place, (event, count)) in self.counts.iter().enumerate() {
-            if place > 0 {
-                f.write_str(", ")?;
+            match place {
+                0 => {}
+                6 => f.write_str(",\n")?,
+                _ => f.write_str(", ")?,
             }
             write!(f, "{count} {event}")?;
         }

@@ -24,7 +24,8 @@ impl<K: LeaderKind<u64>> Server<K> {
 
     /// Appends an entry of its own.
     fn write(&mut self, log_id: LogId<K>, payload: Payload) -> Result<()> {
-        let entries = vec![in self.alloc; Entry::<K> { log_id, payload }]?;
+        let mut entries = Vec::new(self.alloc);
+        entries.push(Entry::<K> { log_id, payload })?;
         ensure!(
             self.state.can_append_entries(&entries),
             "{log_id} does not follow"

@@ -5,8 +5,8 @@
 //! is in flight to a follower, and there are no pre-votes, leases and reads of clients.
 //!
 //! Its words: the first seed, how many seeds, how many events each, every how many events a line of
-//! its chart is printed (0: never); `standard` for the leader ids of standard Raft; and the name of
-//! a fault that is planted, as in `fault.rt`. It ends with status 1 where a run was not safe, or
+//! its chart is printed (0: never); `standard` for the leader ids of standard Raft, or `default`; and
+//! the name of a fault that is planted, as in `fault.rt`. It ends with status 1 where a run was not safe, or
 //! where a cluster did not settle once its network was mended.
 #![tactic(auto)]
 
@@ -24,7 +24,7 @@ mod server;
 mod storage;
 mod types;
 
-use anyhow::{Context, Result, bail, ensure};
+use anyhow::{Context, Result, ensure};
 use cluster::Cluster;
 use events::{Counts, Event};
 use fault::Fault;
@@ -54,12 +54,15 @@ impl Plan {
         for word in words {
             if let Ok(number) = word.parse::<u64>() {
                 plan.numbers.push(number)?;
-            } else if word.as_str() == "standard" {
-                plan.is_standard = true;
             } else if let Some(fault) = Fault::named(word.as_str()) {
                 plan.fault = Some(fault);
             } else {
-                bail!("the word {word} means nothing here");
+                let is_standard = word.as_str() == "standard";
+                ensure!(
+                    is_standard || word.as_str() == "default",
+                    "no such word as {word}"
+                );
+                plan.is_standard = is_standard;
             }
         }
         Ok(plan)
