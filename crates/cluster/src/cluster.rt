@@ -191,10 +191,13 @@ impl<K: LeaderKind<u64>> Cluster<K> {
             return false;
         };
         let last = leader.last();
-        self.servers.iter().all(|server| {
-            !leader.members().contains(&server.id)
-                || (server.last() == last && server.state.committed == last)
-        })
+        for server in &self.servers {
+            let is_even = server.last() == last && server.state.committed == last;
+            if leader.members().contains(&server.id) && !is_even {
+                return false;
+            }
+        }
+        true
     }
 }
 
