@@ -1,6 +1,8 @@
 //! Callers, whose contracts show how much those of `raft_state` tell them.
-ghost use Rattle.std.specs.Prelude.{◌≡◌, false, None, IfOk, OnErr, IsTrue};
+ghost use Rattle.std.specs.Prelude.{◌≡◌, false, None, IfOk, IfSome, OnErr, IsTrue, slice_get};
+ghost use Rattle.std.specs.List.{list_all};
 ghost use Rattle.raft_base.specs.LogId.{id_le, id_lt};
+ghost use Rattle.raft_base.specs.LogView.{has_id, may_ask};
 ghost use Rattle.raft_progress.specs.progress.VecProgress.{shown};
 ghost use Rattle.raft_state.specs.Commit.{state_after_commit};
 ghost use Rattle.raft_state.specs.FullLog.{full_log};
@@ -10,12 +12,12 @@ ghost use Rattle.raft_state.specs.StateView.{view_of};
 ghost use Rattle.raft_state.specs.Valid.{broken_relation};
 
 use super::followers::{Followers, caught_up, followers};
-use super::rows::id;
+use super::rows::{id, ids};
 use super::whole::{State, valid_state};
 use raft_base::order::log_id_at_most;
 use raft_base::{
     Instant, LeaderAdv, LeaderIdentity, LeaderKind, LeaderStd, LogIdOf, LogIdRangeOf,
-    LogStateReader, Node, NodeId, Validate,
+    LogStateReader, Node, NodeId, RaftLogId, Validate,
 };
 use raft_members::quorum::QuorumSet;
 use raft_progress::{InflightOf, Progress, ProgressEntryOf};
@@ -87,6 +89,53 @@ fn send<
         return false;
     }
     follower.next_send(state, max_entries).is_ok()
+}
+
+/// A follower takes of a leader's entries those that its log does not have.
+fn lacking<
+    'a,
+    NID: NodeId,
+    N: Node,
+    I: Instant,
+    C: Ord + Copy + Default + Drop + 'static,
+    L: LeaderIdentity<Id = NID, Committed = C> + Drop,
+    Ent: RaftLogId<C>,
+>(state: &RaftStateIn<NID, N, I, L, C>, entries: &'a [Ent]) -> &'a [Ent]
+    requires { IsTrue (list_all (λ e. may_ask C.cmp (view_of state.now) (Ent.id_of e))
+        entries.now) }
+    ensures { IfSome (slice_get result.now 0)
+        (λ e. has_id C.eq (view_of state.now) (Ent.id_of e) ≡ false) }
+{
+    let place = state.first_conflicting_index(entries);
+    &entries[place..]
+}
+
+/// Whether a follower lacks as many of some entries.
+fn lacks<K: LeaderKind<u64>>(
+    alloc: Global,
+    state: &State<K>,
+    rows: &[(u64, u64)],
+    want: usize,
+) -> Result<bool, AllocError> {
+    let entries = ids::<K>(alloc, rows)?;
+    Ok(state.can_ask_all(&entries) && lacking(state, &entries).len() == want)
+}
+
+/// Whether a follower lacks what is past its log, and what another leader has written.
+fn lacks_right<K: LeaderKind<u64>>(alloc: Global) -> Result<bool, AllocError> {
+    let state = valid_state::<K>(alloc)?;
+    Ok(
+        lacks::<K>(alloc, &state, &[(1, 3), (3, 4), (3, 5)], 1)?
+            && lacks::<K>(alloc, &state, &[(1, 3), (2, 4), (3, 5)], 2)?
+            && lacks::<K>(alloc, &state, &[(1, 3), (3, 4)], 0)?,
+    )
+}
+
+#[test]
+fn a_follower_lacks_what_conflicts(rt: HostRuntime) -> Result<(), Fail> {
+    assert!(rt; lacks_right::<LeaderAdv>(rt.alloc())?);
+    assert!(rt; lacks_right::<LeaderStd>(rt.alloc())?);
+    Ok(())
 }
 
 /// Whether a send, the conflict that answers it and the next send lead where they should.
