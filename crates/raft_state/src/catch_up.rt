@@ -63,7 +63,7 @@ impl<
     /// Catches up followers one after another, each with the index below which it agrees, and
     /// answers how many were. Each of those is one update, to the end of its honest run. One that
     /// is unknown or that `can_catch_up` denies is passed over: nothing that the progress shows
-    /// changes, neither walk nor granted nor counts. Granted never falls.
+    /// changes, neither walk nor granted nor counts.
     ///
     /// Where at least one voter was caught up, and those that were are a quorum, the last log id is
     /// granted, or more where a voter's match was past it before.
