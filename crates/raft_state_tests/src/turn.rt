@@ -1,4 +1,4 @@
-//! A leader's and a follower's turn, as the README shows them and the simulated cluster takes them.
+//! A leader's and a follower's turn, as the README shows them.
 
 mod follower;
 mod followers;
