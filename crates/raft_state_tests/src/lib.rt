@@ -33,8 +33,6 @@ mod rows;
 mod texts;
 pub mod turn;
 #[cfg(test)]
-mod turns;
-#[cfg(test)]
 mod whole;
 #[cfg(test)]
 mod words;
