@@ -33,6 +33,8 @@ mod rows;
 mod texts;
 pub mod turn;
 #[cfg(test)]
+mod turns;
+#[cfg(test)]
 mod whole;
 #[cfg(test)]
 mod words;

@@ -1,0 +1,202 @@
+//! A leader's turns with its followers, and a follower's with what it is sent.
+
+use super::rows::{Row, id, ids, log_id};
+use super::turn::{Followers, Inflight, Members, Outcome, Reply, State};
+use raft_base::{EmptyNode, LeaderAdv, LeaderKind, LogIdRangeOf, UTime, VoteOf};
+use raft_members::{ChangeMembers, ChangeMembershipError};
+use raft_state::{LogIdListOf, is_key_list};
+use std::alloc::{AllocError, Global};
+use std::collections::{BTreeMap, BTreeSet};
+use std::test::Fail;
+
+/// Takes a follower's reply. False where it is refused.
+fn take<K: LeaderKind<u64>>(
+    known: &mut Followers<K>,
+    from: u64,
+    request: u64,
+    outcome: Outcome<K>,
+) -> bool {
+    let request = Some(request);
+    known
+        .take_reply(from, &Reply { request, outcome })
+        .is_some()
+}
+
+/// A turn with a follower that acks all that it is sent. True where that commits more.
+fn turn<K: LeaderKind<u64>>(
+    state: &mut State<K>,
+    known: &mut Followers<K>,
+    to: u64,
+) -> Result<bool, AllocError> {
+    let (request, last) = match known.next_request(state, to) {
+        Some(Inflight::<K>::Logs { id, log_id_range }) => (id, log_id_range.last),
+        Some(Inflight::<K>::Snapshot { id, last_log_id }) => (id, last_log_id),
+        _ => return Ok(false),
+    };
+    let committed = state.committed;
+    let is_taken = take::<K>(known, to, request, Outcome::Matches(last));
+    known.commit(state)?;
+    Ok(is_taken && state.committed != committed)
+}
+
+/// The leader 1 of term 2, with the log of these keys.
+fn leader<K: LeaderKind<u64>>(alloc: Global, keys: &[(u64, u64)]) -> Result<State<K>, AllocError> {
+    let keys = ids::<K>(alloc, keys)?;
+    let mut state = State::<K>::try_default(alloc)?;
+    state.vote = UTime::without_utime(VoteOf::<u64, K>::new_committed(2, 1));
+    if is_key_list(&keys) {
+        state.log_ids = LogIdListOf::new(keys);
+    }
+    Ok(state)
+}
+
+/// The voters 1, 2 and 3 and the learner 4.
+fn members(alloc: Global) -> Result<Members, AllocError> {
+    let mut nodes = BTreeMap::new(alloc);
+    for id in 1..5u64 {
+        nodes.insert(id, EmptyNode::new())?;
+    }
+    let voters: BTreeSet<u64> = [1, 2, 3].iter().copied().collect(alloc)?;
+    Members::new_unchecked(vec![in alloc; voters]?, nodes)
+}
+
+/// Whether turns with 2 and with 3 commit nothing, and then up to this row, if up to any.
+fn commits<K: LeaderKind<u64>>(
+    state: &mut State<K>,
+    known: &mut Followers<K>,
+    upto: Row,
+) -> Result<bool, AllocError> {
+    let first = turn::<K>(state, known, 2)?;
+    let second = turn::<K>(state, known, 3)?;
+    Ok(!first && second == upto.is_some() && state.committed == id::<K>(upto))
+}
+
+/// Whether this is granted.
+fn grants<K: LeaderKind<u64>>(known: &Followers<K>, granted: Row) -> bool {
+    known.granted() == id::<K>(granted)
+}
+
+/// Whether an earlier leader's log is committed with one of this leader's own, and not without.
+fn commits_with_own<K: LeaderKind<u64>>(
+    state: &mut State<K>,
+    known: &mut Followers<K>,
+) -> Result<bool, AllocError> {
+    let without = commits::<K>(state, known, None)? && grants::<K>(known, Some((1, 3)));
+    let own = log_id::<K>(2, 4);
+    if state.log_ids.can_append(own) {
+        state.log_ids.append(own)?;
+    }
+    Ok(without && commits::<K>(state, known, Some((2, 4)))?)
+}
+
+/// Whether that holds of a new leader.
+fn own_commits<K: LeaderKind<u64>>(alloc: Global) -> Result<bool, AllocError> {
+    let mut state = leader::<K>(alloc, &[(1, 0), (1, 3)])?;
+    let mut known = Followers::<K>::new(members(alloc)?, 4)?;
+    commits_with_own::<K>(&mut state, &mut known)
+}
+
+#[test]
+fn an_earlier_log_is_committed_with_an_own(rt: HostRuntime) -> Result<(), Fail> {
+    assert!(rt; own_commits::<LeaderAdv>(rt.alloc())?);
+    Ok(())
+}
+
+/// Whether a learner that becomes a voter has to have the log too, as the third of four.
+fn changes<K: LeaderKind<u64>>(
+    alloc: Global,
+    state: &mut State<K>,
+    known: &mut Followers<K>,
+) -> Result<bool, ChangeMembershipError<u64>> {
+    let change = ChangeMembers::AddVoterIds([4].iter().copied().collect(alloc)?);
+    let to = members(alloc)?.change(change, true)?;
+    let is_committed = commits::<K>(state, known, Some((2, 3)))?;
+    known.change_to(to, 4);
+    let is_taken = grants::<K>(known, None);
+    let _is_more = turn::<K>(state, known, 4)?;
+    Ok(is_committed && is_taken && grants::<K>(known, Some((2, 3))))
+}
+
+// Of the learner 4 nothing is known: two of the four voters have the log.
+/// Whether that holds of a new leader.
+fn third_is_asked<K: LeaderKind<u64>>(alloc: Global) -> Result<bool, ChangeMembershipError<u64>> {
+    let mut state = leader::<K>(alloc, &[(1, 0), (2, 2), (2, 3)])?;
+    let mut known = Followers::<K>::new(members(alloc)?, 4)?;
+    changes::<K>(alloc, &mut state, &mut known)
+}
+
+#[test]
+fn a_change_of_members_asks_for_a_third(rt: HostRuntime) -> Result<(), Fail> {
+    assert!(rt; third_is_asked::<LeaderAdv>(rt.alloc())?);
+    Ok(())
+}
+
+/// Whether a snapshot up to (2, 7) is what is sent next in a request.
+fn sends_snapshot<K: LeaderKind<u64>>(
+    state: &State<K>,
+    known: &mut Followers<K>,
+    request: u64,
+) -> bool {
+    let last_log_id = id::<K>(Some((2, 7)));
+    known.next_request(state, 2)
+        == Some(Inflight::<K>::Snapshot {
+            id: request,
+            last_log_id,
+        })
+}
+
+/// Whether the logs after a row up to (2, 9) are what is sent next in a request.
+fn sends_logs<K: LeaderKind<u64>>(
+    state: &State<K>,
+    known: &mut Followers<K>,
+    request: u64,
+    after: Row,
+) -> bool {
+    let log_id_range = LogIdRangeOf::new(id::<K>(after), id::<K>(Some((2, 9))));
+    known.next_request(state, 2)
+        == Some(Inflight::<K>::Logs {
+            id: request,
+            log_id_range,
+        })
+}
+
+/// Whether a follower whose log parts from the leader's below the purge point is sent a snapshot,
+/// and again once it is lost, and goes on with logs.
+fn goes_on_past_a_purge<K: LeaderKind<u64>>(
+    state: &mut State<K>,
+    known: &mut Followers<K>,
+) -> bool {
+    let snapshot = id::<K>(Some((2, 7)));
+    let last = id::<K>(Some((2, 9)));
+    state.snapshot_meta.last_log_id = snapshot;
+    state.purge_upto = id::<K>(Some((1, 5)));
+    let is_probed = sends_logs::<K>(state, known, 1, Some((1, 5)))
+        && take::<K>(known, 2, 1, Outcome::Conflicts(5))
+        && sends_snapshot::<K>(state, known, 2);
+    let is_waiting = known.next_request(state, 2) == None;
+    known.give_up(2);
+    let is_sent_again = sends_snapshot::<K>(state, known, 3);
+    let is_late = !take::<K>(known, 2, 2, Outcome::Matches(snapshot));
+    let is_taken = take::<K>(known, 2, 3, Outcome::Matches(snapshot));
+    is_probed
+        && is_waiting
+        && is_sent_again
+        && is_late
+        && is_taken
+        && sends_logs::<K>(state, known, 4, Some((2, 7)))
+        && take::<K>(known, 2, 4, Outcome::Matches(last))
+}
+
+/// Whether that holds of a new leader, which grants once a second voter has its log.
+fn snapshot_is_sent_again<K: LeaderKind<u64>>(alloc: Global) -> Result<bool, AllocError> {
+    let mut state = leader::<K>(alloc, &[(1, 5), (2, 6), (2, 9)])?;
+    let mut known = Followers::<K>::new(members(alloc)?, 10)?;
+    let goes_on = goes_on_past_a_purge::<K>(&mut state, &mut known);
+    Ok(goes_on && grants::<K>(&known, None) && turn::<K>(&mut state, &mut known, 3)?)
+}
+
+#[test]
+fn a_lost_snapshot_is_sent_again(rt: HostRuntime) -> Result<(), Fail> {
+    assert!(rt; snapshot_is_sent_again::<LeaderAdv>(rt.alloc())?);
+    Ok(())
+}
