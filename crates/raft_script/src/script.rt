@@ -5,52 +5,60 @@ mod dialogue;
 mod engine;
 pub(crate) mod reply;
 
-ghost use Rattle.std.specs.Prelude.{◌≡◌, IfOk, OnErr};
+ghost use Rattle.std.specs.Prelude.{◌≡◌, ◌≢◌, IfOk, OnErr};
 ghost use Rattle.std.specs.Bool.{OnFalse, OnTrue};
 ghost use Rattle.raft_script.specs.Engine.{engine_state};
+ghost use Rattle.raft_script.specs.Input.{contents, unread};
 ghost use Rattle.raft_script.specs.LineRun.{AnswersLine, IsLeftByFault, IsStepTooEarly, Prints, RunsCommand, RunsLine};
+ghost use Rattle.raft_script.specs.Script.{BreaksOff, HasStatus, RunsScript};
 
 use command::{Command, LineError};
 use dialogue::Dialogue;
 use engine::Engine;
 use raft_progress::progress::Reply;
 use std::alloc::Global;
-use std::io::{self, BufRead, BufReader, BufWriter, Read, Write};
-
-/// The room for what is read ahead, and for replies that are not yet written.
-const BUFFER_SIZE: usize = 65536;
+use std::io::{self, Read, Write};
 
 /// Runs the script that `reader` gives, and writes a reply a line to `writer`.
 ///
 /// The answer is the exit status: 0 at the end of input, 2 after a line of no known form, which
 /// is named and ends the script, and 1 after a fault of input or output or for want of memory.
 /// Replies are written together, but each before more input is waited for.
-pub fn run<R: Read + Drop, W: Write>(alloc: Global, reader: R, writer: &mut W) -> u8 {
+pub fn run<R: Read + Drop, W: Write>(alloc: Global, reader: R, writer: &mut W) -> u8
+    ensures { result ≢ 1 → HasStatus (R.remaining reader) result }
+{
     match run_lines(alloc, reader, writer) {
         Ok(status) => status,
         Err(_) => 1,
     }
 }
 
-fn run_lines<R: Read + Drop, W: Write>(alloc: Global, reader: R, writer: &mut W) -> io::Result<u8> {
-    let replies = BufWriter::with_capacity(alloc, BUFFER_SIZE, writer)?;
-    let dialogue = Dialogue { reader, replies };
-    let mut lines = BufReader::with_capacity(alloc, BUFFER_SIZE, dialogue)?;
-    let status = answer_lines(alloc, &mut lines)?;
-    lines.get_mut().replies.flush()?;
+fn run_lines<R: Read + Drop, W: Write>(alloc: Global, reader: R, writer: &mut W) -> io::Result<u8>
+    ensures { IfOk result (HasStatus (R.remaining reader)) }
+{
+    let mut dialogue = Dialogue::new(alloc, reader, writer)?;
+    let status = answer_lines(alloc, &mut dialogue)?;
+    dialogue.replies.flush()?;
     Ok(status)
 }
 
 /// Answers one line after another, and gives the status.
 fn answer_lines<R: Read, W: Write + Drop>(
     alloc: Global,
-    lines: &mut BufReader<Dialogue<R, W>>,
-) -> io::Result<u8> {
+    dialogue: &mut Dialogue<R, W>,
+) -> io::Result<u8>
+    ensures ok { IfOk result (λ status.
+        Prints (contents W.contents dialogue.old) (contents W.contents dialogue.new)
+        (RunsScript (unread R.remaining dialogue.old) status)) }
+    ensures err { OnErr result (BreaksOff
+        (unread R.remaining dialogue.old) (unread R.remaining dialogue.new)
+        (contents W.contents dialogue.old) (contents W.contents dialogue.new)) }
+{
     let mut line = Vec::new(alloc);
     let mut engine = Engine::new();
     for passed in 0..u64::MAX {
-        let is_last = read_line(lines, &mut line)?;
-        let replies = &mut lines.get_mut().replies;
+        let is_last = dialogue.read_line(&mut line)?;
+        let replies = &mut dialogue.replies;
         if !answer_line(alloc, &mut engine, passed + 1, &line, replies)? {
             return Ok(2);
         }
@@ -59,14 +67,6 @@ fn answer_lines<R: Read, W: Write + Drop>(
         }
     }
     Ok(1)
-}
-
-/// Reads a line without its line feed, and answers whether it is the last one.
-fn read_line<B: BufRead>(lines: &mut B, line: &mut Vec<u8>) -> io::Result<bool> {
-    line.clear();
-    lines.read_until(b'\n', line)?;
-    // Only the last line has no line feed. An empty one says nothing.
-    Ok(line.pop_if(|byte| *byte == b'\n').is_none())
 }
 
 /// Runs the line of a number, or names it where it can't be run. Answers whether it could.

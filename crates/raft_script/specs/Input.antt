@@ -1,0 +1,33 @@
+-- The lines of an input.
+use Rattle.std.specs.Prelude.{◌≡◌, ◌==◌, ℕ, Bool, true, false, List, [], ◌∷◌, Option, Some, None, ⊤}
+use Rattle.std.specs.List.{list_any, slice_split}
+use Rattle.std.specs.Io.Buffered.{reader_remaining, writer_contents}
+use Rattle.std.specs.Io.KnownBytes.{Consumes}
+use Rattle.raft_script.specs.declared.script.dialogue.Dialogue.{Dialogue}
+
+-- what is not read yet, where that is known
+abbrev pub unread : {R W : Type 0} → (R → Option (List ℕ)) → Dialogue R W → Option (List ℕ)
+unread remaining dialogue = reader_remaining remaining dialogue.input
+
+-- what is written or held back to be written, where that is known
+abbrev pub contents : {R W : Type 0} → (W → Option (List ℕ)) → Dialogue R W → Option (List ℕ)
+contents written dialogue = writer_contents written dialogue.replies
+
+-- whether a line ends in these bytes
+abbrev pub has_line_feed : List ℕ → Bool
+has_line_feed text = list_any (λ byte. byte == 10) text
+
+-- the lines of a text: what stands between its line feeds
+abbrev pub lines : List ℕ → List (List ℕ)
+lines text = slice_split (λ byte. byte == 10) text
+
+-- a text loses its first line, with its line feed; the last line has none
+abbrev pub TakesLine : Option (List ℕ) → List ℕ → Bool → Option (List ℕ) → Type 0
+TakesLine None line is_last rest = ⊤
+TakesLine (Some text) line is_last None = ⊥
+TakesLine (Some text) line true (Some rest) = (lines text ≡ line ∷ []) × (rest ≡ [])
+TakesLine (Some text) line false (Some rest) = lines text ≡ line ∷ lines rest
+
+-- a text may lose some bytes at its front
+abbrev pub TakesPart : Option (List ℕ) → Option (List ℕ) → Type 0
+TakesPart old new = (part : List ℕ) × Consumes old new part
