@@ -1,10 +1,18 @@
 -- How many ids a quorum has at least. A set of ids is its test, and ids are compared by `eq`, their
 -- own `==`.
-use Rattle.std.specs.Prelude.{◌≡◌, ℕ, ◌≤◌, Bool, true, List, length}
-use Rattle.std.specs.List.{IsDistinct}
+use Rattle.std.specs.Prelude.{◌≡◌, ℕ, ◌+◌, ◌/◌, ◌≤◌, Bool, true, List, length, max}
+use Rattle.std.specs.List.{IsDistinct, fold}
 use Rattle.std.specs.Set.{is_member}
 
 -- distinct ids that have a quorum are at least so many
 abbrev pub QuorumsHaveAtLeast : {K : Type 0} → (K → K → Bool) → ((K → Bool) → Bool) → ℕ → Type 0
 QuorumsHaveAtLeast {K} eq has_quorum n =
     (ids : List K) → IsDistinct eq ids → has_quorum (is_member eq ids) ≡ true → n ≤ length ids
+
+-- the least number that is more than half of a config's length
+abbrev pub majority_size : {K : Type 0} → List K → ℕ
+majority_size config = length config / 2 + 1
+
+-- the greatest of the items' sizes, and 0 of no items
+abbrev pub greatest : {X : Type 0} → (X → ℕ) → List X → ℕ
+greatest size items = fold (λ so_far item. max (size item) so_far) 0 items

@@ -270,7 +270,7 @@ fn each_says(alloc: Global, voters: &[u64], want: usize) -> Result<bool, AllocEr
     )
 }
 
-// The contract takes any bound that holds, 0 too: these are the greatest ones.
+// Worked values of `majority_size`, and of the greatest one of several.
 #[test]
 fn the_least_size_of_a_quorum(rt: HostRuntime) -> Result<(), Fail> {
     let alloc = rt.alloc();

@@ -36,6 +36,10 @@ impl QuorumSet<u64> for Asked {
         self.voters.is_quorum(ids)
     }
 
+    fn least_quorum_size(&self) -> usize {
+        0
+    }
+
     fn ids(&self, alloc: Global) -> Result<Vec<u64>, AllocError> {
         self.voters.ids(alloc)
     }

@@ -9,7 +9,7 @@ ghost use Rattle.std.specs.Cmp.{partial_equiv_from_equiv};
 ghost use Rattle.raft_members.specs.StoredLaws.{same_stored-equiv};
 ghost use Rattle.raft_members.specs.Majority.{is_voter_of, is_joint_majority};
 ghost use Rattle.raft_members.specs.MajorityLaws.{is_joint_majority-superset};
-ghost use Rattle.raft_members.specs.QuorumSize.{QuorumsHaveAtLeast};
+ghost use Rattle.raft_members.specs.QuorumSize.{QuorumsHaveAtLeast, greatest, majority_size};
 ghost use Rattle.raft_members.specs.Learners.{learners_of, learners_ahead, is_learner};
 ghost use Rattle.raft_members.specs.Members.{node_at};
 ghost use Rattle.raft_members.specs.Stored.{log_id_of, membership_of};
@@ -218,7 +218,8 @@ impl<C: Copy + Drop, NID: NodeId, N: Node> EffectiveMembershipOf<C, NID, N> {
 
     /// How many ids a quorum of each config has at least.
     fn least_size_of_quorums(&self) -> usize
-        ensures { QuorumsHaveAtLeast NID.eq
+        ensures told { result ≡ greatest majority_size (membership_of self.now).configs }
+        ensures least { QuorumsHaveAtLeast NID.eq
             (is_joint_majority NID.eq (membership_of self.now).configs) result }
     {
         self.quorum_set.least_quorum_size()
@@ -230,6 +231,8 @@ impl<C: Copy + Drop, NID: NodeId, N: Node> QuorumSet<NID> for EffectiveMembershi
     ghost has_quorum = { λ e s. is_joint_majority NID.eq (membership_of e).configs s };
 
     ghost is_voter = { λ e id. is_voter_of NID.eq (membership_of e).configs id };
+
+    ghost least_size = { λ e. greatest majority_size (membership_of e).configs };
 
     ghost superset = { λ e. is_joint_majority-superset NID.eq (membership_of e).configs };
 

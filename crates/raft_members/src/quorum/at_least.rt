@@ -74,6 +74,8 @@ impl<ID: Copy + Ord> QuorumSet<ID> for AtLeast<ID> {
 
     ghost is_voter = { λ q. is_member ID.eq (ids_of q) };
 
+    ghost least_size = { need_of };
+
     ghost superset = { λ q. has_at_least-superset ID.eq (ids_of q) (need_of q) };
 
     #[inline(always)]

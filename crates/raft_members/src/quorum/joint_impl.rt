@@ -4,7 +4,7 @@ ghost use Rattle.std.specs.List.{IsDistinct, list_any, list_all};
 ghost use Rattle.std.specs.List.Sorted.{IsStrictlySortedBy};
 ghost use Rattle.std.specs.Set.{is_member};
 ghost use Rattle.raft_members.specs.MajorityLaws.{list_all-weaker};
-ghost use Rattle.raft_members.specs.QuorumSize.{QuorumsHaveAtLeast};
+ghost use Rattle.raft_members.specs.QuorumSize.{QuorumsHaveAtLeast, greatest};
 
 use super::joint::Joint;
 use super::quorum_set::QuorumSet;
@@ -16,6 +16,8 @@ impl<ID: Copy + Ord, QS: QuorumSet<ID>> QuorumSet<ID> for Joint<ID, QS, Vec<QS>>
     ghost has_quorum = { λ j s. list_all (λ c. QS.has_quorum c s) j.items };
 
     ghost is_voter = { λ j x. list_any (λ c. QS.is_voter c x) j.items };
+
+    ghost least_size = { λ j. greatest (λ c. QS.least_size c) j.items };
 
     ghost superset = { λ j s t h.
         list_all-weaker (λ c. QS.has_quorum c s) (λ c. QS.has_quorum c t)
@@ -41,6 +43,8 @@ impl<'a, ID: Copy + Ord, QS: QuorumSet<ID>> QuorumSet<ID> for Joint<ID, QS, &'a 
     ghost has_quorum = { λ j s. list_all (λ c. QS.has_quorum c s) j.now };
 
     ghost is_voter = { λ j x. list_any (λ c. QS.is_voter c x) j.now };
+
+    ghost least_size = { λ j. greatest (λ c. QS.least_size c) j.now };
 
     ghost superset = { λ j s t h.
         list_all-weaker (λ c. QS.has_quorum c s) (λ c. QS.has_quorum c t)
@@ -78,7 +82,8 @@ fn is_quorum_of_each<ID: Copy + Ord, QS: QuorumSet<ID>>(children: &[QS], ids: &[
 /// The greatest bound of the children: a quorum of all has as many ids as one of each.
 #[inline(always)]
 fn least_of_each<ID: Copy + Ord, QS: QuorumSet<ID>>(children: &[QS]) -> usize
-    ensures { QuorumsHaveAtLeast ID.eq
+    ensures told { result ≡ greatest (λ c. QS.least_size c) children.now }
+    ensures least { QuorumsHaveAtLeast ID.eq
         (λ s. list_all (λ c. QS.has_quorum c s) children.now) result }
 {
     // Two lists, as a change of voters has, are asked without a loop.

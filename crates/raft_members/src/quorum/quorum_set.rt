@@ -1,5 +1,5 @@
 //! What a quorum set is.
-ghost use Rattle.std.specs.Prelude.{◌≡◌, Bool, true, IfOk};
+ghost use Rattle.std.specs.Prelude.{◌≡◌, ℕ, Bool, true, IfOk};
 ghost use Rattle.std.specs.List.{IsDistinct};
 ghost use Rattle.std.specs.Set.{is_member};
 ghost use Rattle.std.specs.List.Sorted.{IsStrictlySortedBy};
@@ -19,6 +19,9 @@ pub trait QuorumSet<ID: Copy + Ord> {
     /// Whether an id is one of the voters.
     ghost is_voter: { Self → ID → Bool };
 
+    /// How many ids a quorum has at least, as far as the quorum set tells: 0 where it does not.
+    ghost least_size: { Self → ℕ } = { λ q. 0 };
+
     /// Whether the ids are a quorum.
     ///
     /// The contract speaks of distinct ids. A repeated one is counted as often as it comes, as in
@@ -27,14 +30,12 @@ pub trait QuorumSet<ID: Copy + Ord> {
         ensures quorum { IsDistinct ID.eq ids.now →
             result ≡ has_quorum self.now (is_member ID.eq ids.now) };
 
-    /// How many ids a quorum has at least, as far as the quorum set tells.
+    /// How many ids a quorum has at least, as far as the quorum set tells: 0 where it does not.
     ///
     /// A caller that has fewer ids need not ask. Nothing is allocated.
     fn least_quorum_size(&self) -> usize
-        ensures { QuorumsHaveAtLeast ID.eq (has_quorum self.now) result }
-    {
-        0
-    }
+        ensures told { result ≡ least_size self.now }
+        ensures least { QuorumsHaveAtLeast ID.eq (has_quorum self.now) result };
 
     /// The voters, each once, ascending.
     fn ids(&self, alloc: Global) -> Result<Vec<ID>, AllocError>

@@ -7,6 +7,7 @@ ghost use Rattle.std.specs.Fn.{AnyResult};
 ghost use Rattle.std.specs.List.Sorted.{IsStrictlySortedBy};
 ghost use Rattle.raft_members.specs.Majority.{is_majority};
 ghost use Rattle.raft_members.specs.MajorityLaws.{is_majority-superset};
+ghost use Rattle.raft_members.specs.QuorumSize.{majority_size};
 
 use super::quorum_set::QuorumSet;
 use std::alloc::{AllocError, Global};
@@ -22,6 +23,8 @@ impl<ID: Copy + Ord> QuorumSet<ID> for Vec<ID> {
 
     ghost is_voter = { λ c. is_member ID.eq c.items };
 
+    ghost least_size = { λ c. majority_size c.items };
+
     ghost superset = { λ c. is_majority-superset ID.eq c.items };
 
     #[inline(always)]
@@ -30,7 +33,7 @@ impl<ID: Copy + Ord> QuorumSet<ID> for Vec<ID> {
     }
 
     fn least_quorum_size(&self) -> usize {
-        self.len() / 2 + 1
+        self.as_slice().least_quorum_size()
     }
 
     fn ids(&self, alloc: Global) -> Result<Vec<ID>, AllocError> {
@@ -43,6 +46,8 @@ impl<'a, ID: Copy + Ord> QuorumSet<ID> for &'a [ID] {
     ghost has_quorum = { λ c s. is_majority ID.eq c.now s };
 
     ghost is_voter = { λ c. is_member ID.eq c.now };
+
+    ghost least_size = { λ c. majority_size c.now };
 
     ghost superset = { λ c. is_majority-superset ID.eq c.now };
 
@@ -66,6 +71,8 @@ impl<ID: Copy + Ord> QuorumSet<ID> for BTreeSet<ID> {
 
     ghost is_voter = { λ c. is_member ID.eq c.keys };
 
+    ghost least_size = { λ c. majority_size c.keys };
+
     ghost superset = { λ c. is_majority-superset ID.eq c.keys };
 
     fn is_quorum(&self, ids: &[ID]) -> bool {
@@ -86,6 +93,8 @@ impl<ID: Copy + Ord, T: QuorumSet<ID> + Drop> QuorumSet<ID> for Rc<T> {
     ghost has_quorum = { λ q s. T.has_quorum q.value s };
 
     ghost is_voter = { λ q x. T.is_voter q.value x };
+
+    ghost least_size = { λ q. T.least_size q.value };
 
     ghost superset = { λ q. T.superset q.value };
 

@@ -1,5 +1,5 @@
 use Rattle.raft_members.proofs.LeastLemmas.{at_least_least}
 use Rattle.raft_members.proofs.quorum.at_least.AtLeastQuorumSet.least_quorum_size.Goals as goal
 
-pub returns : goal.returns
-returns g c = at_least_least g.met.ID.Eq.laws c.args.self.now.ids.items c.args.self.now.need
+pub returns-clause-least : goal.returns-clause-least
+returns-clause-least g c = at_least_least g.met.ID.Eq.laws c.args.self.now.ids.items c.args.self.now.need

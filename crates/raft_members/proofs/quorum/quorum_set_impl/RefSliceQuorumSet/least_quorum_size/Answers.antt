@@ -1,5 +1,5 @@
 use Rattle.raft_members.proofs.LeastLemmas.{majority_least}
 use Rattle.raft_members.proofs.quorum.quorum_set_impl.RefSliceQuorumSet.least_quorum_size.Goals as goal
 
-pub returns : goal.returns
-returns g c = majority_least g.met.ID.Eq.laws c.args.self.now.now
+pub returns-clause-least : goal.returns-clause-least
+returns-clause-least g c = majority_least g.met.ID.Eq.laws c.args.self.now.now

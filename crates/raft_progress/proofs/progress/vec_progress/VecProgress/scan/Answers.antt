@@ -14,7 +14,7 @@ pub returns-then-is_lt-clause-scanned : goal.returns-then-is_lt-clause-scanned
 returns-then-is_lt-clause-scanned g c =
     let p = c.args.self.now in
     let short_is : c.max-short.result ≡ max (c.least_quorum_size-least.result - 1) c.args.place = rw (c.max-short.ensures, c.saturating_sub.ensures) refl in
-    scanned_from g.met.ID.Eq.laws g.P.Ord.cmp g.V.ProgressPart.part_of g.QS.QuorumSet.has_quorum (shown p) (IsDistinct-voters g.met.ID.Eq.laws p.voter_count p.walk.items c.requires.distinct) c.least_quorum_size-least.result c.least_quorum_size-least.ensures c.args.place c.max-short.result short_is (shown c.test_fronts.new.self) c.test_fronts.ensures.scanned
+    scanned_from g.met.ID.Eq.laws g.P.Ord.cmp g.V.ProgressPart.part_of g.QS.QuorumSet.has_quorum (shown p) (IsDistinct-voters g.met.ID.Eq.laws p.voter_count p.walk.items c.requires.distinct) c.least_quorum_size-least.result c.least_quorum_size-least.ensures.least c.args.place c.max-short.result short_is (shown c.test_fronts.new.self) c.test_fronts.ensures.scanned
 
 pub returns-else-short-self-clause-scanned : goal.returns-else-short-self-clause-scanned
 returns-else-short-self-clause-scanned g c =
@@ -38,4 +38,4 @@ returns-else-short-self-clause-scanned g c =
       | else-short-self-via-then-short-self+else-is_lt w ↦ ap (λ p. shown p) w.self-is
       | else-short-self-via-else-short-self w ↦ ap (λ p. shown p) w.self-is
     ] in
-    rw same (not_scanned g.met.ID.Eq.laws g.P.Ord.cmp g.V.ProgressPart.part_of g.QS.QuorumSet.has_quorum (shown p) (IsDistinct-voters g.met.ID.Eq.laws p.voter_count p.walk.items c.requires.distinct) c.least_quorum_size-least.result c.least_quorum_size-least.ensures c.args.place c.max-short.result short_is ends fits)
+    rw same (not_scanned g.met.ID.Eq.laws g.P.Ord.cmp g.V.ProgressPart.part_of g.QS.QuorumSet.has_quorum (shown p) (IsDistinct-voters g.met.ID.Eq.laws p.voter_count p.walk.items c.requires.distinct) c.least_quorum_size-least.result c.least_quorum_size-least.ensures.least c.args.place c.max-short.result short_is ends fits)
