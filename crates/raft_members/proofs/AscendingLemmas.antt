@@ -1,6 +1,6 @@
--- Keys that are inserted in ascending order.
+-- Keys that are inserted in order, ascending or descending.
 use Rattle.std.specs.Prelude.{◌≡◌, List, [], ◌∷◌, ◌++◌, refl}
-use Rattle.std.proofs.Common.{sym, ◌∙◌, ap, append_assoc, append-nil}
+use Rattle.std.proofs.Common.{sym, subst, ◌∙◌, ap, append_assoc, append-nil}
 use Rattle.std.specs.Cmp.{IsTotalOrder}
 use Rattle.std.specs.Ordering.{ordering_reverse}
 use Rattle.std.specs.declared.cmp.Ordering.{Ordering}
@@ -28,6 +28,18 @@ module _ {K : Type 0} {cmp : K → K → Ordering} (o : IsTotalOrder cmp) where
       let whole : all ≡ ks ++ k ∷ rest = e ∙ ap (λ ys. ks ++ ys) f in
       let P : List K → Type 0 = IsStrictlySortedBy cmp in
       whole ∙ sym (append_assoc ks (k ∷ []) rest) ∙ ap (λ ys. ys ++ rest) (sym (insert_last ks rest k (rw whole at s)))
+
+-- a key below all others goes to the front
+insert_first : {K : Type 0} (cmp : K → K → Ordering) (front ks : List K) (k : K) → IsStrictlySortedBy cmp (front ++ k ∷ ks) → insert_key cmp ks k ≡ k ∷ ks
+insert_first cmp [] [] k s = refl
+insert_first cmp [] (x ∷ xs) k s = rw (sorted_head cmp k (x ∷ xs) s).0 refl
+insert_first cmp (f ∷ front) ks k s = insert_first cmp front ks k (sorted_tail cmp f (front ++ k ∷ ks) s)
+
+-- the last key ahead in a sorted list is inserted
+pub insert_behind : {K : Type 0} (cmp : K → K → Ordering) (all ahead ks rest : List K) (k : K) → IsStrictlySortedBy cmp all → all ≡ ahead ++ ks → ahead ≡ rest ++ k ∷ [] → all ≡ rest ++ insert_key cmp ks k
+insert_behind cmp all ahead ks rest k s e f =
+    let whole : all ≡ rest ++ k ∷ ks = e ∙ ap (λ ys. ys ++ ks) f ∙ append_assoc rest (k ∷ []) ks in
+    whole ∙ ap (λ ys. rest ++ ys) (sym (insert_first cmp rest ks k (subst (IsStrictlySortedBy cmp) whole s)))
 
 -- one more item is pushed
 pub push_ahead : {K : Type 0} (all ks ahead rest : List K) (k : K) → all ≡ ks ++ ahead → ahead ≡ k ∷ rest → all ≡ (ks ++ k ∷ []) ++ rest

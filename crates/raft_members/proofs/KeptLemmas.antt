@@ -53,6 +53,16 @@ module _ {K N : Type 0} (same : N → N → Bool) where
         let g : cmp k x.0 ≡ Greater = o.antisymm k x.0 ∙ ap (λ z. ordering_reverse (cmp z k)) s.0 ∙ ap ordering_reverse b.0 in
         rw g (s.0, s.1, same_insert xs ys k v w s.2 b.1 e)
 
+  -- an entry below all others goes to the front
+  pub same_first : (cmp : K → K → Ordering) (front xs ys : List (K × N)) (k : K) (v w : N) → IsStrictlySortedBy cmp (keys_of (front ++ (k, w) ∷ ys)) → SameEntries xs ys → same v w ≡ true → SameEntries (insert_entry cmp xs k v) ((k, w) ∷ ys)
+  same_first cmp [] [] [] k v w s t e = (refl, e, tt)
+  same_first cmp [] [] (y ∷ ys) k v w s t e = absurd t
+  same_first cmp [] (x ∷ xs) [] k v w s t e = absurd t
+  same_first cmp [] (x ∷ xs) (y ∷ ys) k v w s t e =
+      let below : cmp k x.0 ≡ Less = ap (cmp k) t.0 ∙ (sorted_head cmp k (keys_of (y ∷ ys)) s).0 in
+      rw below (refl, e, t)
+  same_first cmp (f ∷ front) xs ys k v w s t e = same_first cmp front xs ys k v w (sorted_tail cmp f.0 (keys_of (front ++ (k, w) ∷ ys)) s) t e
+
   -- what a filter keeps stays below
   below_one : (cmp : K → K → Ordering) (k : K) (x : K × N) (xs : List (K × N)) (b : Bool) → cmp x.0 k ≡ Less → AllBelow cmp k xs → AllBelow cmp k (cond b (x ∷ xs) xs)
   below_one cmp k x xs true h t = (h, t)
@@ -109,7 +119,3 @@ equal_members same e m w c h = both_true (rw c ((lists_equiv (lists_equiv e)).re
 -- an item goes from what is ahead to what is done
 pub moved_on : {X : Type 0} (done : List X) (x : X) (ahead all : List X) → all ≡ done ++ x ∷ ahead → all ≡ (done ++ x ∷ []) ++ ahead
 moved_on done x ahead all h = h ∙ sym (append_assoc done (x ∷ []) ahead)
-
-pub filter-true : {X : Type 0} (xs : List X) → filter (λ _. true) xs ≡ xs
-filter-true [] = refl
-filter-true (x ∷ xs) = ap (λ ys. x ∷ ys) (filter-true xs)

@@ -8,11 +8,12 @@ use std::alloc::{AllocError, Global};
 use std::collections::{BTreeMap, BTreeSet};
 
 /// A set with the same ids.
+// The last one is put in first: so each finds its place, before all others, by one comparison.
 pub fn copy<ID: Copy + Ord>(alloc: Global, ids: &BTreeSet<ID>) -> Result<BTreeSet<ID>, AllocError>
     ensures { IfOk result (λ set. set.keys ≡ ids.now.keys) }
 {
     let mut set = BTreeSet::new(alloc);
-    for id in ids.iter() {
+    for id in ids.iter().rev() {
         set.insert(*id)?;
     }
     Ok(set)

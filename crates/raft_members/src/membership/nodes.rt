@@ -72,6 +72,7 @@ fn put_copy<NID: Copy + Ord, N: Eq + Clone + Drop>(
 }
 
 /// Copies of the nodes.
+// As in `ids::copy` the last one is put in first.
 pub fn copy<NID: Copy + Ord, N: Eq + Clone + Drop>(
     alloc: Global,
     nodes: &BTreeMap<NID, N>,
@@ -81,8 +82,11 @@ pub fn copy<NID: Copy + Ord, N: Eq + Clone + Drop>(
     ensures entries { IfOk result (λ n.
         IsTrue (same_nodes NID.eq N.eq nodes.now.entries n.entries)) }
 {
-    let none: Vec<BTreeSet<NID>> = Vec::new(alloc);
-    kept(alloc, nodes, &none, &none, true)
+    let mut copies = BTreeMap::new(alloc);
+    for (id, node) in nodes.iter().rev() {
+        put_copy(&mut copies, *id, node)?;
+    }
+    Ok(copies)
 }
 
 /// The nodes, and copies of those of `more` whose ids are absent.

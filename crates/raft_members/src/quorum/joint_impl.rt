@@ -106,6 +106,10 @@ pub(crate) fn ids_of_each<ID: Copy + Ord, QS: QuorumSet<ID>>(
     ensures voters { IfOk result (λ ids. (x : ID) →
         is_member ID.eq ids.items x ≡ list_any (λ c. QS.is_voter c x) children.now) }
 {
+    // The voters of one child, as of the one config of a membership at rest, are all.
+    if let [only] = children {
+        return only.ids(alloc);
+    }
     let mut all: Vec<ID> = Vec::new(alloc);
     for child in children {
         append_ids(alloc, &mut all, child)?;

@@ -1,13 +1,7 @@
-use Rattle.std.proofs.Common.{sym, ◌∙◌}
-use Rattle.raft_members.proofs.AscendingLemmas.{insert_ahead, none_ahead}
+use Rattle.raft_members.proofs.AscendingLemmas.{insert_behind}
+use Rattle.std.specs.Iterator.Adapters.{rev_source}
 use Rattle.raft_members.proofs.membership.ids.copy.Goals as goal
-
-pub returns : goal.returns
-returns g c = none_ahead c.args.ids.now.keys c.loop-id.set.keys c.loop-id.id-iterator c.loop-id.invariant c.in-None.ensures.steps.0
-
-pub loop-id-init : goal.loop-id-init
-loop-id-init g c = rw c.new-set.ensures.empty (sym (c.into_iter-id-iterator.ensures.into_iter_gives ∙ c.iter-id-items.ensures.rest))
 
 pub loop-id-preserved : goal.loop-id-preserved
 loop-id-preserved g c =
-    rw c.in_ok-insert.ensures.keys (insert_ahead g.met.ID.Ord.total c.args.ids.now.keys c.loop-id.set.keys c.loop-id.id-iterator c.next.new.self c.in-Some.id.now c.iter-id-items.ensures.ordered c.loop-id.invariant c.in-Some.ensures.steps)
+    rw c.in_ok-insert.ensures.keys (insert_behind g.ID.Ord.cmp c.args.ids.now.keys (rev_source c.loop-id.id-iterator) c.loop-id.set.keys (rev_source c.next.new.self) c.in-Some.id.now c.iter.ensures.ordered c.loop-id.invariant c.in-Some.ensures.steps)
