@@ -156,7 +156,8 @@ impl<C: Ord + Copy + Drop, NID: NodeId, N: Node> MembershipStateOf<C, NID, N> {
     }
 
     /// Takes the log as committed up to a log id. The effective membership is committed with it, if
-    /// it is not past it; else no memory is taken. It may be called where `can_commit` is true.
+    /// it is not past it: only there can the answer be want of memory, though sharing takes none.
+    /// It may be called where `can_commit` is true.
     ///
     /// After an error nothing has changed.
     pub fn commit(&mut self, log_id: &Option<LogIdOf<C>>) -> Result<(), AllocError>
@@ -176,7 +177,8 @@ impl<C: Ord + Copy + Drop, NID: NodeId, N: Node> MembershipStateOf<C, NID, N> {
     ///
     /// Where the snapshot has the effective membership in it, only the new one is left. Else that
     /// one may be of a log that conflicts with the leader's, so their indexes are compared and not
-    /// their log ids. Unless the new one takes the place of both, no memory is taken.
+    /// their log ids. Only where the new one takes the place of both can the answer be want of
+    /// memory, though sharing takes none.
     ///
     /// After an error nothing has changed.
     pub fn update_committed(
@@ -276,7 +278,8 @@ impl<C: Ord + Copy + Drop, NID: NodeId, N: Node> MembershipStateOf<C, NID, N> {
 
     /// Takes the log as cut off from an index on, which is past the committed membership. Where the
     /// effective membership is cut off with it, the committed one is effective again and is
-    /// answered; else no memory is taken. It may be called where `can_truncate` is true.
+    /// answered: only there can the answer be want of memory, though sharing takes none. It may be
+    /// called where `can_truncate` is true.
     ///
     /// After an error nothing has changed.
     pub fn truncate(

@@ -400,8 +400,9 @@ impl<
 
     /// Takes a greater committed log id, commits the effective membership if it is not past it, and
     /// answers the log id of before. Another log id changes nothing, and nothing is answered. Only
-    /// a membership that is committed wants memory. Where the log id is not past the log, a valid
-    /// state stays valid. It may be called where `can_commit` is true.
+    /// where a membership is committed can the answer be want of memory, though sharing takes none.
+    /// Where the log id is not past the log, a valid state stays valid. It may be called where
+    /// `can_commit` is true.
     ///
     /// After an error nothing has changed.
     pub fn update_committed(

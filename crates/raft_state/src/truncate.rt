@@ -35,8 +35,8 @@ impl<
 
     /// Cuts the log off from an index on, as a follower does with log ids that conflict with the
     /// leader's; where `can_truncate_log` is true. True where the effective membership was cut off
-    /// with it, and the committed one is effective again: only that wants memory. A valid state
-    /// stays valid.
+    /// with it, and the committed one is effective again: only there can the answer be want of
+    /// memory, though sharing takes none. A valid state stays valid.
     ///
     /// After an error nothing has changed.
     pub fn truncate_log(&mut self, since: u64) -> Result<bool, AllocError>
