@@ -4,8 +4,6 @@ use Rattle.std.proofs.lemmas.Bool.{cases_lt}
 use Rattle.std.proofs.Common.{◌⊎◌, inl, inr}
 use Rattle.std.specs.Option.{is_some, option_or, option_map}
 use Rattle.std.specs.declared.cmp.Ordering.{Ordering}
-use Rattle.std.specs.List.{AllWithin}
-use Rattle.std.specs.List.Sorted.{IsPartitionedBy}
 use Rattle.std.proofs.lemmas.List.Folds.{find-append}
 use Rattle.std.proofs.lemmas.Bool.Decides.{nat_tests}
 use Rattle.raft_base.specs.declared.log_id.LogIdOf.{LogIdOf}
@@ -79,15 +77,6 @@ at_filled {C} b (k ∷ ks) e j r =
       ]
     ])
 
--- how many keys are not past j, where a partition point of the keys by that test is n
-pub counted : {C : Type 0} (ks : List (LogIdOf C)) (j n : ℕ) → n ≤ length ks → AllWithin (λ k. nat_le k.index j ≡ true) ks 0 n → AllWithin (λ k. nat_le k.index j ≡ false) ks n (length ks) → n ≡ keys_to ks j
-counted [] j n le here past = omega arith
-counted (k ∷ ks) j zero le here past = let h = past 0 k (omega arith) (omega arith) in rw h refl
-counted (k ∷ ks) j (suc n) le here past =
-    let h = here 0 k (omega arith) (omega arith) in
-    let ih = counted ks j n (omega arith) (λ i d a b. here (suc i) d (omega arith) (omega arith)) (λ i d a b. past (suc i) d (omega arith) (omega arith)) in
-    rw (h, ← ih) refl
-
 -- the key before place n
 abbrev pub key_before : {C : Type 0} → List (LogIdOf C) → ℕ → LogIdOf C → Option (LogIdOf C)
 key_before ks zero d = None
@@ -111,16 +100,19 @@ rising_from b [] e m d r lt = absurd (omega arith)
 rising_from b (k ∷ ks) e zero d r lt = r.0
 rising_from b (k ∷ ks) e (suc m) d r lt = let h = rising_from (k.index + 1) ks e m d r.1 (omega arith) in omega arith
 
-pub rising_by_place : {C : Type 0} (b : ℕ) (ks : List (LogIdOf C)) (e i m : ℕ) (d : LogIdOf C) → Rises b ks e → i ≤ m → m < length ks → (get_or ks i d).index ≤ (get_or ks m d).index
-rising_by_place b [] e i m d r le lt = absurd (omega arith)
-rising_by_place b (k ∷ ks) e zero zero d r le lt = omega arith
-rising_by_place b (k ∷ ks) e zero (suc m) d r le lt = let h = rising_from (k.index + 1) ks e m d r.1 (omega arith) in omega arith
-rising_by_place b (k ∷ ks) e (suc i) zero d r le lt = absurd (omega arith)
-rising_by_place b (k ∷ ks) e (suc i) (suc m) d r le lt = rising_by_place (k.index + 1) ks e i m d r.1 (omega arith) (omega arith)
+-- no more keys are counted than there are
+pub counts_within : {C : Type 0} (ks : List (LogIdOf C)) (j : ℕ) → keys_to ks j ≤ length ks
+counts_within [] j = omega arith
+counts_within (k ∷ ks) j = let h = counts_within ks j in grind (arith, nat_tests)
 
--- rising keys are parted by a bound on their indexes
-pub rising_parted : {C : Type 0} (b : ℕ) (ks : List (LogIdOf C)) (e j : ℕ) → Rises b ks e → IsPartitionedBy (λ (k : LogIdOf C). nat_le k.index j) ks
-rising_parted b ks e j r i m d le lt h = let q = rising_by_place b ks e i m d r le lt in grind (arith, nat_tests)
+-- a key is not past j exactly where its place is below the count
+pub counted_by_place : {C : Type 0} (b : ℕ) (ks : List (LogIdOf C)) (e j m : ℕ) (d : LogIdOf C) → Rises b ks e → m < length ks → nat_le (get_or ks m d).index j ≡ nat_lt m (keys_to ks j)
+counted_by_place b [] e j m d r lt = absurd (omega arith)
+counted_by_place b (k ∷ ks) e j zero d r lt = grind (arith, nat_tests)
+counted_by_place b (k ∷ ks) e j (suc m) d r lt =
+    let h = rising_from (k.index + 1) ks e m d r.1 (omega arith) in
+    let ih = counted_by_place (k.index + 1) ks e j m d r.1 (omega arith) in
+    grind (arith, nat_tests)
 
 none_step : {C : Type 0} (t : Bool) (n : ℕ) (o : Option (LogIdOf C)) (k : LogIdOf C) → (if t then suc n else 0) ≡ 0 → (if t then option_or o (Some k) else None) ≡ None
 none_step true n o k h = absurd (omega arith)

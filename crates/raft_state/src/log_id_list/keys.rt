@@ -1,5 +1,5 @@
 //! The work of a list over plain keys. The list keeps them in order.
-ghost use Rattle.std.specs.Prelude.{◌≡◌, ◌+◌, ◌<◌, ◌≤◌, length, map, IsOk, OnOk, OnErr, IsTrue, [], vec_len};
+ghost use Rattle.std.specs.Prelude.{◌≡◌, ◌+◌, ◌<◌, ◌≤◌, length, map, nat_le, if◌then◌else◌, IsOk, OnOk, OnErr, IsTrue, [], vec_len};
 ghost use Rattle.std.specs.Vec.{vec_capacity};
 ghost use Rattle.raft_state.specs.FullLog.{full_log, end_index};
 ghost use Rattle.raft_state.specs.LogReads.{id_at, last_id, last_two_share_leader};
@@ -202,13 +202,46 @@ pub fn get<C: Ord + Copy>(keys: &[LogIdOf<C>], index: u64) -> Option<LogIdOf<C>>
     Some(LogIdOf::new(key.leader_id, index))
 }
 
-/// How many keys are not past an index, by halving.
+/// How many keys are not past an index: by halving down to a few, which are counted.
 fn count_to<C: Ord + Copy>(keys: &[LogIdOf<C>], index: u64) -> usize
     requires { Rises 0 keys.now (end_index keys.now) }
     ensures bound { result ≤ length keys.now }
     ensures count { result ≡ keys_to keys.now index }
 {
-    keys.partition_point(|key| key.index <= index)
+    let (least, most) = count_bounds(keys, index);
+    let mut count = least;
+    for key in &keys[least..most] {
+        if key.index <= index {
+            count += 1;
+        }
+    }
+    count
+}
+
+/// Two bounds, at most eight apart, of how many keys are not past an index: by halving.
+fn count_bounds<C: Ord + Copy>(keys: &[LogIdOf<C>], index: u64) -> (usize, usize)
+    requires { Rises 0 keys.now (end_index keys.now) }
+    ensures least { result.0 ≤ keys_to keys.now index }
+    ensures most { keys_to keys.now index ≤ result.1 }
+    ensures few { result.1 ≤ result.0 + 8 }
+    ensures bound { result.1 ≤ length keys.now }
+{
+    let mut least = 0;
+    let mut size = keys.len();
+    while size > 8 {
+        let half = size / 2;
+        least += half * one_if_at_most(keys[least + half].index, index);
+        size -= half;
+    }
+    (least, least + size)
+}
+
+/// 1 where a key's index is not past another, else 0: the carry of their difference. Of a
+/// comparison the compiler makes a branch, which in halving is mispredicted every other time.
+fn one_if_at_most(key: u64, index: u64) -> usize
+    ensures { result ≡ (if nat_le key index then 1 else 0) }
+{
+    (((1u128 << 64) + index as u128 - key as u128) >> 64) as usize
 }
 
 /// The last two keys where they share a leader, else the last one.
