@@ -139,16 +139,15 @@ impl<C: Ord + Copy> ProgressEntryOf<C> {
         ensures valid { OnOk result (first_false (entry_relations C.cmp self.new) ≡ None) }
         ensures not_lowered { IsTrue (id_le C.cmp self.old.matching self.new.matching) }
     {
-        // On a copy, so that a refusal leaves the entry as it was.
-        let mut inflight = self.inflight;
-        inflight.ack(request_id, matching)?;
+        // All that may refuse comes first, so that a refusal leaves the entry as it was.
+        self.inflight.check_ack(request_id, matching)?;
         if matching.cmp(&self.matching).is_lt() {
             return Err(InflightError::MatchingRegress);
         }
         if !matching.has_next_index() {
             return Err(InflightError::IndexTooLarge);
         }
-        self.inflight = inflight;
+        self.inflight.take_ack(matching);
         self.matching = matching;
         self.searching_end = self.searching_end.max(matching.next_index());
         Ok(())

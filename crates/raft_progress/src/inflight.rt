@@ -1,10 +1,13 @@
 //! What is in flight to a follower, and what its replies make of it.
-ghost use Rattle.std.specs.Prelude.{◌≡◌, ◌↔◌, Some, IsSome, IsTrue};
+ghost use Rattle.std.specs.Prelude.{◌≡◌, ◌↔◌, ℕ, ◌&&◌, Some, Ok, IsSome, IsTrue};
 ghost use Rattle.std.specs.Result.{result_err};
+ghost use Rattle.raft_base.specs.LogId.{id_le, index_of};
+ghost use Rattle.raft_base.specs.LogIndex.{index_le};
 ghost use Rattle.raft_base.specs.Validate.{first_false};
 ghost use Rattle.raft_progress.specs.inflight.Inflight.{id_of, is_idle, is_sending_log, is_sending_snapshot, logs_from, request_of, with_id, wrong_id};
 ghost use Rattle.raft_progress.specs.inflight.InflightTable.{FollowsTable, inflight_after_ack, inflight_after_conflict, is_within};
 ghost use Rattle.raft_progress.specs.inflight.InflightValid.{inflight_relations};
+ghost use Rattle.raft_progress.specs.declared.inflight.InflightOf.{InflightOf};
 ghost use Rattle.raft_progress.specs.declared.inflight.InflightOf.TheVariants.{Snapshot};
 
 use raft_base::{
@@ -193,28 +196,55 @@ impl<C: Ord + Copy> InflightOf<C> {
         ensures { FollowsTable (inflight_after_ack C.cmp self.old request_id upto) self.old result
             self.new }
     {
-        match *self {
-            InflightOf::None => Err(InflightError::InvalidRequestId {
-                mine: None,
-                received: request_id,
-            }),
-            InflightOf::Logs { id, log_id_range } => {
-                self.assert_my_id(request_id)?;
-                if !is_within(&log_id_range, upto) {
-                    return Err(InflightError::AckOutOfRange);
+        self.check_ack(request_id, upto)?;
+        self.take_ack(upto);
+        Ok(())
+    }
+
+    /// Refuses what `ack` refuses, and takes nothing.
+    #[inline(always)]
+    pub(crate) fn check_ack(
+        &self,
+        request_id: u64,
+        upto: Option<LogIdOf<C>>,
+    ) -> Result<(), InflightError>
+        ensures { result_err result ≡ result_err (inflight_after_ack C.cmp self.now request_id
+            upto) }
+    {
+        self.assert_my_id(request_id)?;
+        match self {
+            InflightOf::None => Ok(()),
+            InflightOf::Logs { log_id_range, .. } => {
+                if is_within(log_id_range, upto) {
+                    Ok(())
+                } else {
+                    Err(InflightError::AckOutOfRange)
                 }
-                *self = InflightOf::logs(upto, log_id_range.last).with_id(id);
-                Ok(())
             }
             InflightOf::Snapshot { last_log_id, .. } => {
-                self.assert_my_id(request_id)?;
-                if upto < last_log_id {
-                    return Err(InflightError::SnapshotAckRegress);
+                if upto < *last_log_id {
+                    Err(InflightError::SnapshotAckRegress)
+                } else {
+                    Ok(())
                 }
-                *self = InflightOf::None;
-                Ok(())
             }
         }
+    }
+
+    /// Takes an ack that `check_ack` does not refuse.
+    // Such an ack is not past the last log, so it is before it where the two differ.
+    #[inline(always)]
+    pub(crate) fn take_ack(&mut self, upto: Option<LogIdOf<C>>)
+        ensures { (id : ℕ) (after : InflightOf C) →
+            inflight_after_ack C.cmp self.old id upto ≡ Ok after → self.new ≡ after }
+    {
+        if let InflightOf::Logs { log_id_range, .. } = self {
+            if upto != log_id_range.last {
+                log_id_range.prev = upto;
+                return;
+            }
+        }
+        *self = InflightOf::None;
     }
 
     /// Takes the reply that the follower does not have the log before those in flight, which stands
@@ -248,9 +278,18 @@ impl<C: Ord + Copy> InflightOf<C> {
 fn is_within<C: Ord + Copy>(range: &LogIdRangeOf<C>, upto: Option<LogIdOf<C>>) -> bool
     ensures { result ≡ is_within C.cmp range.now upto }
 {
-    let LogIdRangeOf { prev, last } = *range;
-    let index = upto.index();
-    prev <= upto && upto <= last && prev.index() <= index && index <= last.index()
+    is_up_to(range.prev, upto) && is_up_to(upto, range.last)
+}
+
+/// Whether a log id is at most another one, by order and by index: its leader is, and its index.
+fn is_up_to<C: Ord + Copy>(id: Option<LogIdOf<C>>, other: Option<LogIdOf<C>>) -> bool
+    ensures { result ≡ (id_le C.cmp id other && index_le (index_of id) (index_of other)) }
+{
+    match (id, other) {
+        (None, _) => true,
+        (Some(_), None) => false,
+        (Some(id), Some(other)) => id.leader_id <= other.leader_id && id.index <= other.index,
+    }
 }
 
 impl<C: Ord + Copy> Validate for InflightOf<C> {

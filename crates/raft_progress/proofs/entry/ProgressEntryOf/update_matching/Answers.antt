@@ -1,4 +1,4 @@
-use Rattle.std.proofs.Common.{◌≡◌, true, false, nat_lt, is_lt, refl, sym, ap, ◌∙◌, rules, ◌^◌, max, arith}
+use Rattle.std.proofs.Common.{◌≡◌, Ok, true, false, nat_lt, is_lt, refl, sym, ap, ◌∙◌, rules, ◌^◌, max, arith}
 use Rattle.raft_base.specs.LogId.{id_lt, next_index}
 use Rattle.raft_progress.specs.inflight.InflightTable.{inflight_after_ack}
 use Rattle.raft_progress.specs.declared.entry.ProgressEntryOf.{ProgressEntryOf}
@@ -6,23 +6,31 @@ use Rattle.raft_progress.proofs.AckLemmas.{taken_is_valid}
 use Rattle.raft_progress.proofs.EntryLemmas.{table_of_refused, table_of_taken}
 use Rattle.raft_progress.proofs.entry.ProgressEntryOf.update_matching.Goals as goal
 
-pub returns-in_err-ack-clause-table : goal.returns-in_err-ack-clause-table
-returns-in_err-ack-clause-table g c =
-    let table = table_of_refused (Unit {0}) (inflight_after_ack g.C.Ord.cmp c.args.self.now.inflight c.args.request_id c.args.matching) _ _ _ c.in_err-ack.ensures in
+pub returns-in_err-check_ack-clause-table : goal.returns-in_err-check_ack-clause-table
+returns-in_err-check_ack-clause-table g c =
+    let table = table_of_refused (inflight_after_ack g.C.Ord.cmp c.args.self.now.inflight c.args.request_id c.args.matching) _ c.in_err-check_ack.ensures in
     rw table (search rules)
+
+pub returns-then-is_lt-clause-table : goal.returns-then-is_lt-clause-table
+returns-then-is_lt-clause-table g c =
+    let entry = c.args.self.now in
+    let table = table_of_taken (inflight_after_ack g.C.Ord.cmp entry.inflight c.args.request_id c.args.matching) c.in_ok-check_ack.ensures in
+    let below : id_lt g.C.Ord.cmp c.args.matching entry.matching ≡ true = sym (ap is_lt c.cmp.ensures) ∙ sym c.is_lt.ensures ∙ c.if-is_lt.true in
+    rw (table.1, below) (refl, refl)
 
 pub returns-then-not-has_next_index-clause-table : goal.returns-then-not-has_next_index-clause-table
 returns-then-not-has_next_index-clause-table g c =
     let entry = c.args.self.now in
-    let table = table_of_taken (Unit {0}) (inflight_after_ack g.C.Ord.cmp entry.inflight c.args.request_id c.args.matching) entry.inflight c.ack.new.self c.in_ok-ack.field-0 c.in_ok-ack.ensures in
+    let table = table_of_taken (inflight_after_ack g.C.Ord.cmp entry.inflight c.args.request_id c.args.matching) c.in_ok-check_ack.ensures in
     let above : id_lt g.C.Ord.cmp c.args.matching entry.matching ≡ false = sym (ap is_lt c.cmp.ensures) ∙ sym c.is_lt.ensures ∙ c.if-is_lt.false in
     let large : nat_lt (next_index c.args.matching) (2 ^ 64) ≡ false = sym c.has_next_index.ensures ∙ c.if-not-has_next_index.true in
-    rw (table, above, large) (refl, refl)
+    rw (table.1, above, large) (refl, refl)
 
 pub returns-clause-table : goal.returns-clause-table
 returns-clause-table g c =
     let entry = c.args.self.now in
-    let table = table_of_taken (Unit {0}) (inflight_after_ack g.C.Ord.cmp entry.inflight c.args.request_id c.args.matching) entry.inflight c.ack.new.self c.in_ok-ack.field-0 c.in_ok-ack.ensures in
+    let taken = table_of_taken (inflight_after_ack g.C.Ord.cmp entry.inflight c.args.request_id c.args.matching) c.in_ok-check_ack.ensures in
+    let table : inflight_after_ack g.C.Ord.cmp entry.inflight c.args.request_id c.args.matching ≡ Ok c.take_ack.new.self = taken.1 ∙ ap Ok (sym (c.take_ack.ensures c.args.request_id taken.0 taken.1)) in
     let above : id_lt g.C.Ord.cmp c.args.matching entry.matching ≡ false = sym (ap is_lt c.cmp.ensures) ∙ sym c.is_lt.ensures ∙ c.if-is_lt.false in
     let fits : nat_lt (next_index c.args.matching) (2 ^ 64) ≡ true = sym c.has_next_index.ensures ∙ c.if-not-has_next_index.false in
     let end : c.max-self.result ≡ max entry.searching_end (next_index c.args.matching) = rw c.next_index.ensures at c.max-self.ensures in
@@ -32,7 +40,8 @@ pub returns-clause-valid : goal.returns-clause-valid
 returns-clause-valid g c =
     let entry = c.args.self.now in
     let matching = c.args.matching in
-    let table = table_of_taken (Unit {0}) (inflight_after_ack g.C.Ord.cmp entry.inflight c.args.request_id matching) entry.inflight c.ack.new.self c.in_ok-ack.field-0 c.in_ok-ack.ensures in
+    let taken = table_of_taken (inflight_after_ack g.C.Ord.cmp entry.inflight c.args.request_id matching) c.in_ok-check_ack.ensures in
+    let table : inflight_after_ack g.C.Ord.cmp entry.inflight c.args.request_id matching ≡ Ok c.take_ack.new.self = taken.1 ∙ ap Ok (sym (c.take_ack.ensures c.args.request_id taken.0 taken.1)) in
     let end : c.max-self.result ≡ max entry.searching_end (next_index matching) = rw c.next_index.ensures at c.max-self.ensures in
-    let new : ProgressEntryOf g.row.C.Denot = record { matching = matching; curr_inflight_id = entry.curr_inflight_id; inflight = c.ack.new.self; searching_end = c.max-self.result } in
+    let new : ProgressEntryOf g.row.C.Denot = record { matching = matching; curr_inflight_id = entry.curr_inflight_id; inflight = c.take_ack.new.self; searching_end = c.max-self.result } in
     taken_is_valid g.C.Ord.cmp g.met.C.Ord.total new entry.inflight c.args.request_id table (omega arith)
