@@ -6,7 +6,7 @@ ghost use Rattle.raft_progress.specs.Inner.Places.{TellsPlaces, place_in};
 
 use super::Progress;
 use super::conditions::{are_apart, is_among, is_before, is_ordered};
-use super::part::ProgressPart;
+use super::part::{ProgressPart, is_at_most, is_below};
 use super::places::Places;
 use super::recount::count;
 use super::replay_any_steps::would_fall;
@@ -363,14 +363,13 @@ impl<
             (shown self.old) place before (shown self.new) }
         ensures mark { is_stale self.new ≡ is_stale self.old }
     {
-        let granted = self.granted;
-        if place >= self.voter_count || !granted.cmp(&after).is_lt() {
+        if place >= self.voter_count || !is_below(&self.granted, &after) {
             return;
         }
-        if before.cmp(&granted).is_le() {
+        if is_at_most(&before, &self.granted) {
             let to = self.raise(place);
             self.scan(to);
-        } else if before.cmp(&after).is_lt() {
+        } else if is_below(&before, &after) {
             self.raise(place);
         }
     }
@@ -407,7 +406,7 @@ impl<
         let least = self.quorum_set.least_quorum_size();
         // No front past the place of up to so many voters is a quorum.
         let short = least.saturating_sub(1).max(place);
-        if short < self.voter_count && self.granted.cmp(&self.walk[short].1.part()).is_lt() {
+        if short < self.voter_count && is_below(&self.granted, &self.walk[short].1.part()) {
             self.test_fronts(short);
         }
     }

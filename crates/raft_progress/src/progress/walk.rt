@@ -24,6 +24,7 @@ pub(crate) fn place_all<ID: Copy, V: Clone>(
 }
 
 /// Runs `f` on the value at a place, and answers its part before and afterwards.
+#[inline(always)]
 pub(crate) fn write_at<ID: Copy, V: ProgressPart<P>, P: Copy, F: FnOnce(&mut V)>(
     walk: &mut Vec<(ID, V)>,
     place: usize,

@@ -7,7 +7,7 @@ use Rattle.raft_progress.proofs.FallingLemmas.{le_lt}
 use Rattle.raft_progress.proofs.ListLemmas.{element_at}
 use Rattle.raft_progress.proofs.MovedLemmas.{distinct_moved}
 use Rattle.raft_progress.proofs.progress.vec_progress.VecProgress.settle.Goals as goal
-use Rattle.raft_progress.proofs.progress.vec_progress.VecProgress.settle.Goals.{then-place-self-via-then-place-self, then-place-self-via-else-place-self+then-not-is_lt}
+use Rattle.raft_progress.proofs.progress.vec_progress.VecProgress.settle.Goals.{then-place-self-via-then-place-self, then-place-self-via-else-place-self+then-not-is_below}
 
 not_less : (a b : ℕ) → b ≤ a → nat_lt a b ≡ false
 not_less a b l = by (ltb a b) refl
@@ -28,7 +28,7 @@ returns-then-place-self-clause-put g c =
     let no : (nat_lt c.args.place c.args.self.now.voter_count && rises) ≡ false =
     elim c.then-place-self.branch [
       | then-place-self-via-then-place-self w ↦ ap (λ b. b && rises) (not_less c.args.place c.args.self.now.voter_count w.if-place-self.true)
-      | then-place-self-via-else-place-self+then-not-is_lt w ↦
+      | then-place-self-via-else-place-self+then-not-is_below w ↦
           let low : is_lt (g.P.Ord.cmp c.args.self.now.granted c.args.after) ≡ false = cc in
           and_false (nat_lt c.args.place c.args.self.now.voter_count) rises
           (and_false (is_lt (g.P.Ord.cmp c.args.before (g.V.ProgressPart.part_of e.0.1))) _ (rw (← same) low))
@@ -46,8 +46,8 @@ scan-requires-clause-distinct g c =
     subst (λ (es : List (g.row.ID.Denot × g.row.V.Denot)). IsDistinct g.ID.PartialEq.eq (keys_of es)) (sym p.now)
     (distinct_moved g.met.ID.Eq.laws p.front p.passed p.entry p.rest (subst (λ (es : List (g.row.ID.Denot × g.row.V.Denot)). IsDistinct g.ID.PartialEq.eq (keys_of es)) p.was c.requires.distinct))
 
-pub returns-then-is_le-clause-put : goal.returns-then-is_le-clause-put
-returns-then-is_le-clause-put g c =
+pub returns-then-is_at_most-clause-put : goal.returns-then-is_at_most-clause-put
+returns-then-is_at_most-clause-put g c =
     let e = element_at c.args.self.now.walk.items c.args.place c.requires.within in
     let same : c.args.after ≡ g.V.ProgressPart.part_of e.0.1 = c.requires.at e.0 e.1 in
     let high : is_lt (g.P.Ord.cmp c.args.self.now.granted c.args.after) ≡ true = cc in
@@ -67,8 +67,8 @@ returns-then-is_le-clause-put g c =
       kept = λ h. absurd (true≢false (sym yes ∙ h));
     }
 
-pub returns-then-is_lt-clause-put : goal.returns-then-is_lt-clause-put
-returns-then-is_lt-clause-put g c =
+pub returns-then-is_below-clause-put : goal.returns-then-is_below-clause-put
+returns-then-is_below-clause-put g c =
     let e = element_at c.args.self.now.walk.items c.args.place c.requires.within in
     let same : c.args.after ≡ g.V.ProgressPart.part_of e.0.1 = c.requires.at e.0 e.1 in
     let high : is_lt (g.P.Ord.cmp c.args.self.now.granted c.args.after) ≡ true = cc in
@@ -89,8 +89,8 @@ returns-then-is_lt-clause-put g c =
       kept = λ h. absurd (true≢false (sym yes ∙ h));
     }
 
-pub returns-else-is_lt-clause-put : goal.returns-else-is_lt-clause-put
-returns-else-is_lt-clause-put g c =
+pub returns-else-is_below-clause-put : goal.returns-else-is_below-clause-put
+returns-else-is_below-clause-put g c =
     let e = element_at c.args.self.now.walk.items c.args.place c.requires.within in
     let same : c.args.after ≡ g.V.ProgressPart.part_of e.0.1 = c.requires.at e.0 e.1 in
     let down : is_lt (g.P.Ord.cmp c.args.before c.args.after) ≡ false = cc in
