@@ -128,6 +128,7 @@ impl<C: Ord + Copy> ProgressEntryOf<C> {
 
     /// Takes the reply that the follower has all up to a log id: it matches up to it, and the entry
     /// is valid then, whatever it was before. The match is never lowered.
+    #[inline(always)]
     pub fn update_matching(
         &mut self,
         request_id: u64,
@@ -216,6 +217,7 @@ impl<C: Ord + Copy> ProgressEntryOf<C> {
     /// much of where they part; close to it they start at the match. Where the logs that a probe
     /// needs are purged, it is a snapshot. `Err` has what is in flight already, or nothing where
     /// there is no log to send. `Ok` has nothing in flight where the log's ids do not rise.
+    #[inline(always)]
     pub fn next_send<L: LogStateReader<C>>(
         &mut self,
         log: &L,
@@ -233,6 +235,7 @@ impl<C: Ord + Copy> ProgressEntryOf<C> {
     }
 
     /// Whether something was sent, or at least a request id taken.
+    #[inline(always)]
     fn send<L: LogStateReader<C>>(&mut self, log: &L, max_entries: u64) -> bool
         requires { IsTrue (can_be_sent self.old (L.log_view log.now)) }
         ensures { send_table C.cmp self.old (L.log_view log.now) max_entries
