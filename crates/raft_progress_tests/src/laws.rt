@@ -33,9 +33,9 @@ use raft_members::quorum::QuorumSet;
 use raft_members::{ChangeMembers, ChangeMembershipError, Membership};
 use raft_progress::entry::ProgressEntryOf;
 use raft_progress::laws::{
-    calls_are_runs, clones_keep_order, counted_values_tie, granted_is_threshold, granted_meet,
-    known_stays, meeting_quorums_know_granted, none_purged_past, quorums_know_granted,
-    tracked_calls_are_runs,
+    calls_are_runs, change_keeps_granted, clones_keep_order, counted_values_tie,
+    granted_is_threshold, granted_meet, known_stays, meeting_quorums_know_granted,
+    none_purged_past, quorums_know_granted, tracked_calls_are_runs,
 };
 use raft_progress::progress::{AnyStep, Progress, ProgressPart, Reply, VecProgress, replay_any};
 use raft_progress::search::{SearchEvent, search_run};
@@ -194,6 +194,31 @@ fn gone_over_to<
     Ok(cluster.change_to(next, default))
 }
 
+/// Goes over to what a change makes of the members: where it is made, each quorum of the new members
+/// has a voter that has what was granted before, also where less is granted now.
+fn gone_over_known<
+    NID: NodeId,
+    N: Node,
+    V: ProgressPart<P> + PartialOrd + Clone + Drop,
+    P: Copy + Ord,
+>(
+    cluster: &mut Tracked<NID, N, V, P>,
+    change: ChangeMembers<NID, N>,
+    retain: bool,
+    default: V,
+) -> Result<Reply<NID, P>, ChangeMembershipError<NID>>
+    requires nodes { ClonesAreEqual N.eq N.is_clone }
+    requires values { (v w : V) → V.is_clone v w → V.part_of w ≡ V.part_of v }
+    ensures { IfOk result (λ reply. (granted : P) → reply ≡ Granted granted →
+        0 < length (tracked cluster.old).membership.configs →
+        QuorumsKnow NID.eq P.cmp V.part_of (tracked cluster.new)
+        (tracked cluster.old).progress.granted) }
+{
+    quorums_know_granted(cluster);
+    change_keeps_granted::<NID, N, V, P>();
+    gone_over_to(cluster, change, retain, default)
+}
+
 /// What is granted over quorums that share voters, of whatever kind: each of them knows it.
 fn granted_of<ID: Copy + Ord, V: ProgressPart<P> + Drop, P: Copy + Ord, QS: QuorumSet<ID> + Drop>(
     progress: &VecProgress<ID, V, P, QS>,
@@ -328,6 +353,24 @@ fn has_won<NID: NodeId, N: Node>(
     *votes.progress().granted()
 }
 
+/// The ballot of an election over what a change makes of the members, of whom none has voted. It is
+/// one change apart from the matches, which `has_won` asks; a vote leaves its members as they are.
+fn ballot_over<NID: NodeId, N: Node>(
+    matches: &Tracked<NID, N, u64, u64>,
+    change: ChangeMembers<NID, N>,
+    retain: bool,
+) -> Result<Tracked<NID, N, bool, bool>, ChangeMembershipError<NID>>
+    requires nodes { ClonesAreEqual N.eq N.is_clone }
+    requires has_config { 0 < length (tracked matches.now).membership.configs }
+    ensures one_change { IfOk result (λ votes. is_coherent NID.eq
+        (tracked matches.now).membership.configs (tracked votes).membership.configs ≡ true) }
+    ensures from_false { IfOk result (λ votes.
+        (tracked votes).progress.default_part ≡ false) }
+{
+    let members = matches.membership().change(change, retain)?;
+    Ok(Tracked::new(members, false)?)
+}
+
 /// Runs a search over logs that are not purged past the match: the sharper bound holds.
 fn conflicts_of<C: Ord + Copy, L: LogStateReader<C>>(
     entry: &mut ProgressEntryOf<C>,
@@ -434,7 +477,20 @@ fn a_change_is_a_step(rt: HostRuntime) -> Result<(), Fail> {
     let (reply, replies) = acked_before_turn(alloc, &mut cluster, 1, 4, turn)?;
     assert!(rt; reply == Reply::Granted(0) && replies.first() == Some(&Reply::Granted(4)));
     let change = ChangeMembers::replace_all(alloc, &[1, 2])?;
-    let changed = gone_over_to(&mut cluster, change, true, 0);
+    let changed = gone_over_known(&mut cluster, change, true, 0);
     assert!(rt; changed == Ok(Reply::Granted(4)));
+    Ok(())
+}
+
+#[test]
+fn a_ballot_begins(rt: HostRuntime) -> Result<(), Fail> {
+    let alloc = rt.alloc();
+    let matches = cluster(alloc, 4u64)?;
+    let ballot = ballot_over(&matches, ChangeMembers::replace_all(alloc, &[1, 2])?, true);
+    let begins = match &ballot {
+        Ok(votes) => !*votes.progress().granted() && votes.progress().voter_count() == 3,
+        Err(_) => false,
+    };
+    assert!(rt; begins);
     Ok(())
 }
