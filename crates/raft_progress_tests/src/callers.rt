@@ -1,4 +1,8 @@
 //! Whole callers, the first as on the page for callers.
+ghost use Rattle.raft_base.specs.LogId.{id_le, log_id_cmp};
+ghost use Rattle.raft_base.specs.Validate.{first_false};
+ghost use Rattle.raft_progress.specs.declared.entry.ProgressEntryOf.{ProgressEntryOf};
+ghost use Rattle.raft_progress.specs.entry.EntryValid.{entry_relations};
 ghost use Rattle.raft_progress.specs.entry.Send.{send_table};
 ghost use Rattle.raft_progress.specs.progress.Comparisons.{comparisons};
 ghost use Rattle.raft_progress.specs.progress.CountedValue.{IsCounted};
@@ -11,17 +15,19 @@ ghost use Rattle.raft_progress.specs.progress.ProgressState.{ProgressState};
 ghost use Rattle.raft_progress.specs.progress.Steps.{IsRun};
 ghost use Rattle.raft_progress.specs.tracked.TrackedState.{TrackedShown, tracked_state};
 ghost use Rattle.raft_progress.specs.tracked.TrackedSteps.{IsTrackedRun};
+ghost use Rattle.std.specs.Option.{option_cmp};
 ghost use Rattle.std.specs.Ordering.{nat_cmp};
-ghost use Rattle.std.specs.Prelude.{◌≡◌, IfOk, IfSome, List, Ok, Some, true, ℕ, length};
+ghost use Rattle.std.specs.Prelude.{◌≡◌, IfOk, IfSome, IsTrue, List, None, Ok, Some, false, true, ℕ, length};
 ghost use Rattle.std.specs.Set.{ClonesAreEqual};
 ghost use Rattle.raft_progress.specs.progress.VecProgress.{shown};
 
 use super::steps::{first_ids, made};
-use raft_base::{EmptyNode, LogStateReader, Node, NodeId};
+use raft_base::{EmptyNode, LogIdOf, LogStateReader, Node, NodeId};
+use raft_base_tests::plain_log::id;
 use raft_members::membership::Membership;
 use raft_members::quorum::QuorumSet;
-use raft_progress::entry::ProgressEntryOf;
-use raft_progress::inflight::InflightOf;
+use raft_progress::entry::{ProgressEntry, ProgressEntryOf};
+use raft_progress::inflight::{Inflight, InflightOf};
 use raft_progress::laws::{kept_parts_keep_order, quorums_know_granted};
 use raft_progress::progress::{AnyStep, Progress, ProgressPart, Reply, VecProgress, replay_any};
 use raft_progress::tracked::{Step, Tracked, replay};
@@ -114,6 +120,38 @@ pub fn replaced<ID: Copy + Ord, V: ProgressPart<P> + Drop, P: Copy + Ord, QS: Qu
     }
 }
 
+/// Takes a follower's ack of all up to a log id. A match never falls, so neither the update nor the
+/// order of the progress needs a test.
+pub fn take_ack<ID: Copy + Ord, C: Ord + Copy + Drop + 'static, QS: QuorumSet<ID> + Drop>(
+    followers: &mut VecProgress<ID, ProgressEntryOf<C>, Option<LogIdOf<C>>, QS>,
+    id: &ID,
+    request: u64,
+    upto: Option<LogIdOf<C>>,
+) -> bool
+    requires ordered { IsInOrder ID.eq (option_cmp (log_id_cmp C.cmp)) (λ e. e.matching)
+        QS.has_quorum (shown followers.old) }
+    ensures ordered { IsInOrder ID.eq (option_cmp (log_id_cmp C.cmp)) (λ e. e.matching)
+        QS.has_quorum (shown followers.new) }
+    ensures matched { IsTrue result → (entry : ProgressEntryOf C)
+        × ((state ID.eq (shown followers.new)).value id.now ≡ Some entry)
+        × (entry.matching ≡ upto) × (first_false (entry_relations C.cmp entry) ≡ None) }
+    ensures granted { IsTrue (id_le C.cmp (shown followers.old).granted
+        (shown followers.new).granted) }
+    ensures refused { result ≡ false → shown followers.new ≡ shown followers.old }
+{
+    match followers.try_get(id).copied() {
+        None => false,
+        Some(found) => {
+            let mut entry = found;
+            if entry.update_matching(request, upto).is_err() {
+                return false;
+            }
+            let _ = followers.update(id, entry);
+            true
+        }
+    }
+}
+
 /// What is sent next to a follower, no more than 64 logs, where a send is allowed.
 pub fn sent_next<C: Ord + Copy, L: LogStateReader<C>>(
     entry: &mut ProgressEntryOf<C>,
@@ -187,6 +225,23 @@ fn a_caller_replaces(rt: HostRuntime) -> Result<(), Fail> {
     };
     assert!(rt; same);
     assert!(rt; replaced(&mut progress, &1, 0));
+    Ok(())
+}
+
+/// Whether acks of a snapshot, of which one comes twice and one from nobody, grant as they should.
+fn acks_grant(alloc: Global) -> Result<bool, AllocError> {
+    let sent = ProgressEntry::<u64>::empty(4).with_inflight(Inflight::snapshot(None));
+    let mut followers = VecProgress::new(alloc, first_ids(alloc, 3)?, &[], sent)?;
+    let first = take_ack(&mut followers, &1, 0, id(1, 3));
+    let again = take_ack(&mut followers, &1, 0, id(1, 3));
+    let unknown = take_ack(&mut followers, &7, 0, id(1, 3));
+    let second = take_ack(&mut followers, &2, 0, id(1, 2));
+    Ok(first && !again && !unknown && second && *followers.granted() == id(1, 2))
+}
+
+#[test]
+fn a_caller_takes_acks(rt: HostRuntime) -> Result<(), Fail> {
+    assert!(rt; acks_grant(rt.alloc())?);
     Ok(())
 }
 
