@@ -119,8 +119,8 @@ mod members {
     mod quorum_laws {
         pub use raft_members::quorum::laws::{
             at_least_quorums_meet, coherent_quorums_meet, empty_config_has_no_quorum,
-            majority_has_voter, need_past_ids_has_no_quorum, no_configs_take_every_set,
-            quorums_meet,
+            equal_configs_have_same_quorums, majority_has_voter, need_past_ids_has_no_quorum,
+            no_configs_take_every_set, quorums_meet,
         };
     }
 }
@@ -149,7 +149,12 @@ mod progress {
     }
 
     mod laws {
-        pub use raft_progress::laws::{kept_parts_keep_order, quorums_know_granted};
+        pub use raft_progress::laws::{
+            calls_are_runs, change_keeps_granted, clones_keep_order, counted_values_tie,
+            granted_is_threshold, granted_meet, kept_parts_keep_order, known_stays,
+            meeting_quorums_know_granted, none_purged_past, quorums_know_granted,
+            tracked_calls_are_runs,
+        };
     }
 
     mod progress {
