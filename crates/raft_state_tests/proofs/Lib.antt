@@ -1,2 +1,1 @@
 mod CloneLemmas
-mod InOrderLemmas

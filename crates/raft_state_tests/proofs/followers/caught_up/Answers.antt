@@ -2,12 +2,10 @@ use Rattle.std.proofs.Common.{◌≡◌, ℕ, Bool, List, Global, Vec, nat_eq}
 use Rattle.raft_members.specs.Majority.{is_majority}
 use Rattle.raft_progress.specs.progress.VecProgress.{shown}
 use Rattle.raft_state.specs.Round.{Followers, QuorumRan}
-use Rattle.raft_state_tests.proofs.InOrderLemmas.{still_in_order}
 use Rattle.raft_state_tests.proofs.followers.caught_up.Goals as goal
 
 pub catch_up_all-requires-after_bounds : goal.catch_up_all-requires-after_bounds
-catch_up_all-requires-after_bounds g c κs within =
-    still_in_order (shown c.args.followers.now) (shown c.is_in_order.new.self) c.is_in_order.ensures.same (c.is_in_order.ensures.answer.0 c.if-not-is_in_order.false)
+catch_up_all-requires-after_bounds g c κs within = c.is_in_order.ensures.ordered c.if-not-is_in_order.false
 
 -- a quorum that ran is one too where the same is shown
 quorum_still : {ID C QS : Type 0} (eq : ID → ID → Bool) (has_quorum : QS → (ID → Bool) → Bool) (p q : Followers ID C QS) (ran : List ID) {G : Type 0} → q ≡ p → (QuorumRan eq has_quorum q ran → G) → QuorumRan eq has_quorum p ran → G
