@@ -7,11 +7,11 @@ ghost use Rattle.raft_progress.specs.progress.VecProgress.{shown};
 ghost use Rattle.raft_state.specs.Commit.{state_after_commit};
 ghost use Rattle.raft_state.specs.FullLog.{full_log};
 ghost use Rattle.raft_state.specs.LogReads.{last_id};
-ghost use Rattle.raft_state.specs.Sending.{FromLog};
 ghost use Rattle.raft_state.specs.StateView.{view_of};
 ghost use Rattle.raft_state.specs.Valid.{broken_relation};
 
 use super::followers::{Followers, caught_up, followers};
+use super::laws::send;
 use super::rows::{id, ids};
 use super::whole::{State, valid_state};
 use raft_base::order::log_id_at_most;
@@ -21,7 +21,6 @@ use raft_base::{
 };
 use raft_members::quorum::QuorumSet;
 use raft_progress::{InflightOf, Progress, ProgressEntryOf};
-use raft_state::laws::sends_from_log;
 use raft_state::{FollowersOf, RaftStateIn};
 use std::alloc::{AllocError, Global};
 use std::process::Abort;
@@ -61,34 +60,6 @@ fn commit_granted<
     }
     let before = state.update_committed(&granted)?;
     Ok(before.is_some())
-}
-
-/// A leader with a valid state, whose purge point is in its log, sends to a follower to which
-/// nothing is in flight. What is sent is from the full log.
-fn send<
-    NID: NodeId,
-    N: Node,
-    I: Instant,
-    C: Ord + Copy + Default + Drop + 'static,
-    L: LeaderIdentity<Id = NID, Committed = C> + Drop,
->(state: &RaftStateIn<NID, N, I, L, C>, follower: &mut ProgressEntryOf<C>, max_entries: u64) -> bool
-    ensures { IsTrue result →
-        FromLog (view_of state.now) max_entries follower.old follower.new.inflight }
-{
-    sends_from_log::<C>();
-    if state.validate().is_err() {
-        return false;
-    }
-    if !state.purge_upto_is_logged() {
-        return false;
-    }
-    if !follower.inflight.is_none() {
-        return false;
-    }
-    if !follower.can_send(state) {
-        return false;
-    }
-    follower.next_send(state, max_entries).is_ok()
 }
 
 /// A follower takes of a leader's entries those that its log does not have.

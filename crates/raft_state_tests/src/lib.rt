@@ -22,6 +22,8 @@ mod growths;
 #[cfg(test)]
 mod imports;
 #[cfg(test)]
+mod laws;
+#[cfg(test)]
 mod log_id_list;
 #[cfg(test)]
 mod memberships;

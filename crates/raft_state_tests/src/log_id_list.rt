@@ -5,11 +5,12 @@ ghost use Rattle.raft_state.specs.LogReads.{last_id};
 ghost use Rattle.raft_state.specs.LogEdits.{log_after_append, front};
 ghost use Rattle.raft_state.specs.LogConditions.{follows};
 
+use super::laws::{is_up_to_date, logs_are_same, take_both};
 use super::words::{call_is_right, log_ids};
 use raft_base::leader_id_std::LeaderId as StdLeaderId;
 use raft_base::{LeaderId, LogIdOf};
 use raft_base_tests::printing::debugs;
-use raft_state::log_id_list::laws::{have_equal_keys, same_logs_stay_same, truncate_twice};
+use raft_state::log_id_list::laws::{have_equal_keys, truncate_twice};
 use raft_state::{LogIdList, LogIdListOf, is_key_list};
 use std::alloc::{AllocError, Global};
 use std::test::Fail;
@@ -32,23 +33,6 @@ fn replace_from<C: Ord + Copy>(
     }
     list.append(id)?;
     Ok(true)
-}
-
-/// A follower takes two log ids of a leader, the one after the other.
-fn take_both<C: Ord + Copy>(
-    list: &mut LogIdListOf<C>,
-    first: LogIdOf<C>,
-    second: LogIdOf<C>,
-) -> Result<(), AllocError>
-    requires first { IsTrue (follows C.cmp (last_id (full_log list.old)) first) }
-    requires second { IsTrue (follows C.cmp (Some first) second) }
-    ensures both { OnOk result (IsTrue (same_log C.eq (full_log list.new)
-        (log_after_append (log_after_append (full_log list.old) first) second))) }
-    ensures last { OnOk result (last_id (full_log list.new) ≡ Some second) }
-{
-    same_logs_stay_same::<C>();
-    list.append(first)?;
-    list.append(second)
 }
 
 /// The call, the keys, its argument, the answer.
@@ -140,6 +124,9 @@ fn lists_compare(alloc: Global) -> Result<bool, AllocError> {
             && list != cut
             && cut == shorter
             && have_equal_keys(&cut, &shorter)
+            && logs_are_same(&cut, &shorter)
+            && is_up_to_date(&list, list.last().copied())
+            && !is_up_to_date(&list, cut.last().copied())
             && !have_equal_keys(&list, &cut)
             && list != list_of(alloc, "1.1,3.3,3.9")?
             && is_taken

@@ -1,5 +1,6 @@
 //! The whole state of a node.
 
+use super::laws::purge_to;
 use super::rows::{Row, effective, id, ids as ids_of, log_id};
 use raft_base::order::log_id_below;
 use raft_base::{
@@ -258,7 +259,7 @@ fn grows<K: LeaderKind<u64>>(alloc: Global, state: &mut State<K>) -> Result<bool
     grow::<K>(alloc, state)?;
     let upto = log_id::<K>(3, 5);
     if state.can_purge_log(&upto) {
-        state.purge_log(&upto)?;
+        purge_to(state, &upto)?;
     }
     let keys = ids_of::<K>(alloc, &[(3, 5), (4, 6), (5, 9), (6, 10)])?;
     Ok(is_purged::<K>(state, &keys))

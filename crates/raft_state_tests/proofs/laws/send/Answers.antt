@@ -1,7 +1,7 @@
 use Rattle.std.proofs.Common.{rules, subst, Err, IsTrue, MatchResult, Ok, Result}
 use Rattle.std.specs.Result.{is_ok}
 use Rattle.raft_state.specs.StateView.{view_of}
-use Rattle.raft_state_tests.proofs.callers.send.Goals as goal
+use Rattle.raft_state_tests.proofs.laws.send.Goals as goal
 
 -- what holds of an answer that is an Ok
 of_ok : {A B : Type 0} (P : A → Type 0) (Q : B → Type 0) (r : Result A B) → IsTrue (is_ok r) → MatchResult r P Q → (x : A) × P x
