@@ -1,4 +1,4 @@
-//! A leader's and a follower's turn, as the README shows them.
+//! A leader's and a follower's turn, as the README shows them and the simulated cluster takes them.
 
 mod follower;
 mod followers;

@@ -1,10 +1,14 @@
 //! A leader's turns with its followers, and a follower's with what it is sent.
 
 use super::rows::{Row, id, ids, log_id};
-use super::turn::{Followers, Inflight, Members, Outcome, Reply, State};
-use raft_base::{EmptyNode, LeaderAdv, LeaderKind, LogIdRangeOf, UTime, VoteOf};
-use raft_members::{ChangeMembers, ChangeMembershipError};
-use raft_state::{LogIdListOf, is_key_list};
+use super::turn::{Entry, Followers, Inflight, Logs, Members, Outcome, Reply, State, take_logs};
+use anyhow::Result;
+use raft_base::{
+    EmptyNode, LeaderAdv, LeaderKind, LeaderStd, LogIdRangeOf, LogStateReader, UTime, Validate,
+    VoteOf,
+};
+use raft_members::ChangeMembers;
+use raft_state::{EntryPayload, LogIdListOf, is_key_list};
 use std::alloc::{AllocError, Global};
 use std::collections::{BTreeMap, BTreeSet};
 use std::test::Fail;
@@ -27,7 +31,7 @@ fn turn<K: LeaderKind<u64>>(
     state: &mut State<K>,
     known: &mut Followers<K>,
     to: u64,
-) -> Result<bool, AllocError> {
+) -> Result<bool> {
     let (request, last) = match known.next_request(state, to) {
         Some(Inflight::<K>::Logs { id, log_id_range }) => (id, log_id_range.last),
         Some(Inflight::<K>::Snapshot { id, last_log_id }) => (id, last_log_id),
@@ -65,7 +69,7 @@ fn commits<K: LeaderKind<u64>>(
     state: &mut State<K>,
     known: &mut Followers<K>,
     upto: Row,
-) -> Result<bool, AllocError> {
+) -> Result<bool> {
     let first = turn::<K>(state, known, 2)?;
     let second = turn::<K>(state, known, 3)?;
     Ok(!first && second == upto.is_some() && state.committed == id::<K>(upto))
@@ -80,7 +84,7 @@ fn grants<K: LeaderKind<u64>>(known: &Followers<K>, granted: Row) -> bool {
 fn commits_with_own<K: LeaderKind<u64>>(
     state: &mut State<K>,
     known: &mut Followers<K>,
-) -> Result<bool, AllocError> {
+) -> Result<bool> {
     let without = commits::<K>(state, known, None)? && grants::<K>(known, Some((1, 3)));
     let own = log_id::<K>(2, 4);
     if state.log_ids.can_append(own) {
@@ -90,7 +94,7 @@ fn commits_with_own<K: LeaderKind<u64>>(
 }
 
 /// Whether that holds of a new leader.
-fn own_commits<K: LeaderKind<u64>>(alloc: Global) -> Result<bool, AllocError> {
+fn own_commits<K: LeaderKind<u64>>(alloc: Global) -> Result<bool> {
     let mut state = leader::<K>(alloc, &[(1, 0), (1, 3)])?;
     let mut known = Followers::<K>::new(members(alloc)?, 4)?;
     commits_with_own::<K>(&mut state, &mut known)
@@ -107,19 +111,19 @@ fn changes<K: LeaderKind<u64>>(
     alloc: Global,
     state: &mut State<K>,
     known: &mut Followers<K>,
-) -> Result<bool, ChangeMembershipError<u64>> {
+) -> Result<bool> {
     let change = ChangeMembers::AddVoterIds([4].iter().copied().collect(alloc)?);
     let to = members(alloc)?.change(change, true)?;
     let is_committed = commits::<K>(state, known, Some((2, 3)))?;
-    known.change_to(to, 4);
+    known.change_to(to, 4)?;
     let is_taken = grants::<K>(known, None);
     let _is_more = turn::<K>(state, known, 4)?;
     Ok(is_committed && is_taken && grants::<K>(known, Some((2, 3))))
 }
 
-// Of the learner 4 nothing is known: two of the four voters have the log.
-/// Whether that holds of a new leader.
-fn third_is_asked<K: LeaderKind<u64>>(alloc: Global) -> Result<bool, ChangeMembershipError<u64>> {
+/// Whether that holds of a new leader. Of the learner 4 nothing is known: two of the four voters have
+/// the log.
+fn third_is_asked<K: LeaderKind<u64>>(alloc: Global) -> Result<bool> {
     let mut state = leader::<K>(alloc, &[(1, 0), (2, 2), (2, 3)])?;
     let mut known = Followers::<K>::new(members(alloc)?, 4)?;
     changes::<K>(alloc, &mut state, &mut known)
@@ -188,7 +192,7 @@ fn goes_on_past_a_purge<K: LeaderKind<u64>>(
 }
 
 /// Whether that holds of a new leader, which grants once a second voter has its log.
-fn snapshot_is_sent_again<K: LeaderKind<u64>>(alloc: Global) -> Result<bool, AllocError> {
+fn snapshot_is_sent_again<K: LeaderKind<u64>>(alloc: Global) -> Result<bool> {
     let mut state = leader::<K>(alloc, &[(1, 5), (2, 6), (2, 9)])?;
     let mut known = Followers::<K>::new(members(alloc)?, 10)?;
     let goes_on = goes_on_past_a_purge::<K>(&mut state, &mut known);
@@ -198,5 +202,81 @@ fn snapshot_is_sent_again<K: LeaderKind<u64>>(alloc: Global) -> Result<bool, All
 #[test]
 fn a_lost_snapshot_is_sent_again(rt: HostRuntime) -> Result<(), Fail> {
     assert!(rt; snapshot_is_sent_again::<LeaderAdv>(rt.alloc())?);
+    assert!(rt; snapshot_is_sent_again::<LeaderStd>(rt.alloc())?);
+    Ok(())
+}
+
+/// What a leader sends: entries after a log id, blank ones, and what it has committed.
+fn logs<K: LeaderKind<u64>>(
+    alloc: Global,
+    prev: Row,
+    rows: &[(u64, u64)],
+    committed: Row,
+) -> Result<Logs<K>, AllocError> {
+    let mut entries = Vec::new(alloc);
+    for row in rows {
+        entries.push(Entry::<K> {
+            log_id: log_id::<K>(row.0, row.1),
+            payload: EntryPayload::Blank,
+        })?;
+    }
+    Ok(Logs {
+        prev: id::<K>(prev),
+        entries,
+        committed: id::<K>(committed),
+    })
+}
+
+/// Whether a state is valid, and has this last log id and this committed one.
+fn is_at<K: LeaderKind<u64>>(state: &State<K>, last: (u64, u64), committed: Row) -> bool {
+    state.last_log_id().copied() == id::<K>(Some(last))
+        && state.committed == id::<K>(committed)
+        && state.validate() == Ok(())
+}
+
+/// Whether logs after a row match up to another one.
+fn matches_upto<K: LeaderKind<u64>>(
+    state: &mut State<K>,
+    logs: &Logs<K>,
+    upto: (u64, u64),
+) -> Result<bool> {
+    match take_logs::<K>(state, logs)? {
+        Outcome::Matches(last) => Ok(last == id::<K>(Some(upto))),
+        _ => Ok(false),
+    }
+}
+
+/// Whether a log id that a follower lacks is answered as a conflict at its index, and the entries from
+/// there on are cut off.
+fn conflicts<K: LeaderKind<u64>>(alloc: Global, state: &mut State<K>) -> Result<bool> {
+    let sent = logs::<K>(alloc, Some((2, 3)), &[(2, 4)], None)?;
+    match take_logs::<K>(state, &sent)? {
+        Outcome::Conflicts(index) => Ok(index == 3 && is_at::<K>(state, (1, 2), None)),
+        _ => Ok(false),
+    }
+}
+
+/// Whether entries take the place of those that conflict, and what the leader has committed of them is
+/// committed; then whether an earlier request that comes once more cuts nothing off.
+fn replaces<K: LeaderKind<u64>>(alloc: Global, state: &mut State<K>) -> Result<bool> {
+    let rows = [(1, 1), (2, 2), (2, 3)];
+    let sent = logs::<K>(alloc, Some((1, 0)), &rows, Some((2, 9)))?;
+    let first = logs::<K>(alloc, Some((1, 0)), &[(1, 1)], None)?;
+    let is_taken = matches_upto::<K>(state, &sent, (2, 3))?;
+    let is_committed = is_at::<K>(state, (2, 3), Some((2, 3)));
+    let is_matched = matches_upto::<K>(state, &first, (1, 1))?;
+    Ok(is_taken && is_committed && is_matched && is_at::<K>(state, (2, 3), Some((2, 3))))
+}
+
+/// Whether a follower with an earlier leader's log takes what this leader sends.
+fn follows<K: LeaderKind<u64>>(alloc: Global) -> Result<bool> {
+    let mut state = leader::<K>(alloc, &[(1, 0), (1, 4)])?;
+    Ok(conflicts::<K>(alloc, &mut state)? && replaces::<K>(alloc, &mut state)?)
+}
+
+#[test]
+fn a_follower_cuts_what_conflicts(rt: HostRuntime) -> Result<(), Fail> {
+    assert!(rt; follows::<LeaderAdv>(rt.alloc())?);
+    assert!(rt; follows::<LeaderStd>(rt.alloc())?);
     Ok(())
 }

@@ -2,8 +2,9 @@
 
 use super::message::{Outcome, Reply};
 use super::types::{FollowerProgress, Inflight, LogId, Members, State};
+use anyhow::{Result, ensure};
 use raft_base::{EmptyNode, LeaderKind, LogIdOptionExt};
-use raft_progress::{Progress, ProgressPart, Tracked};
+use raft_progress::{Progress, ProgressPart, Reply as Replied, Tracked};
 use std::alloc::AllocError;
 use std::slice;
 
@@ -35,7 +36,7 @@ impl<K: LeaderKind<u64>> Followers<K> {
         }
         let sent = *follower.next_send(state, MAX_ENTRIES).ok()?;
         self.set(to, follower);
-        Some(sent)
+        (!sent.is_none()).then_some(sent)
     }
 
     /// Takes a follower's reply. One to a request that is not in flight is refused.
@@ -51,9 +52,10 @@ impl<K: LeaderKind<u64>> Followers<K> {
     }
 
     /// Commits what a quorum has, once an entry of this leader's own is among it.
-    pub fn commit(&self, state: &mut State<K>) -> Result<(), AllocError> {
+    pub fn commit(&self, state: &mut State<K>) -> Result<()> {
         let granted = self.granted();
-        if is_own::<K>(state, granted) && state.can_commit(&granted) {
+        if is_own::<K>(state, granted) {
+            ensure!(state.can_commit(&granted), "members are not in turn");
             state.update_committed(&granted)?;
         }
         Ok(())
@@ -67,17 +69,20 @@ impl<K: LeaderKind<u64>> Followers<K> {
         }
     }
 
-    /// A server's own log is what it has.
-    pub fn has(&mut self, id: u64, last: Option<LogId<K>>) {
+    /// Writes what a server has of its own log.
+    pub fn set_own(&mut self, id: u64, last: Option<LogId<K>>) {
         if last.has_next_index() {
             self.set(id, FollowerProgress::<K>::new(last));
         }
     }
 
-    /// Goes over to other members. Of a new one no log is known to match.
-    pub fn change_to(&mut self, members: Members, end: u64) {
+    /// Goes over to other members. Of a new one no log is known to match. After an error it counts by
+    /// the old ones, and is to be asked again before it commits.
+    pub fn change_to(&mut self, members: Members, end: u64) -> Result<()> {
         let unknown = FollowerProgress::<K>::empty(end);
-        let _granted = self.tracked.change_to(members, unknown);
+        let reply = self.tracked.change_to(members, unknown);
+        ensure!(matches!(&reply, Replied::Granted(_)), "out of memory");
+        Ok(())
     }
 
     /// What is known of a member.
