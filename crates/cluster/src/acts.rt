@@ -1,0 +1,126 @@
+//! What a server does unasked, as chance has it.
+
+use crate::dice::Dice;
+use crate::leader::Change;
+use crate::message::Mail;
+use crate::server::{Role, Server};
+use crate::types::{Payload, end};
+use anyhow::Result;
+use raft_base::{EmptyNode, Instant, LeaderKind};
+use raft_state_tests::turn::Followers;
+use std::alloc::{AllocError, Global};
+use std::collections::{BTreeMap, BTreeSet};
+
+/// How many servers there are. The first three are the first voters.
+pub const SERVERS: u64 = 5;
+
+/// How many events a voter waits for a leader at least.
+const TIMEOUT: u64 = 40;
+
+impl<K: LeaderKind<u64>> Server<K> {
+    /// Does what a number stands for: 86 and less are requests of a client and the passing of time.
+    pub fn act(&mut self, what: u64, now: u64, mail: &mut Mail<K>, dice: &mut Dice) -> Result<()> {
+        match what {
+            81..=86 => self.request(now),
+            87..=90 => self.change_some(dice),
+            91..=95 => self.compact(dice),
+            96 => self.restart(now),
+            _ => self.tick(now, mail, dice),
+        }
+    }
+
+    /// A leader is asked to append an entry.
+    fn request(&mut self, now: u64) -> Result<()> {
+        if self.leads() {
+            self.propose(Payload::Normal(now))?;
+        }
+        Ok(())
+    }
+
+    /// A leader is asked for a change of the members: to add a learner, to go over to other voters,
+    /// or to remove a learner.
+    fn change_some(&mut self, dice: &mut Dice) -> Result<()> {
+        let Role::Leader(followers) = &self.role else {
+            return Ok(());
+        };
+        let id = dice.below(SERVERS).saturating_add(1);
+        let change = if !self.members().contains(&id) {
+            let mut nodes = BTreeMap::new(self.alloc);
+            nodes.insert(id, EmptyNode::new())?;
+            Change::AddNodes(nodes)
+        } else if dice.chance(80) {
+            let least = end(self.last());
+            Change::ReplaceAllVoters(some_close(self.alloc, followers, least, dice)?)
+        } else {
+            let mut ids = BTreeSet::new(self.alloc);
+            ids.insert(id)?;
+            Change::RemoveNodes(ids)
+        };
+        let is_kept = dice.chance(50);
+        self.change(change, is_kept)
+    }
+
+    /// A server applies, builds a snapshot and purges.
+    fn compact(&mut self, dice: &mut Dice) -> Result<()> {
+        self.apply(4);
+        self.build_snapshot(dice.below(4))?;
+        self.purge()
+    }
+
+    /// Time passes: a leader sends to its followers, and another server asks for votes, if it has
+    /// waited too long.
+    fn tick(&mut self, now: u64, mail: &mut Mail<K>, dice: &mut Dice) -> Result<()> {
+        self.apply(dice.below(8));
+        if self.leads() {
+            for id in 1..=SERVERS {
+                if id != self.id && self.members().contains(&id) {
+                    self.replicate(id, mail, dice)?;
+                }
+            }
+            self.end_change()?;
+        } else if self.may_campaign() && self.has_waited(now, dice) {
+            self.campaign(now, mail)?;
+        }
+        Ok(())
+    }
+
+    /// Whether it has waited for a leader too long.
+    fn has_waited(&self, now: u64, dice: &mut Dice) -> bool {
+        let least = if self.is_behind { 5 * TIMEOUT } else { TIMEOUT };
+        let patience = dice.below(TIMEOUT).saturating_add(least);
+        match self.state.vote_last_modified() {
+            Some(moment) => patience <= moment.elapsed(now),
+            None => true,
+        }
+    }
+
+    /// A leader sends a follower what comes next, and at times a heartbeat.
+    fn replicate(&mut self, to: u64, mail: &mut Mail<K>, dice: &mut Dice) -> Result<()> {
+        if dice.chance(15) {
+            self.give_up(to);
+        }
+        if let Some(message) = self.next_message(to)? {
+            self.send(to, message, mail)?;
+        }
+        if dice.chance(30) {
+            self.send(to, self.heartbeat()?, mail)?;
+        }
+        Ok(())
+    }
+}
+
+/// Some of the members that have all but the last three entries of a log that ends before an index.
+fn some_close<K: LeaderKind<u64>>(
+    alloc: Global,
+    followers: &Followers<K>,
+    least: u64,
+    dice: &mut Dice,
+) -> Result<BTreeSet<u64>, AllocError> {
+    let mut ids = BTreeSet::new(alloc);
+    for (id, follower) in followers.iter() {
+        if end(follower.matching).saturating_add(3) >= least && dice.chance(75) {
+            ids.insert(*id)?;
+        }
+    }
+    Ok(ids)
+}

@@ -1,0 +1,31 @@
+//! Faults that may be planted, to see that the cluster's checks would find them.
+
+/// What all servers do wrong.
+#[derive(Clone, Copy, PartialEq, Eq)]
+pub enum Fault {
+    /// A leader commits what a quorum has, also if it is all of earlier leaders.
+    CountAlone,
+    /// A voter votes for a candidate whose log is behind its own.
+    AnyCandidate,
+    /// A change goes to the new config without the joint one.
+    NoJoint,
+    /// A follower keeps its own entries where a leader sends others, and acks these. Where it lacks
+    /// what comes before them it cuts, as it should.
+    NoCut,
+    /// A follower acks some entries that it has not written.
+    NoWrite,
+}
+
+impl Fault {
+    /// The fault that a word names.
+    pub fn named(word: &str) -> Option<Fault> {
+        match word {
+            "count-alone" => Some(Fault::CountAlone),
+            "any-candidate" => Some(Fault::AnyCandidate),
+            "no-joint" => Some(Fault::NoJoint),
+            "no-cut" => Some(Fault::NoCut),
+            "no-write" => Some(Fault::NoWrite),
+            _ => None,
+        }
+    }
+}

@@ -1,0 +1,33 @@
+//! What servers send each other.
+
+use crate::types::{LogId, Snapshot, Vote};
+use raft_base::LeaderKind;
+use raft_state_tests::turn::{Logs, Reply};
+use std::rc::Rc;
+
+/// A message.
+#[derive(Drop)]
+pub enum Message<K: LeaderKind<u64>> {
+    /// A candidate with this last log id asks for a vote.
+    AskVote(Option<LogId<K>>),
+    /// The answer of a voter with this last log id.
+    Voted(bool, Option<LogId<K>>),
+    /// A leader sends entries, or with no request's number a heartbeat.
+    Append(Option<u64>, Logs<K>),
+    /// A leader sends its snapshot.
+    Install(u64, Snapshot<K>),
+    /// A follower replies to both.
+    Replied(Reply<K>),
+}
+
+/// A message on its way, with its sender's vote.
+#[derive(Drop)]
+pub struct Envelope<K: LeaderKind<u64>> {
+    pub from: u64,
+    pub to: u64,
+    pub vote: Vote<K>,
+    pub message: Message<K>,
+}
+
+/// The messages that are on their way.
+pub type Mail<K> = Vec<Rc<Envelope<K>>>;
