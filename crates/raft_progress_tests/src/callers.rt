@@ -231,7 +231,11 @@ fn a_caller_replaces(rt: HostRuntime) -> Result<(), Fail> {
 /// Whether acks of a snapshot, of which one comes twice and one from nobody, grant as they should.
 fn acks_grant(alloc: Global) -> Result<bool, AllocError> {
     let sent = ProgressEntry::<u64>::empty(4).with_inflight(Inflight::snapshot(None));
-    let mut followers = VecProgress::new(alloc, first_ids(alloc, 3)?, &[], sent)?;
+    let voters = first_ids(alloc, 3)?;
+    if !VecProgress::<u64, ProgressEntry<u64>, _, _>::learners_fit(alloc, &voters, &[])? {
+        return Ok(false);
+    }
+    let mut followers = VecProgress::new(alloc, voters, &[], sent)?;
     let first = take_ack(&mut followers, &1, 0, id(1, 3));
     let again = take_ack(&mut followers, &1, 0, id(1, 3));
     let unknown = take_ack(&mut followers, &7, 0, id(1, 3));

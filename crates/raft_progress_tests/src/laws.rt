@@ -361,8 +361,8 @@ fn ballot_over<NID: NodeId, N: Node>(
     retain: bool,
 ) -> Result<Tracked<NID, N, bool, bool>, ChangeMembershipError<NID>>
     requires nodes { ClonesAreEqual N.eq N.is_clone }
-    requires has_config { 0 < length (tracked matches.now).membership.configs }
-    ensures one_change { IfOk result (λ votes. is_coherent NID.eq
+    ensures one_change { IfOk result (λ votes.
+        0 < length (tracked matches.now).membership.configs → is_coherent NID.eq
         (tracked matches.now).membership.configs (tracked votes).membership.configs ≡ true) }
     ensures from_false { IfOk result (λ votes.
         (tracked votes).progress.default_part ≡ false) }
