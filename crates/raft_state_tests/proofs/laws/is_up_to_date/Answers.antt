@@ -8,8 +8,8 @@ use Rattle.raft_state.specs.LogReads.{id_at, last_id}
 use Rattle.raft_state_tests.proofs.laws.is_up_to_date.Goals as goal
 
 pub returns : goal.returns
-returns g c yes index =
+returns g c told index =
     let log = full_log c.args.own.now in
     let last_is = c.copied.ensures ∙ c.last.ensures in
     AtMost-trans (optional-log_id_cmp-total g.met.C.Ord.total) (id_at log index) (last_id log) c.args.last
-    (c.log_is_in_order.ensures.last index) (ap (λ o. id_le g.C.Ord.cmp o c.args.last) (sym last_is) ∙ sym c.log_id_at_most.ensures ∙ yes)
+    (c.log_is_in_order.ensures.last index) (ap (λ o. id_le g.C.Ord.cmp o c.args.last) (sym last_is) ∙ sym c.log_id_at_most.ensures ∙ told)
