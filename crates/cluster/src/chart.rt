@@ -36,11 +36,8 @@ pub fn line<K: LeaderKind<u64>>(
         } else {
             ' '
         };
-        let term = K::term(server.vote().leader_id());
-        write!(text, "{sign}{}{term:<2}", letter(server))?;
-        for index in last.saturating_sub(WIDTH)..last {
-            text.push(mark(server, index))?;
-        }
+        text.push(sign)?;
+        show(&mut text, server, last)?;
     }
     if let Some(leader) = greatest_leader(servers) {
         if let Role::Leader(followers) = &leader.role {
@@ -51,6 +48,16 @@ pub fn line<K: LeaderKind<u64>>(
         describe(&mut text, leader.members())?;
     }
     Ok(text)
+}
+
+/// What a server is, its term, and its log up to an index.
+fn show<K: LeaderKind<u64>>(text: &mut String, server: &Server<K>, last: u64) -> Result<()> {
+    let term = K::term(server.vote().leader_id());
+    write!(text, "{}{term:<2}", letter(server))?;
+    for index in last.saturating_sub(WIDTH)..last {
+        text.push(mark(server, index))?;
+    }
+    Ok(())
 }
 
 /// The letter of what a server is.

@@ -48,12 +48,18 @@ impl<K: LeaderKind<u64>> Server<K> {
         let term = K::term(self.vote().leader_id()).saturating_add(1);
         self.save_vote(now, Vote::<K>::new(term, self.id));
         self.role = Role::Candidate(Ballot::new(self.members().try_clone()?, false)?);
+        self.ask_votes(mail)?;
+        self.count_vote(now, self.id)
+    }
+
+    /// Asks the other voters for their votes.
+    fn ask_votes(&self, mail: &mut Mail<K>) -> Result<()> {
         for id in self.members().voter_ids()? {
             if id != self.id {
                 self.send(id, Message::AskVote(self.last()), mail)?;
             }
         }
-        self.count_vote(now, self.id)
+        Ok(())
     }
 
     /// Counts a vote for it, and leads once a quorum has voted.

@@ -83,21 +83,38 @@ fn run<K: LeaderKind<u64>>(
     total: &mut Counts,
 ) -> Result<()> {
     let mut cluster = Cluster::<K>::new(alloc, seed, plan.fault)?;
+    let is_settled = play::<K>(rt, &mut cluster, plan)?;
+    total.add_all(&cluster.counts)?;
+    total.add(Event::Safe, 1)?;
+    ensure!(is_settled, "it does not settle");
+    total.add(Event::Settled, 1)?;
+    Ok(())
+}
+
+/// Lets events happen to a cluster, and draws its chart. True if it settles in the end.
+fn play<K: LeaderKind<u64>>(
+    rt: &impl Print,
+    cluster: &mut Cluster<K>,
+    plan: &Plan,
+) -> Result<bool> {
     let every = plan.number(3, 20);
     for event in 0..plan.number(2, 1000) {
         if event.checked_rem(every) == Some(0) {
-            println!(rt; "{}", cluster.line()?.trim_end())?;
+            draw::<K>(rt, cluster)?;
         }
         cluster.step().context(format_args!("event {event}"))?;
     }
     let is_settled = cluster.settle(SETTLE).context("at the end")?;
     if every > 0 {
-        println!(rt; "{}", cluster.line()?.trim_end())?;
+        draw::<K>(rt, cluster)?;
     }
-    total.add_all(&cluster.counts)?;
-    total.add(Event::Safe, 1)?;
-    ensure!(is_settled, "it does not settle");
-    total.add(Event::Settled, 1)?;
+    Ok(is_settled)
+}
+
+/// Prints a line of a cluster's chart.
+fn draw<K: LeaderKind<u64>>(rt: &impl Print, cluster: &mut Cluster<K>) -> Result<()> {
+    let line = cluster.line()?;
+    println!(rt; "{}", line.trim_end())?;
     Ok(())
 }
 

@@ -181,13 +181,7 @@ impl<K: LeaderKind<u64>> Server<K> {
         )?;
         let mut memberships = MembershipStateOf::new(first.clone()?, first);
         for entry in self.disk.values() {
-            if let Some(members) = entry.get_membership() {
-                let log_id = Some(entry.log_id);
-                let next = EffectiveMembershipOf::new_arc(log_id, members.try_clone()?)?;
-                if memberships.can_append(&next) {
-                    memberships.append(next);
-                }
-            }
+            append_members::<K>(&mut memberships, entry)?;
         }
         ensure!(
             memberships.effective().membership() == self.members(),
@@ -200,6 +194,20 @@ impl<K: LeaderKind<u64>> Server<K> {
         memberships.commit(&applied)?;
         Ok(memberships)
     }
+}
+
+/// Appends the members that an entry has, if it has some.
+fn append_members<K: LeaderKind<u64>>(
+    memberships: &mut MembershipStateOf<K::Committed, u64, EmptyNode>,
+    entry: &Entry<K>,
+) -> Result<()> {
+    if let Some(members) = entry.get_membership() {
+        let next = EffectiveMembershipOf::new_arc(Some(entry.log_id), members.try_clone()?)?;
+        if memberships.can_append(&next) {
+            memberships.append(next);
+        }
+    }
+    Ok(())
 }
 
 /// Whether a log has an entry, and has not purged it.
