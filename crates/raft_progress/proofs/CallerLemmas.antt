@@ -6,7 +6,7 @@ use Rattle.std.proofs.lemmas.Map.{keys-set_value}
 use Rattle.raft_progress.specs.progress.InOrder.{IsInOrder}
 use Rattle.raft_progress.specs.progress.Kept.{KeepsParts, with_value}
 use Rattle.raft_progress.specs.progress.Shown.{Shown, state}
-use Rattle.raft_progress.proofs.KeptLemmas.{order_alike, written_parts}
+use Rattle.raft_progress.proofs.lemmas.progress.KeptLemmas.{order_alike, written_parts}
 
 module _ {ID V P QS : Type 0} (eq : ID → ID → Bool) (part : V → P) where
   -- where ids and voters' parts are as they were, a progress in order is in order

@@ -1,6 +1,6 @@
 use Rattle.std.proofs.Common.{◌≡◌, nat_eq}
 use Rattle.raft_members.proofs.CallerLemmas.{list_clones}
-use Rattle.raft_members_tests.proofs.NumberLemmas.{same}
+use Rattle.raft_members_tests.proofs.lemmas.NumberLemmas.{same}
 use Rattle.raft_members_tests.proofs.quorums.leads_to.Goals as goal
 
 pub find_coherent-requires : goal.find_coherent-requires

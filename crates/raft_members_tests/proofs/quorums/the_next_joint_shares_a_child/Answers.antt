@@ -1,6 +1,6 @@
 use Rattle.std.proofs.Common.{◌≡◌, nat_eq}
 use Rattle.raft_members.proofs.CallerLemmas.{list_clones}
-use Rattle.raft_members_tests.proofs.NumberLemmas.{same}
+use Rattle.raft_members_tests.proofs.lemmas.NumberLemmas.{same}
 use Rattle.raft_members_tests.proofs.quorums.the_next_joint_shares_a_child.Goals as goal
 
 pub try_clone-requires : goal.try_clone-requires

@@ -1,4 +1,4 @@
-use Rattle.raft_progress.proofs.CatchUpLemmas.{Along, to_go}
+use Rattle.raft_progress.proofs.lemmas.catch_up.CatchUpLemmas.{Along, to_go}
 use Rattle.raft_progress.proofs.catch_up.catch_up_entry.Given as goal
 
 abbrev pub invariant-turns : goal.invariant-turns

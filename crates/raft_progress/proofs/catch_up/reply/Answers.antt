@@ -2,7 +2,7 @@ use Rattle.std.proofs.Common.{◌≡◌, ℕ, ◌-◌, Bool, true, false, nat_lt
 use Rattle.raft_base.specs.LogId.{next_index}
 use Rattle.raft_progress.specs.entry.EntryTable.{with_search_end}
 use Rattle.raft_progress.specs.inflight.InflightTable.{inflight_after_conflict}
-use Rattle.raft_progress.proofs.CatchUpLemmas.{acks_logs, kept_after}
+use Rattle.raft_progress.proofs.lemmas.catch_up.CatchUpLemmas.{acks_logs, kept_after}
 use Rattle.raft_progress.proofs.catch_up.reply.Goals as goal
 
 -- a number that a test lets through

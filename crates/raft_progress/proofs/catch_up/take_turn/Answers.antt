@@ -1,6 +1,6 @@
 use Rattle.std.proofs.Common.{◌∙◌, sym}
-use Rattle.raft_progress.proofs.CatchUpLemmas.{sent_ok, turn_logs}
-use Rattle.raft_progress.proofs.HonestRunLemmas.{sent_fits, sent_none}
+use Rattle.raft_progress.proofs.lemmas.catch_up.CatchUpLemmas.{sent_ok, turn_logs}
+use Rattle.raft_progress.proofs.lemmas.catch_up.HonestRunLemmas.{sent_fits, sent_none}
 use Rattle.raft_progress.proofs.catch_up.take_turn.Goals as goal
 
 pub reply-requires : goal.reply-requires

@@ -1,6 +1,6 @@
 use Rattle.raft_progress.specs.progress.Comparisons.{Comparisons}
 use Rattle.raft_progress.specs.progress.ShownSteps.{IsShownStep}
-use Rattle.raft_progress.proofs.CallStepLemmas.{increases_are_steps, runs_compose, updates_are_steps, upgrades_are_steps}
+use Rattle.raft_progress.proofs.lemmas.progress.CallStepLemmas.{increases_are_steps, runs_compose, updates_are_steps, upgrades_are_steps}
 use Rattle.raft_progress.proofs.laws.calls_are_runs.Goals as goal
 
 pub returns-clause-compose : goal.returns-clause-compose

@@ -1,4 +1,4 @@
-use Rattle.raft_progress.proofs.KnownLemmas.{change_keeps_granted}
+use Rattle.raft_progress.proofs.lemmas.tracked.KnownLemmas.{change_keeps_granted}
 use Rattle.raft_progress.proofs.laws.change_keeps_granted.Goals as goal
 
 pub returns : goal.returns

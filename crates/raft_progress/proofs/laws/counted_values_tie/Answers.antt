@@ -1,4 +1,4 @@
-use Rattle.raft_progress.proofs.ThresholdLemmas.{counted_values_tie}
+use Rattle.raft_progress.proofs.lemmas.progress.ThresholdLemmas.{counted_values_tie}
 use Rattle.raft_progress.proofs.laws.counted_values_tie.Goals as goal
 
 pub returns : goal.returns

@@ -1,4 +1,4 @@
-use Rattle.raft_progress.proofs.ThresholdLemmas.{threshold}
+use Rattle.raft_progress.proofs.lemmas.progress.ThresholdLemmas.{threshold}
 use Rattle.raft_progress.proofs.laws.granted_is_threshold.Goals as goal
 
 pub returns : goal.returns

@@ -1,4 +1,4 @@
-use Rattle.raft_progress.proofs.ElectedLemmas.{elected_lacks_nothing, granted_meet}
+use Rattle.raft_progress.proofs.lemmas.tracked.ElectedLemmas.{elected_lacks_nothing, granted_meet}
 use Rattle.raft_progress.proofs.laws.granted_meet.Goals as goal
 
 pub returns-clause-voter : goal.returns-clause-voter

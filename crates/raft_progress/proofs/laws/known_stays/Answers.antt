@@ -1,5 +1,5 @@
 use Rattle.raft_progress.specs.progress.Comparisons.{Comparisons}
-use Rattle.raft_progress.proofs.KnownStaysLemmas.{known_over_changes, known_stays}
+use Rattle.raft_progress.proofs.lemmas.tracked.KnownStaysLemmas.{known_over_changes, known_stays}
 use Rattle.raft_progress.proofs.laws.known_stays.Goals as goal
 
 pub returns-clause-without_change : goal.returns-clause-without_change

@@ -1,4 +1,4 @@
-use Rattle.raft_progress.proofs.ThresholdLemmas.{meeting_know}
+use Rattle.raft_progress.proofs.lemmas.progress.ThresholdLemmas.{meeting_know}
 use Rattle.raft_progress.proofs.laws.meeting_quorums_know_granted.Goals as goal
 
 pub returns : goal.returns

@@ -1,4 +1,4 @@
-use Rattle.raft_progress.proofs.PurgedLemmas.{none_purged_past}
+use Rattle.raft_progress.proofs.lemmas.search.PurgedLemmas.{none_purged_past}
 use Rattle.raft_progress.proofs.laws.none_purged_past.Goals as goal
 
 pub returns : goal.returns

@@ -1,7 +1,7 @@
 use Rattle.std.specs.Coded.{Coded-set, coded_list}
 use Rattle.raft_progress.specs.tracked.Tracked.{tracked}
-use Rattle.raft_progress.proofs.HeadlineLemmas.{each_quorum_knows}
-use Rattle.raft_progress.proofs.ReadyLemmas.{ready_of}
+use Rattle.raft_progress.proofs.lemmas.tracked.HeadlineLemmas.{each_quorum_knows}
+use Rattle.raft_progress.proofs.lemmas.tracked.ReadyLemmas.{ready_of}
 use Rattle.raft_progress.proofs.laws.quorums_know_granted.Goals as goal
 
 pub returns-clause-ready : goal.returns-clause-ready

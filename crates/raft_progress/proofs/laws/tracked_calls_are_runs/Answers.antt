@@ -1,7 +1,7 @@
 use Rattle.raft_progress.specs.progress.Comparisons.{Comparisons}
 use Rattle.raft_progress.specs.tracked.TrackedShownSteps.{IsTrackedShownStep}
-use Rattle.raft_progress.proofs.CallStepLemmas.{runs_compose}
-use Rattle.raft_progress.proofs.TrackedCallLemmas.{tracked_changes_are_steps, tracked_updates_are_steps}
+use Rattle.raft_progress.proofs.lemmas.progress.CallStepLemmas.{runs_compose}
+use Rattle.raft_progress.proofs.lemmas.tracked.TrackedCallLemmas.{tracked_changes_are_steps, tracked_updates_are_steps}
 use Rattle.raft_progress.proofs.laws.tracked_calls_are_runs.Goals as goal
 
 pub returns-clause-compose : goal.returns-clause-compose

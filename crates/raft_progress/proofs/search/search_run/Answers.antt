@@ -1,6 +1,6 @@
 use Rattle.std.proofs.Common.{arith, ◌∙◌}
-use Rattle.raft_progress.proofs.SearchKeepsLemmas.{kept_at_end}
-use Rattle.raft_progress.proofs.SearchLemmas.{accepted_at_end, next_event, within_digits, within_near_digits, within_one_more}
+use Rattle.raft_progress.proofs.lemmas.search.SearchKeepsLemmas.{kept_at_end}
+use Rattle.raft_progress.proofs.lemmas.search.SearchLemmas.{accepted_at_end, next_event, within_digits, within_near_digits, within_one_more}
 use Rattle.raft_progress.proofs.search.search_run.Goals as goal
 
 pub loop-event-preserved : goal.loop-event-preserved

@@ -5,7 +5,7 @@ use Rattle.raft_progress.specs.progress.CountedValue.{IsCounted}
 use Rattle.raft_progress.specs.progress.ProgressState.{ProgressState}
 use Rattle.raft_progress.specs.progress.Shown.{state}
 use Rattle.raft_progress.specs.progress.VecProgress.{shown}
-use Rattle.raft_progress.proofs.StepLemmas.{same_is_equal}
+use Rattle.raft_progress.proofs.lemmas.progress.StepLemmas.{same_is_equal}
 use Rattle.raft_progress_tests.proofs.laws.grant_alike.Goals as goal
 
 pub returns : goal.returns

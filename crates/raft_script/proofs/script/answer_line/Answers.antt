@@ -3,7 +3,7 @@ use Rattle.std.proofs.Common.{Option, subst}
 use Rattle.std.proofs.lemmas.Result.{MatchResult-from_err}
 use Rattle.raft_script.specs.Line.{SaysCommand}
 use Rattle.raft_script.specs.declared.script.command.Command.{Command}
-use Rattle.raft_script.proofs.ReplyLemmas.{left_by_line}
+use Rattle.raft_script.proofs.lemmas.ReplyLemmas.{left_by_line}
 use Rattle.raft_script.proofs.script.answer_line.Goals as goal
 
 pub returns-in_err-run_command-in-Ok-Some-clause-fault : goal.returns-in_err-run_command-in-Ok-Some-clause-fault

@@ -1,6 +1,6 @@
 use Rattle.raft_script.specs.Engine.{engine_state}
 use Rattle.raft_script.specs.Input.{contents, unread}
-use Rattle.raft_script.proofs.ScriptLemmas.{Passed}
+use Rattle.raft_script.proofs.lemmas.ScriptLemmas.{Passed}
 use Rattle.raft_script.proofs.script.answer_lines.Given as goal
 
 -- the lines before are run, and their replies are printed

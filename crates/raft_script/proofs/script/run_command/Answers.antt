@@ -1,6 +1,6 @@
 use Rattle.std.specs.Prelude.{⊤}
 use Rattle.std.proofs.lemmas.Result.{MatchResult-from_err}
-use Rattle.raft_script.proofs.ReplyLemmas.{left_by_step}
+use Rattle.raft_script.proofs.lemmas.ReplyLemmas.{left_by_step}
 use Rattle.raft_script.proofs.script.run_command.Goals as goal
 
 pub returns-in_err-write-in-Step-clause-fault : goal.returns-in_err-write-in-Step-clause-fault

@@ -1,5 +1,5 @@
 use Rattle.std.proofs.Common.{◌∙◌}
-use Rattle.raft_state_tests.proofs.CloneLemmas.{equal_meta}
+use Rattle.raft_state_tests.proofs.lemmas.CloneLemmas.{equal_meta}
 use Rattle.raft_state_tests.proofs.clones.snapshot_meta_equals_clone.Goals as goal
 
 pub returns : goal.returns

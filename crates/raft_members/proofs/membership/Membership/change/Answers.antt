@@ -5,8 +5,8 @@ use Rattle.raft_members.specs.Change.{changed}
 use Rattle.raft_members.specs.Members.{members_of}
 use Rattle.raft_members.specs.Refusal.{IsRefusal}
 use Rattle.raft_members.specs.ReplaceAll.{OnlyMemory, TwoChanges}
-use Rattle.raft_members.proofs.SaysLemmas.{made_coherent, same_refusal}
-use Rattle.raft_members.proofs.ReplaceLemmas.{only_memory, two_changes}
+use Rattle.raft_members.proofs.lemmas.membership.SaysLemmas.{made_coherent, same_refusal}
+use Rattle.raft_members.proofs.lemmas.membership.ReplaceLemmas.{only_memory, two_changes}
 use Rattle.raft_members.proofs.membership.Membership.change.Goals as goal
 
 pub returns-clause-coherent : goal.returns-clause-coherent

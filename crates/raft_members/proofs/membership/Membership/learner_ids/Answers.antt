@@ -5,7 +5,7 @@ use Rattle.std.specs.Map.{keys_of}
 use Rattle.std.specs.Set.{is_member}
 use Rattle.raft_members.specs.Learners.{learners_among}
 use Rattle.raft_members.specs.Majority.{is_voter_of}
-use Rattle.raft_members.proofs.LearnerLemmas.{learner_with_node}
+use Rattle.raft_members.proofs.lemmas.membership.LearnerLemmas.{learner_with_node}
 use Rattle.raft_members.proofs.membership.Membership.learner_ids.Goals as goal
 
 pub returns-clause-ascending : goal.returns-clause-ascending

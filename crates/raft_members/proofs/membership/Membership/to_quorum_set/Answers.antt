@@ -1,5 +1,5 @@
 use Rattle.std.proofs.Common.{map, ◌∙◌, ap}
-use Rattle.raft_members.proofs.MappedLemmas.{quorums_of_lists, voters_of_lists}
+use Rattle.raft_members.proofs.lemmas.membership.MappedLemmas.{quorums_of_lists, voters_of_lists}
 use Rattle.raft_members.proofs.membership.Membership.to_quorum_set.Goals as goal
 
 pub returns-clause-quorums : goal.returns-clause-quorums

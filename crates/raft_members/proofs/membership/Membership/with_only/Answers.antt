@@ -1,6 +1,6 @@
 use Rattle.std.proofs.Common.{map, ◌∙◌, ap}
 use Rattle.std.specs.BTreeMap.{get}
-use Rattle.raft_members.proofs.AddedLemmas.{option_alike}
+use Rattle.raft_members.proofs.lemmas.membership.AddedLemmas.{option_alike}
 use Rattle.raft_members.proofs.membership.Membership.with_only.Goals as goal
 
 pub returns : goal.returns

@@ -3,7 +3,7 @@ use Rattle.std.specs.BTreeMap.{get}
 use Rattle.std.specs.BTreeSet.{contains}
 use Rattle.std.specs.Option.{option_eq}
 use Rattle.raft_members.specs.Members.{members_of, node_at}
-use Rattle.raft_members.proofs.SaysLemmas.{if_says}
+use Rattle.raft_members.proofs.lemmas.membership.SaysLemmas.{if_says}
 use Rattle.raft_members.proofs.membership.Membership.without_nodes.Goals as goal
 
 pub returns : goal.returns

@@ -1,7 +1,7 @@
 use Rattle.std.proofs.Common.{◌≡◌, ◌&&◌, sym, ◌∙◌, rules}
 use Rattle.std.specs.Cmp.Lexicographic.{pointwise}
 use Rattle.raft_members.specs.Members.{same_nodes}
-use Rattle.raft_members.proofs.MappedLemmas.{pointwise-map}
+use Rattle.raft_members.proofs.lemmas.membership.MappedLemmas.{pointwise-map}
 use Rattle.raft_members.proofs.membership.MembershipPartialEq.eq.Goals as goal
 
 pub returns-then-eq : goal.returns-then-eq

@@ -1,7 +1,7 @@
 use Rattle.std.proofs.Common.{sym, ◌∙◌}
 use Rattle.std.specs.List.{list_any}
 use Rattle.std.specs.Set.{is_member}
-use Rattle.raft_members.proofs.MappedLemmas.{list_any-map}
+use Rattle.raft_members.proofs.lemmas.membership.MappedLemmas.{list_any-map}
 use Rattle.raft_members.proofs.membership.configs.has_id.Goals as goal
 
 pub returns : goal.returns

@@ -1,4 +1,4 @@
-use Rattle.raft_members.proofs.MappedLemmas.{map_pushed}
+use Rattle.raft_members.proofs.lemmas.membership.MappedLemmas.{map_pushed}
 use Rattle.raft_members.proofs.membership.configs.lists_of.Goals as goal
 
 pub loop-config-preserved : goal.loop-config-preserved

@@ -1,7 +1,7 @@
 use Rattle.std.proofs.Common.{◌≡◌, Bool, sym, subst}
 use Rattle.std.specs.Prelude.{IfOk}
 use Rattle.std.specs.Set.{is_member}
-use Rattle.raft_members.proofs.MappedLemmas.{list_any-map}
+use Rattle.raft_members.proofs.lemmas.membership.MappedLemmas.{list_any-map}
 use Rattle.raft_members.proofs.membership.configs.voters.Goals as goal
 
 pub returns-clause-voters : goal.returns-clause-voters

@@ -1,4 +1,4 @@
-use Rattle.raft_members.proofs.AscendingLemmas.{insert_behind}
+use Rattle.raft_members.proofs.lemmas.membership.AscendingLemmas.{insert_behind}
 use Rattle.std.specs.Iterator.Adapters.{rev_source}
 use Rattle.raft_members.proofs.membership.ids.copy.Goals as goal
 

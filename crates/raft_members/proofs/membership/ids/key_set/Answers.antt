@@ -1,6 +1,6 @@
 use Rattle.std.proofs.Common.{sym, ◌∙◌}
 use Rattle.std.specs.BTreeMap.{keys}
-use Rattle.raft_members.proofs.AscendingLemmas.{insert_ahead, none_ahead}
+use Rattle.raft_members.proofs.lemmas.membership.AscendingLemmas.{insert_ahead, none_ahead}
 use Rattle.raft_members.proofs.membership.ids.key_set.Goals as goal
 
 pub returns : goal.returns

@@ -1,5 +1,5 @@
 use Rattle.std.proofs.Common.{sym, ◌∙◌}
-use Rattle.raft_members.proofs.AscendingLemmas.{none_ahead, push_ahead}
+use Rattle.raft_members.proofs.lemmas.membership.AscendingLemmas.{none_ahead, push_ahead}
 use Rattle.raft_members.proofs.membership.ids.list_of.Goals as goal
 
 pub returns : goal.returns

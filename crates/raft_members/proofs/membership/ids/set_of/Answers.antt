@@ -1,7 +1,7 @@
 use Rattle.std.proofs.Common.{IfOk, rules}
 use Rattle.std.specs.BTreeSet.{IsFromIterResult}
 use Rattle.std.proofs.lemmas.Result.{IfOk-weaker}
-use Rattle.raft_members.proofs.MajorityLemmas.{is_member-collected}
+use Rattle.raft_members.proofs.lemmas.quorum.MajorityLemmas.{is_member-collected}
 use Rattle.raft_members.proofs.membership.ids.set_of.Goals as goal
 
 pub returns : goal.returns

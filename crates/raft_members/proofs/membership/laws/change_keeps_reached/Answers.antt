@@ -1,4 +1,4 @@
-use Rattle.raft_members.proofs.SaysLemmas.{change_keeps_reached}
+use Rattle.raft_members.proofs.lemmas.membership.SaysLemmas.{change_keeps_reached}
 use Rattle.raft_members.proofs.membership.laws.change_keeps_reached.Goals as goal
 
 pub returns : goal.returns

@@ -3,7 +3,7 @@ use Rattle.std.specs.Map.{keys_of}
 use Rattle.std.specs.BTreeMap.{is_at}
 use Rattle.std.specs.Iterator.Adapters.{rev_source}
 use Rattle.std.specs.List.Sorted.{IsStrictlySortedBy}
-use Rattle.raft_members.proofs.KeptLemmas.{same_entries, same_first, same_lookup}
+use Rattle.raft_members.proofs.lemmas.membership.KeptLemmas.{same_entries, same_first, same_lookup}
 use Rattle.raft_members.proofs.membership.nodes.copy.Goals as goal
 
 pub loop-id-init : goal.loop-id-init

@@ -1,6 +1,6 @@
 use Rattle.std.proofs.Common.{◌≡◌, ◌++◌, List}
 use Rattle.std.specs.Iterator.Adapters.{rev_source}
-use Rattle.raft_members.proofs.KeptLemmas.{SameEntries}
+use Rattle.raft_members.proofs.lemmas.membership.KeptLemmas.{SameEntries}
 use Rattle.raft_members.proofs.membership.nodes.copy.Given as goal
 
 abbrev pub invariant-loop-id : goal.invariant-loop-id

@@ -4,8 +4,8 @@ use Rattle.std.specs.BTreeMap.{get}
 use Rattle.raft_members.specs.Valid.{FirstUnknown}
 use Rattle.raft_members.specs.Inner.Nodes.{lesser}
 use Rattle.raft_members.specs.Majority.{is_voter_of}
-use Rattle.raft_members.proofs.MissingLemmas.{one_more_first}
-use Rattle.raft_members.proofs.AddedLemmas.{alike_at}
+use Rattle.raft_members.proofs.lemmas.membership.MissingLemmas.{one_more_first}
+use Rattle.raft_members.proofs.lemmas.membership.AddedLemmas.{alike_at}
 use Rattle.raft_members.proofs.membership.nodes.least_missing.Goals as goal
 
 pub returns : goal.returns

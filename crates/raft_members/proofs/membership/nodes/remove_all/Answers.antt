@@ -1,7 +1,7 @@
 use Rattle.std.proofs.Common.{cond, None, sym, ◌∙◌, ap}
 use Rattle.std.specs.List.{list_any}
 use Rattle.std.specs.BTreeMap.{get, is_at}
-use Rattle.raft_members.proofs.AddedLemmas.{remove_next}
+use Rattle.raft_members.proofs.lemmas.membership.AddedLemmas.{remove_next}
 use Rattle.raft_members.proofs.membership.nodes.remove_all.Goals as goal
 
 pub returns : goal.returns

@@ -1,7 +1,7 @@
 use Rattle.std.proofs.Common.{◌∙◌, ◌||◌, ap, sym}
 use Rattle.std.proofs.lemmas.List.{take_all}
 use Rattle.std.specs.List.{list_any}
-use Rattle.raft_members.proofs.MappedLemmas.{any_more}
+use Rattle.raft_members.proofs.lemmas.membership.MappedLemmas.{any_more}
 use Rattle.raft_members.proofs.quorum.joint_impl.ids_of_each.Goals as goal
 
 pub loop-child-preserved : goal.loop-child-preserved

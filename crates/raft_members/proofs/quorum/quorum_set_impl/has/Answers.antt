@@ -2,7 +2,7 @@ use Rattle.std.proofs.Common.{Bool, ◌||◌, true, false, length, sym, ◌∙�
 use Rattle.std.specs.List.{list_any}
 use Rattle.std.proofs.lemmas.List.{take_all}
 use Rattle.std.proofs.lemmas.List.Folds.{list_any_at, list_any_more}
-use Rattle.raft_members.proofs.ChunkLemmas.{list_any-from_chunks}
+use Rattle.raft_members.proofs.lemmas.quorum.ChunkLemmas.{list_any-from_chunks}
 use Rattle.raft_members.proofs.quorum.quorum_set_impl.has.Goals as goal
 
 pub returns-then-chunk_has : goal.returns-then-chunk_has

@@ -1,6 +1,6 @@
 use Rattle.std.proofs.Common.{rules, ◌∙◌}
 use Rattle.std.specs.List.{list_any}
-use Rattle.raft_members.proofs.MajorityLemmas.{majority_count}
+use Rattle.raft_members.proofs.lemmas.quorum.MajorityLemmas.{majority_count}
 use Rattle.raft_members.proofs.quorum.quorum_set_impl.has_majority.Goals as goal
 
 pub returns : goal.returns

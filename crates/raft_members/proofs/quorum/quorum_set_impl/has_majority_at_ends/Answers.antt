@@ -1,7 +1,7 @@
 use Rattle.std.proofs.Common.{◌≡◌, ◌-◌, ◌||◌, Bool, length, take, rules, arith, ap, ◌∙◌}
 use Rattle.std.specs.List.{list_any}
-use Rattle.raft_members.proofs.ChunkLemmas.{list_any-ends}
-use Rattle.raft_members.proofs.MajorityLemmas.{majority_count}
+use Rattle.raft_members.proofs.lemmas.quorum.ChunkLemmas.{list_any-ends}
+use Rattle.raft_members.proofs.lemmas.quorum.MajorityLemmas.{majority_count}
 use Rattle.raft_members.proofs.quorum.quorum_set_impl.has_majority_at_ends.Goals as goal
 
 pub returns : goal.returns

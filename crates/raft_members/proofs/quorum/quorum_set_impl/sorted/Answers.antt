@@ -4,7 +4,7 @@ use Rattle.std.specs.Set.{is_member}
 use Rattle.std.proofs.lemmas.List.Filters.{dedup_is}
 use Rattle.std.proofs.lemmas.List.Kept.{IsStrictlySortedBy-dedup}
 use Rattle.std.proofs.lemmas.List.Sorted.{list_any-IsPermutation}
-use Rattle.raft_members.proofs.MajorityLemmas.{is_member-dedup}
+use Rattle.raft_members.proofs.lemmas.quorum.MajorityLemmas.{is_member-dedup}
 use Rattle.raft_members.proofs.quorum.quorum_set_impl.sorted.Goals as goal
 
 pub returns-clause-ascending : goal.returns-clause-ascending

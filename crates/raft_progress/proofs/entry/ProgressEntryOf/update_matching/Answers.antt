@@ -2,8 +2,8 @@ use Rattle.std.proofs.Common.{◌≡◌, Ok, true, false, nat_lt, is_lt, refl, s
 use Rattle.raft_base.specs.LogId.{id_lt, next_index}
 use Rattle.raft_progress.specs.inflight.InflightTable.{inflight_after_ack}
 use Rattle.raft_progress.specs.declared.entry.ProgressEntryOf.{ProgressEntryOf}
-use Rattle.raft_progress.proofs.AckLemmas.{taken_is_valid}
-use Rattle.raft_progress.proofs.EntryLemmas.{table_of_refused, table_of_taken}
+use Rattle.raft_progress.proofs.lemmas.entry.AckLemmas.{taken_is_valid}
+use Rattle.raft_progress.proofs.lemmas.entry.EntryLemmas.{table_of_refused, table_of_taken}
 use Rattle.raft_progress.proofs.entry.ProgressEntryOf.update_matching.Goals as goal
 
 pub returns-in_err-check_ack-clause-table : goal.returns-in_err-check_ack-clause-table

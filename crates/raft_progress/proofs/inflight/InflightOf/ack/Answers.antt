@@ -1,6 +1,6 @@
 use Rattle.std.proofs.Common.{rules}
 use Rattle.raft_progress.specs.inflight.InflightTable.{inflight_after_ack}
-use Rattle.raft_progress.proofs.EntryLemmas.{table_of_refused, table_of_taken}
+use Rattle.raft_progress.proofs.lemmas.entry.EntryLemmas.{table_of_refused, table_of_taken}
 use Rattle.raft_progress.proofs.inflight.InflightOf.ack.Goals as goal
 
 pub returns-in_err-check_ack : goal.returns-in_err-check_ack

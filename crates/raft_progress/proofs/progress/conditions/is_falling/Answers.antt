@@ -1,5 +1,5 @@
 use Rattle.std.proofs.Common.{arith, sym, ◌∙◌, ◌-◌}
-use Rattle.raft_progress.proofs.InOrderLemmas.{last_falls}
+use Rattle.raft_progress.proofs.lemmas.progress.InOrderLemmas.{last_falls}
 use Rattle.raft_progress.proofs.progress.conditions.is_falling.Goals as goal
 
 pub returns : goal.returns

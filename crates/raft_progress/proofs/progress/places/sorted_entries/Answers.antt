@@ -4,8 +4,8 @@ use Rattle.std.specs.Map.{keys_of, values_of}
 use Rattle.std.proofs.lemmas.Fn.{always_returns_same}
 use Rattle.std.proofs.lemmas.List.{map-append, take_all, take_more}
 use Rattle.std.proofs.lemmas.Map.Entries.{length-keys_of}
-use Rattle.raft_progress.proofs.LookupLemmas.{key_at}
-use Rattle.raft_progress.proofs.MadeLemmas.{ascending_from_sorted, distinct_moved, places_moved, tells_moved, range_more}
+use Rattle.raft_progress.proofs.lemmas.progress.walk.LookupLemmas.{key_at}
+use Rattle.raft_progress.proofs.lemmas.progress.walk.MadeLemmas.{ascending_from_sorted, distinct_moved, places_moved, tells_moved, range_more}
 use Rattle.raft_progress.proofs.progress.places.sorted_entries.Goals as goal
 
 pub loop-place-preserved : goal.loop-place-preserved

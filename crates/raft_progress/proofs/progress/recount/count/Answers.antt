@@ -1,5 +1,5 @@
 use Rattle.std.proofs.Common.{arith, sym, ap, ◌∙◌, true≢false, is_lt}
-use Rattle.raft_progress.proofs.RecountLemmas.{loop_rises, loop_keeps}
+use Rattle.raft_progress.proofs.lemmas.progress.recount.RecountLemmas.{loop_rises, loop_keeps}
 use Rattle.raft_progress.proofs.progress.recount.count.Goals as goal
 use Rattle.raft_progress.proofs.progress.recount.count.Goals.{then-is_lt+then-is_reached, else-is_lt, else-is_lt-via-then-is_lt+else-is_reached, else-is_lt-via-else-is_lt}
 

@@ -4,7 +4,7 @@ use Rattle.std.specs.Option.{option_copied}
 use Rattle.std.specs.Result.{is_ok}
 use Rattle.raft_progress.specs.progress.Steps.{falls, stays}
 use Rattle.raft_progress.specs.progress.VecProgress.{shown}
-use Rattle.raft_progress.proofs.StepLemmas.{increase_known}
+use Rattle.raft_progress.proofs.lemmas.progress.StepLemmas.{increase_known}
 use Rattle.raft_progress.proofs.progress.replay_any_steps.increase.Goals as goal
 use Rattle.raft_progress.proofs.progress.replay_any_steps.increase.Goals.{else-not-is_not_greater-via-then-not-is_not_greater+else-would_fall, else-not-is_not_greater-via-else-not-is_not_greater}
 

@@ -8,11 +8,11 @@ use Rattle.raft_progress.specs.progress.VecProgress.{shown}
 use Rattle.std.proofs.lemmas.List.{append-nil, nil_from_length}
 use Rattle.raft_progress.specs.declared.progress.steps.AnyStep.{AnyStep}
 use Rattle.raft_progress.specs.declared.progress.steps.Reply.{Reply}
-use Rattle.raft_progress.proofs.GrantedLemmas.{run_not_lower}
-use Rattle.raft_progress.proofs.RecountLemmas.{AtMost-refl}
-use Rattle.raft_progress.proofs.RunLemmas.{run_more, run_seen}
-use Rattle.raft_progress.proofs.Traits.{compared}
-use Rattle.raft_progress.proofs.UpdateLemmas.{IsSame-refl}
+use Rattle.raft_progress.proofs.lemmas.progress.GrantedLemmas.{run_not_lower}
+use Rattle.raft_progress.proofs.lemmas.progress.recount.RecountLemmas.{AtMost-refl}
+use Rattle.raft_progress.proofs.lemmas.progress.RunLemmas.{run_more, run_seen}
+use Rattle.raft_progress.proofs.lemmas.progress.Traits.{compared}
+use Rattle.raft_progress.proofs.lemmas.progress.UpdateLemmas.{IsSame-refl}
 use Rattle.raft_progress.proofs.progress.replay_any_steps.replay_any.Goals as goal
 
 pub loop-step-preserved : goal.loop-step-preserved

@@ -2,7 +2,7 @@ use Rattle.std.proofs.Common.{subst, sym, true≢false}
 use Rattle.raft_progress.specs.progress.CountedValue.{IsCounted}
 use Rattle.raft_progress.specs.progress.Shown.{state}
 use Rattle.raft_progress.specs.progress.VecProgress.{shown}
-use Rattle.raft_progress.proofs.RefusalLemmas.{refused_upgrade}
+use Rattle.raft_progress.proofs.lemmas.progress.RefusalLemmas.{refused_upgrade}
 use Rattle.raft_progress.proofs.progress.replay_any_steps.upgrade_unless_refused.Goals as goal
 
 pub returns-in-Some-clause-step : goal.returns-in-Some-clause-step

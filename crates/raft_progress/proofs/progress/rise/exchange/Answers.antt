@@ -1,8 +1,8 @@
 use Rattle.std.proofs.Common.{arith, ap, sym, ◌≡◌, ◌∙◌, ◌-◌, ◌++◌, get_or, length, length-append, set}
 use Rattle.std.specs.List.{swap}
 use Rattle.std.proofs.lemmas.List.{length-set}
-use Rattle.raft_progress.proofs.InverseLemmas.{lent_whole}
-use Rattle.raft_progress.proofs.RisingLemmas.{swap_at_cut}
+use Rattle.raft_progress.proofs.lemmas.progress.walk.InverseLemmas.{lent_whole}
+use Rattle.raft_progress.proofs.lemmas.progress.walk.RisingLemmas.{swap_at_cut}
 use Rattle.raft_progress.proofs.progress.rise.exchange.Goals as goal
 
 pub returns : goal.returns

@@ -2,8 +2,8 @@ use Rattle.std.proofs.Common.{arith, get_or, is_lt, ◌≡◌, ◌+◌, ◌-◌,
 use Rattle.std.specs.List.{swap}
 use Rattle.std.proofs.lemmas.List.Edits.{swapped_from_swap}
 use Rattle.raft_progress.specs.Inner.Rises.{Passed, RisesTo}
-use Rattle.raft_progress.proofs.PlacesLemmas.{any_default}
-use Rattle.raft_progress.proofs.RisingLemmas.{passed_none, passed_more, passed_within, rises_stop, rises_front}
+use Rattle.raft_progress.proofs.lemmas.progress.walk.PlacesLemmas.{any_default}
+use Rattle.raft_progress.proofs.lemmas.progress.walk.RisingLemmas.{passed_none, passed_more, passed_within, rises_stop, rises_front}
 use Rattle.raft_progress.proofs.progress.rise.move_up.Goals as goal
 
 -- the place before a place in a list is in it too

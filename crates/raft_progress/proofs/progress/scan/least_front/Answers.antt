@@ -1,5 +1,5 @@
 use Rattle.std.proofs.Common.{arith, sym, ◌∙◌, ◌≤◌}
-use Rattle.raft_progress.proofs.FrontLemmas.{front_tested, halves_failed, halves_found, halves_missed, halves_none, halves_passed, tests_fit}
+use Rattle.raft_progress.proofs.lemmas.progress.walk.FrontLemmas.{front_tested, halves_failed, halves_found, halves_missed, halves_none, halves_passed, tests_fit}
 use Rattle.raft_progress.proofs.progress.scan.least_front.Goals as goal
 
 pub test_front-requires : goal.test_front-requires

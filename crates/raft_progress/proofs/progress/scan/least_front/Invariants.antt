@@ -1,5 +1,5 @@
 use Rattle.std.proofs.Common.{◌-◌, ◌<◌, ◌^◌, length}
-use Rattle.raft_progress.proofs.FrontLemmas.{Halves}
+use Rattle.raft_progress.proofs.lemmas.progress.walk.FrontLemmas.{Halves}
 use Rattle.raft_progress.proofs.progress.scan.least_front.Given as goal
 
 -- the fronts that are left are halved by each test

@@ -1,5 +1,5 @@
 use Rattle.std.proofs.Common.{arith, refl, ◌≡◌}
-use Rattle.raft_progress.proofs.CloneLemmas.{zip_step}
+use Rattle.raft_progress.proofs.lemmas.progress.CloneLemmas.{zip_step}
 use Rattle.raft_progress.proofs.progress.walk.clone_walk.Goals as goal
 
 pub loop-entry-preserved : goal.loop-entry-preserved

@@ -2,8 +2,8 @@ use Rattle.std.specs.Coded.{Coded-set, coded_list}
 use Rattle.std.proofs.Common.{sym, ◌∙◌}
 use Rattle.raft_progress.specs.tracked.Tracked.{tracked}
 use Rattle.raft_progress.specs.progress.VecProgress.{shown}
-use Rattle.raft_progress.proofs.ReadyLemmas.{ready_of}
-use Rattle.raft_progress.proofs.TrackedCloneLemmas.{ready_cloned, same_configs}
+use Rattle.raft_progress.proofs.lemmas.tracked.ReadyLemmas.{ready_of}
+use Rattle.raft_progress.proofs.lemmas.tracked.TrackedCloneLemmas.{ready_cloned, same_configs}
 use Rattle.raft_progress.proofs.tracked.Tracked.try_clone.Goals as goal
 
 pub returns-clause-progress : goal.returns-clause-progress

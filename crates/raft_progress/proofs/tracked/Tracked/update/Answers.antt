@@ -2,8 +2,8 @@ use Rattle.std.specs.Coded.{Coded-set, coded_list}
 use Rattle.std.proofs.Common.{refl}
 use Rattle.raft_progress.specs.progress.VecProgress.{shown}
 use Rattle.raft_progress.specs.tracked.Tracked.{tracked}
-use Rattle.raft_progress.proofs.HeadlineLemmas.{each_quorum_knows}
-use Rattle.raft_progress.proofs.ReadyLemmas.{ready_of, ready_written}
+use Rattle.raft_progress.proofs.lemmas.tracked.HeadlineLemmas.{each_quorum_knows}
+use Rattle.raft_progress.proofs.lemmas.tracked.ReadyLemmas.{ready_of, ready_written}
 use Rattle.raft_progress.proofs.tracked.Tracked.update.Goals as goal
 
 pub write-requires : goal.write-requires

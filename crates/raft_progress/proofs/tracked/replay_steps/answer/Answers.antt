@@ -3,7 +3,7 @@ use Rattle.std.proofs.Common.{refl}
 use Rattle.raft_progress.specs.progress.ShownSteps.{IsIncreasedTo}
 use Rattle.raft_progress.specs.tracked.Tracked.{tracked}
 use Rattle.raft_progress.specs.progress.VecProgress.{shown}
-use Rattle.raft_progress.proofs.ReadyLemmas.{answered_tracked, ready_increased, ready_of}
+use Rattle.raft_progress.proofs.lemmas.tracked.ReadyLemmas.{answered_tracked, ready_increased, ready_of}
 use Rattle.raft_progress.proofs.tracked.replay_steps.answer.Goals as goal
 
 pub increase-requires : goal.increase-requires

@@ -8,13 +8,13 @@ use Rattle.raft_progress.specs.tracked.TrackedState.{tracked_state}
 use Rattle.raft_progress.specs.tracked.TrackedSteps.{IsSameTracked, IsTrackedStep}
 use Rattle.raft_progress.specs.declared.progress.steps.Reply.{Reply}
 use Rattle.raft_progress.specs.declared.tracked.step.Step.{Step}
-use Rattle.raft_progress.proofs.ChangeLemmas.{IsSameTracked-refl}
-use Rattle.raft_progress.proofs.GrantedLemmas.{tracked_run_not_lower}
-use Rattle.raft_progress.proofs.HeadlineLemmas.{each_quorum_knows}
-use Rattle.raft_progress.proofs.ReadyLemmas.{ready_of}
-use Rattle.raft_progress.proofs.RecountLemmas.{AtMost-refl}
-use Rattle.raft_progress.proofs.RunLemmas.{run_more, run_seen}
-use Rattle.raft_progress.proofs.Traits.{compared}
+use Rattle.raft_progress.proofs.lemmas.tracked.ChangeLemmas.{IsSameTracked-refl}
+use Rattle.raft_progress.proofs.lemmas.progress.GrantedLemmas.{tracked_run_not_lower}
+use Rattle.raft_progress.proofs.lemmas.tracked.HeadlineLemmas.{each_quorum_knows}
+use Rattle.raft_progress.proofs.lemmas.tracked.ReadyLemmas.{ready_of}
+use Rattle.raft_progress.proofs.lemmas.progress.recount.RecountLemmas.{AtMost-refl}
+use Rattle.raft_progress.proofs.lemmas.progress.RunLemmas.{run_more, run_seen}
+use Rattle.raft_progress.proofs.lemmas.progress.Traits.{compared}
 use Rattle.raft_progress.proofs.tracked.replay_steps.replay.Goals as goal
 
 pub returns-in_err-replies-clause-ready : goal.returns-in_err-replies-clause-ready

@@ -3,7 +3,7 @@ use Rattle.std.specs.Vec.{vec_capacity}
 use Rattle.std.specs.Vec.Iter.{into_iter_items}
 use Rattle.raft_progress.specs.tracked.Tracked.{tracked}
 use Rattle.raft_progress.specs.tracked.TrackedShownSteps.{IsTrackedShownRun}
-use Rattle.raft_progress.proofs.Traits.{compared}
+use Rattle.raft_progress.proofs.lemmas.progress.Traits.{compared}
 use Rattle.raft_progress.proofs.tracked.replay_steps.replay.Given as goal
 
 -- the steps so far have been made, and there is room for the replies to the others

@@ -7,9 +7,9 @@ use Rattle.raft_progress.specs.progress.UpgradeFold.{IsUpgradeFold}
 use Rattle.raft_progress.specs.progress.VecProgress.{shown}
 use Rattle.raft_progress.specs.tracked.Tracked.{tracked}
 use Rattle.raft_progress.specs.tracked.TrackedState.{has_quorum, is_voter}
-use Rattle.raft_progress.proofs.ReadyLemmas.{ready_of}
-use Rattle.raft_progress.proofs.TrackedLemmas.{learners_of_fit, ready_upgraded}
-use Rattle.raft_progress.proofs.UpdateLemmas.{IsSame-refl}
+use Rattle.raft_progress.proofs.lemmas.tracked.ReadyLemmas.{ready_of}
+use Rattle.raft_progress.proofs.lemmas.tracked.TrackedLemmas.{learners_of_fit, ready_upgraded}
+use Rattle.raft_progress.proofs.lemmas.progress.UpdateLemmas.{IsSame-refl}
 use Rattle.raft_progress.proofs.tracked.single_steps.upgrade_unless_below.Goals as goal
 
 pub upgrade_quorum_set-requires-clause-learners_fit : goal.upgrade_quorum_set-requires-clause-learners_fit

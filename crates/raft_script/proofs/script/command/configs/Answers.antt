@@ -8,7 +8,7 @@ use Rattle.std.proofs.lemmas.List.{map-append}
 use Rattle.std.proofs.lemmas.List.Elements.{All-push}
 use Rattle.raft_script.specs.Word.{HasNumbersOf, IsList}
 use Rattle.raft_script.specs.declared.script.command.LineError.TheVariants.{BadLine}
-use Rattle.raft_script.proofs.ListLemmas.{lists_of_other, not_all, zip_pushed}
+use Rattle.raft_script.proofs.lemmas.command.ListLemmas.{lists_of_other, not_all, zip_pushed}
 use Rattle.raft_script.proofs.script.command.configs.Goals as goal
 
 pub returns-in_err-config-clause-bad_line : goal.returns-in_err-config-clause-bad_line

@@ -9,7 +9,7 @@ use Rattle.std.specs.Str.Parse.{digits_value}
 use Rattle.std.proofs.lemmas.List.{map-append}
 use Rattle.std.proofs.lemmas.List.Elements.{All-nil, All-push}
 use Rattle.raft_script.specs.Word.{IsNumber}
-use Rattle.raft_script.proofs.ListLemmas.{one_more_number, parts_of_other, no_number, not_all, number_of, where_ok}
+use Rattle.raft_script.proofs.lemmas.command.ListLemmas.{one_more_number, parts_of_other, no_number, not_all, number_of, where_ok}
 use Rattle.raft_script.proofs.script.command.list.Goals as goal
 
 pub loop-part-init : goal.loop-part-init

@@ -1,6 +1,6 @@
 use Rattle.std.proofs.Common.{arith, sym}
 use Rattle.std.proofs.lemmas.Bool.{eqb-false}
-use Rattle.raft_script.proofs.NumberLemmas.{none_where_not, no_digit, too_great, one_more, digits_so_far, all_read}
+use Rattle.raft_script.proofs.lemmas.command.NumberLemmas.{none_where_not, no_digit, too_great, one_more, digits_so_far, all_read}
 use Rattle.raft_script.proofs.script.command.number.Goals as goal
 
 pub returns-in_err-digit : goal.returns-in_err-digit

@@ -1,7 +1,7 @@
 use Rattle.std.specs.Prelude.{IfSome}
 use Rattle.std.specs.Io.BufRead.{take_through}
 use Rattle.std.proofs.Common.{rules, tests, subst, ◌≡◌, ◌++◌, List, ℕ}
-use Rattle.raft_script.proofs.InputLemmas.{takes_line, trimmed}
+use Rattle.raft_script.proofs.lemmas.InputLemmas.{takes_line, trimmed}
 use Rattle.raft_script.proofs.script.dialogue.read_line.Goals as goal
 
 pub returns-clause-line : goal.returns-clause-line

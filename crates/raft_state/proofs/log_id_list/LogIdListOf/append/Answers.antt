@@ -1,9 +1,9 @@
 use Rattle.std.proofs.Common.{sym, ◌∙◌}
-use Rattle.raft_state.proofs.LastTwoLemmas.{two_full}
-use Rattle.raft_state.proofs.ListLemmas.{append_ends, append_fills, append_keeps, append_shares}
-use Rattle.raft_state.proofs.ExtendLemmas.{is_key_list}
-use Rattle.raft_state.proofs.FrontLemmas.{from_first}
-use Rattle.raft_state.proofs.KeptLemmas.{append_keeps_ids, last_found}
+use Rattle.raft_state.proofs.lemmas.log_id_list.LastTwoLemmas.{two_full}
+use Rattle.raft_state.proofs.lemmas.log_id_list.ListLemmas.{append_ends, append_fills, append_keeps, append_shares}
+use Rattle.raft_state.proofs.lemmas.log_id_list.ExtendLemmas.{is_key_list}
+use Rattle.raft_state.proofs.lemmas.log_id_list.FrontLemmas.{from_first}
+use Rattle.raft_state.proofs.lemmas.log_id_list.KeptLemmas.{append_keeps_ids, last_found}
 use Rattle.raft_state.specs.FullLog.{first_index, full_log}
 use Rattle.raft_state.specs.Inner.KeyEdits.{keys_after_append}
 use Rattle.raft_state.proofs.log_id_list.LogIdListOf.append.Goals as goal

@@ -1,6 +1,6 @@
 use Rattle.std.proofs.Common.{sym, ◌∙◌}
-use Rattle.raft_state.proofs.LastTwoLemmas.{two_full, two_of_last}
-use Rattle.raft_state.proofs.ExtendLemmas.{is_key_list}
+use Rattle.raft_state.proofs.lemmas.log_id_list.LastTwoLemmas.{two_full, two_of_last}
+use Rattle.raft_state.proofs.lemmas.log_id_list.ExtendLemmas.{is_key_list}
 use Rattle.raft_state.proofs.log_id_list.LogIdListOf.by_last_leader.Goals as goal
 
 pub returns-clause-two_keys : goal.returns-clause-two_keys

@@ -1,10 +1,10 @@
 use Rattle.std.proofs.Common.{map}
 use Rattle.raft_state.specs.FullLog.{first_index, full_log}
 use Rattle.raft_state.specs.LogReads.{last_id}
-use Rattle.raft_state.proofs.ListLemmas.{extend_ends, extend_fills, extend_keeps}
-use Rattle.raft_state.proofs.ExtendLemmas.{extend_raises, is_key_list}
-use Rattle.raft_state.proofs.FrontLemmas.{from_first}
-use Rattle.raft_state.proofs.KeptLemmas.{ends_there, extend_has_ids, extend_keeps_ids}
+use Rattle.raft_state.proofs.lemmas.log_id_list.ListLemmas.{extend_ends, extend_fills, extend_keeps}
+use Rattle.raft_state.proofs.lemmas.log_id_list.ExtendLemmas.{extend_raises, is_key_list}
+use Rattle.raft_state.proofs.lemmas.log_id_list.FrontLemmas.{from_first}
+use Rattle.raft_state.proofs.lemmas.log_id_list.KeptLemmas.{ends_there, extend_has_ids, extend_keeps_ids}
 use Rattle.raft_state.specs.Inner.KeyEdits.{keys_after_extend}
 use Rattle.raft_state.proofs.log_id_list.LogIdListOf.extend.Goals as goal
 

@@ -1,7 +1,7 @@
 use Rattle.raft_state.specs.FullLog.{full_log}
-use Rattle.raft_state.proofs.CutLemmas.{first_full, last_full, next_of_last}
-use Rattle.raft_state.proofs.FullLogLemmas.{there_within}
-use Rattle.raft_state.proofs.ExtendLemmas.{is_key_list}
+use Rattle.raft_state.proofs.lemmas.log_id_list.CutLemmas.{first_full, last_full, next_of_last}
+use Rattle.raft_state.proofs.lemmas.log_id_list.FullLogLemmas.{there_within}
+use Rattle.raft_state.proofs.lemmas.log_id_list.ExtendLemmas.{is_key_list}
 use Rattle.raft_state.proofs.log_id_list.LogIdListOf.get.Goals as goal
 
 pub returns-clause-found : goal.returns-clause-found

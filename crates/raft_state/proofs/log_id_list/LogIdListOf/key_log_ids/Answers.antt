@@ -1,5 +1,5 @@
-use Rattle.raft_state.proofs.ExtendLemmas.{is_key_list}
-use Rattle.raft_state.proofs.ListLemmas.{few_keys}
+use Rattle.raft_state.proofs.lemmas.log_id_list.ExtendLemmas.{is_key_list}
+use Rattle.raft_state.proofs.lemmas.log_id_list.ListLemmas.{few_keys}
 use Rattle.raft_state.proofs.log_id_list.LogIdListOf.key_log_ids.Goals as goal
 
 pub returns-clause-canonical : goal.returns-clause-canonical

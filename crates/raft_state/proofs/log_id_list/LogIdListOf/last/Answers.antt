@@ -1,6 +1,6 @@
 use Rattle.std.proofs.Common.{◌∙◌}
-use Rattle.raft_state.proofs.CutLemmas.{last_is}
-use Rattle.raft_state.proofs.ExtendLemmas.{is_key_list}
+use Rattle.raft_state.proofs.lemmas.log_id_list.CutLemmas.{last_is}
+use Rattle.raft_state.proofs.lemmas.log_id_list.ExtendLemmas.{is_key_list}
 use Rattle.raft_state.proofs.log_id_list.LogIdListOf.last.Goals as goal
 
 pub returns : goal.returns

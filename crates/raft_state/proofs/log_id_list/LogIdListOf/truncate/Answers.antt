@@ -1,8 +1,8 @@
-use Rattle.raft_state.proofs.CutLemmas.{full_cut}
-use Rattle.raft_state.proofs.FrontLemmas.{from_first}
-use Rattle.raft_state.proofs.KeptLemmas.{front_end, front_ends, front_reads}
-use Rattle.raft_state.proofs.ListLemmas.{truncate_keeps}
-use Rattle.raft_state.proofs.ExtendLemmas.{is_key_list}
+use Rattle.raft_state.proofs.lemmas.log_id_list.CutLemmas.{full_cut}
+use Rattle.raft_state.proofs.lemmas.log_id_list.FrontLemmas.{from_first}
+use Rattle.raft_state.proofs.lemmas.log_id_list.KeptLemmas.{front_end, front_ends, front_reads}
+use Rattle.raft_state.proofs.lemmas.log_id_list.ListLemmas.{truncate_keeps}
+use Rattle.raft_state.proofs.lemmas.log_id_list.ExtendLemmas.{is_key_list}
 use Rattle.raft_state.specs.FullLog.{first_index, full_log}
 use Rattle.raft_state.proofs.log_id_list.LogIdListOf.truncate.Goals as goal
 

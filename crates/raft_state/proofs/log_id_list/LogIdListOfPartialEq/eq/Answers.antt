@@ -1,6 +1,6 @@
 use Rattle.std.proofs.Common.{◌∙◌}
-use Rattle.raft_state.proofs.ListLemmas.{keys_decide}
-use Rattle.raft_state.proofs.ExtendLemmas.{is_key_list}
+use Rattle.raft_state.proofs.lemmas.log_id_list.ListLemmas.{keys_decide}
+use Rattle.raft_state.proofs.lemmas.log_id_list.ExtendLemmas.{is_key_list}
 use Rattle.raft_state.proofs.log_id_list.LogIdListOfPartialEq.eq.Goals as goal
 
 pub returns : goal.returns

@@ -1,6 +1,6 @@
 use Rattle.std.proofs.Common.{◌≡◌, ◌-◌, suc, sym, ap, arith, ◌∙◌, length, get_or, set}
-use Rattle.raft_state.proofs.AppendLemmas.{gives_way, comes_after}
-use Rattle.raft_state.proofs.LastTwoLemmas.{two_differ}
+use Rattle.raft_state.proofs.lemmas.log_id_list.AppendLemmas.{gives_way, comes_after}
+use Rattle.raft_state.proofs.lemmas.log_id_list.LastTwoLemmas.{two_differ}
 use Rattle.raft_state.proofs.log_id_list.keys.append.Goals as goal
 use Rattle.raft_state.proofs.log_id_list.keys.append.Goals.{else-count-ge2-via-then-count-ge2+else-eq, else-count-ge2-via-else-count-ge2}
 

@@ -1,6 +1,6 @@
 use Rattle.std.proofs.Common.{◌≡◌, ◌-◌, ◌∙◌, sym, suc, length, arith, true, false}
 use Rattle.std.proofs.lemmas.List.{take_rest}
-use Rattle.raft_state.proofs.CutLemmas.{fewer, last_two}
+use Rattle.raft_state.proofs.lemmas.log_id_list.CutLemmas.{fewer, last_two}
 use Rattle.raft_state.proofs.log_id_list.keys.by_last_leader.Goals as goal
 
 pub returns-then-count-lt2 : goal.returns-then-count-lt2

@@ -3,7 +3,7 @@ use Rattle.std.proofs.Common.{inl, inr}
 use Rattle.std.proofs.lemmas.Bool.{cases_lt}
 use Rattle.std.proofs.lemmas.Bool.Decides.{nat_tests}
 use Rattle.raft_state.specs.Inner.KeyList.{keys_to}
-use Rattle.raft_state.proofs.FullLogLemmas.{counts_within, counted_by_place}
+use Rattle.raft_state.proofs.lemmas.log_id_list.FullLogLemmas.{counts_within, counted_by_place}
 use Rattle.raft_state.proofs.log_id_list.keys.count_bounds.Goals as goal
 
 pub loop-size-init : goal.loop-size-init

@@ -1,7 +1,7 @@
 use Rattle.std.proofs.Common.{◌≡◌, ◌+◌, ◌-◌, ◌<◌, ◌≤◌, ℕ, nat_le, nat_lt, take, drop, get_or, length, length-drop, arith, ◌∙◌}
 use Rattle.std.proofs.lemmas.Bool.Decides.{nat_tests}
 use Rattle.std.proofs.lemmas.List.{get_or-take, get_or-drop, length-take}
-use Rattle.raft_state.proofs.FullLogLemmas.{counted_by_place}
+use Rattle.raft_state.proofs.lemmas.log_id_list.FullLogLemmas.{counted_by_place}
 use Rattle.raft_state.proofs.log_id_list.keys.count_to.Goals as goal
 use Rattle.raft_state.proofs.log_id_list.keys.count_to.Goals.{then-key-index, else-key-index}
 

@@ -1,5 +1,5 @@
 use Rattle.std.proofs.Common.{◌∙◌}
-use Rattle.raft_state.proofs.ListLemmas.{ends_make_all}
+use Rattle.raft_state.proofs.lemmas.log_id_list.ListLemmas.{ends_make_all}
 use Rattle.raft_state.proofs.log_id_list.keys.extend_by_ends.Goals as goal
 
 pub returns-in_ok-append-2-clause-ok : goal.returns-in_ok-append-2-clause-ok

@@ -1,6 +1,6 @@
 use Rattle.std.proofs.Common.{◌≡◌, ◌-◌, sym, arith, ◌∙◌, get_or, length}
-use Rattle.raft_state.proofs.FullLogLemmas.{none_here, none_past, some_found, key_list_rises_zero}
-use Rattle.raft_state.proofs.ExtendLemmas.{is_key_list}
+use Rattle.raft_state.proofs.lemmas.log_id_list.FullLogLemmas.{none_here, none_past, some_found, key_list_rises_zero}
+use Rattle.raft_state.proofs.lemmas.log_id_list.ExtendLemmas.{is_key_list}
 use Rattle.raft_state.proofs.log_id_list.keys.get.Goals as goal
 
 pub count_to-covered-requires : goal.count_to-covered-requires

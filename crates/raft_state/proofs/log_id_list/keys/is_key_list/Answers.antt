@@ -1,5 +1,5 @@
 use Rattle.std.proofs.Common.{◌-◌, ◌∙◌, sym, arith}
-use Rattle.raft_state.proofs.ExtendLemmas.{short_list}
+use Rattle.raft_state.proofs.lemmas.log_id_list.ExtendLemmas.{short_list}
 use Rattle.raft_state.proofs.log_id_list.keys.is_key_list.Goals as goal
 
 pub returns : goal.returns

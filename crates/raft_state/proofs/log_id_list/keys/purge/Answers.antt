@@ -1,7 +1,7 @@
 use Rattle.std.proofs.Common.{◌≡◌, arith, length}
-use Rattle.raft_state.proofs.FullLogLemmas.{key_list_rises_zero}
-use Rattle.raft_state.proofs.CutLemmas.{purged_past, purged_none, purged_moved}
-use Rattle.raft_state.proofs.ExtendLemmas.{is_key_list}
+use Rattle.raft_state.proofs.lemmas.log_id_list.FullLogLemmas.{key_list_rises_zero}
+use Rattle.raft_state.proofs.lemmas.log_id_list.CutLemmas.{purged_past, purged_none, purged_moved}
+use Rattle.raft_state.proofs.lemmas.log_id_list.ExtendLemmas.{is_key_list}
 use Rattle.raft_state.proofs.log_id_list.keys.purge.Goals as goal
 
 pub returns-then-index-upto-clause-ok : goal.returns-then-index-upto-clause-ok

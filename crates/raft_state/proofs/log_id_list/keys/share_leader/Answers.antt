@@ -1,5 +1,5 @@
 use Rattle.std.proofs.Common.{◌∙◌}
-use Rattle.raft_state.proofs.EndsLemmas.{ends_by_place}
+use Rattle.raft_state.proofs.lemmas.log_id_list.EndsLemmas.{ends_by_place}
 use Rattle.raft_state.proofs.log_id_list.keys.share_leader.Goals as goal
 
 pub returns-in-Some-Some : goal.returns-in-Some-Some

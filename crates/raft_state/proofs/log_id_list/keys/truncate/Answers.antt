@@ -1,7 +1,7 @@
 use Rattle.std.proofs.Common.{arith}
-use Rattle.raft_state.proofs.FullLogLemmas.{key_list_rises_zero}
-use Rattle.raft_state.proofs.CutLemmas.{all_stay, cut_short, cut_moved}
-use Rattle.raft_state.proofs.ExtendLemmas.{is_key_list}
+use Rattle.raft_state.proofs.lemmas.log_id_list.FullLogLemmas.{key_list_rises_zero}
+use Rattle.raft_state.proofs.lemmas.log_id_list.CutLemmas.{all_stay, cut_short, cut_moved}
+use Rattle.raft_state.proofs.lemmas.log_id_list.ExtendLemmas.{is_key_list}
 use Rattle.raft_state.proofs.log_id_list.keys.truncate.Goals as goal
 
 pub count_to-kept-requires : goal.count_to-kept-requires

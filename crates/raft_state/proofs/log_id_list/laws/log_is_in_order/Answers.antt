@@ -1,5 +1,5 @@
-use Rattle.raft_state.proofs.ExtendLemmas.{is_key_list}
-use Rattle.raft_state.proofs.OrderLemmas.{consecutive, found, never_fall, never_fall_by_index, none_above_last}
+use Rattle.raft_state.proofs.lemmas.log_id_list.ExtendLemmas.{is_key_list}
+use Rattle.raft_state.proofs.lemmas.log_id_list.OrderLemmas.{consecutive, found, never_fall, never_fall_by_index, none_above_last}
 use Rattle.raft_state.proofs.log_id_list.laws.log_is_in_order.Goals as goal
 
 pub returns-clause-indexes : goal.returns-clause-indexes

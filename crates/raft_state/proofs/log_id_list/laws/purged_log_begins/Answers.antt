@@ -1,5 +1,5 @@
-use Rattle.raft_state.proofs.ExtendLemmas.{is_key_list}
-use Rattle.raft_state.proofs.ListLemmas.{purged_log_begins}
+use Rattle.raft_state.proofs.lemmas.log_id_list.ExtendLemmas.{is_key_list}
+use Rattle.raft_state.proofs.lemmas.log_id_list.ListLemmas.{purged_log_begins}
 use Rattle.raft_state.proofs.log_id_list.laws.purged_log_begins.Goals as goal
 
 pub returns : goal.returns

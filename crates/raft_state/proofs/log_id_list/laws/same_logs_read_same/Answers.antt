@@ -1,4 +1,4 @@
-use Rattle.raft_state.proofs.SameEditsLemmas.{first_id_finds, id_at_finds, last_id_finds}
+use Rattle.raft_state.proofs.lemmas.log_id_list.SameEditsLemmas.{first_id_finds, id_at_finds, last_id_finds}
 use Rattle.raft_state.proofs.log_id_list.laws.same_logs_read_same.Goals as goal
 
 pub returns-clause-at_index : goal.returns-clause-at_index

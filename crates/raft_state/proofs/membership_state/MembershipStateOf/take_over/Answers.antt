@@ -1,5 +1,5 @@
 use Rattle.std.proofs.Common.{rules}
-use Rattle.raft_state.proofs.EffectLemmas.{effect_stays}
+use Rattle.raft_state.proofs.lemmas.membership_state.EffectLemmas.{effect_stays}
 use Rattle.raft_state.proofs.membership_state.MembershipStateOf.take_over.Goals as goal
 
 pub returns-then-not-index_at_most-clause-changed : goal.returns-then-not-index_at_most-clause-changed

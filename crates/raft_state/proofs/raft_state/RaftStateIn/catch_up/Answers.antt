@@ -1,5 +1,5 @@
 use Rattle.std.proofs.Common.{◌∙◌}
-use Rattle.raft_state.proofs.CatchUpLemmas.{tested}
+use Rattle.raft_state.proofs.lemmas.catch_up.CatchUpLemmas.{tested}
 use Rattle.raft_state.proofs.raft_state.RaftStateIn.catch_up.Goals as goal
 
 pub catch_up_entry-requires-clause-logged : goal.catch_up_entry-requires-clause-logged

@@ -1,6 +1,6 @@
 use Rattle.std.proofs.Common.{sym, ◌∙◌}
-use Rattle.raft_state.proofs.CommittedLemmas.{cut_past_committed}
-use Rattle.raft_state.proofs.ExtendLemmas.{is_key_list}
+use Rattle.raft_state.proofs.lemmas.raft_state.CommittedLemmas.{cut_past_committed}
+use Rattle.raft_state.proofs.lemmas.log_id_list.ExtendLemmas.{is_key_list}
 use Rattle.raft_state.proofs.raft_state.RaftStateIn.committed_is_logged.Goals as goal
 
 pub returns-clause-cut : goal.returns-clause-cut

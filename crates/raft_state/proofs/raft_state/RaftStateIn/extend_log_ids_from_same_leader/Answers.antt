@@ -1,6 +1,6 @@
 use Rattle.std.proofs.Common.{map}
-use Rattle.raft_state.proofs.SameLogLemmas.{both}
-use Rattle.raft_state.proofs.StateExtendLemmas.{extended_stays_valid}
+use Rattle.raft_state.proofs.lemmas.log_id_list.SameLogLemmas.{both}
+use Rattle.raft_state.proofs.lemmas.raft_state.StateExtendLemmas.{extended_stays_valid}
 use Rattle.raft_state.proofs.raft_state.RaftStateIn.extend_log_ids_from_same_leader.Goals as goal
 
 pub returns-clause-valid : goal.returns-clause-valid

@@ -1,7 +1,7 @@
 use Rattle.std.proofs.Common.{length, sym, ◌∙◌}
 use Rattle.raft_base.specs.LogView.{has_id}
 use Rattle.raft_state.specs.StateView.{view_of}
-use Rattle.raft_state.proofs.DeniedLemmas.{denied_here, denied_later, none_denied, place_denied, place_passed, place_within}
+use Rattle.raft_state.proofs.lemmas.raft_state.DeniedLemmas.{denied_here, denied_later, none_denied, place_denied, place_passed, place_within}
 use Rattle.raft_state.proofs.raft_state.RaftStateIn.first_conflicting_index.Goals as goal
 
 pub returns-then-not-has_entry-clause-place : goal.returns-then-not-has_entry-clause-place

@@ -1,7 +1,7 @@
 use Rattle.std.proofs.Common.{rules, ◌≡◌, ◌∙◌, sym}
-use Rattle.raft_state.proofs.ExtendLemmas.{is_key_list}
-use Rattle.raft_state.proofs.InstallLemmas.{install_stays_valid, purge_fits}
-use Rattle.raft_state.proofs.SameLogLemmas.{both}
+use Rattle.raft_state.proofs.lemmas.log_id_list.ExtendLemmas.{is_key_list}
+use Rattle.raft_state.proofs.lemmas.follower.InstallLemmas.{install_stays_valid, purge_fits}
+use Rattle.raft_state.proofs.lemmas.log_id_list.SameLogLemmas.{both}
 use Rattle.raft_state.proofs.raft_state.RaftStateIn.install_snapshot.Goals as goal
 
 pub log_ids_from-requires-clause-may_purge : goal.log_ids_from-requires-clause-may_purge

@@ -1,7 +1,7 @@
 use Rattle.std.proofs.Common.{◌≡◌, Some, refl, sym, ◌∙◌}
 use Rattle.raft_progress.specs.progress.Shown.{state}
 use Rattle.raft_progress.specs.progress.VecProgress.{shown}
-use Rattle.raft_state.proofs.RoundLemmas.{writes}
+use Rattle.raft_state.proofs.lemmas.catch_up.RoundLemmas.{writes}
 use Rattle.raft_state.proofs.raft_state.RaftStateIn.visit.Goals as goal
 
 pub update-requires-clause-not_lower : goal.update-requires-clause-not_lower

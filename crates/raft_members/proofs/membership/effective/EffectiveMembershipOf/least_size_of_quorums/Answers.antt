@@ -4,7 +4,7 @@ use Rattle.std.specs.Prelude.{max}
 use Rattle.std.specs.Set.{is_member}
 use Rattle.raft_members.specs.Majority.{is_majority, is_joint_majority}
 use Rattle.raft_members.specs.QuorumSize.{greatest, majority_size}
-use Rattle.raft_members.proofs.MappedLemmas.{list_all-map}
+use Rattle.raft_members.proofs.lemmas.membership.MappedLemmas.{list_all-map}
 use Rattle.raft_members.proofs.membership.effective.EffectiveMembershipOf.least_size_of_quorums.Goals as goal
 
 pub returns-clause-told : goal.returns-clause-told

@@ -1,5 +1,5 @@
 use Rattle.std.proofs.Common.{rules}
-use Rattle.raft_members.proofs.AtLeastLemmas.{ascending_count, same_quorums}
+use Rattle.raft_members.proofs.lemmas.quorum.AtLeastLemmas.{ascending_count, same_quorums}
 use Rattle.raft_members.proofs.quorum.at_least.AtLeast.new.Goals as goal
 
 pub returns-clause-count : goal.returns-clause-count

@@ -1,6 +1,6 @@
 use Rattle.std.proofs.Common.{rules, ◌∙◌}
 use Rattle.std.specs.List.{list_any}
-use Rattle.raft_members.proofs.AtLeastLemmas.{at_least_count}
+use Rattle.raft_members.proofs.lemmas.quorum.AtLeastLemmas.{at_least_count}
 use Rattle.raft_members.proofs.quorum.at_least.AtLeastQuorumSet.is_quorum.Goals as goal
 
 pub returns : goal.returns

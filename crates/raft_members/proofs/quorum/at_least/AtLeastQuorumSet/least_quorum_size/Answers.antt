@@ -1,4 +1,4 @@
-use Rattle.raft_members.proofs.LeastLemmas.{at_least_least}
+use Rattle.raft_members.proofs.lemmas.quorum.LeastLemmas.{at_least_least}
 use Rattle.raft_members.proofs.quorum.at_least.AtLeastQuorumSet.least_quorum_size.Goals as goal
 
 pub returns-clause-least : goal.returns-clause-least

@@ -1,4 +1,4 @@
-use Rattle.raft_members.proofs.CloneLemmas.{list_clones}
+use Rattle.raft_members.proofs.lemmas.CloneLemmas.{list_clones}
 use Rattle.raft_members.proofs.quorum.joint.Joint+ID+QS+Vec+QS.try_clone.Goals as goal
 
 pub returns : goal.returns

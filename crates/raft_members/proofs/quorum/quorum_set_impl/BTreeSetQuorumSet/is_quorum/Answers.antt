@@ -1,7 +1,7 @@
 use Rattle.std.proofs.Common.{rules, ltb, ap, ◌∙◌, ◌/◌}
 use Rattle.std.specs.List.{count_by}
 use Rattle.std.specs.BTreeSet.{contains_by}
-use Rattle.raft_members.proofs.MajorityLemmas.{set_majority}
+use Rattle.raft_members.proofs.lemmas.quorum.MajorityLemmas.{set_majority}
 use Rattle.raft_members.proofs.quorum.quorum_set_impl.BTreeSetQuorumSet.is_quorum.Goals as goal
 
 pub returns : goal.returns

@@ -2,12 +2,12 @@ use Rattle.std.proofs.Common.{arith, sym, ap, ◌∙◌, refl, subst, ◌≡◌,
 use Rattle.std.proofs.Math.ListN.{length-set}
 use Rattle.std.specs.List.{IsDistinct}
 use Rattle.std.specs.Map.{keys_of}
-use Rattle.raft_progress.proofs.PlacesLemmas.{keys_written}
+use Rattle.raft_progress.proofs.lemmas.progress.walk.PlacesLemmas.{keys_written}
 use Rattle.std.proofs.lemmas.Option.{get_or_from_slice_get}
-use Rattle.raft_progress.proofs.WalkLemmas.{lookup_absent, no_value}
-use Rattle.raft_progress.proofs.UpdateLemmas.{was, wrote}
-use Rattle.raft_progress.proofs.OutcomeLemmas.{outcome}
-use Rattle.raft_progress.proofs.RecountLemmas.{AtMost-refl}
+use Rattle.raft_progress.proofs.lemmas.progress.walk.WalkLemmas.{lookup_absent, no_value}
+use Rattle.raft_progress.proofs.lemmas.progress.UpdateLemmas.{was, wrote}
+use Rattle.raft_progress.proofs.lemmas.progress.OutcomeLemmas.{outcome}
+use Rattle.raft_progress.proofs.lemmas.progress.recount.RecountLemmas.{AtMost-refl}
 use Rattle.raft_progress.specs.progress.Updated.{IsSettled}
 use Rattle.raft_progress.specs.progress.VecProgress.{shown}
 use Rattle.raft_progress.proofs.progress.vec_progress.VecProgress.apply_at.Goals as goal

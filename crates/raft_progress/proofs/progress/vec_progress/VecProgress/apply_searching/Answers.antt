@@ -1,7 +1,7 @@
 use Rattle.std.proofs.Common.{sym, ap, ◌∙◌}
 use Rattle.std.specs.Option.{is_some}
-use Rattle.raft_progress.proofs.UpdateLemmas.{was}
-use Rattle.raft_progress.proofs.WalkLemmas.{found_is_known}
+use Rattle.raft_progress.proofs.lemmas.progress.UpdateLemmas.{was}
+use Rattle.raft_progress.proofs.lemmas.progress.walk.WalkLemmas.{found_is_known}
 use Rattle.raft_progress.proofs.progress.vec_progress.VecProgress.apply_searching.Goals as goal
 
 pub apply_at-requires-clause-callable : goal.apply_at-requires-clause-callable

@@ -1,5 +1,5 @@
 use Rattle.std.proofs.Common.{arith}
-use Rattle.raft_progress.proofs.StatisticsLemmas.{counts_begin}
+use Rattle.raft_progress.proofs.lemmas.progress.StatisticsLemmas.{counts_begin}
 use Rattle.raft_progress.proofs.progress.vec_progress.VecProgress.go_on_from.Goals as goal
 
 pub returns-clause-counts : goal.returns-clause-counts

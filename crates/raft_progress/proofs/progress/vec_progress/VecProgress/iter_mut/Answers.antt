@@ -1,5 +1,5 @@
 use Rattle.std.proofs.Common.{◌∙◌, sym}
-use Rattle.raft_progress.proofs.LentLemmas.{walk_left}
+use Rattle.raft_progress.proofs.lemmas.progress.LentLemmas.{walk_left}
 use Rattle.raft_progress.proofs.progress.vec_progress.VecProgress.iter_mut.Goals as goal
 
 pub returns : goal.returns

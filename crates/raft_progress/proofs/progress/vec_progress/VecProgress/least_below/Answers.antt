@@ -1,7 +1,7 @@
 use Rattle.std.proofs.Common.{subst, List, Option, Some, None, ◌&&◌}
 use Rattle.std.specs.Map.{lookup}
 use Rattle.raft_progress.specs.Inner.Conditions.{IsLeastPassing, among, is_value_below}
-use Rattle.raft_progress.proofs.BelowLemmas.{least_is_below, none_is_below}
+use Rattle.raft_progress.proofs.lemmas.progress.upgrade.BelowLemmas.{least_is_below, none_is_below}
 use Rattle.raft_progress.proofs.progress.vec_progress.VecProgress.least_below.Goals as goal
 
 pub returns-clause-none : goal.returns-clause-none

@@ -2,7 +2,7 @@ use Rattle.std.proofs.Common.{arith, sym, ap, ◌∙◌, subst, ◌≡◌, ◌<�
 use Rattle.std.specs.Map.{lookup}
 use Rattle.std.proofs.lemmas.List.{take_more}
 use Rattle.raft_progress.specs.Inner.Conditions.{IsLeastPassing, among, is_value_below}
-use Rattle.raft_progress.proofs.BelowLemmas.{least_falls, least_holds, least_stays}
+use Rattle.raft_progress.proofs.lemmas.progress.upgrade.BelowLemmas.{least_falls, least_holds, least_stays}
 use Rattle.raft_progress.proofs.progress.vec_progress.VecProgress.least_of.Goals as goal
 use Rattle.raft_progress.proofs.progress.vec_progress.VecProgress.least_of.Goals.{then-inherits_below+then-is_before, else-inherits_below, else-inherits_below-via-then-inherits_below+else-is_before, else-inherits_below-via-else-inherits_below}
 

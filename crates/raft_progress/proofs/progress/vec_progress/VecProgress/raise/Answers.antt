@@ -4,7 +4,7 @@ use Rattle.std.proofs.lemmas.Map.Entries.{length-keys_of}
 use Rattle.raft_progress.specs.Inner.Places.{place_in}
 use Rattle.raft_progress.specs.Inner.Rises.{RisesTo}
 use Rattle.raft_progress.specs.progress.VecProgress.{shown}
-use Rattle.raft_progress.proofs.PlacesLemmas.{before_passed, passed_length, passed_nothing, place_ranked, tells_after}
+use Rattle.raft_progress.proofs.lemmas.progress.walk.PlacesLemmas.{before_passed, passed_length, passed_nothing, place_ranked, tells_after}
 use Rattle.raft_progress.proofs.progress.vec_progress.VecProgress.raise.Goals as goal
 use Rattle.raft_progress.proofs.progress.vec_progress.VecProgress.raise.Goals.{else-to-place-via-then-to-place+else-not-self, else-to-place-via-else-to-place}
 

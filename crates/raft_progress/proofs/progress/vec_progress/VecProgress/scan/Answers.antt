@@ -4,9 +4,9 @@ use Rattle.std.proofs.Common.{ap, arith, is_lt, refl, sym, take, ◌∙◌, ◌�
 use Rattle.std.proofs.lemmas.List.Sums.{prefix_len-le-length}
 use Rattle.raft_progress.specs.Inner.Recount.{exceeds}
 use Rattle.raft_progress.specs.progress.VecProgress.{shown}
-use Rattle.raft_progress.proofs.SettledLemmas.{get_take}
-use Rattle.raft_progress.proofs.ShortFrontLemmas.{lead_ends, length_take_le, not_scanned, scanned_from}
-use Rattle.raft_progress.proofs.UpdateLemmas.{IsDistinct-voters}
+use Rattle.raft_progress.proofs.lemmas.progress.SettledLemmas.{get_take}
+use Rattle.raft_progress.proofs.lemmas.progress.walk.ShortFrontLemmas.{lead_ends, length_take_le, not_scanned, scanned_from}
+use Rattle.raft_progress.proofs.lemmas.progress.UpdateLemmas.{IsDistinct-voters}
 use Rattle.raft_progress.proofs.progress.vec_progress.VecProgress.scan.Goals as goal
 use Rattle.raft_progress.proofs.progress.vec_progress.VecProgress.scan.Goals.{else-short-self-via-then-short-self+else-is_below, else-short-self-via-else-short-self}
 

@@ -3,9 +3,9 @@ use Rattle.std.specs.List.{IsDistinct}
 use Rattle.std.specs.Map.{keys_of}
 use Rattle.std.proofs.lemmas.Option.{get_or_from_slice_get}
 use Rattle.raft_progress.specs.progress.VecProgress.{shown}
-use Rattle.raft_progress.proofs.FallingLemmas.{le_lt}
-use Rattle.raft_progress.proofs.ListLemmas.{element_at}
-use Rattle.raft_progress.proofs.MovedLemmas.{distinct_moved}
+use Rattle.raft_progress.proofs.lemmas.progress.walk.FallingLemmas.{le_lt}
+use Rattle.raft_progress.proofs.lemmas.ListLemmas.{element_at}
+use Rattle.raft_progress.proofs.lemmas.progress.walk.MovedLemmas.{distinct_moved}
 use Rattle.raft_progress.proofs.progress.vec_progress.VecProgress.settle.Goals as goal
 use Rattle.raft_progress.proofs.progress.vec_progress.VecProgress.settle.Goals.{then-place-self-via-then-place-self, then-place-self-via-else-place-self+then-not-is_below}
 

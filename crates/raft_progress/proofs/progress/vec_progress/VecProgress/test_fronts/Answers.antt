@@ -3,9 +3,9 @@ use Rattle.std.proofs.lemmas.List.{length-take}
 use Rattle.std.proofs.lemmas.List.Sums.{prefix_len-le-length}
 use Rattle.raft_progress.specs.Inner.Recount.{exceeds}
 use Rattle.raft_progress.specs.Inner.Rises.{IsLeastFront}
-use Rattle.raft_progress.proofs.UpdateLemmas.{IsDistinct-voters}
-use Rattle.raft_progress.proofs.SettledLemmas.{get_take}
-use Rattle.raft_progress.proofs.ShortFrontLemmas.{length_take_le}
+use Rattle.raft_progress.proofs.lemmas.progress.UpdateLemmas.{IsDistinct-voters}
+use Rattle.raft_progress.proofs.lemmas.progress.SettledLemmas.{get_take}
+use Rattle.raft_progress.proofs.lemmas.progress.walk.ShortFrontLemmas.{length_take_le}
 use Rattle.raft_progress.proofs.progress.vec_progress.VecProgress.test_fronts.Goals as goal
 
 pub least_front-found-requires-clause-within : goal.least_front-found-requires-clause-within

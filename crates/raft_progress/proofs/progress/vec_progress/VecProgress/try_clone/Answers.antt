@@ -1,4 +1,4 @@
-use Rattle.raft_progress.proofs.CloneLemmas.{clone_is_equal, ok_from_match}
+use Rattle.raft_progress.proofs.lemmas.progress.CloneLemmas.{clone_is_equal, ok_from_match}
 use Rattle.raft_progress.specs.progress.VecProgress.{shown}
 use Rattle.raft_progress.proofs.progress.vec_progress.VecProgress.try_clone.Goals as goal
 

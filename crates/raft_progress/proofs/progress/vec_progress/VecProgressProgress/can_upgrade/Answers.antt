@@ -2,7 +2,7 @@ use Rattle.std.proofs.Common.{◌≡◌, Bool, true, false, not, Option, Some, N
 use Rattle.std.specs.Option.{is_some}
 use Rattle.raft_progress.specs.progress.Shown.{state}
 use Rattle.raft_progress.specs.progress.VecProgress.{shown}
-use Rattle.raft_progress.proofs.BelowLemmas.{below_refuses}
+use Rattle.raft_progress.proofs.lemmas.progress.upgrade.BelowLemmas.{below_refuses}
 use Rattle.raft_progress.proofs.progress.vec_progress.VecProgressProgress.can_upgrade.Goals as goal
 
 none_from_test : {X : Type 0} (o : Option X) (b : Bool) → is_some o ≡ not b → b ≡ true → o ≡ None

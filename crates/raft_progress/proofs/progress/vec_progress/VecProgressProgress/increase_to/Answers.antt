@@ -1,7 +1,7 @@
 use Rattle.std.proofs.Common.{refl, rules}
 use Rattle.raft_progress.specs.progress.Updated.{IsGreaterOf}
 use Rattle.raft_progress.specs.progress.VecProgress.{shown}
-use Rattle.raft_progress.proofs.FoldLemmas.{updated_weaker}
+use Rattle.raft_progress.proofs.lemmas.progress.upgrade.FoldLemmas.{updated_weaker}
 use Rattle.raft_progress.proofs.progress.vec_progress.VecProgressProgress.increase_to.Goals as goal
 
 pub returns : goal.returns

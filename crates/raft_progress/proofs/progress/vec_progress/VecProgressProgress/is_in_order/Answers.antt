@@ -5,9 +5,9 @@ use Rattle.std.specs.Map.{keys_of}
 use Rattle.raft_progress.specs.Inner.Recount.{IsGreatest, at_least}
 use Rattle.raft_progress.specs.Inner.Conditions.{ids_differ, never_rises}
 use Rattle.raft_progress.specs.progress.Walk.{state_of}
-use Rattle.raft_progress.proofs.CountedAfreshLemmas.{IsCounted-from_greatest}
-use Rattle.raft_progress.proofs.InOrderLemmas.{counted_once, counted_tied, distinct_from_test, equal_from_test, falling_from_test, lowest_from_test, test_from_distinct, test_from_falling, test_from_lowest}
-use Rattle.raft_progress.proofs.UpdateLemmas.{IsDistinct-voters}
+use Rattle.raft_progress.proofs.lemmas.progress.recount.CountedAfreshLemmas.{IsCounted-from_greatest}
+use Rattle.raft_progress.proofs.lemmas.progress.InOrderLemmas.{counted_once, counted_tied, distinct_from_test, equal_from_test, falling_from_test, lowest_from_test, test_from_distinct, test_from_falling, test_from_lowest}
+use Rattle.raft_progress.proofs.lemmas.progress.UpdateLemmas.{IsDistinct-voters}
 use Rattle.raft_progress.proofs.progress.vec_progress.VecProgressProgress.is_in_order.Goals as goal
 
 pub returns-then-not-is_ordered-clause-answer : goal.returns-then-not-is_ordered-clause-answer

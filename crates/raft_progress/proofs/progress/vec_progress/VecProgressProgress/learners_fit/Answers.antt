@@ -1,6 +1,6 @@
 use Rattle.std.proofs.Common.{sym, ◌∙◌, ap, ◌≡◌}
 use Rattle.raft_progress.specs.Inner.Conditions.{apart}
-use Rattle.raft_progress.proofs.LearnersFitLemmas.{apart_fits, fits_apart}
+use Rattle.raft_progress.proofs.lemmas.progress.upgrade.LearnersFitLemmas.{apart_fits, fits_apart}
 use Rattle.raft_progress.proofs.progress.vec_progress.VecProgressProgress.learners_fit.Goals as goal
 
 pub returns : goal.returns

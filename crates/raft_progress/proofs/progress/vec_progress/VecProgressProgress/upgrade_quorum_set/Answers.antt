@@ -3,11 +3,11 @@ use Rattle.std.specs.Map.{lookup}
 use Rattle.std.proofs.lemmas.List.{take_more, take_all}
 use Rattle.raft_progress.specs.progress.Shown.{Shown, state}
 use Rattle.raft_progress.specs.progress.Upgrade.{IsUpgraded}
-use Rattle.raft_progress.proofs.UpdateLemmas.{lookup_alike, unknown_same}
-use Rattle.raft_progress.proofs.FoldLemmas.{fold_counts, fold_learners, fold_more, fold_none, updated_weaker}
+use Rattle.raft_progress.proofs.lemmas.progress.UpdateLemmas.{lookup_alike, unknown_same}
+use Rattle.raft_progress.proofs.lemmas.progress.upgrade.FoldLemmas.{fold_counts, fold_learners, fold_more, fold_none, updated_weaker}
 use Rattle.raft_progress.specs.progress.InOrder.{IsInOrder}
 use Rattle.raft_progress.specs.progress.UpgradeFold.{IsFold}
-use Rattle.raft_progress.proofs.UpgradeLemmas.{not_seen, own_value, is_default, step, upgraded_none}
+use Rattle.raft_progress.proofs.lemmas.progress.upgrade.UpgradeLemmas.{not_seen, own_value, is_default, step, upgraded_none}
 use Rattle.raft_progress.specs.progress.VecProgress.{shown}
 use Rattle.raft_progress.proofs.progress.vec_progress.VecProgressProgress.upgrade_quorum_set.Goals as goal
 

@@ -1,6 +1,6 @@
 use Rattle.std.proofs.Common.{◌∙◌}
 use Rattle.raft_progress.specs.progress.VecProgress.{shown}
-use Rattle.raft_progress.proofs.MembershipProgressLemmas.{begins_over}
+use Rattle.raft_progress.proofs.lemmas.tracked.MembershipProgressLemmas.{begins_over}
 use Rattle.raft_progress.proofs.tracked.membership_progress.VecProgress+NID+V+P+Joint+NID+Vec+NID+Vec+Vec+NID.of.Goals as goal
 
 pub returns-clause-begins : goal.returns-clause-begins

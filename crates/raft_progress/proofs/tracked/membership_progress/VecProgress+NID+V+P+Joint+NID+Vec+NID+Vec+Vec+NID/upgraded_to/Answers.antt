@@ -6,8 +6,8 @@ use Rattle.raft_progress.specs.progress.Shown.{state}
 use Rattle.raft_progress.specs.progress.Upgrade.{CanUpgrade}
 use Rattle.raft_progress.specs.progress.VecProgress.{shown}
 use Rattle.raft_progress.specs.tracked.TrackedState.{AreLearners, is_voter}
-use Rattle.raft_progress.proofs.MembershipProgressLemmas.{fold_over, ready_over, upgraded_over}
-use Rattle.raft_progress.proofs.TrackedLemmas.{learners_of_fit}
+use Rattle.raft_progress.proofs.lemmas.tracked.MembershipProgressLemmas.{fold_over, ready_over, upgraded_over}
+use Rattle.raft_progress.proofs.lemmas.tracked.TrackedLemmas.{learners_of_fit}
 use Rattle.raft_progress.proofs.tracked.membership_progress.VecProgress+NID+V+P+Joint+NID+Vec+NID+Vec+Vec+NID.upgraded_to.Goals as goal
 
 pub upgrade_quorum_set-requires-clause-learners_fit : goal.upgrade_quorum_set-requires-clause-learners_fit

@@ -1,5 +1,5 @@
 use Rattle.std.proofs.Common.{rules}
-use Rattle.raft_script.proofs.TakenLemmas.{change_lacks, retain_lacks}
+use Rattle.raft_script.proofs.lemmas.command.TakenLemmas.{change_lacks, retain_lacks}
 use Rattle.raft_script.proofs.script.command.Words.change.Goals as goal
 
 pub returns-in_err-change-clause-bad_line : goal.returns-in_err-change-clause-bad_line

@@ -1,5 +1,5 @@
 use Rattle.std.proofs.Common.{rules, ◌≢◌, codes}
-use Rattle.raft_script.proofs.TakenLemmas.{no_name}
+use Rattle.raft_script.proofs.lemmas.command.TakenLemmas.{no_name}
 use Rattle.raft_script.proofs.script.command.Words.command.Goals as goal
 
 pub returns-in_default-clause-bad_line : goal.returns-in_default-clause-bad_line

@@ -2,7 +2,7 @@ use Rattle.std.proofs.Common.{rules, tests, ◌==◌, ◌-◌, List, ℕ, refl, 
 use Rattle.std.specs.Prelude.{not}
 use Rattle.std.proofs.lemmas.Iterator.{YieldsList-from_slice}
 use Rattle.std.proofs.lemmas.Iterator.Search.{position_from_yields_List}
-use Rattle.raft_script.proofs.WordLemmas.{no_words, one_word}
+use Rattle.raft_script.proofs.lemmas.command.WordLemmas.{no_words, one_word}
 use Rattle.raft_script.proofs.script.command.Words.next.Goals as goal
 
 pub returns-in_err-start : goal.returns-in_err-start

@@ -4,7 +4,7 @@ use Rattle.std.proofs.Common.{Some, ap, sym, ◌∙◌}
 use Rattle.std.proofs.lemmas.Result.{MatchResult-from_err}
 use Rattle.raft_progress.specs.tracked.Tracked.{tracked}
 use Rattle.raft_progress.specs.tracked.TrackedState.{tracked_state}
-use Rattle.raft_script.proofs.ReplyLemmas.{answered}
+use Rattle.raft_script.proofs.lemmas.ReplyLemmas.{answered}
 use Rattle.raft_script.proofs.script.engine.Engine.answer.Goals as goal
 
 pub returns-clause-ok : goal.returns-clause-ok

@@ -1,4 +1,4 @@
-use Rattle.raft_script.proofs.NewTrackedLemmas.{is_new}
+use Rattle.raft_script.proofs.lemmas.NewTrackedLemmas.{is_new}
 use Rattle.raft_script.proofs.script.engine.Engine.init.Goals as goal
 
 pub returns-clause-ok : goal.returns-clause-ok

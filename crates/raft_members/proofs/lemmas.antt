@@ -1,0 +1,3 @@
+pub mod quorum
+pub mod membership
+pub mod CloneLemmas

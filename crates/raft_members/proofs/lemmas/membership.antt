@@ -1,0 +1,12 @@
+pub mod AddedLemmas
+pub mod AscendingLemmas
+pub mod DefaultLemmas
+pub mod KeptLemmas
+pub mod LearnerLemmas
+pub mod MappedLemmas
+pub mod MissingLemmas
+pub mod NextLemmas
+pub mod ReachedLemmas
+pub mod ReplaceLemmas
+pub mod SaysLemmas
+pub mod UnionLemmas

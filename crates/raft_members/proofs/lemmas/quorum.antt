@@ -1,0 +1,5 @@
+pub mod AtLeastLemmas
+pub mod ChunkLemmas
+pub mod LeastLemmas
+pub mod MajorityLemmas
+pub mod MeetingLemmas

@@ -1,0 +1,6 @@
+pub mod progress
+pub mod tracked
+pub mod entry
+pub mod search
+pub mod catch_up
+pub mod ListLemmas

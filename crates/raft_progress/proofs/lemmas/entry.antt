@@ -1,0 +1,3 @@
+pub mod AckLemmas
+pub mod EntryLemmas
+pub mod LateReplyLemmas

@@ -1,0 +1,19 @@
+pub mod upgrade
+pub mod walk
+pub mod recount
+pub mod CallStepLemmas
+pub mod CloneLemmas
+pub mod GrantedLemmas
+pub mod InOrderLemmas
+pub mod KeptLemmas
+mod LentLemmas
+pub mod NewProgressLemmas
+pub mod OutcomeLemmas
+pub mod RefusalLemmas
+pub mod RunLemmas
+pub mod SettledLemmas
+pub mod StatisticsLemmas
+pub mod StepLemmas
+pub mod ThresholdLemmas
+pub mod Traits
+pub mod UpdateLemmas

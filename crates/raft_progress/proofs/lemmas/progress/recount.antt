@@ -1,0 +1,3 @@
+pub mod CountedAfreshLemmas
+pub mod CountedValueLemmas
+pub mod RecountLemmas

@@ -1,0 +1,4 @@
+pub mod BelowLemmas
+pub mod FoldLemmas
+pub mod LearnersFitLemmas
+pub mod UpgradeLemmas

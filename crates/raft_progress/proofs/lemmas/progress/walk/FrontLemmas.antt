@@ -1,0 +1,158 @@
+-- Fronts of the voters.
+use Rattle.std.specs.Prelude.{◌≡◌, ℕ, ◌+◌, ◌-◌, ◌/◌, ◌^◌, ◌<◌, ◌≤◌, Bool, true, false, ◌||◌, Some, None, List, [], ◌∷◌, length, min, take}
+use Rattle.std.specs.Cmp.{IsEquivalence}
+use Rattle.std.specs.List.{IsDistinct}
+use Rattle.std.specs.Map.{keys_of}
+use Rattle.std.specs.Set.{is_member}
+use Rattle.std.proofs.Common.{arith, ap, sym, refl, ◌∙◌, subst, true≢false, suc, zero}
+use Rattle.std.proofs.Math.Nat.{two-pow-succ}
+use Rattle.raft_progress.specs.Inner.Recount.{front_test}
+use Rattle.raft_progress.specs.Inner.Rises.{IsLeastFront}
+use Rattle.raft_progress.proofs.lemmas.progress.UpdateLemmas.{IsDistinct-voters}
+
+module _ {ID V : Type 0} (eq : ID → ID → Bool) where
+  -- a longer front has the members of a shorter one
+  pub front_grows : (voters : List (ID × V)) (k n : ℕ) → k ≤ n → (x : ID) → is_member eq (keys_of (take k voters)) x ≡ true → is_member eq (keys_of (take n voters)) x ≡ true
+  front_grows voters zero n l x m = absurd (true≢false (sym m))
+  front_grows voters (suc k) zero l x m = absurd (omega arith)
+  front_grows [] (suc k) (suc n) l x m = m
+  front_grows (e ∷ es) (suc k) (suc n) l x m = by (eq x e.0) m (front_grows es k n (omega arith) x)
+    where
+      by : (b : Bool) → (b || is_member eq (keys_of (take k es)) x) ≡ true → (is_member eq (keys_of (take k es)) x ≡ true → is_member eq (keys_of (take n es)) x ≡ true) → (b || is_member eq (keys_of (take n es)) x) ≡ true
+      by true i r = refl
+      by false i r = r i
+
+  -- no front of one that isn't a quorum is a quorum
+  pub front_fails : (is_quorum : (ID → Bool) → Bool) (superset : (s t : ID → Bool) → ((x : ID) → s x ≡ true → t x ≡ true) → is_quorum s ≡ true → is_quorum t ≡ true) (voters : List (ID × V)) (k n : ℕ) → k ≤ n → front_test eq is_quorum voters n ≡ false → front_test eq is_quorum voters k ≡ false
+  front_fails is_quorum superset voters k n l f = by (front_test eq is_quorum voters k) refl
+    where
+      by : (b : Bool) → front_test eq is_quorum voters k ≡ b → b ≡ false
+      by false e = refl
+      by true e = absurd (true≢false (sym (superset (is_member eq (keys_of (take k voters))) (is_member eq (keys_of (take n voters))) (front_grows voters k n l) e) ∙ f))
+
+-- a number that isn't zero loses a binary digit by halving
+fewer_digits : (left j : ℕ) → 1 ≤ left → left < 2 ^ j → (i : ℕ) × (j ≡ suc i) × (left / 2 < 2 ^ i)
+fewer_digits left zero one l = absurd (omega arith)
+fewer_digits left (suc i) one l = let e = two-pow-succ i in (i, refl, omega arith)
+
+module _ {ID V : Type 0} (eq : ID → ID → Bool) (is_quorum : (ID → Bool) → Bool) (voters : List (ID × V)) (low high : ℕ) where
+  -- no front up to `failed` is a quorum, and where a test has passed, the front directly past `end` is; between these at most `left` fronts are left, and for each that halving leaves a test of a front may still be made
+  pub record Halves (failed end left tests : ℕ) : Type 0 where
+    pub fails : (k : ℕ) → low < k → k ≤ failed → front_test eq is_quorum voters k ≡ false
+    pub above : low ≤ failed
+    pub within : end ≤ high
+    pub covers : end ≤ failed + left
+    pub holds : end < high → front_test eq is_quorum voters (end + 1) ≡ true
+    pub exceeds : end < high → low ≤ end
+    pub tested : end < high → 1 ≤ tests
+    pub few : (k : ℕ) → length voters < 2 ^ k → (j : ℕ) × (tests + j ≡ k) × (left < 2 ^ j)
+
+  -- before the first test
+  pub halves_none : high ≤ length voters → Halves low high (length voters) 0
+  halves_none fits = record {
+    fails = λ k l m. absurd (omega arith);
+    above = omega arith;
+    within = omega arith;
+    covers = omega arith;
+    holds = λ l. absurd (omega arith);
+    exceeds = λ l. absurd (omega arith);
+    tested = λ l. absurd (omega arith);
+    few = λ k l. (k, omega arith, l);
+  }
+
+  module _ (failed end left tests : ℕ) (h : Halves failed end left tests) where
+    -- at most 64 tests are made, since a length has at most 64 binary digits
+    pub tests_fit : length voters < 2 ^ 64 → tests ≤ 64
+    tests_fit l = let q = h.few 64 l in let e = q.1 in omega arith
+
+    few_more : failed < end → (k : ℕ) → length voters < 2 ^ k → (j : ℕ) × (tests + 1 + j ≡ k) × (left / 2 < 2 ^ j)
+    few_more goes k l =
+        let q = h.few k l in
+        let c = h.covers in
+        let f = fewer_digits left q.0 (omega arith) q.2 in
+        let e = q.1 in
+        let d = f.1 in
+        (f.0, omega arith, f.2)
+
+    module _ (goes : failed < end) (front : ℕ) (is : front ≡ failed + 1 + min (left / 2) (end - failed - 1)) where
+      -- the front that was tested is a quorum
+      pub halves_passed : front_test eq is_quorum voters front ≡ true → Halves failed (front - 1) (left / 2) (tests + 1)
+      halves_passed passed =
+          let a = h.above in
+          let w = h.within in
+          let same : front - 1 + 1 ≡ front = omega arith in
+          record {
+            fails = h.fails;
+            above = a;
+            within = omega arith;
+            covers = omega arith;
+            holds = λ l. ap (front_test eq is_quorum voters) same ∙ passed;
+            exceeds = λ l. omega arith;
+            tested = λ l. omega arith;
+            few = few_more goes;
+          }
+
+      -- the front that was tested is no quorum
+      pub halves_failed : (superset : (s t : ID → Bool) → ((x : ID) → s x ≡ true → t x ≡ true) → is_quorum s ≡ true → is_quorum t ≡ true) → front_test eq is_quorum voters front ≡ false → Halves front end (left / 2) (tests + 1)
+      halves_failed superset missed =
+          let a = h.above in
+          let c = h.covers in
+          record {
+            fails = λ k l m. front_fails eq is_quorum superset voters k front m missed;
+            above = omega arith;
+            within = h.within;
+            covers = omega arith;
+            holds = h.holds;
+            exceeds = h.exceeds;
+            tested = λ l. omega arith;
+            few = few_more goes;
+          }
+
+    -- no front is left
+    module _ (over : end ≤ failed) where
+      few_all : (k : ℕ) → length voters < 2 ^ k → tests ≤ k
+      few_all k l = let q = h.few k l in let e = q.1 in omega arith
+
+      pub halves_found : end < high → IsLeastFront eq is_quorum voters low high (Some (end + 1)) tests
+      halves_found some = record {
+        none = λ e. cc;
+        above = λ k e. let same : end + 1 ≡ k = cc in let q = h.exceeds some in omega arith;
+        within = λ k e. let same : end + 1 ≡ k = cc in omega arith;
+        holds = λ k e. let same : end + 1 ≡ k = cc in ap (front_test eq is_quorum voters) (sym same) ∙ h.holds some;
+        least = λ k l e m n. let same : end + 1 ≡ k = cc in h.fails l m (omega arith);
+        tested = λ k e. h.tested some;
+        few = few_all;
+      }
+
+      pub halves_missed : high ≤ end → IsLeastFront eq is_quorum voters low high None tests
+      halves_missed all = record {
+        none = λ e k l m. h.fails k l (omega arith);
+        above = λ k e. cc;
+        within = λ k e. cc;
+        holds = λ k e. cc;
+        least = λ k l e. cc;
+        tested = λ k e. cc;
+        few = few_all;
+      }
+
+-- the first of the ids that were gathered
+front_of : {ID V : Type 0} (voters : List (ID × V)) (room : List ID) (high k : ℕ) → k ≤ high → take high room ≡ keys_of (take high voters) → take k room ≡ keys_of (take k voters)
+front_of voters room high k l is = sym (take_take room k high l) ∙ ap (take k) is ∙ keys_shorter voters k high l
+  where
+    take_take : {X : Type 0} (xs : List X) (k n : ℕ) → k ≤ n → take k (take n xs) ≡ take k xs
+    take_take xs zero n l = refl
+    take_take xs (suc k) zero l = absurd (omega arith)
+    take_take [] (suc k) (suc n) l = refl
+    take_take (x ∷ xs) (suc k) (suc n) l = ap (λ ys. x ∷ ys) (take_take xs k n (omega arith))
+
+    keys_shorter : {ID V : Type 0} (es : List (ID × V)) (k n : ℕ) → k ≤ n → take k (keys_of (take n es)) ≡ keys_of (take k es)
+    keys_shorter es zero n l = refl
+    keys_shorter es (suc k) zero l = absurd (omega arith)
+    keys_shorter [] (suc k) (suc n) l = refl
+    keys_shorter (e ∷ es) (suc k) (suc n) l = ap (λ ks. e.0 ∷ ks) (keys_shorter es k n (omega arith))
+
+-- a test of the first of the ids that were gathered is a test of that front
+pub front_tested : {ID V : Type 0} {eq : ID → ID → Bool} (laws : IsEquivalence eq) (is_quorum : (ID → Bool) → Bool) (voters : List (ID × V)) (distinct : IsDistinct eq (keys_of voters)) (room : List ID) (high k : ℕ) (l : k ≤ high) (gathered : take high room ≡ keys_of (take high voters)) (answer : Bool) (tells : IsDistinct eq (take k room) → answer ≡ is_quorum (is_member eq (take k room))) → answer ≡ front_test eq is_quorum voters k
+front_tested {eq = eq} laws is_quorum voters distinct room high k l gathered answer tells =
+    let front = front_of voters room high k l gathered in
+    tells (subst (IsDistinct eq) (sym front) (IsDistinct-voters laws k voters distinct)) ∙ ap (λ ks. is_quorum (is_member eq ks)) front

@@ -1,0 +1,5 @@
+pub mod HalvingLemmas
+pub mod PotentialLemmas
+pub mod PurgedLemmas
+pub mod SearchKeepsLemmas
+pub mod SearchLemmas

@@ -1,0 +1,10 @@
+pub mod ChangeLemmas
+pub mod ElectedLemmas
+pub mod HeadlineLemmas
+pub mod KnownLemmas
+pub mod KnownStaysLemmas
+pub mod MembershipProgressLemmas
+pub mod ReadyLemmas
+pub mod TrackedCallLemmas
+pub mod TrackedCloneLemmas
+pub mod TrackedLemmas

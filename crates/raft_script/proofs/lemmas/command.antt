@@ -1,0 +1,4 @@
+pub mod ListLemmas
+pub mod NumberLemmas
+pub mod TakenLemmas
+pub mod WordLemmas

@@ -1,0 +1,2 @@
+pub mod CatchUpLemmas
+pub mod RoundLemmas

@@ -1,0 +1,3 @@
+pub mod AppendedLemmas
+pub mod InstallLemmas
+pub mod TruncateLemmas

@@ -1,0 +1,15 @@
+pub mod AppendLemmas
+pub mod CutLemmas
+pub mod EndsLemmas
+pub mod EqualLemmas
+pub mod ExtendLemmas
+pub mod FrontLemmas
+pub mod FullLogLemmas
+pub mod KeptLemmas
+pub mod KeyListLemmas
+pub mod LastTwoLemmas
+pub mod ListLemmas
+pub mod LoggedLemmas
+pub mod OrderLemmas
+pub mod SameEditsLemmas
+pub mod SameLogLemmas
