@@ -28,6 +28,7 @@ all_weaker P Q h [] a = tt
 all_weaker P Q h (x ∷ xs) a = (h x a.0, all_weaker P Q h xs a.1)
 
 -- a search from the other side finds the same
-pub member_flipped : {ID : Type 0} {eq : ID → ID → Bool} → IsEquivalence eq → (xs : List ID) (k : ID) → list_any (λ y. eq y k) xs ≡ is_member eq xs k
+pub member_flipped : {ID : Type 0} {eq : ID → ID → Bool} → IsEquivalence eq → (xs : List ID) (k : ID)
+    → list_any (λ y. eq y k) xs ≡ is_member eq xs k
 member_flipped laws [] k = refl
 member_flipped laws (x ∷ xs) k = rw (laws.symm x k, member_flipped laws xs k) refl

@@ -19,24 +19,28 @@ module _ {K : Type 0} {cmp : K → K → Ordering} (o : IsTotalOrder cmp) where
   insert_last : (ks rest : List K) (k : K) → IsStrictlySortedBy cmp (ks ++ k ∷ rest) → insert_key cmp ks k ≡ ks ++ k ∷ []
   insert_last [] rest k s = refl
   insert_last (x ∷ xs) rest k s =
-      let g : cmp k x ≡ Greater = o.antisymm k x ∙ ap ordering_reverse (middle (λ y. cmp x y ≡ Less) xs rest k (sorted_head cmp x (xs ++ k ∷ rest) s)) in
+      let g : cmp k x ≡ Greater = o.antisymm k x
+          ∙ ap ordering_reverse (middle (λ y. cmp x y ≡ Less) xs rest k (sorted_head cmp x (xs ++ k ∷ rest) s)) in
       rw g (ap (λ ys. x ∷ ys) (insert_last xs rest k (sorted_tail cmp x (xs ++ k ∷ rest) s)))
 
   -- one more key of a sorted list is inserted
-  pub insert_ahead : (all ks ahead rest : List K) (k : K) → IsStrictlySortedBy cmp all → all ≡ ks ++ ahead → ahead ≡ k ∷ rest → all ≡ insert_key cmp ks k ++ rest
+  pub insert_ahead : (all ks ahead rest : List K) (k : K) → IsStrictlySortedBy cmp all → all ≡ ks ++ ahead → ahead ≡ k ∷ rest
+      → all ≡ insert_key cmp ks k ++ rest
   insert_ahead all ks ahead rest k s e f =
       let whole : all ≡ ks ++ k ∷ rest = e ∙ ap (λ ys. ks ++ ys) f in
       let P : List K → Type 0 = IsStrictlySortedBy cmp in
       whole ∙ sym (append_assoc ks (k ∷ []) rest) ∙ ap (λ ys. ys ++ rest) (sym (insert_last ks rest k (rw whole at s)))
 
 -- a key below all others goes to the front
-insert_first : {K : Type 0} (cmp : K → K → Ordering) (front ks : List K) (k : K) → IsStrictlySortedBy cmp (front ++ k ∷ ks) → insert_key cmp ks k ≡ k ∷ ks
+insert_first : {K : Type 0} (cmp : K → K → Ordering) (front ks : List K) (k : K) → IsStrictlySortedBy cmp (front ++ k ∷ ks)
+    → insert_key cmp ks k ≡ k ∷ ks
 insert_first cmp [] [] k s = refl
 insert_first cmp [] (x ∷ xs) k s = rw (sorted_head cmp k (x ∷ xs) s).0 refl
 insert_first cmp (f ∷ front) ks k s = insert_first cmp front ks k (sorted_tail cmp f (front ++ k ∷ ks) s)
 
 -- the last key ahead in a sorted list is inserted
-pub insert_behind : {K : Type 0} (cmp : K → K → Ordering) (all ahead ks rest : List K) (k : K) → IsStrictlySortedBy cmp all → all ≡ ahead ++ ks → ahead ≡ rest ++ k ∷ [] → all ≡ rest ++ insert_key cmp ks k
+pub insert_behind : {K : Type 0} (cmp : K → K → Ordering) (all ahead ks rest : List K) (k : K) → IsStrictlySortedBy cmp all
+    → all ≡ ahead ++ ks → ahead ≡ rest ++ k ∷ [] → all ≡ rest ++ insert_key cmp ks k
 insert_behind cmp all ahead ks rest k s e f =
     let whole : all ≡ rest ++ k ∷ ks = e ∙ ap (λ ys. ys ++ ks) f ∙ append_assoc rest (k ∷ []) ks in
     whole ∙ ap (λ ys. rest ++ ys) (sym (insert_first cmp rest ks k (subst (IsStrictlySortedBy cmp) whole s)))

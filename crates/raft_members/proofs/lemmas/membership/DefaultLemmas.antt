@@ -23,7 +23,8 @@ module _ {N : Type 0} (is_default : N → Type 0) where
   kept_asked None (Some d) false h w = cc
   kept_asked None None v h w = cc
 
-  made_asked : (a o : Option N) (v : Bool) (d : N) → is_some o ≡ false → is_default d → WithDefault is_default a v o → WithDefault is_default a (v || true) (Some d)
+  made_asked : (a o : Option N) (v : Bool) (d : N) → is_some o ≡ false → is_default d → WithDefault is_default a v o
+      → WithDefault is_default a (v || true) (Some d)
   made_asked (Some n) o v d h p w = let c = ap is_some w in cc
   made_asked None o true d h p w = p
   made_asked None o false d h p w = p
@@ -32,26 +33,39 @@ module _ {N : Type 0} (is_default : N → Type 0) where
   or_false true = refl
   or_false false = refl
 
-  module _ {K : Type 0} {eq : K → K → Bool} {cmp : K → K → Ordering} (o : IsTotalOrder cmp) (ties : (x y : K) → eq x y ≡ eq_by_cmp cmp x y) (es : List (K × N)) (a : Option N) (ids : List K) (i : ℕ) (x : K) (h : i < length ids) (is : x ≡ get_or ids i x) (q : K) where
+  module _ {K : Type 0} {eq : K → K → Bool} {cmp : K → K → Ordering} (o : IsTotalOrder cmp) (ties : (x y : K) → eq x y ≡ eq_by_cmp cmp x y)
+      (es : List (K × N)) (a : Option N) (ids : List K) (i : ℕ) (x : K) (h : i < length ids) (is : x ≡ get_or ids i x) (q : K) where
     -- the ids up to one more have what those before it have, and itself
     one_more : (is_member eq (take i ids) q || is_at (cmp q) x) ≡ is_member eq (take (i + 1) ids) q
     one_more = sym (any_more (eq q) ids i x h (sym is) ∙ ap (λ b. is_member eq (take i ids) q || b) (ties q x))
 
-    there_by : (v b : Bool) → is_at (cmp q) x ≡ b → is_some (lookup (is_at (cmp x)) es) ≡ true → WithDefault is_default a v (lookup (is_at (cmp q)) es) → WithDefault is_default a (v || b) (lookup (is_at (cmp q)) es)
+    there_by : (v b : Bool) → is_at (cmp q) x ≡ b → is_some (lookup (is_at (cmp x)) es) ≡ true
+        → WithDefault is_default a v (lookup (is_at (cmp q)) es) → WithDefault is_default a (v || b) (lookup (is_at (cmp q)) es)
     there_by v true e t w = kept_asked a (lookup (is_at (cmp q)) es) v (ap is_some (alike_at o es q x e) ∙ t) w
     there_by v false e t w = subst (λ (b : Bool). WithDefault is_default a b (lookup (is_at (cmp q)) es)) (or_false v) w
 
     -- an id that has a node keeps it
-    pub default_there : is_some (lookup (is_at (cmp x)) es) ≡ true → WithDefault is_default a (is_member eq (take i ids) q) (lookup (is_at (cmp q)) es) → WithDefault is_default a (is_member eq (take (i + 1) ids) q) (lookup (is_at (cmp q)) es)
+    pub default_there : is_some (lookup (is_at (cmp x)) es) ≡ true
+        → WithDefault is_default a (is_member eq (take i ids) q) (lookup (is_at (cmp q)) es)
+        → WithDefault is_default a (is_member eq (take (i + 1) ids) q) (lookup (is_at (cmp q)) es)
     default_there t w =
-        subst (λ (b : Bool). WithDefault is_default a b (lookup (is_at (cmp q)) es)) one_more (there_by (is_member eq (take i ids) q) (is_at (cmp q) x) refl t w)
+        subst (λ (b : Bool). WithDefault is_default a b (lookup (is_at (cmp q)) es)) one_more
+            (there_by (is_member eq (take i ids) q) (is_at (cmp q) x) refl t w)
 
-    made_by : (v b : Bool) (d : N) (n : Option N) → is_at (cmp q) x ≡ b → is_some (lookup (is_at (cmp x)) es) ≡ false → is_default d → n ≡ cond b (Some d) (lookup (is_at (cmp q)) es) → WithDefault is_default a v (lookup (is_at (cmp q)) es) → WithDefault is_default a (v || b) n
-    made_by v true d n e t p u w = subst (λ (m : Option N). WithDefault is_default a (v || true) m) (sym u) (made_asked a (lookup (is_at (cmp q)) es) v d (ap is_some (alike_at o es q x e) ∙ t) p w)
-    made_by v false d n e t p u w = subst (λ (m : Option N). WithDefault is_default a (v || false) m) (sym u) (subst (λ (b : Bool). WithDefault is_default a b (lookup (is_at (cmp q)) es)) (or_false v) w)
+    made_by : (v b : Bool) (d : N) (n : Option N) → is_at (cmp q) x ≡ b → is_some (lookup (is_at (cmp x)) es) ≡ false → is_default d
+        → n ≡ cond b (Some d) (lookup (is_at (cmp q)) es) → WithDefault is_default a v (lookup (is_at (cmp q)) es)
+        → WithDefault is_default a (v || b) n
+    made_by v true d n e t p u w = subst (λ (m : Option N). WithDefault is_default a (v || true) m) (sym u)
+        (made_asked a (lookup (is_at (cmp q)) es) v d (ap is_some (alike_at o es q x e) ∙ t) p w)
+    made_by v false d n e t p u w = subst (λ (m : Option N). WithDefault is_default a (v || false) m) (sym u)
+        (subst (λ (b : Bool). WithDefault is_default a b (lookup (is_at (cmp q)) es)) (or_false v) w)
 
     -- an id that has none gets a default one
-    pub default_made : (fs : List (K × N)) (d : N) → is_some (lookup (is_at (cmp x)) es) ≡ false → is_default d → ((k : K) → lookup (is_at (cmp k)) fs ≡ cond (is_at (cmp x) k) (Some d) (lookup (is_at (cmp k)) es)) → WithDefault is_default a (is_member eq (take i ids) q) (lookup (is_at (cmp q)) es) → WithDefault is_default a (is_member eq (take (i + 1) ids) q) (lookup (is_at (cmp q)) fs)
+    pub default_made : (fs : List (K × N)) (d : N) → is_some (lookup (is_at (cmp x)) es) ≡ false → is_default d
+        → ((k : K) → lookup (is_at (cmp k)) fs ≡ cond (is_at (cmp x) k) (Some d) (lookup (is_at (cmp k)) es))
+        → WithDefault is_default a (is_member eq (take i ids) q) (lookup (is_at (cmp q)) es)
+        → WithDefault is_default a (is_member eq (take (i + 1) ids) q) (lookup (is_at (cmp q)) fs)
     default_made fs d t p u w =
         subst (λ (b : Bool). WithDefault is_default a b (lookup (is_at (cmp q)) fs)) one_more
-        (made_by (is_member eq (take i ids) q) (is_at (cmp q) x) d (lookup (is_at (cmp q)) fs) refl t p (u q ∙ ap (λ b. cond b (Some d) (lookup (is_at (cmp q)) es)) ((eq_by_cmp_equiv o).symm x q)) w)
+        (made_by (is_member eq (take i ids) q) (is_at (cmp q) x) d (lookup (is_at (cmp q)) fs) refl t p
+                (u q ∙ ap (λ b. cond b (Some d) (lookup (is_at (cmp q)) es)) ((eq_by_cmp_equiv o).symm x q)) w)

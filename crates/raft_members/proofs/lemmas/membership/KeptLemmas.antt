@@ -28,7 +28,9 @@ module _ {K N : Type 0} (same : N → N → Bool) where
   SameEntries (x ∷ xs) (y ∷ ys) = (x.0 ≡ y.0) × (same x.1 y.1 ≡ true) × SameEntries xs ys
 
   -- a query finds equal values
-  look_step : (t : K → Bool) (x y : K × N) (xs ys : List (K × N)) (b : Bool) → t x.0 ≡ b → x.0 ≡ y.0 → same x.1 y.1 ≡ true → IsTrue (option_eq same (lookup t xs) (lookup t ys)) → IsTrue (option_eq same (cond (t x.0) (Some x.1) (lookup t xs)) (cond (t y.0) (Some y.1) (lookup t ys)))
+  look_step : (t : K → Bool) (x y : K × N) (xs ys : List (K × N)) (b : Bool) → t x.0 ≡ b → x.0 ≡ y.0 → same x.1 y.1 ≡ true
+      → IsTrue (option_eq same (lookup t xs) (lookup t ys))
+      → IsTrue (option_eq same (cond (t x.0) (Some x.1) (lookup t xs)) (cond (t y.0) (Some y.1) (lookup t ys)))
   look_step t x y xs ys true e k s r = rw (← k, e) s
   look_step t x y xs ys false e k s r = rw (← k, e) r
 
@@ -45,7 +47,8 @@ module _ {K N : Type 0} (same : N → N → Bool) where
 
   module _ {cmp : K → K → Ordering} (o : IsTotalOrder cmp) where
     -- an entry above all others goes to the end
-    pub same_insert : (xs ys : List (K × N)) (k : K) (v w : N) → SameEntries xs ys → AllBelow cmp k ys → same v w ≡ true → SameEntries (insert_entry cmp xs k v) (ys ++ (k, w) ∷ [])
+    pub same_insert : (xs ys : List (K × N)) (k : K) (v w : N) → SameEntries xs ys → AllBelow cmp k ys → same v w ≡ true
+        → SameEntries (insert_entry cmp xs k v) (ys ++ (k, w) ∷ [])
     same_insert [] [] k v w s b e = (refl, e, tt)
     same_insert [] (y ∷ ys) k v w s b e = absurd s
     same_insert (x ∷ xs) [] k v w s b e = absurd s
@@ -54,53 +57,70 @@ module _ {K N : Type 0} (same : N → N → Bool) where
         rw g (s.0, s.1, same_insert xs ys k v w s.2 b.1 e)
 
   -- an entry below all others goes to the front
-  pub same_first : (cmp : K → K → Ordering) (front xs ys : List (K × N)) (k : K) (v w : N) → IsStrictlySortedBy cmp (keys_of (front ++ (k, w) ∷ ys)) → SameEntries xs ys → same v w ≡ true → SameEntries (insert_entry cmp xs k v) ((k, w) ∷ ys)
+  pub same_first : (cmp : K → K → Ordering) (front xs ys : List (K × N)) (k : K) (v w : N)
+      → IsStrictlySortedBy cmp (keys_of (front ++ (k, w) ∷ ys)) → SameEntries xs ys → same v w ≡ true
+      → SameEntries (insert_entry cmp xs k v) ((k, w) ∷ ys)
   same_first cmp [] [] [] k v w s t e = (refl, e, tt)
   same_first cmp [] [] (y ∷ ys) k v w s t e = absurd t
   same_first cmp [] (x ∷ xs) [] k v w s t e = absurd t
   same_first cmp [] (x ∷ xs) (y ∷ ys) k v w s t e =
       let below : cmp k x.0 ≡ Less = ap (cmp k) t.0 ∙ (sorted_head cmp k (keys_of (y ∷ ys)) s).0 in
       rw below (refl, e, t)
-  same_first cmp (f ∷ front) xs ys k v w s t e = same_first cmp front xs ys k v w (sorted_tail cmp f.0 (keys_of (front ++ (k, w) ∷ ys)) s) t e
+  same_first cmp (f ∷ front) xs ys k v w s t e =
+      same_first cmp front xs ys k v w (sorted_tail cmp f.0 (keys_of (front ++ (k, w) ∷ ys)) s) t e
 
   -- what a filter keeps stays below
-  below_one : (cmp : K → K → Ordering) (k : K) (x : K × N) (xs : List (K × N)) (b : Bool) → cmp x.0 k ≡ Less → AllBelow cmp k xs → AllBelow cmp k (cond b (x ∷ xs) xs)
+  below_one : (cmp : K → K → Ordering) (k : K) (x : K × N) (xs : List (K × N)) (b : Bool) → cmp x.0 k ≡ Less → AllBelow cmp k xs
+      → AllBelow cmp k (cond b (x ∷ xs) xs)
   below_one cmp k x xs true h t = (h, t)
   below_one cmp k x xs false h t = t
 
-  pub below_filter : (cmp : K → K → Ordering) (k : K) (p : K × N → Bool) (xs : List (K × N)) → AllBelow cmp k xs → AllBelow cmp k (filter p xs)
+  pub below_filter : (cmp : K → K → Ordering) (k : K) (p : K × N → Bool) (xs : List (K × N)) → AllBelow cmp k xs
+      → AllBelow cmp k (filter p xs)
   below_filter cmp k p [] h = tt
   below_filter cmp k p (x ∷ xs) h = below_one cmp k x (filter p xs) (p x) h.0 (below_filter cmp k p xs h.1)
 
-  head_below : (cmp : K → K → Ordering) (x : K × N) (xs ys : List (K × N)) (e : K × N) → AllByRecursion (λ y. cmp x.0 y ≡ Less) (keys_of (xs ++ e ∷ ys)) → cmp x.0 e.0 ≡ Less
+  head_below : (cmp : K → K → Ordering) (x : K × N) (xs ys : List (K × N)) (e : K × N)
+      → AllByRecursion (λ y. cmp x.0 y ≡ Less) (keys_of (xs ++ e ∷ ys)) → cmp x.0 e.0 ≡ Less
   head_below cmp x [] ys e h = h.0
   head_below cmp x (z ∷ xs) ys e h = head_below cmp x xs ys e h.1
 
   -- the entries before one in order are below it
-  pub below_from_sorted : (cmp : K → K → Ordering) (xs ys : List (K × N)) (e : K × N) → IsStrictlySortedBy cmp (keys_of (xs ++ e ∷ ys)) → AllBelow cmp e.0 xs
+  pub below_from_sorted : (cmp : K → K → Ordering) (xs ys : List (K × N)) (e : K × N) → IsStrictlySortedBy cmp (keys_of (xs ++ e ∷ ys))
+      → AllBelow cmp e.0 xs
   below_from_sorted cmp [] ys e h = tt
-  below_from_sorted cmp (x ∷ xs) ys e h = (head_below cmp x xs ys e (sorted_head cmp x.0 (keys_of (xs ++ e ∷ ys)) h), below_from_sorted cmp xs ys e (sorted_tail cmp x.0 (keys_of (xs ++ e ∷ ys)) h))
+  below_from_sorted cmp (x ∷ xs) ys e h =
+      (head_below cmp x xs ys e (sorted_head cmp x.0 (keys_of (xs ++ e ∷ ys)) h), below_from_sorted cmp xs ys e
+          (sorted_tail cmp x.0 (keys_of (xs ++ e ∷ ys)) h))
 
   front_step : (b : Bool) (x : K × N) (f g t : List (K × N)) → g ≡ f ++ t → cond b (x ∷ g) g ≡ cond b (x ∷ f) f ++ t
   front_step true x f g t h = ap (λ l. x ∷ l) h
   front_step false x f g t h = h
 
-  kept_front : (p : K × N → Bool) (xs : List (K × N)) (e : K × N) (b : Bool) → p e ≡ b → filter p (xs ++ e ∷ []) ≡ filter p xs ++ cond b (e ∷ []) []
+  kept_front : (p : K × N → Bool) (xs : List (K × N)) (e : K × N) (b : Bool) → p e ≡ b
+      → filter p (xs ++ e ∷ []) ≡ filter p xs ++ cond b (e ∷ []) []
   kept_front p [] e b h = ap (λ c. cond c (e ∷ []) []) h
   kept_front p (x ∷ xs) e b h = front_step (p x) x (filter p xs) (filter p (xs ++ e ∷ [])) (cond b (e ∷ []) []) (kept_front p xs e b h)
 
-  pub kept_in : {cmp : K → K → Ordering} → IsTotalOrder cmp → (p : K × N → Bool) (xs rest kept : List (K × N)) (k : K) (v w : N) → IsStrictlySortedBy cmp (keys_of (xs ++ (k, v) ∷ rest)) → true ≡ p (k, v) → same w v ≡ true → SameEntries kept (filter p xs) → SameEntries (insert_entry cmp kept k w) (filter p (xs ++ (k, v) ∷ []))
-  kept_in {cmp} o p xs rest kept k v w s h e t = rw (kept_front p xs (k, v) true (sym h)) (same_insert o kept (filter p xs) k w v t (below_filter cmp k p xs (below_from_sorted cmp xs rest (k, v) s)) e)
+  pub kept_in : {cmp : K → K → Ordering} → IsTotalOrder cmp → (p : K × N → Bool) (xs rest kept : List (K × N)) (k : K) (v w : N)
+      → IsStrictlySortedBy cmp (keys_of (xs ++ (k, v) ∷ rest)) → true ≡ p (k, v) → same w v ≡ true → SameEntries kept (filter p xs)
+      → SameEntries (insert_entry cmp kept k w) (filter p (xs ++ (k, v) ∷ []))
+  kept_in {cmp} o p xs rest kept k v w s h e t =
+      rw (kept_front p xs (k, v) true (sym h)) (same_insert o kept (filter p xs) k w v t
+          (below_filter cmp k p xs (below_from_sorted cmp xs rest (k, v) s)) e)
 
-  pub kept_out : (p : K × N → Bool) (xs kept : List (K × N)) (e : K × N) → false ≡ p e → SameEntries kept (filter p xs) → SameEntries kept (filter p (xs ++ e ∷ []))
+  pub kept_out : (p : K × N → Bool) (xs kept : List (K × N)) (e : K × N) → false ≡ p e → SameEntries kept (filter p xs)
+      → SameEntries kept (filter p (xs ++ e ∷ []))
   kept_out p xs kept e h t = rw (kept_front p xs e false (sym h), append-nil) t
 
 -- ids that are equal stay alike
-pub voter_alike : {K : Type 0} {e : K → K → Bool} → IsEquivalence e → (cs : List (List K)) (x y : K) → e x y ≡ true → is_voter_of e cs x ≡ is_voter_of e cs y
+pub voter_alike : {K : Type 0} {e : K → K → Bool} → IsEquivalence e → (cs : List (List K)) (x y : K) → e x y ≡ true
+    → is_voter_of e cs x ≡ is_voter_of e cs y
 voter_alike laws [] x y h = refl
 voter_alike laws (c ∷ cs) x y h = λ i. is_member-alike laws x y h c i || voter_alike laws cs x y h i
 
-pub same_stays : {K : Type 0} {e : K → K → Bool} → IsEquivalence e → (old new : List (List K)) (retain : Bool) (x y : K) → e x y ≡ true → keeps_node e old new retain x ≡ keeps_node e old new retain y
+pub same_stays : {K : Type 0} {e : K → K → Bool} → IsEquivalence e → (old new : List (List K)) (retain : Bool) (x y : K) → e x y ≡ true
+    → keeps_node e old new retain x ≡ keeps_node e old new retain y
 same_stays laws old new retain x y h = λ i. retain || (not (voter_alike laws old x y h i) || voter_alike laws new x y h i)
 
 -- the same keys with equal values are equal nodes
@@ -113,7 +133,8 @@ module _ {K N : Type 0} {eq : K → K → Bool} {same : N → N → Bool} (e : I
       both_true (both_true (rw h.0 (e.refl y.0)) (s.symm y.1 x.1 ∙ h.1)) (same_entries xs ys h.2)
 
 -- the same configs and equal nodes make equal memberships
-pub equal_members : {K N : Type 0} {eq : K → K → Bool} (same : N → N → Bool) → IsEquivalence eq → (m w : MemberList K N) → w.configs ≡ m.configs → IsTrue (same_nodes eq same m.nodes w.nodes) → IsTrue (same_members eq same m w)
+pub equal_members : {K N : Type 0} {eq : K → K → Bool} (same : N → N → Bool) → IsEquivalence eq → (m w : MemberList K N)
+    → w.configs ≡ m.configs → IsTrue (same_nodes eq same m.nodes w.nodes) → IsTrue (same_members eq same m w)
 equal_members same e m w c h = both_true (rw c ((lists_equiv (lists_equiv e)).refl m.configs)) h
 
 -- an item goes from what is ahead to what is done

@@ -25,33 +25,40 @@ module _ {X Y : Type 0} (f : X → Y) where
   list_all-map p (x ∷ xs) = ap (λ b. p (f x) && b) (list_all-map p xs)
 
   pub last-map : (xs : List X) (x : X) → Some x ≡ slice_get xs (length xs - 1) → slice_get (map f xs) (length (map f xs) - 1) ≡ Some (f x)
-  last-map xs x h = ap (λ n. slice_get (map f xs) (n - 1)) (length-map xs f) ∙ slice_get-map f xs (length xs - 1) ∙ ap (option_map f) (sym h)
+  last-map xs x h = ap (λ n. slice_get (map f xs) (n - 1)) (length-map xs f) ∙ slice_get-map f xs (length xs - 1)
+      ∙ ap (option_map f) (sym h)
 
   pub last_none-map : (xs : List X) → None ≡ slice_get xs (length xs - 1) → slice_get (map f xs) (length (map f xs) - 1) ≡ None
-  last_none-map xs h = ap (λ n. slice_get (map f xs) (n - 1)) (length-map xs f) ∙ slice_get-map f xs (length xs - 1) ∙ ap (option_map f) (sym h)
+  last_none-map xs h = ap (λ n. slice_get (map f xs) (n - 1)) (length-map xs f) ∙ slice_get-map f xs (length xs - 1)
+      ∙ ap (option_map f) (sym h)
 
-pub pointwise-map : {X Y : Type 0} (f : X → Y) (e : Y → Y → Bool) (xs ys : List X) → pointwise (λ x y. e (f x) (f y)) xs ys ≡ pointwise e (map f xs) (map f ys)
+pub pointwise-map : {X Y : Type 0} (f : X → Y) (e : Y → Y → Bool) (xs ys : List X)
+    → pointwise (λ x y. e (f x) (f y)) xs ys ≡ pointwise e (map f xs) (map f ys)
 pointwise-map f e [] [] = refl
 pointwise-map f e [] (y ∷ ys) = refl
 pointwise-map f e (x ∷ xs) [] = refl
 pointwise-map f e (x ∷ xs) (y ∷ ys) = ap (λ b. e (f x) (f y) && b) (pointwise-map f e xs ys)
 
 -- one more item of a list
-pub any_more : {X : Type 0} (p : X → Bool) (xs : List X) (i : ℕ) (d : X) → i < length xs → get_or xs i d ≡ d → list_any p (take (i + 1) xs) ≡ (list_any p (take i xs) || p d)
+pub any_more : {X : Type 0} (p : X → Bool) (xs : List X) (i : ℕ) (d : X) → i < length xs → get_or xs i d ≡ d
+    → list_any p (take (i + 1) xs) ≡ (list_any p (take i xs) || p d)
 any_more p xs i d h e =
-    ap (list_any p) (take_more xs i d h) ∙ list_any-append p (take i xs) (get_or xs i d ∷ []) ∙ ap (λ x. list_any p (take i xs) || (p x || false)) e ∙ ap (λ b. list_any p (take i xs) || b) (or_false (p d))
+    ap (list_any p) (take_more xs i d h) ∙ list_any-append p (take i xs) (get_or xs i d ∷ [])
+        ∙ ap (λ x. list_any p (take i xs) || (p x || false)) e ∙ ap (λ b. list_any p (take i xs) || b) (or_false (p d))
   where
     or_false : (b : Bool) → (b || false) ≡ b
     or_false true = refl
     or_false false = refl
 
 -- one more item is pushed
-pub map_pushed : {X Y B : Type 0} (f : X → B) (g : Y → B) (xs : List X) (ys : List Y) (i : ℕ) (x : X) (y : Y) → i < length xs → x ≡ get_or xs i x → map g ys ≡ map f (take i xs) → g y ≡ f x → map g (ys ++ y ∷ []) ≡ map f (take (i + 1) xs)
+pub map_pushed : {X Y B : Type 0} (f : X → B) (g : Y → B) (xs : List X) (ys : List Y) (i : ℕ) (x : X) (y : Y) → i < length xs
+    → x ≡ get_or xs i x → map g ys ≡ map f (take i xs) → g y ≡ f x → map g (ys ++ y ∷ []) ≡ map f (take (i + 1) xs)
 map_pushed f g xs ys i x y h is so_far here =
     map-append g ys (y ∷ []) ∙ (λ k. so_far k ++ here k ∷ []) ∙ ap (λ v. map f (take i xs) ++ f v ∷ []) is ∙ sym (map_more f xs i x h)
 
 -- the last config of some sets
-pub last_config-some : {K X : Type 0} (f : X → List K) (xs : List X) (x : X) → Some x ≡ slice_get xs (length xs - 1) → last_config (map f xs) ≡ f x
+pub last_config-some : {K X : Type 0} (f : X → List K) (xs : List X) (x : X) → Some x ≡ slice_get xs (length xs - 1)
+    → last_config (map f xs) ≡ f x
 last_config-some f xs x h = ap (λ o. unwrap_or o []) (last-map f xs x h)
 
 pub last_config-none : {K X : Type 0} (f : X → List K) (xs : List X) → None ≡ slice_get xs (length xs - 1) → last_config (map f xs) ≡ []

@@ -17,7 +17,8 @@ use Rattle.std.specs.List.Sorted.{IsStrictlySortedBy}
 use Rattle.std.specs.Set.{is_member}
 use Rattle.std.proofs.lemmas.Map.Keys.{sorted_head, sorted_tail}
 
-module _ {K : Type 0} {eq : K → K → Bool} {cmp : K → K → Ordering} (laws : IsEquivalence eq) (o : IsTotalOrder cmp) (ties : (x y : K) → eq x y ≡ eq_by_cmp cmp x y) where
+module _ {K : Type 0} {eq : K → K → Bool} {cmp : K → K → Ordering} (laws : IsEquivalence eq) (o : IsTotalOrder cmp)
+    (ties : (x y : K) → eq x y ≡ eq_by_cmp cmp x y) where
   not_below : (c : Ordering) → is_eq c ≡ true → is_lt c ≡ false
   not_below Less h = cc
   not_below Equal h = refl
@@ -27,7 +28,8 @@ module _ {K : Type 0} {eq : K → K → Bool} {cmp : K → K → Ordering} (laws
   greater_not_below k x h = let e : cmp k x ≡ Greater = o.antisymm k x ∙ ap ordering_reverse h in rw e refl
 
   -- a member of a list that is above x is not below x
-  above_step : (x y k : K) (ys : List K) (b : Bool) → eq k y ≡ b → cmp x y ≡ Less → (is_member eq ys k ≡ true → is_lt (cmp k x) ≡ false) → (b || is_member eq ys k) ≡ true → is_lt (cmp k x) ≡ false
+  above_step : (x y k : K) (ys : List K) (b : Bool) → eq k y ≡ b → cmp x y ≡ Less → (is_member eq ys k ≡ true → is_lt (cmp k x) ≡ false)
+      → (b || is_member eq ys k) ≡ true → is_lt (cmp k x) ≡ false
   above_step x y k ys true e h next m = ap is_lt (o.congr k y x (is_equal (cmp k y) (sym (ties k y) ∙ e))) ∙ greater_not_below y x h
   above_step x y k ys false e h next m = next m
 
@@ -36,19 +38,23 @@ module _ {K : Type 0} {eq : K → K → Bool} {cmp : K → K → Ordering} (laws
   above x k (y ∷ ys) h m = above_step x y k ys (eq k y) refl h.0 (above x k ys h.1) m
 
   module _ (known : K → Bool) (alike : (x y : K) → eq x y ≡ true → known x ≡ known y) where
-    none_step : (x k : K) (xs : List K) (b : Bool) → eq k x ≡ b → known x ≡ true → (is_member eq xs k ≡ true → known k ≡ true) → (b || is_member eq xs k) ≡ true → known k ≡ true
+    none_step : (x k : K) (xs : List K) (b : Bool) → eq k x ≡ b → known x ≡ true → (is_member eq xs k ≡ true → known k ≡ true)
+        → (b || is_member eq xs k) ≡ true → known k ≡ true
     none_step x k xs true e h next m = alike k x e ∙ h
     none_step x k xs false e h next m = next m
 
-    least_here : (x k : K) (xs : List K) (b : Bool) → eq k x ≡ b → AllByRecursion (λ y. cmp x y ≡ Less) xs → (b || is_member eq xs k) ≡ true → is_lt (cmp k x) ≡ false
+    least_here : (x k : K) (xs : List K) (b : Bool) → eq k x ≡ b → AllByRecursion (λ y. cmp x y ≡ Less) xs → (b || is_member eq xs k) ≡ true
+        → is_lt (cmp k x) ≡ false
     least_here x k xs true e h m = not_below (cmp k x) (sym (ties k x) ∙ e)
     least_here x k xs false e h m = above x k xs h m
 
-    least_later : (x k id : K) (xs : List K) (b : Bool) → eq k x ≡ b → known x ≡ true → known k ≡ false → (is_member eq xs k ≡ true → is_lt (cmp k id) ≡ false) → (b || is_member eq xs k) ≡ true → is_lt (cmp k id) ≡ false
+    least_later : (x k id : K) (xs : List K) (b : Bool) → eq k x ≡ b → known x ≡ true → known k ≡ false
+        → (is_member eq xs k ≡ true → is_lt (cmp k id) ≡ false) → (b || is_member eq xs k) ≡ true → is_lt (cmp k id) ≡ false
     least_later x k id xs true e h u next m = let c : known k ≡ true = alike k x e ∙ h in cc
     least_later x k id xs false e h u next m = next m
 
-    later : (x : K) (xs : List K) → known x ≡ true → (f : Option K) → FirstUnknown cmp (is_member eq xs) known f → FirstUnknown cmp (is_member eq (x ∷ xs)) known f
+    later : (x : K) (xs : List K) → known x ≡ true → (f : Option K) → FirstUnknown cmp (is_member eq xs) known f
+        → FirstUnknown cmp (is_member eq (x ∷ xs)) known f
     later x xs h None n = λ k m. none_step x k xs (eq k x) refl h (n k) m
     later x xs h (Some id) n = record {
       is_voter = right_true _ _ n.is_voter;
@@ -56,7 +62,9 @@ module _ {K : Type 0} {eq : K → K → Bool} {cmp : K → K → Ordering} (laws
       is_least = λ k m u. least_later x k id xs (eq k x) refl h u (λ m'. n.is_least k m' u) m;
     }
 
-    find_step : (x : K) (xs : List K) (b : Bool) → known x ≡ b → AllByRecursion (λ y. cmp x y ≡ Less) xs → FirstUnknown cmp (is_member eq xs) known (find (λ q. not (known q)) xs) → FirstUnknown cmp (is_member eq (x ∷ xs)) known (cond (not b) (Some x) (find (λ q. not (known q)) xs))
+    find_step : (x : K) (xs : List K) (b : Bool) → known x ≡ b → AllByRecursion (λ y. cmp x y ≡ Less) xs
+        → FirstUnknown cmp (is_member eq xs) known (find (λ q. not (known q)) xs)
+        → FirstUnknown cmp (is_member eq (x ∷ xs)) known (cond (not b) (Some x) (find (λ q. not (known q)) xs))
     find_step x xs true h a n = later x xs h _ n
     find_step x xs false h a n = record {
       is_voter = left_true _ _ (laws.refl x);
@@ -88,7 +96,8 @@ module _ {K : Type 0} {cmp : K → K → Ordering} (o : IsTotalOrder cmp) (v w k
   not_below_lower k x y Greater e h u = ap is_lt e
 
   -- what is not below y, which is not below x, is not below x
-  not_below_higher : (k x y : K) (c d : Ordering) → cmp k y ≡ c → cmp k x ≡ d → is_lt (cmp y x) ≡ false → is_lt (cmp k y) ≡ false → is_lt (cmp k x) ≡ false
+  not_below_higher : (k x y : K) (c d : Ordering) → cmp k y ≡ c → cmp k x ≡ d → is_lt (cmp y x) ≡ false → is_lt (cmp k y) ≡ false
+      → is_lt (cmp k x) ≡ false
   not_below_higher k x y Less d e f h u = let t = ap is_lt e in cc
   not_below_higher k x y Equal d e f h u = ap is_lt (o.congr k y x e) ∙ h
   not_below_higher k x y Greater Less e f h u =
@@ -98,7 +107,8 @@ module _ {K : Type 0} {cmp : K → K → Ordering} (o : IsTotalOrder cmp) (v w k
   not_below_higher k x y Greater Equal e f h u = ap is_lt f
   not_below_higher k x y Greater Greater e f h u = ap is_lt f
 
-  pick : (x y : K) (b : Bool) → is_lt (cmp y x) ≡ b → IsFirstUnknown cmp v known x → IsFirstUnknown cmp w known y → FirstUnknown cmp (λ k. v k || w k) known (cond b (Some y) (Some x))
+  pick : (x y : K) (b : Bool) → is_lt (cmp y x) ≡ b → IsFirstUnknown cmp v known x → IsFirstUnknown cmp w known y
+      → FirstUnknown cmp (λ k. v k || w k) known (cond b (Some y) (Some x))
   pick x y true h f g = record {
     is_voter = right_true _ _ g.is_voter;
     is_unknown = g.is_unknown;
@@ -107,10 +117,12 @@ module _ {K : Type 0} {cmp : K → K → Ordering} (o : IsTotalOrder cmp) (v w k
   pick x y false h f g = record {
     is_voter = left_true _ _ f.is_voter;
     is_unknown = f.is_unknown;
-    is_least = λ k m u. either _ (v k) (w k) (λ e. f.is_least k e u) (λ e. not_below_higher k x y (cmp k y) (cmp k x) refl refl h (g.is_least k e u)) m;
+    is_least = λ k m u. either _ (v k) (w k) (λ e. f.is_least k e u)
+        (λ e. not_below_higher k x y (cmp k y) (cmp k x) refl refl h (g.is_least k e u)) m;
   }
 
-  pub lesser_first : (a b : Option K) → FirstUnknown cmp v known a → FirstUnknown cmp w known b → FirstUnknown cmp (λ k. v k || w k) known (lesser cmp a b)
+  pub lesser_first : (a b : Option K) → FirstUnknown cmp v known a → FirstUnknown cmp w known b
+      → FirstUnknown cmp (λ k. v k || w k) known (lesser cmp a b)
   lesser_first None None f g = λ k m. either _ (v k) (w k) (f k) (g k) m
   lesser_first None (Some y) f g = record {
     is_voter = right_true _ _ g.is_voter;
@@ -126,14 +138,21 @@ module _ {K : Type 0} {cmp : K → K → Ordering} (o : IsTotalOrder cmp) (v w k
 
 -- ---- one more config
 
-module _ {K X : Type 0} {eq : K → K → Bool} {cmp : K → K → Ordering} (laws : IsEquivalence eq) (o : IsTotalOrder cmp) (ties : (x y : K) → eq x y ≡ eq_by_cmp cmp x y) (known : K → Bool) (alike : (x y : K) → eq x y ≡ true → known x ≡ known y) (f : X → List K) where
-  more_voters : (xs : List X) (i : ℕ) (x : X) → i < length xs → get_or xs i x ≡ x → (k : K) → (is_voter_of eq (map f (take i xs)) k || is_member eq (f x) k) ≡ is_voter_of eq (map f (take (i + 1) xs)) k
+module _ {K X : Type 0} {eq : K → K → Bool} {cmp : K → K → Ordering} (laws : IsEquivalence eq) (o : IsTotalOrder cmp)
+    (ties : (x y : K) → eq x y ≡ eq_by_cmp cmp x y) (known : K → Bool) (alike : (x y : K) → eq x y ≡ true → known x ≡ known y)
+    (f : X → List K) where
+  more_voters : (xs : List X) (i : ℕ) (x : X) → i < length xs → get_or xs i x ≡ x → (k : K)
+      → (is_voter_of eq (map f (take i xs)) k || is_member eq (f x) k) ≡ is_voter_of eq (map f (take (i + 1) xs)) k
   more_voters xs i x l e k =
       ap (λ b. b || is_member eq (f x) k) (list_any-map f (λ c. is_member eq c k) (take i xs))
       ∙ sym (any_more (λ y. is_member eq (f y) k) xs i x l e)
       ∙ sym (list_any-map f (λ c. is_member eq c k) (take (i + 1) xs))
 
-  pub one_more_first : (xs : List X) (i : ℕ) (x : X) (a : Option K) → i < length xs → get_or xs i x ≡ x → IsStrictlySortedBy cmp (f x) → FirstUnknown cmp (is_voter_of eq (map f (take i xs))) known a → FirstUnknown cmp (is_voter_of eq (map f (take (i + 1) xs))) known (lesser cmp a (find (λ q. not (known q)) (f x)))
+  pub one_more_first : (xs : List X) (i : ℕ) (x : X) (a : Option K) → i < length xs → get_or xs i x ≡ x → IsStrictlySortedBy cmp (f x)
+      → FirstUnknown cmp (is_voter_of eq (map f (take i xs))) known a
+      → FirstUnknown cmp (is_voter_of eq (map f (take (i + 1) xs))) known (lesser cmp a (find (λ q. not (known q)) (f x)))
   one_more_first xs i x a l e s h =
-      subst (λ (v : K → Bool). FirstUnknown cmp v known (lesser cmp a (find (λ q. not (known q)) (f x)))) (λ j k. more_voters xs i x l e k j)
-      (lesser_first o (is_voter_of eq (map f (take i xs))) (is_member eq (f x)) known a (find (λ q. not (known q)) (f x)) h (find_first laws o ties known alike (f x) s))
+      subst (λ (v : K → Bool). FirstUnknown cmp v known (lesser cmp a (find (λ q. not (known q)) (f x))))
+          (λ j k. more_voters xs i x l e k j)
+      (lesser_first o (is_voter_of eq (map f (take i xs))) (is_member eq (f x)) known a (find (λ q. not (known q)) (f x)) h
+              (find_first laws o ties known alike (f x) s))

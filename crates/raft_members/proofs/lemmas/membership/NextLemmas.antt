@@ -16,13 +16,15 @@ right_true false b h = h
 
 -- a list with an item has a last one
 pub has_last : {Q : Type 0} (d : Q) (cs : List Q) → 0 < length cs → slice_get cs (length cs - 1) ≡ None → ⊥
-has_last d cs n h = let g : slice_get cs (length cs - 1) ≡ Some (get_or cs (length cs - 1) d) = slice_get-get_or cs (length cs - 1) d (omega arith) in cc
+has_last d cs n h = let g : slice_get cs (length cs - 1) ≡ Some (get_or cs (length cs - 1) d) =
+    slice_get-get_or cs (length cs - 1) d (omega arith) in cc
 
 module _ {Q : Type 0} (eq : Q → Q → Bool) (cs : List Q) (goal : Q) where
   pub next_if_has : has_child eq cs goal ≡ true → next_children eq cs goal ≡ goal ∷ []
   next_if_has h = rw h refl
 
-  pub next_if_lacks : (c : Q) → has_child eq cs goal ≡ false → slice_get cs (length cs - 1) ≡ Some c → next_children eq cs goal ≡ c ∷ goal ∷ []
+  pub next_if_lacks : (c : Q) → has_child eq cs goal ≡ false → slice_get cs (length cs - 1) ≡ Some c
+      → next_children eq cs goal ≡ c ∷ goal ∷ []
   next_if_lacks c h e = rw (h, e) refl
 
   pub next_if_none : slice_get cs (length cs - 1) ≡ None → next_children eq cs goal ≡ goal ∷ []
@@ -37,7 +39,8 @@ module _ {Q : Type 0} {eq : Q → Q → Bool} (laws : IsEquivalence eq) where
   equal_right q x y h = laws.symm q x ∙ laws.congr x y q h ∙ laws.symm y q
 
   module _ (cs : List Q) (goal : Q) where
-    has_goal_by : (b : Bool) (k : Option Q) → has_child eq cs goal ≡ b → slice_get cs (length cs - 1) ≡ k → has_child eq (next_children eq cs goal) goal ≡ true
+    has_goal_by : (b : Bool) (k : Option Q) → has_child eq cs goal ≡ b → slice_get cs (length cs - 1) ≡ k
+        → has_child eq (next_children eq cs goal) goal ≡ true
     has_goal_by true k h l = rw (next_if_has eq cs goal h) (left_true _ _ (laws.refl goal))
     has_goal_by false None h l = rw (next_if_none eq cs goal l) (left_true _ _ (laws.refl goal))
     has_goal_by false (Some c) h l = rw (next_if_lacks eq cs goal c h l) (right_true _ _ (left_true _ _ (laws.refl goal)))
@@ -46,10 +49,12 @@ module _ {Q : Type 0} {eq : Q → Q → Bool} (laws : IsEquivalence eq) where
     pub next_has_goal : has_child eq (next_children eq cs goal) goal ≡ true
     next_has_goal = has_goal_by (has_child eq cs goal) (slice_get cs (length cs - 1)) refl refl
 
-    shares_by : (b : Bool) (k : Option Q) → has_child eq cs goal ≡ b → slice_get cs (length cs - 1) ≡ k → 0 < length cs → share_child eq (next_children eq cs goal) cs ≡ true
+    shares_by : (b : Bool) (k : Option Q) → has_child eq cs goal ≡ b → slice_get cs (length cs - 1) ≡ k → 0 < length cs
+        → share_child eq (next_children eq cs goal) cs ≡ true
     shares_by true k h l n = rw (next_if_has eq cs goal h) (left_true _ _ h)
     shares_by false None h l n = absurd (has_last goal cs n l)
-    shares_by false (Some c) h l n = rw (next_if_lacks eq cs goal c h l) (left_true _ _ (any_passes_from_place (λ d. eq d c) cs (length cs - 1) c l (laws.refl c)))
+    shares_by false (Some c) h l n = rw (next_if_lacks eq cs goal c h l)
+        (left_true _ _ (any_passes_from_place (λ d. eq d c) cs (length cs - 1) c l (laws.refl c)))
 
     -- the next children share one with the present ones
     pub next_shares : 0 < length cs → share_child eq (next_children eq cs goal) cs ≡ true

@@ -14,7 +14,8 @@ module _ {K : Type 0} {e : K → K → Bool} (laws : IsEquivalence e) where
   self_coherent [] h = absurd (omega arith)
   self_coherent (c ∷ cs) h = left_true _ _ (left_true _ _ ((lists_equiv laws).refl c))
 
-  module _ (cs ds : List (List K)) (voter reached : K → Bool) (granted : IsGranted e cs voter reached) (co : is_coherent e cs ds ≡ true) where
+  module _ (cs ds : List (List K)) (voter reached : K → Bool) (granted : IsGranted e cs voter reached)
+      (co : is_coherent e cs ds ≡ true) where
     reaches_by : VotersReached e cs voter reached → EachQuorumKnows e ds voter reached
     reaches_by (inl h) t q =
         let m = coherent_meet laws cs ds (λ k. voter k && reached k) t granted.respects_equality co h q in

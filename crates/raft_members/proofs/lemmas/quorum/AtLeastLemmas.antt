@@ -21,7 +21,8 @@ use Rattle.raft_members.specs.AtLeast.{IsAlike, ids_of, need_of}
 use Rattle.raft_members.specs.Majority.{has_at_least}
 use Rattle.raft_members.specs.declared.quorum.at_least.AtLeast.{AtLeast}
 use Rattle.raft_members.specs.Meeting.{AtLeastQuorumsMeet, NeedPastIdsHasNoQuorum, RespectsEquality, ShareMember}
-use Rattle.raft_members.proofs.lemmas.quorum.MajorityLemmas.{IsDistinct-filter, IsDistinct-unique_keys, count_by-is_member, flipped, is_member-unique_keys}
+use Rattle.raft_members.proofs.lemmas.quorum.MajorityLemmas.{IsDistinct-filter, IsDistinct-unique_keys, count_by-is_member, flipped,
+        is_member-unique_keys}
 use Rattle.raft_members.proofs.lemmas.quorum.MeetingLemmas.{shared}
 
 -- a test of a count against one less
@@ -33,7 +34,8 @@ share n a b k l h i j = omega arith
 
 module _ {K : Type 0} {eq : K → K → Bool} (laws : IsEquivalence eq) where
   -- distinct ids are a quorum if those of them that are among the voters are more than one less
-  pub at_least_count : (ids voters : List K) (need : ℕ) → 1 ≤ need → IsDistinct eq ids → ltb (need - 1) (count_by (λ x. list_any (λ y. eq y x) voters) ids) ≡ has_at_least eq voters need (is_member eq ids)
+  pub at_least_count : (ids voters : List K) (need : ℕ) → 1 ≤ need → IsDistinct eq ids
+      → ltb (need - 1) (count_by (λ x. list_any (λ y. eq y x) voters) ids) ≡ has_at_least eq voters need (is_member eq ids)
   at_least_count ids voters need p d =
       above need _ p ∙ ap (λ n. leb need n) (count_same ids ∙ count_by-is_member laws ids voters d)
     where
@@ -48,15 +50,21 @@ module _ {K : Type 0} {eq : K → K → Bool} (laws : IsEquivalence eq) where
       let m : ShareMember eq u s t = shared laws s t u (share (length u) (length (filter s u)) (length (filter t u)) need other n a b) in
       (m.0, sym (is_member-unique_keys laws ids m.0) ∙ m.1, m.2, m.3)
 
-module _ {K : Type 0} {eq : K → K → Bool} (laws : IsEquivalence eq) (kept given : List K) (same : (x : K) → is_member eq kept x ≡ is_member eq given x) where
+module _ {K : Type 0} {eq : K → K → Bool} (laws : IsEquivalence eq) (kept given : List K)
+    (same : (x : K) → is_member eq kept x ≡ is_member eq given x) where
   -- ascending ids are as many as any ids that are the same ones, equal ones counted once
-  pub ascending_count : (cmp : K → K → Ordering) → ((x y : K) → eq x y ≡ eq_by_cmp cmp x y) → IsStrictlySortedBy cmp kept → length kept ≡ distinct_count eq given
+  pub ascending_count : (cmp : K → K → Ordering) → ((x y : K) → eq x y ≡ eq_by_cmp cmp x y) → IsStrictlySortedBy cmp kept
+      → length kept ≡ distinct_count eq given
   ascending_count cmp ties ascending =
-      length-from_keys laws kept given (subst (λ (e : K → K → Bool). IsDistinct e kept) (λ i x y. sym (ties x y) i) (IsDistinct-from_sorted cmp kept ascending)) same
+      length-from_keys laws kept given (subst (λ (e : K → K → Bool). IsDistinct e kept) (λ i x y. sym (ties x y) i)
+              (IsDistinct-from_sorted cmp kept ascending)) same
 
   -- the same ids have the same quorums, in whatever order and however often they come
   pub same_quorums : (need : ℕ) (set : K → Bool) → RespectsEquality eq set → has_at_least eq kept need set ≡ has_at_least eq given need set
-  same_quorums need set respects = ap (λ n. leb need n) (sym (length-filter set (unique_keys eq kept)) ∙ length-from_same_keys laws (chosen kept) (chosen given) (distinct kept) (distinct given) (λ x. has kept x ∙ ap (λ b. b && set x) (same x) ∙ sym (has given x)) ∙ length-filter set (unique_keys eq given))
+  same_quorums need set respects = ap (λ n. leb need n)
+      (sym (length-filter set (unique_keys eq kept))
+          ∙ length-from_same_keys laws (chosen kept) (chosen given) (distinct kept) (distinct given)
+          (λ x. has kept x ∙ ap (λ b. b && set x) (same x) ∙ sym (has given x)) ∙ length-filter set (unique_keys eq given))
     where
       chosen : List K → List K
       chosen ids = filter set (unique_keys eq ids)
@@ -71,7 +79,9 @@ pub past_ids : {K : Type 0} (eq : K → K → Bool) → NeedPastIdsHasNoQuorum e
 past_ids eq ids need s n = lt-leb _ _ (omega (arith, count_by-le-length s (unique_keys eq ids)))
 
 -- a clone of a quorum set of a stated size is equal to it
-pub at_least_clones : {K : Type 0} {o : order_ghosts.Ghosts K} {e : eq_ghosts.Ghosts K} {q : partial_ghosts.Ghosts K} {eq : K → K → Bool} → IsEquivalence eq → (a b : AtLeast K o e q) → IsAlike a b → IsTrue (pointwise eq (ids_of a) (ids_of b) && nat_eq (need_of a) (need_of b))
+pub at_least_clones : {K : Type 0} {o : order_ghosts.Ghosts K} {e : eq_ghosts.Ghosts K} {q : partial_ghosts.Ghosts K} {eq : K → K → Bool}
+    → IsEquivalence eq → (a b : AtLeast K o e q) → IsAlike a b
+    → IsTrue (pointwise eq (ids_of a) (ids_of b) && nat_eq (need_of a) (need_of b))
 at_least_clones {eq = eq} laws a b h =
     both_true
     (subst (λ ids. IsTrue (pointwise eq (ids_of a) ids)) (sym h.0) ((lists_equiv laws).refl (ids_of a)))

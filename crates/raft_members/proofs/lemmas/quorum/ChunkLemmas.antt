@@ -16,7 +16,8 @@ module _ {X : Type 0} (p : X → Bool) (n : ℕ) where
       ap (λ m. drop m xs) e ∙ sym (drop-drop (k * n) n xs)
 
   -- an element passes where one in a chunk does, or one behind the chunks
-  list_any-first_chunks : (k : ℕ) (xs : List X) → (list_any (list_any p) (first_chunks n k xs) || list_any p (drop (k * n) xs)) ≡ list_any p xs
+  list_any-first_chunks : (k : ℕ) (xs : List X)
+      → (list_any (list_any p) (first_chunks n k xs) || list_any p (drop (k * n) xs)) ≡ list_any p xs
   list_any-first_chunks zero xs = ap (λ m. list_any p (drop m xs)) (zero-mul n)
   list_any-first_chunks (suc k) xs =
       or_assoc (list_any p (take n xs)) (list_any (list_any p) (first_chunks n k (drop n xs))) (list_any p (drop (suc k * n) xs))
@@ -26,7 +27,8 @@ module _ {X : Type 0} (p : X → Bool) (n : ℕ) where
       ∙ ap (list_any p) (take-append-drop n xs)
 
   -- from the answers over the chunks and over the rest, the answer over all
-  pub list_any-from_chunks : (k : ℕ) (xs : List X) (chunks : List (List X)) (rest : List X) (b : Bool) → chunks ≡ first_chunks n k xs → rest ≡ drop (k * n) xs → list_any (list_any p) chunks ≡ b → (b || list_any p rest) ≡ list_any p xs
+  pub list_any-from_chunks : (k : ℕ) (xs : List X) (chunks : List (List X)) (rest : List X) (b : Bool) → chunks ≡ first_chunks n k xs
+      → rest ≡ drop (k * n) xs → list_any (list_any p) chunks ≡ b → (b || list_any p rest) ≡ list_any p xs
   list_any-from_chunks k xs chunks rest b c r e =
       ap (λ a. a || list_any p rest) (sym e ∙ ap (list_any (list_any p)) c)
       ∙ ap (λ ys. list_any (list_any p) (first_chunks n k xs) || list_any p ys) r
@@ -39,5 +41,9 @@ module _ {X : Type 0} (p : X → Bool) where
   list_any-ends zero (suc k) xs l = absurd (omega arith)
   list_any-ends (suc n) zero [] l = refl
   list_any-ends (suc n) (suc k) [] l = refl
-  list_any-ends (suc n) zero (x ∷ xs) l = elim (p x) as (λ b. ((b || list_any p (take n xs)) || (b || list_any p xs)) ≡ (b || list_any p xs)) [ true ↦ refl | false ↦ list_any-ends n zero xs (omega arith) ]
-  list_any-ends (suc n) (suc k) (x ∷ xs) l = elim (p x) as (λ b. ((b || list_any p (take n xs)) || list_any p (drop k xs)) ≡ (b || list_any p xs)) [ true ↦ refl | false ↦ list_any-ends n k xs (omega arith) ]
+  list_any-ends (suc n) zero (x ∷ xs) l =
+      elim (p x) as (λ b. ((b || list_any p (take n xs)) || (b || list_any p xs)) ≡ (b || list_any p xs))
+      [ true ↦ refl | false ↦ list_any-ends n zero xs (omega arith) ]
+  list_any-ends (suc n) (suc k) (x ∷ xs) l =
+      elim (p x) as (λ b. ((b || list_any p (take n xs)) || list_any p (drop k xs)) ≡ (b || list_any p xs))
+      [ true ↦ refl | false ↦ list_any-ends n k xs (omega arith) ]

@@ -23,7 +23,9 @@ module _ {K : Type 0} {eq : K → K → Bool} (laws : IsEquivalence eq) where
   apart_from_absent x [] h = tt
   apart_from_absent x (y ∷ ys) h = by (eq x y) refl h (apart_from_absent x ys)
     where
-      by : (b : Bool) → eq x y ≡ b → (b || is_member eq ys x) ≡ false → (is_member eq ys x ≡ false → AllByRecursion (λ y. eq x y ≡ false) ys) → (eq x y ≡ false) × AllByRecursion (λ y. eq x y ≡ false) ys
+      by : (b : Bool) → eq x y ≡ b → (b || is_member eq ys x) ≡ false
+          → (is_member eq ys x ≡ false → AllByRecursion (λ y. eq x y ≡ false) ys)
+          → (eq x y ≡ false) × AllByRecursion (λ y. eq x y ≡ false) ys
       by true t g r = absurd (true≢false g)
       by false t g r = (t, r g)
 
@@ -31,7 +33,8 @@ module _ {K : Type 0} {eq : K → K → Bool} (laws : IsEquivalence eq) where
   is_member-unique_keys [] q = refl
   is_member-unique_keys (x ∷ xs) q = by (is_member eq xs x) (eq q x) refl refl (is_member-unique_keys xs q)
     where
-      by : (b c : Bool) → is_member eq xs x ≡ b → eq q x ≡ c → is_member eq (unique_keys eq xs) q ≡ is_member eq xs q → is_member eq (cond b (unique_keys eq xs) (x ∷ unique_keys eq xs)) q ≡ (c || is_member eq xs q)
+      by : (b c : Bool) → is_member eq xs x ≡ b → eq q x ≡ c → is_member eq (unique_keys eq xs) q ≡ is_member eq xs q
+          → is_member eq (cond b (unique_keys eq xs) (x ∷ unique_keys eq xs)) q ≡ (c || is_member eq xs q)
       by true true m t r = r ∙ is_member-alike q x t xs ∙ m
       by true false m t r = r
       by false c m t r = rw t (ap (λ v. c || v) r)
@@ -41,20 +44,24 @@ module _ {K : Type 0} {eq : K → K → Bool} (laws : IsEquivalence eq) where
   IsDistinct-unique_keys [] = tt
   IsDistinct-unique_keys (x ∷ xs) = by (is_member eq xs x) refl (IsDistinct-unique_keys xs)
     where
-      by : (b : Bool) → is_member eq xs x ≡ b → IsDistinct eq (unique_keys eq xs) → IsDistinct eq (cond b (unique_keys eq xs) (x ∷ unique_keys eq xs))
+      by : (b : Bool) → is_member eq xs x ≡ b → IsDistinct eq (unique_keys eq xs)
+          → IsDistinct eq (cond b (unique_keys eq xs) (x ∷ unique_keys eq xs))
       by true m r = r
       by false m r = (apart_from_absent x (unique_keys eq xs) (is_member-unique_keys xs x ∙ m), r)
 
-  all_filter : (x : K) (p : K → Bool) (xs : List K) → AllByRecursion (λ y. eq x y ≡ false) xs → AllByRecursion (λ y. eq x y ≡ false) (filter p xs)
+  all_filter : (x : K) (p : K → Bool) (xs : List K) → AllByRecursion (λ y. eq x y ≡ false) xs
+      → AllByRecursion (λ y. eq x y ≡ false) (filter p xs)
   all_filter x p [] a = tt
   all_filter x p (y ∷ ys) a =
-      elim (p y) as (λ b. AllByRecursion (λ z. eq x z ≡ false) (cond b (y ∷ filter p ys) (filter p ys))) [ true ↦ (a.0, all_filter x p ys a.1) | false ↦ all_filter x p ys a.1 ]
+      elim (p y) as (λ b. AllByRecursion (λ z. eq x z ≡ false) (cond b (y ∷ filter p ys) (filter p ys)))
+          [ true ↦ (a.0, all_filter x p ys a.1) | false ↦ all_filter x p ys a.1 ]
 
   pub IsDistinct-filter : (p : K → Bool) (xs : List K) → IsDistinct eq xs → IsDistinct eq (filter p xs)
   unfolding IsDistinct
   IsDistinct-filter p [] d = tt
   IsDistinct-filter p (x ∷ xs) d =
-      elim (p x) as (λ b. IsDistinct eq (cond b (x ∷ filter p xs) (filter p xs))) [ true ↦ (all_filter x p xs d.0, IsDistinct-filter p xs d.1) | false ↦ IsDistinct-filter p xs d.1 ]
+      elim (p x) as (λ b. IsDistinct eq (cond b (x ∷ filter p xs) (filter p xs)))
+          [ true ↦ (all_filter x p xs d.0, IsDistinct-filter p xs d.1) | false ↦ IsDistinct-filter p xs d.1 ]
 
   and_comm : (a b : Bool) → (a && b) ≡ (b && a)
   and_comm true true = refl
@@ -63,10 +70,12 @@ module _ {K : Type 0} {eq : K → K → Bool} (laws : IsEquivalence eq) where
   and_comm false false = refl
 
   -- the distinct ids that are voters are as many as the voters, each counted once, that are among the ids
-  pub count_by-is_member : (ids voters : List K) → IsDistinct eq ids → count_by (λ x. is_member eq voters x) ids ≡ count_by (is_member eq ids) (unique_keys eq voters)
+  pub count_by-is_member : (ids voters : List K) → IsDistinct eq ids
+      → count_by (λ x. is_member eq voters x) ids ≡ count_by (is_member eq ids) (unique_keys eq voters)
   count_by-is_member ids voters d =
       sym (length-filter (is_member eq voters) ids)
-      ∙ length-IsIntersection laws (unique_keys eq voters) ids (filter (is_member eq voters) ids) (IsDistinct-unique_keys voters) (IsDistinct-filter (is_member eq voters) ids d)
+      ∙ length-IsIntersection laws (unique_keys eq voters) ids (filter (is_member eq voters) ids) (IsDistinct-unique_keys voters)
+          (IsDistinct-filter (is_member eq voters) ids d)
       (λ q. is_member-filter laws (is_member eq voters) q (λ x e. is_member-alike q x e voters) ids
       ∙ and_comm (is_member eq ids q) (is_member eq voters q)
       ∙ ap (λ b. b && is_member eq ids q) (sym (is_member-unique_keys voters q)))
@@ -79,7 +88,8 @@ module _ {K : Type 0} {eq : K → K → Bool} (laws : IsEquivalence eq) where
   half : (n m : ℕ) → ltb (m / 2) n ≡ ltb m (2 * n)
   half n m = ltb_from_iff ((λ e. let l = ltb-true _ _ e in omega arith), (λ l. lt-ltb _ _ (omega arith)))
 
-  pub majority_count : (ids voters : List K) → IsDistinct eq ids → ltb (length voters / 2) (count_by (λ x. list_any (λ y. eq y x) voters) ids) ≡ is_majority eq voters (is_member eq ids)
+  pub majority_count : (ids voters : List K) → IsDistinct eq ids
+      → ltb (length voters / 2) (count_by (λ x. list_any (λ y. eq y x) voters) ids) ≡ is_majority eq voters (is_member eq ids)
   majority_count ids voters d =
       half _ (length voters) ∙ ap (λ n. ltb (length voters) (2 * n)) (count_same ids ∙ count_by-is_member ids voters d)
     where
@@ -91,8 +101,11 @@ module _ {K : Type 0} {eq : K → K → Bool} (laws : IsEquivalence eq) where
   is_member-dedup_from k [] q = refl
   is_member-dedup_from k (x ∷ xs) q = by (eq x k) (eq q x) refl refl (is_member-dedup_from k xs q) (is_member-dedup_from x xs q)
     where
-      by : (b c : Bool) → eq x k ≡ b → eq q x ≡ c → is_member eq (dedup_from eq k xs) q ≡ (eq q k || is_member eq xs q) → is_member eq (dedup_from eq x xs) q ≡ (eq q x || is_member eq xs q) → is_member eq (cond b (dedup_from eq k xs) (k ∷ dedup_from eq x xs)) q ≡ (eq q k || (c || is_member eq xs q))
-      by true true t u h i = h ∙ ap (λ b. b || is_member eq xs q) (laws.congr q x k u ∙ t) ∙ sym (ap (λ b. b || true) (laws.congr q x k u ∙ t))
+      by : (b c : Bool) → eq x k ≡ b → eq q x ≡ c → is_member eq (dedup_from eq k xs) q ≡ (eq q k || is_member eq xs q)
+          → is_member eq (dedup_from eq x xs) q ≡ (eq q x || is_member eq xs q)
+          → is_member eq (cond b (dedup_from eq k xs) (k ∷ dedup_from eq x xs)) q ≡ (eq q k || (c || is_member eq xs q))
+      by true true t u h i = h ∙ ap (λ b. b || is_member eq xs q) (laws.congr q x k u ∙ t)
+          ∙ sym (ap (λ b. b || true) (laws.congr q x k u ∙ t))
       by true false t u h i = h
       by false c t u h i = ap (λ b. eq q k || b) (i ∙ ap (λ b. b || is_member eq xs q) u)
 
@@ -101,11 +114,13 @@ module _ {K : Type 0} {eq : K → K → Bool} (laws : IsEquivalence eq) where
   is_member-dedup (x ∷ xs) q = is_member-dedup_from x xs q
 
   -- a set's test is that of its list of keys
-  pub in_set : (cmp : K → K → Ordering) (ties : (x y : K) → eq x y ≡ eq_by_cmp cmp x y) (x : K) (ys : List K) → list_any (is_at (cmp x)) ys ≡ is_member eq ys x
+  pub in_set : (cmp : K → K → Ordering) (ties : (x y : K) → eq x y ≡ eq_by_cmp cmp x y) (x : K) (ys : List K)
+      → list_any (is_at (cmp x)) ys ≡ is_member eq ys x
   in_set cmp ties x [] = refl
   in_set cmp ties x (y ∷ ys) = rw (ties x y, in_set cmp ties x ys) refl
 
-  pub set_majority : (cmp : K → K → Ordering) (ties : (x y : K) → eq x y ≡ eq_by_cmp cmp x y) (ids voters : List K) → IsDistinct eq ids → ltb (length voters / 2) (count_by (λ x. list_any (is_at (cmp x)) voters) ids) ≡ is_majority eq voters (is_member eq ids)
+  pub set_majority : (cmp : K → K → Ordering) (ties : (x y : K) → eq x y ≡ eq_by_cmp cmp x y) (ids voters : List K) → IsDistinct eq ids
+      → ltb (length voters / 2) (count_by (λ x. list_any (is_at (cmp x)) voters) ids) ≡ is_majority eq voters (is_member eq ids)
   set_majority cmp ties ids voters d =
       half _ (length voters) ∙ ap (λ n. ltb (length voters) (2 * n)) (count_same ids ∙ count_by-is_member ids voters d)
     where
@@ -113,5 +128,6 @@ module _ {K : Type 0} {eq : K → K → Bool} (laws : IsEquivalence eq) where
       count_same zs = ap (λ (f : K → Bool). count_by f zs) (λ i x. in_set cmp ties x voters i)
 
   -- a set that a list was collected into has its members
-  pub is_member-collected : (cmp : K → K → Ordering) (ties : (x y : K) → eq x y ≡ eq_by_cmp cmp x y) (xs : List K) (set : BTreeSet K) → IsFromIterResult cmp xs set → (x : K) → is_member eq set.keys x ≡ is_member eq xs x
+  pub is_member-collected : (cmp : K → K → Ordering) (ties : (x y : K) → eq x y ≡ eq_by_cmp cmp x y) (xs : List K) (set : BTreeSet K)
+      → IsFromIterResult cmp xs set → (x : K) → is_member eq set.keys x ≡ is_member eq xs x
   is_member-collected cmp ties xs set made x = sym (in_set cmp ties x set.keys) ∙ made.0 x ∙ in_set cmp ties x xs

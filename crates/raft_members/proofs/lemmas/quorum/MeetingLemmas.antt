@@ -1,5 +1,6 @@
 -- Quorums that meet share a voter.
-use Rattle.std.specs.Prelude.{◌≡◌, ℕ, ◌+◌, ◌*◌, ◌<◌, ◌≤◌, Bool, true, false, ◌&&◌, ◌||◌, cond, List, [], ◌∷◌, length, nat_lt, count_by, refl}
+use Rattle.std.specs.Prelude.{◌≡◌, ℕ, ◌+◌, ◌*◌, ◌<◌, ◌≤◌, Bool, true, false, ◌&&◌, ◌||◌, cond, List, [], ◌∷◌, length, nat_lt, count_by,
+        refl}
 use Rattle.std.proofs.Common.{sym, ◌∙◌, arith, ltb-true}
 use Rattle.std.specs.Cmp.{IsEquivalence, first_so, second_so}
 use Rattle.std.specs.List.{filter}
@@ -22,7 +23,10 @@ module _ {K : Type 0} {e : K → K → Bool} (laws : IsEquivalence e) where
   later : (x : K) (xs : List K) (s t : K → Bool) → ShareMember e xs s t → ShareMember e (x ∷ xs) s t
   later x xs s t m = (m.0, right_true _ _ m.1, m.2, m.3)
 
-  share_step : (s t : K → Bool) (x : K) (xs : List K) (a b : Bool) → s x ≡ a → t x ≡ b → (length xs < length (filter s xs) + length (filter t xs) → ShareMember e xs s t) → length xs + 1 < length (cond a (x ∷ filter s xs) (filter s xs)) + length (cond b (x ∷ filter t xs) (filter t xs)) → ShareMember e (x ∷ xs) s t
+  share_step : (s t : K → Bool) (x : K) (xs : List K) (a b : Bool) → s x ≡ a → t x ≡ b
+      → (length xs < length (filter s xs) + length (filter t xs) → ShareMember e xs s t)
+      → length xs + 1 < length (cond a (x ∷ filter s xs) (filter s xs)) + length (cond b (x ∷ filter t xs) (filter t xs))
+      → ShareMember e (x ∷ xs) s t
   share_step s t x xs true true ea eb next h = (x, left_true _ _ (laws.refl x), ea, eb)
   share_step s t x xs true false ea eb next h = later x xs s t (next (omega arith))
   share_step s t x xs false true ea eb next h = later x xs s t (next (omega arith))
@@ -39,7 +43,8 @@ module _ {K : Type 0} {e : K → K → Bool} (laws : IsEquivalence e) where
       let u = unique_keys e c in
       let a : length c < 2 * length (filter s u) = rw length-filter (ltb-true (length c) (2 * count_by s u) h) in
       let b : length c < 2 * length (filter t u) = rw length-filter (ltb-true (length c) (2 * count_by t u) k) in
-      let m : ShareMember e u s t = shared s t u (share (length c) (length (filter s u)) (length (filter t u)) (length u) a b (distinct_count-le e c)) in
+      let m : ShareMember e u s t = shared s t u
+          (share (length c) (length (filter s u)) (length (filter t u)) (length u) a b (distinct_count-le e c)) in
       (m.0, sym (is_member-unique_keys laws c m.0) ∙ m.1, m.2, m.3)
 
   -- a majority has a voter of its config
@@ -61,7 +66,8 @@ module _ {K : Type 0} {e : K → K → Bool} (laws : IsEquivalence e) where
     add true false x y f g h l = cc
     add false true x y f g h l = cc
 
-    count_step : (x y : K) (b d : Bool) (f g : List K) → b ≡ d → s x ≡ s y → length (filter s f) ≡ length (filter s g) → length (filter s (cond b f (x ∷ f))) ≡ length (filter s (cond d g (y ∷ g)))
+    count_step : (x y : K) (b d : Bool) (f g : List K) → b ≡ d → s x ≡ s y → length (filter s f) ≡ length (filter s g)
+        → length (filter s (cond b f (x ∷ f))) ≡ length (filter s (cond d g (y ∷ g)))
     count_step x y true true f g h k l = l
     count_step x y false false f g h k l = add (s x) (s y) x y (filter s f) (filter s g) k l
     count_step x y true false f g h k l = cc
@@ -71,42 +77,55 @@ module _ {K : Type 0} {e : K → K → Bool} (laws : IsEquivalence e) where
     same_count [] [] h = refl
     same_count [] (y ∷ ys) h = cc
     same_count (x ∷ xs) [] h = cc
-    same_count (x ∷ xs) (y ∷ ys) h = count_step x y (is_member e xs x) (is_member e ys y) (unique_keys e xs) (unique_keys e ys) (same_members xs ys x (second_so _ _ h) ∙ is_member-alike laws x y (first_so _ _ h) ys) (r x y (first_so _ _ h)) (same_count xs ys (second_so _ _ h))
+    same_count (x ∷ xs) (y ∷ ys) h = count_step x y (is_member e xs x) (is_member e ys y) (unique_keys e xs) (unique_keys e ys)
+        (same_members xs ys x (second_so _ _ h) ∙ is_member-alike laws x y (first_so _ _ h) ys) (r x y (first_so _ _ h))
+        (same_count xs ys (second_so _ _ h))
 
     -- a config that equals another has its majorities
     pub same_majority : (c d : List K) → pointwise e c d ≡ true → is_majority e c s ≡ is_majority e d s
-    same_majority c d h = λ i. nat_lt (as_long e c d h i) (2 * (sym (length-filter s (unique_keys e c)) ∙ same_count c d h ∙ length-filter s (unique_keys e d)) i)
+    same_majority c d h = λ i. nat_lt (as_long e c d h i)
+        (2 * (sym (length-filter s (unique_keys e c)) ∙ same_count c d h ∙ length-filter s (unique_keys e d)) i)
 
-    each_step : (c : List K) (cs : List (List K)) (d : List K) (b : Bool) → pointwise e c d ≡ b → (is_joint_majority e cs s ≡ true → has_config e cs d ≡ true → is_majority e d s ≡ true) → (is_majority e c s && is_joint_majority e cs s) ≡ true → (b || has_config e cs d) ≡ true → is_majority e d s ≡ true
+    each_step : (c : List K) (cs : List (List K)) (d : List K) (b : Bool) → pointwise e c d ≡ b
+        → (is_joint_majority e cs s ≡ true → has_config e cs d ≡ true → is_majority e d s ≡ true)
+        → (is_majority e c s && is_joint_majority e cs s) ≡ true → (b || has_config e cs d) ≡ true → is_majority e d s ≡ true
     each_step c cs d true p next h k = sym (same_majority c d p) ∙ first_so _ _ h
     each_step c cs d false p next h k = next (second_so _ _ h) k
 
     -- a quorum has a majority of each config that equals one of its own
-    pub each_majority : (cs : List (List K)) (d : List K) → is_joint_majority e cs s ≡ true → has_config e cs d ≡ true → is_majority e d s ≡ true
+    pub each_majority : (cs : List (List K)) (d : List K) → is_joint_majority e cs s ≡ true → has_config e cs d ≡ true
+        → is_majority e d s ≡ true
     each_majority [] d h k = cc
     each_majority (c ∷ cs) d h k = each_step c cs d (pointwise e c d) refl (each_majority cs d) h k
 
   -- ---- coherent configs
 
-  voter_step : (c : List K) (cs : List (List K)) (d : List K) (k : K) (b : Bool) → pointwise e c d ≡ b → (has_config e cs d ≡ true → is_voter_of e cs k ≡ true) → (b || has_config e cs d) ≡ true → is_member e d k ≡ true → (is_member e c k || is_voter_of e cs k) ≡ true
+  voter_step : (c : List K) (cs : List (List K)) (d : List K) (k : K) (b : Bool) → pointwise e c d ≡ b
+      → (has_config e cs d ≡ true → is_voter_of e cs k ≡ true) → (b || has_config e cs d) ≡ true → is_member e d k ≡ true
+      → (is_member e c k || is_voter_of e cs k) ≡ true
   voter_step c cs d k true p next h m = left_true _ _ (same_members c d k p ∙ m)
   voter_step c cs d k false p next h m = right_true _ _ (next h)
 
   -- a member of a config that equals one of cs is a voter
-  pub voter_there : (cs : List (List K)) (d : List K) (k : K) → has_config e cs d ≡ true → is_member e d k ≡ true → is_voter_of e cs k ≡ true
+  pub voter_there : (cs : List (List K)) (d : List K) (k : K) → has_config e cs d ≡ true → is_member e d k ≡ true
+      → is_voter_of e cs k ≡ true
   voter_there [] d k h m = cc
   voter_there (c ∷ cs) d k h m = voter_step c cs d k (pointwise e c d) refl (λ h'. voter_there cs d k h' m) h m
 
   -- a config that equals one of cs, with a majority in t, and whose members are voters of ds
   abbrev pub SharedMajority : List (List K) → List (List K) → (K → Bool) → Type 0
-  SharedMajority cs ds t = (d : List K) × (has_config e cs d ≡ true) × (is_majority e d t ≡ true) × ((q : K) → is_member e d q ≡ true → is_voter_of e ds q ≡ true)
+  SharedMajority cs ds t = (d : List K) × (has_config e cs d ≡ true) × (is_majority e d t ≡ true)
+      × ((q : K) → is_member e d q ≡ true → is_voter_of e ds q ≡ true)
 
-  shared_step : (cs : List (List K)) (d : List K) (ds : List (List K)) (t : K → Bool) (b : Bool) → has_config e cs d ≡ b → (is_coherent e cs ds ≡ true → is_joint_majority e ds t ≡ true → SharedMajority cs ds t) → (b || is_coherent e cs ds) ≡ true → (is_majority e d t && is_joint_majority e ds t) ≡ true → SharedMajority cs (d ∷ ds) t
+  shared_step : (cs : List (List K)) (d : List K) (ds : List (List K)) (t : K → Bool) (b : Bool) → has_config e cs d ≡ b
+      → (is_coherent e cs ds ≡ true → is_joint_majority e ds t ≡ true → SharedMajority cs ds t) → (b || is_coherent e cs ds) ≡ true
+      → (is_majority e d t && is_joint_majority e ds t) ≡ true → SharedMajority cs (d ∷ ds) t
   shared_step cs d ds t true p next h q = (d, p, first_so _ _ q, λ x m. left_true _ _ m)
   shared_step cs d ds t false p next h q = let n = next h (second_so _ _ q) in (n.0, n.1, n.2, λ x m. right_true _ _ (n.3 x m))
 
   -- a quorum of coherent configs has a majority of a shared one
-  pub shared_majority : (cs ds : List (List K)) (t : K → Bool) → is_coherent e cs ds ≡ true → is_joint_majority e ds t ≡ true → SharedMajority cs ds t
+  pub shared_majority : (cs ds : List (List K)) (t : K → Bool) → is_coherent e cs ds ≡ true → is_joint_majority e ds t ≡ true
+      → SharedMajority cs ds t
   shared_majority cs [] t h q = cc
   shared_majority cs (d ∷ ds) t h q = shared_step cs d ds t (has_config e cs d) refl (shared_majority cs ds t) h q
 
@@ -125,7 +144,8 @@ module _ {K : Type 0} {e : K → K → Bool} (laws : IsEquivalence e) where
   equal_voters (c ∷ cs) [] h q = cc
   equal_voters (c ∷ cs) (d ∷ ds) h q = λ i. sym (same_members c d q (first_so _ _ h)) i || equal_voters cs ds (second_so _ _ h) q i
 
-  equal_quorums : (s : K → Bool) (r : (x y : K) → e x y ≡ true → s x ≡ s y) (cs ds : List (List K)) → pointwise (pointwise e) cs ds ≡ true → is_joint_majority e ds s ≡ is_joint_majority e cs s
+  equal_quorums : (s : K → Bool) (r : (x y : K) → e x y ≡ true → s x ≡ s y) (cs ds : List (List K)) → pointwise (pointwise e) cs ds ≡ true
+      → is_joint_majority e ds s ≡ is_joint_majority e cs s
   equal_quorums s r [] [] h = refl
   equal_quorums s r [] (d ∷ ds) h = cc
   equal_quorums s r (c ∷ cs) [] h = cc

@@ -11,7 +11,8 @@ returns g c distinct config set q =
     let eq = g.NID.PartialEq.eq in
     let held = is_member eq c.args.holders.now in
     let configs = c.args.from.now.configs in
-    let h : is_joint_majority eq configs held ≡ true = sym (c.in_ok-quorums.ensures.quorums held) ∙ sym (c.is_quorum.ensures.quorum distinct) ∙ c.if-not-is_quorum.false in
+    let h : is_joint_majority eq configs held ≡ true =
+        sym (c.in_ok-quorums.ensures.quorums held) ∙ sym (c.is_quorum.ensures.quorum distinct) ∙ c.if-not-is_quorum.false in
     let granted : IsGranted eq configs (λ id. true) held = record {
       has_config = config;
       are_voters = λ id v. refl;

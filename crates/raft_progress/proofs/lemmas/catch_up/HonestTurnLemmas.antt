@@ -19,7 +19,8 @@ module _ (m e l p agree : ℕ) (stands : Stands m e l p agree) where
   pub conflict_falls : agree < max (calc_mid m e) p → measure m (max (calc_mid m e) p - 1) l < measure m e l
   conflict_falls lt = let a = stands.logged in let b = stands.matched in let c = stands.agreed in let d = stands.kept in omega arith
 
-  pub conflict_halves : (b : ℕ) → agree < max (calc_mid m e) p → Near b (e - m) → (c : ℕ) × (b ≡ suc c) × Near c (max (calc_mid m e) p - 1 - m)
+  pub conflict_halves : (b : ℕ) → agree < max (calc_mid m e) p → Near b (e - m)
+      → (c : ℕ) × (b ≡ suc c) × Near c (max (calc_mid m e) p - 1 - m)
   conflict_halves b lt near =
       let a = stands.logged in let b1 = stands.matched in let c = stands.agreed in let d = stands.kept in
       let k = (e - m) / 16 in

@@ -1,5 +1,6 @@
 -- An ack that is taken leaves a valid entry, whatever it was before.
-use Rattle.std.proofs.Common.{◌≡◌, ℕ, ◌≤◌, Bool, true, false, nat_le, ◌==◌, if◌then◌else◌, Option, Some, None, Result, Ok, Err, ◌⊎◌, inl, inr, refl, sym, subst, arith}
+use Rattle.std.proofs.Common.{◌≡◌, ℕ, ◌≤◌, Bool, true, false, nat_le, ◌==◌, if◌then◌else◌, Option, Some, None, Result, Ok, Err, ◌⊎◌, inl,
+        inr, refl, sym, subst, arith}
 use Rattle.std.proofs.lemmas.Bool.Decides.{nat_tests}
 use Rattle.std.specs.Cmp.{IsTotalOrder}
 use Rattle.std.specs.Option.{option_cmp}
@@ -29,7 +30,8 @@ module _ {C : Type 0} (cmp : C → C → Ordering) where
   taken_leaves Idle id m after h = cc
   taken_leaves (Logs mine range) id m after h = by (mine == id) (is_within cmp range m) h
     where
-      by : (t u : Bool) → (if t then (if u then Ok (logs_from cmp mine m range.last) else Err AckOutOfRange) else Err (InvalidRequestId (Some mine) id)) ≡ Ok after
+      by : (t u : Bool) → (if t then (if u then Ok (logs_from cmp mine m range.last) else Err AckOutOfRange) else Err
+              (InvalidRequestId (Some mine) id)) ≡ Ok after
           → (after ≡ Idle) ⊎ ((mine : ℕ) × (last : Option (LogIdOf C)) × (after ≡ logs_from cmp mine m last))
       by true true e = inr (mine, range.last, ok_inside (logs_from cmp mine m range.last) after e)
       by true false e = cc
@@ -44,17 +46,26 @@ module _ {C : Type 0} (cmp : C → C → Ordering) where
 
   module _ (total : IsTotalOrder cmp) where
     -- logs after the match fit it
-    logs_fit : (entry : ProgressEntryOf C) (mine : ℕ) (last : Option (LogIdOf C)) → nat_le (next_index entry.matching) entry.searching_end ≡ true → first_false (sending_relations cmp entry (logs_from cmp mine entry.matching last)) ≡ None
-    logs_fit entry mine last within = by (id_lt cmp entry.matching last) (λ h. AtMost-from_lt (option_cmp (log_id_cmp cmp)) entry.matching last h)
+    logs_fit : (entry : ProgressEntryOf C) (mine : ℕ) (last : Option (LogIdOf C))
+        → nat_le (next_index entry.matching) entry.searching_end ≡ true
+        → first_false (sending_relations cmp entry (logs_from cmp mine entry.matching last)) ≡ None
+    logs_fit entry mine last within = by (id_lt cmp entry.matching last)
+        (λ h. AtMost-from_lt (option_cmp (log_id_cmp cmp)) entry.matching last h)
       where
-        by : (t : Bool) → (t ≡ true → id_le cmp entry.matching last ≡ true) → first_false (sending_relations cmp entry (if t then Logs mine (let range : LogIdRangeOf C = record { prev = entry.matching; last = last } in range) else Idle)) ≡ None
+        by : (t : Bool) → (t ≡ true → id_le cmp entry.matching last ≡ true)
+            → first_false (sending_relations cmp entry
+                (if t then Logs mine (let range : LogIdRangeOf C = record { prev = entry.matching; last = last } in range) else Idle))
+            ≡ None
         by true le = rw (le refl, AtMost-refl (optional-log_id_cmp-total total) entry.matching, within) refl
         by false le = refl
 
-    pub taken_is_valid : (entry : ProgressEntryOf C) (f : InflightOf C) (id : ℕ) → inflight_after_ack cmp f id entry.matching ≡ Ok entry.inflight → next_index entry.matching ≤ entry.searching_end → first_false (entry_relations cmp entry) ≡ None
+    pub taken_is_valid : (entry : ProgressEntryOf C) (f : InflightOf C) (id : ℕ)
+        → inflight_after_ack cmp f id entry.matching ≡ Ok entry.inflight → next_index entry.matching ≤ entry.searching_end
+        → first_false (entry_relations cmp entry) ≡ None
     taken_is_valid entry f id taken le =
         let within : nat_le (next_index entry.matching) entry.searching_end ≡ true = grind (arith, nat_tests) in
         rw within (elim (taken_leaves f id entry.matching entry.inflight taken) [
           | inl idle ↦ subst (λ (g : InflightOf C). first_false (sending_relations cmp entry g) ≡ None) (sym idle) refl
-          | inr logs ↦ subst (λ (g : InflightOf C). first_false (sending_relations cmp entry g) ≡ None) (sym logs.2) (logs_fit entry logs.0 logs.1 within)
+          | inr logs ↦ subst (λ (g : InflightOf C). first_false (sending_relations cmp entry g) ≡ None) (sym logs.2)
+              (logs_fit entry logs.0 logs.1 within)
         ])

@@ -1,5 +1,6 @@
 -- Which replies an entry refuses by their id.
-use Rattle.std.specs.Prelude.{◌≡◌, ℕ, ◌+◌, ◌==◌, ◌&&◌, ◌||◌, nat_lt, Bool, true, false, cond, Option, Some, Result, Ok, Err, refl, if◌then◌else◌}
+use Rattle.std.specs.Prelude.{◌≡◌, ℕ, ◌+◌, ◌==◌, ◌&&◌, ◌||◌, nat_lt, Bool, true, false, cond, Option, Some, Result, Ok, Err, refl,
+        if◌then◌else◌}
 use Rattle.std.specs.declared.cmp.Ordering.{Ordering}
 use Rattle.std.proofs.Common.{ap, ◌∙◌}
 use Rattle.std.proofs.lemmas.Bool.{ne_eqb}
@@ -18,12 +19,15 @@ use Rattle.raft_progress.specs.declared.inflight.InflightOf.{InflightOf}
 use Rattle.raft_progress.specs.declared.inflight.InflightOf.TheVariants.{None as Idle, Logs, Snapshot}
 
 module _ {C : Type 0} (cmp : C → C → Ordering) where
-  ack_refused : (entry : ProgressEntryOf C) (inflight : InflightOf C) (id : ℕ) (matching : Option (LogIdOf C)) → (id_of inflight ≡ Some id → ⊥) → with_matching cmp entry matching (inflight_after_ack cmp inflight id matching) ≡ Err (InvalidRequestId (id_of inflight) id)
+  ack_refused : (entry : ProgressEntryOf C) (inflight : InflightOf C) (id : ℕ) (matching : Option (LogIdOf C))
+      → (id_of inflight ≡ Some id → ⊥) → with_matching cmp entry matching (inflight_after_ack cmp inflight id matching)
+      ≡ Err (InvalidRequestId (id_of inflight) id)
   ack_refused entry Idle id matching n = refl
   ack_refused entry (Logs mine range) id matching n = let e : (mine == id) ≡ false = ne_eqb mine id (λ h. n (ap Some h)) in rw e refl
   ack_refused entry (Snapshot mine last) id matching n = let e : (mine == id) ≡ false = ne_eqb mine id (λ h. n (ap Some h)) in rw e refl
 
-  conflict_refused : (entry : ProgressEntryOf C) (inflight : InflightOf C) (id index : ℕ) → (id_of inflight ≡ Some id → ⊥) → with_search_end entry index (inflight_after_conflict inflight id index) ≡ Err (InvalidRequestId (id_of inflight) id)
+  conflict_refused : (entry : ProgressEntryOf C) (inflight : InflightOf C) (id index : ℕ) → (id_of inflight ≡ Some id → ⊥)
+      → with_search_end entry index (inflight_after_conflict inflight id index) ≡ Err (InvalidRequestId (id_of inflight) id)
   conflict_refused entry Idle id index n = refl
   conflict_refused entry (Logs mine range) id index n = let e : (mine == id) ≡ false = ne_eqb mine id (λ h. n (ap Some h)) in rw e refl
   conflict_refused entry (Snapshot mine last) id index n = let e : (mine == id) ≡ false = ne_eqb mine id (λ h. n (ap Some h)) in rw e refl
@@ -42,18 +46,26 @@ module _ {C : Type 0} (cmp : C → C → Ordering) where
   logs_have true mine id range h = some_is mine id h
   logs_have false mine id range h = cc
 
-  sent_is : (sent sending : ProgressEntryOf C) (mine id : ℕ) → ◌≡◌ {A = Result (ProgressEntryOf C) (ProgressEntryOf C)} (Ok sending) (Ok sent) → (id_of sending.inflight ≡ Some id → mine ≡ id) → id_of sent.inflight ≡ Some id → mine ≡ id
+  sent_is : (sent sending : ProgressEntryOf C) (mine id : ℕ)
+      → ◌≡◌ {A = Result (ProgressEntryOf C) (ProgressEntryOf C)} (Ok sending) (Ok sent) → (id_of sending.inflight ≡ Some id → mine ≡ id)
+      → id_of sent.inflight ≡ Some id → mine ≡ id
   sent_is sent sending mine id e has h = let same : sending ≡ sent = cc in has (ap (λ s. id_of s.inflight) same ∙ h)
 
   -- what is sent where nothing was in flight has the next id, if it has any
-  pub sends_next : (entry sent : ProgressEntryOf C) (log : LogView C) (max_entries id : ℕ) → idle_send_table cmp entry log max_entries ≡ Ok sent → id_of sent.inflight ≡ Some id → entry.curr_inflight_id + 1 ≡ id
+  pub sends_next : (entry sent : ProgressEntryOf C) (log : LogView C) (max_entries id : ℕ)
+      → idle_send_table cmp entry log max_entries ≡ Ok sent → id_of sent.inflight ≡ Some id → entry.curr_inflight_id + 1 ≡ id
   sends_next entry sent log max_entries id e h =
-      by (nat_lt entry.searching_end (next_index log.purge_upto) || (start_of entry log == end_of entry log max_entries && nat_lt (next_index entry.matching) entry.searching_end)) (start_of entry log == end_of entry log max_entries) e
+      by (nat_lt entry.searching_end (next_index log.purge_upto)
+              || (start_of entry log == end_of entry log max_entries && nat_lt (next_index entry.matching) entry.searching_end))
+          (start_of entry log == end_of entry log max_entries) e
     where
       by : (b c : Bool)
-          → (if b then Ok (record entry { curr_inflight_id = entry.curr_inflight_id + 1; inflight = Snapshot (entry.curr_inflight_id + 1) log.snapshot })
+          → (if b then Ok (record entry { curr_inflight_id = entry.curr_inflight_id + 1;
+                  inflight = Snapshot (entry.curr_inflight_id + 1) log.snapshot })
           else if c then Err entry
-          else Ok (record entry { curr_inflight_id = entry.curr_inflight_id + 1; inflight = logs_from cmp (entry.curr_inflight_id + 1) (prev_id log.id_at (start_of entry log)) (prev_id log.id_at (end_of entry log max_entries)) }))
+          else Ok (record entry { curr_inflight_id = entry.curr_inflight_id + 1;
+                  inflight = logs_from cmp (entry.curr_inflight_id + 1) (prev_id log.id_at (start_of entry log))
+                  (prev_id log.id_at (end_of entry log max_entries)) }))
           ≡ Ok sent
           → entry.curr_inflight_id + 1 ≡ id
       by true c is = sent_is sent _ (entry.curr_inflight_id + 1) id is (λ k. some_is (entry.curr_inflight_id + 1) id k) h

@@ -20,11 +20,13 @@ use Rattle.raft_progress.proofs.lemmas.progress.UpdateLemmas.{unknown_same}
 
 pub runs_compose : {S A R : Type 0} (Step : S → A → R → S → Type 0) → Compose Step
 runs_compose Step old middle new [] more [] others same run = subst (λ s. Runs Step (λ a b. b ≡ a) s more others new) same run
-runs_compose Step old middle new (x ∷ xs) more (r ∷ rs) others (next, here, rest) run = (next, here, runs_compose Step next middle new xs more rs others rest run)
+runs_compose Step old middle new (x ∷ xs) more (r ∷ rs) others (next, here, rest) run =
+    (next, here, runs_compose Step next middle new xs more rs others rest run)
 runs_compose Step old middle new [] more (r ∷ rs) others first run = absurd first
 runs_compose Step old middle new (x ∷ xs) more [] others first run = absurd first
 
-module _ {ID V P QS : Type 0} (by : Comparisons ID V P) (laws : IsEquivalence by.eq) (o : IsTotalOrder by.cmp) (has_quorum : QS → (ID → Bool) → Bool) (is_voter : QS → ID → Bool) where
+module _ {ID V P QS : Type 0} (by : Comparisons ID V P) (laws : IsEquivalence by.eq) (o : IsTotalOrder by.cmp)
+    (has_quorum : QS → (ID → Bool) → Bool) (is_voter : QS → ID → Bool) where
   not_lower : (a b : P) → AtMost by.cmp a b → is_lt (by.cmp b a) ≡ false
   not_lower a b h = by_test (is_lt (by.cmp b a)) refl
     where
@@ -37,21 +39,25 @@ module _ {ID V P QS : Type 0} (by : Comparisons ID V P) (laws : IsEquivalence by
     known = λ v e.
         let k = u.known v e in
         record {
-          values = (v, e, not_lower (by.part v) (by.part value) (lower v e), subst (λ (w : V). Writes by.eq (state by.eq old) id w (state by.eq new)) k.1 k.2, is.counted);
+          values = (v, e, not_lower (by.part v) (by.part value) (lower v e), subst
+                  (λ (w : V). Writes by.eq (state by.eq old) id w (state by.eq new)) k.1 k.2, is.counted);
           answered = record { refused = λ r. absurd (true≢false (sym r)); done = λ _. u; tells = refl };
           ordered = is;
         };
     unknown = λ e.
         let same = u.unknown e in
         record {
-          values = (e, subst (λ (n : Shown ID V P QS). IsCounted by.cmp by.part has_quorum (state by.eq old) n.granted) (sym same) was.counted, unknown_same by.eq by.cmp by.part (λ v w. w ≡ value) old id new u e);
+          values = (e, subst (λ (n : Shown ID V P QS). IsCounted by.cmp by.part has_quorum (state by.eq old) n.granted) (sym same)
+                  was.counted, unknown_same by.eq by.cmp by.part (λ v w. w ≡ value) old id new u e);
           answered = record { refused = λ r. absurd (true≢false (sym r)); done = λ _. u; tells = refl };
           ordered = is;
         };
   }
 
   -- a value that is greater, where there is one, does not fall
-  rising : (value : V) (o : Option V) → ForSome o (λ v. partial_gt by.partial_cmp value v ≡ true → AtMost by.cmp (by.part v) (by.part value)) → stays by.partial_cmp o value ≡ false → falls by.cmp by.part o value ≡ false
+  rising : (value : V) (o : Option V) → ForSome o
+      (λ v. partial_gt by.partial_cmp value v ≡ true → AtMost by.cmp (by.part v) (by.part value)) → stays by.partial_cmp o value ≡ false
+      → falls by.cmp by.part o value ≡ false
   rising value None lower s = refl
   rising value (Some v) lower s = not_lower (by.part v) (by.part value) (lower v refl (greater (partial_gt by.partial_cmp value v) s))
     where
@@ -62,15 +68,20 @@ module _ {ID V P QS : Type 0} (by : Comparisons ID V P) (laws : IsEquivalence by
   pub increases_are_steps : IncreasesAreSteps ID V P QS by has_quorum is_voter
   increases_are_steps old new id value was lower u is = record {
     known = λ v e.
-        let made = increase_known laws by.cmp by.part has_quorum old new id value new.granted refl is by.partial_cmp u (ap is_some e) (rising value ((state by.eq old).value id) lower) in
+        let made = increase_known laws by.cmp by.part has_quorum old new id value new.granted refl is by.partial_cmp u (ap is_some e)
+            (rising value ((state by.eq old).value id) lower) in
         record { values = made.values; answered = made.answered; ordered = is };
     unknown = λ e.
         let same = u.unknown e in
         record {
           values =
-              subst (λ (b : Bool). MatchBool b ((p : P) × (◌≡◌ {A = Reply ID P} (Unknown new.granted) (Granted p)) × IsCounted by.cmp by.part has_quorum (state by.eq old) p × IsSame (state by.eq old) (state by.eq new)) (IsWritten by.eq by.cmp by.part has_quorum (state by.eq old) id value (Unknown new.granted) (state by.eq new)))
+              subst (λ (b : Bool). MatchBool b
+                      ((p : P) × (◌≡◌ {A = Reply ID P} (Unknown new.granted) (Granted p))
+                      × IsCounted by.cmp by.part has_quorum (state by.eq old) p × IsSame (state by.eq old) (state by.eq new))
+                      (IsWritten by.eq by.cmp by.part has_quorum (state by.eq old) id value (Unknown new.granted) (state by.eq new)))
               (sym (ap (λ o. stays by.partial_cmp o value) e))
-              (e, subst (λ (n : Shown ID V P QS). IsCounted by.cmp by.part has_quorum (state by.eq old) n.granted) (sym same) was.counted, unknown_same by.eq by.cmp by.part (IsGreaterOf by.partial_cmp value) old id new u e);
+              (e, subst (λ (n : Shown ID V P QS). IsCounted by.cmp by.part has_quorum (state by.eq old) n.granted) (sym same) was.counted,
+                      unknown_same by.eq by.cmp by.part (IsGreaterOf by.partial_cmp value) old id new u e);
           answered = record { refused = λ r. absurd (true≢false (sym r)); done = λ _. u; tells = refl };
           ordered = is;
         };

@@ -20,9 +20,12 @@ use Rattle.raft_progress.specs.declared.tracked.step.Step.{Step}
 use Rattle.raft_progress.specs.declared.tracked.step.Step.TheVariants as step_of
 use Rattle.raft_progress.proofs.lemmas.progress.recount.RecountLemmas.{AtMost-refl, AtMost-trans}
 
-module _ {S A R : Type 0} (Made : S → A → R → S → Type 0) (Keeps : S → S → Type 0) (same : (s : S) → Keeps s s) (on : (a b c : S) → Keeps a b → Keeps b c → Keeps a c) (breaks : A → Bool) (kept : (old : S) (step : A) (reply : R) (new : S) → breaks step ≡ false → Made old step reply new → Keeps old new) where
+module _ {S A R : Type 0} (Made : S → A → R → S → Type 0) (Keeps : S → S → Type 0) (same : (s : S) → Keeps s s)
+    (on : (a b c : S) → Keeps a b → Keeps b c → Keeps a c) (breaks : A → Bool)
+    (kept : (old : S) (step : A) (reply : R) (new : S) → breaks step ≡ false → Made old step reply new → Keeps old new) where
   -- a run without the steps that break it keeps what each of the others keeps
-  run_keeps : (old : S) (steps : List A) (replies : List R) (new : S) → Runs Made (λ a b. b ≡ a) old steps replies new → list_any breaks steps ≡ false → Keeps old new
+  run_keeps : (old : S) (steps : List A) (replies : List R) (new : S) → Runs Made (λ a b. b ≡ a) old steps replies new
+      → list_any breaks steps ≡ false → Keeps old new
   run_keeps old [] [] new is h = subst (Keeps old) (sym is) (same old)
   run_keeps old (x ∷ xs) (y ∷ ys) new (middle, here, rest) h =
       let parts = or_parts (breaks x) (list_any breaks xs) h in
@@ -31,35 +34,49 @@ module _ {S A R : Type 0} (Made : S → A → R → S → Type 0) (Keeps : S →
   run_keeps old (x ∷ xs) [] new run h = absurd run
 
 -- a step that is refused keeps granted, and one that is not does where what was done does
-answered_keeps : {ID P S : Type 0} {cmp : P → P → Ordering} (o : IsTotalOrder cmp) (granted_of : S → P) (Done : S → Type 0) (old : S) (reply : Reply ID P) (new : S) → IsAnswered granted_of Done old reply new → (Done new → AtMost cmp (granted_of old) (granted_of new)) → AtMost cmp (granted_of old) (granted_of new)
+answered_keeps : {ID P S : Type 0} {cmp : P → P → Ordering} (o : IsTotalOrder cmp) (granted_of : S → P) (Done : S → Type 0) (old : S)
+    (reply : Reply ID P) (new : S) → IsAnswered granted_of Done old reply new → (Done new → AtMost cmp (granted_of old) (granted_of new))
+    → AtMost cmp (granted_of old) (granted_of new)
 answered_keeps {cmp = cmp} o granted_of Done old reply new a up = by (is_refused reply) refl
   where
     by : (b : Bool) → is_refused reply ≡ b → AtMost cmp (granted_of old) (granted_of new)
     by true t = subst (λ s. AtMost cmp (granted_of old) (granted_of s)) (sym (a.refused t)) (AtMost-refl o (granted_of old))
     by false t = up (a.done t)
 
-module _ {ID V P QS : Type 0} (by : Comparisons ID V P) (o : IsTotalOrder by.cmp) (has_quorum : QS → (ID → Bool) → Bool) (is_voter : QS → ID → Bool) where
+module _ {ID V P QS : Type 0} (by : Comparisons ID V P) (o : IsTotalOrder by.cmp) (has_quorum : QS → (ID → Bool) → Bool)
+    (is_voter : QS → ID → Bool) where
   abbrev NotLower : Shown ID V P QS → Shown ID V P QS → Type 0
   NotLower old new = AtMost by.cmp old.granted new.granted
 
-  step_not_lower : (old : Shown ID V P QS) (step : AnyStep ID V QS) (reply : Reply ID P) (new : Shown ID V P QS) → is_upgrade step ≡ false → IsShownStep by has_quorum is_voter old step reply new → NotLower old new
-  step_not_lower old (any_step.Update id value) reply new h s = answered_keeps o (λ p. p.granted) _ old reply new s.answered (λ u. u.not_lower)
-  step_not_lower old (any_step.IncreaseTo id value) reply new h s = answered_keeps o (λ p. p.granted) _ old reply new s.answered (λ u. u.not_lower)
+  step_not_lower : (old : Shown ID V P QS) (step : AnyStep ID V QS) (reply : Reply ID P) (new : Shown ID V P QS) → is_upgrade step ≡ false
+      → IsShownStep by has_quorum is_voter old step reply new → NotLower old new
+  step_not_lower old (any_step.Update id value) reply new h s =
+      answered_keeps o (λ p. p.granted) _ old reply new s.answered (λ u. u.not_lower)
+  step_not_lower old (any_step.IncreaseTo id value) reply new h s =
+      answered_keeps o (λ p. p.granted) _ old reply new s.answered (λ u. u.not_lower)
   step_not_lower old (any_step.Upgrade quorum_set learners default) reply new h s = absurd (true≢false h)
 
   -- granted is at least what it was, where no step is an upgrade
-  pub run_not_lower : (old : Shown ID V P QS) (steps : List (AnyStep ID V QS)) (replies : List (Reply ID P)) (new : Shown ID V P QS) → IsShownRun by has_quorum is_voter old steps replies new → list_any is_upgrade steps ≡ false → NotLower old new
-  run_not_lower = run_keeps (IsShownStep by has_quorum is_voter) NotLower (λ s. AtMost-refl o s.granted) (λ a b c h k. AtMost-trans o a.granted b.granted c.granted h k) is_upgrade step_not_lower
+  pub run_not_lower : (old : Shown ID V P QS) (steps : List (AnyStep ID V QS)) (replies : List (Reply ID P)) (new : Shown ID V P QS)
+      → IsShownRun by has_quorum is_voter old steps replies new → list_any is_upgrade steps ≡ false → NotLower old new
+  run_not_lower = run_keeps (IsShownStep by has_quorum is_voter) NotLower (λ s. AtMost-refl o s.granted)
+      (λ a b c h k. AtMost-trans o a.granted b.granted c.granted h k) is_upgrade step_not_lower
 
 module _ {K N V P : Type 0} (by : Comparisons K V P) (o : IsTotalOrder by.cmp) (same : N → N → Bool) where
   abbrev TrackedNotLower : TrackedShown K N V P → TrackedShown K N V P → Type 0
   TrackedNotLower old new = AtMost by.cmp old.progress.granted new.progress.granted
 
-  pair_step_not_lower : (old : TrackedShown K N V P) (step : Step K N V) (reply : Reply K P) (new : TrackedShown K N V P) → is_change step ≡ false → IsTrackedShownStep by same old step reply new → TrackedNotLower old new
-  pair_step_not_lower old (step_of.Update id value) reply new h s = answered_keeps o (λ t. t.progress.granted) _ old reply new s.answered (λ u. u.1.not_lower)
-  pair_step_not_lower old (step_of.IncreaseTo id value) reply new h s = answered_keeps o (λ t. t.progress.granted) _ old reply new s.answered (λ u. u.1.not_lower)
+  pair_step_not_lower : (old : TrackedShown K N V P) (step : Step K N V) (reply : Reply K P) (new : TrackedShown K N V P)
+      → is_change step ≡ false → IsTrackedShownStep by same old step reply new → TrackedNotLower old new
+  pair_step_not_lower old (step_of.Update id value) reply new h s =
+      answered_keeps o (λ t. t.progress.granted) _ old reply new s.answered (λ u. u.1.not_lower)
+  pair_step_not_lower old (step_of.IncreaseTo id value) reply new h s =
+      answered_keeps o (λ t. t.progress.granted) _ old reply new s.answered (λ u. u.1.not_lower)
   pair_step_not_lower old (step_of.Change change retain default) reply new h s = absurd (true≢false h)
 
   -- granted is at least what it was, where no step is a change
-  pub tracked_run_not_lower : (old : TrackedShown K N V P) (steps : List (Step K N V)) (replies : List (Reply K P)) (new : TrackedShown K N V P) → IsTrackedShownRun by same old steps replies new → list_any is_change steps ≡ false → TrackedNotLower old new
-  tracked_run_not_lower = run_keeps (IsTrackedShownStep by same) TrackedNotLower (λ t. AtMost-refl o t.progress.granted) (λ a b c h k. AtMost-trans o a.progress.granted b.progress.granted c.progress.granted h k) is_change pair_step_not_lower
+  pub tracked_run_not_lower : (old : TrackedShown K N V P) (steps : List (Step K N V)) (replies : List (Reply K P))
+      (new : TrackedShown K N V P) → IsTrackedShownRun by same old steps replies new → list_any is_change steps ≡ false
+      → TrackedNotLower old new
+  tracked_run_not_lower = run_keeps (IsTrackedShownStep by same) TrackedNotLower (λ t. AtMost-refl o t.progress.granted)
+      (λ a b c h k. AtMost-trans o a.progress.granted b.progress.granted c.progress.granted h k) is_change pair_step_not_lower

@@ -30,7 +30,9 @@ module _ {ID : Type 0} {eq : ID → ID → Bool} (laws : IsEquivalence eq) {V : 
   none_alike [] k h = tt
   none_alike (e ∷ es) k h = by (eq e.0 k) refl h (none_alike es k)
     where
-      by : (b : Bool) → eq e.0 k ≡ b → (b || list_any (λ f. eq f.0 k) es) ≡ false → (list_any (λ f. eq f.0 k) es ≡ false → AllByRecursion (λ y. eq k y ≡ false) (keys_of es)) → (eq k e.0 ≡ false) × AllByRecursion (λ y. eq k y ≡ false) (keys_of es)
+      by : (b : Bool) → eq e.0 k ≡ b → (b || list_any (λ f. eq f.0 k) es) ≡ false
+          → (list_any (λ f. eq f.0 k) es ≡ false → AllByRecursion (λ y. eq k y ≡ false) (keys_of es))
+          → (eq k e.0 ≡ false) × AllByRecursion (λ y. eq k y ≡ false) (keys_of es)
       by true t u r = absurd (true≢false u)
       by false t u r = (laws.symm k e.0 ∙ t, r u)
 
@@ -41,7 +43,8 @@ module _ {ID : Type 0} {eq : ID → ID → Bool} (laws : IsEquivalence eq) {V : 
   pub distinct_from_test : (es : List (ID × V)) → ids_differ eq es ≡ true → IsDistinct eq (keys_of es)
   unfolding IsDistinct
   distinct_from_test [] h = tt
-  distinct_from_test (e ∷ es) h = let t = if_false (list_any (λ f. eq f.0 e.0) es) (ids_differ eq es) h in (none_alike es e.0 t.0, distinct_from_test es t.1)
+  distinct_from_test (e ∷ es) h = let t = if_false (list_any (λ f. eq f.0 e.0) es) (ids_differ eq es) h in
+      (none_alike es e.0 t.0, distinct_from_test es t.1)
 
   pub test_from_distinct : (es : List (ID × V)) → IsDistinct eq (keys_of es) → ids_differ eq es ≡ true
   unfolding IsDistinct
@@ -56,14 +59,18 @@ and_lt false b h e = absurd (true≢false (sym e))
 
 module _ {ID V P : Type 0} {cmp : P → P → Ordering} (o : IsTotalOrder cmp) (part : V → P) (g : P) where
   -- what an entry is not behind, no later one is
-  behind : (e : ID × V) (es : List (ID × V)) → never_rises cmp part g (e ∷ es) ≡ true → AllByRecursion (λ f. is_lt (cmp g (part f.1)) ≡ true → AtMost cmp (part f.1) (part e.1)) es
+  behind : (e : ID × V) (es : List (ID × V)) → never_rises cmp part g (e ∷ es) ≡ true
+      → AllByRecursion (λ f. is_lt (cmp g (part f.1)) ≡ true → AtMost cmp (part f.1) (part e.1)) es
   behind e [] h = tt
   behind e (f ∷ es) h =
       let t = if_false (is_lt (cmp g (part f.1)) && is_lt (cmp (part e.1) (part f.1))) (never_rises cmp part g (f ∷ es)) h in
-      let here : is_lt (cmp g (part f.1)) ≡ true → AtMost cmp (part f.1) (part e.1) = λ a. AtMost-from_not_lt o (part e.1) (part f.1) (and_lt _ _ t.0 a) in
+      let here : is_lt (cmp g (part f.1)) ≡ true → AtMost cmp (part f.1) (part e.1) =
+          λ a. AtMost-from_not_lt o (part e.1) (part f.1) (and_lt _ _ t.0 a) in
       (here, further f here es (behind f es t.1))
     where
-      further : (f : ID × V) → (is_lt (cmp g (part f.1)) ≡ true → AtMost cmp (part f.1) (part e.1)) → (hs : List (ID × V)) → AllByRecursion (λ h. is_lt (cmp g (part h.1)) ≡ true → AtMost cmp (part h.1) (part f.1)) hs → AllByRecursion (λ h. is_lt (cmp g (part h.1)) ≡ true → AtMost cmp (part h.1) (part e.1)) hs
+      further : (f : ID × V) → (is_lt (cmp g (part f.1)) ≡ true → AtMost cmp (part f.1) (part e.1)) → (hs : List (ID × V))
+          → AllByRecursion (λ h. is_lt (cmp g (part h.1)) ≡ true → AtMost cmp (part h.1) (part f.1)) hs
+          → AllByRecursion (λ h. is_lt (cmp g (part h.1)) ≡ true → AtMost cmp (part h.1) (part e.1)) hs
       further f here [] a = tt
       further f here (h ∷ hs) a = (
         (λ q. AtMost-trans o (part h.1) (part f.1) (part e.1) (a.0 q) (here (lt_le o g (part h.1) (part f.1) q (a.0 q)))),
@@ -73,20 +80,24 @@ module _ {ID V P : Type 0} {cmp : P → P → Ordering} (o : IsTotalOrder cmp) (
   pub falling_from_test : (es : List (ID × V)) → never_rises cmp part g es ≡ true → IsFalling cmp part g es
   falling_from_test [] h = tt
   falling_from_test (e ∷ []) h = (tt, tt)
-  falling_from_test (e ∷ f ∷ es) h = (behind e (f ∷ es) h, falling_from_test (f ∷ es) (if_false (is_lt (cmp g (part f.1)) && is_lt (cmp (part e.1) (part f.1))) (never_rises cmp part g (f ∷ es)) h).1)
+  falling_from_test (e ∷ f ∷ es) h = (behind e (f ∷ es) h, falling_from_test (f ∷ es)
+          (if_false (is_lt (cmp g (part f.1)) && is_lt (cmp (part e.1) (part f.1))) (never_rises cmp part g (f ∷ es)) h).1)
 
   pub test_from_falling : (es : List (ID × V)) → IsFalling cmp part g es → never_rises cmp part g es ≡ true
   test_from_falling [] h = refl
   test_from_falling (e ∷ []) h = refl
-  test_from_falling (e ∷ f ∷ es) h = by (is_lt (cmp g (part f.1))) (is_lt (cmp (part e.1) (part f.1))) refl refl (test_from_falling (f ∷ es) h.1)
+  test_from_falling (e ∷ f ∷ es) h = by (is_lt (cmp g (part f.1))) (is_lt (cmp (part e.1) (part f.1))) refl refl
+      (test_from_falling (f ∷ es) h.1)
     where
-      by : (a b : Bool) → is_lt (cmp g (part f.1)) ≡ a → is_lt (cmp (part e.1) (part f.1)) ≡ b → never_rises cmp part g (f ∷ es) ≡ true → (if a && b then false else never_rises cmp part g (f ∷ es)) ≡ true
+      by : (a b : Bool) → is_lt (cmp g (part f.1)) ≡ a → is_lt (cmp (part e.1) (part f.1)) ≡ b → never_rises cmp part g (f ∷ es) ≡ true
+          → (if a && b then false else never_rises cmp part g (f ∷ es)) ≡ true
       by true true t u r = absurd (not_both o (part e.1) (part f.1) u (h.0.0 t))
       by true false t u r = r
       by false b t u r = r
 
 -- one entry is behind none
-pub last_falls : {ID V P : Type 0} (cmp : P → P → Ordering) (part : V → P) (g : P) (es : List (ID × V)) (k : ℕ) → length es ≤ k + 1 → never_rises cmp part g (drop k es) ≡ true
+pub last_falls : {ID V P : Type 0} (cmp : P → P → Ordering) (part : V → P) (g : P) (es : List (ID × V)) (k : ℕ) → length es ≤ k + 1
+    → never_rises cmp part g (drop k es) ≡ true
 last_falls cmp part g [] zero l = refl
 last_falls cmp part g [] (suc k) l = refl
 last_falls cmp part g (e ∷ []) zero l = refl
@@ -110,7 +121,8 @@ module _ {P : Type 0} {cmp : P → P → Ordering} (o : IsTotalOrder cmp) where
   tied_with : (a g h : P) → cmp a g ≡ Equal → cmp g h ≡ Equal → cmp a h ≡ Equal
   tied_with a g h t e = tie a h (AtMost-trans o a g h (ap is_le t) (ap is_le e)) (AtMost-trans o h g a (back g h e) (back a g t))
 
-module _ {ID V P QS : Type 0} {cmp : P → P → Ordering} (o : IsTotalOrder cmp) (part : V → P) (has_quorum : QS → (ID → Bool) → Bool) (s : ProgressState ID V P QS) where
+module _ {ID V P QS : Type 0} {cmp : P → P → Ordering} (o : IsTotalOrder cmp) (part : V → P) (has_quorum : QS → (ID → Bool) → Bool)
+    (s : ProgressState ID V P QS) where
   counted_at_most : (g h : P) → IsCounted cmp part has_quorum s g → IsCounted cmp part has_quorum s h → AtMost cmp g h
   counted_at_most g h c d =
       elim c.is_one as (λ _. AtMost cmp g h) [
@@ -125,7 +137,8 @@ module _ {ID V P QS : Type 0} {cmp : P → P → Ordering} (o : IsTotalOrder cmp
   -- and what ties with it is counted too
   pub counted_tied : (g h : P) → IsCounted cmp part has_quorum s g → cmp g h ≡ Equal → IsCounted cmp part has_quorum s h
   counted_tied g h c e = record {
-    is_one = elim c.is_one as (λ _. (cmp s.default_part h ≡ Equal) ⊎ ((x : ID) × (v : V) × IsReached cmp part has_quorum s x v × (cmp (part v) h ≡ Equal))) [
+    is_one = elim c.is_one as (λ _. (cmp s.default_part h ≡ Equal)
+            ⊎ ((x : ID) × (v : V) × IsReached cmp part has_quorum s x v × (cmp (part v) h ≡ Equal))) [
       | inl t ↦ inl (tied_with o s.default_part g h t e)
       | inr w ↦ inr (w.0, w.1, w.2, tied_with o (part w.1) g h w.3 e)
     ];
@@ -143,7 +156,8 @@ equal_from_test Greater h = absurd (true≢false (sym h))
 
 -- ---- parts that are not below the default's
 
-all_pass : {X : Type 0} (P Q : X → Type 0) (t : X → Bool) → ((x : X) → P x → Q x → t x ≡ true) → (xs : List X) → AllByRecursion P xs → AllByRecursion Q xs → list_all t xs ≡ true
+all_pass : {X : Type 0} (P Q : X → Type 0) (t : X → Bool) → ((x : X) → P x → Q x → t x ≡ true) → (xs : List X) → AllByRecursion P xs
+    → AllByRecursion Q xs → list_all t xs ≡ true
 all_pass P Q t f [] a b = refl
 all_pass P Q t f (x ∷ xs) a b = rw (f x a.0 b.0) (all_pass P Q t f xs a.1 b.1)
 
@@ -151,11 +165,18 @@ each_passes : {X : Type 0} (t : X → Bool) (xs : List X) → list_all t xs ≡ 
 each_passes t [] h = tt
 each_passes t (x ∷ xs) h = (first_so _ _ h, each_passes t xs (second_so _ _ h))
 
-module _ {ID V P QS : Type 0} {eq : ID → ID → Bool} (laws : IsEquivalence eq) {cmp : P → P → Ordering} (o : IsTotalOrder cmp) (part : V → P) (has_quorum : QS → (ID → Bool) → Bool) (quorum_set : QS) (walk : List (ID × V)) (n : ℕ) (d0 : P) (d : IsDistinct eq (keys_of walk)) where
-  pub lowest_from_test : list_all (at_least cmp part d0) (take n walk) ≡ true → (x : ID) (v : V) → is_member eq (take n (keys_of walk)) x ≡ true → lookup (eq x) walk ≡ Some v → AtMost cmp d0 (part v)
-  lowest_from_test h x v m l = voter_value laws (λ (u : V). AtMost cmp d0 (part u)) walk n x v m l (each_passes (at_least cmp part d0) (take n walk) h)
+module _ {ID V P QS : Type 0} {eq : ID → ID → Bool} (laws : IsEquivalence eq) {cmp : P → P → Ordering} (o : IsTotalOrder cmp) (part : V → P)
+    (has_quorum : QS → (ID → Bool) → Bool) (quorum_set : QS) (walk : List (ID × V)) (n : ℕ) (d0 : P)
+    (d : IsDistinct eq (keys_of walk)) where
+  pub lowest_from_test : list_all (at_least cmp part d0) (take n walk) ≡ true → (x : ID) (v : V)
+      → is_member eq (take n (keys_of walk)) x ≡ true → lookup (eq x) walk ≡ Some v → AtMost cmp d0 (part v)
+  lowest_from_test h x v m l = voter_value laws (λ (u : V). AtMost cmp d0 (part u)) walk n x v m l
+      (each_passes (at_least cmp part d0) (take n walk) h)
 
-  pub test_from_lowest : ((x : ID) (v : V) → is_member eq (take n (keys_of walk)) x ≡ true → lookup (eq x) walk ≡ Some v → AtMost cmp d0 (part v)) → list_all (at_least cmp part d0) (take n walk) ≡ true
+  pub test_from_lowest : ((x : ID) (v : V) → is_member eq (take n (keys_of walk)) x ≡ true → lookup (eq x) walk ≡ Some v
+          → AtMost cmp d0 (part v)) → list_all (at_least cmp part d0) (take n walk) ≡ true
   test_from_lowest low =
-      all_pass (λ (e : ID × V). is_member eq (take n (keys_of walk)) e.0 ≡ true) (λ e. lookup (eq e.0) walk ≡ Some e.1) (at_least cmp part d0) (λ e m l. low e.0 e.1 m l) (take n walk) (members laws walk n)
-      (recursion_from_All (λ (e : ID × V). lookup (eq e.0) walk ≡ Some e.1) (take n walk) (All-take (λ (e : ID × V). lookup (eq e.0) walk ≡ Some e.1) n walk (found laws o part has_quorum quorum_set walk n d0 d)))
+      all_pass (λ (e : ID × V). is_member eq (take n (keys_of walk)) e.0 ≡ true) (λ e. lookup (eq e.0) walk ≡ Some e.1)
+          (at_least cmp part d0) (λ e m l. low e.0 e.1 m l) (take n walk) (members laws walk n)
+      (recursion_from_All (λ (e : ID × V). lookup (eq e.0) walk ≡ Some e.1) (take n walk)
+              (All-take (λ (e : ID × V). lookup (eq e.0) walk ≡ Some e.1) n walk (found laws o part has_quorum quorum_set walk n d0 d)))

@@ -20,8 +20,10 @@ use Rattle.raft_progress.proofs.lemmas.progress.walk.WalkLemmas.{no_value}
 use Rattle.raft_progress.proofs.lemmas.ListLemmas.{or_right}
 
 -- distinct by the type's own `==`
-pub IsDistinct-from_cmp : {K : Type 0} {eq : K → K → Bool} (cmp : K → K → Ordering) → ((x y : K) → eq x y ≡ eq_by_cmp cmp x y) → (ks : List K) → IsStrictlySortedBy cmp ks → IsDistinct eq ks
-IsDistinct-from_cmp {K} cmp ties ks s = subst (λ (e : K → K → Bool). IsDistinct e ks) (λ i x y. sym (ties x y) i) (IsDistinct-from_sorted cmp ks s)
+pub IsDistinct-from_cmp : {K : Type 0} {eq : K → K → Bool} (cmp : K → K → Ordering) → ((x y : K) → eq x y ≡ eq_by_cmp cmp x y)
+    → (ks : List K) → IsStrictlySortedBy cmp ks → IsDistinct eq ks
+IsDistinct-from_cmp {K} cmp ties ks s = subst (λ (e : K → K → Bool). IsDistinct e ks) (λ i x y. sym (ties x y) i)
+    (IsDistinct-from_sorted cmp ks s)
 
 take_front : {K : Type 0} (ks ls : List K) → take (length ks) (ks ++ ls) ≡ ks
 take_front [] ls = refl
@@ -48,17 +50,23 @@ length_keys [] = refl
 length_keys (e ∷ es) = ap suc (length_keys es)
 
 -- the voters are among the entries
-pub voters_within : {ID V : Type 0} (es : List (ID × V)) (ids learners : List ID) (n : ℕ) → keys_of es ≡ ids ++ learners → n ≡ length ids → n ≤ length es
+pub voters_within : {ID V : Type 0} (es : List (ID × V)) (ids learners : List ID) (n : ℕ) → keys_of es ≡ ids ++ learners → n ≡ length ids
+    → n ≤ length es
 voters_within es ids learners n k c =
     omega (arith, length_keys es, ap length k, length-append ids learners, c)
 
 -- two lists of ids, put one after the other into what was empty
 module _ {ID V : Type 0} {IsClone : V → V → Type 0} {default : V} (ids learners : List ID) (none first last : List (ID × V)) where
-  pub keys_placed : none ≡ [] → IsPlaced IsClone default ids none first → IsPlaced IsClone default learners first last → keys_of last ≡ ids ++ learners
-  keys_placed n a b = ap keys_of b.is ∙ keys_append first b.added ∙ ap (λ ks. ks ++ keys_of b.added) (ap keys_of (a.is ∙ ap (λ es. es ++ a.added) n) ∙ a.keys) ∙ ap (λ ks. ids ++ ks) b.keys
+  pub keys_placed : none ≡ [] → IsPlaced IsClone default ids none first → IsPlaced IsClone default learners first last
+      → keys_of last ≡ ids ++ learners
+  keys_placed n a b = ap keys_of b.is ∙ keys_append first b.added
+      ∙ ap (λ ks. ks ++ keys_of b.added) (ap keys_of (a.is ∙ ap (λ es. es ++ a.added) n) ∙ a.keys) ∙ ap (λ ks. ids ++ ks) b.keys
 
-  pub all_placed : none ≡ [] → IsPlaced IsClone default ids none first → IsPlaced IsClone default learners first last → AllByRecursion (λ e. IsClone default e.1) last
-  all_placed n a b = subst (λ (es : List (ID × V)). AllByRecursion (λ e. IsClone default e.1) es) (sym b.is) (all_append _ first b.added (subst (λ (es : List (ID × V)). AllByRecursion (λ e. IsClone default e.1) es) (sym (a.is ∙ ap (λ es. es ++ a.added) n)) a.clones) b.clones)
+  pub all_placed : none ≡ [] → IsPlaced IsClone default ids none first → IsPlaced IsClone default learners first last
+      → AllByRecursion (λ e. IsClone default e.1) last
+  all_placed n a b = subst (λ (es : List (ID × V)). AllByRecursion (λ e. IsClone default e.1) es) (sym b.is)
+      (all_append _ first b.added (subst (λ (es : List (ID × V)). AllByRecursion (λ e. IsClone default e.1) es)
+          (sym (a.is ∙ ap (λ es. es ++ a.added) n)) a.clones) b.clones)
 
 module _ {ID : Type 0} {eq : ID → ID → Bool} (laws : IsEquivalence eq) where
   member_append : (ks ls : List ID) (x : ID) → is_member eq (ks ++ ls) x ≡ (is_member eq ks x || is_member eq ls x)
@@ -71,15 +79,19 @@ module _ {ID : Type 0} {eq : ID → ID → Bool} (laws : IsEquivalence eq) where
   lookup_other (e ∷ es) x h = let o = or_false (eq x e.0) (is_member eq (keys_of es) x) h in rw o.0 (lookup_other es x o.1)
 
   -- a key has a value, and what holds of each value holds of it
-  lookup_key : {V : Type 0} (R : V → Type 0) (es : List (ID × V)) (x : ID) → is_member eq (keys_of es) x ≡ true → AllByRecursion (λ e. R e.1) es → (w : V) × (lookup (eq x) es ≡ Some w) × R w
+  lookup_key : {V : Type 0} (R : V → Type 0) (es : List (ID × V)) (x : ID) → is_member eq (keys_of es) x ≡ true
+      → AllByRecursion (λ e. R e.1) es → (w : V) × (lookup (eq x) es ≡ Some w) × R w
   lookup_key R [] x h a = absurd (true≢false (sym h))
   lookup_key {V} R (e ∷ es) x h a = by (eq x e.0) h (λ m. lookup_key R es x m a.1)
     where
-      by : (b : Bool) → (b || is_member eq (keys_of es) x) ≡ true → (is_member eq (keys_of es) x ≡ true → (w : V) × (lookup (eq x) es ≡ Some w) × R w) → (w : V) × (cond b (Some e.1) (lookup (eq x) es) ≡ Some w) × R w
+      by : (b : Bool) → (b || is_member eq (keys_of es) x) ≡ true
+          → (is_member eq (keys_of es) x ≡ true → (w : V) × (lookup (eq x) es ≡ Some w) × R w)
+          → (w : V) × (cond b (Some e.1) (lookup (eq x) es) ≡ Some w) × R w
       by true m r = (e.1, refl, a.0)
       by false m r = r m
 
-  lookup_all : {V : Type 0} (R : V → Type 0) (es : List (ID × V)) (x : ID) (u : V) → lookup (eq x) es ≡ Some u → AllByRecursion (λ e. R e.1) es → R u
+  lookup_all : {V : Type 0} (R : V → Type 0) (es : List (ID × V)) (x : ID) (u : V) → lookup (eq x) es ≡ Some u
+      → AllByRecursion (λ e. R e.1) es → R u
   lookup_all R [] x u h a = absurd (no_value (lookup (eq x) []) u refl h)
   lookup_all {V} R (e ∷ es) x u h a = by (eq x e.0) h (λ m. lookup_all R es x u m a.1)
     where
@@ -87,11 +99,14 @@ module _ {ID : Type 0} {eq : ID → ID → Bool} (laws : IsEquivalence eq) where
       by true m r = let same : e.1 ≡ u = cc in subst R same a.0
       by false m r = r m
 
-  all_from_members : (k : ID) (ls : List ID) → ((y : ID) → is_member eq ls y ≡ true → eq k y ≡ false) → AllByRecursion (λ y. eq k y ≡ false) ls
+  all_from_members : (k : ID) (ls : List ID) → ((y : ID) → is_member eq ls y ≡ true → eq k y ≡ false)
+      → AllByRecursion (λ y. eq k y ≡ false) ls
   all_from_members k [] h = tt
-  all_from_members k (l ∷ ls) h = (h l (ap (λ b. b || is_member eq ls l) (laws.refl l)), all_from_members k ls (λ y m. h y (or_right (eq y l) (is_member eq ls y) m)))
+  all_from_members k (l ∷ ls) h = (h l (ap (λ b. b || is_member eq ls l) (laws.refl l)), all_from_members k ls
+          (λ y m. h y (or_right (eq y l) (is_member eq ls y) m)))
 
-  IsDistinct-append : (ks ls : List ID) → IsDistinct eq ks → IsDistinct eq ls → ((y : ID) → is_member eq ls y ≡ true → is_member eq ks y ≡ false) → IsDistinct eq (ks ++ ls)
+  IsDistinct-append : (ks ls : List ID) → IsDistinct eq ks → IsDistinct eq ls
+      → ((y : ID) → is_member eq ls y ≡ true → is_member eq ks y ≡ false) → IsDistinct eq (ks ++ ls)
   unfolding IsDistinct
   IsDistinct-append [] ls d e h = e
   IsDistinct-append (k ∷ ks) ls d e h = (
@@ -100,10 +115,16 @@ module _ {ID : Type 0} {eq : ID → ID → Bool} (laws : IsEquivalence eq) where
   )
 
   -- the ids of voters, each once, and of learners that fit are distinct
-  pub distinct_with_learners : (is_voter : ID → Bool) (ids learners : List ID) → IsDistinct eq ids → ((x : ID) → is_member eq ids x ≡ is_voter x) → LearnersFit eq is_voter learners → IsDistinct eq (ids ++ learners)
-  distinct_with_learners is_voter ids learners distinct voters fit = IsDistinct-append ids learners distinct fit.distinct (λ y m. voters y ∙ fit.no_voters y m)
+  pub distinct_with_learners : (is_voter : ID → Bool) (ids learners : List ID) → IsDistinct eq ids
+      → ((x : ID) → is_member eq ids x ≡ is_voter x) → LearnersFit eq is_voter learners → IsDistinct eq (ids ++ learners)
+  distinct_with_learners is_voter ids learners distinct voters fit =
+      IsDistinct-append ids learners distinct fit.distinct (λ y m. voters y ∙ fit.no_voters y m)
 
-  module _ {V P QS : Type 0} {cmp : P → P → Ordering} (o : IsTotalOrder cmp) (part : V → P) (has_quorum : QS → (ID → Bool) → Bool) (IsClone : V → V → Type 0) (is_voter : ID → Bool) (set : QS) (ids learners : List ID) (v : V) (same_part : (w : V) → IsClone v w → part w ≡ part v) (walk : List (ID × V)) (n : ℕ) (p : P) (distinct : IsDistinct eq ids) (voters : (x : ID) → is_member eq ids x ≡ is_voter x) (fit : LearnersFit eq is_voter learners) (keys : keys_of walk ≡ ids ++ learners) (clones : AllByRecursion (λ e. IsClone v e.1) walk) (counted : n ≡ length ids) (default : p ≡ part v) where
+  module _ {V P QS : Type 0} {cmp : P → P → Ordering} (o : IsTotalOrder cmp) (part : V → P) (has_quorum : QS → (ID → Bool) → Bool)
+      (IsClone : V → V → Type 0) (is_voter : ID → Bool) (set : QS) (ids learners : List ID) (v : V)
+      (same_part : (w : V) → IsClone v w → part w ≡ part v) (walk : List (ID × V)) (n : ℕ) (p : P) (distinct : IsDistinct eq ids)
+      (voters : (x : ID) → is_member eq ids x ≡ is_voter x) (fit : LearnersFit eq is_voter learners) (keys : keys_of walk ≡ ids ++ learners)
+      (clones : AllByRecursion (λ e. IsClone v e.1) walk) (counted : n ≡ length ids) (default : p ≡ part v) where
     front : take n (keys_of walk) ≡ ids
     front = rw (counted, keys) (take_front ids learners)
 
@@ -123,7 +144,8 @@ module _ {ID : Type 0} {eq : ID → ID → Bool} (laws : IsEquivalence eq) where
     falling_at (suc k) [] a = tt
     falling_at (suc k) (e ∷ es) a = (none k es a.1, falling_at k es a.1)
       where
-        none : (k : ℕ) (fs : List (ID × V)) → AllByRecursion (λ f. IsClone v f.1) fs → AllByRecursion (λ f. is_lt (cmp p (part f.1)) ≡ true → AtMost cmp (part f.1) (part e.1)) (take k fs)
+        none : (k : ℕ) (fs : List (ID × V)) → AllByRecursion (λ f. IsClone v f.1) fs
+            → AllByRecursion (λ f. is_lt (cmp p (part f.1)) ≡ true → AtMost cmp (part f.1) (part e.1)) (take k fs)
         none zero fs b = tt
         none (suc k) [] b = tt
         none (suc k) (f ∷ fs) b = ((λ _. rw (same_part f.1 b.0, same_part e.1 a.0) (AtMost-refl o (part v))), none k fs b.1)

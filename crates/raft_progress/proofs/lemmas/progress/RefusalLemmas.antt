@@ -9,7 +9,8 @@ use Rattle.raft_members.specs.Refusal.{IsRefusal}
 use Rattle.raft_members.specs.Valid.{IsValid}
 use Rattle.raft_members.specs.declared.change_members.ChangeMembers.{ChangeMembers}
 use Rattle.raft_members.specs.declared.error.ChangeMembershipErrorOf.{ChangeMembershipErrorOf}
-use Rattle.raft_members.specs.declared.error.ChangeMembershipErrorOf.TheVariants.{InProgress, EmptyMembership, LearnerNotFound, OutOfMemory as WantOfMemory}
+use Rattle.raft_members.specs.declared.error.ChangeMembershipErrorOf.TheVariants.{InProgress, EmptyMembership, LearnerNotFound, OutOfMemory
+        as WantOfMemory}
 use Rattle.raft_progress.specs.Inner.Refusal.{RefusesUpgrade, refusal_reply}
 use Rattle.raft_progress.specs.Inner.ShownAnswers.{IsShownChange, IsShownUpgrade}
 use Rattle.raft_progress.specs.progress.Answered.{Tells, is_refused}
@@ -22,26 +23,35 @@ use Rattle.raft_progress.proofs.lemmas.progress.UpdateLemmas.{IsSame-refl}
 use Rattle.raft_progress.specs.declared.progress.steps.Reply.{Reply}
 use Rattle.raft_progress.specs.declared.progress.steps.Reply.TheVariants.{Refused, BelowDefault, BadLearners, OutOfMemory}
 
-module _ {ID V P QS : Type 0} (eq : ID → ID → Bool) (id_cmp : ID → ID → Ordering) (cmp : P → P → Ordering) (part : V → P) (IsClone : V → V → Type 0) (has_quorum : QS → (ID → Bool) → Bool) (is_voter : QS → ID → Bool)
+module _ {ID V P QS : Type 0} (eq : ID → ID → Bool) (id_cmp : ID → ID → Ordering) (cmp : P → P → Ordering) (part : V → P)
+    (IsClone : V → V → Type 0) (has_quorum : QS → (ID → Bool) → Bool) (is_voter : QS → ID → Bool)
     (old : Shown ID V P QS) (quorum_set : QS) (learners : List ID) (default : V)
   where
     -- a refusal answers the upgrade
-    pub refused_upgrade : (reply : Reply ID P) → RefusesUpgrade eq id_cmp cmp part (is_voter quorum_set) learners default (state eq old).value reply
+    pub refused_upgrade : (reply : Reply ID P)
+        → RefusesUpgrade eq id_cmp cmp part (is_voter quorum_set) learners default (state eq old).value reply
         → IsShownUpgrade eq id_cmp cmp part IsClone has_quorum is_voter old quorum_set learners default reply old
-    refused_upgrade BadLearners r = record { values = (r, IsSame-refl (state eq old)); answered = record { refused = λ h. refl; done = λ h. absurd (true≢false h); tells = tt } }
-    refused_upgrade (BelowDefault id) r = record { values = (r.0, r.1, IsSame-refl (state eq old)); answered = record { refused = λ h. refl; done = λ h. absurd (true≢false h); tells = tt } }
+    refused_upgrade BadLearners r = record
+        { values = (r, IsSame-refl (state eq old));
+            answered = record { refused = λ h. refl; done = λ h. absurd (true≢false h); tells = tt } }
+    refused_upgrade (BelowDefault id) r =
+        record { values = (r.0, r.1, IsSame-refl (state eq old));
+            answered = record { refused = λ h. refl; done = λ h. absurd (true≢false h); tells = tt } }
     refused_upgrade reply r = absurd r
 
 -- going over to a membership is answered by its reply, or by want of memory where nothing has changed
-pub change_or_memory : {K N V P E : Type 0} (eq : K → K → Bool) (id_cmp : K → K → Ordering) (cmp : P → P → Ordering) (part : V → P) (IsClone : V → V → Type 0) (old new : TrackedShown K N V P) (next : MemberList K N) (default : V) (made : Result (Reply K P) E)
+pub change_or_memory : {K N V P E : Type 0} (eq : K → K → Bool) (id_cmp : K → K → Ordering) (cmp : P → P → Ordering) (part : V → P)
+    (IsClone : V → V → Type 0) (old new : TrackedShown K N V P) (next : MemberList K N) (default : V) (made : Result (Reply K P) E)
     → IfOk made (λ reply. IsTrackedChangeTo eq id_cmp cmp part IsClone old next default reply new) → OnErr made (new ≡ old)
     → IsTrackedChangeTo eq id_cmp cmp part IsClone old next default (result_unwrap_or made OutOfMemory) new
 change_or_memory eq id_cmp cmp part IsClone old new next default (Ok reply) step kept = step
 change_or_memory {K} {N} {V} {P} eq id_cmp cmp part IsClone old new next default (Err e) step kept =
     subst (λ (n : TrackedShown K N V P). IsTrackedChangeTo eq id_cmp cmp part IsClone old next default OutOfMemory n) (sym kept)
-    record { values = IsSameTracked-refl (tracked_state eq old); answered = record { refused = λ h. refl; done = λ h. absurd (true≢false h); tells = tt } }
+    record { values = IsSameTracked-refl (tracked_state eq old);
+            answered = record { refused = λ h. refl; done = λ h. absurd (true≢false h); tells = tt } }
 
-module _ {K N V P : Type 0} (eq : K → K → Bool) (id_cmp : K → K → Ordering) (same : N → N → Bool) (cmp : P → P → Ordering) (part : V → P) (IsClone : V → V → Type 0)
+module _ {K N V P : Type 0} (eq : K → K → Bool) (id_cmp : K → K → Ordering) (same : N → N → Bool) (cmp : P → P → Ordering) (part : V → P)
+    (IsClone : V → V → Type 0)
     (old new : TrackedShown K N V P) (change : ChangeMembers K N) (retain : Bool) (default : V)
   where
     abbrev pub after : Members K N
@@ -51,12 +61,15 @@ module _ {K N V P : Type 0} (eq : K → K → Bool) (id_cmp : K → K → Orderi
     same_tracked = IsSameTracked-refl (tracked_state eq old)
 
     -- a reply that may answer the change with nothing changed does
-    unchanged : (reply given : Reply K P) → reply ≡ given → new ≡ old → IsChanged eq id_cmp same cmp part IsClone (tracked_state eq old) change retain default given (tracked_state eq old) → is_refused given ≡ true → Tells given old.progress.granted
+    unchanged : (reply given : Reply K P) → reply ≡ given → new ≡ old
+        → IsChanged eq id_cmp same cmp part IsClone (tracked_state eq old) change retain default given (tracked_state eq old)
+        → is_refused given ≡ true → Tells given old.progress.granted
         → IsShownChange eq id_cmp same cmp part IsClone old change retain default reply new
     unchanged reply given is kept values refused tells =
         subst (λ (n : TrackedShown K N V P). IsShownChange eq id_cmp same cmp part IsClone old change retain default reply n) (sym kept)
         (subst (λ (r : Reply K P). IsShownChange eq id_cmp same cmp part IsClone old change retain default r old) (sym is)
-        record { values = values; answered = record { refused = λ h. refl; done = λ h. absurd (true≢false (sym refused ∙ h)); tells = tells } })
+        record { values = values; answered = record
+                { refused = λ h. refl; done = λ h. absurd (true≢false (sym refused ∙ h)); tells = tells } })
 
     -- a change is answered by what is made of the membership, or by why it is refused
     pub change_answered : {C : Type 0} (made : Result (MemberList K N) (ChangeMembershipErrorOf C K)) (reply : Reply K P)
@@ -65,10 +78,14 @@ module _ {K N V P : Type 0} (eq : K → K → Bool) (id_cmp : K → K → Orderi
         → IfOk made (λ next. IsTrackedChangeTo eq id_cmp cmp part IsClone old next default reply new)
         → IsShownChange eq id_cmp same cmp part IsClone old change retain default reply new
     change_answered (Ok next) reply valid says why refused taken = record {
-      values = changed_step eq id_cmp same cmp part IsClone (tracked_state eq old) change retain default next (tracked_state eq new) valid says reply taken.values;
+      values = changed_step eq id_cmp same cmp part IsClone (tracked_state eq old) change retain default next (tracked_state eq new) valid
+          says reply taken.values;
       answered = taken.answered;
     }
     change_answered (Err (InProgress e)) reply valid says why refused taken = absurd why
-    change_answered (Err (EmptyMembership e)) reply valid says why refused taken = unchanged reply (Refused None) refused.0 refused.1 (why, same_tracked) refl tt
-    change_answered (Err (LearnerNotFound e)) reply valid says why refused taken = unchanged reply (Refused (Some e.node_id)) refused.0 refused.1 (why.0, why.1, same_tracked) refl tt
-    change_answered (Err WantOfMemory) reply valid says why refused taken = unchanged reply OutOfMemory refused.0 refused.1 same_tracked refl tt
+    change_answered (Err (EmptyMembership e)) reply valid says why refused taken =
+        unchanged reply (Refused None) refused.0 refused.1 (why, same_tracked) refl tt
+    change_answered (Err (LearnerNotFound e)) reply valid says why refused taken =
+        unchanged reply (Refused (Some e.node_id)) refused.0 refused.1 (why.0, why.1, same_tracked) refl tt
+    change_answered (Err WantOfMemory) reply valid says why refused taken =
+        unchanged reply OutOfMemory refused.0 refused.1 same_tracked refl tt

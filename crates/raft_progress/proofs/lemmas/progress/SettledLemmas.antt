@@ -1,5 +1,6 @@
 -- A progress is in order after an update.
-use Rattle.std.specs.Prelude.{◌≡◌, ℕ, ◌+◌, ◌-◌, ◌<◌, ◌≤◌, Bool, true, false, cond, List, [], ◌∷◌, ◌++◌, length, take, Option, Some, None, position}
+use Rattle.std.specs.Prelude.{◌≡◌, ℕ, ◌+◌, ◌-◌, ◌<◌, ◌≤◌, Bool, true, false, cond, List, [], ◌∷◌, ◌++◌, length, take, Option, Some, None,
+        position}
 use Rattle.std.specs.Ordering.{is_le, is_lt}
 use Rattle.std.specs.declared.cmp.Ordering.{Ordering}
 use Rattle.std.specs.declared.cmp.Ordering.TheVariants.{Less, Equal, Greater}
@@ -7,7 +8,8 @@ use Rattle.std.specs.Cmp.{IsEquivalence, IsTotalOrder}
 use Rattle.std.specs.Map.{keys_of, lookup}
 use Rattle.std.specs.Set.{is_member}
 use Rattle.std.specs.List.{IsDistinct, prefix_len}
-use Rattle.std.proofs.Common.{arith, sym, ap, refl, ◌∙◌, true≢false, get_or, set, subst, suc, zero, ltb, ltb-true, ltb-false, length-append, append_assoc}
+use Rattle.std.proofs.Common.{arith, sym, ap, refl, ◌∙◌, true≢false, get_or, set, subst, suc, zero, ltb, ltb-true, ltb-false, length-append,
+        append_assoc}
 use Rattle.std.proofs.lemmas.List.{take-set-le, set-set, set-get_or, get_or-set_same}
 use Rattle.std.proofs.Math.Seq.{take-set-lt}
 use Rattle.std.proofs.lemmas.List.Quantifiers.{position-Some}
@@ -21,7 +23,8 @@ use Rattle.raft_progress.proofs.lemmas.progress.walk.FallingLemmas.{falling_rise
 use Rattle.raft_progress.proofs.lemmas.progress.walk.FrontLemmas.{front_fails}
 use Rattle.raft_progress.proofs.lemmas.progress.walk.RisingLemmas.{get_at, set_at}
 use Rattle.raft_progress.proofs.lemmas.progress.walk.MovedLemmas.{take_add, take_within, distinct_moved, member_moved, lookup_moved}
-use Rattle.raft_progress.proofs.lemmas.progress.recount.CountedValueLemmas.{counted_still, counted_none, counted_front, not_below_still, lead_fails, in_lead, not_both}
+use Rattle.raft_progress.proofs.lemmas.progress.recount.CountedValueLemmas.{counted_still, counted_none, counted_front, not_below_still,
+        lead_fails, in_lead, not_both}
 use Rattle.raft_progress.proofs.lemmas.progress.UpdateLemmas.{keys_take}
 
 tied : {P : Type 0} {cmp : P → P → Ordering} (o : IsTotalOrder cmp) (a b : P) → AtMost cmp a b → AtMost cmp b a → cmp a b ≡ Equal
@@ -49,16 +52,26 @@ prefix_any : {X : Type 0} (p : X → Bool) (xs ys zs : List X) → length xs ≤
 prefix_any p [] ys zs l = omega arith
 prefix_any {X} p (x ∷ xs) ys zs l = by (p x) l (prefix_any p xs ys zs)
   where
-    by : (b : Bool) → suc (length xs) ≤ cond b (1 + prefix_len p (xs ++ ys)) 0 → (length xs ≤ prefix_len p (xs ++ ys) → length xs ≤ prefix_len p (xs ++ zs)) → suc (length xs) ≤ cond b (1 + prefix_len p (xs ++ zs)) 0
+    by : (b : Bool) → suc (length xs) ≤ cond b (1 + prefix_len p (xs ++ ys)) 0
+        → (length xs ≤ prefix_len p (xs ++ ys) → length xs ≤ prefix_len p (xs ++ zs))
+        → suc (length xs) ≤ cond b (1 + prefix_len p (xs ++ zs)) 0
     by true h r = let q = r (omega arith) in omega arith
     by false h r = absurd (omega arith)
 
-pub none_before : {ID V : Type 0} (eq : ID → Bool) (es : List (ID × V)) (n : ℕ) (d : ID × V) → ((k : ℕ) → k < n → k < length es → eq (get_or es k d).0 ≡ false) → Rattle.std.specs.List.list_any eq (take n (keys_of es)) ≡ false
+pub none_before : {ID V : Type 0} (eq : ID → Bool) (es : List (ID × V)) (n : ℕ) (d : ID × V)
+    → ((k : ℕ) → k < n → k < length es → eq (get_or es k d).0 ≡ false) → Rattle.std.specs.List.list_any eq (take n (keys_of es)) ≡ false
 none_before eq es zero d h = refl
 none_before eq [] (suc n) d h = refl
-none_before eq (e ∷ es) (suc n) d h = rw (h 0 (omega arith) (omega arith)) (none_before eq es n d (λ k l m. h (suc k) (omega arith) (omega arith)))
+none_before eq (e ∷ es) (suc n) d h = rw (h 0 (omega arith) (omega arith))
+    (none_before eq es n d (λ k l m. h (suc k) (omega arith) (omega arith)))
 
-module _ {ID V P QS : Type 0} {eq : ID → ID → Bool} (laws : IsEquivalence eq) {cmp : P → P → Ordering} (o : IsTotalOrder cmp) (part : V → P) (has_quorum : QS → (ID → Bool) → Bool) (qs : QS) (superset : (s t : ID → Bool) → ((x : ID) → s x ≡ true → t x ≡ true) → has_quorum qs s ≡ true → has_quorum qs t ≡ true) (d0 : P) (n : ℕ) (walk : List (ID × V)) (g : P) (r : IsWalkInOrder eq cmp part has_quorum qs walk n d0 g) (id : ID) (i : ℕ) (e0 : ID × V) (at : position (λ (f : ID × V). eq id f.0) walk ≡ Some i) (is : e0 ≡ get_or walk i e0) (w : V) (up : AtMost cmp (part e0.1) (part w)) (next : List (ID × V)) (next_is : next ≡ set walk i (e0.0, w)) (same_keys : keys_of next ≡ keys_of walk) (written : (x : ID) → lookup (eq x) next ≡ cond (eq id x) (Some w) (lookup (eq x) walk)) (was : lookup (eq id) walk ≡ Some e0.1) where
+module _ {ID V P QS : Type 0} {eq : ID → ID → Bool} (laws : IsEquivalence eq) {cmp : P → P → Ordering} (o : IsTotalOrder cmp) (part : V → P)
+    (has_quorum : QS → (ID → Bool) → Bool) (qs : QS)
+    (superset : (s t : ID → Bool) → ((x : ID) → s x ≡ true → t x ≡ true) → has_quorum qs s ≡ true → has_quorum qs t ≡ true) (d0 : P) (n : ℕ)
+    (walk : List (ID × V)) (g : P) (r : IsWalkInOrder eq cmp part has_quorum qs walk n d0 g) (id : ID) (i : ℕ) (e0 : ID × V)
+    (at : position (λ (f : ID × V). eq id f.0) walk ≡ Some i) (is : e0 ≡ get_or walk i e0) (w : V) (up : AtMost cmp (part e0.1) (part w))
+    (next : List (ID × V)) (next_is : next ≡ set walk i (e0.0, w)) (same_keys : keys_of next ≡ keys_of walk)
+    (written : (x : ID) → lookup (eq x) next ≡ cond (eq id x) (Some w) (lookup (eq x) walk)) (was : lookup (eq id) walk ≡ Some e0.1) where
   place : (i < length walk) × (eq id (get_or walk i e0).0 ≡ true) × ((k : ℕ) → k < i → eq id (get_or walk k e0).0 ≡ false)
   place = position-Some (λ (f : ID × V). eq id f.0) walk i e0 at
 
@@ -93,7 +106,8 @@ module _ {ID V P QS : Type 0} {eq : ID → ID → Bool} (laws : IsEquivalence eq
       where
         by : (b : Bool) → is_lt (cmp g (part w)) ≡ b → cmp (part w) g ≡ Equal
         by true u = absurd (not_both o g (part e0.1) (over l u) (ap is_le t))
-        by false u = tied o (part w) g (AtMost-from_not_lt o g (part w) u) (ap (λ b. b) (ap is_le (sym (o.congr (part e0.1) g (part w) t))) ∙ up)
+        by false u = tied o (part w) g (AtMost-from_not_lt o g (part w) u)
+            (ap (λ b. b) (ap is_le (sym (o.congr (part e0.1) g (part w) t))) ∙ up)
 
     still_falling : IsFalling cmp part g (take n next)
     still_falling = by (ltb i n) refl
@@ -101,19 +115,25 @@ module _ {ID V P QS : Type 0} {eq : ID → ID → Bool} (laws : IsEquivalence eq
         by : (b : Bool) → ltb i n ≡ b → IsFalling cmp part g (take n next)
         by true t =
             let l = ltb-true i n t in
-            rw next_is (rw (take-set-lt n walk i (e0.0, w) l) (falling_set o part g (take n walk) i e0 (e0.0, w) e0 (length_take walk n i l place.0) (is ∙ sym (get_take walk n i e0 l)) up (λ h. (over l h, low l h)) r.falling))
+            rw next_is (rw (take-set-lt n walk i (e0.0, w) l)
+                    (falling_set o part g (take n walk) i e0 (e0.0, w) e0 (length_take walk n i l place.0)
+                    (is ∙ sym (get_take walk n i e0 l)) up (λ h. (over l h, low l h)) r.falling))
         by false t = let l = ltb-false i n t in rw next_is (rw (take-set-le n walk i (e0.0, w) l) r.falling)
 
     pub order_still : IsWalkInOrder eq cmp part has_quorum qs next n d0 g
     order_still = record {
       distinct = distinct';
       falling = still_falling;
-      not_below = not_below_still laws o part has_quorum qs superset d0 n walk next id e0.1 w (λ x. ap (λ ks. is_member eq (take n ks) x) same_keys) written was up r.not_below;
-      counted = counted_still laws o part has_quorum qs superset d0 n walk next id e0.1 w (λ x. ap (λ ks. is_member eq (take n ks) x) same_keys) written was up g r.distinct r.falling (λ m. same_over (member_within m)) (λ m. still_tied (member_within m)) r.counted;
+      not_below = not_below_still laws o part has_quorum qs superset d0 n walk next id e0.1 w
+          (λ x. ap (λ ks. is_member eq (take n ks) x) same_keys) written was up r.not_below;
+      counted = counted_still laws o part has_quorum qs superset d0 n walk next id e0.1 w
+          (λ x. ap (λ ks. is_member eq (take n ks) x) same_keys) written was up g r.distinct r.falling (λ m. same_over (member_within m))
+          (λ m. still_tied (member_within m)) r.counted;
     }
 
   -- the voter has moved up
-  module _ (voter : i < n) (high : is_lt (cmp g (part w)) ≡ true) (moved : List (ID × V)) (to : ℕ) (rises : RisesTo cmp part next i moved to) where
+  module _ (voter : i < n) (high : is_lt (cmp g (part w)) ≡ true) (moved : List (ID × V)) (to : ℕ)
+      (rises : RisesTo cmp part next i moved to) where
     abbrev p : Passed cmp part next i moved to
     p = rises.passes
 
@@ -121,7 +141,8 @@ module _ {ID V P QS : Type 0} {eq : ID → ID → Bool} (laws : IsEquivalence eq
     entry_is =
         let len : length (p.front ++ p.passed) ≡ i = length-append p.front p.passed ∙ p.was_at in
         let was' : next ≡ (p.front ++ p.passed) ++ (p.entry ∷ p.rest) = p.was ∙ sym (append_assoc p.front p.passed (p.entry ∷ p.rest)) in
-        sym (ap (λ xs. get_or xs i e0) was' ∙ ap (λ k. get_or ((p.front ++ p.passed) ++ (p.entry ∷ p.rest)) k e0) (sym len) ∙ get_at (p.front ++ p.passed) p.entry p.rest e0)
+        sym (ap (λ xs. get_or xs i e0) was' ∙ ap (λ k. get_or ((p.front ++ p.passed) ++ (p.entry ∷ p.rest)) k e0) (sym len)
+                ∙ get_at (p.front ++ p.passed) p.entry p.rest e0)
         ∙ ap (λ xs. get_or xs i e0) next_is ∙ get_or-set_same walk i (e0.0, w) e0 place.0
 
     part_is : part p.entry.1 ≡ part w
@@ -131,7 +152,8 @@ module _ {ID V P QS : Type 0} {eq : ID → ID → Bool} (laws : IsEquivalence eq
     walk_is =
         let len : length (p.front ++ p.passed) ≡ i = length-append p.front p.passed ∙ p.was_at in
         sym (set-get_or walk i e0) ∙ ap (set walk i) (sym is) ∙ sym (set-set walk i (e0.0, w) e0) ∙ ap (λ xs. set xs i e0) (sym next_is)
-        ∙ ap (λ xs. set xs i e0) (p.was ∙ sym (append_assoc p.front p.passed (p.entry ∷ p.rest))) ∙ ap (λ k. set ((p.front ++ p.passed) ++ (p.entry ∷ p.rest)) k e0) (sym len)
+        ∙ ap (λ xs. set xs i e0) (p.was ∙ sym (append_assoc p.front p.passed (p.entry ∷ p.rest)))
+        ∙ ap (λ k. set ((p.front ++ p.passed) ++ (p.entry ∷ p.rest)) k e0) (sym len)
         ∙ set_at (p.front ++ p.passed) p.entry e0 p.rest ∙ append_assoc p.front p.passed (e0 ∷ p.rest)
 
     after : ℕ
@@ -155,16 +177,22 @@ module _ {ID V P QS : Type 0} {eq : ID → ID → Bool} (laws : IsEquivalence eq
     distinct_next = subst (λ (es : List (ID × V)). IsDistinct eq (keys_of es)) p.was distinct'
 
     pub distinct_to : IsDistinct eq (keys_of moved)
-    distinct_to = subst (λ (es : List (ID × V)). IsDistinct eq (keys_of es)) (sym p.now) (distinct_moved laws p.front p.passed p.entry p.rest distinct_next)
+    distinct_to = subst (λ (es : List (ID × V)). IsDistinct eq (keys_of es)) (sym p.now)
+        (distinct_moved laws p.front p.passed p.entry p.rest distinct_next)
 
     pub written_to : (x : ID) → lookup (eq x) moved ≡ cond (eq id x) (Some w) (lookup (eq x) walk)
-    written_to x = ap (λ es. lookup (eq x) es) p.now ∙ lookup_moved laws p.front p.passed p.entry p.rest distinct_next x ∙ ap (λ es. lookup (eq x) es) (sym p.was) ∙ written x
+    written_to x = ap (λ es. lookup (eq x) es) p.now ∙ lookup_moved laws p.front p.passed p.entry p.rest distinct_next x
+        ∙ ap (λ es. lookup (eq x) es) (sym p.was) ∙ written x
 
     pub voters_to : (x : ID) → is_member eq (take n (keys_of moved)) x ≡ is_member eq (take n (keys_of walk)) x
     voters_to x =
-        ap (λ es. is_member eq (take n (keys_of es)) x) p.now ∙ ap (λ ks. is_member eq ks x) (sym (keys_take laws n (p.front ++ (p.entry ∷ (p.passed ++ p.rest))))) ∙ ap (λ es. is_member eq (keys_of es) x) take_new
+        ap (λ es. is_member eq (take n (keys_of es)) x) p.now
+            ∙ ap (λ ks. is_member eq ks x) (sym (keys_take laws n (p.front ++ (p.entry ∷ (p.passed ++ p.rest)))))
+            ∙ ap (λ es. is_member eq (keys_of es) x) take_new
         ∙ member_moved laws p.front p.passed p.entry (take after p.rest) x
-        ∙ ap (λ es. is_member eq (keys_of es) x) (sym (take_old p.entry)) ∙ ap (λ ks. is_member eq ks x) (keys_take laws n (p.front ++ (p.passed ++ (p.entry ∷ p.rest)))) ∙ ap (λ es. is_member eq (take n (keys_of es)) x) (sym p.was)
+        ∙ ap (λ es. is_member eq (keys_of es) x) (sym (take_old p.entry))
+        ∙ ap (λ ks. is_member eq ks x) (keys_take laws n (p.front ++ (p.passed ++ (p.entry ∷ p.rest))))
+        ∙ ap (λ es. is_member eq (take n (keys_of es)) x) (sym p.was)
         ∙ ap (λ ks. is_member eq (take n ks) x) same_keys
 
     take_moved : take n moved ≡ p.front ++ (p.entry ∷ (p.passed ++ take after p.rest))
@@ -176,9 +204,11 @@ module _ {ID V P QS : Type 0} {eq : ID → ID → Bool} (laws : IsEquivalence eq
     pub falling_to : IsFalling cmp part g (take n moved)
     falling_to =
         subst (IsFalling cmp part g) (sym take_moved)
-        (falling_risen o part g p.front p.passed e0 p.entry (take after p.rest) (ap (λ x. is_lt (cmp g x)) part_is ∙ high) (ap (λ x. is_le (cmp (part e0.1) x)) part_is ∙ up) p.lesser rises.stops (subst (IsFalling cmp part g) take_walk r.falling))
+        (falling_risen o part g p.front p.passed e0 p.entry (take after p.rest) (ap (λ x. is_lt (cmp g x)) part_is ∙ high)
+                (ap (λ x. is_le (cmp (part e0.1) x)) part_is ∙ up) p.lesser rises.stops (subst (IsFalling cmp part g) take_walk r.falling))
 
-    pub not_below_to : (x : ID) (u : V) → is_member eq (take n (keys_of moved)) x ≡ true → lookup (eq x) moved ≡ Some u → AtMost cmp d0 (part u)
+    pub not_below_to : (x : ID) (u : V) → is_member eq (take n (keys_of moved)) x ≡ true → lookup (eq x) moved ≡ Some u
+        → AtMost cmp d0 (part u)
     not_below_to = not_below_still laws o part has_quorum qs superset d0 n walk moved id e0.1 w voters_to written_to was up r.not_below
 
     -- the voter's part was above granted before
@@ -187,7 +217,8 @@ module _ {ID V P QS : Type 0} {eq : ID → ID → Bool} (laws : IsEquivalence eq
       distinct = distinct_to;
       falling = falling_to;
       not_below = not_below_to;
-      counted = counted_still laws o part has_quorum qs superset d0 n walk moved id e0.1 w voters_to written_to was up g r.distinct r.falling (λ m. high ∙ sym h) (λ m t. absurd (not_both o g (part e0.1) h (ap is_le t))) r.counted;
+      counted = counted_still laws o part has_quorum qs superset d0 n walk moved id e0.1 w voters_to written_to was up g r.distinct
+          r.falling (λ m. high ∙ sym h) (λ m t. absurd (not_both o g (part e0.1) h (ap is_le t))) r.counted;
     }
 
     length_moved : to < length (take n moved)
@@ -196,26 +227,38 @@ module _ {ID V P QS : Type 0} {eq : ID → ID → Bool} (laws : IsEquivalence eq
     lead_to : to < prefix_len (exceeds cmp part g) (take n moved)
     lead_to =
         in_lead laws o part has_quorum qs superset d0 n moved distinct_to g falling_to to e0 length_moved
-        (ap (λ xs. is_lt (cmp g (part (get_or xs to e0).1))) take_moved ∙ ap (λ k. is_lt (cmp g (part (get_or (p.front ++ (p.entry ∷ (p.passed ++ take after p.rest))) k e0).1))) (sym p.now_at) ∙ ap (λ (f : ID × V). is_lt (cmp g (part f.1))) (get_at p.front p.entry (p.passed ++ take after p.rest) e0) ∙ ap (λ x. is_lt (cmp g x)) part_is ∙ high)
+        (ap (λ xs. is_lt (cmp g (part (get_or xs to e0).1))) take_moved
+                ∙ ap (λ k. is_lt (cmp g (part (get_or (p.front ++ (p.entry ∷ (p.passed ++ take after p.rest))) k e0).1))) (sym p.now_at)
+                ∙ ap (λ (f : ID × V). is_lt (cmp g (part f.1))) (get_at p.front p.entry (p.passed ++ take after p.rest) e0)
+                ∙ ap (λ x. is_lt (cmp g x)) part_is ∙ high)
 
     -- the fronts before the voter were no quorum, and none of them has changed
     fails_before : (l : ℕ) → 1 ≤ l → l ≤ to → front_test eq (has_quorum qs) (take n moved) l ≡ false
     fails_before l one far =
         let q = p.now_at in
-        let lead : length p.front ≤ prefix_len (exceeds cmp part g) (p.front ++ (p.entry ∷ (p.passed ++ take after p.rest))) = subst (λ (xs : List (ID × V)). length p.front ≤ prefix_len (exceeds cmp part g) xs) take_moved (let h = lead_to in omega arith) in
-        let lead' : length p.front ≤ prefix_len (exceeds cmp part g) (take n walk) = subst (λ (xs : List (ID × V)). length p.front ≤ prefix_len (exceeds cmp part g) xs) (sym take_walk) (prefix_any (exceeds cmp part g) p.front _ (p.passed ++ (e0 ∷ take after p.rest)) lead) in
-        let fails : front_test eq (has_quorum qs) (take n walk) l ≡ false = front_fails eq (has_quorum qs) superset (take n walk) l (prefix_len (exceeds cmp part g) (take n walk)) (omega arith) (lead_fails laws o part has_quorum qs superset d0 n walk r.distinct g r.falling r.counted (omega arith)) in
+        let lead : length p.front ≤ prefix_len (exceeds cmp part g) (p.front ++ (p.entry ∷ (p.passed ++ take after p.rest))) =
+            subst (λ (xs : List (ID × V)). length p.front ≤ prefix_len (exceeds cmp part g) xs) take_moved
+            (let h = lead_to in omega arith) in
+        let lead' : length p.front ≤ prefix_len (exceeds cmp part g) (take n walk) =
+            subst (λ (xs : List (ID × V)). length p.front ≤ prefix_len (exceeds cmp part g) xs) (sym take_walk)
+            (prefix_any (exceeds cmp part g) p.front _ (p.passed ++ (e0 ∷ take after p.rest)) lead) in
+        let fails : front_test eq (has_quorum qs) (take n walk) l ≡ false =
+            front_fails eq (has_quorum qs) superset (take n walk) l (prefix_len (exceeds cmp part g) (take n walk)) (omega arith)
+            (lead_fails laws o part has_quorum qs superset d0 n walk r.distinct g r.falling r.counted (omega arith)) in
         let same : take l (take n moved) ≡ take l (take n walk) =
-        ap (take l) take_moved ∙ take_within p.front (p.entry ∷ (p.passed ++ take after p.rest)) l (omega arith) ∙ sym (take_within p.front (p.passed ++ (e0 ∷ take after p.rest)) l (omega arith)) ∙ ap (take l) (sym take_walk) in
+        ap (take l) take_moved ∙ take_within p.front (p.entry ∷ (p.passed ++ take after p.rest)) l (omega arith)
+            ∙ sym (take_within p.front (p.passed ++ (e0 ∷ take after p.rest)) l (omega arith)) ∙ ap (take l) (sym take_walk) in
         ap (λ es. has_quorum qs (is_member eq (keys_of es))) same ∙ fails
 
-    module _ (found : Option ℕ) (tests : ℕ) (scan : IsLeastFront eq (has_quorum qs) (take n moved) to (prefix_len (exceeds cmp part g) (take n moved)) found tests) where
+    module _ (found : Option ℕ) (tests : ℕ)
+        (scan : IsLeastFront eq (has_quorum qs) (take n moved) to (prefix_len (exceeds cmp part g) (take n moved)) found tests) where
       pub order_none : found ≡ None → IsWalkInOrder eq cmp part has_quorum qs moved n d0 g
       order_none none = record {
         distinct = distinct_to;
         falling = falling_to;
         not_below = not_below_to;
-        counted = counted_none laws o part has_quorum qs superset d0 n walk moved id e0.1 w voters_to written_to was up g r.counted distinct_to falling_to (scan.none none (prefix_len (exceeds cmp part g) (take n moved)) lead_to (omega arith));
+        counted = counted_none laws o part has_quorum qs superset d0 n walk moved id e0.1 w voters_to written_to was up g r.counted
+            distinct_to falling_to (scan.none none (prefix_len (exceeds cmp part g) (take n moved)) lead_to (omega arith));
       }
 
       fails_least : (k : ℕ) → found ≡ Some k → (l : ℕ) → 1 ≤ l → l < k → front_test eq (has_quorum qs) (take n moved) l ≡ false
@@ -225,10 +268,12 @@ module _ {ID V P QS : Type 0} {eq : ID → ID → Bool} (laws : IsEquivalence eq
           by true t = scan.least k l s (ltb-true to l t) far
           by false t = fails_before l one (ltb-false to l t)
 
-      pub order_found : (k : ℕ) (f : ID × V) → found ≡ Some k → f ≡ get_or (take n moved) (k - 1) f → IsWalkInOrder eq cmp part has_quorum qs moved n d0 (part f.1)
+      pub order_found : (k : ℕ) (f : ID × V) → found ≡ Some k → f ≡ get_or (take n moved) (k - 1) f
+          → IsWalkInOrder eq cmp part has_quorum qs moved n d0 (part f.1)
       order_found k f s here =
           let a = scan.above k s in
-          let c = counted_front laws o part has_quorum qs superset d0 n walk moved id e0.1 w voters_to written_to was up g r.counted distinct_to falling_to k f (omega arith) (scan.within k s) (scan.holds k s) (fails_least k s) here in
+          let c = counted_front laws o part has_quorum qs superset d0 n walk moved id e0.1 w voters_to written_to was up g r.counted
+              distinct_to falling_to k f (omega arith) (scan.within k s) (scan.holds k s) (fails_least k s) here in
           record {
             distinct = distinct_to;
             falling = falling_weaker o part g (part f.1) c.0 (take n moved) falling_to;

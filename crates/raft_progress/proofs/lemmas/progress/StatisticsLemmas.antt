@@ -18,14 +18,17 @@ one_more : (n v : ℕ) → (n + 1) * v ≡ n * v + v
 one_more n v = omega arith
 
 -- no update yet
-pub counts_begin : (voters : ℕ) (s : Stat) → s.update_count < 2 ^ 64 → s.move_count < 2 ^ 64 → s.is_quorum_count < 2 ^ 64 → CountsGoOn 0 voters s s
+pub counts_begin : (voters : ℕ) (s : Stat) → s.update_count < 2 ^ 64 → s.move_count < 2 ^ 64 → s.is_quorum_count < 2 ^ 64
+    → CountsGoOn 0 voters s s
 counts_begin voters s a b c = record {
   updated = counted_none s.update_count a;
   moved = (0, omega arith, counted_none s.move_count b);
   tested = (0, λ d h. omega arith, counted_none s.is_quorum_count c);
 }
 
-module _ {ID V P QS : Type 0} (eq : ID → ID → Bool) (cmp : P → P → Ordering) (part : V → P) (Left : V → V → Type 0) (n : ℕ) (s : Stat) (old : Shown ID V P QS) (id : ID) (new : Shown ID V P QS) (u : IsUpdated eq cmp part Left old id new) (c : CountsGoOn n old.voter_count s old.stat) where
+module _ {ID V P QS : Type 0} (eq : ID → ID → Bool) (cmp : P → P → Ordering) (part : V → P) (Left : V → V → Type 0) (n : ℕ) (s : Stat)
+    (old : Shown ID V P QS) (id : ID) (new : Shown ID V P QS) (u : IsUpdated eq cmp part Left old id new)
+    (c : CountsGoOn n old.voter_count s old.stat) where
   same : new.voter_count ≡ old.voter_count
   same = u.same_voter_count
 
@@ -36,7 +39,8 @@ module _ {ID V P QS : Type 0} (eq : ID → ID → Bool) (cmp : P → P → Order
   updated_once = u.counts ∙ ap (λ x. count_after x 1) c.updated ∙ counted_twice s.update_count n 1
 
   -- nothing but the update was counted
-  counts_unknown : new ≡ record old { stat = record old.stat { update_count = count_after old.stat.update_count 1 } } → CountsGoOn (n + 1) new.voter_count s new.stat
+  counts_unknown : new ≡ record old { stat = record old.stat { update_count = count_after old.stat.update_count 1 } }
+      → CountsGoOn (n + 1) new.voter_count s new.stat
   counts_unknown is = record {
     updated = updated_once;
     moved = let w = c.moved in let l = w.1 in (w.0, omega arith, ap (λ p. p.stat.move_count) is ∙ w.2);
@@ -67,8 +71,10 @@ module _ {ID V P QS : Type 0} (eq : ID → ID → Bool) (cmp : P → P → Order
         );
   }
     where
-      by : (b : Bool) → rises_past_granted eq cmp part old id v w ≡ b → (k : ℕ) × (k ≤ n + 1) × (new.stat.move_count ≡ count_after s.move_count k)
-      by true h = let x = c.moved in let l = x.1 in (x.0 + 1, omega arith, (t.rises h).1 ∙ ap (λ y. count_after y 1) x.2 ∙ counted_twice s.move_count x.0 1)
+      by : (b : Bool) → rises_past_granted eq cmp part old id v w ≡ b
+          → (k : ℕ) × (k ≤ n + 1) × (new.stat.move_count ≡ count_after s.move_count k)
+      by true h = let x = c.moved in let l = x.1 in
+          (x.0 + 1, omega arith, (t.rises h).1 ∙ ap (λ y. count_after y 1) x.2 ∙ counted_twice s.move_count x.0 1)
       by false h = let x = c.moved in let l = x.1 in (x.0, omega arith, (t.stays h).1 ∙ x.2)
 
   pub counts_more : CountsGoOn (n + 1) new.voter_count s new.stat

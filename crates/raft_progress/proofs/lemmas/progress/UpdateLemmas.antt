@@ -39,21 +39,26 @@ module _ {ID : Type 0} {eq : ID → ID → Bool} (laws : IsEquivalence eq) where
   lookup_alike x y e [] = refl
   lookup_alike x y e (f ∷ fs) = rw (laws.congr x y f.0 e, lookup_alike x y e fs) refl
 
-  module _ {V : Type 0} (walk : List (ID × V)) (id : ID) (place : ℕ) (e : ID × V) (at : position (λ (f : ID × V). eq id f.0) walk ≡ Some place) (is : slice_get walk place ≡ Some e) where
+  module _ {V : Type 0} (walk : List (ID × V)) (id : ID) (place : ℕ) (e : ID × V)
+      (at : position (λ (f : ID × V). eq id f.0) walk ≡ Some place) (is : slice_get walk place ≡ Some e) where
     pub was : lookup (eq id) walk ≡ Some e.1
     was = lookup_found (eq id) walk place e at ∙ ap (λ (f : ID × V). Some f.1) (get_or_from_slice_get walk place e e is)
 
     pub wrote : (w : V) → set walk place (e.0, w) ≡ set_value (eq id) walk w
-    wrote w = ap (λ (f : ID × V). set walk place (f.0, w)) (sym (get_or_from_slice_get walk place e e is)) ∙ set_found (eq id) walk place e w at
+    wrote w = ap (λ (f : ID × V). set walk place (f.0, w)) (sym (get_or_from_slice_get walk place e e is))
+        ∙ set_found (eq id) walk place e w at
 
-  module _ {V : Type 0} (walk new : List (ID × V)) (id : ID) (v w : V) (was : lookup (eq id) walk ≡ Some v) (is : new ≡ set_value (eq id) walk w) where
+  module _ {V : Type 0} (walk new : List (ID × V)) (id : ID) (v w : V) (was : lookup (eq id) walk ≡ Some v)
+      (is : new ≡ set_value (eq id) walk w) where
     pub same_keys : keys_of new ≡ keys_of walk
     same_keys = ap keys_of is ∙ keys-set_value (eq id) walk w
 
     pub lookup_written : (x : ID) → lookup (eq x) new ≡ cond (eq id x) (Some w) (lookup (eq x) walk)
-    lookup_written x = ap (λ es. lookup (eq x) es) is ∙ lookup-set_value laws (eq id) (λ y z h. laws.congr id y z h) x w walk (ap is_some was)
+    lookup_written x = ap (λ es. lookup (eq x) es) is
+        ∙ lookup-set_value laws (eq id) (λ y z h. laws.congr id y z h) x w walk (ap is_some was)
 
-    pub writes : {P QS : Type 0} (qs qs' : QS) (n n' : ℕ) (p p' : P) → qs' ≡ qs → n' ≡ n → p' ≡ p → Writes eq (state_of eq qs walk n p) id w (state_of eq qs' new n' p')
+    pub writes : {P QS : Type 0} (qs qs' : QS) (n n' : ℕ) (p p' : P) → qs' ≡ qs → n' ≡ n → p' ≡ p
+        → Writes eq (state_of eq qs walk n p) id w (state_of eq qs' new n' p')
     writes qs qs' n n' p p' a b c = record {
       quorum_set = a;
       is_voter = λ x. rw (b, same_keys) refl;
@@ -66,6 +71,8 @@ pub IsSame-refl : {ID V P QS : Type 0} (s : ProgressState ID V P QS) → IsSame 
 IsSame-refl s = record { quorum_set = refl; is_voter = λ x. refl; value = λ x. refl; default_part = refl }
 
 -- an update of an unknown id changes no value
-pub unknown_same : {ID V P QS : Type 0} (eq : ID → ID → Bool) (cmp : P → P → Ordering) (part : V → P) (Left : V → V → Type 0) (old : Shown ID V P QS) (id : ID) (new : Shown ID V P QS) → IsUpdated eq cmp part Left old id new → (state eq old).value id ≡ None → IsSame (state eq old) (state eq new)
+pub unknown_same : {ID V P QS : Type 0} (eq : ID → ID → Bool) (cmp : P → P → Ordering) (part : V → P) (Left : V → V → Type 0)
+    (old : Shown ID V P QS) (id : ID) (new : Shown ID V P QS) → IsUpdated eq cmp part Left old id new → (state eq old).value id ≡ None
+    → IsSame (state eq old) (state eq new)
 unknown_same {ID} {V} {P} {QS} eq cmp part Left old id new u none =
     subst (λ (p : Shown ID V P QS). IsSame (state eq old) (state eq p)) (sym (u.unknown none)) (IsSame-refl (state eq old))

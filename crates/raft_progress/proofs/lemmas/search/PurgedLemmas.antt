@@ -16,11 +16,14 @@ module _ {L C : Type 0} (cmp : C → C → Ordering) (log_view : L → LogView C
   either_within false s u l m = l
 
   -- where no send of a list has its purge point at or past an index, none that was not skipped has
-  pub none_purged_past : (search : Search C) (events : List (SearchEvent L)) → search.purged ≤ index → AllByRecursion (IsPurgedWithin log_view index) events → NonePurgedPast (after_events cmp log_view search events) index
+  pub none_purged_past : (search : Search C) (events : List (SearchEvent L)) → search.purged ≤ index
+      → AllByRecursion (IsPurgedWithin log_view index) events → NonePurgedPast (after_events cmp log_view search events) index
   none_purged_past search [] l all = l
   none_purged_past search (Send log n ∷ es) l all =
       let view = log_view log.now in
-      let next : Search C = record { entry = after_send (send_table cmp search.entry view n); purged = next_index view.purge_upto; accepted = search.accepted } in
-      none_purged_past (after_event cmp log_view search (Send log n)) es (either_within (can_be_sent search.entry view && nat_le search.purged (next_index view.purge_upto)) search next l all.0) all.1
+      let next : Search C = record { entry = after_send (send_table cmp search.entry view n); purged = next_index view.purge_upto;
+              accepted = search.accepted } in
+      none_purged_past (after_event cmp log_view search (Send log n)) es
+          (either_within (can_be_sent search.entry view && nat_le search.purged (next_index view.purge_upto)) search next l all.0) all.1
   none_purged_past search (Conflict id i ∷ es) l all = none_purged_past (after_event cmp log_view search (Conflict id i)) es l all.1
   none_purged_past search (Heartbeat i ∷ es) l all = none_purged_past (after_event cmp log_view search (Heartbeat i)) es l all.1

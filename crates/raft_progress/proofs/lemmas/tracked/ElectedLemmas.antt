@@ -25,11 +25,13 @@ pub some_config : {K : Type 0} (eq : K → K → Bool) (cs ds : List (List K)) �
 some_config eq [] ds h = absurd (true≢false (sym h ∙ no_configs eq ds))
 some_config eq (c ∷ cs) ds h = omega arith
 
-module _ {K N V P : Type 0} {eq : K → K → Bool} (laws : IsEquivalence eq) {id_cmp : K → K → Ordering} {cmp : P → P → Ordering} (o : IsTotalOrder cmp) (part : V → P) (t : TrackedShown K N V P) (r : IsReady eq id_cmp cmp part t) where
+module _ {K N V P : Type 0} {eq : K → K → Bool} (laws : IsEquivalence eq) {id_cmp : K → K → Ordering} {cmp : P → P → Ordering}
+    (o : IsTotalOrder cmp) (part : V → P) (t : TrackedShown K N V P) (r : IsReady eq id_cmp cmp part t) where
   abbrev votes : K → Bool
   votes id = (state eq t.progress).is_voter id && has_part cmp part t.progress.granted ((state eq t.progress).value id)
 
-  up : (q : P) → AtMost cmp t.progress.granted q → (value : Option V) → has_part cmp part q value ≡ true → has_part cmp part t.progress.granted value ≡ true
+  up : (q : P) → AtMost cmp t.progress.granted q → (value : Option V) → has_part cmp part q value ≡ true
+      → has_part cmp part t.progress.granted value ≡ true
   up q h None e = e
   up q h (Some v) e = AtMost-trans o t.progress.granted q (part v) h e
 
@@ -37,15 +39,23 @@ module _ {K N V P : Type 0} {eq : K → K → Bool} (laws : IsEquivalence eq) {i
   pub quorum_has : is_lt (cmp t.progress.default_part t.progress.granted) ≡ true → is_joint_majority eq t.membership.configs votes ≡ true
   quorum_has lt = by r.ordered.counted.is_one
     where
-      by : (cmp t.progress.default_part t.progress.granted ≡ Equal) ⊎ ((x : K) × (v : V) × IsReached cmp part (has_quorum eq) (state eq t.progress) x v × (cmp (part v) t.progress.granted ≡ Equal)) → is_joint_majority eq t.membership.configs votes ≡ true
+      by : (cmp t.progress.default_part t.progress.granted ≡ Equal)
+          ⊎ ((x : K) × (v : V) × IsReached cmp part (has_quorum eq) (state eq t.progress) x v × (cmp (part v) t.progress.granted ≡ Equal))
+          → is_joint_majority eq t.membership.configs votes ≡ true
       by (inl e) = absurd (true≢false (sym lt ∙ ap is_lt e))
-      by (inr w) = by_configs laws o part t r votes (larger laws o part t r (reached cmp part (state eq t.progress) (part w.1)) votes (λ x h. both _ _ (first_so _ _ h) (up (part w.1) (AtMost-from_not_lt o (part w.1) t.progress.granted (ap is_lt w.3)) ((state eq t.progress).value x) (second_so ((state eq t.progress).is_voter x) _ h))) w.2.quorum)
+      by (inr w) = by_configs laws o part t r votes
+          (larger laws o part t r (reached cmp part (state eq t.progress) (part w.1)) votes
+              (λ x h. both _ _ (first_so _ _ h) (up (part w.1) (AtMost-from_not_lt o (part w.1) t.progress.granted (ap is_lt w.3))
+              ((state eq t.progress).value x) (second_so ((state eq t.progress).is_voter x) _ h))) w.2.quorum)
 
-module _ {K N M V P W Q : Type 0} {eq : K → K → Bool} (laws : IsEquivalence eq) (id_cmp : K → K → Ordering) {cmp : P → P → Ordering} (o : IsTotalOrder cmp) (part : V → P) {vote_cmp : Q → Q → Ordering} (vote_order : IsTotalOrder vote_cmp) (vote_part : W → Q) where
+module _ {K N M V P W Q : Type 0} {eq : K → K → Bool} (laws : IsEquivalence eq) (id_cmp : K → K → Ordering) {cmp : P → P → Ordering}
+    (o : IsTotalOrder cmp) (part : V → P) {vote_cmp : Q → Q → Ordering} (vote_order : IsTotalOrder vote_cmp) (vote_part : W → Q) where
   pub granted_meet : GrantedMeet K N M V P W Q eq id_cmp cmp part vote_cmp vote_part
   granted_meet matches votes e =
       let set = quorum_has laws vote_order vote_part votes e.votes_ready e.has_voted in
-      let k = quorum_reaches laws matches.membership.configs votes.membership.configs _ _ (is_granted laws o part matches e.matches_ready (some_config eq matches.membership.configs votes.membership.configs e.share_config)) e.share_config _ set in
+      let k = quorum_reaches laws matches.membership.configs votes.membership.configs _ _
+          (is_granted laws o part matches e.matches_ready
+              (some_config eq matches.membership.configs votes.membership.configs e.share_config)) e.share_config _ set in
       record {
         voter = k.0;
         counts_in_matches = k.2;
@@ -59,6 +69,8 @@ module _ {K N M V P W Q : Type 0} {eq : K → K → Bool} (laws : IsEquivalence 
       let m = granted_meet matches votes e in
       by m.voter ((state eq matches.progress).value m.voter) refl m.has_matched (λ v is. none m.voter v m.counts_in_votes m.has_voted is)
     where
-      by : (id : K) (value : Option V) → (state eq matches.progress).value id ≡ value → has_part cmp part matches.progress.granted value ≡ true → ((v : V) → (state eq matches.progress).value id ≡ Some v → AtMost cmp (part v) p) → AtMost cmp matches.progress.granted p
+      by : (id : K) (value : Option V) → (state eq matches.progress).value id ≡ value
+          → has_part cmp part matches.progress.granted value ≡ true
+          → ((v : V) → (state eq matches.progress).value id ≡ Some v → AtMost cmp (part v) p) → AtMost cmp matches.progress.granted p
       by id None is has most = absurd (true≢false (sym has))
       by id (Some v) is has most = AtMost-trans o matches.progress.granted (part v) p has (most v is)

@@ -1,5 +1,6 @@
 -- What each quorum knows it knows after a run, over the changes that are made while it is granted.
-use Rattle.std.specs.Prelude.{◌≡◌, ◌<◌, Bool, true, false, ◌&&◌, ◌||◌, cond, length, not, List, [], ◌∷◌, Option, Some, None, MatchBool, refl}
+use Rattle.std.specs.Prelude.{◌≡◌, ◌<◌, Bool, true, false, ◌&&◌, ◌||◌, cond, length, not, List, [], ◌∷◌, Option, Some, None, MatchBool,
+        refl}
 use Rattle.std.specs.Cmp.{IsEquivalence, IsTotalOrder}
 use Rattle.std.specs.Ordering.{is_lt}
 use Rattle.std.specs.declared.cmp.Ordering.{Ordering}
@@ -19,7 +20,8 @@ use Rattle.raft_progress.specs.tracked.Known.{GrantedAtChanges, KnownOverChanges
 use Rattle.raft_progress.specs.tracked.TrackedShownSteps.{IsTrackedDone, IsTrackedShownRun, IsTrackedShownStep, is_change}
 use Rattle.raft_progress.specs.tracked.TrackedState.{Configs, IsReady, TrackedShown, has_quorum}
 use Rattle.raft_progress.specs.declared.progress.steps.Reply.{Reply}
-use Rattle.raft_progress.specs.declared.progress.steps.Reply.TheVariants.{Granted, Unknown, WouldFall, Refused, BelowDefault, BadLearners, OutOfMemory}
+use Rattle.raft_progress.specs.declared.progress.steps.Reply.TheVariants.{Granted, Unknown, WouldFall, Refused, BelowDefault, BadLearners,
+        OutOfMemory}
 use Rattle.raft_progress.specs.declared.tracked.step.Step.{Step}
 use Rattle.raft_progress.specs.declared.tracked.step.Step.TheVariants.{Update, IncreaseTo, Change}
 use Rattle.raft_progress.proofs.lemmas.tracked.KnownLemmas.{change_keeps_granted}
@@ -44,19 +46,24 @@ module _ {K V P : Type 0} (cmp : P → P → Ordering) (part : V → P) where
   rises_same old new s = record { voters = s.is_voter; parts = λ x p h. ap (has_part cmp part p) (s.value x) ∙ h }
 
 module _ {K V P : Type 0} {eq : K → K → Bool} {cmp : P → P → Ordering} (o : IsTotalOrder cmp) (part : V → P) where
-  rises_written : (old new : ProgressState K V P (Configs K)) → ((x y : K) → eq x y ≡ true → old.value x ≡ old.value y) → (id : K) (current value : V) → old.value id ≡ Some current → is_lt (cmp (part value) (part current)) ≡ false → Writes eq old id value new → Rises cmp part old new
+  rises_written : (old new : ProgressState K V P (Configs K)) → ((x y : K) → eq x y ≡ true → old.value x ≡ old.value y)
+      → (id : K) (current value : V) → old.value id ≡ Some current → is_lt (cmp (part value) (part current)) ≡ false
+      → Writes eq old id value new → Rises cmp part old new
   rises_written old new alike id current value e up w = record {
     voters = w.is_voter;
     parts = λ x p h. ap (has_part cmp part p) (w.value x) ∙ by x p (eq id x) refl h;
   }
     where
-      by : (x : K) (p : P) (b : Bool) → eq id x ≡ b → has_part cmp part p (old.value x) ≡ true → has_part cmp part p (cond b (Some value) (old.value x)) ≡ true
+      by : (x : K) (p : P) (b : Bool) → eq id x ≡ b → has_part cmp part p (old.value x) ≡ true
+          → has_part cmp part p (cond b (Some value) (old.value x)) ≡ true
       by x p true t h =
           let here : AtMost cmp p (part current) = sym (ap (has_part cmp part p) (sym (alike id x t) ∙ e)) ∙ h in
           AtMost-trans o p (part current) (part value) here (AtMost-from_not_lt o (part value) (part current) up)
       by x p false t h = h
 
-  rises_step : (hq : Configs K → (K → Bool) → Bool) (old new : ProgressState K V P (Configs K)) → ((x y : K) → eq x y ≡ true → old.value x ≡ old.value y) → (id : K) (value : V) (reply : Reply K P) → IsWritten eq cmp part hq old id value reply new → Rises cmp part old new
+  rises_step : (hq : Configs K → (K → Bool) → Bool) (old new : ProgressState K V P (Configs K))
+      → ((x y : K) → eq x y ≡ true → old.value x ≡ old.value y) → (id : K) (value : V) (reply : Reply K P)
+      → IsWritten eq cmp part hq old id value reply new → Rises cmp part old new
   rises_step hq old new alike id value (Granted p) (current, e, up, w, c) = rises_written old new alike id current value e up w
   rises_step hq old new alike id value (Unknown p) (e, c, s) = rises_same cmp part old new s
   rises_step hq old new alike id value WouldFall (current, e, f, s) = rises_same cmp part old new s
@@ -65,10 +72,13 @@ module _ {K V P : Type 0} {eq : K → K → Bool} {cmp : P → P → Ordering} (
   rises_step hq old new alike id value BadLearners w = absurd w
   rises_step hq old new alike id value OutOfMemory w = absurd w
 
-  rises_increase : (partial_cmp : V → V → Option Ordering) (hq : Configs K → (K → Bool) → Bool) (old new : ProgressState K V P (Configs K)) → ((x y : K) → eq x y ≡ true → old.value x ≡ old.value y) → (id : K) (value : V) (reply : Reply K P) → IsIncreased eq cmp partial_cmp part hq old id value reply new → Rises cmp part old new
+  rises_increase : (partial_cmp : V → V → Option Ordering) (hq : Configs K → (K → Bool) → Bool) (old new : ProgressState K V P (Configs K))
+      → ((x y : K) → eq x y ≡ true → old.value x ≡ old.value y) → (id : K) (value : V) (reply : Reply K P)
+      → IsIncreased eq cmp partial_cmp part hq old id value reply new → Rises cmp part old new
   rises_increase partial_cmp hq old new alike id value reply = by (stays partial_cmp (old.value id) value)
     where
-      by : (b : Bool) → MatchBool b ((p : P) × (reply ≡ Granted p) × IsCounted cmp part hq old p × IsSame old new) (IsWritten eq cmp part hq old id value reply new) → Rises cmp part old new
+      by : (b : Bool) → MatchBool b ((p : P) × (reply ≡ Granted p) × IsCounted cmp part hq old p × IsSame old new)
+          (IsWritten eq cmp part hq old id value reply new) → Rises cmp part old new
       by true (p, r, c, s) = rises_same cmp part old new s
       by false w = rises_step hq old new alike id value reply w
 
@@ -80,7 +90,8 @@ module _ {K N V P : Type 0} (by : Comparisons K V P) (laws : IsEquivalence by.eq
   abbrev Stays : TrackedShown K N V P → TrackedShown K N V P → Type 0
   Stays old new = (new.membership ≡ old.membership) × ((p : P) → Knows old p → Knows new p)
 
-  carried : (old new : TrackedShown K N V P) → new.membership ≡ old.membership → Rises by.cmp by.part (state by.eq old.progress) (state by.eq new.progress) → Stays old new
+  carried : (old new : TrackedShown K N V P) → new.membership ≡ old.membership
+      → Rises by.cmp by.part (state by.eq old.progress) (state by.eq new.progress) → Stays old new
   carried old new members r = (
     members,
     λ p known set q.
@@ -88,11 +99,14 @@ module _ {K N V P : Type 0} (by : Comparisons K V P) (laws : IsEquivalence by.eq
         (k.0, k.1, r.voters k.0 ∙ k.2, r.parts k.0 p k.3),
   )
 
-  step_stays : (old new : TrackedShown K N V P) (step : Step K N V) (reply : Reply K P) → is_change step ≡ false → IsTrackedShownStep by same old step reply new → Stays old new
+  step_stays : (old new : TrackedShown K N V P) (step : Step K N V) (reply : Reply K P) → is_change step ≡ false
+      → IsTrackedShownStep by same old step reply new → Stays old new
   step_stays old new (Update id value) reply n s =
-      carried old new s.values.0 (rises_step o by.part (has_quorum by.eq) (state by.eq old.progress) (state by.eq new.progress) (λ x y e. lookup_alike laws x y e old.progress.walk) id value reply s.values.1)
+      carried old new s.values.0 (rises_step o by.part (has_quorum by.eq) (state by.eq old.progress) (state by.eq new.progress)
+              (λ x y e. lookup_alike laws x y e old.progress.walk) id value reply s.values.1)
   step_stays old new (IncreaseTo id value) reply n s =
-      carried old new s.values.0 (rises_increase o by.part by.partial_cmp (has_quorum by.eq) (state by.eq old.progress) (state by.eq new.progress) (λ x y e. lookup_alike laws x y e old.progress.walk) id value reply s.values.1)
+      carried old new s.values.0 (rises_increase o by.part by.partial_cmp (has_quorum by.eq) (state by.eq old.progress)
+              (state by.eq new.progress) (λ x y e. lookup_alike laws x y e old.progress.walk) id value reply s.values.1)
   step_stays old new (Change change retain default) reply n s = absurd (true≢false n)
 
   pub known_stays : KnownStays K N V P by same
@@ -112,7 +126,8 @@ module _ {K N V P : Type 0} (by : Comparisons K V P) (laws : IsEquivalence by.eq
   has_other cs [] h = absurd (true≢false (sym h))
   has_other cs (d ∷ ds) h = omega arith
 
-  less : (a b : P) → AtMost by.cmp a b → (value : Option V) → has_part by.cmp by.part b value ≡ true → has_part by.cmp by.part a value ≡ true
+  less : (a b : P) → AtMost by.cmp a b → (value : Option V) → has_part by.cmp by.part b value ≡ true
+      → has_part by.cmp by.part a value ≡ true
   less a b up None h = h
   less a b up (Some v) h = AtMost-trans o a b (by.part v) up h
 
@@ -120,11 +135,18 @@ module _ {K N V P : Type 0} (by : Comparisons K V P) (laws : IsEquivalence by.eq
   kept old new p is known = subst (λ (t : TrackedShown K N V P). IsKnown t p) (sym is) known
 
   -- what is granted is known after a change, made or not
-  changed_known : ((v w : V) → by.IsClone v w → by.part w ≡ by.part v) → (old new : TrackedShown K N V P) (p : P) → IsReady by.eq by.id_cmp by.cmp by.part old → IsKnown old p → (change : ChangeMembers K N) (retain : Bool) (default : V) (reply : Reply K P) → IsTrackedShownStep by same old (Change change retain default) reply new → (is_refused reply ≡ false → AtMost by.cmp p old.progress.granted) → IsKnown new p
+  changed_known : ((v w : V) → by.IsClone v w → by.part w ≡ by.part v) → (old new : TrackedShown K N V P) (p : P)
+      → IsReady by.eq by.id_cmp by.cmp by.part old → IsKnown old p
+      → (change : ChangeMembers K N) (retain : Bool) (default : V) (reply : Reply K P)
+      → IsTrackedShownStep by same old (Change change retain default) reply new
+      → (is_refused reply ≡ false → AtMost by.cmp p old.progress.granted) → IsKnown new p
   changed_known clones old new p was known change retain default (Granted g) s at = (
-    has_other old.membership.configs new.membership.configs (ap (λ cs. is_coherent by.eq old.membership.configs cs) s.values.1.0 ∙ changed_coherent laws by.id_cmp (members_of by.id_cmp old.membership) change retain known.0),
+    has_other old.membership.configs new.membership.configs
+        (ap (λ cs. is_coherent by.eq old.membership.configs cs) s.values.1.0
+            ∙ changed_coherent laws by.id_cmp (members_of by.id_cmp old.membership) change retain known.0),
     λ set q.
-        let k = change_keeps_granted laws by.id_cmp same o by.part by.IsClone clones old new was s.ready change retain default g s.values known.0 set q in
+        let k = change_keeps_granted laws by.id_cmp same o by.part by.IsClone clones old new was s.ready change retain default g s.values
+            known.0 set q in
         (k.0, k.1, k.2, less p old.progress.granted (at refl) ((state by.eq new.progress).value k.0) k.3),
   )
   changed_known clones old new p was known change retain default (Unknown g) s at = absurd s.values
@@ -135,7 +157,9 @@ module _ {K N V P : Type 0} (by : Comparisons K V P) (laws : IsEquivalence by.eq
   changed_known clones old new p was known change retain default OutOfMemory s at = kept old new p (s.answered.refused refl) known
 
   -- a reply tells what is granted after it
-  told : (step : Step K N V) (old new : TrackedShown K N V P) (reply : Reply K P) → IsAnswered (λ t. t.progress.granted) (IsTrackedDone by old step) old reply new → granted_after old.progress.granted reply ≡ new.progress.granted
+  told : (step : Step K N V) (old new : TrackedShown K N V P) (reply : Reply K P)
+      → IsAnswered (λ t. t.progress.granted) (IsTrackedDone by old step) old reply new
+      → granted_after old.progress.granted reply ≡ new.progress.granted
   told step old new (Granted p) a = a.tells
   told step old new (Unknown p) a = a.tells
   told step old new WouldFall a = ap (λ t. t.progress.granted) (sym (a.refused refl))
@@ -144,8 +168,12 @@ module _ {K N V P : Type 0} (by : Comparisons K V P) (laws : IsEquivalence by.eq
   told step old new BadLearners a = ap (λ t. t.progress.granted) (sym (a.refused refl))
   told step old new OutOfMemory a = ap (λ t. t.progress.granted) (sym (a.refused refl))
 
-  step_known : ((v w : V) → by.IsClone v w → by.part w ≡ by.part v) → (old new : TrackedShown K N V P) (p : P) → IsReady by.eq by.id_cmp by.cmp by.part old → IsKnown old p → (step : Step K N V) (reply : Reply K P) → IsTrackedShownStep by same old step reply new → ((is_change step && not (is_refused reply)) ≡ true → AtMost by.cmp p old.progress.granted) → IsKnown new p
-  step_known clones old new p was known (Change change retain default) reply s at = changed_known clones old new p was known change retain default reply s (λ r. at (ap not r))
+  step_known : ((v w : V) → by.IsClone v w → by.part w ≡ by.part v) → (old new : TrackedShown K N V P) (p : P)
+      → IsReady by.eq by.id_cmp by.cmp by.part old → IsKnown old p → (step : Step K N V) (reply : Reply K P)
+      → IsTrackedShownStep by same old step reply new
+      → ((is_change step && not (is_refused reply)) ≡ true → AtMost by.cmp p old.progress.granted) → IsKnown new p
+  step_known clones old new p was known (Change change retain default) reply s at =
+      changed_known clones old new p was known change retain default reply s (λ r. at (ap not r))
   step_known clones old new p was known (Update id value) reply s at =
       let k = step_stays old new (Update id value) reply refl s in
       (subst (λ (m : MemberList K N). 0 < length m.configs) (sym k.0) known.0, k.1 p known.1)
@@ -153,12 +181,18 @@ module _ {K N V P : Type 0} (by : Comparisons K V P) (laws : IsEquivalence by.eq
       let k = step_stays old new (IncreaseTo id value) reply refl s in
       (subst (λ (m : MemberList K N). 0 < length m.configs) (sym k.0) known.0, k.1 p known.1)
 
-  runs_known : ((v w : V) → by.IsClone v w → by.part w ≡ by.part v) → (old new : TrackedShown K N V P) (steps : List (Step K N V)) (replies : List (Reply K P)) (p : P) → IsReady by.eq by.id_cmp by.cmp by.part old → IsTrackedShownRun by same old steps replies new → GrantedAtChanges by.cmp p old.progress.granted steps replies → IsKnown old p → IsKnown new p
+  runs_known : ((v w : V) → by.IsClone v w → by.part w ≡ by.part v)
+      → (old new : TrackedShown K N V P) (steps : List (Step K N V)) (replies : List (Reply K P)) (p : P)
+      → IsReady by.eq by.id_cmp by.cmp by.part old → IsTrackedShownRun by same old steps replies new
+      → GrantedAtChanges by.cmp p old.progress.granted steps replies → IsKnown old p → IsKnown new p
   runs_known clones old new [] [] p was run at known = kept old new p run known
   runs_known clones old new (x ∷ xs) (r ∷ rs) p was (middle, here, rest) at known =
-      runs_known clones middle new xs rs p here.ready rest (subst (λ (g : P). GrantedAtChanges by.cmp p g xs rs) (told x old middle r here.answered) at.1) (step_known clones old middle p was known x r here at.0)
+      runs_known clones middle new xs rs p here.ready rest
+          (subst (λ (g : P). GrantedAtChanges by.cmp p g xs rs) (told x old middle r here.answered) at.1)
+          (step_known clones old middle p was known x r here at.0)
   runs_known clones old new [] (r ∷ rs) p was run at known = absurd run
   runs_known clones old new (x ∷ xs) [] p was run at known = absurd run
 
   pub known_over_changes : KnownOverChanges K N V P by same
-  known_over_changes clones old new steps replies p was some run at known = runs_known clones old new steps replies p was run at (some, known)
+  known_over_changes clones old new steps replies p was some run at known =
+      runs_known clones old new steps replies p was run at (some, known)

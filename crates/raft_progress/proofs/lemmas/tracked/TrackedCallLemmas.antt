@@ -15,7 +15,8 @@ module _ {K N V P : Type 0} (by : Comparisons K V P) (same : N → N → Bool) w
 
   pub tracked_changes_are_steps : TrackedChangesAreSteps K N V P by same
   tracked_changes_are_steps old new change retain next default reply valid says u ready = record {
-    values = changed_step by.eq by.id_cmp same by.cmp by.part by.IsClone (tracked_state by.eq old) change retain default next (tracked_state by.eq new) valid says reply u.values;
+    values = changed_step by.eq by.id_cmp same by.cmp by.part by.IsClone (tracked_state by.eq old) change retain default next
+        (tracked_state by.eq new) valid says reply u.values;
     answered = record { refused = u.answered.refused; done = u.answered.done; tells = u.answered.tells };
     ready = ready;
   }

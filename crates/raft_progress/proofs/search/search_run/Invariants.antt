@@ -7,6 +7,7 @@ use Rattle.raft_progress.proofs.search.search_run.Given as goal
 abbrev pub invariant-loop-event : goal.invariant-loop-event
 invariant-loop-event g l = record {
   small : l.accepted ≤ l.event-index;
-  same_end : after_events g.C.Ord.cmp g.L.LogStateReader.log_view (record { entry = l.entry; purged = next_index_of l.purged; accepted = l.accepted }) (drop l.event-index l.events)
+  same_end : after_events g.C.Ord.cmp g.L.LogStateReader.log_view
+      (record { entry = l.entry; purged = next_index_of l.purged; accepted = l.accepted }) (drop l.event-index l.events)
       ≡ after_events g.C.Ord.cmp g.L.LogStateReader.log_view (new_search l.fn.entry) l.events;
 }

@@ -11,5 +11,6 @@ returns g c = (
   c.in_ok-_replies._replies.items,
   c.in_ok-progress.ensures.made,
   c.in_ok-_replies.ensures.run,
-  subst (IsCounted g.P.Ord.cmp g.V.ProgressPart.part_of g.QS.QuorumSet.has_quorum (state g.ID.PartialEq.eq (shown c.replay_any.new.progress))) (sym c.granted.ensures) c.replay_any.ensures.granted,
+  subst (IsCounted g.P.Ord.cmp g.V.ProgressPart.part_of g.QS.QuorumSet.has_quorum
+          (state g.ID.PartialEq.eq (shown c.replay_any.new.progress))) (sym c.granted.ensures) c.replay_any.ensures.granted,
 )

@@ -10,6 +10,8 @@ returns-in-Some g c =
     let old = shown c.args.progress.now in
     let new = with_value g.ID.PartialEq.eq old c.args.id.now c.args.value in
     let value = sym c.get_mut.ensures.value ∙ ap option_copied_mut c.in-Some.is in
-    let kept = c.kept_parts_keep_order.ensures.same_part old c.args.id.now c.in-Some.current.now c.args.value value (c.requires.same_part c.in-Some.current.now value) in
-    subst (IsInOrder g.ID.PartialEq.eq g.P.Ord.cmp g.V.ProgressPart.part_of g.QS.QuorumSet.has_quorum) (sym (rw c.in-Some.is at (c.get_mut.follows.holds c.args.value)))
+    let kept = c.kept_parts_keep_order.ensures.same_part old c.args.id.now c.in-Some.current.now c.args.value value
+        (c.requires.same_part c.in-Some.current.now value) in
+    subst (IsInOrder g.ID.PartialEq.eq g.P.Ord.cmp g.V.ProgressPart.part_of g.QS.QuorumSet.has_quorum)
+        (sym (rw c.in-Some.is at (c.get_mut.follows.holds c.args.value)))
     (c.kept_parts_keep_order.ensures.ordered old new kept c.requires.ordered)

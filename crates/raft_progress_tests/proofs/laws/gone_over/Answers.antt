@@ -3,7 +3,8 @@ use Rattle.std.specs.Prelude.{IfOk}
 use Rattle.raft_progress.specs.progress.VecProgress.{shown}
 use Rattle.raft_progress_tests.proofs.laws.gone_over.Goals as goal
 
-from_three : {T E : Type 0} (r : Result T E) (A B C D : T → Type 0) → ((x : T) → A x → B x → C x → D x) → IfOk r A → IfOk r B → IfOk r C → IfOk r D
+from_three : {T E : Type 0} (r : Result T E) (A B C D : T → Type 0) → ((x : T) → A x → B x → C x → D x) → IfOk r A → IfOk r B → IfOk r C
+    → IfOk r D
 from_three (Ok x) A B C D h a b c = h x a b c
 from_three (Err e) A B C D h a b c = tt
 
@@ -11,5 +12,6 @@ pub returns : goal.returns
 returns g c =
     let value = c.deref.ensures.value in
     from_three c.upgrade_quorum_set.result _ _ _ _
-    (λ made is fold ordered. c.calls_are_runs.ensures.upgrades (shown c.args.progress.now) (shown made) c.args.quorum_set c.args.learners c.args.default c.requires.learners_fit c.requires.can_upgrade (rw value at is) (rw value at fold) ordered)
+    (λ made is fold ordered. c.calls_are_runs.ensures.upgrades (shown c.args.progress.now) (shown made) c.args.quorum_set c.args.learners
+            c.args.default c.requires.learners_fit c.requires.can_upgrade (rw value at is) (rw value at fold) ordered)
     c.upgrade_quorum_set.ensures.made c.upgrade_quorum_set.ensures.fold c.upgrade_quorum_set.ensures.ordered

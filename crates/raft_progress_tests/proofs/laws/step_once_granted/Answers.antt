@@ -13,7 +13,8 @@ cmp_le : (a b : ℕ) → a ≤ b → is_le (nat_cmp a b) ≡ true
 cmp_le a b h = grind (arith, nat_tests)
 
 -- one step, made while p is granted
-once : {K N V P : Type 0} (cmp : P → P → Ordering) (p g : P) (steps : List (Step K N V)) (replies : List (Reply K P)) → length steps ≡ 1 → AtMost cmp p g → GrantedAtChanges cmp p g steps replies
+once : {K N V P : Type 0} (cmp : P → P → Ordering) (p g : P) (steps : List (Step K N V)) (replies : List (Reply K P)) → length steps ≡ 1
+    → AtMost cmp p g → GrantedAtChanges cmp p g steps replies
 once cmp p g [] replies one h = tt
 once cmp p g (step ∷ steps) [] one h = tt
 once cmp p g (step ∷ []) (reply ∷ replies) one h = (λ _. h, tt)
@@ -22,6 +23,9 @@ once cmp p g (step ∷ more ∷ steps) (reply ∷ replies) one h = absurd (omega
 pub returns : goal.returns
 returns g c config known =
     let old = tracked c.args.cluster.now in
-    let reached : AtMost nat_cmp c.args.matched old.progress.granted = subst (λ (n : ℕ). AtMost nat_cmp c.args.matched n) (c.granted.ensures ∙ ap (λ p. p.granted) c.progress.ensures) (cmp_le _ _ c.if-granted-matched.false) in
-    c.known_stays.ensures.over_changes (λ v w e. e) old (tracked c.replay.new.cluster) c.args.step.items c.in_ok-_replies._replies.items c.args.matched c.quorums_know_granted.ensures.ready config c.in_ok-_replies.ensures.shown_run
+    let reached : AtMost nat_cmp c.args.matched old.progress.granted =
+        subst (λ (n : ℕ). AtMost nat_cmp c.args.matched n) (c.granted.ensures ∙ ap (λ p. p.granted) c.progress.ensures)
+        (cmp_le _ _ c.if-granted-matched.false) in
+    c.known_stays.ensures.over_changes (λ v w e. e) old (tracked c.replay.new.cluster) c.args.step.items c.in_ok-_replies._replies.items
+        c.args.matched c.quorums_know_granted.ensures.ready config c.in_ok-_replies.ensures.shown_run
     (once nat_cmp c.args.matched old.progress.granted c.args.step.items c.in_ok-_replies._replies.items c.requires.one reached) known

@@ -25,18 +25,22 @@ module _ (word : List ℕ) (i : ℕ) (within : i < length word) (b : ℕ) (byte 
     -- digits whose number doesn't fit
     pub too_great : ¬ (n * 10 + digit_value b < 2 ^ 64) → ¬ (IsNumeral 10 word × (digits_value 10 word < 2 ^ 64))
     too_great above (numeral, fits) =
-        let more : digits_value 10 (take (i + 1) word) ≡ n * 10 + digit_value b = digits_value_more 10 word i within ∙ ap (λ m. m * 10 + digit_value (get_or word i 0)) (sym so_far) ∙ ap (λ c. n * 10 + digit_value c) (sym byte) in
+        let more : digits_value 10 (take (i + 1) word) ≡ n * 10 + digit_value b =
+            digits_value_more 10 word i within ∙ ap (λ m. m * 10 + digit_value (get_or word i 0)) (sym so_far)
+            ∙ ap (λ c. n * 10 + digit_value c) (sym byte) in
         let at_most : digits_value 10 (take (i + 1) word) ≤ digits_value 10 word = digits_value-take-le 10 word (i + 1) (omega arith) in
         above (omega arith)
 
     pub one_more : (m : ℕ) → m ≡ n * 10 + digit_value b → m ≡ digits_value 10 (take (i + 1) word)
-    one_more m is = is ∙ ap (λ c. n * 10 + digit_value c) byte ∙ ap (λ k. k * 10 + digit_value (get_or word i 0)) so_far ∙ sym (digits_value_more 10 word i within)
+    one_more m is = is ∙ ap (λ c. n * 10 + digit_value c) byte ∙ ap (λ k. k * 10 + digit_value (get_or word i 0)) so_far
+        ∙ sym (digits_value_more 10 word i within)
 
   pub digits_so_far : AllDigits 10 (take i word) → digit_value b < 10 → AllDigits 10 (take (i + 1) word)
   digits_so_far digits below = digits_more 10 word i within digits (subst (λ (c : ℕ). digit_value c < 10) byte below)
 
 -- all digits are read
-pub all_read : (word : List ℕ) (i n : ℕ) → length word ≤ i → 0 < length word → AllDigits 10 (take i word) → n ≡ digits_value 10 (take i word) → n < 2 ^ 64 → (IsNumeral 10 word × (digits_value 10 word < 2 ^ 64)) × (n ≡ digits_value 10 word)
+pub all_read : (word : List ℕ) (i n : ℕ) → length word ≤ i → 0 < length word → AllDigits 10 (take i word)
+    → n ≡ digits_value 10 (take i word) → n < 2 ^ 64 → (IsNumeral 10 word × (digits_value 10 word < 2 ^ 64)) × (n ≡ digits_value 10 word)
 all_read word i n done some digits value fits =
     let whole : take i word ≡ word = take_all i word done in
     let is : n ≡ digits_value 10 word = value ∙ ap (digits_value 10) whole in

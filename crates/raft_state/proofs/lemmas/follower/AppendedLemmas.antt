@@ -32,9 +32,11 @@ module _ {C K N E : Type 0} (cmp : C → C → Ordering) (id_of : E → LogIdOf 
       → memberships_follow cmp id_of (λ x. is_some (membership x)) last es ≡ true
   none_follows last e es stores follow = rw stores at follow
 
-module _ {C K N E : Type 0} (eq : K → K → Bool) (same : N → N → Bool) (id_of : E → LogIdOf C) (membership : E → Option (MemberList K N)) where
+module _ {C K N E : Type 0} (eq : K → K → Bool) (same : N → N → Bool) (id_of : E → LogIdOf C)
+    (membership : E → Option (MemberList K N)) where
   -- the membership of an entry is effective, and then those of the entries after it
-  pub one_appended : (e : E) (es : List E) (w : MemberList K N) (stored : StoredMembershipOf C K N) (old new : Memberships C K N) → membership e ≡ Some w
+  pub one_appended : (e : E) (es : List E) (w : MemberList K N) (stored : StoredMembershipOf C K N) (old new : Memberships C K N)
+      → membership e ≡ Some w
       → IsStoredBy eq same (id_of e) w stored → AppendsMemberships eq same id_of membership es (after_append stored old) new
       → AppendsMemberships eq same id_of membership (e ∷ es) old new
   one_appended e es w stored old new stores is rest = rw stores (stored, is, rest)
@@ -44,28 +46,36 @@ module _ {C K N E : Type 0} (eq : K → K → Bool) (same : N → N → Bool) (i
   none_appended e es old new stores rest = rw stores rest
 
 -- a membership under a greater log id and index, after the effective one
-one_stays : {C K N : Type 0} (cmp : C → C → Ordering) (id : LogIdOf C) (stored : StoredMembershipOf C K N) (m : Memberships C K N) → log_id_of stored ≡ Some id
+one_stays : {C K N : Type 0} (cmp : C → C → Ordering) (id : LogIdOf C) (stored : StoredMembershipOf C K N) (m : Memberships C K N)
+    → log_id_of stored ≡ Some id
     → (id_lt cmp (log_id_of m.effective) (Some id) && index_lt (index_of (log_id_of m.effective)) (Some id.index) ≡ true)
     → first_false (membership_relations cmp (after_append stored m)) ≡ None
 one_stays cmp id stored m is follows =
     let up = both _ _ follows in
-    let low : id_le cmp (log_id_of m.effective) (log_id_of stored) ≡ true = rw is (AtMost-from_lt (option_cmp (log_id_cmp cmp)) (log_id_of m.effective) (Some id) up.0) in
-    let index : index_le (index_at m.effective) (index_at stored) ≡ true = rw is (AtMost-from_lt (option_cmp nat_cmp) (index_at m.effective) (Some id.index) up.1) in
+    let low : id_le cmp (log_id_of m.effective) (log_id_of stored) ≡ true =
+        rw is (AtMost-from_lt (option_cmp (log_id_cmp cmp)) (log_id_of m.effective) (Some id) up.0) in
+    let index : index_le (index_at m.effective) (index_at stored) ≡ true =
+        rw is (AtMost-from_lt (option_cmp nat_cmp) (index_at m.effective) (Some id.index) up.1) in
     hold_all _ _ _ low (hold_all _ _ _ index refl)
 
 -- valid memberships stay valid
-pub appended_stay : {C K N E : Type 0} (cmp : C → C → Ordering) (eq : K → K → Bool) (same : N → N → Bool) (id_of : E → LogIdOf C) (membership : E → Option (MemberList K N))
-    → (es : List E) (m new : Memberships C K N) → memberships_follow cmp id_of (λ x. is_some (membership x)) (log_id_of m.effective) es ≡ true
-    → AppendsMemberships eq same id_of membership es m new → first_false (membership_relations cmp m) ≡ None → first_false (membership_relations cmp new) ≡ None
+pub appended_stay : {C K N E : Type 0} (cmp : C → C → Ordering) (eq : K → K → Bool) (same : N → N → Bool) (id_of : E → LogIdOf C)
+    (membership : E → Option (MemberList K N))
+    → (es : List E) (m new : Memberships C K N)
+    → memberships_follow cmp id_of (λ x. is_some (membership x)) (log_id_of m.effective) es ≡ true
+    → AppendsMemberships eq same id_of membership es m new → first_false (membership_relations cmp m) ≡ None
+    → first_false (membership_relations cmp new) ≡ None
 appended_stay cmp eq same id_of membership [] m new follow appends valid = rw appends valid
 appended_stay {C} {K} {N} {E} cmp eq same id_of membership (e ∷ es) m new follow appends valid =
     by (membership e) refl (λ m follow appends valid. appended_stay cmp eq same id_of membership es m new follow appends valid)
   where
     by : (o : Option (MemberList K N)) → membership e ≡ o
         → ((m : Memberships C K N) → memberships_follow cmp id_of (λ x. is_some (membership x)) (log_id_of m.effective) es ≡ true
-        → AppendsMemberships eq same id_of membership es m new → first_false (membership_relations cmp m) ≡ None → first_false (membership_relations cmp new) ≡ None)
+        → AppendsMemberships eq same id_of membership es m new → first_false (membership_relations cmp m) ≡ None
+        → first_false (membership_relations cmp new) ≡ None)
         → first_false (membership_relations cmp new) ≡ None
-    by None stores later = later m (none_follows cmp id_of membership (log_id_of m.effective) e es stores follow) (rw stores at appends) valid
+    by None stores later = later m (none_follows cmp id_of membership (log_id_of m.effective) e es stores follow) (rw stores at appends)
+        valid
     by (Some w) stores later =
         let one = rw stores at appends in
         let follows = one_follows cmp id_of membership (log_id_of m.effective) e es w stores follow in

@@ -1,5 +1,6 @@
 -- A state over which a snapshot is installed stays valid.
-use Rattle.std.proofs.Common.{◌≡◌, ℕ, zero, suc, ◌+◌, ◌==◌, ◌≤◌, ◌<◌, Bool, true, false, ◌&&◌, ◌||◌, List, [], ◌∷◌, Option, Some, None, if◌then◌else◌, IsTrue, length, nat_eq, nat_lt, nat_le, refl, sym, ap, subst, arith, inl, inr, ◌∙◌}
+use Rattle.std.proofs.Common.{◌≡◌, ℕ, zero, suc, ◌+◌, ◌==◌, ◌≤◌, ◌<◌, Bool, true, false, ◌&&◌, ◌||◌, List, [], ◌∷◌, Option, Some, None,
+        if◌then◌else◌, IsTrue, length, nat_eq, nat_lt, nat_le, refl, sym, ap, subst, arith, inl, inr, ◌∙◌}
 use Rattle.std.proofs.lemmas.Bool.{cases_lt}
 use Rattle.std.proofs.lemmas.Bool.Decides.{nat_tests}
 use Rattle.std.specs.declared.cmp.Ordering.{Ordering}
@@ -16,7 +17,8 @@ use Rattle.raft_base.specs.declared.log_id.LogIdOf.{LogIdOf}
 use Rattle.raft_members.specs.Stored.{log_id_of}
 use Rattle.raft_members.specs.declared.membership.stored.StoredMembershipOf.{StoredMembershipOf}
 use Rattle.raft_progress.proofs.lemmas.progress.recount.RecountLemmas.{AtMost-refl, AtMost-trans}
-use Rattle.raft_base.specs.declared.log_id.validate.Invalid.TheVariants.{PurgedNext, LastPurgedPastUpto, SnapshotPastCommitted, CommittedPastLast}
+use Rattle.raft_base.specs.declared.log_id.validate.Invalid.TheVariants.{PurgedNext, LastPurgedPastUpto, SnapshotPastCommitted,
+        CommittedPastLast}
 use Rattle.raft_state.proofs.lemmas.log_id_list.AppendLemmas.{itself, then_below, upto_equal}
 use Rattle.raft_state.proofs.lemmas.raft_state.CommitLemmas.{hold_all}
 use Rattle.raft_state.proofs.lemmas.log_id_list.FrontLemmas.{front_none, from_first, last_at, rest_first, rest_last}
@@ -27,7 +29,8 @@ use Rattle.raft_state.proofs.lemmas.log_id_list.SameLogLemmas.{both}
 use Rattle.raft_state.proofs.lemmas.follower.TruncateLemmas.{memberships_stay}
 use Rattle.raft_state.specs.Accepted.{after_accept}
 use Rattle.raft_state.specs.FullLog.{end_index, first_index, full_log}
-use Rattle.raft_state.specs.Install.{is_logged, is_not_past, is_past_committed, log_after_install, log_to_keep, may_go_over, memberships_to_keep}
+use Rattle.raft_state.specs.Install.{is_logged, is_not_past, is_past_committed, log_after_install, log_to_keep, may_go_over,
+        memberships_to_keep}
 use Rattle.raft_state.specs.LogConditions.{may_be_purged_to}
 use Rattle.raft_state.specs.LogEdits.{front, log_after_purge, rest}
 use Rattle.raft_state.specs.LogReads.{first_id, id_at, last_id}
@@ -41,14 +44,18 @@ use Rattle.raft_state.specs.declared.raft_state.RaftStateIn.{RaftStateIn}
 use Rattle.raft_state.specs.declared.snapshot_meta.SnapshotMetaOf.{SnapshotMetaOf}
 
 -- a log id that equals the one of a list there
-pub found : {C : Type 0} (eq : C → C → Bool) (o : Option (LogIdOf C)) (id : LogIdOf C) → same_ids eq o (Some id) ≡ true → (x : LogIdOf C) × (o ≡ Some x) × (eq x.leader_id id.leader_id ≡ true) × (x.index ≡ id.index)
+pub found : {C : Type 0} (eq : C → C → Bool) (o : Option (LogIdOf C)) (id : LogIdOf C) → same_ids eq o (Some id) ≡ true
+    → (x : LogIdOf C) × (o ≡ Some x) × (eq x.leader_id id.leader_id ≡ true) × (x.index ≡ id.index)
 found eq None id h = cc
-found eq (Some x) id h = let d = both (eq x.leader_id id.leader_id) (nat_eq x.index id.index) h in let d1 = d.1 in (x, refl, d.0, grind (arith, nat_tests))
+found eq (Some x) id h = let d = both (eq x.leader_id id.leader_id) (nat_eq x.index id.index) h in let d1 = d.1 in
+    (x, refl, d.0, grind (arith, nat_tests))
 
 -- what is there is not past the last index
-pub within : {C : Type 0} (b j : ℕ) (xs : List (LogIdOf C)) (x : LogIdOf C) → From b xs → id_at xs j ≡ Some x → (b ≤ j) × (j < b + length xs)
+pub within : {C : Type 0} (b j : ℕ) (xs : List (LogIdOf C)) (x : LogIdOf C) → From b xs → id_at xs j ≡ Some x
+    → (b ≤ j) × (j < b + length xs)
 within b j [] x h e = cc
-within b j (y ∷ ys) x h e = let h0 = h.0 in let n : length (y ∷ ys) ≡ suc (length ys) = refl in by (y.index == j) refl e (λ k. within (b + 1) j ys x h.1 k)
+within b j (y ∷ ys) x h e = let h0 = h.0 in let n : length (y ∷ ys) ≡ suc (length ys) = refl in
+    by (y.index == j) refl e (λ k. within (b + 1) j ys x h.1 k)
   where
     by : (t : Bool) → t ≡ (y.index == j) → (if t then Some y else id_at ys j) ≡ Some x
         → (id_at ys j ≡ Some x → (b + 1 ≤ j) × (j < b + 1 + length ys)) → (b ≤ j) × (j < b + length (y ∷ ys))
@@ -81,7 +88,8 @@ not_in_index (Some a) None i h g = cc
 not_in_index (Some a) (Some b) i h g = grind (arith, nat_tests)
 
 -- what is cut off ends at or below the index
-after_first : {C : Type 0} (a : ℕ) (x : LogIdOf C) (zs : List (LogIdOf C)) → x.index < a → next_index (last_id zs) ≤ a → next_index (last_id (x ∷ zs)) ≤ a
+after_first : {C : Type 0} (a : ℕ) (x : LogIdOf C) (zs : List (LogIdOf C)) → x.index < a → next_index (last_id zs) ≤ a
+    → next_index (last_id (x ∷ zs)) ≤ a
 after_first a x [] lt h = omega arith
 after_first a x (z ∷ zs) lt h = h
 
@@ -92,7 +100,8 @@ front_ends a (x ∷ xs) = elim (cases_lt x.index a) [
   | inr past ↦ (let t : nat_lt x.index a ≡ false = grind (arith, nat_tests) in rw t (front_ends a xs))
 ]
 
-is_past : {C : Type 0} (committed : Option (LogIdOf C)) (id : LogIdOf C) → index_lt (index_of committed) (Some id.index) ≡ true → next_index committed ≤ id.index
+is_past : {C : Type 0} (committed : Option (LogIdOf C)) (id : LogIdOf C) → index_lt (index_of committed) (Some id.index) ≡ true
+    → next_index committed ≤ id.index
 is_past None id h = omega arith
 is_past (Some c) id h = grind (arith, nat_tests)
 
@@ -104,12 +113,15 @@ pub record IsFrom {C : Type 0} (cmp : C → C → Ordering) (id : LogIdOf C) (lo
   pub first_at_most : id_le cmp (Some first) (Some id) ≡ true
   pub last_at_least : id_le cmp (Some id) (last_id log) ≡ true
 
-module _ {C : Type 0} (cmp : C → C → Ordering) (eq : C → C → Bool) (total : IsTotalOrder cmp) (law : (x y : C) → eq x y ≡ is_eq (cmp x y)) (turn : (x y : C) → eq x y ≡ true → eq y x ≡ true) where
+module _ {C : Type 0} (cmp : C → C → Ordering) (eq : C → C → Bool) (total : IsTotalOrder cmp) (law : (x y : C) → eq x y ≡ is_eq (cmp x y))
+    (turn : (x y : C) → eq x y ≡ true → eq y x ≡ true) where
   alone : (id : LogIdOf C) → IsFrom cmp id (id ∷ [])
-  alone id = let r = AtMost-refl (optional-log_id_cmp-total total) (Some id) in record { first = id; is_first = refl; index = refl; first_at_most = r; last_at_least = r }
+  alone id = let r = AtMost-refl (optional-log_id_cmp-total total) (Some id) in
+      record { first = id; is_first = refl; index = refl; first_at_most = r; last_at_least = r }
 
   -- a log that has the log id
-  over_logged : (keys : List (LogIdOf C)) (id : LogIdOf C) → IsKeyList cmp keys → same_ids eq (id_at (full_log keys) id.index) (Some id) ≡ true → IsFrom cmp id (log_after_purge (full_log keys) id)
+  over_logged : (keys : List (LogIdOf C)) (id : LogIdOf C) → IsKeyList cmp keys
+      → same_ids eq (id_at (full_log keys) id.index) (Some id) ≡ true → IsFrom cmp id (log_after_purge (full_log keys) id)
   over_logged [] id s h = cc
   over_logged (k ∷ ks) id s h = by_end (nat_le (end_index log) id.index) refl
     where
@@ -119,21 +131,28 @@ module _ {C : Type 0} (cmp : C → C → Ordering) (eq : C → C → Bool) (tota
       row : From (first_index (full_log (k ∷ ks))) (full_log (k ∷ ks))
       row = from_first cmp (k ∷ ks) s
 
-      by_end : (t : Bool) → t ≡ nat_le (end_index (full_log (k ∷ ks))) id.index → IsFrom cmp id (if t then id ∷ [] else (if nat_lt id.index (first_index (full_log (k ∷ ks))) then full_log (k ∷ ks) else rest (full_log (k ∷ ks)) id.index))
+      by_end : (t : Bool) → t ≡ nat_le (end_index (full_log (k ∷ ks))) id.index
+          → IsFrom cmp id (if t then id ∷ [] else (if nat_lt id.index (first_index (full_log (k ∷ ks))) then full_log (k ∷ ks) else rest
+              (full_log (k ∷ ks)) id.index))
       by_end true e = alone id
       by_end false e =
           let f = found eq (id_at (full_log (k ∷ ks)) id.index) id h in
           let f3 = f.3 in
           let w = within (first_index (full_log (k ∷ ks))) id.index (full_log (k ∷ ks)) f.0 row f.1 in let w0 = w.0 in
-          let z = last_at_least cmp total k.leader_id (first_index (full_log (k ∷ ks))) id.index (full_log (k ∷ ks)) f.0 (above_full cmp total k.leader_id k ks s (AtMost-refl total k.leader_id)) row f.1 in
+          let z = last_at_least cmp total k.leader_id (first_index (full_log (k ∷ ks))) id.index (full_log (k ∷ ks)) f.0
+              (above_full cmp total k.leader_id k ks s (AtMost-refl total k.leader_id)) row f.1 in
           let t : nat_lt id.index (first_index (full_log (k ∷ ks))) ≡ false = grind (arith, nat_tests) in
           rw t (record {
             first = f.0;
             is_first = rest_first (first_index (full_log (k ∷ ks))) id.index (full_log (k ∷ ks)) row w.0 ∙ f.1;
             index = f.3;
-            first_at_most = then_below (cmp f.0.leader_id id.leader_id) f.0.index id.index (upto_equal cmp eq total law f.0.leader_id id.leader_id id.leader_id f.2 (itself cmp eq total law id.leader_id)) (omega arith);
+            first_at_most = then_below (cmp f.0.leader_id id.leader_id) f.0.index id.index
+                (upto_equal cmp eq total law f.0.leader_id id.leader_id id.leader_id f.2 (itself cmp eq total law id.leader_id))
+                (omega arith);
             last_at_least = rw (rest_last (first_index (full_log (k ∷ ks))) id.index (full_log (k ∷ ks)) row w.1, z.1)
-                (then_below (cmp id.leader_id z.0.leader_id) id.index z.0.index (upto_equal cmp eq total law id.leader_id f.0.leader_id z.0.leader_id (turn f.0.leader_id id.leader_id f.2) z.2) z.3);
+                (then_below (cmp id.leader_id z.0.leader_id) id.index z.0.index
+                        (upto_equal cmp eq total law id.leader_id f.0.leader_id z.0.leader_id (turn f.0.leader_id id.leader_id f.2) z.2)
+                        z.3);
           })
 
   -- a log that does not, cut off at or below it
@@ -144,63 +163,81 @@ module _ {C : Type 0} (cmp : C → C → Ordering) (eq : C → C → Bool) (tota
       rw t (alone id)
 
   -- the log once a snapshot is installed
-  is_from : {K N I L : Type 0} (s : RaftStateIn K N I L C) (id : LogIdOf C) → IsKeyList cmp s.log_ids → next_index s.committed ≤ id.index → IsFrom cmp id (log_after_install eq id s)
+  is_from : {K N I L : Type 0} (s : RaftStateIn K N I L C) (id : LogIdOf C) → IsKeyList cmp s.log_ids → next_index s.committed ≤ id.index
+      → IsFrom cmp id (log_after_install eq id s)
   is_from s id keys le = by (is_logged eq id s) refl
     where
-      by : (t : Bool) → t ≡ is_logged eq id s → IsFrom cmp id (log_after_purge (if t then full_log s.log_ids else front (full_log s.log_ids) (next_index s.committed)) id)
+      by : (t : Bool) → t ≡ is_logged eq id s
+          → IsFrom cmp id (log_after_purge (if t then full_log s.log_ids else front (full_log s.log_ids) (next_index s.committed)) id)
       by true e = over_logged s.log_ids id keys (sym e)
       by false e = over_cut (next_index s.committed) (full_log s.log_ids) id le
 
   -- the log may be purged to the snapshot's last log id
-  pub purge_fits : {K N I L : Type 0} (s : RaftStateIn K N I L C) (id : LogIdOf C) (stored : StoredMembershipOf C K N) → IsKeyList cmp s.log_ids → may_go_over cmp eq id stored s ≡ true → may_be_purged_to cmp (last_id (log_to_keep eq id s)) id ≡ true
+  pub purge_fits : {K N I L : Type 0} (s : RaftStateIn K N I L C) (id : LogIdOf C) (stored : StoredMembershipOf C K N)
+      → IsKeyList cmp s.log_ids → may_go_over cmp eq id stored s ≡ true → may_be_purged_to cmp (last_id (log_to_keep eq id s)) id ≡ true
   purge_fits s id stored keys may = by (is_logged eq id s) refl may
     where
-      whole : (ks : List (LogIdOf C)) → IsKeyList cmp ks → same_ids eq (id_at (full_log ks) id.index) (Some id) ≡ true → may_be_purged_to cmp (last_id (full_log ks)) id ≡ true
+      whole : (ks : List (LogIdOf C)) → IsKeyList cmp ks → same_ids eq (id_at (full_log ks) id.index) (Some id) ≡ true
+          → may_be_purged_to cmp (last_id (full_log ks)) id ≡ true
       whole [] is h = cc
       whole (k ∷ ks) is h =
           let f = found eq (id_at (full_log (k ∷ ks)) id.index) id h in
-          let z = last_at_least cmp total k.leader_id (first_index (full_log (k ∷ ks))) id.index (full_log (k ∷ ks)) f.0 (above_full cmp total k.leader_id k ks is (AtMost-refl total k.leader_id)) (from_first cmp (k ∷ ks) is) f.1 in
+          let z = last_at_least cmp total k.leader_id (first_index (full_log (k ∷ ks))) id.index (full_log (k ∷ ks)) f.0
+              (above_full cmp total k.leader_id k ks is (AtMost-refl total k.leader_id)) (from_first cmp (k ∷ ks) is) f.1 in
           let z3 = z.3 in
           let t : nat_le id.index z.0.index ≡ true = grind (arith, nat_tests) in
           rw z.1 (either (nat_le id.index z.0.index) (is_le (cmp z.0.leader_id id.leader_id)) t)
 
       cut : (last : Option (LogIdOf C)) → id_le cmp last (Some id) ≡ true → may_be_purged_to cmp last id ≡ true
       cut None h = refl
-      cut (Some l) h = or_else (nat_le id.index l.index) (is_le (cmp l.leader_id id.leader_id)) (leaders_first (cmp l.leader_id id.leader_id) l.index id.index h)
+      cut (Some l) h = or_else (nat_le id.index l.index) (is_le (cmp l.leader_id id.leader_id))
+          (leaders_first (cmp l.leader_id id.leader_id) l.index id.index h)
 
       by : (t : Bool) → t ≡ is_logged eq id s
           → (if t then is_covered id.index s.membership_state || id_le cmp (log_id_of stored) (log_id_of s.membership_state.effective)
-          else may_truncate cmp (next_index s.committed) s && id_le cmp (last_id (front (full_log s.log_ids) (next_index s.committed))) (Some id)) ≡ true
+          else may_truncate cmp (next_index s.committed) s
+              && id_le cmp (last_id (front (full_log s.log_ids) (next_index s.committed))) (Some id)) ≡ true
           → may_be_purged_to cmp (last_id (if t then full_log s.log_ids else front (full_log s.log_ids) (next_index s.committed))) id ≡ true
       by true e m = whole s.log_ids keys (sym e)
       by false e m = cut (last_id (front (full_log s.log_ids) (next_index s.committed))) (both _ _ m).1
 
   -- valid memberships stay valid
-  members_stay : {K N : Type 0} (id : LogIdOf C) (stored : StoredMembershipOf C K N) (m : Memberships C K N) → first_false (membership_relations cmp m) ≡ None → is_not_past cmp id stored ≡ true
-      → is_covered id.index m || id_le cmp (log_id_of stored) (log_id_of m.effective) ≡ true → first_false (membership_relations cmp (after_update_committed cmp stored id.index m)) ≡ None
+  members_stay : {K N : Type 0} (id : LogIdOf C) (stored : StoredMembershipOf C K N) (m : Memberships C K N)
+      → first_false (membership_relations cmp m) ≡ None → is_not_past cmp id stored ≡ true
+      → is_covered id.index m || id_le cmp (log_id_of stored) (log_id_of m.effective) ≡ true
+      → first_false (membership_relations cmp (after_update_committed cmp stored id.index m)) ≡ None
   members_stay {K} {N} id stored m valid past over = by (is_covered id.index m) refl over
     where
-      old : (id_le cmp (log_id_of m.committed) (log_id_of m.effective) ≡ true) × (index_le (index_at m.committed) (index_at m.effective) ≡ true)
+      old : (id_le cmp (log_id_of m.committed) (log_id_of m.effective) ≡ true)
+          × (index_le (index_at m.committed) (index_at m.effective) ≡ true)
       old = let first = all_hold _ _ _ valid in (first.0, (all_hold _ _ _ first.1).0)
 
-      kept : (t : Bool) → id_le cmp (log_id_of stored) (log_id_of m.effective) ≡ true → index_le (index_at stored) (index_at m.effective) ≡ true
-          → first_false (membership_relations cmp (let new : Memberships C K N = record { committed = if t then stored else m.committed; effective = m.effective } in new)) ≡ None
+      kept : (t : Bool) → id_le cmp (log_id_of stored) (log_id_of m.effective) ≡ true
+          → index_le (index_at stored) (index_at m.effective) ≡ true
+          → first_false (membership_relations cmp
+                  (let new : Memberships C K N = record { committed = if t then stored else m.committed; effective = m.effective } in new))
+          ≡ None
       kept true low index = hold_all _ _ _ low (hold_all _ _ _ index refl)
       kept false low index = hold_all _ _ _ old.0 (hold_all _ _ _ old.1 refl)
 
       by : (t : Bool) → t ≡ is_covered id.index m → t || id_le cmp (log_id_of stored) (log_id_of m.effective) ≡ true
-          → first_false (membership_relations cmp (let new : Memberships C K N = (if t then record { committed = stored; effective = stored } else record {
+          → first_false (membership_relations cmp
+                  (let new : Memberships C K N = (if t then record { committed = stored; effective = stored } else record {
             committed = if id_lt cmp (log_id_of m.committed) (log_id_of stored) then stored else m.committed;
             effective = if index_le (index_at m.effective) (index_at stored) then stored else m.effective;
           }) in new)) ≡ None
-      by true e o = hold_all _ _ _ (AtMost-refl (optional-log_id_cmp-total total) (log_id_of stored)) (hold_all _ _ _ (AtMost-refl (options_total nat_cmp_total) (index_at stored)) refl)
+      by true e o = hold_all _ _ _ (AtMost-refl (optional-log_id_cmp-total total) (log_id_of stored))
+          (hold_all _ _ _ (AtMost-refl (options_total nat_cmp_total) (index_at stored)) refl)
       by false e o =
           let in_snapshot = (both _ _ past).1 in
-          let stays : index_le (index_at m.effective) (index_at stored) ≡ false = not_in_index (index_at stored) (index_at m.effective) id.index in_snapshot (sym e) in
-          rw stays (kept (id_lt cmp (log_id_of m.committed) (log_id_of stored)) o (in_index (index_at stored) (index_at m.effective) id.index id.index in_snapshot (sym e) (omega arith)))
+          let stays : index_le (index_at m.effective) (index_at stored) ≡ false =
+              not_in_index (index_at stored) (index_at m.effective) id.index in_snapshot (sym e) in
+          rw stays (kept (id_lt cmp (log_id_of m.committed) (log_id_of stored)) o
+                  (in_index (index_at stored) (index_at m.effective) id.index id.index in_snapshot (sym e) (omega arith)))
 
   -- memberships that are cut off below a snapshot's last index are in the snapshot
-  cut_covers : {K N : Type 0} (since i : ℕ) (m : Memberships C K N) → index_lt (index_at m.committed) (Some since) ≡ true → since ≤ i → is_covered i (after_truncate since m) ≡ true
+  cut_covers : {K N : Type 0} (since i : ℕ) (m : Memberships C K N) → index_lt (index_at m.committed) (Some since) ≡ true → since ≤ i
+      → is_covered i (after_truncate since m) ≡ true
   cut_covers {K} {N} since i m low le = by (is_cut since m) refl
     where
       below : (a : Option ℕ) → index_lt a (Some since) ≡ true → index_le a (Some i) ≡ true
@@ -211,38 +248,52 @@ module _ {C : Type 0} (cmp : C → C → Ordering) (eq : C → C → Bool) (tota
       not_from None h = refl
       not_from (Some a) h = grind (arith, nat_tests)
 
-      by : (t : Bool) → t ≡ is_cut since m → is_covered i (let new : Memberships C K N = (if t then record { committed = m.committed; effective = m.committed } else m) in new) ≡ true
+      by : (t : Bool) → t ≡ is_cut since m
+          → is_covered i (let new : Memberships C K N = (if t then record { committed = m.committed; effective = m.committed } else m) in
+              new) ≡ true
       by true e = below (index_at m.committed) low
       by false e = not_from (index_at m.effective) (sym e)
 
   -- and so do those over which a snapshot is installed
-  all_members_stay : {K N I L : Type 0} (s : RaftStateIn K N I L C) (id : LogIdOf C) (stored : StoredMembershipOf C K N) → next_index s.committed ≤ id.index → is_not_past cmp id stored ≡ true → may_go_over cmp eq id stored s ≡ true
+  all_members_stay : {K N I L : Type 0} (s : RaftStateIn K N I L C) (id : LogIdOf C) (stored : StoredMembershipOf C K N)
+      → next_index s.committed ≤ id.index → is_not_past cmp id stored ≡ true → may_go_over cmp eq id stored s ≡ true
       → first_false (membership_relations cmp s.membership_state) ≡ None
       → first_false (membership_relations cmp (after_update_committed cmp stored id.index (memberships_to_keep eq id s))) ≡ None
   all_members_stay {K} {N} s id stored le past may valid = by (is_logged eq id s) may
     where
       by : (t : Bool)
           → (if t then is_covered id.index s.membership_state || id_le cmp (log_id_of stored) (log_id_of s.membership_state.effective)
-          else may_truncate cmp (next_index s.committed) s && id_le cmp (last_id (front (full_log s.log_ids) (next_index s.committed))) (Some id)) ≡ true
-          → first_false (membership_relations cmp (after_update_committed cmp stored id.index (let kept : Memberships C K N = (if t then s.membership_state else after_truncate (next_index s.committed) s.membership_state) in kept))) ≡ None
+          else may_truncate cmp (next_index s.committed) s
+              && id_le cmp (last_id (front (full_log s.log_ids) (next_index s.committed))) (Some id)) ≡ true
+          → first_false (membership_relations cmp
+                  (after_update_committed cmp stored id.index
+                  (let kept : Memberships C K N = (if t then s.membership_state else after_truncate (next_index s.committed)
+                  s.membership_state) in kept))) ≡ None
       by true m = members_stay id stored s.membership_state valid past m
       by false m =
           let low = (both _ _ (both _ _ m).0).1 in
           let cut = after_truncate (next_index s.committed) s.membership_state in
           members_stay id stored cut (memberships_stay total (next_index s.committed) s.membership_state valid) past
-          (either (is_covered id.index cut) (id_le cmp (log_id_of stored) (log_id_of cut.effective)) (cut_covers (next_index s.committed) id.index s.membership_state low le))
+          (either (is_covered id.index cut) (id_le cmp (log_id_of stored) (log_id_of cut.effective))
+                  (cut_covers (next_index s.committed) id.index s.membership_state low le))
 
-  begins_so : (log : List (LogIdOf C)) (id : LogIdOf C) → IsFrom cmp id log → (fits_purged_next (id.index + 1) (first_id log) ≡ true) × (id_le cmp (if (id.index + 1) == 0 then None else first_id log) (Some id) ≡ true)
+  begins_so : (log : List (LogIdOf C)) (id : LogIdOf C) → IsFrom cmp id log
+      → (fits_purged_next (id.index + 1) (first_id log) ≡ true)
+      × (id_le cmp (if (id.index + 1) == 0 then None else first_id log) (Some id) ≡ true)
   begins_so log id f =
       let t : ((id.index + 1) == 0) ≡ false = grind (arith, nat_tests) in
       let at = f.index in
       let u : ((f.first.index + 1) == (id.index + 1)) ≡ true = grind (arith, nat_tests) in
       (rw (f.is_first, t) u, rw (f.is_first, t) f.first_at_most)
 
-  pub install_stays_valid : {K N I L : Type 0} (s : RaftStateIn K N I L C) (id : LogIdOf C) (stored : StoredMembershipOf C K N) (keys : List (LogIdOf C)) (m : Memberships C K N) (accepted : AcceptedIn L C) (meta : SnapshotMetaOf C K N)
-      → IsKeyList cmp s.log_ids → full_log keys ≡ log_after_install eq id s → m ≡ after_update_committed cmp stored id.index (memberships_to_keep eq id s) → meta.last_log_id ≡ Some id
-      → is_past_committed cmp id s ≡ true → is_not_past cmp id stored ≡ true → may_go_over cmp eq id stored s ≡ true → broken_relation cmp s ≡ None
-      → broken_relation cmp (record s { committed = Some id; purged_next = id.index + 1; log_ids = keys; membership_state = m; accepted = accepted; snapshot_meta = meta; purge_upto = Some id }) ≡ None
+  pub install_stays_valid : {K N I L : Type 0} (s : RaftStateIn K N I L C) (id : LogIdOf C) (stored : StoredMembershipOf C K N)
+      (keys : List (LogIdOf C)) (m : Memberships C K N) (accepted : AcceptedIn L C) (meta : SnapshotMetaOf C K N)
+      → IsKeyList cmp s.log_ids → full_log keys ≡ log_after_install eq id s
+      → m ≡ after_update_committed cmp stored id.index (memberships_to_keep eq id s) → meta.last_log_id ≡ Some id
+      → is_past_committed cmp id s ≡ true → is_not_past cmp id stored ≡ true → may_go_over cmp eq id stored s ≡ true
+      → broken_relation cmp s ≡ None
+      → broken_relation cmp (record s { committed = Some id; purged_next = id.index + 1; log_ids = keys; membership_state = m;
+              accepted = accepted; snapshot_meta = meta; purge_upto = Some id }) ≡ None
   install_stays_valid s id stored keys m accepted meta are is is_m is_meta past not_past may valid =
       let le = is_past s.committed id (both _ _ (both _ _ past).0).1 in
       let log = full_log s.log_ids in

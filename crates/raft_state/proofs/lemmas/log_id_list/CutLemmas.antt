@@ -1,5 +1,6 @@
 -- What a truncation or a purge of the keys does to the full log.
-use Rattle.std.proofs.Common.{◌≡◌, ℕ, zero, suc, ◌+◌, ◌-◌, ◌<◌, ◌≤◌, min, max, Bool, true, false, List, [], ◌∷◌, ◌++◌, if◌then◌else◌, IsTrue, nat_lt, nat_le, refl, sym, arith, length, get_or, set, ap, take, drop, ◌∙◌, inl, inr, drop-cons, subst, length-drop}
+use Rattle.std.proofs.Common.{◌≡◌, ℕ, zero, suc, ◌+◌, ◌-◌, ◌<◌, ◌≤◌, min, max, Bool, true, false, List, [], ◌∷◌, ◌++◌, if◌then◌else◌,
+        IsTrue, nat_lt, nat_le, refl, sym, arith, length, get_or, set, ap, take, drop, ◌∙◌, inl, inr, drop-cons, subst, length-drop}
 use Rattle.std.specs.declared.cmp.Ordering.{Ordering}
 use Rattle.std.specs.Ordering.{is_le, is_lt}
 use Rattle.std.specs.declared.cmp.Ordering.TheVariants.{Less, Equal, Greater}
@@ -56,7 +57,8 @@ front_above b (k ∷ ks) e a r le =
     filter-append (λ id. nat_lt id.index a) (ids_of k.leader_id k.index (first_index_or ks e - k.index)) (ids_of_keys ks e)
     ∙ rw (front_ids k.leader_id k.index (first_index_or ks e - k.index) a, z) (front_above (k.index + 1) ks e a r.1 (omega arith))
 
-pub rest_above : {C : Type 0} (b : ℕ) (ks : List (LogIdOf C)) (e a : ℕ) → Rises b ks e → a ≤ b → rest (ids_of_keys ks e) a ≡ ids_of_keys ks e
+pub rest_above : {C : Type 0} (b : ℕ) (ks : List (LogIdOf C)) (e a : ℕ) → Rises b ks e → a ≤ b
+    → rest (ids_of_keys ks e) a ≡ ids_of_keys ks e
 rest_above b [] e a r le = refl
 rest_above b (k ∷ ks) e a r le =
     let r0 = r.0 in
@@ -80,23 +82,30 @@ one_to {C} k j le = elim (cases_lt k.index j) [
       rw (t, e) (append-nil (ids_of k.leader_id k.index (k.index + 1 - k.index))))
 ]
 
-pub full_cut_after : {C : Type 0} (k : LogIdOf C) (ks : List (LogIdOf C)) (e j : ℕ) → Rises (k.index + 1) ks e → e ≡ end_index (k ∷ ks) → k.index ≤ j → full_log (k ∷ rest_up_to k ks j) ≡ front (full_log (k ∷ ks)) (suc j)
+pub full_cut_after : {C : Type 0} (k : LogIdOf C) (ks : List (LogIdOf C)) (e j : ℕ) → Rises (k.index + 1) ks e → e ≡ end_index (k ∷ ks)
+    → k.index ≤ j → full_log (k ∷ rest_up_to k ks j) ≡ front (full_log (k ∷ ks)) (suc j)
 full_cut_after k [] e j r is le =
     let t : nat_lt k.index (suc j) ≡ true = grind (arith, nat_tests) in rw (one_id k, t) refl
 full_cut_after k (l ∷ ks) e j r is le = filter-step (λ past. full_cut_after l ks e j r.1 is past) ∙ parts
   where
-    filter-step : (l.index ≤ j → full_log (l ∷ rest_up_to l ks j) ≡ front (full_log (l ∷ ks)) (suc j)) → full_log (k ∷ rest_up_to k (l ∷ ks) j) ≡ front (ids_of k.leader_id k.index (l.index - k.index)) (suc j) ++ front (full_log (l ∷ ks)) (suc j)
+    filter-step : (l.index ≤ j → full_log (l ∷ rest_up_to l ks j) ≡ front (full_log (l ∷ ks)) (suc j))
+        → full_log (k ∷ rest_up_to k (l ∷ ks) j) ≡ front (ids_of k.leader_id k.index (l.index - k.index)) (suc j)
+        ++ front (full_log (l ∷ ks)) (suc j)
     filter-step more = let r0 = r.0 in elim (cases_lt j l.index) [
       | inl below ↦ (let t : nat_le l.index j ≡ false = grind (arith, nat_tests) in
           let m : min (l.index - k.index) (suc j - k.index) ≡ j + 1 - k.index = omega arith in
-          let none : front (full_log (l ∷ ks)) (suc j) ≡ [] = front_above l.index (l ∷ ks) (end_index (l ∷ ks)) (suc j) (omega arith, rw is at r.1) (omega arith) in
-          rw (t, none, front_ids k.leader_id k.index (l.index - k.index) (suc j), m, append-nil (ids_of k.leader_id k.index (j + 1 - k.index))) (one_to k j le))
+          let none : front (full_log (l ∷ ks)) (suc j) ≡ [] =
+              front_above l.index (l ∷ ks) (end_index (l ∷ ks)) (suc j) (omega arith, rw is at r.1) (omega arith) in
+          rw (t, none, front_ids k.leader_id k.index (l.index - k.index) (suc j), m, append-nil
+                  (ids_of k.leader_id k.index (j + 1 - k.index))) (one_to k j le))
       | inr past ↦ (let t : nat_le l.index j ≡ true = grind (arith, nat_tests) in
           let m : min (l.index - k.index) (suc j - k.index) ≡ l.index - k.index = omega arith in
-          rw (t, front_ids k.leader_id k.index (l.index - k.index) (suc j), m) (ap (λ (x : List (LogIdOf _)). ids_of k.leader_id k.index (l.index - k.index) ++ x) (more past)))
+          rw (t, front_ids k.leader_id k.index (l.index - k.index) (suc j), m)
+              (ap (λ (x : List (LogIdOf _)). ids_of k.leader_id k.index (l.index - k.index) ++ x) (more past)))
     ]
 
-    parts : front (ids_of k.leader_id k.index (l.index - k.index)) (suc j) ++ front (full_log (l ∷ ks)) (suc j) ≡ front (full_log (k ∷ l ∷ ks)) (suc j)
+    parts : front (ids_of k.leader_id k.index (l.index - k.index)) (suc j) ++ front (full_log (l ∷ ks)) (suc j)
+        ≡ front (full_log (k ∷ l ∷ ks)) (suc j)
     parts = sym (filter-append (λ id. nat_lt id.index (suc j)) (ids_of k.leader_id k.index (l.index - k.index)) (full_log (l ∷ ks)))
 
 none_below : {C : Type 0} (log : List (LogIdOf C)) → front log 0 ≡ []
@@ -104,7 +113,8 @@ none_below [] = refl
 none_below (x ∷ xs) = let t : nat_lt x.index 0 ≡ false = grind (arith, nat_tests) in rw t (none_below xs)
 
 -- the keys of a truncation have the front of the full log
-pub full_cut : {C : Type 0} (cmp : C → C → Ordering) (ks : List (LogIdOf C)) (a : ℕ) → IsKeyList cmp ks → full_log (keys_below ks a) ≡ front (full_log ks) a
+pub full_cut : {C : Type 0} (cmp : C → C → Ordering) (ks : List (LogIdOf C)) (a : ℕ) → IsKeyList cmp ks
+    → full_log (keys_below ks a) ≡ front (full_log ks) a
 full_cut cmp ks zero s = sym (none_below (full_log ks))
 full_cut cmp [] (suc j) s = refl
 full_cut cmp (k ∷ ks) (suc j) s =
@@ -121,7 +131,8 @@ lt_is_le Less h = refl
 lt_is_le Equal h = cc
 lt_is_le Greater h = cc
 
-cons_key : {C : Type 0} (cmp : C → C → Ordering) (k l : LogIdOf C) (xs : List (LogIdOf C)) → k.index < l.index → IsTrue (is_lt (cmp k.leader_id l.leader_id)) → IsKeyList cmp (l ∷ xs) → IsKeyList cmp (k ∷ l ∷ xs)
+cons_key : {C : Type 0} (cmp : C → C → Ordering) (k l : LogIdOf C) (xs : List (LogIdOf C)) → k.index < l.index
+    → IsTrue (is_lt (cmp k.leader_id l.leader_id)) → IsKeyList cmp (l ∷ xs) → IsKeyList cmp (k ∷ l ∷ xs)
 cons_key cmp k l [] i o s = (i, lt_is_le (cmp k.leader_id l.leader_id) o)
 cons_key cmp k l (x ∷ xs) i o s = (i, o, s)
 
@@ -132,7 +143,8 @@ module _ {C : Type 0} (cmp : C → C → Ordering) (same : (c : C) → IsTrue (i
     | inr past ↦ (let t : nat_lt k.index j ≡ false = grind (arith, nat_tests) in rw t tt)
   ]
 
-  cut_after_stays : (k : LogIdOf C) (ks : List (LogIdOf C)) (j : ℕ) → IsKeyList cmp (k ∷ ks) → k.index ≤ j → IsKeyList cmp (k ∷ rest_up_to k ks j)
+  cut_after_stays : (k : LogIdOf C) (ks : List (LogIdOf C)) (j : ℕ) → IsKeyList cmp (k ∷ ks) → k.index ≤ j
+      → IsKeyList cmp (k ∷ rest_up_to k ks j)
   cut_after_stays k [] j s le = tt
   cut_after_stays k (l ∷ []) j s le = elim (cases_lt j l.index) [
     | inl below ↦ (let t : nat_le l.index j ≡ false = grind (arith, nat_tests) in rw t (ends_stay k j le))
@@ -140,7 +152,8 @@ module _ {C : Type 0} (cmp : C → C → Ordering) (same : (c : C) → IsTrue (i
   ]
   cut_after_stays k (l ∷ m ∷ ks) j s le = elim (cases_lt j l.index) [
     | inl below ↦ (let t : nat_le l.index j ≡ false = grind (arith, nat_tests) in rw t (ends_stay k j le))
-    | inr past ↦ (let t : nat_le l.index j ≡ true = grind (arith, nat_tests) in rw t (cons_key cmp k l (rest_up_to l (m ∷ ks) j) s.0 s.1 (cut_after_stays l (m ∷ ks) j s.2 past)))
+    | inr past ↦ (let t : nat_le l.index j ≡ true = grind (arith, nat_tests) in
+            rw t (cons_key cmp k l (rest_up_to l (m ∷ ks) j) s.0 s.1 (cut_after_stays l (m ∷ ks) j s.2 past)))
   ]
 
   pub cut_stays : (ks : List (LogIdOf C)) (a : ℕ) → IsKeyList cmp ks → IsKeyList cmp (keys_below ks a)
@@ -169,7 +182,8 @@ module _ {C : Type 0} (cmp : C → C → Ordering) (same : (c : C) → IsTrue (i
     | inr past ↦ (let t : nat_le k.index a ≡ true = grind (arith, nat_tests) in rw t (kept_after_stays k ks a s))
   ]
 
-  purge_test : (t : Bool) (ks : List (LogIdOf C)) (upto : LogIdOf C) → IsKeyList cmp ks → IsKeyList cmp (if t then upto ∷ [] else keys_from ks upto.index)
+  purge_test : (t : Bool) (ks : List (LogIdOf C)) (upto : LogIdOf C) → IsKeyList cmp ks
+      → IsKeyList cmp (if t then upto ∷ [] else keys_from ks upto.index)
   purge_test true ks upto s = tt
   purge_test false ks upto s = kept_stays ks upto.index s
 
@@ -177,19 +191,25 @@ module _ {C : Type 0} (cmp : C → C → Ordering) (same : (c : C) → IsTrue (i
   purge_stays ks upto s = purge_test (nat_le (end_index ks) upto.index) ks upto s
 
 -- the full log of what a purge keeps
-pub full_kept_after : {C : Type 0} (k : LogIdOf C) (ks : List (LogIdOf C)) (e a : ℕ) → Rises (k.index + 1) ks e → e ≡ end_index (k ∷ ks) → k.index ≤ a → a < e → full_log (rest_from k ks a) ≡ rest (full_log (k ∷ ks)) a
+pub full_kept_after : {C : Type 0} (k : LogIdOf C) (ks : List (LogIdOf C)) (e a : ℕ) → Rises (k.index + 1) ks e → e ≡ end_index (k ∷ ks)
+    → k.index ≤ a → a < e → full_log (rest_from k ks a) ≡ rest (full_log (k ∷ ks)) a
 full_kept_after k [] e a r is le lt =
     let n : a + 1 - a ≡ (k.index + 1 - k.index) - (a - k.index) = omega arith in
     let p : max k.index a ≡ a = omega arith in
-    sym (filter-append (λ id. nat_le a id.index) (ids_of k.leader_id k.index (k.index + 1 - k.index)) [] ∙ rw (rest_ids k.leader_id k.index (k.index + 1 - k.index) a, p, ← n) refl)
-full_kept_after k (l ∷ ks) e a r is le lt = by_place (λ past. full_kept_after l ks e a r.1 is past lt) ∙ sym (filter-append (λ id. nat_le a id.index) (ids_of k.leader_id k.index (l.index - k.index)) (full_log (l ∷ ks)))
+    sym (filter-append (λ id. nat_le a id.index) (ids_of k.leader_id k.index (k.index + 1 - k.index)) []
+            ∙ rw (rest_ids k.leader_id k.index (k.index + 1 - k.index) a, p, ← n) refl)
+full_kept_after k (l ∷ ks) e a r is le lt =
+    by_place (λ past. full_kept_after l ks e a r.1 is past lt)
+    ∙ sym (filter-append (λ id. nat_le a id.index) (ids_of k.leader_id k.index (l.index - k.index)) (full_log (l ∷ ks)))
   where
-    by_place : (l.index ≤ a → full_log (rest_from l ks a) ≡ rest (full_log (l ∷ ks)) a) → full_log (rest_from k (l ∷ ks) a) ≡ rest (ids_of k.leader_id k.index (l.index - k.index)) a ++ rest (full_log (l ∷ ks)) a
+    by_place : (l.index ≤ a → full_log (rest_from l ks a) ≡ rest (full_log (l ∷ ks)) a)
+        → full_log (rest_from k (l ∷ ks) a) ≡ rest (ids_of k.leader_id k.index (l.index - k.index)) a ++ rest (full_log (l ∷ ks)) a
     by_place more = let r0 = r.0 in elim (cases_lt a l.index) [
       | inl below ↦ (let t : nat_le l.index a ≡ false = grind (arith, nat_tests) in
           let n : (l.index - k.index) - (a - k.index) ≡ l.index - a = omega arith in
           let p : max k.index a ≡ a = omega arith in
-          let all : rest (full_log (l ∷ ks)) a ≡ full_log (l ∷ ks) = rest_above l.index (l ∷ ks) (end_index (l ∷ ks)) a (omega arith, rw is at r.1) (omega arith) in
+          let all : rest (full_log (l ∷ ks)) a ≡ full_log (l ∷ ks) =
+              rest_above l.index (l ∷ ks) (end_index (l ∷ ks)) a (omega arith, rw is at r.1) (omega arith) in
           rw (t, all, rest_ids k.leader_id k.index (l.index - k.index) a, n, p) refl)
       | inr past ↦ (let t : nat_le l.index a ≡ true = grind (arith, nat_tests) in
           let n : (l.index - k.index) - (a - k.index) ≡ 0 = omega arith in
@@ -200,7 +220,8 @@ pub one_key : {C : Type 0} (k : LogIdOf C) → full_log (k ∷ []) ≡ k ∷ []
 one_key k = append-nil (ids_of k.leader_id k.index (k.index + 1 - k.index)) ∙ one_id k
 
 -- a full log begins with the first key and ends with the last one
-pub full_begins : {C : Type 0} (cmp : C → C → Ordering) (k : LogIdOf C) (ks : List (LogIdOf C)) → IsKeyList cmp (k ∷ ks) → (xs : List (LogIdOf C)) × (full_log (k ∷ ks) ≡ k ∷ xs)
+pub full_begins : {C : Type 0} (cmp : C → C → Ordering) (k : LogIdOf C) (ks : List (LogIdOf C)) → IsKeyList cmp (k ∷ ks)
+    → (xs : List (LogIdOf C)) × (full_log (k ∷ ks) ≡ k ∷ xs)
 full_begins cmp k [] s = ([], one_key k)
 full_begins cmp k (l ∷ ks) s =
     let r = key_list_rises cmp k (l ∷ ks) s in
@@ -222,24 +243,29 @@ last_full cmp (k ∷ l ∷ ks) s =
     let e = last_full cmp (l ∷ ks) t in
     rw b.1 (last_after (ids_of k.leader_id k.index (l.index - k.index)) l b.0 ∙ (rw b.1 at e))
   where
-    tail_keys : {C : Type 0} (cmp : C → C → Ordering) (k l : LogIdOf C) (ks : List (LogIdOf C)) → IsKeyList cmp (k ∷ l ∷ ks) → IsKeyList cmp (l ∷ ks)
+    tail_keys : {C : Type 0} (cmp : C → C → Ordering) (k l : LogIdOf C) (ks : List (LogIdOf C)) → IsKeyList cmp (k ∷ l ∷ ks)
+        → IsKeyList cmp (l ∷ ks)
     tail_keys cmp k l [] s = tt
     tail_keys cmp k l (m ∷ ks) s = s.2
 
 pub next_of_last : {C : Type 0} (ks ls : List (LogIdOf C)) → last_id ks ≡ last_id ls → end_index ks ≡ end_index ls
 next_of_last ks ls h = ap next_index h
 
-pub first_full : {C : Type 0} (cmp : C → C → Ordering) (ks : List (LogIdOf C)) (e : ℕ) → IsKeyList cmp ks → first_index_or (full_log ks) e ≡ first_index_or ks e
+pub first_full : {C : Type 0} (cmp : C → C → Ordering) (ks : List (LogIdOf C)) (e : ℕ) → IsKeyList cmp ks
+    → first_index_or (full_log ks) e ≡ first_index_or ks e
 first_full cmp [] e s = refl
 first_full cmp (k ∷ ks) e s = let b = full_begins cmp k ks s in rw b.1 refl
 
-pub full_purged : {C : Type 0} (cmp : C → C → Ordering) (ks : List (LogIdOf C)) (upto : LogIdOf C) → IsKeyList cmp ks → full_log (keys_after_purge ks upto) ≡ log_after_purge (full_log ks) upto
+pub full_purged : {C : Type 0} (cmp : C → C → Ordering) (ks : List (LogIdOf C)) (upto : LogIdOf C) → IsKeyList cmp ks
+    → full_log (keys_after_purge ks upto) ≡ log_after_purge (full_log ks) upto
 full_purged cmp ks upto s =
     let n = next_of_last (full_log ks) ks (last_full cmp ks s) in
     let f = first_full cmp ks 0 s in
     rw (n, f) (by_test ks s (nat_le (end_index ks) upto.index) refl)
   where
-    by_place : (k : LogIdOf _) (ks : List (LogIdOf _)) → IsKeyList cmp (k ∷ ks) → upto.index < end_index (k ∷ ks) → full_log (keys_from (k ∷ ks) upto.index) ≡ (if nat_lt upto.index k.index then full_log (k ∷ ks) else rest (full_log (k ∷ ks)) upto.index)
+    by_place : (k : LogIdOf _) (ks : List (LogIdOf _)) → IsKeyList cmp (k ∷ ks) → upto.index < end_index (k ∷ ks)
+        → full_log (keys_from (k ∷ ks) upto.index)
+        ≡ (if nat_lt upto.index k.index then full_log (k ∷ ks) else rest (full_log (k ∷ ks)) upto.index)
     by_place k ks s lt = elim (cases_lt upto.index k.index) [
       | inl below ↦ (let t : nat_le k.index upto.index ≡ false = grind (arith, nat_tests) in
           let u : nat_lt upto.index k.index ≡ true = grind (arith, nat_tests) in rw (t, u) refl)
@@ -248,7 +274,9 @@ full_purged cmp ks upto s =
           rw (t, u) (full_kept_after k ks (end_index (k ∷ ks)) upto.index (key_list_rises cmp k ks s) refl past lt))
     ]
 
-    by_test : (ks : List (LogIdOf _)) → IsKeyList cmp ks → (t : Bool) → t ≡ nat_le (end_index ks) upto.index → full_log (if t then upto ∷ [] else keys_from ks upto.index) ≡ (if t then upto ∷ [] else (if nat_lt upto.index (first_index ks) then full_log ks else rest (full_log ks) upto.index))
+    by_test : (ks : List (LogIdOf _)) → IsKeyList cmp ks → (t : Bool) → t ≡ nat_le (end_index ks) upto.index
+        → full_log (if t then upto ∷ [] else keys_from ks upto.index)
+        ≡ (if t then upto ∷ [] else (if nat_lt upto.index (first_index ks) then full_log ks else rest (full_log ks) upto.index))
     by_test ks s true e = one_key upto
     by_test [] s false e = let t : nat_lt upto.index 0 ≡ false = grind (arith, nat_tests) in rw t refl
     by_test (k ∷ ks) s false e = by_place k ks s (grind (arith, nat_tests))
@@ -258,39 +286,48 @@ kept_first : {C : Type 0} (k : LogIdOf C) (ks : List (LogIdOf C)) (a : ℕ) → 
 kept_first k [] a = refl
 kept_first {C} k (l ∷ ks) a = by_test (nat_le l.index a) (kept_first l ks a)
   where
-    by_test : (t : Bool) → first_index (rest_from l ks a) ≡ a → first_index (if t then rest_from l ks a else record { leader_id = k.leader_id; index = a } ∷ l ∷ ks) ≡ a
+    by_test : (t : Bool) → first_index (rest_from l ks a) ≡ a
+        → first_index (if t then rest_from l ks a else record { leader_id = k.leader_id; index = a } ∷ l ∷ ks) ≡ a
     by_test true e = e
     by_test false e = refl
 
-pub purged_first : {C : Type 0} (cmp : C → C → Ordering) (ks : List (LogIdOf C)) (upto : LogIdOf C) → IsKeyList cmp ks → first_index (keys_after_purge ks upto) ≡ max (first_index ks) upto.index
+pub purged_first : {C : Type 0} (cmp : C → C → Ordering) (ks : List (LogIdOf C)) (upto : LogIdOf C) → IsKeyList cmp ks
+    → first_index (keys_after_purge ks upto) ≡ max (first_index ks) upto.index
 purged_first cmp [] upto s = let t : nat_le 0 upto.index ≡ true = grind (arith, nat_tests) in rw t (omega arith)
 purged_first {C} cmp (k ∷ ks) upto s = elim (cases_lt upto.index (end_index (k ∷ ks))) [
   | inr past ↦ (let t : nat_le (end_index (k ∷ ks)) upto.index ≡ true = grind (arith, nat_tests) in
       let up = rises_end 0 (k ∷ ks) (end_index (k ∷ ks)) (key_list_rises_zero cmp (k ∷ ks) s) in
       rw t (omega arith))
-  | inl within ↦ (let t : nat_le (end_index (k ∷ ks)) upto.index ≡ false = grind (arith, nat_tests) in rw t (elim (cases_lt upto.index k.index) [
+  | inl within ↦ (let t : nat_le (end_index (k ∷ ks)) upto.index ≡ false = grind (arith, nat_tests) in
+          rw t (elim (cases_lt upto.index k.index) [
     | inl below ↦ (let u : nat_le k.index upto.index ≡ false = grind (arith, nat_tests) in rw u (omega arith))
     | inr from ↦ (let u : nat_le k.index upto.index ≡ true = grind (arith, nat_tests) in rw (u, kept_first k ks upto.index) (omega arith))
   ]))
 ]
 
 -- the edits by place
-cut_test : {C : Type 0} (t : Bool) (k l : LogIdOf C) (ks : List (LogIdOf C)) (j n : ℕ) (d : LogIdOf C) → (if t then suc (keys_to ks j) else 0) ≡ n → n < suc (length ks) → ((m : ℕ) → keys_to ks j ≡ m → m < length ks → rest_up_to l ks j ≡ take m ks ++ end_at (get_or (l ∷ ks) m d) j)
+cut_test : {C : Type 0} (t : Bool) (k l : LogIdOf C) (ks : List (LogIdOf C)) (j n : ℕ) (d : LogIdOf C)
+    → (if t then suc (keys_to ks j) else 0) ≡ n → n < suc (length ks)
+    → ((m : ℕ) → keys_to ks j ≡ m → m < length ks → rest_up_to l ks j ≡ take m ks ++ end_at (get_or (l ∷ ks) m d) j)
     → (if t then l ∷ rest_up_to l ks j else end_at k j) ≡ take n (l ∷ ks) ++ end_at (get_or (k ∷ l ∷ ks) n d) j
 cut_test true k l ks j zero d e lt ih = absurd (omega arith)
 cut_test true k l ks j (suc m) d e lt ih = ap (λ (r : List (LogIdOf _)). l ∷ r) (ih m (omega arith) (omega arith))
 cut_test false k l ks j zero d e lt ih = refl
 cut_test false k l ks j (suc m) d e lt ih = absurd (omega arith)
 
-cut_place : {C : Type 0} (k : LogIdOf C) (ks : List (LogIdOf C)) (j n : ℕ) (d : LogIdOf C) → keys_to ks j ≡ n → n < length ks → rest_up_to k ks j ≡ take n ks ++ end_at (get_or (k ∷ ks) n d) j
+cut_place : {C : Type 0} (k : LogIdOf C) (ks : List (LogIdOf C)) (j n : ℕ) (d : LogIdOf C) → keys_to ks j ≡ n → n < length ks
+    → rest_up_to k ks j ≡ take n ks ++ end_at (get_or (k ∷ ks) n d) j
 cut_place k [] j n d e lt = absurd (omega arith)
 cut_place k (l ∷ ks) j n d e lt = cut_test (nat_le l.index j) k l ks j n d e lt (λ m e lt. cut_place l ks j m d e lt)
 
-first_test : {C : Type 0} (t : Bool) (k : LogIdOf C) (ks : List (LogIdOf C)) (j n : ℕ) (d : LogIdOf C) → (if t then suc (keys_to ks j) else 0) ≡ suc n → n < length ks → (if t then k ∷ rest_up_to k ks j else []) ≡ take (suc n) (k ∷ ks) ++ end_at (get_or (k ∷ ks) n d) j
+first_test : {C : Type 0} (t : Bool) (k : LogIdOf C) (ks : List (LogIdOf C)) (j n : ℕ) (d : LogIdOf C)
+    → (if t then suc (keys_to ks j) else 0) ≡ suc n → n < length ks
+    → (if t then k ∷ rest_up_to k ks j else []) ≡ take (suc n) (k ∷ ks) ++ end_at (get_or (k ∷ ks) n d) j
 first_test true k ks j n d e lt = ap (λ (r : List (LogIdOf _)). k ∷ r) (cut_place k ks j n d (omega arith) lt)
 first_test false k ks j n d e lt = absurd (omega arith)
 
-pub cut_at : {C : Type 0} (ks : List (LogIdOf C)) (j n : ℕ) (d : LogIdOf C) → keys_to ks j ≡ suc n → suc n < length ks → keys_up_to ks j ≡ take (suc n) ks ++ end_at (get_or ks n d) j
+pub cut_at : {C : Type 0} (ks : List (LogIdOf C)) (j n : ℕ) (d : LogIdOf C) → keys_to ks j ≡ suc n → suc n < length ks
+    → keys_up_to ks j ≡ take (suc n) ks ++ end_at (get_or ks n d) j
 cut_at [] j n d e lt = absurd (omega arith)
 cut_at (k ∷ ks) j n d e lt = first_test (nat_le k.index j) k ks j n d e (omega arith)
 
@@ -298,7 +335,8 @@ cut_after_all : {C : Type 0} (k : LogIdOf C) (ks : List (LogIdOf C)) (j : ℕ) �
 cut_after_all k [] j h = refl
 cut_after_all k (l ∷ ks) j h = step (λ e. cut_after_all l ks j e) (nat_le l.index j) h
   where
-    step : (keys_to ks j ≡ length ks → rest_up_to l ks j ≡ ks) → (t : Bool) → (if t then suc (keys_to ks j) else 0) ≡ suc (length ks) → (if t then l ∷ rest_up_to l ks j else end_at k j) ≡ l ∷ ks
+    step : (keys_to ks j ≡ length ks → rest_up_to l ks j ≡ ks) → (t : Bool) → (if t then suc (keys_to ks j) else 0) ≡ suc (length ks)
+        → (if t then l ∷ rest_up_to l ks j else end_at k j) ≡ l ∷ ks
     step more true e = ap (λ (r : List (LogIdOf _)). l ∷ r) (more (omega arith))
     step more false e = absurd (omega arith)
 
@@ -310,22 +348,30 @@ cut_all (k ∷ ks) j h = step (nat_le k.index j) h
     step true e = ap (λ (r : List (LogIdOf _)). k ∷ r) (cut_after_all k ks j (omega arith))
     step false e = absurd (omega arith)
 
-kept_place : {C : Type 0} (k : LogIdOf C) (ks : List (LogIdOf C)) (j n : ℕ) (d : LogIdOf C) → keys_to ks j ≡ n → rest_from k ks j ≡ (let x : LogIdOf C = record { leader_id = (get_or (k ∷ ks) n d).leader_id; index = j } in x) ∷ drop n ks
+kept_place : {C : Type 0} (k : LogIdOf C) (ks : List (LogIdOf C)) (j n : ℕ) (d : LogIdOf C) → keys_to ks j ≡ n
+    → rest_from k ks j ≡ (let x : LogIdOf C = record { leader_id = (get_or (k ∷ ks) n d).leader_id; index = j } in x) ∷ drop n ks
 kept_place k [] j zero d e = refl
 kept_place k [] j (suc n) d e = absurd (omega arith)
 kept_place {C} k (l ∷ ks) j n d e = step (λ m e. kept_place l ks j m d e) (nat_le l.index j) n e
   where
-    step : ((m : ℕ) → keys_to ks j ≡ m → rest_from l ks j ≡ (let x : LogIdOf C = record { leader_id = (get_or (l ∷ ks) m d).leader_id; index = j } in x) ∷ drop m ks) → (t : Bool) (n : ℕ) → (if t then suc (keys_to ks j) else 0) ≡ n → (if t then rest_from l ks j else record { leader_id = k.leader_id; index = j } ∷ l ∷ ks) ≡ (let x : LogIdOf C = record { leader_id = (get_or (k ∷ l ∷ ks) n d).leader_id; index = j } in x) ∷ drop n (l ∷ ks)
+    step : ((m : ℕ) → keys_to ks j ≡ m → rest_from l ks j
+            ≡ (let x : LogIdOf C = record { leader_id = (get_or (l ∷ ks) m d).leader_id; index = j } in x) ∷ drop m ks) → (t : Bool) (n : ℕ)
+        → (if t then suc (keys_to ks j) else 0) ≡ n
+        → (if t then rest_from l ks j else record { leader_id = k.leader_id; index = j } ∷ l ∷ ks)
+        ≡ (let x : LogIdOf C = record { leader_id = (get_or (k ∷ l ∷ ks) n d).leader_id; index = j } in x) ∷ drop n (l ∷ ks)
     step more true zero e = absurd (omega arith)
     step more true (suc n) e = more n (omega arith)
     step more false zero e = refl
     step more false (suc n) e = absurd (omega arith)
 
-pub kept_at : {C : Type 0} (ks : List (LogIdOf C)) (j n : ℕ) (key : LogIdOf C) → keys_to ks j ≡ suc n → key ≡ get_or ks n key → keys_from ks j ≡ (let x : LogIdOf C = record { leader_id = key.leader_id; index = j } in x) ∷ drop (suc n) ks
+pub kept_at : {C : Type 0} (ks : List (LogIdOf C)) (j n : ℕ) (key : LogIdOf C) → keys_to ks j ≡ suc n → key ≡ get_or ks n key
+    → keys_from ks j ≡ (let x : LogIdOf C = record { leader_id = key.leader_id; index = j } in x) ∷ drop (suc n) ks
 kept_at [] j n key e place = absurd (omega arith)
 kept_at {C} (k ∷ ks) j n key e place = rw (← place) at (step (nat_le k.index j) e)
   where
-    step : (t : Bool) → (if t then suc (keys_to ks j) else 0) ≡ suc n → (if t then rest_from k ks j else k ∷ ks) ≡ (let x : LogIdOf C = record { leader_id = (get_or (k ∷ ks) n key).leader_id; index = j } in x) ∷ drop (suc n) (k ∷ ks)
+    step : (t : Bool) → (if t then suc (keys_to ks j) else 0) ≡ suc n
+        → (if t then rest_from k ks j else k ∷ ks)
+        ≡ (let x : LogIdOf C = record { leader_id = (get_or (k ∷ ks) n key).leader_id; index = j } in x) ∷ drop (suc n) (k ∷ ks)
     step true e = kept_place k ks j n key (omega arith)
     step false e = absurd (omega arith)
 
@@ -347,7 +393,8 @@ last_place [] = refl
 last_place (k ∷ []) = refl
 last_place (k ∷ l ∷ ks) = let e : length (k ∷ l ∷ ks) - 1 ≡ suc (length (l ∷ ks) - 1) = omega arith in rw e (last_place (l ∷ ks))
 
-pub last_is : {C : Type 0} (cmp : C → C → Ordering) (ks : List (LogIdOf C)) → IsKeyList cmp ks → slice_get ks (length ks - 1) ≡ last_id (full_log ks)
+pub last_is : {C : Type 0} (cmp : C → C → Ordering) (ks : List (LogIdOf C)) → IsKeyList cmp ks
+    → slice_get ks (length ks - 1) ≡ last_id (full_log ks)
 last_is cmp ks s = last_place ks ∙ sym (last_full cmp ks s)
 
 -- the last two keys, by place
@@ -359,7 +406,8 @@ few_last eq (k ∷ l ∷ ks) lt = absurd (omega arith)
 pub fewer : {C : Type 0} (eq : C → C → Bool) (ks : List (LogIdOf C)) → length ks < 2 → ks ≡ by_last_leader eq ks
 fewer eq ks lt = few_last eq ks lt
 
-pub last_two : {C : Type 0} (eq : C → C → Bool) (ks : List (LogIdOf C)) (n : ℕ) (x y : LogIdOf C) (t : Bool) → length ks ≡ suc (suc n) → eq (get_or ks n x).leader_id (get_or ks (suc n) y).leader_id ≡ t → by_last_leader eq ks ≡ (if t then drop n ks else drop (suc n) ks)
+pub last_two : {C : Type 0} (eq : C → C → Bool) (ks : List (LogIdOf C)) (n : ℕ) (x y : LogIdOf C) (t : Bool) → length ks ≡ suc (suc n)
+    → eq (get_or ks n x).leader_id (get_or ks (suc n) y).leader_id ≡ t → by_last_leader eq ks ≡ (if t then drop n ks else drop (suc n) ks)
 last_two eq [] n x y t len e = absurd (omega arith)
 last_two eq (k ∷ []) n x y t len e = absurd (omega arith)
 last_two eq (k ∷ l ∷ []) zero x y t len e = rw e refl
@@ -379,7 +427,8 @@ before (suc m) some = (m, refl)
 pub all_stay : {C : Type 0} (ks : List (LogIdOf C)) (a n : ℕ) → (a ≡ 0 → ⊥) → n ≡ keys_to ks (a - 1) → n ≡ length ks → ks ≡ keys_below ks a
 all_stay ks a n some count len = sym (from_end ks a some ∙ cut_all ks (a - 1) (sym count ∙ len))
 
-some_stay : {C : Type 0} (ks : List (LogIdOf C)) (a n : ℕ) (key : LogIdOf C) → (a ≡ 0 → ⊥) → n ≡ keys_to ks (a - 1) → (n ≡ 0 → ⊥) → n < length ks → key ≡ get_or ks (n - 1) key → keys_below ks a ≡ take n ks ++ end_at key (a - 1)
+some_stay : {C : Type 0} (ks : List (LogIdOf C)) (a n : ℕ) (key : LogIdOf C) → (a ≡ 0 → ⊥) → n ≡ keys_to ks (a - 1) → (n ≡ 0 → ⊥)
+    → n < length ks → key ≡ get_or ks (n - 1) key → keys_below ks a ≡ take n ks ++ end_at key (a - 1)
 some_stay {C} ks a n key some count kept lt place =
     let b = before n kept in
     let one : n - 1 ≡ b.0 = let e = b.1 in omega arith in
@@ -387,43 +436,56 @@ some_stay {C} ks a n key some count kept lt place =
     let at = cut_at ks (a - 1) b.0 key (sym count ∙ b.1) (let e = b.1 in omega arith) in
     from_end ks a some ∙ subst (λ (x : LogIdOf C). keys_up_to ks (a - 1) ≡ take n ks ++ end_at x (a - 1)) (sym here) (rw (← b.1) at at)
 
-pub cut_short : {C : Type 0} (ks : List (LogIdOf C)) (a n : ℕ) (key : LogIdOf C) → (a ≡ 0 → ⊥) → n ≡ keys_to ks (a - 1) → (n ≡ 0 → ⊥) → n < length ks → key ≡ get_or ks (n - 1) key → a - 1 ≤ key.index → take n ks ≡ keys_below ks a
+pub cut_short : {C : Type 0} (ks : List (LogIdOf C)) (a n : ℕ) (key : LogIdOf C) → (a ≡ 0 → ⊥) → n ≡ keys_to ks (a - 1) → (n ≡ 0 → ⊥)
+    → n < length ks → key ≡ get_or ks (n - 1) key → a - 1 ≤ key.index → take n ks ≡ keys_below ks a
 cut_short ks a n key some count kept lt place le =
     let t : nat_lt key.index (a - 1) ≡ false = grind (arith, nat_tests) in
     sym (some_stay ks a n key some count kept lt place ∙ rw t (append-nil (take n ks)))
 
-pub cut_moved : {C : Type 0} (ks : List (LogIdOf C)) (a n : ℕ) (key : LogIdOf C) → (a ≡ 0 → ⊥) → n ≡ keys_to ks (a - 1) → (n ≡ 0 → ⊥) → n < length ks → key ≡ get_or ks (n - 1) key → key.index < a - 1 → take (n + 1) (set ks n (record { leader_id = key.leader_id; index = a - 1 })) ≡ keys_below ks a
+pub cut_moved : {C : Type 0} (ks : List (LogIdOf C)) (a n : ℕ) (key : LogIdOf C) → (a ≡ 0 → ⊥) → n ≡ keys_to ks (a - 1) → (n ≡ 0 → ⊥)
+    → n < length ks → key ≡ get_or ks (n - 1) key → key.index < a - 1
+    → take (n + 1) (set ks n (record { leader_id = key.leader_id; index = a - 1 })) ≡ keys_below ks a
 cut_moved {C} ks a n key some count kept lt place less =
     let t : nat_lt key.index (a - 1) ≡ true = grind (arith, nat_tests) in
-    take_more_set ks n (record { leader_id = key.leader_id; index = a - 1 }) lt ∙ sym (some_stay ks a n key some count kept lt place ∙ rw t refl)
+    take_more_set ks n (record { leader_id = key.leader_id; index = a - 1 }) lt
+        ∙ sym (some_stay ks a n key some count kept lt place ∙ rw t refl)
 
-pub next_at : {C : Type 0} (ks : List (LogIdOf C)) (key : LogIdOf C) → 0 < length ks → key ≡ get_or ks (length ks - 1) key → end_index ks ≡ key.index + 1
+pub next_at : {C : Type 0} (ks : List (LogIdOf C)) (key : LogIdOf C) → 0 < length ks → key ≡ get_or ks (length ks - 1) key
+    → end_index ks ≡ key.index + 1
 next_at [] key lt place = absurd (omega arith)
 next_at {C} (k ∷ ks) key lt place =
     let e : length (k ∷ ks) - 1 ≡ length ks = omega arith in
     next_by_place k ks key ∙ ap (λ (x : LogIdOf C). x.index + 1) (sym (subst (λ (q : ℕ). key ≡ get_or (k ∷ ks) q key) e place))
 
-pub purged_past : {C : Type 0} (ks : List (LogIdOf C)) (upto key : LogIdOf C) → 0 < length ks → key ≡ get_or ks (length ks - 1) key → key.index < upto.index → set (take 1 ks) 0 upto ≡ keys_after_purge ks upto
+pub purged_past : {C : Type 0} (ks : List (LogIdOf C)) (upto key : LogIdOf C) → 0 < length ks → key ≡ get_or ks (length ks - 1) key
+    → key.index < upto.index → set (take 1 ks) 0 upto ≡ keys_after_purge ks upto
 purged_past [] upto key some place lt = absurd (omega arith)
 purged_past (k ∷ ks) upto key some place lt =
     let n = next_at (k ∷ ks) key some place in
     let t : nat_le (end_index (k ∷ ks)) upto.index ≡ true = grind (arith, nat_tests, n) in rw t refl
 
-purged_within : {C : Type 0} (ks : List (LogIdOf C)) (upto key : LogIdOf C) → 0 < length ks → key ≡ get_or ks (length ks - 1) key → upto.index ≤ key.index → keys_after_purge ks upto ≡ keys_from ks upto.index
+purged_within : {C : Type 0} (ks : List (LogIdOf C)) (upto key : LogIdOf C) → 0 < length ks → key ≡ get_or ks (length ks - 1) key
+    → upto.index ≤ key.index → keys_after_purge ks upto ≡ keys_from ks upto.index
 purged_within ks upto key some place le =
     let n = next_at ks key some place in
     let t : nat_le (end_index ks) upto.index ≡ false = grind (arith, nat_tests, n) in rw t refl
 
-pub purged_none : {C : Type 0} (ks : List (LogIdOf C)) (upto key : LogIdOf C) (n : ℕ) → 0 < length ks → key ≡ get_or ks (length ks - 1) key → upto.index ≤ key.index → n ≡ keys_to ks upto.index → n ≡ 0 → ks ≡ keys_after_purge ks upto
-purged_none ks upto key n some place le count none = sym (purged_within ks upto key some place le ∙ kept_all ks upto.index (sym count ∙ none))
+pub purged_none : {C : Type 0} (ks : List (LogIdOf C)) (upto key : LogIdOf C) (n : ℕ) → 0 < length ks → key ≡ get_or ks (length ks - 1) key
+    → upto.index ≤ key.index → n ≡ keys_to ks upto.index → n ≡ 0 → ks ≡ keys_after_purge ks upto
+purged_none ks upto key n some place le count none =
+    sym (purged_within ks upto key some place le ∙ kept_all ks upto.index (sym count ∙ none))
 
-pub purged_moved : {C : Type 0} (ks : List (LogIdOf C)) (upto key first : LogIdOf C) (n : ℕ) → 0 < length ks → key ≡ get_or ks (length ks - 1) key → upto.index ≤ key.index → n ≡ keys_to ks upto.index → (n ≡ 0 → ⊥) → n ≤ length ks → first ≡ get_or ks (n - 1) first
-    → set (take (length ks - (n - 1)) (drop (n - 1) ks ++ take (n - 1) ks)) 0 (record { leader_id = first.leader_id; index = upto.index }) ≡ keys_after_purge ks upto
+pub purged_moved : {C : Type 0} (ks : List (LogIdOf C)) (upto key first : LogIdOf C) (n : ℕ) → 0 < length ks
+    → key ≡ get_or ks (length ks - 1) key → upto.index ≤ key.index → n ≡ keys_to ks upto.index → (n ≡ 0 → ⊥) → n ≤ length ks
+    → first ≡ get_or ks (n - 1) first
+    → set (take (length ks - (n - 1)) (drop (n - 1) ks ++ take (n - 1) ks)) 0 (record { leader_id = first.leader_id; index = upto.index })
+    ≡ keys_after_purge ks upto
 purged_moved {C} ks upto key first n some place le count kept bound here =
     let b = before n kept in
     let one : n - 1 ≡ b.0 = let e = b.1 in omega arith in
     let at : first ≡ get_or ks b.0 first = subst (λ (q : ℕ). first ≡ get_or ks q first) one here in
-    let rest_is : take (length ks - (n - 1)) (drop (n - 1) ks ++ take (n - 1) ks) ≡ drop (n - 1) ks = take_at (drop (n - 1) ks) (take (n - 1) ks) (length ks - (n - 1)) (omega (arith, length-drop (n - 1) ks)) in
+    let rest_is : take (length ks - (n - 1)) (drop (n - 1) ks ++ take (n - 1) ks) ≡ drop (n - 1) ks =
+        take_at (drop (n - 1) ks) (take (n - 1) ks) (length ks - (n - 1)) (omega (arith, length-drop (n - 1) ks)) in
     let cons : drop b.0 ks ≡ get_or ks b.0 first ∷ drop (suc b.0) ks = drop-cons ks b.0 first (let e = b.1 in omega arith) in
     rw (rest_is, one, cons) (sym (purged_within ks upto key some place le ∙ kept_at ks upto.index b.0 first (sym count ∙ b.1) at))
 
@@ -432,6 +494,7 @@ pub front_twice : {C : Type 0} (log : List (LogIdOf C)) (a : ℕ) → front (fro
 front_twice [] a = refl
 front_twice (k ∷ ks) a = by_test (nat_lt k.index a) refl (front_twice ks a)
   where
-    by_test : (t : Bool) → nat_lt k.index a ≡ t → front (front ks a) a ≡ front ks a → front (if t then k ∷ front ks a else front ks a) a ≡ (if t then k ∷ front ks a else front ks a)
+    by_test : (t : Bool) → nat_lt k.index a ≡ t → front (front ks a) a ≡ front ks a
+        → front (if t then k ∷ front ks a else front ks a) a ≡ (if t then k ∷ front ks a else front ks a)
     by_test true e rest_same = rw (e, rest_same) refl
     by_test false e rest_same = rest_same

@@ -1,5 +1,6 @@
 -- Appending log ids of one leader: the keys are those of appending the first one and the last one.
-use Rattle.std.proofs.Common.{◌≡◌, ◌-◌, ◌≤◌, Bool, true, false, List, [], ◌∷◌, Some, if◌then◌else◌, IsTrue, nat_lt, refl, sym, ◌∙◌, ap, arith, length, map}
+use Rattle.std.proofs.Common.{◌≡◌, ◌-◌, ◌≤◌, Bool, true, false, List, [], ◌∷◌, Some, if◌then◌else◌, IsTrue, nat_lt, refl, sym, ◌∙◌, ap,
+        arith, length, map}
 use Rattle.std.specs.Prelude.{slice_get, unwrap_or}
 use Rattle.std.specs.Option.{option_map}
 use Rattle.std.specs.declared.cmp.Ordering.{Ordering}
@@ -29,23 +30,29 @@ EndsWith eq [] y = ⊥
 EndsWith eq (k ∷ []) y = IsTrue (eq k.leader_id y.leader_id)
 EndsWith eq (k ∷ l ∷ ks) y = EndsWith eq (l ∷ ks) y
 
-module _ {C : Type 0} (eq : C → C → Bool) (same : (c : C) → eq c c ≡ true) (trans : (a b c : C) → eq a b ≡ true → eq b c ≡ true → eq a c ≡ true) (turn : (a b : C) → eq a b ≡ true → eq b a ≡ true) where
-  past_first : (k l : LogIdOf C) (xs : List (LogIdOf C)) (z : LogIdOf C) → 1 ≤ length xs → rest_after_append eq k (l ∷ xs) z ≡ l ∷ rest_after_append eq l xs z
+module _ {C : Type 0} (eq : C → C → Bool) (same : (c : C) → eq c c ≡ true)
+    (trans : (a b c : C) → eq a b ≡ true → eq b c ≡ true → eq a c ≡ true) (turn : (a b : C) → eq a b ≡ true → eq b a ≡ true) where
+  past_first : (k l : LogIdOf C) (xs : List (LogIdOf C)) (z : LogIdOf C) → 1 ≤ length xs
+      → rest_after_append eq k (l ∷ xs) z ≡ l ∷ rest_after_append eq l xs z
   past_first k l [] z some = absurd (omega arith)
   past_first k l (x ∷ xs) z some = refl
 
   -- an append by the last key's leader gives way to the next one by that leader
-  merged_after : (k : LogIdOf C) (ks : List (LogIdOf C)) (y z : LogIdOf C) → EndsWith eq (k ∷ ks) y → rest_after_append eq k (rest_after_append eq k ks y) z ≡ rest_after_append eq k ks z
+  merged_after : (k : LogIdOf C) (ks : List (LogIdOf C)) (y z : LogIdOf C) → EndsWith eq (k ∷ ks) y
+      → rest_after_append eq k (rest_after_append eq k ks y) z ≡ rest_after_append eq k ks z
   merged_after k [] y z h = rw h refl
   merged_after k (l ∷ []) y z h = by_last (eq k.leader_id l.leader_id) refl
     where
-      by_last : (t : Bool) → t ≡ eq k.leader_id l.leader_id → rest_after_append eq k (if t then y ∷ [] else l ∷ y ∷ []) z ≡ (if t then z ∷ [] else l ∷ z ∷ [])
+      by_last : (t : Bool) → t ≡ eq k.leader_id l.leader_id
+          → rest_after_append eq k (if t then y ∷ [] else l ∷ y ∷ []) z ≡ (if t then z ∷ [] else l ∷ z ∷ [])
       by_last true e = let near : eq k.leader_id y.leader_id ≡ true = trans k.leader_id l.leader_id y.leader_id (sym e) h in rw near refl
       by_last false e = rw h refl
   merged_after k (l ∷ m ∷ ks) y z h =
-      past_first k l (rest_after_append eq l (m ∷ ks) y) z (some_after eq same l (m ∷ ks) y) ∙ ap (λ (r : List (LogIdOf C)). l ∷ r) (merged_after l (m ∷ ks) y z h)
+      past_first k l (rest_after_append eq l (m ∷ ks) y) z (some_after eq same l (m ∷ ks) y)
+          ∙ ap (λ (r : List (LogIdOf C)). l ∷ r) (merged_after l (m ∷ ks) y z h)
 
-  merged : (ks : List (LogIdOf C)) (y z : LogIdOf C) → EndsWith eq ks y → keys_after_append eq (keys_after_append eq ks y) z ≡ keys_after_append eq ks z
+  merged : (ks : List (LogIdOf C)) (y z : LogIdOf C) → EndsWith eq ks y
+      → keys_after_append eq (keys_after_append eq ks y) z ≡ keys_after_append eq ks z
   merged [] y z h = absurd h
   merged (k ∷ ks) y z h = ap (λ (r : List (LogIdOf C)). k ∷ r) (merged_after k ks y z h)
 
@@ -53,7 +60,8 @@ module _ {C : Type 0} (eq : C → C → Bool) (same : (c : C) → eq c c ≡ tru
   ends_cons k [] y h = absurd h
   ends_cons k (x ∷ xs) y h = h
 
-  ends_after : (k : LogIdOf C) (ks : List (LogIdOf C)) (x y : LogIdOf C) → eq x.leader_id y.leader_id ≡ true → EndsWith eq (rest_after_append eq k ks x) y
+  ends_after : (k : LogIdOf C) (ks : List (LogIdOf C)) (x y : LogIdOf C) → eq x.leader_id y.leader_id ≡ true
+      → EndsWith eq (rest_after_append eq k ks x) y
   ends_after k [] x y e = e
   ends_after k (l ∷ []) x y e = by_last (eq k.leader_id l.leader_id)
     where
@@ -68,10 +76,13 @@ module _ {C : Type 0} (eq : C → C → Bool) (same : (c : C) → eq c c ≡ tru
   ends_added (k ∷ ks) x y e = ends_cons k (rest_after_append eq k ks x) y (ends_after k ks x y e)
 
   -- of log ids of one leader, the first one and the last one make the keys
-  pub added_by_ends : (ks : List (LogIdOf C)) (x y : LogIdOf C) (ids : List (LogIdOf C)) → OfLeader eq x.leader_id (y ∷ ids) → keys_after_extend eq (keys_after_append eq (keys_after_append eq ks x) y) ids ≡ keys_after_append eq (keys_after_append eq ks x) (last_or y ids)
+  pub added_by_ends : (ks : List (LogIdOf C)) (x y : LogIdOf C) (ids : List (LogIdOf C)) → OfLeader eq x.leader_id (y ∷ ids)
+      → keys_after_extend eq (keys_after_append eq (keys_after_append eq ks x) y) ids
+      ≡ keys_after_append eq (keys_after_append eq ks x) (last_or y ids)
   added_by_ends ks x y [] h = refl
   added_by_ends ks x y (z ∷ ids) h =
-      ap (λ (r : List (LogIdOf C)). keys_after_extend eq r ids) (merged (keys_after_append eq ks x) y z (ends_added ks x y h.0)) ∙ added_by_ends ks x z ids h.1
+      ap (λ (r : List (LogIdOf C)). keys_after_extend eq r ids) (merged (keys_after_append eq ks x) y z (ends_added ks x y h.0))
+          ∙ added_by_ends ks x z ids h.1
 
 -- what is between equal leaders is equal to them
 le_chain_of : (o p q : Ordering) → (is_gt o ≡ false → is_gt p ≡ false → is_gt q ≡ false) → is_le o ≡ true → is_le p ≡ true → is_le q ≡ true
@@ -105,12 +116,14 @@ turned_of Equal Less e h = refl
 turned_of Equal Equal e h = refl
 turned_of Equal Greater e h = cc
 
-module _ {C : Type 0} (cmp : C → C → Ordering) (eq : C → C → Bool) (total : IsTotalOrder cmp) (law : (x y : C) → eq x y ≡ is_eq (cmp x y)) where
+module _ {C : Type 0} (cmp : C → C → Ordering) (eq : C → C → Bool) (total : IsTotalOrder cmp)
+    (law : (x y : C) → eq x y ≡ is_eq (cmp x y)) where
   chain : (a b c : C) → is_le (cmp a b) ≡ true → is_le (cmp b c) ≡ true → is_le (cmp a c) ≡ true
   chain a b c h g = le_chain_of (cmp a b) (cmp b c) (cmp a c) (upto total a b c) h g
 
   -- leaders that follow one another do not fall
-  none_falls : (x : LogIdOf C) (ids : List (LogIdOf C)) → IsTrue (all_follow cmp (Some x) ids) → is_le (cmp x.leader_id (last_or x ids).leader_id) ≡ true
+  none_falls : (x : LogIdOf C) (ids : List (LogIdOf C)) → IsTrue (all_follow cmp (Some x) ids)
+      → is_le (cmp x.leader_id (last_or x ids).leader_id) ≡ true
   none_falls x [] h = itself cmp eq total law x.leader_id
   none_falls x (y ∷ ids) h =
       let b = both (follows cmp (Some x) y) (all_follow cmp (Some y) ids) h in
@@ -121,7 +134,8 @@ module _ {C : Type 0} (cmp : C → C → Ordering) (eq : C → C → Bool) (tota
   tied a b h g = law a b ∙ tied_of (cmp a b) (cmp b a) (total.antisymm a b) h g
 
   -- what stands between leaders that are equal is equal to them
-  between : (c : C) (x : LogIdOf C) (ids : List (LogIdOf C)) → is_le (cmp c x.leader_id) ≡ true → is_le (cmp (last_or x ids).leader_id c) ≡ true → IsTrue (all_follow cmp (Some x) ids) → OfLeader eq c (x ∷ ids)
+  between : (c : C) (x : LogIdOf C) (ids : List (LogIdOf C)) → is_le (cmp c x.leader_id) ≡ true
+      → is_le (cmp (last_or x ids).leader_id c) ≡ true → IsTrue (all_follow cmp (Some x) ids) → OfLeader eq c (x ∷ ids)
   between c x [] up down h = (tied c x.leader_id up down, tt)
   between c x (y ∷ ids) up down h =
       let b = both (follows cmp (Some x) y) (all_follow cmp (Some y) ids) h in
@@ -130,19 +144,22 @@ module _ {C : Type 0} (cmp : C → C → Ordering) (eq : C → C → Bool) (tota
       (tied c x.leader_id up back, between c y ids (chain c x.leader_id y.leader_id up step.1) down b.1)
 
   -- log ids that follow one another and end under the leader of the first are all of that leader
-  pub one_leader : (x y : LogIdOf C) (ids : List (LogIdOf C)) → IsTrue (all_follow cmp (Some x) (y ∷ ids)) → eq x.leader_id (last_or y ids).leader_id ≡ true → OfLeader eq x.leader_id (y ∷ ids)
+  pub one_leader : (x y : LogIdOf C) (ids : List (LogIdOf C)) → IsTrue (all_follow cmp (Some x) (y ∷ ids))
+      → eq x.leader_id (last_or y ids).leader_id ≡ true → OfLeader eq x.leader_id (y ∷ ids)
   one_leader x y ids h e =
       let b = both (follows cmp (Some x) y) (all_follow cmp (Some y) ids) h in
       let step = both (nat_lt x.index y.index) (is_le (cmp x.leader_id y.leader_id)) b.0 in
       let z = (last_or y ids).leader_id in
-      between x.leader_id y ids step.1 (turned_of (cmp x.leader_id z) (cmp z x.leader_id) (total.antisymm z x.leader_id) (sym (law x.leader_id z) ∙ e)) b.1
+      between x.leader_id y ids step.1 (turned_of (cmp x.leader_id z) (cmp z x.leader_id) (total.antisymm z x.leader_id)
+              (sym (law x.leader_id z) ∙ e)) b.1
 
 -- the ends of log ids, by place
 pub last_of_some : {C : Type 0} (x : LogIdOf C) (ids : List (LogIdOf C)) → last_id (x ∷ ids) ≡ Some (last_or x ids)
 last_of_some x [] = refl
 last_of_some x (y ∷ ids) = last_of_some y ids
 
-pub last_of_map : {C L : Type 0} (id_of : L → LogIdOf C) (l : L) (ls : List L) → Some (last_or (id_of l) (map id_of ls)) ≡ option_map id_of (slice_get (l ∷ ls) (length ls))
+pub last_of_map : {C L : Type 0} (id_of : L → LogIdOf C) (l : L) (ls : List L)
+    → Some (last_or (id_of l) (map id_of ls)) ≡ option_map id_of (slice_get (l ∷ ls) (length ls))
 last_of_map id_of l [] = refl
 last_of_map id_of l (m ∷ ls) = last_of_map id_of m ls
 
@@ -150,14 +167,16 @@ first_mapped : {C L : Type 0} (id_of : L → LogIdOf C) (ls : List L) → first_
 first_mapped id_of [] = refl
 first_mapped id_of (l ∷ ls) = refl
 
-last_mapped : {C L : Type 0} (id_of : L → LogIdOf C) (ls : List L) → last_id (map id_of ls) ≡ option_map id_of (slice_get ls (length ls - 1))
+last_mapped : {C L : Type 0} (id_of : L → LogIdOf C) (ls : List L)
+    → last_id (map id_of ls) ≡ option_map id_of (slice_get ls (length ls - 1))
 last_mapped id_of [] = refl
 last_mapped id_of (l ∷ ls) =
     let e : length (l ∷ ls) - 1 ≡ length ls = omega arith in
     rw e (last_of_some (id_of l) (map id_of ls) ∙ last_of_map id_of l ls)
 
 -- the test of the ends asks the first and the last one
-pub ends_by_place : {C L : Type 0} (eq : C → C → Bool) (id_of : L → LogIdOf C) (ls : List L) (f l : L) → Some f ≡ slice_get ls 0 → Some l ≡ slice_get ls (length ls - 1) → eq (id_of f).leader_id (id_of l).leader_id ≡ ends_share_leader eq (map id_of ls)
+pub ends_by_place : {C L : Type 0} (eq : C → C → Bool) (id_of : L → LogIdOf C) (ls : List L) (f l : L) → Some f ≡ slice_get ls 0
+    → Some l ≡ slice_get ls (length ls - 1) → eq (id_of f).leader_id (id_of l).leader_id ≡ ends_share_leader eq (map id_of ls)
 ends_by_place eq id_of ls f l first last = rw (first_mapped id_of ls, last_mapped id_of ls, ← first, ← last) refl
 
 pub same_some : {A : Type 0} (a b : A) → Some a ≡ Some b → a ≡ b

@@ -1,5 +1,6 @@
 -- Two key lists are equal exactly where their full logs are, and have at most one key more than leaders.
-use Rattle.std.proofs.Common.{◌≡◌, ℕ, zero, suc, ◌+◌, ◌-◌, ◌<◌, ◌≤◌, Bool, true, false, List, [], ◌∷◌, ◌++◌, if◌then◌else◌, IsTrue, refl, sym, arith, length, ap, subst, append_assoc, ◌∙◌, inl, inr}
+use Rattle.std.proofs.Common.{◌≡◌, ℕ, zero, suc, ◌+◌, ◌-◌, ◌<◌, ◌≤◌, Bool, true, false, List, [], ◌∷◌, ◌++◌, if◌then◌else◌, IsTrue, refl,
+        sym, arith, length, ap, subst, append_assoc, ◌∙◌, inl, inr}
 use Rattle.std.specs.declared.cmp.Ordering.{Ordering}
 use Rattle.std.specs.Ordering.{is_lt}
 use Rattle.std.proofs.lemmas.Bool.{cases_lt}
@@ -13,11 +14,13 @@ use Rattle.raft_state.proofs.lemmas.log_id_list.AppendLemmas.{ids_split, one_id}
 use Rattle.std.specs.Cmp.{both_ways}
 use Rattle.raft_state.proofs.lemmas.log_id_list.CutLemmas.{full_begins, one_key}
 
-pub tail_keys : {C : Type 0} (cmp : C → C → Ordering) (k l : LogIdOf C) (ks : List (LogIdOf C)) → IsKeyList cmp (k ∷ l ∷ ks) → IsKeyList cmp (l ∷ ks)
+pub tail_keys : {C : Type 0} (cmp : C → C → Ordering) (k l : LogIdOf C) (ks : List (LogIdOf C)) → IsKeyList cmp (k ∷ l ∷ ks)
+    → IsKeyList cmp (l ∷ ks)
 tail_keys cmp k l [] s = tt
 tail_keys cmp k l (m ∷ ks) s = s.2
 
-pub rises_once : {C : Type 0} (cmp : C → C → Ordering) (k l : LogIdOf C) (ks : List (LogIdOf C)) → IsKeyList cmp (k ∷ l ∷ ks) → k.index < l.index
+pub rises_once : {C : Type 0} (cmp : C → C → Ordering) (k l : LogIdOf C) (ks : List (LogIdOf C)) → IsKeyList cmp (k ∷ l ∷ ks)
+    → k.index < l.index
 rises_once cmp k l [] s = s.0
 rises_once cmp k l (m ∷ ks) s = s.0
 
@@ -25,7 +28,8 @@ not_true : (t : Bool) → (t ≡ true → ⊥) → t ≡ false
 not_true true h = absurd (h refl)
 not_true false h = refl
 
-module _ {C : Type 0} (eq : C → C → Bool) (same : (c : C) → eq c c ≡ true) (trans : (a b c : C) → eq a b ≡ true → eq b c ≡ true → eq a c ≡ true) (turn : (a b : C) → eq a b ≡ true → eq b a ≡ true)
+module _ {C : Type 0} (eq : C → C → Bool) (same : (c : C) → eq c c ≡ true)
+    (trans : (a b c : C) → eq a b ≡ true → eq b c ≡ true → eq a c ≡ true) (turn : (a b : C) → eq a b ≡ true → eq b a ≡ true)
     (cmp : C → C → Ordering) (apart : (a b : C) → IsTrue (is_lt (cmp a b)) → eq a b ≡ true → ⊥) where
   same_turn : (xs ys : List (LogIdOf C)) → SameLog eq xs ys → SameLog eq ys xs
   same_turn [] [] h = tt
@@ -49,44 +53,63 @@ module _ {C : Type 0} (eq : C → C → Bool) (same : (c : C) → eq c c ≡ tru
   full_same (k ∷ m ∷ ks) (l ∷ n ∷ ls) h =
       let i0 = h.1 in
       let i1 = h.2.1 in
-      let ids : SameLog eq (ids_of k.leader_id k.index (m.index - k.index)) (ids_of l.leader_id l.index (n.index - l.index)) = rw (i0, i1) (same_ids eq same k.leader_id l.leader_id l.index (n.index - l.index) h.0) in
-      same_append eq same (ids_of k.leader_id k.index (m.index - k.index)) (ids_of l.leader_id l.index (n.index - l.index)) (full_log (m ∷ ks)) (full_log (n ∷ ls)) ids (full_same (m ∷ ks) (n ∷ ls) h.2)
+      let ids : SameLog eq (ids_of k.leader_id k.index (m.index - k.index)) (ids_of l.leader_id l.index (n.index - l.index)) =
+          rw (i0, i1) (same_ids eq same k.leader_id l.leader_id l.index (n.index - l.index) h.0) in
+      same_append eq same (ids_of k.leader_id k.index (m.index - k.index)) (ids_of l.leader_id l.index (n.index - l.index))
+          (full_log (m ∷ ks)) (full_log (n ∷ ls)) ids (full_same (m ∷ ks) (n ∷ ls) h.2)
 
   none_same : (xs : List (LogIdOf C)) (y : LogIdOf C) (ys : List (LogIdOf C)) → SameLog eq [] (xs ++ y ∷ ys) → ⊥
   none_same [] y ys h = h
   none_same (x ∷ xs) y ys h = h
 
   -- a key that comes before the other list's next key: impossible
-  earlier : (k l a b : LogIdOf C) (ks ls : List (LogIdOf C)) → IsKeyList cmp (k ∷ a ∷ ks) → IsKeyList cmp (l ∷ b ∷ ls) → k.index ≡ l.index → eq k.leader_id l.leader_id ≡ true → SameLog eq (full_log (k ∷ a ∷ ks)) (full_log (l ∷ b ∷ ls)) → a.index < b.index → ⊥
+  earlier : (k l a b : LogIdOf C) (ks ls : List (LogIdOf C)) → IsKeyList cmp (k ∷ a ∷ ks) → IsKeyList cmp (l ∷ b ∷ ls) → k.index ≡ l.index
+      → eq k.leader_id l.leader_id ≡ true → SameLog eq (full_log (k ∷ a ∷ ks)) (full_log (l ∷ b ∷ ls)) → a.index < b.index → ⊥
   earlier k l a b ks ls s r i e h lt =
       let up = rises_once cmp k a ks s in
       let n : b.index - l.index ≡ (a.index - k.index) + suc (b.index - (a.index + 1)) = omega arith in
       let at : k.index + (a.index - k.index) ≡ a.index = omega arith in
-      let split : full_log (l ∷ b ∷ ls) ≡ ids_of l.leader_id k.index (a.index - k.index) ++ (ids_of l.leader_id a.index (suc (b.index - (a.index + 1))) ++ full_log (b ∷ ls)) =
-      rw (← i, rw (← i) at n, ids_split l.leader_id k.index (a.index - k.index) (suc (b.index - (a.index + 1))), at) (append_assoc (ids_of l.leader_id k.index (a.index - k.index)) (ids_of l.leader_id a.index (suc (b.index - (a.index + 1)))) (full_log (b ∷ ls))) in
+      let split : full_log (l ∷ b ∷ ls) ≡ ids_of l.leader_id k.index (a.index - k.index)
+          ++ (ids_of l.leader_id a.index (suc (b.index - (a.index + 1))) ++ full_log (b ∷ ls)) =
+      rw (← i, rw (← i) at n, ids_split l.leader_id k.index (a.index - k.index) (suc (b.index - (a.index + 1))), at)
+          (append_assoc (ids_of l.leader_id k.index (a.index - k.index)) (ids_of l.leader_id a.index (suc (b.index - (a.index + 1))))
+              (full_log (b ∷ ls))) in
       let h2 : SameLog eq (full_log (a ∷ ks)) (ids_of l.leader_id a.index (suc (b.index - (a.index + 1))) ++ full_log (b ∷ ls)) =
-      after_ids k.leader_id l.leader_id k.index (a.index - k.index) (full_log (a ∷ ks)) (ids_of l.leader_id a.index (suc (b.index - (a.index + 1))) ++ full_log (b ∷ ls)) (rw split at h) in
+      after_ids k.leader_id l.leader_id k.index (a.index - k.index) (full_log (a ∷ ks))
+          (ids_of l.leader_id a.index (suc (b.index - (a.index + 1))) ++ full_log (b ∷ ls)) (rw split at h) in
       let begins = full_begins cmp a ks (tail_keys cmp k a ks s) in
       let ends = full_begins cmp b ls (tail_keys cmp l b ls r) in
-      by_rest ks s (subst (λ (x : List (LogIdOf C)). SameLog eq x (ids_of l.leader_id a.index (suc (b.index - (a.index + 1))) ++ full_log (b ∷ ls))) begins.1 h2).0 ends h2
+      by_rest ks s (subst (λ (x : List (LogIdOf C)). SameLog eq x
+              (ids_of l.leader_id a.index (suc (b.index - (a.index + 1))) ++ full_log (b ∷ ls))) begins.1 h2).0 ends h2
     where
-      by_rest : (ks : List (LogIdOf C)) → IsKeyList cmp (k ∷ a ∷ ks) → eq a.leader_id l.leader_id ≡ true → ((ys : List (LogIdOf C)) × (full_log (b ∷ ls) ≡ b ∷ ys)) → SameLog eq (full_log (a ∷ ks)) (ids_of l.leader_id a.index (suc (b.index - (a.index + 1))) ++ full_log (b ∷ ls)) → ⊥
+      by_rest : (ks : List (LogIdOf C)) → IsKeyList cmp (k ∷ a ∷ ks) → eq a.leader_id l.leader_id ≡ true
+          → ((ys : List (LogIdOf C)) × (full_log (b ∷ ls) ≡ b ∷ ys))
+          → SameLog eq (full_log (a ∷ ks)) (ids_of l.leader_id a.index (suc (b.index - (a.index + 1))) ++ full_log (b ∷ ls)) → ⊥
       by_rest [] s same_leader ends h2 =
-          let h3 = subst (λ (x : List (LogIdOf C)). SameLog eq x (ids_of l.leader_id a.index (suc (b.index - (a.index + 1))) ++ full_log (b ∷ ls))) (one_key a) h2 in
-          none_same (ids_of l.leader_id (a.index + 1) (b.index - (a.index + 1))) b ends.0 (subst (λ (x : List (LogIdOf C)). SameLog eq [] (ids_of l.leader_id (a.index + 1) (b.index - (a.index + 1)) ++ x)) ends.1 h3.2)
-      by_rest (m ∷ ks) s same_leader ends h2 = apart k.leader_id a.leader_id s.1 (trans k.leader_id l.leader_id a.leader_id e (turn a.leader_id l.leader_id same_leader))
+          let h3 = subst (λ (x : List (LogIdOf C)). SameLog eq x
+                  (ids_of l.leader_id a.index (suc (b.index - (a.index + 1))) ++ full_log (b ∷ ls))) (one_key a) h2 in
+          none_same (ids_of l.leader_id (a.index + 1) (b.index - (a.index + 1))) b ends.0
+              (subst (λ (x : List (LogIdOf C)). SameLog eq [] (ids_of l.leader_id (a.index + 1) (b.index - (a.index + 1)) ++ x)) ends.1
+                  h3.2)
+      by_rest (m ∷ ks) s same_leader ends h2 =
+          apart k.leader_id a.leader_id s.1 (trans k.leader_id l.leader_id a.leader_id e (turn a.leader_id l.leader_id same_leader))
 
   -- one key has one id, two have more
-  longer : (k l b : LogIdOf C) (ls : List (LogIdOf C)) → IsKeyList cmp (l ∷ b ∷ ls) → SameLog eq (full_log (k ∷ [])) (full_log (l ∷ b ∷ ls)) → ⊥
+  longer : (k l b : LogIdOf C) (ls : List (LogIdOf C)) → IsKeyList cmp (l ∷ b ∷ ls) → SameLog eq (full_log (k ∷ [])) (full_log (l ∷ b ∷ ls))
+      → ⊥
   longer k l b ls r h =
       let up = rises_once cmp l b ls r in
       let n : b.index - l.index ≡ suc (b.index - (l.index + 1)) = omega arith in
       let ends = full_begins cmp b ls (tail_keys cmp l b ls r) in
-      let h2 : SameLog eq (full_log (k ∷ [])) (ids_of l.leader_id l.index (suc (b.index - (l.index + 1))) ++ full_log (b ∷ ls)) = subst (λ (x : ℕ). SameLog eq (full_log (k ∷ [])) (ids_of l.leader_id l.index x ++ full_log (b ∷ ls))) n h in
-      let h3 = subst (λ (x : List (LogIdOf C)). SameLog eq x (ids_of l.leader_id l.index (suc (b.index - (l.index + 1))) ++ full_log (b ∷ ls))) (one_key k) h2 in
-      none_same (ids_of l.leader_id (l.index + 1) (b.index - (l.index + 1))) b ends.0 (subst (λ (x : List (LogIdOf C)). SameLog eq [] (ids_of l.leader_id (l.index + 1) (b.index - (l.index + 1)) ++ x)) ends.1 h3.2)
+      let h2 : SameLog eq (full_log (k ∷ [])) (ids_of l.leader_id l.index (suc (b.index - (l.index + 1))) ++ full_log (b ∷ ls)) =
+          subst (λ (x : ℕ). SameLog eq (full_log (k ∷ [])) (ids_of l.leader_id l.index x ++ full_log (b ∷ ls))) n h in
+      let h3 = subst (λ (x : List (LogIdOf C)). SameLog eq x
+              (ids_of l.leader_id l.index (suc (b.index - (l.index + 1))) ++ full_log (b ∷ ls))) (one_key k) h2 in
+      none_same (ids_of l.leader_id (l.index + 1) (b.index - (l.index + 1))) b ends.0
+          (subst (λ (x : List (LogIdOf C)). SameLog eq [] (ids_of l.leader_id (l.index + 1) (b.index - (l.index + 1)) ++ x)) ends.1 h3.2)
 
-  heads_same : (k l : LogIdOf C) (ks ls : List (LogIdOf C)) → IsKeyList cmp (k ∷ ks) → IsKeyList cmp (l ∷ ls) → SameLog eq (full_log (k ∷ ks)) (full_log (l ∷ ls)) → (eq k.leader_id l.leader_id ≡ true) × (k.index ≡ l.index)
+  heads_same : (k l : LogIdOf C) (ks ls : List (LogIdOf C)) → IsKeyList cmp (k ∷ ks) → IsKeyList cmp (l ∷ ls)
+      → SameLog eq (full_log (k ∷ ks)) (full_log (l ∷ ls)) → (eq k.leader_id l.leader_id ≡ true) × (k.index ≡ l.index)
   heads_same k l ks ls s r h =
       let a = full_begins cmp k ks s in
       let b = full_begins cmp l ls r in
@@ -94,10 +117,13 @@ module _ {C : Type 0} (eq : C → C → Bool) (same : (c : C) → eq c c ≡ tru
       let f = subst (λ (x : List (LogIdOf C)). SameLog eq (k ∷ a.0) x) b.1 g in (f.0, f.1)
 
   -- equal full logs have equal keys
-  pub keys_same : (ks ls : List (LogIdOf C)) → IsKeyList cmp ks → IsKeyList cmp ls → SameLog eq (full_log ks) (full_log ls) → SameLog eq ks ls
+  pub keys_same : (ks ls : List (LogIdOf C)) → IsKeyList cmp ks → IsKeyList cmp ls → SameLog eq (full_log ks) (full_log ls)
+      → SameLog eq ks ls
   keys_same [] [] s r h = tt
-  keys_same [] (l ∷ ls) s r h = let b = full_begins cmp l ls r in absurd (none_same [] l b.0 (subst (λ (x : List (LogIdOf C)). SameLog eq [] x) b.1 h))
-  keys_same (k ∷ ks) [] s r h = let b = full_begins cmp k ks s in absurd (none_same [] k b.0 (subst (λ (x : List (LogIdOf C)). SameLog eq [] x) b.1 (same_turn (full_log (k ∷ ks)) [] h)))
+  keys_same [] (l ∷ ls) s r h = let b = full_begins cmp l ls r in
+      absurd (none_same [] l b.0 (subst (λ (x : List (LogIdOf C)). SameLog eq [] x) b.1 h))
+  keys_same (k ∷ ks) [] s r h = let b = full_begins cmp k ks s in
+      absurd (none_same [] k b.0 (subst (λ (x : List (LogIdOf C)). SameLog eq [] x) b.1 (same_turn (full_log (k ∷ ks)) [] h)))
   keys_same (k ∷ []) (l ∷ []) s r h = let g = heads_same k l [] [] s r h in (g.0, g.1, tt)
   keys_same (k ∷ []) (l ∷ b ∷ ls) s r h = absurd (longer k l b ls r h)
   keys_same (k ∷ a ∷ ks) (l ∷ []) s r h = absurd (longer l k a ks s (same_turn (full_log (k ∷ a ∷ ks)) (full_log (l ∷ [])) h))
@@ -106,34 +132,42 @@ module _ {C : Type 0} (eq : C → C → Bool) (same : (c : C) → eq c c ≡ tru
       elim (cases_lt a.index b.index) [
         | inl less ↦ absurd (earlier k l a b ks ls s r g.1 g.0 h less)
         | inr most ↦ elim (cases_lt b.index a.index) [
-          | inl less ↦ absurd (earlier l k b a ls ks r s (sym g.1) (turn k.leader_id l.leader_id g.0) (same_turn (full_log (k ∷ a ∷ ks)) (full_log (l ∷ b ∷ ls)) h) less)
+          | inl less ↦ absurd (earlier l k b a ls ks r s (sym g.1) (turn k.leader_id l.leader_id g.0)
+                  (same_turn (full_log (k ∷ a ∷ ks)) (full_log (l ∷ b ∷ ls)) h) less)
           | inr least ↦ (let e : a.index ≡ b.index = omega arith in
               let i = g.1 in
               let n : b.index - l.index ≡ a.index - k.index = omega arith in
-              let h2 : SameLog eq (ids_of k.leader_id k.index (a.index - k.index) ++ full_log (a ∷ ks)) (ids_of l.leader_id k.index (a.index - k.index) ++ full_log (b ∷ ls)) =
-              subst (λ (x : ℕ). SameLog eq (full_log (k ∷ a ∷ ks)) (ids_of l.leader_id x (a.index - k.index) ++ full_log (b ∷ ls))) (sym i) (subst (λ (x : ℕ). SameLog eq (full_log (k ∷ a ∷ ks)) (ids_of l.leader_id l.index x ++ full_log (b ∷ ls))) n h) in
-              (g.0, i, keys_same (a ∷ ks) (b ∷ ls) (tail_keys cmp k a ks s) (tail_keys cmp l b ls r) (after_ids k.leader_id l.leader_id k.index (a.index - k.index) (full_log (a ∷ ks)) (full_log (b ∷ ls)) h2)))
+              let h2 : SameLog eq (ids_of k.leader_id k.index (a.index - k.index) ++ full_log (a ∷ ks))
+                  (ids_of l.leader_id k.index (a.index - k.index) ++ full_log (b ∷ ls)) =
+              subst (λ (x : ℕ). SameLog eq (full_log (k ∷ a ∷ ks)) (ids_of l.leader_id x (a.index - k.index) ++ full_log (b ∷ ls))) (sym i)
+                  (subst (λ (x : ℕ). SameLog eq (full_log (k ∷ a ∷ ks)) (ids_of l.leader_id l.index x ++ full_log (b ∷ ls))) n h) in
+              (g.0, i, keys_same (a ∷ ks) (b ∷ ls) (tail_keys cmp k a ks s) (tail_keys cmp l b ls r)
+                      (after_ids k.leader_id l.leader_id k.index (a.index - k.index) (full_log (a ∷ ks)) (full_log (b ∷ ls)) h2)))
         ]
       ]
 
   -- one leader has one id after another with no change
   changes_ids : (c : C) (i n : ℕ) (xs : List (LogIdOf C)) → leader_changes eq c (ids_of c i n ++ xs) ≡ leader_changes eq c xs
   changes_ids c i zero xs = refl
-  changes_ids c i (suc n) xs = let z : 0 + leader_changes eq c (ids_of c (i + 1) n ++ xs) ≡ leader_changes eq c (ids_of c (i + 1) n ++ xs) = omega arith in rw (same c) (z ∙ changes_ids c (i + 1) n xs)
+  changes_ids c i (suc n) xs = let z : 0 + leader_changes eq c (ids_of c (i + 1) n ++ xs) ≡ leader_changes eq c (ids_of c (i + 1) n ++ xs) =
+      omega arith in rw (same c) (z ∙ changes_ids c (i + 1) n xs)
 
-  more_leaders : (k l : LogIdOf C) (ks : List (LogIdOf C)) → IsKeyList cmp (k ∷ l ∷ ks) → leader_count eq (full_log (k ∷ l ∷ ks)) ≡ (if eq k.leader_id l.leader_id then 0 else 1) + leader_count eq (full_log (l ∷ ks))
+  more_leaders : (k l : LogIdOf C) (ks : List (LogIdOf C)) → IsKeyList cmp (k ∷ l ∷ ks)
+      → leader_count eq (full_log (k ∷ l ∷ ks)) ≡ (if eq k.leader_id l.leader_id then 0 else 1) + leader_count eq (full_log (l ∷ ks))
   more_leaders k l ks s =
       let up = rises_once cmp k l ks s in
       let n : l.index - k.index ≡ suc (l.index - (k.index + 1)) = omega arith in
       let b = full_begins cmp l ks (tail_keys cmp k l ks s) in
-      let now : full_log (k ∷ l ∷ ks) ≡ k ∷ (ids_of k.leader_id (k.index + 1) (l.index - (k.index + 1)) ++ l ∷ b.0) = rw n (ap (λ (x : List (LogIdOf C)). k ∷ (ids_of k.leader_id (k.index + 1) (l.index - (k.index + 1)) ++ x)) b.1) in
+      let now : full_log (k ∷ l ∷ ks) ≡ k ∷ (ids_of k.leader_id (k.index + 1) (l.index - (k.index + 1)) ++ l ∷ b.0) =
+          rw n (ap (λ (x : List (LogIdOf C)). k ∷ (ids_of k.leader_id (k.index + 1) (l.index - (k.index + 1)) ++ x)) b.1) in
       rw (now, b.1, changes_ids k.leader_id (k.index + 1) (l.index - (k.index + 1)) (l ∷ b.0)) (omega arith)
 
   -- at most one key more than leaders
   pub few_keys : (ks : List (LogIdOf C)) → IsKeyList cmp ks → length ks ≤ leader_count eq (full_log ks) + 1
   few_keys [] s = omega arith
   few_keys (k ∷ []) s = omega arith
-  few_keys (k ∷ l ∷ []) s = let m = more_leaders k l [] s in let one : leader_count eq (full_log (l ∷ [])) ≡ 1 = rw (one_key l) refl in omega arith
+  few_keys (k ∷ l ∷ []) s = let m = more_leaders k l [] s in let one : leader_count eq (full_log (l ∷ [])) ≡ 1 = rw (one_key l) refl in
+      omega arith
   few_keys (k ∷ l ∷ m ∷ ks) s =
       let more = more_leaders k l (m ∷ ks) s in
       let differs : eq k.leader_id l.leader_id ≡ false = not_true (eq k.leader_id l.leader_id) (apart k.leader_id l.leader_id s.1) in
@@ -141,7 +175,8 @@ module _ {C : Type 0} (eq : C → C → Bool) (same : (c : C) → eq c c ≡ tru
       let before = few_keys (l ∷ m ∷ ks) s.2 in omega arith
 
   -- two key lists are equal exactly where their full logs are
-  pub keys_decide : (ks ls : List (LogIdOf C)) → IsKeyList cmp ks → IsKeyList cmp ls → same_log eq ks ls ≡ same_log eq (full_log ks) (full_log ls)
+  pub keys_decide : (ks ls : List (LogIdOf C)) → IsKeyList cmp ks → IsKeyList cmp ls
+      → same_log eq ks ls ≡ same_log eq (full_log ks) (full_log ls)
   keys_decide ks ls s r = both_ways (same_log eq ks ls) (same_log eq (full_log ks) (full_log ls))
       (λ h. is_same eq (full_log ks) (full_log ls) (full_same ks ls (says_same eq ks ls h)))
       (λ h. is_same eq ks ls (keys_same ks ls s r (says_same eq (full_log ks) (full_log ls) h)))

@@ -1,5 +1,6 @@
 -- The first and the last log id of what stays of a log below an index, or from one on.
-use Rattle.std.proofs.Common.{◌≡◌, ℕ, zero, suc, ◌+◌, ◌-◌, ◌<◌, ◌≤◌, ◌==◌, Bool, true, false, List, [], ◌∷◌, Option, Some, None, if◌then◌else◌, IsTrue, length, nat_lt, nat_le, refl, sym, ap, subst, arith, inl, inr, ◌∙◌}
+use Rattle.std.proofs.Common.{◌≡◌, ℕ, zero, suc, ◌+◌, ◌-◌, ◌<◌, ◌≤◌, ◌==◌, Bool, true, false, List, [], ◌∷◌, Option, Some, None,
+        if◌then◌else◌, IsTrue, length, nat_lt, nat_le, refl, sym, ap, subst, arith, inl, inr, ◌∙◌}
 use Rattle.std.proofs.lemmas.Bool.{cases_lt}
 use Rattle.std.proofs.lemmas.Bool.Decides.{nat_tests}
 use Rattle.std.specs.declared.cmp.Ordering.{Ordering}
@@ -14,7 +15,8 @@ use Rattle.raft_state.proofs.lemmas.log_id_list.KeyListLemmas.{IsKeyList}
 use Rattle.raft_state.proofs.lemmas.log_id_list.OrderLemmas.{From, from_full}
 
 -- a full log has consecutive indexes from its first one on
-pub from_first : {C : Type 0} (cmp : C → C → Ordering) (ks : List (LogIdOf C)) → IsKeyList cmp ks → From (first_index (full_log ks)) (full_log ks)
+pub from_first : {C : Type 0} (cmp : C → C → Ordering) (ks : List (LogIdOf C)) → IsKeyList cmp ks
+    → From (first_index (full_log ks)) (full_log ks)
 from_first cmp [] s = tt
 from_first cmp (k ∷ ks) s = rw (first_full cmp (k ∷ ks) 0 s) (from_full cmp k ks s)
 
@@ -40,7 +42,8 @@ front_all b a (x ∷ xs) h le =
     rw t (ap (λ ys. x ∷ ys) (front_all (b + 1) a xs h.1 (omega arith)))
 
 -- the last one that stays is the one before the index
-front_one : {C : Type 0} (j : ℕ) (x : LogIdOf C) (ys : List (LogIdOf C)) → x.index ≡ j → front ys (suc j) ≡ [] → last_id (front (x ∷ ys) (suc j)) ≡ id_at (x ∷ ys) j
+front_one : {C : Type 0} (j : ℕ) (x : LogIdOf C) (ys : List (LogIdOf C)) → x.index ≡ j → front ys (suc j) ≡ []
+    → last_id (front (x ∷ ys) (suc j)) ≡ id_at (x ∷ ys) j
 front_one j x ys e none =
     let t : nat_lt x.index (suc j) ≡ true = grind (arith, nat_tests) in
     let u : (x.index == j) ≡ true = grind (arith, nat_tests) in
@@ -70,7 +73,8 @@ front_last b j (x ∷ y ∷ ys) h lt =
     ]
 
 -- the last log id, with its index
-pub last_at : {C : Type 0} (b : ℕ) (x : LogIdOf C) (xs : List (LogIdOf C)) → From b (x ∷ xs) → (y : LogIdOf C) × (last_id (x ∷ xs) ≡ Some y) × (y.index + 1 ≡ b + length (x ∷ xs))
+pub last_at : {C : Type 0} (b : ℕ) (x : LogIdOf C) (xs : List (LogIdOf C)) → From b (x ∷ xs)
+    → (y : LogIdOf C) × (last_id (x ∷ xs) ≡ Some y) × (y.index + 1 ≡ b + length (x ∷ xs))
 last_at b x [] h = let h0 = h.0 in let n : length (x ∷ []) ≡ 1 = refl in (x, refl, omega arith)
 last_at b x (y ∷ ys) h =
     let z = last_at (b + 1) y ys h.1 in let z2 = z.2 in
@@ -78,14 +82,16 @@ last_at b x (y ∷ ys) h =
     (z.0, z.1, omega arith)
 
 -- what stays of a log that ends below the index, at an index within it, and below index 0
-pub all_stay : {C : Type 0} (b a : ℕ) (xs : List (LogIdOf C)) → From b xs → index_lt (index_of (last_id xs)) (Some a) ≡ true → last_id xs ≡ last_id (front xs a)
+pub all_stay : {C : Type 0} (b a : ℕ) (xs : List (LogIdOf C)) → From b xs → index_lt (index_of (last_id xs)) (Some a) ≡ true
+    → last_id xs ≡ last_id (front xs a)
 all_stay b a [] h e = refl
 all_stay b a (x ∷ xs) h e =
     let y = last_at b x xs h in let y2 = y.2 in let f = rw y.1 at e in
     let lt : y.0.index < a = grind (arith, nat_tests) in
     ap last_id (sym (front_all b a (x ∷ xs) h (omega arith)))
 
-pub some_stay : {C : Type 0} (b a : ℕ) (xs : List (LogIdOf C)) → From b xs → index_lt (index_of (last_id xs)) (Some a) ≡ false → (a ≡ 0 → ⊥) → id_at xs (a - 1) ≡ last_id (front xs a)
+pub some_stay : {C : Type 0} (b a : ℕ) (xs : List (LogIdOf C)) → From b xs → index_lt (index_of (last_id xs)) (Some a) ≡ false → (a ≡ 0 → ⊥)
+    → id_at xs (a - 1) ≡ last_id (front xs a)
 some_stay b zero xs h e n = absurd (n refl)
 some_stay b (suc j) [] h e n = cc
 some_stay b (suc j) (x ∷ xs) h e n =

@@ -1,5 +1,6 @@
 -- Whether the last two log ids share a leader: of keys as of their full log, and after an append.
-use Rattle.std.proofs.Common.{◌≡◌, ℕ, zero, suc, ◌+◌, ◌-◌, ◌≤◌, Bool, true, false, nat_eq, List, [], ◌∷◌, ◌++◌, if◌then◌else◌, IfSome, refl, sym, arith, length, length-append, ◌∙◌}
+use Rattle.std.proofs.Common.{◌≡◌, ℕ, zero, suc, ◌+◌, ◌-◌, ◌≤◌, Bool, true, false, nat_eq, List, [], ◌∷◌, ◌++◌, if◌then◌else◌, IfSome, refl,
+        sym, arith, length, length-append, ◌∙◌}
 use Rattle.std.specs.declared.cmp.Ordering.{Ordering}
 use Rattle.raft_base.specs.declared.log_id.LogIdOf.{LogIdOf}
 use Rattle.raft_state.specs.FullLog.{full_log, ids_of}
@@ -25,10 +26,12 @@ module _ {C : Type 0} (eq : C → C → Bool) where
   two_after_ids : (c : C) (i n : ℕ) (l : LogIdOf C) → last_two_share_leader eq (ids_of c i (suc n) ++ l ∷ []) ≡ eq c l.leader_id
   two_after_ids c i zero l = refl
   two_after_ids c i (suc n) l =
-      two_after_one (record { leader_id = c; index = i }) (ids_of c (i + 1) (suc n) ++ l ∷ []) (omega (arith, length-append (ids_of c (i + 1) (suc n)) (l ∷ []))) ∙ two_after_ids c (i + 1) n l
+      two_after_one (record { leader_id = c; index = i }) (ids_of c (i + 1) (suc n) ++ l ∷ [])
+          (omega (arith, length-append (ids_of c (i + 1) (suc n)) (l ∷ []))) ∙ two_after_ids c (i + 1) n l
 
   -- of the keys as of the full log
-  pub two_full : (cmp : C → C → Ordering) (ks : List (LogIdOf C)) → IsKeyList cmp ks → last_two_share_leader eq (full_log ks) ≡ last_two_share_leader eq ks
+  pub two_full : (cmp : C → C → Ordering) (ks : List (LogIdOf C)) → IsKeyList cmp ks
+      → last_two_share_leader eq (full_log ks) ≡ last_two_share_leader eq ks
   two_full cmp [] s = refl
   two_full cmp (k ∷ []) s = rw (one_key k) refl
   two_full cmp (k ∷ l ∷ []) s =
@@ -40,7 +43,8 @@ module _ {C : Type 0} (eq : C → C → Bool) where
       let up = rises_once cmp l m ks t in
       let n : m.index - l.index ≡ suc (m.index - (l.index + 1)) = omega arith in
       let b = full_begins cmp m ks (tail_keys cmp l m ks t) in
-      let more : 2 ≤ length (full_log (l ∷ m ∷ ks)) = rw (n, b.1) (omega (arith, length-append (ids_of l.leader_id (l.index + 1) (m.index - (l.index + 1))) (m ∷ b.0))) in
+      let more : 2 ≤ length (full_log (l ∷ m ∷ ks)) =
+          rw (n, b.1) (omega (arith, length-append (ids_of l.leader_id (l.index + 1) (m.index - (l.index + 1))) (m ∷ b.0))) in
       two_after (ids_of k.leader_id k.index (l.index - k.index)) (full_log (l ∷ m ∷ ks)) more ∙ two_full cmp (l ∷ m ∷ ks) t
 
   -- the keys of the last leader are two
@@ -55,7 +59,8 @@ module _ {C : Type 0} (eq : C → C → Bool) where
   two_of_last (k ∷ l ∷ m ∷ ks) = two_of_last (l ∷ m ∷ ks)
 
   -- by place
-  pub two_differ : (same : (c : C) → eq c c ≡ true) (ks : List (LogIdOf C)) → ((n : ℕ) → length ks ≡ suc (suc n) → Differ eq same ks n) → last_two_share_leader eq ks ≡ false
+  pub two_differ : (same : (c : C) → eq c c ≡ true) (ks : List (LogIdOf C)) → ((n : ℕ) → length ks ≡ suc (suc n) → Differ eq same ks n)
+      → last_two_share_leader eq ks ≡ false
   two_differ same [] d = refl
   two_differ same (k ∷ []) d = refl
   two_differ same (k ∷ l ∷ []) d = let (x, y, p, q, e) = d zero refl in rw (← p, ← q) e
@@ -63,12 +68,15 @@ module _ {C : Type 0} (eq : C → C → Bool) where
 
   -- after an append: the last one before it and the new one
   module _ (same : (c : C) → eq c c ≡ true) (congr : (a b c : C) → eq a b ≡ true → eq a c ≡ eq b c) where
-    after_one : (t : Bool) (k l id : LogIdOf C) → t ≡ eq k.leader_id l.leader_id → last_two_share_leader eq (k ∷ (if t then id ∷ [] else l ∷ id ∷ [])) ≡ eq l.leader_id id.leader_id
+    after_one : (t : Bool) (k l id : LogIdOf C) → t ≡ eq k.leader_id l.leader_id
+        → last_two_share_leader eq (k ∷ (if t then id ∷ [] else l ∷ id ∷ [])) ≡ eq l.leader_id id.leader_id
     after_one true k l id e = congr k.leader_id l.leader_id id.leader_id (sym e)
     after_one false k l id e = refl
 
-    pub two_added : (k : LogIdOf C) (ks : List (LogIdOf C)) (id : LogIdOf C) → IfSome (last_id (k ∷ ks)) (λ last. last_two_share_leader eq (k ∷ rest_after_append eq k ks id) ≡ eq last.leader_id id.leader_id)
+    pub two_added : (k : LogIdOf C) (ks : List (LogIdOf C)) (id : LogIdOf C)
+        → IfSome (last_id (k ∷ ks)) (λ last. last_two_share_leader eq (k ∷ rest_after_append eq k ks id) ≡ eq last.leader_id id.leader_id)
     two_added k [] id = refl
     two_added k (l ∷ []) id = after_one (eq k.leader_id l.leader_id) k l id refl
     two_added k (l ∷ m ∷ ks) id =
-        rw (two_after_one k (l ∷ rest_after_append eq l (m ∷ ks) id) (omega (arith, some_after eq same l (m ∷ ks) id))) (two_added l (m ∷ ks) id)
+        rw (two_after_one k (l ∷ rest_after_append eq l (m ∷ ks) id) (omega (arith, some_after eq same l (m ∷ ks) id)))
+            (two_added l (m ∷ ks) id)

@@ -1,5 +1,6 @@
 -- The keys of a log with the purge point in it show a log that has all its log ids from there on.
-use Rattle.std.proofs.Common.{◌≡◌, ℕ, suc, ◌+◌, ◌<◌, ◌≤◌, Bool, true, false, nat_lt, nat_le, ◌==◌, if◌then◌else◌, List, [], ◌∷◌, Option, Some, None, IsTrue, refl, sym, ap, subst, arith, inl, inr, ◌∙◌}
+use Rattle.std.proofs.Common.{◌≡◌, ℕ, suc, ◌+◌, ◌<◌, ◌≤◌, Bool, true, false, nat_lt, nat_le, ◌==◌, if◌then◌else◌, List, [], ◌∷◌, Option,
+        Some, None, IsTrue, refl, sym, ap, subst, arith, inl, inr, ◌∙◌}
 use Rattle.std.specs.Option.{is_some, option_or}
 use Rattle.std.specs.declared.cmp.Ordering.{Ordering}
 use Rattle.std.specs.declared.cmp.Ordering.TheVariants.{Less, Equal, Greater}
@@ -30,7 +31,8 @@ abbrev pub PurgeIn : {C : Type 0} → List (LogIdOf C) → Option (LogIdOf C) �
 PurgeIn keys None = first_index (full_log keys) ≡ 0
 PurgeIn keys (Some upto) = IsTrue (is_some (id_at (full_log keys) upto.index))
 
-pub step_keys : {C : Type 0} (cmp : C → C → Ordering) (k l : LogIdOf C) (ks : List (LogIdOf C)) → IsKeyList cmp (k ∷ l ∷ ks) → (k.index < l.index) × IsTrue (is_le (cmp k.leader_id l.leader_id))
+pub step_keys : {C : Type 0} (cmp : C → C → Ordering) (k l : LogIdOf C) (ks : List (LogIdOf C)) → IsKeyList cmp (k ∷ l ∷ ks)
+    → (k.index < l.index) × IsTrue (is_le (cmp k.leader_id l.leader_id))
 step_keys cmp k l [] s = s
 step_keys cmp k l (m ∷ ks) s = (s.0, lt_le (cmp k.leader_id l.leader_id) s.1)
   where
@@ -39,7 +41,8 @@ step_keys cmp k l (m ∷ ks) s = (s.0, lt_le (cmp k.leader_id l.leader_id) s.1)
     lt_le Equal h = cc
     lt_le Greater h = cc
 
-whole : {C : Type 0} (k : LogIdOf C) (ks : List (LogIdOf C)) (j : ℕ) → k.index ≤ j → covering (k ∷ ks) j ≡ option_or (covering ks j) (Some k)
+whole : {C : Type 0} (k : LogIdOf C) (ks : List (LogIdOf C)) (j : ℕ) → k.index ≤ j
+    → covering (k ∷ ks) j ≡ option_or (covering ks j) (Some k)
 whole k ks j le = let t : nat_le k.index j ≡ true = grind (arith, nat_tests) in rw t refl
 
 some_inside : {A : Type 0} (x y : A) → Some x ≡ Some y → x ≡ y
@@ -63,22 +66,29 @@ le_than Greater i j h lt = cc
 
 module _ {C : Type 0} (cmp : C → C → Ordering) (total : IsTotalOrder cmp) where
   -- a later index has no lesser leader
-  first_le : (k : LogIdOf C) (ks : List (LogIdOf C)) (j : ℕ) (c : LogIdOf C) → IsKeyList cmp (k ∷ ks) → covering ks j ≡ Some c → is_le (cmp k.leader_id c.leader_id) ≡ true
+  first_le : (k : LogIdOf C) (ks : List (LogIdOf C)) (j : ℕ) (c : LogIdOf C) → IsKeyList cmp (k ∷ ks) → covering ks j ≡ Some c
+      → is_le (cmp k.leader_id c.leader_id) ≡ true
   first_le k [] j c s e = cc
   first_le k (l ∷ ks) j c s e = elim (cases_lt j l.index) [
     | inl below ↦ (let n = covers_none l ks j below in cc)
     | inr past ↦ by_rest (λ d h. first_le l ks j d (tail_keys cmp k l ks s) h) (covering ks j) refl (sym (whole l ks j past) ∙ e)
   ]
     where
-      by_rest : ((d : LogIdOf C) → covering ks j ≡ Some d → is_le (cmp l.leader_id d.leader_id) ≡ true) → (o : Option (LogIdOf C)) → o ≡ covering ks j → option_or o (Some l) ≡ Some c → is_le (cmp k.leader_id c.leader_id) ≡ true
-      by_rest more None is e = let f : l ≡ c = cc in subst (λ (x : LogIdOf C). is_le (cmp k.leader_id x.leader_id) ≡ true) f (step_keys cmp k l ks s).1
-      by_rest more (Some d) is e = let f : d ≡ c = cc in subst (λ (x : LogIdOf C). is_le (cmp k.leader_id x.leader_id) ≡ true) f (AtMost-trans total k.leader_id l.leader_id d.leader_id (step_keys cmp k l ks s).1 (more d (sym is)))
+      by_rest : ((d : LogIdOf C) → covering ks j ≡ Some d → is_le (cmp l.leader_id d.leader_id) ≡ true) → (o : Option (LogIdOf C))
+          → o ≡ covering ks j → option_or o (Some l) ≡ Some c → is_le (cmp k.leader_id c.leader_id) ≡ true
+      by_rest more None is e = let f : l ≡ c = cc in
+          subst (λ (x : LogIdOf C). is_le (cmp k.leader_id x.leader_id) ≡ true) f (step_keys cmp k l ks s).1
+      by_rest more (Some d) is e = let f : d ≡ c = cc in
+          subst (λ (x : LogIdOf C). is_le (cmp k.leader_id x.leader_id) ≡ true) f
+          (AtMost-trans total k.leader_id l.leader_id d.leader_id (step_keys cmp k l ks s).1 (more d (sym is)))
 
-  rising_le : (ks : List (LogIdOf C)) (i j : ℕ) (a b : LogIdOf C) → IsKeyList cmp ks → covering ks i ≡ Some a → covering ks j ≡ Some b → i < j → is_le (cmp a.leader_id b.leader_id) ≡ true
+  rising_le : (ks : List (LogIdOf C)) (i j : ℕ) (a b : LogIdOf C) → IsKeyList cmp ks → covering ks i ≡ Some a → covering ks j ≡ Some b
+      → i < j → is_le (cmp a.leader_id b.leader_id) ≡ true
   rising_le [] i j a b s p q lt = cc
   rising_le (k ∷ []) i j a b s p q lt = elim (cases_lt i k.index) [
     | inl below ↦ (let n = covers_none k [] i below in cc)
-    | inr past ↦ (let f : k ≡ a = (let w = whole k [] i past in cc) in let g : k ≡ b = (let w = whole k [] j (omega arith) in cc) in rw (← f, ← g) (AtMost-refl total k.leader_id))
+    | inr past ↦ (let f : k ≡ a = (let w = whole k [] i past in cc) in let g : k ≡ b = (let w = whole k [] j (omega arith) in cc) in
+            rw (← f, ← g) (AtMost-refl total k.leader_id))
   ]
   rising_le (k ∷ l ∷ ks) i j a b s p q lt = elim (cases_lt i k.index) [
     | inl early ↦ (let n = covers_none k (l ∷ ks) i early in cc)
@@ -88,7 +98,8 @@ module _ {C : Type 0} (cmp : C → C → Ordering) (total : IsTotalOrder cmp) wh
           | inl below ↦ (let n = covers_none l ks i below in
               let f : k ≡ a = some_inside k a (rw n at (sym wi ∙ p)) in
               elim (cases_lt j l.index) [
-                | inl also ↦ (let m = covers_none l ks j also in let g : k ≡ b = some_inside k b (rw m at (sym wj ∙ q)) in rw (← f, ← g) (AtMost-refl total k.leader_id))
+                | inl also ↦ (let m = covers_none l ks j also in let g : k ≡ b = some_inside k b (rw m at (sym wj ∙ q)) in
+                        rw (← f, ← g) (AtMost-refl total k.leader_id))
                 | inr past ↦ (let d = covers l ks j past in let g : d.0 ≡ b = some_inside d.0 b (rw d.1 at (sym wj ∙ q)) in
                     rw (← f) (first_le k (l ∷ ks) j b s (d.1 ∙ ap Some g)))
               ])
@@ -99,22 +110,28 @@ module _ {C : Type 0} (cmp : C → C → Ordering) (total : IsTotalOrder cmp) wh
         ])
   ]
 
-  last_covers : (k : LogIdOf C) (ks : List (LogIdOf C)) → IsKeyList cmp (k ∷ ks) → (y : LogIdOf C) × (last_id (k ∷ ks) ≡ Some y) × (covering (k ∷ ks) y.index ≡ Some y)
+  last_covers : (k : LogIdOf C) (ks : List (LogIdOf C)) → IsKeyList cmp (k ∷ ks)
+      → (y : LogIdOf C) × (last_id (k ∷ ks) ≡ Some y) × (covering (k ∷ ks) y.index ≡ Some y)
   last_covers k [] s = (k, refl, whole k [] k.index (omega arith))
   last_covers k (l ∷ ks) s =
       let q = last_covers l ks (tail_keys cmp k l ks s) in
       let up = (step_keys cmp k l ks s).0 in
-      let reached : l.index ≤ q.0.index = elim (cases_lt q.0.index l.index) [ inl below ↦ (let n = covers_none l ks q.0.index below in let e = q.2 in absurd (none_some q.0 (sym n ∙ e))) | inr past ↦ past ] in
+      let reached : l.index ≤ q.0.index =
+          elim (cases_lt q.0.index l.index) [ inl below ↦
+              (let n = covers_none l ks q.0.index below in let e = q.2 in absurd (none_some q.0 (sym n ∙ e))) | inr past ↦ past ] in
       (q.0, q.1, whole k (l ∷ ks) q.0.index (omega arith) ∙ ap (λ (o : Option (LogIdOf C)). option_or o (Some k)) q.2)
 
-  id_here : (ks : List (LogIdOf C)) (j : ℕ) (c : LogIdOf C) → IsKeyList cmp ks → j < end_index ks → covering ks j ≡ Some c → id_at (full_log ks) j ≡ Some (record { leader_id = c.leader_id; index = j })
+  id_here : (ks : List (LogIdOf C)) (j : ℕ) (c : LogIdOf C) → IsKeyList cmp ks → j < end_index ks → covering ks j ≡ Some c
+      → id_at (full_log ks) j ≡ Some (record { leader_id = c.leader_id; index = j })
   id_here ks j c s lt e = let t : nat_lt j (end_index ks) ≡ true = grind (arith, nat_tests) in rw (at_full cmp ks j s, t, e) refl
 
-  purge_low : (k : LogIdOf C) (ks : List (LogIdOf C)) (purge : Option (LogIdOf C)) → IsKeyList cmp (k ∷ ks) → PurgeIn (k ∷ ks) purge → (k.index ≤ next_index purge) × (next_index purge ≤ end_index (k ∷ ks)) × ((i : ℕ) → next_index purge ≤ i + 1 → k.index ≤ i)
+  purge_low : (k : LogIdOf C) (ks : List (LogIdOf C)) (purge : Option (LogIdOf C)) → IsKeyList cmp (k ∷ ks) → PurgeIn (k ∷ ks) purge
+      → (k.index ≤ next_index purge) × (next_index purge ≤ end_index (k ∷ ks)) × ((i : ℕ) → next_index purge ≤ i + 1 → k.index ≤ i)
   purge_low k ks None s h =
       let f = first_full cmp (k ∷ ks) 0 s in let z : k.index ≡ 0 = sym f ∙ h in (omega arith, omega arith, λ i le. omega arith)
   purge_low k ks (Some u) s h = elim (cases_lt u.index k.index) [
-    | inl below ↦ absurd (none_true (id_at (full_log (k ∷ ks)) u.index) (at_full cmp (k ∷ ks) u.index s ∙ rw (covers_none k ks u.index below) (either_none (nat_lt u.index (end_index (k ∷ ks))))) h)
+    | inl below ↦ absurd (none_true (id_at (full_log (k ∷ ks)) u.index)
+            (at_full cmp (k ∷ ks) u.index s ∙ rw (covers_none k ks u.index below) (either_none (nat_lt u.index (end_index (k ∷ ks))))) h)
     | inr past ↦ elim (cases_lt u.index (end_index (k ∷ ks))) [
       | inl within ↦ (omega arith, omega arith, λ i le. omega arith)
       | inr out ↦ (let t : nat_lt u.index (end_index (k ∷ ks)) ≡ false = grind (arith, nat_tests) in
@@ -123,8 +140,11 @@ module _ {C : Type 0} (cmp : C → C → Ordering) (total : IsTotalOrder cmp) wh
   ]
 
 -- the ids of a key list from the purge point on
-pub logged_keys : {C : Type 0} (cmp : C → C → Ordering) (total : IsTotalOrder cmp) (ks : List (LogIdOf C)) (purge : Option (LogIdOf C)) (rest : LogView C) → IsKeyList cmp ks → PurgeIn ks purge → Logged cmp (log_of_keys ks purge rest)
-logged_keys cmp total [] None rest s inside = record { purged = omega arith; there = λ i low high. absurd (omega arith); rises = λ i j low lt high. absurd (omega arith); at_end = refl }
+pub logged_keys : {C : Type 0} (cmp : C → C → Ordering) (total : IsTotalOrder cmp) (ks : List (LogIdOf C)) (purge : Option (LogIdOf C))
+    (rest : LogView C) → IsKeyList cmp ks → PurgeIn ks purge → Logged cmp (log_of_keys ks purge rest)
+logged_keys cmp total [] None rest s inside =
+    record { purged = omega arith; there = λ i low high. absurd (omega arith); rises = λ i j low lt high. absurd (omega arith);
+        at_end = refl }
 logged_keys cmp total [] (Some u) rest s inside = cc
 logged_keys {C} cmp total (k ∷ ks) purge rest s inside =
     let low = purge_low cmp total k ks purge s inside in
@@ -136,7 +156,8 @@ logged_keys {C} cmp total (k ∷ ks) purge rest s inside =
     let n : end_index (k ∷ ks) ≡ suc y.0.index = omega arith in
     record {
       purged = omega arith;
-      there = λ i from high. (let c = covers k ks i (low.2 i from) in (record { leader_id = c.0.leader_id; index = i }, id_here cmp total (k ∷ ks) i c.0 s (omega arith) c.1, refl));
+      there = λ i from high. (let c = covers k ks i (low.2 i from) in
+              (record { leader_id = c.0.leader_id; index = i }, id_here cmp total (k ∷ ks) i c.0 s (omega arith) c.1, refl));
       rises = λ i j from lt high.
           (let c = covers k ks i (low.2 i from) in let d = covers k ks j (low.2 j (omega arith)) in
           rw (id_here cmp total (k ∷ ks) i c.0 s (omega arith) c.1, id_here cmp total (k ∷ ks) j d.0 s (omega arith) d.1)
@@ -166,8 +187,10 @@ some_there eq None u h = cc
 some_there eq (Some x) u h = refl
 
 -- the purge point of a valid state is in its log, or its log begins at index 0
-pub purge_in : {C : Type 0} (cmp : C → C → Ordering) (eq : C → C → Bool) (next : ℕ) (keys : List (LogIdOf C)) (purge : Option (LogIdOf C)) (rest : LogView C)
-    → fits_purged_next next (first_id (full_log keys)) ≡ true → id_le cmp (if next == 0 then None else first_id (full_log keys)) purge ≡ true
+pub purge_in : {C : Type 0} (cmp : C → C → Ordering) (eq : C → C → Bool) (next : ℕ) (keys : List (LogIdOf C)) (purge : Option (LogIdOf C))
+    (rest : LogView C)
+    → fits_purged_next next (first_id (full_log keys)) ≡ true
+    → id_le cmp (if next == 0 then None else first_id (full_log keys)) purge ≡ true
     → none_or_logged eq (log_of_keys keys purge rest) purge ≡ true → PurgeIn keys purge
 purge_in cmp eq next keys None rest h k l = begins cmp next (full_log keys) (next == 0) refl h k
 purge_in cmp eq next keys (Some u) rest h k l = some_there eq (id_at (full_log keys) u.index) u l

@@ -1,5 +1,6 @@
 -- The indexes of a full log are consecutive, and its leaders never fall.
-use Rattle.std.proofs.Common.{◌≡◌, ℕ, zero, suc, ◌+◌, ◌-◌, ◌<◌, ◌≤◌, ◌==◌, Bool, true, false, List, [], ◌∷◌, ◌++◌, Option, Some, None, if◌then◌else◌, IsTrue, refl, arith, ap, subst}
+use Rattle.std.proofs.Common.{◌≡◌, ℕ, zero, suc, ◌+◌, ◌-◌, ◌<◌, ◌≤◌, ◌==◌, Bool, true, false, List, [], ◌∷◌, ◌++◌, Option, Some, None,
+        if◌then◌else◌, IsTrue, refl, arith, ap, subst}
 use Rattle.std.proofs.lemmas.Bool.Decides.{nat_tests}
 use Rattle.std.specs.Prelude.{slice_get}
 use Rattle.std.specs.declared.cmp.Ordering.{Ordering}
@@ -27,7 +28,8 @@ from_ids : {C : Type 0} (c : C) (i n : ℕ) (ys : List (LogIdOf C)) → From (i 
 from_ids c i zero ys h = let e : i + zero ≡ i = omega arith in rw e at h
 from_ids c i (suc n) ys h = let e : i + suc n ≡ (i + 1) + n = omega arith in (refl, from_ids c (i + 1) n ys (rw e at h))
 
-pub from_full : {C : Type 0} (cmp : C → C → Ordering) (k : LogIdOf C) (ks : List (LogIdOf C)) → IsKeyList cmp (k ∷ ks) → From k.index (full_log (k ∷ ks))
+pub from_full : {C : Type 0} (cmp : C → C → Ordering) (k : LogIdOf C) (ks : List (LogIdOf C)) → IsKeyList cmp (k ∷ ks)
+    → From k.index (full_log (k ∷ ks))
 from_full cmp k [] s = rw (one_key k) (refl, tt)
 from_full cmp k (l ∷ ks) s =
     let up = rises_once cmp k l ks s in
@@ -41,7 +43,8 @@ from_place i (x ∷ xs) zero id h e = let h0 = h.0 in let f : x ≡ id = cc in l
 from_place i (x ∷ xs) (suc n) id h e = let r = from_place (i + 1) xs n id h.1 e in omega arith
 
 -- the log id at a place is the one at its index, and the one at an index stands at its place
-found_place : {C : Type 0} (i : ℕ) (xs : List (LogIdOf C)) (n : ℕ) (id : LogIdOf C) → From i xs → slice_get xs n ≡ Some id → id_at xs id.index ≡ Some id
+found_place : {C : Type 0} (i : ℕ) (xs : List (LogIdOf C)) (n : ℕ) (id : LogIdOf C) → From i xs → slice_get xs n ≡ Some id
+    → id_at xs id.index ≡ Some id
 found_place i [] n id h e = cc
 found_place {C} i (x ∷ xs) zero id h e =
     let f : x ≡ id = cc in let t : (x.index == x.index) ≡ true = grind (arith, nat_tests) in
@@ -51,7 +54,8 @@ found_place i (x ∷ xs) (suc n) id h e =
     let t : (x.index == id.index) ≡ false = grind (arith, nat_tests) in
     rw t (found_place (i + 1) xs n id h.1 e)
 
-place_found : {C : Type 0} (i : ℕ) (xs : List (LogIdOf C)) (j : ℕ) (id : LogIdOf C) → From i xs → id_at xs j ≡ Some id → (i ≤ j) × (slice_get xs (j - i) ≡ Some id)
+place_found : {C : Type 0} (i : ℕ) (xs : List (LogIdOf C)) (j : ℕ) (id : LogIdOf C) → From i xs → id_at xs j ≡ Some id
+    → (i ≤ j) × (slice_get xs (j - i) ≡ Some id)
 place_found i [] j id h e = cc
 place_found i (x ∷ xs) j id h e = by (x.index == j) refl e (λ k. place_found (i + 1) xs j id h.1 k)
   where
@@ -76,11 +80,13 @@ module _ {C : Type 0} (cmp : C → C → Ordering) (total : IsTotalOrder cmp) wh
   Above c [] = Unit {0}
   Above c (k ∷ ks) = IsTrue (is_le (cmp c k.leader_id)) × Above k.leader_id ks
 
-  above_ids : (b c : C) (i n : ℕ) (ys : List (LogIdOf C)) → IsTrue (is_le (cmp b c)) → Above c ys → ((d : C) → IsTrue (is_le (cmp d c)) → Above d ys) → Above b (ids_of c i n ++ ys)
+  above_ids : (b c : C) (i n : ℕ) (ys : List (LogIdOf C)) → IsTrue (is_le (cmp b c)) → Above c ys
+      → ((d : C) → IsTrue (is_le (cmp d c)) → Above d ys) → Above b (ids_of c i n ++ ys)
   above_ids b c i zero ys le h lower = lower b le
   above_ids b c i (suc n) ys le h lower = (le, above_ids c c (i + 1) n ys (AtMost-refl total c) h lower)
 
-  pub above_full : (b : C) (k : LogIdOf C) (ks : List (LogIdOf C)) → IsKeyList cmp (k ∷ ks) → IsTrue (is_le (cmp b k.leader_id)) → Above b (full_log (k ∷ ks))
+  pub above_full : (b : C) (k : LogIdOf C) (ks : List (LogIdOf C)) → IsKeyList cmp (k ∷ ks) → IsTrue (is_le (cmp b k.leader_id))
+      → Above b (full_log (k ∷ ks))
   above_full b k [] s le = rw (one_key k) (le, tt)
   above_full b k (l ∷ ks) s le =
       let t = tail_keys cmp k l ks s in
@@ -88,22 +94,27 @@ module _ {C : Type 0} (cmp : C → C → Ordering) (total : IsTotalOrder cmp) wh
       above_ids b k.leader_id k.index (l.index - k.index) (full_log (l ∷ ks)) le (above_full k.leader_id l ks t step)
       (λ d low. above_full d l ks t (AtMost-trans total d k.leader_id l.leader_id low step))
 
-  above_place : (c : C) (xs : List (LogIdOf C)) (n : ℕ) (b : LogIdOf C) → Above c xs → slice_get xs n ≡ Some b → IsTrue (is_le (cmp c b.leader_id))
+  above_place : (c : C) (xs : List (LogIdOf C)) (n : ℕ) (b : LogIdOf C) → Above c xs → slice_get xs n ≡ Some b
+      → IsTrue (is_le (cmp c b.leader_id))
   above_place c [] n b h e = cc
   above_place c (x ∷ xs) zero b h e = let f : x ≡ b = cc in subst (λ (y : LogIdOf C). IsTrue (is_le (cmp c y.leader_id))) f h.0
   above_place c (x ∷ xs) (suc n) b h e = AtMost-trans total c x.leader_id b.leader_id h.0 (above_place x.leader_id xs n b h.1 e)
 
-  above_places : (c : C) (xs : List (LogIdOf C)) (m n : ℕ) (a b : LogIdOf C) → Above c xs → m < n → slice_get xs m ≡ Some a → slice_get xs n ≡ Some b → IsTrue (is_le (cmp a.leader_id b.leader_id))
+  above_places : (c : C) (xs : List (LogIdOf C)) (m n : ℕ) (a b : LogIdOf C) → Above c xs → m < n → slice_get xs m ≡ Some a
+      → slice_get xs n ≡ Some b → IsTrue (is_le (cmp a.leader_id b.leader_id))
   above_places c [] m n a b h lt e f = cc
   above_places c (x ∷ xs) m zero a b h lt e f = absurd (omega arith)
-  above_places c (x ∷ xs) zero (suc n) a b h lt e f = let g : x ≡ a = cc in subst (λ (y : LogIdOf C). IsTrue (is_le (cmp y.leader_id b.leader_id))) g (above_place x.leader_id xs n b h.1 f)
+  above_places c (x ∷ xs) zero (suc n) a b h lt e f = let g : x ≡ a = cc in
+      subst (λ (y : LogIdOf C). IsTrue (is_le (cmp y.leader_id b.leader_id))) g (above_place x.leader_id xs n b h.1 f)
   above_places c (x ∷ xs) (suc m) (suc n) a b h lt e f = above_places x.leader_id xs m n a b h.1 (omega arith) e f
 
   pub never_fall : (ks : List (LogIdOf C)) → IsKeyList cmp ks → LeadersNeverFall cmp (full_log ks)
   never_fall [] s m n a b lt e f = cc
-  never_fall (k ∷ ks) s m n a b lt e f = above_places k.leader_id (full_log (k ∷ ks)) m n a b (above_full k.leader_id k ks s (AtMost-refl total k.leader_id)) lt e f
+  never_fall (k ∷ ks) s m n a b lt e f = above_places k.leader_id (full_log (k ∷ ks)) m n a b
+      (above_full k.leader_id k ks s (AtMost-refl total k.leader_id)) lt e f
 
-  pub never_falls_at : (c : C) (b : ℕ) (xs : List (LogIdOf C)) (i j : ℕ) (x y : LogIdOf C) → Above c xs → From b xs → i < j → id_at xs i ≡ Some x → id_at xs j ≡ Some y → IsTrue (is_le (cmp x.leader_id y.leader_id))
+  pub never_falls_at : (c : C) (b : ℕ) (xs : List (LogIdOf C)) (i j : ℕ) (x y : LogIdOf C) → Above c xs → From b xs → i < j
+      → id_at xs i ≡ Some x → id_at xs j ≡ Some y → IsTrue (is_le (cmp x.leader_id y.leader_id))
   never_falls_at c b xs i j x y a h lt e f =
       let m = place_found b xs i x h e in let m0 = m.0 in let n = place_found b xs j y h f in
       above_places c xs (i - b) (j - b) x y a (omega arith) m.1 n.1
@@ -111,27 +122,32 @@ module _ {C : Type 0} (cmp : C → C → Ordering) (total : IsTotalOrder cmp) wh
   pub never_fall_by_index : (ks : List (LogIdOf C)) → IsKeyList cmp ks → LeadersNeverFallByIndex cmp (full_log ks)
   never_fall_by_index [] s i j a b lt e f = cc
   never_fall_by_index (k ∷ ks) s i j a b lt e f =
-      never_falls_at k.leader_id k.index (full_log (k ∷ ks)) i j a b (above_full k.leader_id k ks s (AtMost-refl total k.leader_id)) (from_full cmp k ks s) lt e f
+      never_falls_at k.leader_id k.index (full_log (k ∷ ks)) i j a b (above_full k.leader_id k ks s (AtMost-refl total k.leader_id))
+          (from_full cmp k ks s) lt e f
 
   -- the last log id of a log is at least each of it
-  last_above : (c : C) (b i : ℕ) (x : LogIdOf C) (xs : List (LogIdOf C)) → Above c (x ∷ xs) → From b (x ∷ xs) → i ≤ b → (z : LogIdOf C) × (last_id (x ∷ xs) ≡ Some z) × (is_le (cmp c z.leader_id) ≡ true) × (i ≤ z.index)
+  last_above : (c : C) (b i : ℕ) (x : LogIdOf C) (xs : List (LogIdOf C)) → Above c (x ∷ xs) → From b (x ∷ xs) → i ≤ b
+      → (z : LogIdOf C) × (last_id (x ∷ xs) ≡ Some z) × (is_le (cmp c z.leader_id) ≡ true) × (i ≤ z.index)
   last_above c b i x [] a h le = let h0 = h.0 in (x, refl, a.0, omega arith)
   last_above c b i x (y ∷ ys) a h le =
       let z = last_above x.leader_id (b + 1) i y ys a.1 h.1 (omega arith) in
       (z.0, z.1, AtMost-trans total c x.leader_id z.0.leader_id a.0 z.2, z.3)
 
-  pub last_at_least : (c : C) (b j : ℕ) (xs : List (LogIdOf C)) (x : LogIdOf C) → Above c xs → From b xs → id_at xs j ≡ Some x → (z : LogIdOf C) × (last_id xs ≡ Some z) × (is_le (cmp x.leader_id z.leader_id) ≡ true) × (j ≤ z.index)
+  pub last_at_least : (c : C) (b j : ℕ) (xs : List (LogIdOf C)) (x : LogIdOf C) → Above c xs → From b xs → id_at xs j ≡ Some x
+      → (z : LogIdOf C) × (last_id xs ≡ Some z) × (is_le (cmp x.leader_id z.leader_id) ≡ true) × (j ≤ z.index)
   last_at_least c b j [] x a h e = cc
   last_at_least c b j (y ∷ ys) x a h e = by (y.index == j) refl e (λ k. last_at_least y.leader_id (b + 1) j ys x a.1 h.1 k)
     where
-      here : y.index ≡ j → y ≡ x → (z : LogIdOf C) × (last_id (y ∷ ys) ≡ Some z) × (is_le (cmp x.leader_id z.leader_id) ≡ true) × (j ≤ z.index)
+      here : y.index ≡ j → y ≡ x → (z : LogIdOf C) × (last_id (y ∷ ys) ≡ Some z) × (is_le (cmp x.leader_id z.leader_id) ≡ true)
+          × (j ≤ z.index)
       here at f =
           let h0 = h.0 in
           let own : Above y.leader_id (y ∷ ys) = (AtMost-refl total y.leader_id, a.1) in
           let z = last_above y.leader_id b j y ys own h (omega arith) in
           (z.0, z.1, subst (λ (w : LogIdOf C). is_le (cmp w.leader_id z.0.leader_id) ≡ true) f z.2, z.3)
 
-      later : (zs : List (LogIdOf C)) → id_at zs j ≡ Some x → ((z : LogIdOf C) × (last_id zs ≡ Some z) × (is_le (cmp x.leader_id z.leader_id) ≡ true) × (j ≤ z.index))
+      later : (zs : List (LogIdOf C)) → id_at zs j ≡ Some x
+          → ((z : LogIdOf C) × (last_id zs ≡ Some z) × (is_le (cmp x.leader_id z.leader_id) ≡ true) × (j ≤ z.index))
           → (z : LogIdOf C) × (last_id (y ∷ zs) ≡ Some z) × (is_le (cmp x.leader_id z.leader_id) ≡ true) × (j ≤ z.index)
       later [] e last = cc
       later (w ∷ ws) e last = last
@@ -158,4 +174,5 @@ module _ {C : Type 0} (cmp : C → C → Ordering) (total : IsTotalOrder cmp) wh
 
   pub none_above_last : (ks : List (LogIdOf C)) → IsKeyList cmp ks → NoneAboveLast cmp (full_log ks)
   none_above_last [] s i = refl
-  none_above_last (k ∷ ks) s i = none_above k.leader_id k.index (full_log (k ∷ ks)) (above_full k.leader_id k ks s (AtMost-refl total k.leader_id)) (from_full cmp k ks s) i
+  none_above_last (k ∷ ks) s i = none_above k.leader_id k.index (full_log (k ∷ ks))
+      (above_full k.leader_id k ks s (AtMost-refl total k.leader_id)) (from_full cmp k ks s) i

@@ -1,5 +1,6 @@
 -- Logs that are the same stay so under each edit, and show equal log ids.
-use Rattle.std.proofs.Common.{◌≡◌, ℕ, ◌+◌, ◌==◌, Bool, true, false, ◌&&◌, List, [], ◌∷◌, filter, if◌then◌else◌, IsTrue, Some, nat_eq, nat_lt, nat_le, refl, ap, arith, ◌∙◌}
+use Rattle.std.proofs.Common.{◌≡◌, ℕ, ◌+◌, ◌==◌, Bool, true, false, ◌&&◌, List, [], ◌∷◌, filter, if◌then◌else◌, IsTrue, Some, nat_eq,
+        nat_lt, nat_le, refl, ap, arith, ◌∙◌}
 use Rattle.std.proofs.lemmas.Bool.Decides.{nat_tests}
 use Rattle.std.specs.Cmp.{IsEquivalence}
 use Rattle.raft_base.specs.LogId.{same_ids}
@@ -12,15 +13,19 @@ use Rattle.raft_state.proofs.lemmas.log_id_list.ExtendLemmas.{same_appended, sam
 use Rattle.raft_state.proofs.lemmas.log_id_list.SameLogLemmas.{SameLog, both_true, is_same, says_same}
 
 module _ {C : Type 0} (eq : C → C → Bool) where
-  same_some : (x y : LogIdOf C) → IsTrue (eq x.leader_id y.leader_id) → x.index ≡ y.index → IsTrue (eq x.leader_id y.leader_id && nat_eq x.index y.index)
-  same_some x y e i = let t : nat_eq x.index y.index ≡ true = grind (arith, nat_tests) in both_true (eq x.leader_id y.leader_id) (nat_eq x.index y.index) e t
+  same_some : (x y : LogIdOf C) → IsTrue (eq x.leader_id y.leader_id) → x.index ≡ y.index
+      → IsTrue (eq x.leader_id y.leader_id && nat_eq x.index y.index)
+  same_some x y e i = let t : nat_eq x.index y.index ≡ true = grind (arith, nat_tests) in
+      both_true (eq x.leader_id y.leader_id) (nat_eq x.index y.index) e t
 
   -- those whose index passes a test
-  kept : (t : Bool) (x y : LogIdOf C) (us vs : List (LogIdOf C)) → SameLog eq (x ∷ []) (y ∷ []) → SameLog eq us vs → SameLog eq (if t then x ∷ us else us) (if t then y ∷ vs else vs)
+  kept : (t : Bool) (x y : LogIdOf C) (us vs : List (LogIdOf C)) → SameLog eq (x ∷ []) (y ∷ []) → SameLog eq us vs
+      → SameLog eq (if t then x ∷ us else us) (if t then y ∷ vs else vs)
   kept true x y us vs h g = (h.0, h.1, g)
   kept false x y us vs h g = g
 
-  same_filter : (p : ℕ → Bool) (xs ys : List (LogIdOf C)) → SameLog eq xs ys → SameLog eq (filter (λ id. p id.index) xs) (filter (λ id. p id.index) ys)
+  same_filter : (p : ℕ → Bool) (xs ys : List (LogIdOf C)) → SameLog eq xs ys
+      → SameLog eq (filter (λ id. p id.index) xs) (filter (λ id. p id.index) ys)
   same_filter p [] [] h = tt
   same_filter p [] (y ∷ ys) h = absurd h
   same_filter p (x ∷ xs) [] h = absurd h
@@ -43,18 +48,24 @@ module _ {C : Type 0} (eq : C → C → Bool) where
   same_end_index (x ∷ w ∷ xs) (y ∷ []) h = absurd h.2
   same_end_index (x ∷ w ∷ xs) (y ∷ z ∷ ys) h = same_end_index (w ∷ xs) (z ∷ ys) h.2
 
-  same_tests : (same : (c : C) → eq c c ≡ true) (past below : Bool) (upto : LogIdOf C) (xs ys us vs : List (LogIdOf C)) → SameLog eq xs ys → SameLog eq us vs → SameLog eq (if past then upto ∷ [] else (if below then xs else us)) (if past then upto ∷ [] else (if below then ys else vs))
+  same_tests : (same : (c : C) → eq c c ≡ true) (past below : Bool) (upto : LogIdOf C) (xs ys us vs : List (LogIdOf C)) → SameLog eq xs ys
+      → SameLog eq us vs → SameLog eq (if past then upto ∷ [] else (if below then xs else us))
+      (if past then upto ∷ [] else (if below then ys else vs))
   same_tests same true below upto xs ys us vs h g = (same upto.leader_id, refl, tt)
   same_tests same false true upto xs ys us vs h g = h
   same_tests same false false upto xs ys us vs h g = g
 
-  same_purged : (same : (c : C) → eq c c ≡ true) (xs ys : List (LogIdOf C)) (upto : LogIdOf C) → SameLog eq xs ys → SameLog eq (log_after_purge xs upto) (log_after_purge ys upto)
+  same_purged : (same : (c : C) → eq c c ≡ true) (xs ys : List (LogIdOf C)) (upto : LogIdOf C) → SameLog eq xs ys
+      → SameLog eq (log_after_purge xs upto) (log_after_purge ys upto)
   same_purged same xs ys upto h =
       rw (same_end_index xs ys h, same_first_index xs ys 0 h)
-      (same_tests same (nat_le (end_index ys) upto.index) (nat_lt upto.index (first_index ys)) upto xs ys (rest xs upto.index) (rest ys upto.index) h (same_filter (nat_le upto.index) xs ys h))
+      (same_tests same (nat_le (end_index ys) upto.index) (nat_lt upto.index (first_index ys)) upto xs ys (rest xs upto.index)
+              (rest ys upto.index) h (same_filter (nat_le upto.index) xs ys h))
 
   -- what is read
-  found : (t : Bool) (x y : LogIdOf C) (i : ℕ) (us vs : List (LogIdOf C)) → IsTrue (eq x.leader_id y.leader_id) → x.index ≡ y.index → IsTrue (same_ids eq (id_at us i) (id_at vs i)) → IsTrue (same_ids eq (if t then Some x else id_at us i) (if t then Some y else id_at vs i))
+  found : (t : Bool) (x y : LogIdOf C) (i : ℕ) (us vs : List (LogIdOf C)) → IsTrue (eq x.leader_id y.leader_id) → x.index ≡ y.index
+      → IsTrue (same_ids eq (id_at us i) (id_at vs i))
+      → IsTrue (same_ids eq (if t then Some x else id_at us i) (if t then Some y else id_at vs i))
   found true x y i us vs e j g = same_some x y e j
   found false x y i us vs e j g = g
 
@@ -99,10 +110,13 @@ module _ {C : Type 0} (eq : C → C → Bool) (eqs : IsEquivalence eq) where
   trans a b c h g = eqs.congr a b c h ∙ g
 
   pub appended_keeps : (id : LogIdOf C) → KeepsSame eq (λ log. log_after_append log id)
-  appended_keeps id a b h = is_same eq (log_after_append a id) (log_after_append b id) (same_appended eq eqs.refl trans a b id (says_same eq a b h))
+  appended_keeps id a b h = is_same eq (log_after_append a id) (log_after_append b id)
+      (same_appended eq eqs.refl trans a b id (says_same eq a b h))
 
   pub extended_keeps : (ids : List (LogIdOf C)) → KeepsSame eq (λ log. log_after_extend log ids)
-  extended_keeps ids a b h = is_same eq (log_after_extend a ids) (log_after_extend b ids) (same_extended eq eqs.refl trans a b ids (says_same eq a b h))
+  extended_keeps ids a b h = is_same eq (log_after_extend a ids) (log_after_extend b ids)
+      (same_extended eq eqs.refl trans a b ids (says_same eq a b h))
 
   pub purged_keeps : (upto : LogIdOf C) → KeepsSame eq (λ log. log_after_purge log upto)
-  purged_keeps upto a b h = is_same eq (log_after_purge a upto) (log_after_purge b upto) (same_purged eq eqs.refl a b upto (says_same eq a b h))
+  purged_keeps upto a b h = is_same eq (log_after_purge a upto) (log_after_purge b upto)
+      (same_purged eq eqs.refl a b upto (says_same eq a b h))

@@ -9,7 +9,8 @@ use Rattle.raft_members.specs.declared.membership.stored.StoredMembershipOf.{Sto
 use Rattle.raft_state.specs.MembershipMoves.{after_update_committed, effect_changes, is_covered}
 use Rattle.raft_state.specs.Memberships.{Memberships, index_at}
 
-module _ {C K N : Type 0} (cmp : C → C → Ordering) {eq : K → K → Bool} {same : N → N → Bool} (e : IsEquivalence eq) (s : IsEquivalence same) where
+module _ {C K N : Type 0} (cmp : C → C → Ordering) {eq : K → K → Bool} {same : N → N → Bool} (e : IsEquivalence eq)
+    (s : IsEquivalence same) where
   pub effect_stays : (new : StoredMembershipOf C K N) (upto : ℕ) (m : Memberships C K N) → is_covered upto m ≡ false
       → index_le (index_at m.effective) (index_at new) ≡ false → false ≡ effect_changes eq same m (after_update_committed cmp new upto m)
   effect_stays new upto m covered replaced =

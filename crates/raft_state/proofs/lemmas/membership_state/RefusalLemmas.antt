@@ -13,7 +13,8 @@ use Rattle.raft_state.specs.Apply.{members_after_change, in_progress, IsApplyRef
 use Rattle.raft_state.specs.Inner.Refusal.{refusal_of}
 use Rattle.raft_state.specs.Memberships.{Memberships, in_effect}
 
-alike : {B C K N : Type 0} (leader : C → C → Bool) (eq : K → K → Bool) (cmp : K → K → Ordering) (m : Memberships C K N) (w : Members K N) (e : ChangeMembershipErrorOf B K) → None ≡ in_progress leader m → IsRefusal eq cmp w e
+alike : {B C K N : Type 0} (leader : C → C → Bool) (eq : K → K → Bool) (cmp : K → K → Ordering) (m : Memberships C K N) (w : Members K N)
+    (e : ChangeMembershipErrorOf B K) → None ≡ in_progress leader m → IsRefusal eq cmp w e
     → IsApplyRefusal leader eq cmp m w (refusal_of e)
 alike leader eq cmp m w (InProgress e) none refused = absurd refused
 alike leader eq cmp m w (EmptyMembership e) none refused = (sym none, refused)
@@ -24,9 +25,14 @@ if_some : {A : Type 0} (P Q : A → Type 0) (o : Option A) → ((x : A) → P x 
 if_some P Q None more h = h
 if_some P Q (Some x) more h = more x h
 
-module _ {B C K N : Type 0} (eq : K → K → Bool) (cmp : K → K → Ordering) (m : Memberships C K N) (change : ChangeMembers K N) (mine : MemberList K N) (is : mine ≡ in_effect m) (e : ChangeMembershipErrorOf B K) (told : ChangeMembershipErrorOf C K) (is_told : told ≡ refusal_of e) where
-  pub refused_alike : (leader : C → C → Bool) (retain : Bool) → None ≡ in_progress leader m → IsRefusal eq cmp (changed eq cmp (members_of cmp mine) change retain) e → IsApplyRefusal leader eq cmp m (members_after_change eq cmp m change retain) told
-  refused_alike leader retain none refused = rw is_told (alike leader eq cmp m (members_after_change eq cmp m change retain) e none (rw is at refused))
+module _ {B C K N : Type 0} (eq : K → K → Bool) (cmp : K → K → Ordering) (m : Memberships C K N) (change : ChangeMembers K N)
+    (mine : MemberList K N) (is : mine ≡ in_effect m) (e : ChangeMembershipErrorOf B K) (told : ChangeMembershipErrorOf C K)
+    (is_told : told ≡ refusal_of e) where
+  pub refused_alike : (leader : C → C → Bool) (retain : Bool) → None ≡ in_progress leader m
+      → IsRefusal eq cmp (changed eq cmp (members_of cmp mine) change retain) e
+      → IsApplyRefusal leader eq cmp m (members_after_change eq cmp m change retain) told
+  refused_alike leader retain none refused =
+      rw is_told (alike leader eq cmp m (members_after_change eq cmp m change retain) e none (rw is at refused))
 
   pub only_memory_alike : OnlyMemory eq (members_of cmp mine) change e → OnlyMemory eq (members_of cmp (in_effect m)) change told
   only_memory_alike only = if_some _ _ (goal_of change) (λ goal h can. is_told ∙ ap (refusal_of {C = C}) (h (rw is can))) only

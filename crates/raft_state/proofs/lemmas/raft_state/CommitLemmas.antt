@@ -25,24 +25,30 @@ hold_all t e others h o = rw h o
 
 module _ {C : Type 0} {cmp : C → C → Ordering} (total : IsTotalOrder cmp) where
   at_most : (a b c : Option (LogIdOf C)) → id_le cmp a b ≡ true → id_lt cmp b c ≡ true → id_le cmp a c ≡ true
-  at_most a b c h g = let ids = optional-log_id_cmp-total total in AtMost-trans ids a b c h (AtMost-from_lt (option_cmp (log_id_cmp cmp)) b c g)
+  at_most a b c h g = let ids = optional-log_id_cmp-total total in
+      AtMost-trans ids a b c h (AtMost-from_lt (option_cmp (log_id_cmp cmp)) b c g)
 
   -- a purge point that may be where it is stays so
-  upto_stays : (upto old new snapshot : Option (LogIdOf C)) → id_lt cmp old new ≡ true → (upto_relation cmp upto old snapshot).0 ≡ true → (upto_relation cmp upto new snapshot).0 ≡ true
+  upto_stays : (upto old new snapshot : Option (LogIdOf C)) → id_lt cmp old new ≡ true → (upto_relation cmp upto old snapshot).0 ≡ true
+      → (upto_relation cmp upto new snapshot).0 ≡ true
   upto_stays upto old new None up h = at_most upto old new h up
   upto_stays upto old new (Some snapshot) up h = h
 
   -- valid memberships stay valid
-  memberships_stay : {K N : Type 0} (id : Option (LogIdOf C)) (m : Memberships C K N) → first_false (membership_relations cmp m) ≡ None → first_false (membership_relations cmp (after_commit cmp id m)) ≡ None
+  memberships_stay : {K N : Type 0} (id : Option (LogIdOf C)) (m : Memberships C K N) → first_false (membership_relations cmp m) ≡ None
+      → first_false (membership_relations cmp (after_commit cmp id m)) ≡ None
   memberships_stay id m h = by (commits cmp id m)
     where
-      by : (t : Bool) → first_false (membership_relations cmp (if t then record { committed = m.effective; effective = m.effective } else m)) ≡ None
+      by : (t : Bool) → first_false (membership_relations cmp
+              (if t then record { committed = m.effective; effective = m.effective } else m)) ≡ None
       by true = hold_all _ _ _ (AtMost-refl (optional-log_id_cmp-total total) (log_id_of m.effective))
           (hold_all _ _ _ (AtMost-refl (options_total nat_cmp_total) (index_at m.effective)) refl)
       by false = h
 
   -- a greater log id is committed, and with it the memberships
-  pub stays_valid : {K N I L : Type 0} (id : Option (LogIdOf C)) (s : RaftStateIn K N I L C) (m : Memberships C K N) → m ≡ after_commit cmp id s.membership_state → id_lt cmp s.committed id ≡ true → broken_relation cmp s ≡ None → id_le cmp id (last_id (full_log s.log_ids)) ≡ true → broken_relation cmp (record s { committed = id; membership_state = m }) ≡ None
+  pub stays_valid : {K N I L : Type 0} (id : Option (LogIdOf C)) (s : RaftStateIn K N I L C) (m : Memberships C K N)
+      → m ≡ after_commit cmp id s.membership_state → id_lt cmp s.committed id ≡ true → broken_relation cmp s ≡ None
+      → id_le cmp id (last_id (full_log s.log_ids)) ≡ true → broken_relation cmp (record s { committed = id; membership_state = m }) ≡ None
   stays_valid id s m is up valid in_log =
       let purged = all_hold _ _ _ valid in
       let purge_point = all_hold _ _ _ purged.1 in

@@ -1,5 +1,6 @@
 -- A log that is cut off past one of its log ids ends at no lesser one.
-use Rattle.std.proofs.Common.{◌≡◌, ℕ, suc, ◌+◌, ◌-◌, ◌<◌, ◌≤◌, min, Bool, true, List, [], ◌∷◌, Option, Some, None, length, refl, sym, ap, subst, arith, inl, inr, ◌∙◌}
+use Rattle.std.proofs.Common.{◌≡◌, ℕ, suc, ◌+◌, ◌-◌, ◌<◌, ◌≤◌, min, Bool, true, List, [], ◌∷◌, Option, Some, None, length, refl, sym, ap,
+        subst, arith, inl, inr, ◌∙◌}
 use Rattle.std.proofs.lemmas.Bool.{cases_lt}
 use Rattle.std.proofs.lemmas.Bool.Decides.{nat_tests}
 use Rattle.std.specs.declared.cmp.Ordering.{Ordering}
@@ -24,15 +25,19 @@ use Rattle.raft_state.specs.StateView.{view_of}
 use Rattle.raft_state.specs.Valid.{none_or_logged}
 use Rattle.raft_state.specs.declared.raft_state.RaftStateIn.{RaftStateIn}
 
-module _ {C : Type 0} (cmp : C → C → Ordering) (eq : C → C → Bool) (total : IsTotalOrder cmp) (law : (x y : C) → eq x y ≡ is_eq (cmp x y)) (turn : (x y : C) → eq x y ≡ true → eq y x ≡ true) where
+module _ {C : Type 0} (cmp : C → C → Ordering) (eq : C → C → Bool) (total : IsTotalOrder cmp) (law : (x y : C) → eq x y ≡ is_eq (cmp x y))
+    (turn : (x y : C) → eq x y ≡ true → eq y x ≡ true) where
   -- the log id at an index has no lesser leader than that at an earlier one
-  not_lesser : (c : C) (b : ℕ) (log : List (LogIdOf C)) (i j : ℕ) (y z : LogIdOf C) → Above cmp total c log → From b log → i ≤ j → id_at log i ≡ Some y → id_at log j ≡ Some z → is_le (cmp y.leader_id z.leader_id) ≡ true
+  not_lesser : (c : C) (b : ℕ) (log : List (LogIdOf C)) (i j : ℕ) (y z : LogIdOf C) → Above cmp total c log → From b log → i ≤ j
+      → id_at log i ≡ Some y → id_at log j ≡ Some z → is_le (cmp y.leader_id z.leader_id) ≡ true
   not_lesser c b log i j y z above row le e f = elim (cases_lt i j) [
     | inl before ↦ never_falls_at cmp total c b log i j y z above row before e f
-    | inr same ↦ (let index : i ≡ j = omega arith in let g = rw index at e in let is : y ≡ z = cc in subst (λ (w : LogIdOf C). is_le (cmp y.leader_id w.leader_id) ≡ true) is (AtMost-refl total y.leader_id))
+    | inr same ↦ (let index : i ≡ j = omega arith in let g = rw index at e in let is : y ≡ z = cc in
+            subst (λ (w : LogIdOf C). is_le (cmp y.leader_id w.leader_id) ≡ true) is (AtMost-refl total y.leader_id))
   ]
 
-  cut_past : (c : C) (b : ℕ) (log : List (LogIdOf C)) (x : LogIdOf C) (since : ℕ) → Above cmp total c log → From b log → same_ids eq (id_at log x.index) (Some x) ≡ true → x.index < since
+  cut_past : (c : C) (b : ℕ) (log : List (LogIdOf C)) (x : LogIdOf C) (since : ℕ) → Above cmp total c log → From b log
+      → same_ids eq (id_at log x.index) (Some x) ≡ true → x.index < since
       → id_le cmp (Some x) (last_id (front log since)) ≡ true
   cut_past c b log x since above row logged lt =
       let f = found eq (id_at log x.index) x logged in
@@ -47,13 +52,17 @@ module _ {C : Type 0} (cmp : C → C → Ordering) (eq : C → C → Bool) (tota
       (not_lesser c b log x.index (min since (end_index log) - 1) f.0 z.0 above row low f.1 z.1) in
       rw (front_ends b log since row, s, z.1) (then_below (cmp x.leader_id z.0.leader_id) x.index z.0.index leader (omega arith))
 
-  pub cut_past_committed : {K N I L : Type 0} (s : RaftStateIn K N I L C) (since : ℕ) → IsKeyList cmp s.log_ids → none_or_logged eq (view_of s) s.committed ≡ true → index_lt (index_of s.committed) (Some since) ≡ true
+  pub cut_past_committed : {K N I L : Type 0} (s : RaftStateIn K N I L C) (since : ℕ) → IsKeyList cmp s.log_ids
+      → none_or_logged eq (view_of s) s.committed ≡ true → index_lt (index_of s.committed) (Some since) ≡ true
       → id_le cmp s.committed (last_id (front (full_log s.log_ids) since)) ≡ true
   cut_past_committed s since are logged past = by s.committed s.log_ids are logged past
     where
-      by : (o : Option (LogIdOf C)) (ks : List (LogIdOf C)) → IsKeyList cmp ks → none_or_logged eq (record (view_of s) { id_at = id_at (full_log ks) }) o ≡ true → index_lt (index_of o) (Some since) ≡ true
+      by : (o : Option (LogIdOf C)) (ks : List (LogIdOf C)) → IsKeyList cmp ks
+          → none_or_logged eq (record (view_of s) { id_at = id_at (full_log ks) }) o ≡ true → index_lt (index_of o) (Some since) ≡ true
           → id_le cmp o (last_id (front (full_log ks) since)) ≡ true
       by None ks are logged past = none_at_most cmp (last_id (front (full_log ks) since))
       by (Some x) [] are logged past = cc
       by (Some x) (k ∷ ks) are logged past =
-          cut_past k.leader_id (first_index (full_log (k ∷ ks))) (full_log (k ∷ ks)) x since (above_full cmp total k.leader_id k ks are (AtMost-refl total k.leader_id)) (from_first cmp (k ∷ ks) are) logged (grind (arith, nat_tests))
+          cut_past k.leader_id (first_index (full_log (k ∷ ks))) (full_log (k ∷ ks)) x since
+              (above_full cmp total k.leader_id k ks are (AtMost-refl total k.leader_id)) (from_first cmp (k ∷ ks) are) logged
+              (grind (arith, nat_tests))

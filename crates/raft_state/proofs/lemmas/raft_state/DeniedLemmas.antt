@@ -1,5 +1,6 @@
 -- A walk along a list up to the first value that a test denies.
-use Rattle.std.proofs.Common.{◌≡◌, ℕ, suc, ◌+◌, ◌<◌, ◌≤◌, Bool, true, false, List, [], ◌∷◌, IfSome, IsTrue, if◌then◌else◌, length, drop, take, get_or, refl, sym, ap, ◌∙◌, arith}
+use Rattle.std.proofs.Common.{◌≡◌, ℕ, suc, ◌+◌, ◌<◌, ◌≤◌, Bool, true, false, List, [], ◌∷◌, IfSome, IsTrue, if◌then◌else◌, length, drop,
+        take, get_or, refl, sym, ap, ◌∙◌, arith}
 use Rattle.std.specs.Prelude.{slice_get}
 use Rattle.std.specs.List.{list_all}
 use Rattle.std.proofs.lemmas.List.{drop_all, drop_more}
@@ -14,8 +15,10 @@ module _ {A : Type 0} (test : A → Bool) (xs : List A) (i : ℕ) (x : A) (insid
   denied_here denied before = (let here : first_denied test (drop i xs) ≡ 0 = rw rest (rw denied refl) in omega arith)
 
   -- the walk goes on
-  pub denied_later : test x ≡ true → first_denied test xs ≡ i + first_denied test (drop i xs) → first_denied test xs ≡ (i + 1) + first_denied test (drop (i + 1) xs)
-  denied_later passed before = (let here : first_denied test (drop i xs) ≡ first_denied test (drop (i + 1) xs) + 1 = rw rest (rw passed (omega arith)) in omega arith)
+  pub denied_later : test x ≡ true → first_denied test xs ≡ i + first_denied test (drop i xs)
+      → first_denied test xs ≡ (i + 1) + first_denied test (drop (i + 1) xs)
+  denied_later passed before = (let here : first_denied test (drop i xs) ≡ first_denied test (drop (i + 1) xs) + 1 =
+          rw rest (rw passed (omega arith)) in omega arith)
 
 module _ {A : Type 0} (test : A → Bool) where
   -- the place is within the list or at its end
@@ -32,7 +35,8 @@ module _ {A : Type 0} (test : A → Bool) where
   passed_before [] = refl
   passed_before (x ∷ xs) = by (test x) refl (passed_before xs)
     where
-      by : (t : Bool) → test x ≡ t → list_all test (take (first_denied test xs) xs) ≡ true → list_all test (take (if t then suc (first_denied test xs) else 0) (x ∷ xs)) ≡ true
+      by : (t : Bool) → test x ≡ t → list_all test (take (first_denied test xs) xs) ≡ true
+          → list_all test (take (if t then suc (first_denied test xs) else 0) (x ∷ xs)) ≡ true
       by true is h = rw is h
       by false is h = refl
 
@@ -47,7 +51,8 @@ module _ {A : Type 0} (test : A → Bool) where
       by false is h = is
 
   -- a walk to the end
-  pub none_denied : (xs : List A) (i : ℕ) → length xs ≤ i → first_denied test xs ≡ i + first_denied test (drop i xs) → length xs ≡ first_denied test xs
+  pub none_denied : (xs : List A) (i : ℕ) → length xs ≤ i → first_denied test xs ≡ i + first_denied test (drop i xs)
+      → length xs ≡ first_denied test xs
   none_denied xs i end walked =
       let none : first_denied test (drop i xs) ≡ 0 = rw (drop_all i xs end) refl in
       let le = denied_within xs in omega arith

@@ -4,4 +4,5 @@ use Rattle.raft_members.proofs.lemmas.membership.KeptLemmas.{SameEntries}
 use Rattle.raft_members.proofs.membership.nodes.copy.Given as goal
 
 abbrev pub invariant-loop-id : goal.invariant-loop-id
-invariant-loop-id g l = (xs : List (g.row.NID.Denot × g.row.N.Denot)) × (l.nodes.entries ≡ rev_source l.id-iterator ++ xs) × SameEntries g.N.PartialEq.eq l.copies.entries xs
+invariant-loop-id g l = (xs : List (g.row.NID.Denot × g.row.N.Denot)) × (l.nodes.entries ≡ rev_source l.id-iterator ++ xs)
+    × SameEntries g.N.PartialEq.eq l.copies.entries xs

@@ -4,4 +4,5 @@ use Rattle.raft_members.specs.Valid.{FirstWithoutNode}
 use Rattle.raft_members.proofs.membership.nodes.least_missing.Given as goal
 
 abbrev pub invariant-loop-c : goal.invariant-loop-c
-invariant-loop-c g l = FirstWithoutNode g.NID.PartialEq.eq g.NID.Ord.cmp (record { configs = map (λ s. s.keys) (take l.c-index l.configs); node = get g.NID.Ord.cmp l.nodes }) l.least
+invariant-loop-c g l = FirstWithoutNode g.NID.PartialEq.eq g.NID.Ord.cmp
+    (record { configs = map (λ s. s.keys) (take l.c-index l.configs); node = get g.NID.Ord.cmp l.nodes }) l.least

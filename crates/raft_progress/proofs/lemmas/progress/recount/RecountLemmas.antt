@@ -12,7 +12,8 @@ use Rattle.raft_progress.specs.Inner.Recount.{IsGreatest, reaches}
 
 -- what `<` says of `<=`
 pub AtMost-from_lt : {P : Type 0} (cmp : P → P → Ordering) (a b : P) → is_lt (cmp a b) ≡ true → AtMost cmp a b
-AtMost-from_lt cmp a b = elim (cmp a b) as (λ o. is_lt o ≡ true → is_le o ≡ true) [ Less ↦ λ e. refl | Equal ↦ λ e. refl | Greater ↦ λ e. e ]
+AtMost-from_lt cmp a b = elim (cmp a b) as (λ o. is_lt o ≡ true → is_le o ≡ true)
+    [ Less ↦ λ e. refl | Equal ↦ λ e. refl | Greater ↦ λ e. e ]
 
 not_gt_from_le : (r : Ordering) → is_le r ≡ true → is_gt r ≡ false
 not_gt_from_le Less e = refl
@@ -39,37 +40,54 @@ module _ {P : Type 0} {cmp : P → P → Ordering} (o : IsTotalOrder cmp) where
   pub AtMost-from_not_lt : (a b : P) → is_lt (cmp a b) ≡ false → AtMost cmp b a
   AtMost-from_not_lt a b h = ap is_le (o.antisymm b a) ∙ turned (cmp a b) h
 
-module _ {ID V P : Type 0} (eq : ID → ID → Bool) {cmp : P → P → Ordering} (o : IsTotalOrder cmp) (part : V → P) (is_quorum : (ID → Bool) → Bool) (voters : List (ID × V)) (default : P) where
+module _ {ID V P : Type 0} (eq : ID → ID → Bool) {cmp : P → P → Ordering} (o : IsTotalOrder cmp) (part : V → P)
+    (is_quorum : (ID → Bool) → Bool) (voters : List (ID × V)) (default : P) where
   pub greatest_none : IsGreatest eq cmp part is_quorum voters (take 0 voters) default default
   greatest_none = record { is_one = inl refl; default_at_most = AtMost-refl o default; others_at_most = λ k d l. absurd (omega arith) }
 
-  pub greatest_keeps : (i : ℕ) (e : ID × V) (g : P) → i < length voters → e ≡ get_or voters i e → (reaches eq cmp part is_quorum voters (part e.1) ≡ true → AtMost cmp (part e.1) g) → IsGreatest eq cmp part is_quorum voters (take i voters) default g → IsGreatest eq cmp part is_quorum voters (take (i + 1) voters) default g
+  pub greatest_keeps : (i : ℕ) (e : ID × V) (g : P) → i < length voters → e ≡ get_or voters i e
+      → (reaches eq cmp part is_quorum voters (part e.1) ≡ true → AtMost cmp (part e.1) g)
+      → IsGreatest eq cmp part is_quorum voters (take i voters) default g
+      → IsGreatest eq cmp part is_quorum voters (take (i + 1) voters) default g
   greatest_keeps i e g l is h r = record {
     is_one = r.is_one;
     default_at_most = r.default_at_most;
-    others_at_most = All-more (λ f. reaches eq cmp part is_quorum voters (part f.1) ≡ true → AtMost cmp (part f.1) g) voters i e l r.others_at_most (subst (λ (f : ID × V). reaches eq cmp part is_quorum voters (part f.1) ≡ true → AtMost cmp (part f.1) g) is h);
+    others_at_most = All-more (λ f. reaches eq cmp part is_quorum voters (part f.1) ≡ true → AtMost cmp (part f.1) g) voters i e l
+        r.others_at_most (subst (λ (f : ID × V). reaches eq cmp part is_quorum voters (part f.1) ≡ true → AtMost cmp (part f.1) g) is h);
   }
 
-  pub greatest_rises : (i : ℕ) (e : ID × V) (g : P) → i < length voters → e ≡ get_or voters i e → is_lt (cmp g (part e.1)) ≡ true → reaches eq cmp part is_quorum voters (part e.1) ≡ true → IsGreatest eq cmp part is_quorum voters (take i voters) default g → IsGreatest eq cmp part is_quorum voters (take (i + 1) voters) default (part e.1)
+  pub greatest_rises : (i : ℕ) (e : ID × V) (g : P) → i < length voters → e ≡ get_or voters i e → is_lt (cmp g (part e.1)) ≡ true
+      → reaches eq cmp part is_quorum voters (part e.1) ≡ true → IsGreatest eq cmp part is_quorum voters (take i voters) default g
+      → IsGreatest eq cmp part is_quorum voters (take (i + 1) voters) default (part e.1)
   greatest_rises i e g l is h q r =
       let up : AtMost cmp g (part e.1) = AtMost-from_lt cmp g (part e.1) h in
       record {
         is_one = inr (e, subst (Contains voters) (sym is) (Contains-get_or voters i e l), refl, q);
         default_at_most = AtMost-trans o default g (part e.1) r.default_at_most up;
-        others_at_most = All-more (λ f. reaches eq cmp part is_quorum voters (part f.1) ≡ true → AtMost cmp (part f.1) (part e.1)) voters i e l
-            (All-weaker (λ (f : ID × V). reaches eq cmp part is_quorum voters (part f.1) ≡ true → AtMost cmp (part f.1) g) (λ f. reaches eq cmp part is_quorum voters (part f.1) ≡ true → AtMost cmp (part f.1) (part e.1)) (λ f k y. AtMost-trans o (part f.1) g (part e.1) (k y) up) (take i voters) r.others_at_most)
-            (subst (λ (f : ID × V). reaches eq cmp part is_quorum voters (part f.1) ≡ true → AtMost cmp (part f.1) (part e.1)) is (λ _. AtMost-refl o (part e.1)));
+        others_at_most = All-more (λ f. reaches eq cmp part is_quorum voters (part f.1) ≡ true → AtMost cmp (part f.1) (part e.1)) voters i
+            e l
+            (All-weaker (λ (f : ID × V). reaches eq cmp part is_quorum voters (part f.1) ≡ true → AtMost cmp (part f.1) g)
+                    (λ f. reaches eq cmp part is_quorum voters (part f.1) ≡ true → AtMost cmp (part f.1) (part e.1))
+                    (λ f k y. AtMost-trans o (part f.1) g (part e.1) (k y) up) (take i voters) r.others_at_most)
+            (subst (λ (f : ID × V). reaches eq cmp part is_quorum voters (part f.1) ≡ true → AtMost cmp (part f.1) (part e.1)) is
+                    (λ _. AtMost-refl o (part e.1)));
       }
 
   -- the two ways on from a voter, with the loop's names for its part and the best
-  pub loop_rises : (i : ℕ) (e : ID × V) (g p best : P) → i < length voters → e ≡ get_or voters i e → p ≡ part e.1 → is_lt (cmp g p) ≡ true → reaches eq cmp part is_quorum voters p ≡ true → best ≡ p → IsGreatest eq cmp part is_quorum voters (take i voters) default g → IsGreatest eq cmp part is_quorum voters (take (i + 1) voters) default best
+  pub loop_rises : (i : ℕ) (e : ID × V) (g p best : P) → i < length voters → e ≡ get_or voters i e → p ≡ part e.1 → is_lt (cmp g p) ≡ true
+      → reaches eq cmp part is_quorum voters p ≡ true → best ≡ p → IsGreatest eq cmp part is_quorum voters (take i voters) default g
+      → IsGreatest eq cmp part is_quorum voters (take (i + 1) voters) default best
   loop_rises i e g p best l is pe h q be r =
       let h' : is_lt (cmp g (part e.1)) ≡ true = ap (λ x. is_lt (cmp g x)) (sym pe) ∙ h in
       let q' : reaches eq cmp part is_quorum voters (part e.1) ≡ true = ap (λ x. reaches eq cmp part is_quorum voters x) (sym pe) ∙ q in
       subst (IsGreatest eq cmp part is_quorum voters (take (i + 1) voters) default) (sym (be ∙ pe)) (greatest_rises i e g l is h' q' r)
 
-  pub loop_keeps : (i : ℕ) (e : ID × V) (g p best : P) → i < length voters → e ≡ get_or voters i e → p ≡ part e.1 → (reaches eq cmp part is_quorum voters p ≡ true → is_lt (cmp g p) ≡ false) → best ≡ g → IsGreatest eq cmp part is_quorum voters (take i voters) default g → IsGreatest eq cmp part is_quorum voters (take (i + 1) voters) default best
+  pub loop_keeps : (i : ℕ) (e : ID × V) (g p best : P) → i < length voters → e ≡ get_or voters i e → p ≡ part e.1
+      → (reaches eq cmp part is_quorum voters p ≡ true → is_lt (cmp g p) ≡ false) → best ≡ g
+      → IsGreatest eq cmp part is_quorum voters (take i voters) default g
+      → IsGreatest eq cmp part is_quorum voters (take (i + 1) voters) default best
   loop_keeps i e g p best l is pe h be r =
       subst (IsGreatest eq cmp part is_quorum voters (take (i + 1) voters) default) (sym be)
       (greatest_keeps i e g l is (λ q.
-      AtMost-from_not_lt o g (part e.1) (ap (λ x. is_lt (cmp g x)) (sym pe) ∙ h (ap (λ x. reaches eq cmp part is_quorum voters x) pe ∙ q))) r)
+      AtMost-from_not_lt o g (part e.1) (ap (λ x. is_lt (cmp g x)) (sym pe) ∙ h (ap (λ x. reaches eq cmp part is_quorum voters x) pe ∙ q)))
+              r)

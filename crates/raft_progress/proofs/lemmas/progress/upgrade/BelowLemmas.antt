@@ -21,33 +21,43 @@ use Rattle.raft_members.proofs.CallerLemmas.{is_member-alike}
 
 module _ {ID V : Type 0} {cmp : ID → ID → Ordering} (o : IsTotalOrder cmp) (test : ID → Bool) (seen : List (ID × V)) (e : ID × V) where
   -- the entry doesn't pass
-  pub least_stays : (least : Option ID) → test e.0 ≡ false → IsLeastPassing cmp test seen least → IsLeastPassing cmp test (seen ++ e ∷ []) least
+  pub least_stays : (least : Option ID) → test e.0 ≡ false → IsLeastPassing cmp test seen least
+      → IsLeastPassing cmp test (seen ++ e ∷ []) least
   least_stays None h a = all_both (λ (f : ID × V). test f.0 ≡ false) seen (e ∷ []) a (h, tt)
-  least_stays (Some id) h a = (a.0, all_both (λ (f : ID × V). test f.0 ≡ true → is_le (cmp id f.0) ≡ true) seen (e ∷ []) a.1 ((λ k. absurd (true≢false (sym k ∙ h))), tt))
+  least_stays (Some id) h a = (a.0, all_both (λ (f : ID × V). test f.0 ≡ true → is_le (cmp id f.0) ≡ true) seen (e ∷ []) a.1
+          ((λ k. absurd (true≢false (sym k ∙ h))), tt))
 
   -- it passes, and is no less than the least
-  pub least_holds : (least : Option ID) → comes_before cmp e.0 least ≡ false → IsLeastPassing cmp test seen least → IsLeastPassing cmp test (seen ++ e ∷ []) least
+  pub least_holds : (least : Option ID) → comes_before cmp e.0 least ≡ false → IsLeastPassing cmp test seen least
+      → IsLeastPassing cmp test (seen ++ e ∷ []) least
   least_holds None h a = absurd (true≢false h)
-  least_holds (Some id) h a = (a.0, all_both (λ (f : ID × V). test f.0 ≡ true → is_le (cmp id f.0) ≡ true) seen (e ∷ []) a.1 ((λ k. AtMost-from_not_lt o e.0 id h), tt))
+  least_holds (Some id) h a = (a.0, all_both (λ (f : ID × V). test f.0 ≡ true → is_le (cmp id f.0) ≡ true) seen (e ∷ []) a.1
+          ((λ k. AtMost-from_not_lt o e.0 id h), tt))
 
   -- it passes, and is the least now
-  pub least_falls : (least : Option ID) → test e.0 ≡ true → comes_before cmp e.0 least ≡ true → IsLeastPassing cmp test seen least → IsLeastPassing cmp test (seen ++ e ∷ []) (Some e.0)
+  pub least_falls : (least : Option ID) → test e.0 ≡ true → comes_before cmp e.0 least ≡ true → IsLeastPassing cmp test seen least
+      → IsLeastPassing cmp test (seen ++ e ∷ []) (Some e.0)
   least_falls None t h a = (
     t,
     all_both (λ (f : ID × V). test f.0 ≡ true → is_le (cmp e.0 f.0) ≡ true) seen (e ∷ [])
-        (all_weaker (λ (f : ID × V). test f.0 ≡ false) (λ f. test f.0 ≡ true → is_le (cmp e.0 f.0) ≡ true) (λ f n k. absurd (true≢false (sym k ∙ n))) seen a)
+        (all_weaker (λ (f : ID × V). test f.0 ≡ false) (λ f. test f.0 ≡ true → is_le (cmp e.0 f.0) ≡ true)
+                (λ f n k. absurd (true≢false (sym k ∙ n))) seen a)
         ((λ k. AtMost-refl o e.0), tt),
   )
   least_falls (Some id) t h a = (
     t,
     all_both (λ (f : ID × V). test f.0 ≡ true → is_le (cmp e.0 f.0) ≡ true) seen (e ∷ [])
-        (all_weaker (λ (f : ID × V). test f.0 ≡ true → is_le (cmp id f.0) ≡ true) (λ f. test f.0 ≡ true → is_le (cmp e.0 f.0) ≡ true) (λ f n k. AtMost-trans o e.0 id f.0 (AtMost-from_lt cmp e.0 id h) (n k)) seen a.1)
+        (all_weaker (λ (f : ID × V). test f.0 ≡ true → is_le (cmp id f.0) ≡ true) (λ f. test f.0 ≡ true → is_le (cmp e.0 f.0) ≡ true)
+                (λ f n k. AtMost-trans o e.0 id f.0 (AtMost-from_lt cmp e.0 id h) (n k)) seen a.1)
         ((λ k. AtMost-refl o e.0), tt),
   )
 
 -- ---- what the least one says
 
-module _ {ID V P : Type 0} {eq : ID → ID → Bool} (laws : IsEquivalence eq) (id_cmp : ID → ID → Ordering) (io : IsTotalOrder id_cmp) (ties : (x y : ID) → eq x y ≡ eq_by_cmp id_cmp x y) {cmp : P → P → Ordering} (o : IsTotalOrder cmp) (part : V → P) (is_voter : ID → Bool) (voters learners : List ID) (known : (x : ID) → is_member eq voters x ≡ is_voter x) (default : V) (walk : List (ID × V)) where
+module _ {ID V P : Type 0} {eq : ID → ID → Bool} (laws : IsEquivalence eq) (id_cmp : ID → ID → Ordering) (io : IsTotalOrder id_cmp)
+    (ties : (x y : ID) → eq x y ≡ eq_by_cmp id_cmp x y) {cmp : P → P → Ordering} (o : IsTotalOrder cmp) (part : V → P)
+    (is_voter : ID → Bool) (voters learners : List ID) (known : (x : ID) → is_member eq voters x ≡ is_voter x) (default : V)
+    (walk : List (ID × V)) where
   abbrev is_inherited : ID → Bool
   is_inherited x = is_voter x || is_member eq learners x
 
@@ -59,20 +69,23 @@ module _ {ID V P : Type 0} {eq : ID → ID → Bool} (laws : IsEquivalence eq) (
   test x = among eq voters learners x && is_value_below cmp part (part default) (lookup (eq x) walk)
 
   test_alike : (x y : ID) → eq x y ≡ true → test x ≡ test y
-  test_alike x y e = rw (among_is x, among_is y, sym (known x), sym (known y), is_member-alike laws x y e voters, is_member-alike laws x y e learners, lookup_alike laws x y e walk) refl
+  test_alike x y e = rw (among_is x, among_is y, sym (known x), sym (known y), is_member-alike laws x y e voters, is_member-alike laws x y e
+          learners, lookup_alike laws x y e walk) refl
 
   is_value : (x : ID) (v : V) → lookup (eq x) walk ≡ Some v → test x ≡ (is_inherited x && is_lt (cmp (part v) (part default)))
   is_value x v h = rw (among_is x, h) refl
 
   -- the entry that a look-up finds
-  entry_of : {R : ID → Type 0} (es : List (ID × V)) (x : ID) (v : V) → lookup (eq x) es ≡ Some v → AllByRecursion (λ e. R e.0) es → (k : ID) × (eq x k ≡ true) × R k
+  entry_of : {R : ID → Type 0} (es : List (ID × V)) (x : ID) (v : V) → lookup (eq x) es ≡ Some v → AllByRecursion (λ e. R e.0) es
+      → (k : ID) × (eq x k ≡ true) × R k
   entry_of [] x v h a = absurd (none_some h)
     where
       none_some : {X : Type 0} {u : X} → None ≡ Some u → ⊥
       none_some e = cc
   entry_of {R} (e ∷ es) x v h a = by (eq x e.0) refl h (λ k. entry_of es x v k a.1)
     where
-      by : (b : Bool) → eq x e.0 ≡ b → Rattle.std.specs.Prelude.cond b (Some e.1) (lookup (eq x) es) ≡ Some v → (lookup (eq x) es ≡ Some v → (k : ID) × (eq x k ≡ true) × R k) → (k : ID) × (eq x k ≡ true) × R k
+      by : (b : Bool) → eq x e.0 ≡ b → Rattle.std.specs.Prelude.cond b (Some e.1) (lookup (eq x) es) ≡ Some v
+          → (lookup (eq x) es ≡ Some v → (k : ID) × (eq x k ≡ true) × R k) → (k : ID) × (eq x k ≡ true) × R k
       by true t k r = (e.0, t, a.0)
       by false t k r = r k
 
@@ -85,13 +98,16 @@ module _ {ID V P : Type 0} {eq : ID → ID → Bool} (laws : IsEquivalence eq) (
       only true b h k = k
       only false b h k = absurd (true≢false (sym h))
 
-  value_there : (x : ID) (w : Option V) → lookup (eq x) walk ≡ w → test x ≡ true → InheritsBelow eq cmp part is_voter learners default (λ x. lookup (eq x) walk) x
-  value_there x None e h = absurd (true≢false (sym (second_so (among eq voters learners x) _ h) ∙ ap (is_value_below cmp part (part default)) e))
+  value_there : (x : ID) (w : Option V) → lookup (eq x) walk ≡ w → test x ≡ true
+      → InheritsBelow eq cmp part is_voter learners default (λ x. lookup (eq x) walk) x
+  value_there x None e h = absurd (true≢false
+          (sym (second_so (among eq voters learners x) _ h) ∙ ap (is_value_below cmp part (part default)) e))
   value_there x (Some v) e h =
       let t : (is_inherited x && is_lt (cmp (part v) (part default))) ≡ true = sym (is_value x v e) ∙ h in
       record { inherited = first_so _ _ t; value = v; present = e; below = second_so (is_inherited x) _ t }
 
-  pub least_is_below : (id : ID) → IsLeastPassing id_cmp test walk (Some id) → IsLeastBelow eq id_cmp cmp part is_voter learners default (λ x. lookup (eq x) walk) id
+  pub least_is_below : (id : ID) → IsLeastPassing id_cmp test walk (Some id)
+      → IsLeastBelow eq id_cmp cmp part is_voter learners default (λ x. lookup (eq x) walk) id
   least_is_below id a = record {
     inherits_below = value_there id (lookup (eq id) walk) refl a.0;
     least = λ x b.
@@ -109,5 +125,9 @@ module _ {ID V P : Type 0} {eq : ID → ID → Bool} (laws : IsEquivalence eq) (
           by Greater t = absurd (true≢false (sym (laws.symm y x ∙ e) ∙ ties y x ∙ ap Rattle.std.specs.Ordering.is_eq t))
 
 -- a value below the default stands in the way
-pub below_refuses : {ID V P : Type 0} (eq : ID → ID → Bool) (id_cmp : ID → ID → Ordering) {cmp : P → P → Ordering} (o : IsTotalOrder cmp) (part : V → P) (is_voter : ID → Bool) (learners : List ID) (default : V) (old : ID → Option V) (id : ID) → IsLeastBelow eq id_cmp cmp part is_voter learners default old id → CanUpgrade eq cmp part is_voter learners default old → ⊥
-below_refuses eq id_cmp o part is_voter learners default old id b can = not_both o (part b.inherits_below.value) (part default) b.inherits_below.below (can id b.inherits_below.value b.inherits_below.present b.inherits_below.inherited)
+pub below_refuses : {ID V P : Type 0} (eq : ID → ID → Bool) (id_cmp : ID → ID → Ordering) {cmp : P → P → Ordering} (o : IsTotalOrder cmp)
+    (part : V → P) (is_voter : ID → Bool) (learners : List ID) (default : V) (old : ID → Option V) (id : ID)
+    → IsLeastBelow eq id_cmp cmp part is_voter learners default old id → CanUpgrade eq cmp part is_voter learners default old → ⊥
+below_refuses eq id_cmp o part is_voter learners default old id b can =
+    not_both o (part b.inherits_below.value) (part default) b.inherits_below.below
+    (can id b.inherits_below.value b.inherits_below.present b.inherits_below.inherited)

@@ -12,32 +12,41 @@ use Rattle.raft_progress.proofs.lemmas.progress.walk.WalkLemmas.{no_value}
 use Rattle.std.proofs.lemmas.Option.{slice_get-get_or}
 use Rattle.std.proofs.lemmas.Map.Entries.{lookup_from_place}
 
-key_apart : {ID V : Type 0} (R : ID → Type 0) (es : List (ID × V)) (k : ℕ) (d : ID × V) → k < length es → AllByRecursion R (keys_of es) → R (get_or es k d).0
+key_apart : {ID V : Type 0} (R : ID → Type 0) (es : List (ID × V)) (k : ℕ) (d : ID × V) → k < length es → AllByRecursion R (keys_of es)
+    → R (get_or es k d).0
 key_apart R [] k d l a = absurd (omega arith)
 key_apart R (e ∷ es) zero d l a = a.0
 key_apart R (e ∷ es) (suc k) d l a = key_apart R es k d (omega arith) a.1
 
 module _ {ID V : Type 0} {eq : ID → ID → Bool} (laws : IsEquivalence eq) where
   -- no earlier entry has the key
-  pub not_seen : (es : List (ID × V)) (k : ℕ) (d : ID × V) → k < length es → IsDistinct eq (keys_of es) → lookup (eq (get_or es k d).0) (take k es) ≡ None
+  pub not_seen : (es : List (ID × V)) (k : ℕ) (d : ID × V) → k < length es → IsDistinct eq (keys_of es)
+      → lookup (eq (get_or es k d).0) (take k es) ≡ None
   unfolding IsDistinct
   not_seen es zero d l h = refl
   not_seen [] (suc k) d l h = absurd (omega arith)
-  not_seen (e ∷ es) (suc k) d l h = rw (laws.symm (get_or es k d).0 e.0 ∙ key_apart (λ y. eq e.0 y ≡ false) es k d (omega arith) h.0) (not_seen es k d (omega arith) h.1)
+  not_seen (e ∷ es) (suc k) d l h = rw (laws.symm (get_or es k d).0 e.0 ∙ key_apart (λ y. eq e.0 y ≡ false) es k d (omega arith) h.0)
+      (not_seen es k d (omega arith) h.1)
 
-lookup_other : {ID V : Type 0} (test : ID → Bool) (xs : List (ID × V)) (e : ID × V) → test e.0 ≡ false → lookup test (xs ++ e ∷ []) ≡ lookup test xs
+lookup_other : {ID V : Type 0} (test : ID → Bool) (xs : List (ID × V)) (e : ID × V) → test e.0 ≡ false
+    → lookup test (xs ++ e ∷ []) ≡ lookup test xs
 lookup_other test [] e h = rw h refl
 lookup_other test (x ∷ xs) e h = ap (λ r. cond (test x.0) (Some x.1) r) (lookup_other test xs e h)
 
-lookup_this : {ID V : Type 0} (test : ID → Bool) (xs : List (ID × V)) (e : ID × V) → test e.0 ≡ true → lookup test xs ≡ None → lookup test (xs ++ e ∷ []) ≡ Some e.1
+lookup_this : {ID V : Type 0} (test : ID → Bool) (xs : List (ID × V)) (e : ID × V) → test e.0 ≡ true → lookup test xs ≡ None
+    → lookup test (xs ++ e ∷ []) ≡ Some e.1
 lookup_this test [] e h n = rw h refl
 lookup_this {ID} {V} test (x ∷ xs) e h n = by (test x.0) n (lookup_this test xs e h)
   where
-    by : (b : Bool) → cond b (Some x.1) (lookup test xs) ≡ None → (lookup test xs ≡ None → lookup test (xs ++ e ∷ []) ≡ Some e.1) → cond b (Some x.1) (lookup test (xs ++ e ∷ [])) ≡ Some e.1
+    by : (b : Bool) → cond b (Some x.1) (lookup test xs) ≡ None → (lookup test xs ≡ None → lookup test (xs ++ e ∷ []) ≡ Some e.1)
+        → cond b (Some x.1) (lookup test (xs ++ e ∷ [])) ≡ Some e.1
     by true m r = absurd (no_value _ _ m refl)
     by false m r = r m
 
-module _ {ID V P QS : Type 0} {eq : ID → ID → Bool} (laws : IsEquivalence eq) (IsClone : V → V → Type 0) (part : V → P) (is_voter : ID → Bool) (qs : QS) (learners : List ID) (default : V) (seen : List (ID × V)) (s s' : ProgressState ID V P QS) (u : IsUpgraded eq IsClone part is_voter qs learners default (λ x. lookup (eq x) seen) s) (alike : (x y : ID) → eq x y ≡ true → s.value x ≡ s.value y) (e : ID × V) (new_key : lookup (eq e.0) seen ≡ None) where
+module _ {ID V P QS : Type 0} {eq : ID → ID → Bool} (laws : IsEquivalence eq) (IsClone : V → V → Type 0) (part : V → P)
+    (is_voter : ID → Bool) (qs : QS) (learners : List ID) (default : V) (seen : List (ID × V)) (s s' : ProgressState ID V P QS)
+    (u : IsUpgraded eq IsClone part is_voter qs learners default (λ x. lookup (eq x) seen) s)
+    (alike : (x y : ID) → eq x y ≡ true → s.value x ≡ s.value y) (e : ID × V) (new_key : lookup (eq e.0) seen ≡ None) where
   abbrev is_in : ID → Bool
   is_in x = is_voter x || is_member eq learners x
 
@@ -54,12 +63,14 @@ module _ {ID V P QS : Type 0} {eq : ID → ID → Bool} (laws : IsEquivalence eq
     where
       by : (b : Bool) → is_in e.0 ≡ b → (is_in e.0 ≡ true) × IsClone default v
       by true t =
-          let d : HasClone IsClone default (s.value e.0) = subst (λ (o : Option V). Inherits IsClone default o (s.value e.0)) new_key (u.value e.0 t) in
+          let d : HasClone IsClone default (s.value e.0) =
+              subst (λ (o : Option V). Inherits IsClone default o (s.value e.0)) new_key (u.value e.0 t) in
           let same : d.0 ≡ v = let k = d.1 in cc in
           (t, subst (IsClone default) same d.2)
       by false t = absurd (no_value _ _ (u.others e.0 t) h)
 
-  pub took_over : (w : V) → IsClone e.1 w → (v : V) → s.value e.0 ≡ Some v → Writes eq s e.0 w s' → IsUpgraded eq IsClone part is_voter qs learners default (λ x. lookup (eq x) (seen ++ e ∷ [])) s'
+  pub took_over : (w : V) → IsClone e.1 w → (v : V) → s.value e.0 ≡ Some v → Writes eq s e.0 w s'
+      → IsUpgraded eq IsClone part is_voter qs learners default (λ x. lookup (eq x) (seen ++ e ∷ [])) s'
   took_over w cl v h wr = record {
     same_quorum_set = wr.quorum_set ∙ u.same_quorum_set;
     voters = λ x. wr.is_voter x ∙ u.voters x;
@@ -69,14 +80,16 @@ module _ {ID V P QS : Type 0} {eq : ID → ID → Bool} (laws : IsEquivalence eq
   }
     where
       val : (x : ID) → is_in x ≡ true → (b : Bool) → eq e.0 x ≡ b → Inherits IsClone default (lookup (eq x) (seen ++ e ∷ [])) (s'.value x)
-      val x t true q = rw (lookup_this (eq x) seen e (laws.symm x e.0 ∙ q) (seen_alike x q)) (w, wr.value x ∙ ap (λ b. cond b (Some w) (s.value x)) q, cl)
+      val x t true q = rw (lookup_this (eq x) seen e (laws.symm x e.0 ∙ q) (seen_alike x q))
+          (w, wr.value x ∙ ap (λ b. cond b (Some w) (s.value x)) q, cl)
       val x t false q = rw (lookup_other (eq x) seen e (laws.symm x e.0 ∙ q), wr.value x, q) (u.value x t)
 
       oth : (x : ID) → is_in x ≡ false → (b : Bool) → eq e.0 x ≡ b → s'.value x ≡ None
       oth x t true q = absurd (no_value _ _ (alike e.0 x q ∙ u.others x t) h)
       oth x t false q = wr.value x ∙ ap (λ b. cond b (Some w) (s.value x)) q ∙ u.others x t
 
-  pub passed_over : s.value e.0 ≡ None → IsSame s s' → IsUpgraded eq IsClone part is_voter qs learners default (λ x. lookup (eq x) (seen ++ e ∷ [])) s'
+  pub passed_over : s.value e.0 ≡ None → IsSame s s'
+      → IsUpgraded eq IsClone part is_voter qs learners default (λ x. lookup (eq x) (seen ++ e ∷ [])) s'
   passed_over h same = record {
     same_quorum_set = same.quorum_set ∙ u.same_quorum_set;
     voters = λ x. same.is_voter x ∙ u.voters x;
@@ -87,24 +100,31 @@ module _ {ID V P QS : Type 0} {eq : ID → ID → Bool} (laws : IsEquivalence eq
     where
       val : (x : ID) → is_in x ≡ true → (b : Bool) → eq e.0 x ≡ b → Inherits IsClone default (lookup (eq x) (seen ++ e ∷ [])) (s'.value x)
       val x t true q =
-          let d : HasClone IsClone default (s.value x) = subst (λ (o : Option V). Inherits IsClone default o (s.value x)) (seen_alike x q) (u.value x t) in
+          let d : HasClone IsClone default (s.value x) =
+              subst (λ (o : Option V). Inherits IsClone default o (s.value x)) (seen_alike x q) (u.value x t) in
           absurd (no_value _ _ (sym (alike e.0 x q) ∙ h) d.1)
       val x t false q = rw (lookup_other (eq x) seen e (laws.symm x e.0 ∙ q), same.value x) (u.value x t)
 
   -- one entry further
-  pub step : (w : V) → IsClone e.1 w → ((v : V) → s.value e.0 ≡ Some v → (w' : V) × (w' ≡ w) × Writes eq s e.0 w' s') → (s.value e.0 ≡ None → IsSame s s') → IsUpgraded eq IsClone part is_voter qs learners default (λ x. lookup (eq x) (seen ++ e ∷ [])) s'
+  pub step : (w : V) → IsClone e.1 w → ((v : V) → s.value e.0 ≡ Some v → (w' : V) × (w' ≡ w) × Writes eq s e.0 w' s')
+      → (s.value e.0 ≡ None → IsSame s s') → IsUpgraded eq IsClone part is_voter qs learners default (λ x. lookup (eq x) (seen ++ e ∷ []))
+      s'
   step w cl known unknown = by (s.value e.0) refl
     where
-      by : (o : Option V) → s.value e.0 ≡ o → IsUpgraded eq IsClone part is_voter qs learners default (λ x. lookup (eq x) (seen ++ e ∷ [])) s'
+      by : (o : Option V) → s.value e.0 ≡ o
+          → IsUpgraded eq IsClone part is_voter qs learners default (λ x. lookup (eq x) (seen ++ e ∷ [])) s'
       by None h = passed_over h (unknown h)
       by (Some v) h = let k = known v h in took_over w cl v h (subst (λ (y : V). Writes eq s e.0 y s') k.1 k.2)
 
 -- an entry's own value
-pub own_value : {ID V : Type 0} {eq : ID → ID → Bool} (laws : IsEquivalence eq) (es : List (ID × V)) (k : ℕ) (d : ID × V) → k < length es → IsDistinct eq (keys_of es) → lookup (eq (get_or es k d).0) es ≡ Some (get_or es k d).1
+pub own_value : {ID V : Type 0} {eq : ID → ID → Bool} (laws : IsEquivalence eq) (es : List (ID × V)) (k : ℕ) (d : ID × V) → k < length es
+    → IsDistinct eq (keys_of es) → lookup (eq (get_or es k d).0) es ≡ Some (get_or es k d).1
 own_value laws es k d l h = lookup_from_place laws es k (get_or es k d).0 (get_or es k d).1 h (slice_get-get_or es k d l)
 
 -- nothing has been taken over yet
-pub upgraded_none : {ID V P QS : Type 0} (eq : ID → ID → Bool) (IsClone : V → V → Type 0) (part : V → P) (is_voter : ID → Bool) (qs : QS) (learners : List ID) (default : V) (s : ProgressState ID V P QS) → IsNew eq IsClone part is_voter qs learners default s → IsUpgraded eq IsClone part is_voter qs learners default (λ x. None) s
+pub upgraded_none : {ID V P QS : Type 0} (eq : ID → ID → Bool) (IsClone : V → V → Type 0) (part : V → P) (is_voter : ID → Bool) (qs : QS)
+    (learners : List ID) (default : V) (s : ProgressState ID V P QS) → IsNew eq IsClone part is_voter qs learners default s
+    → IsUpgraded eq IsClone part is_voter qs learners default (λ x. None) s
 upgraded_none eq IsClone part is_voter qs learners default s n = record {
   same_quorum_set = n.same_quorum_set;
   voters = n.voters;

@@ -12,23 +12,30 @@ use Rattle.raft_progress.proofs.lemmas.progress.UpdateLemmas.{IsDistinct-voters}
 
 module _ {ID V : Type 0} (eq : ID → ID → Bool) where
   -- a longer front has the members of a shorter one
-  pub front_grows : (voters : List (ID × V)) (k n : ℕ) → k ≤ n → (x : ID) → is_member eq (keys_of (take k voters)) x ≡ true → is_member eq (keys_of (take n voters)) x ≡ true
+  pub front_grows : (voters : List (ID × V)) (k n : ℕ) → k ≤ n → (x : ID) → is_member eq (keys_of (take k voters)) x ≡ true
+      → is_member eq (keys_of (take n voters)) x ≡ true
   front_grows voters zero n l x m = absurd (true≢false (sym m))
   front_grows voters (suc k) zero l x m = absurd (omega arith)
   front_grows [] (suc k) (suc n) l x m = m
   front_grows (e ∷ es) (suc k) (suc n) l x m = by (eq x e.0) m (front_grows es k n (omega arith) x)
     where
-      by : (b : Bool) → (b || is_member eq (keys_of (take k es)) x) ≡ true → (is_member eq (keys_of (take k es)) x ≡ true → is_member eq (keys_of (take n es)) x ≡ true) → (b || is_member eq (keys_of (take n es)) x) ≡ true
+      by : (b : Bool) → (b || is_member eq (keys_of (take k es)) x) ≡ true
+          → (is_member eq (keys_of (take k es)) x ≡ true → is_member eq (keys_of (take n es)) x ≡ true)
+          → (b || is_member eq (keys_of (take n es)) x) ≡ true
       by true i r = refl
       by false i r = r i
 
   -- no front of one that isn't a quorum is a quorum
-  pub front_fails : (is_quorum : (ID → Bool) → Bool) (superset : (s t : ID → Bool) → ((x : ID) → s x ≡ true → t x ≡ true) → is_quorum s ≡ true → is_quorum t ≡ true) (voters : List (ID × V)) (k n : ℕ) → k ≤ n → front_test eq is_quorum voters n ≡ false → front_test eq is_quorum voters k ≡ false
+  pub front_fails : (is_quorum : (ID → Bool) → Bool)
+      (superset : (s t : ID → Bool) → ((x : ID) → s x ≡ true → t x ≡ true) → is_quorum s ≡ true → is_quorum t ≡ true)
+      (voters : List (ID × V)) (k n : ℕ) → k ≤ n → front_test eq is_quorum voters n ≡ false → front_test eq is_quorum voters k ≡ false
   front_fails is_quorum superset voters k n l f = by (front_test eq is_quorum voters k) refl
     where
       by : (b : Bool) → front_test eq is_quorum voters k ≡ b → b ≡ false
       by false e = refl
-      by true e = absurd (true≢false (sym (superset (is_member eq (keys_of (take k voters))) (is_member eq (keys_of (take n voters))) (front_grows voters k n l) e) ∙ f))
+      by true e = absurd (true≢false (sym
+              (superset (is_member eq (keys_of (take k voters))) (is_member eq (keys_of (take n voters))) (front_grows voters k n l) e)
+              ∙ f))
 
 -- a number that isn't zero loses a binary digit by halving
 fewer_digits : (left j : ℕ) → 1 ≤ left → left < 2 ^ j → (i : ℕ) × (j ≡ suc i) × (left / 2 < 2 ^ i)
@@ -36,7 +43,8 @@ fewer_digits left zero one l = absurd (omega arith)
 fewer_digits left (suc i) one l = let e = two-pow-succ i in (i, refl, omega arith)
 
 module _ {ID V : Type 0} (eq : ID → ID → Bool) (is_quorum : (ID → Bool) → Bool) (voters : List (ID × V)) (low high : ℕ) where
-  -- no front up to `failed` is a quorum, and where a test has passed, the front directly past `end` is; between these at most `left` fronts are left, and for each that halving leaves a test of a front may still be made
+  -- no front up to `failed` is a quorum, and where a test has passed, the front directly past `end` is; between these at most `left` fronts
+  -- are left, and for each that halving leaves a test of a front may still be made
   pub record Halves (failed end left tests : ℕ) : Type 0 where
     pub fails : (k : ℕ) → low < k → k ≤ failed → front_test eq is_quorum voters k ≡ false
     pub above : low ≤ failed
@@ -93,7 +101,8 @@ module _ {ID V : Type 0} (eq : ID → ID → Bool) (is_quorum : (ID → Bool) �
           }
 
       -- the front that was tested is no quorum
-      pub halves_failed : (superset : (s t : ID → Bool) → ((x : ID) → s x ≡ true → t x ≡ true) → is_quorum s ≡ true → is_quorum t ≡ true) → front_test eq is_quorum voters front ≡ false → Halves front end (left / 2) (tests + 1)
+      pub halves_failed : (superset : (s t : ID → Bool) → ((x : ID) → s x ≡ true → t x ≡ true) → is_quorum s ≡ true → is_quorum t ≡ true)
+          → front_test eq is_quorum voters front ≡ false → Halves front end (left / 2) (tests + 1)
       halves_failed superset missed =
           let a = h.above in
           let c = h.covers in
@@ -136,7 +145,8 @@ module _ {ID V : Type 0} (eq : ID → ID → Bool) (is_quorum : (ID → Bool) �
       }
 
 -- the first of the ids that were gathered
-front_of : {ID V : Type 0} (voters : List (ID × V)) (room : List ID) (high k : ℕ) → k ≤ high → take high room ≡ keys_of (take high voters) → take k room ≡ keys_of (take k voters)
+front_of : {ID V : Type 0} (voters : List (ID × V)) (room : List ID) (high k : ℕ) → k ≤ high → take high room ≡ keys_of (take high voters)
+    → take k room ≡ keys_of (take k voters)
 front_of voters room high k l is = sym (take_take room k high l) ∙ ap (take k) is ∙ keys_shorter voters k high l
   where
     take_take : {X : Type 0} (xs : List X) (k n : ℕ) → k ≤ n → take k (take n xs) ≡ take k xs
@@ -152,7 +162,10 @@ front_of voters room high k l is = sym (take_take room k high l) ∙ ap (take k)
     keys_shorter (e ∷ es) (suc k) (suc n) l = ap (λ ks. e.0 ∷ ks) (keys_shorter es k n (omega arith))
 
 -- a test of the first of the ids that were gathered is a test of that front
-pub front_tested : {ID V : Type 0} {eq : ID → ID → Bool} (laws : IsEquivalence eq) (is_quorum : (ID → Bool) → Bool) (voters : List (ID × V)) (distinct : IsDistinct eq (keys_of voters)) (room : List ID) (high k : ℕ) (l : k ≤ high) (gathered : take high room ≡ keys_of (take high voters)) (answer : Bool) (tells : IsDistinct eq (take k room) → answer ≡ is_quorum (is_member eq (take k room))) → answer ≡ front_test eq is_quorum voters k
+pub front_tested : {ID V : Type 0} {eq : ID → ID → Bool} (laws : IsEquivalence eq) (is_quorum : (ID → Bool) → Bool) (voters : List (ID × V))
+    (distinct : IsDistinct eq (keys_of voters)) (room : List ID) (high k : ℕ) (l : k ≤ high)
+    (gathered : take high room ≡ keys_of (take high voters)) (answer : Bool)
+    (tells : IsDistinct eq (take k room) → answer ≡ is_quorum (is_member eq (take k room))) → answer ≡ front_test eq is_quorum voters k
 front_tested {eq = eq} laws is_quorum voters distinct room high k l gathered answer tells =
     let front = front_of voters room high k l gathered in
     tells (subst (IsDistinct eq) (sym front) (IsDistinct-voters laws k voters distinct)) ∙ ap (λ ks. is_quorum (is_member eq ks)) front

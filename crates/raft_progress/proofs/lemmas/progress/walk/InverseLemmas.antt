@@ -60,7 +60,8 @@ exchanged_twice : (at p : ℕ) → 0 < at → exchanged at (exchanged at p) ≡ 
 exchanged_twice at p l = grind (arith, nat_tests)
 
 -- two neighbours change places
-module _ (P R : List ℕ) (a : AreInverse P R) (at u l : ℕ) (second : 0 < at) (within : at < length R) (us : u ≡ get_or R (at - 1) 0) (ls : l ≡ get_or R at 0) where
+module _ (P R : List ℕ) (a : AreInverse P R) (at u l : ℕ) (second : 0 < at) (within : at < length R) (us : u ≡ get_or R (at - 1) 0)
+    (ls : l ≡ get_or R at 0) where
   u_within : u < length P
   u_within = let b = a.forth (at - 1) (omega arith) in omega arith
 
@@ -91,7 +92,8 @@ module _ (P R : List ℕ) (a : AreInverse P R) (at u l : ℕ) (second : 0 < at) 
           | inr o ↦
               let b = (a.back r m).1 in
               get_or-set_other P u r at 0 o
-              ∙ sym (exchanged_other at (get_or P r 0) (λ e. n (sym b ∙ ap (λ p. get_or R p 0) e ∙ sym ls)) (λ e. o (sym b ∙ ap (λ p. get_or R p 0) e ∙ sym us)))
+              ∙ sym (exchanged_other at (get_or P r 0) (λ e. n (sym b ∙ ap (λ p. get_or R p 0) e ∙ sym ls))
+                      (λ e. o (sym b ∙ ap (λ p. get_or R p 0) e ∙ sym us)))
         ]
   ]
 
@@ -113,8 +115,10 @@ module _ (P R : List ℕ) (a : AreInverse P R) (at u l : ℕ) (second : 0 < at) 
 
   pub inverse_swapped : AreInverse (set (set P u at) l (at - 1)) (set (set R (at - 1) l) at u)
   inverse_swapped =
-      renumbered P R _ _ (exchanged at) (exchanged at) a (length-set (set P u at) l (at - 1) ∙ length-set P u at) (length-set (set R (at - 1) l) at u ∙ length-set R (at - 1) l)
-      swapped_places swapped_ranks (λ p m. exchanged_within at p (length R) within m) (λ p m. exchanged_within at p (length R) within m) (λ p. exchanged_twice at p second) (λ p. exchanged_twice at p second)
+      renumbered P R _ _ (exchanged at) (exchanged at) a (length-set (set P u at) l (at - 1) ∙ length-set P u at)
+          (length-set (set R (at - 1) l) at u ∙ length-set R (at - 1) l)
+      swapped_places swapped_ranks (λ p m. exchanged_within at p (length R) within m) (λ p m. exchanged_within at p (length R) within m)
+          (λ p. exchanged_twice at p second) (λ p. exchanged_twice at p second)
 
   pub places_swapped : set (set P u at) l (at - 1) ≡ map (exchanged at) P
   places_swapped =
@@ -123,7 +127,8 @@ module _ (P R : List ℕ) (a : AreInverse P R) (at u l : ℕ) (second : 0 < at) 
       (λ k m. let w : k < length P = omega arith in swapped_places k w ∙ sym (get_or-map (exchanged at) P k 0 0 w))
 
 -- what an entry's new place makes of the ids and of the places
-pub keys_rewritten : {ID : Type 0} (es : List (ID × ℕ)) (i : ℕ) (d : ID × ℕ) (w : ℕ) → keys_of (set es i ((get_or es i d).0, w)) ≡ keys_of es
+pub keys_rewritten : {ID : Type 0} (es : List (ID × ℕ)) (i : ℕ) (d : ID × ℕ) (w : ℕ)
+    → keys_of (set es i ((get_or es i d).0, w)) ≡ keys_of es
 keys_rewritten [] i d w = refl
 keys_rewritten (e ∷ es) zero d w = refl
 keys_rewritten (e ∷ es) (suc i) d w = ap (λ ks. e.0 ∷ ks) (keys_rewritten es i d w)
@@ -150,13 +155,16 @@ parted-map f [] vs = refl
 parted-map f (k ∷ ks) [] = refl
 parted-map f (k ∷ ks) (v ∷ vs) = ap (λ fs. (k, f v) ∷ fs) (parted-map f ks vs)
 
-pub lookup_renumbered : {ID : Type 0} (f : ℕ → ℕ) (test : ID → Bool) (es fs : List (ID × ℕ)) → keys_of fs ≡ keys_of es → values_of fs ≡ map f (values_of es) → lookup test fs ≡ option_map f (lookup test es)
+pub lookup_renumbered : {ID : Type 0} (f : ℕ → ℕ) (test : ID → Bool) (es fs : List (ID × ℕ)) → keys_of fs ≡ keys_of es
+    → values_of fs ≡ map f (values_of es) → lookup test fs ≡ option_map f (lookup test es)
 lookup_renumbered f test es fs k v =
-    ap (lookup test) (sym (parted_itself fs) ∙ ap (λ ks. parted ks (values_of fs)) k ∙ ap (parted (keys_of es)) v ∙ parted-map f (keys_of es) (values_of es) ∙ ap (map (λ e. (e.0, f e.1))) (parted_itself es))
+    ap (lookup test) (sym (parted_itself fs) ∙ ap (λ ks. parted ks (values_of fs)) k ∙ ap (parted (keys_of es)) v
+            ∙ parted-map f (keys_of es) (values_of es) ∙ ap (map (λ e. (e.0, f e.1))) (parted_itself es))
     ∙ lookup-map_values f test es
 
 -- where an entry moves up step by step, its last step is an exchange
-after_step : (place last : ℕ) → 0 < place → place ≤ last → (p : ℕ) → exchanged place (place_after place last p) ≡ place_after (place - 1) last p
+after_step : (place last : ℕ) → 0 < place → place ≤ last → (p : ℕ)
+    → exchanged place (place_after place last p) ≡ place_after (place - 1) last p
 after_step place last l m p = grind (arith, nat_tests)
 
 after_none : (last p : ℕ) → place_after last last p ≡ p
@@ -176,7 +184,8 @@ after_neither : (P : List ℕ) (f : ℕ → ℕ) → ((p : ℕ) → f p ≡ p) �
 after_neither [] f e = refl
 after_neither (p ∷ P) f e = ap (λ q. q ∷ map f P) (e p) ∙ ap (λ qs. p ∷ qs) (after_neither P f e)
 
-pub lifted_none : (P R : List ℕ) (last risen : ℕ) → AreInverse P R → last < length R → risen ≡ get_or R last 0 → Lifted P R last risen last P R
+pub lifted_none : (P R : List ℕ) (last risen : ℕ) → AreInverse P R → last < length R → risen ≡ get_or R last 0
+    → Lifted P R last risen last P R
 lifted_none P R last risen a l is =
     let b = a.forth last l in
     let at : get_or P risen 0 ≡ last = ap (λ r. get_or P r 0) is ∙ b.1 in
@@ -199,22 +208,27 @@ module _ (P R : List ℕ) (last risen place : ℕ) (P' R' : List ℕ) (m : Lifte
     passed_at = is ∙ sym (get_or-set_other R' place (place - 1) risen 0 (λ e. omega arith))
 
     pub passed_within : passed < length P'
-    passed_within = let b = (m.inverse.forth (place - 1) (omega (arith, n))).0 in let e = passed_at in omega (arith, length-set P' risen place)
+    passed_within = let b = (m.inverse.forth (place - 1) (omega (arith, n))).0 in let e = passed_at in
+        omega (arith, length-set P' risen place)
 
     pub lifted_more : Lifted P R last risen (place - 1) (set P' passed place) (set R' place passed)
     lifted_more =
         let down : place - 1 ≢ place = λ e. omega arith in
         let ne = apart (set P' risen place) (set R' place risen) m.inverse place passed risen second n passed_at risen_at in
         let ps : set (set (set P' risen place) passed place) risen (place - 1) ≡ set (set P' passed place) risen (place - 1) =
-        ap (λ vs. set vs risen (place - 1)) (set_comm P' risen passed place place (λ e. ne (sym e))) ∙ set-set (set P' passed place) risen place (place - 1) in
+        ap (λ vs. set vs risen (place - 1)) (set_comm P' risen passed place place (λ e. ne (sym e)))
+            ∙ set-set (set P' passed place) risen place (place - 1) in
         let rs : set (set (set R' place risen) (place - 1) risen) place passed ≡ set (set R' place passed) (place - 1) risen =
-        ap (λ vs. set vs place passed) (set_comm R' place (place - 1) risen risen (λ e. down (sym e))) ∙ set-set (set R' (place - 1) risen) place risen passed
+        ap (λ vs. set vs place passed) (set_comm R' place (place - 1) risen risen (λ e. down (sym e)))
+            ∙ set-set (set R' (place - 1) risen) place risen passed
         ∙ set_comm R' (place - 1) place risen passed down in
         let inv = inverse_swapped (set P' risen place) (set R' place risen) m.inverse place passed risen second n passed_at risen_at in
         record {
-          inverse = subst (λ vs. AreInverse vs (set (set R' place passed) (place - 1) risen)) ps (subst (AreInverse (set (set (set P' risen place) passed place) risen (place - 1))) rs inv);
+          inverse = subst (λ vs. AreInverse vs (set (set R' place passed) (place - 1) risen)) ps
+              (subst (AreInverse (set (set (set P' risen place) passed place) risen (place - 1))) rs inv);
           places =
-              sym ps ∙ places_swapped (set P' risen place) (set R' place risen) m.inverse place passed risen second n passed_at risen_at ∙ ap (map (exchanged place)) m.places
+              sym ps ∙ places_swapped (set P' risen place) (set R' place risen) m.inverse place passed risen second n passed_at risen_at
+                  ∙ ap (map (exchanged place)) m.places
               ∙ after_both P (exchanged place) (place_after place last) (place_after (place - 1) last) (after_step place last second top);
         }
 

@@ -24,41 +24,56 @@ drop_front [] ls = refl
 drop_front (k ∷ ks) ls = drop_front ks ls
 
 -- an entry that is put somewhere is one more
-put_length : {ID V P : Type 0} (cmp : P → P → Ordering) (part : V → P) (e : ID × V) (xs : List (ID × V)) → length (put_after_last cmp part e xs) ≡ length xs + 1
+put_length : {ID V P : Type 0} (cmp : P → P → Ordering) (part : V → P) (e : ID × V) (xs : List (ID × V))
+    → length (put_after_last cmp part e xs) ≡ length xs + 1
 put_length cmp part e [] = refl
 put_length {ID} {V} cmp part e (x ∷ xs) = by (list_any (λ h. is_le (cmp (part e.1) (part h.1))) (x ∷ xs)) (put_length cmp part e xs)
   where
-    by : (b : Bool) → length (put_after_last cmp part e xs) ≡ length xs + 1 → length (cond b (x ∷ put_after_last cmp part e xs) (e ∷ x ∷ xs)) ≡ length (x ∷ xs) + 1
+    by : (b : Bool) → length (put_after_last cmp part e xs) ≡ length xs + 1
+        → length (cond b (x ∷ put_after_last cmp part e xs) (e ∷ x ∷ xs)) ≡ length (x ∷ xs) + 1
     by true h = omega arith
     by false h = omega arith
 
 -- an id among the first keys rises among them alone
-risen_keys : {ID V P : Type 0} (cmp : P → P → Ordering) (part : V → P) (is_id : ID → Bool) (before es : List (ID × V)) (n k : ℕ) → n ≡ length before + k → list_any is_id (take k (keys_of es)) ≡ true → drop n (keys_of (walk_after_rise cmp part is_id before es)) ≡ drop k (keys_of es)
+risen_keys : {ID V P : Type 0} (cmp : P → P → Ordering) (part : V → P) (is_id : ID → Bool) (before es : List (ID × V)) (n k : ℕ)
+    → n ≡ length before + k → list_any is_id (take k (keys_of es)) ≡ true
+    → drop n (keys_of (walk_after_rise cmp part is_id before es)) ≡ drop k (keys_of es)
 risen_keys cmp part is_id before [] n zero same m = absurd (true≢false (sym m))
 risen_keys cmp part is_id before [] n (suc k) same m = absurd (true≢false (sym m))
 risen_keys cmp part is_id before (e ∷ es) n zero same m = absurd (true≢false (sym m))
 risen_keys {ID} {V} cmp part is_id before (e ∷ es) n (suc k) same m =
     let l = length-append before (e ∷ []) in by (is_id e.0) m (risen_keys cmp part is_id (before ++ e ∷ []) es n k (omega arith))
   where
-    by : (b : Bool) → (b || list_any is_id (take k (keys_of es))) ≡ true → (list_any is_id (take k (keys_of es)) ≡ true → drop n (keys_of (walk_after_rise cmp part is_id (before ++ e ∷ []) es)) ≡ drop k (keys_of es)) → drop n (keys_of (cond b (put_after_last cmp part e before ++ es) (walk_after_rise cmp part is_id (before ++ e ∷ []) es))) ≡ drop k (keys_of es)
+    by : (b : Bool) → (b || list_any is_id (take k (keys_of es))) ≡ true
+        → (list_any is_id (take k (keys_of es)) ≡ true
+            → drop n (keys_of (walk_after_rise cmp part is_id (before ++ e ∷ []) es)) ≡ drop k (keys_of es))
+        → drop n (keys_of (cond b (put_after_last cmp part e before ++ es) (walk_after_rise cmp part is_id (before ++ e ∷ []) es)))
+        ≡ drop k (keys_of es)
     by true h later = let l = put_length cmp part e before in drop_past (put_after_last cmp part e before) es k n (omega arith)
     by false h later = later h
 
-module _ {ID V P QS : Type 0} (eq : ID → ID → Bool) (cmp : P → P → Ordering) (part : V → P) (Left : V → V → Type 0) (old : Shown ID V P QS) (id : ID) (new : Shown ID V P QS) where
-  settled_stay : (v w : V) → IsSettled eq cmp part old id v w new → drop old.voter_count (keys_of new.walk) ≡ drop old.voter_count (keys_of old.walk)
+module _ {ID V P QS : Type 0} (eq : ID → ID → Bool) (cmp : P → P → Ordering) (part : V → P) (Left : V → V → Type 0) (old : Shown ID V P QS)
+    (id : ID) (new : Shown ID V P QS) where
+  settled_stay : (v w : V) → IsSettled eq cmp part old id v w new
+      → drop old.voter_count (keys_of new.walk) ≡ drop old.voter_count (keys_of old.walk)
   settled_stay v w s = by (rises_past_granted eq cmp part old id v w) refl
     where
       keys : keys_of (set_value (eq id) old.walk w) ≡ keys_of old.walk
       keys = keys-set_value (eq id) old.walk w
 
-      by : (b : Bool) → rises_past_granted eq cmp part old id v w ≡ b → drop old.voter_count (keys_of new.walk) ≡ drop old.voter_count (keys_of old.walk)
+      by : (b : Bool) → rises_past_granted eq cmp part old id v w ≡ b
+          → drop old.voter_count (keys_of new.walk) ≡ drop old.voter_count (keys_of old.walk)
       by true c =
-          let voter : is_member eq (take old.voter_count (keys_of (set_value (eq id) old.walk w))) id ≡ true = ap (λ ks. is_member eq (take old.voter_count ks) id) keys ∙ first_so _ _ c in
-          ap (λ (es : List (ID × V)). drop old.voter_count (keys_of es)) (s.rises c).0 ∙ risen_keys cmp part (eq id) [] (set_value (eq id) old.walk w) old.voter_count old.voter_count (omega arith) voter ∙ ap (drop old.voter_count) keys
+          let voter : is_member eq (take old.voter_count (keys_of (set_value (eq id) old.walk w))) id ≡ true =
+              ap (λ ks. is_member eq (take old.voter_count ks) id) keys ∙ first_so _ _ c in
+          ap (λ (es : List (ID × V)). drop old.voter_count (keys_of es)) (s.rises c).0
+              ∙ risen_keys cmp part (eq id) [] (set_value (eq id) old.walk w) old.voter_count old.voter_count (omega arith) voter
+              ∙ ap (drop old.voter_count) keys
       by false c = ap (λ (es : List (ID × V)). drop old.voter_count (keys_of es)) (s.stays c).0 ∙ ap (drop old.voter_count) keys
 
   -- an update moves no learner
-  pub learners_stay : IsUpdated eq cmp part Left old id new → drop new.voter_count (keys_of new.walk) ≡ drop old.voter_count (keys_of old.walk)
+  pub learners_stay : IsUpdated eq cmp part Left old id new
+      → drop new.voter_count (keys_of new.walk) ≡ drop old.voter_count (keys_of old.walk)
   learners_stay u = ap (λ n. drop n (keys_of new.walk)) u.same_voter_count ∙ by ((state eq old).value id) refl
     where
       by : (o : Option V) → (state eq old).value id ≡ o → drop old.voter_count (keys_of new.walk) ≡ drop old.voter_count (keys_of old.walk)
@@ -66,5 +81,7 @@ module _ {ID V P QS : Type 0} (eq : ID → ID → Bool) (cmp : P → P → Order
       by (Some v) h = let k = u.known v h in settled_stay v k.0 k.3
 
 -- in a new progress they stand behind the voters
-pub learners_first : {ID V P QS : Type 0} (id_cmp : ID → ID → Ordering) (learners : List ID) (made : Shown ID V P QS) → IsFirstWalk id_cmp learners made → drop made.voter_count (keys_of made.walk) ≡ learners
-learners_first id_cmp learners made f = ap (λ ks. drop made.voter_count ks) f.ids ∙ ap (λ n. drop n (f.voters ++ learners)) f.first ∙ drop_front f.voters learners
+pub learners_first : {ID V P QS : Type 0} (id_cmp : ID → ID → Ordering) (learners : List ID) (made : Shown ID V P QS)
+    → IsFirstWalk id_cmp learners made → drop made.voter_count (keys_of made.walk) ≡ learners
+learners_first id_cmp learners made f = ap (λ ks. drop made.voter_count ks) f.ids ∙ ap (λ n. drop n (f.voters ++ learners)) f.first
+    ∙ drop_front f.voters learners

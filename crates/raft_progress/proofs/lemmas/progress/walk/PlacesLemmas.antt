@@ -1,5 +1,6 @@
 -- A map that tells the places of ids.
-use Rattle.std.specs.Prelude.{◌≡◌, ℕ, ◌+◌, ◌-◌, ◌<◌, ◌≤◌, Bool, true, false, List, [], ◌∷◌, ◌++◌, length, Option, Some, None, position, slice_get}
+use Rattle.std.specs.Prelude.{◌≡◌, ℕ, ◌+◌, ◌-◌, ◌<◌, ◌≤◌, Bool, true, false, List, [], ◌∷◌, ◌++◌, length, Option, Some, None, position,
+        slice_get}
 use Rattle.std.specs.Cmp.{IsEquivalence}
 use Rattle.std.specs.Map.{keys_of, values_of}
 use Rattle.std.specs.List.{IsDistinct}
@@ -20,7 +21,8 @@ use Rattle.raft_progress.proofs.lemmas.progress.walk.MovedLemmas.{member_moved}
 use Rattle.raft_progress.proofs.lemmas.progress.walk.WalkLemmas.{lookup_absent}
 
 -- the id at a place is that of the entry there
-pub key_at : {ID V : Type 0} (es : List (ID × V)) (i : ℕ) (d : ID × V) (x : ID) → i < length es → (get_or es i d).0 ≡ get_or (keys_of es) i x
+pub key_at : {ID V : Type 0} (es : List (ID × V)) (i : ℕ) (d : ID × V) (x : ID) → i < length es
+    → (get_or es i d).0 ≡ get_or (keys_of es) i x
 key_at [] i d x l = absurd (omega arith)
 key_at (e ∷ es) zero d x l = refl
 key_at (e ∷ es) (suc i) d x l = key_at es i d x (omega arith)
@@ -30,13 +32,16 @@ keys_append [] fs = refl
 keys_append (e ∷ es) fs = ap (λ ks. e.0 ∷ ks) (keys_append es fs)
 
 -- a value that is written leaves the ids
-pub keys_rewritten : {ID V : Type 0} (es : List (ID × V)) (i : ℕ) (d : ID × V) (w : V) → keys_of (set es i ((get_or es i d).0, w)) ≡ keys_of es
+pub keys_rewritten : {ID V : Type 0} (es : List (ID × V)) (i : ℕ) (d : ID × V) (w : V)
+    → keys_of (set es i ((get_or es i d).0, w)) ≡ keys_of es
 keys_rewritten [] i d w = refl
 keys_rewritten (e ∷ es) zero d w = refl
 keys_rewritten (e ∷ es) (suc i) d w = ap (λ ks. e.0 ∷ ks) (keys_rewritten es i d w)
 
-pub keys_written : {ID V : Type 0} (es : List (ID × V)) (i : ℕ) (e : ID × V) (w : V) → slice_get es i ≡ Some e → keys_of (set es i (e.0, w)) ≡ keys_of es
-keys_written {ID} {V} es i e w h = ap (λ (f : ID × V). keys_of (set es i (f.0, w))) (sym (get_or_from_slice_get es i e e h)) ∙ keys_rewritten es i e w
+pub keys_written : {ID V : Type 0} (es : List (ID × V)) (i : ℕ) (e : ID × V) (w : V) → slice_get es i ≡ Some e
+    → keys_of (set es i (e.0, w)) ≡ keys_of es
+keys_written {ID} {V} es i e w h = ap (λ (f : ID × V). keys_of (set es i (f.0, w))) (sym (get_or_from_slice_get es i e e h))
+    ∙ keys_rewritten es i e w
 
 -- within a list the default does not matter
 pub any_default : {X : Type 0} (xs : List X) (i : ℕ) (d e : X) → i < length xs → get_or xs i d ≡ get_or xs i e
@@ -44,7 +49,8 @@ any_default [] i d e l = absurd (omega arith)
 any_default (x ∷ xs) zero d e l = refl
 any_default (x ∷ xs) (suc i) d e l = any_default xs i d e (omega arith)
 
-pub passed_length : {ID V P : Type 0} (cmp : P → P → Ordering) (part : V → P) (old : List (ID × V)) (from : ℕ) (new : List (ID × V)) (to : ℕ) → Passed cmp part old from new to → length new ≡ length old
+pub passed_length : {ID V P : Type 0} (cmp : P → P → Ordering) (part : V → P) (old : List (ID × V)) (from : ℕ) (new : List (ID × V))
+    (to : ℕ) → Passed cmp part old from new to → length new ≡ length old
 passed_length cmp part old from new to p =
     let a = length-append p.front (p.passed ++ (p.entry ∷ p.rest)) in
     let b = length-append p.passed (p.entry ∷ p.rest) in
@@ -53,11 +59,13 @@ passed_length cmp part old from new to p =
     ap length p.now ∙ omega arith ∙ sym (ap length p.was)
 
 -- what has passed nothing stands where it stood
-pub passed_nothing : {ID V P : Type 0} (cmp : P → P → Ordering) (part : V → P) (old : List (ID × V)) (from : ℕ) (new : List (ID × V)) (to : ℕ) → Passed cmp part old from new to → from ≤ to → new ≡ old
+pub passed_nothing : {ID V P : Type 0} (cmp : P → P → Ordering) (part : V → P) (old : List (ID × V)) (from : ℕ) (new : List (ID × V))
+    (to : ℕ) → Passed cmp part old from new to → from ≤ to → new ≡ old
 passed_nothing {ID} {V} cmp part old from new to p l = by p.passed refl
   where
     by : (passed : List (ID × V)) → p.passed ≡ passed → new ≡ old
-    by [] none = p.now ∙ ap (λ (es : List (ID × V)). p.front ++ (p.entry ∷ (es ++ p.rest))) none ∙ sym (p.was ∙ ap (λ (es : List (ID × V)). p.front ++ (es ++ (p.entry ∷ p.rest))) none)
+    by [] none = p.now ∙ ap (λ (es : List (ID × V)). p.front ++ (p.entry ∷ (es ++ p.rest))) none
+        ∙ sym (p.was ∙ ap (λ (es : List (ID × V)). p.front ++ (es ++ (p.entry ∷ p.rest))) none)
     by (e ∷ es) some = let q = p.now_at in let w = p.was_at in let n = ap length some in absurd (omega arith)
 
 -- where an entry has moved up: the places before it and behind it stay, its own is the new one, and those that it passed are one more
@@ -75,7 +83,8 @@ module _ (first last : ℕ) where
   after_passed k l m = grind (arith, nat_tests)
 
 module _ {ID : Type 0} {eq : ID → ID → Bool} (laws : IsEquivalence eq) where
-  differs : (ids : List ID) → IsDistinct eq ids → (i k : ℕ) (x : ID) → i < length ids → k < length ids → (i ≡ k → ⊥) → eq (get_or ids i x) (get_or ids k x) ≡ false
+  differs : (ids : List ID) → IsDistinct eq ids → (i k : ℕ) (x : ID) → i < length ids → k < length ids → (i ≡ k → ⊥)
+      → eq (get_or ids i x) (get_or ids k x) ≡ false
   differs ids d i k x l m n = by (ltb i k) refl
     where
       by : (b : Bool) → ltb i k ≡ b → eq (get_or ids i x) (get_or ids k x) ≡ false
@@ -90,7 +99,8 @@ module _ {ID : Type 0} {eq : ID → ID → Bool} (laws : IsEquivalence eq) where
           by' false t h = let u = ltb-false k i t in absurd (n (omega arith))
 
   -- the map tells what a search of the walk finds
-  pub place_is : {V : Type 0} (walk : List (ID × V)) (found : ID → Option ℕ) → TellsPlaces eq (keys_of walk) found → (id : ID) → found id ≡ position (λ (e : ID × V). eq id e.0) walk
+  pub place_is : {V : Type 0} (walk : List (ID × V)) (found : ID → Option ℕ) → TellsPlaces eq (keys_of walk) found → (id : ID)
+      → found id ≡ position (λ (e : ID × V). eq id e.0) walk
   place_is [] found t id = t.unknown id refl
   place_is {V} (e ∷ es) found t id = by (position (λ (f : ID × V). eq id f.0) (e ∷ es)) refl
     where
@@ -101,18 +111,22 @@ module _ {ID : Type 0} {eq : ID → ID → Bool} (laws : IsEquivalence eq) where
       by None h = t.unknown id (sym (is_some-lookup (eq id) (e ∷ es)) ∙ ap is_some (lookup_absent (eq id) (e ∷ es) h))
 
   -- what is told from before a move is some place, from which the move leads to the present one
-  module _ (ids : List ID) (first last : ℕ) (up : first ≤ last) (found : ID → Option ℕ) (t : TellsPlacesBefore eq ids first last found) where
-    told_before : (x : ID) (k : ℕ) → k < length ids → eq x (get_or ids k x) ≡ true → (j : ℕ) × (found x ≡ Some j) × (place_after first last j ≡ k)
+  module _ (ids : List ID) (first last : ℕ) (up : first ≤ last) (found : ID → Option ℕ)
+      (t : TellsPlacesBefore eq ids first last found) where
+    told_before : (x : ID) (k : ℕ) → k < length ids → eq x (get_or ids k x) ≡ true
+        → (j : ℕ) × (found x ≡ Some j) × (place_after first last j ≡ k)
     told_before x k l at = by (ltb k first) refl (ltb last k) refl
       where
-        within : (k : ℕ) → k < length ids → eq x (get_or ids k x) ≡ true → first ≤ k → k ≤ last → (j : ℕ) × (found x ≡ Some j) × (place_after first last j ≡ k)
+        within : (k : ℕ) → k < length ids → eq x (get_or ids k x) ≡ true → first ≤ k → k ≤ last
+            → (j : ℕ) × (found x ≡ Some j) × (place_after first last j ≡ k)
         within k l at m n = here (ltb first k) refl
           where
             here : (b : Bool) → ltb first k ≡ b → (j : ℕ) × (found x ≡ Some j) × (place_after first last j ≡ k)
             here true u =
                 let h = ltb-true first k u in
                 let same : k ≡ k - 1 + 1 = omega arith in
-                (k - 1, t.passed x (k - 1) (omega arith) (ap (λ n. eq x (get_or ids n x)) (sym same) ∙ at) (omega arith) (omega arith), after_passed first last (k - 1) (omega arith) (omega arith) ∙ sym same)
+                (k - 1, t.passed x (k - 1) (omega arith) (ap (λ n. eq x (get_or ids n x)) (sym same) ∙ at) (omega arith) (omega arith),
+                        after_passed first last (k - 1) (omega arith) (omega arith) ∙ sym same)
             here false u =
                 let h = ltb-false first k u in
                 let same : k ≡ first = omega arith in
@@ -124,14 +138,16 @@ module _ {ID : Type 0} {eq : ID → ID → Bool} (laws : IsEquivalence eq) where
         by false u false v = within k l at (ltb-false k first u) (ltb-false last k v)
 
     -- and a map that is moved along tells the present ones
-    pub tells_after : (found' : ID → Option ℕ) → ((x : ID) → found' x ≡ option_map (place_after first last) (found x)) → TellsPlaces eq ids found'
+    pub tells_after : (found' : ID → Option ℕ) → ((x : ID) → found' x ≡ option_map (place_after first last) (found x))
+        → TellsPlaces eq ids found'
     tells_after found' is = record {
       here = λ x k l at. let r = told_before x k l at in is x ∙ ap (option_map (place_after first last)) r.1 ∙ ap (λ (n : ℕ). Some n) r.2;
       unknown = λ x m. is x ∙ ap (option_map (place_after first last)) (t.unknown x m);
     }
 
   -- an entry has moved up, and the map tells the places from before
-  module _ {V : Type 0} (front passed : List (ID × V)) (e : ID × V) (rest : List (ID × V)) (found : ID → Option ℕ) (t : TellsPlaces eq (keys_of (front ++ (passed ++ (e ∷ rest)))) found) where
+  module _ {V : Type 0} (front passed : List (ID × V)) (e : ID × V) (rest : List (ID × V)) (found : ID → Option ℕ)
+      (t : TellsPlaces eq (keys_of (front ++ (passed ++ (e ∷ rest)))) found) where
     abbrev Old : List ID
     Old = keys_of (front ++ (passed ++ (e ∷ rest)))
 
@@ -157,7 +173,8 @@ module _ {ID : Type 0} {eq : ID → ID → Bool} (laws : IsEquivalence eq) where
     same_before : (k : ℕ) (x : ID) → k < length front → get_or New k x ≡ get_or Old k x
     same_before k x l =
         let m : k < length (keys_of front) = rw (length-keys_of front) l in
-        ap (λ ks. get_or ks k x) new_is ∙ get_or_append_left (keys_of front) _ x k m ∙ sym (get_or_append_left (keys_of front) _ x k m) ∙ ap (λ ks. get_or ks k x) (sym old_is)
+        ap (λ ks. get_or ks k x) new_is ∙ get_or_append_left (keys_of front) _ x k m ∙ sym (get_or_append_left (keys_of front) _ x k m)
+            ∙ ap (λ ks. get_or ks k x) (sym old_is)
 
     same_behind : (k : ℕ) (x : ID) → length front + length passed + 1 ≤ k → get_or New k x ≡ get_or Old k x
     same_behind k x l =
@@ -166,8 +183,12 @@ module _ {ID : Type 0} {eq : ID → ID → Bool} (laws : IsEquivalence eq) where
         let p = length-keys_of passed in
         let to_new : k ≡ length (keys_of front) + suc (length (keys_of passed) + j) = omega arith in
         let to_old : k ≡ length (keys_of front) + (length (keys_of passed) + suc j) = omega arith in
-        ap (λ ks. get_or ks k x) new_is ∙ ap (λ n. get_or (keys_of front ++ (e.0 ∷ (keys_of passed ++ keys_of rest))) n x) to_new ∙ get_or-append-add (keys_of front) (e.0 ∷ (keys_of passed ++ keys_of rest)) (suc (length (keys_of passed) + j)) x ∙ get_or-append-add (keys_of passed) (keys_of rest) j x
-        ∙ sym (ap (λ ks. get_or ks k x) old_is ∙ ap (λ n. get_or (keys_of front ++ (keys_of passed ++ (e.0 ∷ keys_of rest))) n x) to_old ∙ get_or-append-add (keys_of front) (keys_of passed ++ (e.0 ∷ keys_of rest)) (length (keys_of passed) + suc j) x ∙ get_or-append-add (keys_of passed) (e.0 ∷ keys_of rest) (suc j) x)
+        ap (λ ks. get_or ks k x) new_is ∙ ap (λ n. get_or (keys_of front ++ (e.0 ∷ (keys_of passed ++ keys_of rest))) n x) to_new
+            ∙ get_or-append-add (keys_of front) (e.0 ∷ (keys_of passed ++ keys_of rest)) (suc (length (keys_of passed) + j)) x
+            ∙ get_or-append-add (keys_of passed) (keys_of rest) j x
+        ∙ sym (ap (λ ks. get_or ks k x) old_is ∙ ap (λ n. get_or (keys_of front ++ (keys_of passed ++ (e.0 ∷ keys_of rest))) n x) to_old
+                ∙ get_or-append-add (keys_of front) (keys_of passed ++ (e.0 ∷ keys_of rest)) (length (keys_of passed) + suc j) x
+                ∙ get_or-append-add (keys_of passed) (e.0 ∷ keys_of rest) (suc j) x)
 
     same_moved : (x : ID) → get_or New (length front) x ≡ get_or Old (length front + length passed) x
     same_moved x =
@@ -175,8 +196,13 @@ module _ {ID : Type 0} {eq : ID → ID → Bool} (laws : IsEquivalence eq) where
         let p = length-keys_of passed in
         let to_new : length front ≡ length (keys_of front) + 0 = omega arith in
         let to_old : length front + length passed ≡ length (keys_of front) + (length (keys_of passed) + 0) = omega arith in
-        ap (λ ks. get_or ks (length front) x) new_is ∙ ap (λ n. get_or (keys_of front ++ (e.0 ∷ (keys_of passed ++ keys_of rest))) n x) to_new ∙ get_or-append-add (keys_of front) (e.0 ∷ (keys_of passed ++ keys_of rest)) 0 x
-        ∙ sym (ap (λ ks. get_or ks (length front + length passed) x) old_is ∙ ap (λ n. get_or (keys_of front ++ (keys_of passed ++ (e.0 ∷ keys_of rest))) n x) to_old ∙ get_or-append-add (keys_of front) (keys_of passed ++ (e.0 ∷ keys_of rest)) (length (keys_of passed) + 0) x ∙ get_or-append-add (keys_of passed) (e.0 ∷ keys_of rest) 0 x)
+        ap (λ ks. get_or ks (length front) x) new_is
+            ∙ ap (λ n. get_or (keys_of front ++ (e.0 ∷ (keys_of passed ++ keys_of rest))) n x) to_new
+            ∙ get_or-append-add (keys_of front) (e.0 ∷ (keys_of passed ++ keys_of rest)) 0 x
+        ∙ sym (ap (λ ks. get_or ks (length front + length passed) x) old_is
+                ∙ ap (λ n. get_or (keys_of front ++ (keys_of passed ++ (e.0 ∷ keys_of rest))) n x) to_old
+                ∙ get_or-append-add (keys_of front) (keys_of passed ++ (e.0 ∷ keys_of rest)) (length (keys_of passed) + 0) x
+                ∙ get_or-append-add (keys_of passed) (e.0 ∷ keys_of rest) 0 x)
 
     same_passed : (k : ℕ) (x : ID) → length front ≤ k → k < length front + length passed → get_or New (k + 1) x ≡ get_or Old k x
     same_passed k x l m =
@@ -186,14 +212,19 @@ module _ {ID : Type 0} {eq : ID → ID → Bool} (laws : IsEquivalence eq) where
         let near : j < length (keys_of passed) = omega arith in
         let to_new : k + 1 ≡ length (keys_of front) + suc j = omega arith in
         let to_old : k ≡ length (keys_of front) + j = omega arith in
-        ap (λ ks. get_or ks (k + 1) x) new_is ∙ ap (λ n. get_or (keys_of front ++ (e.0 ∷ (keys_of passed ++ keys_of rest))) n x) to_new ∙ get_or-append-add (keys_of front) (e.0 ∷ (keys_of passed ++ keys_of rest)) (suc j) x ∙ get_or_append_left (keys_of passed) (keys_of rest) x j near
-        ∙ sym (ap (λ ks. get_or ks k x) old_is ∙ ap (λ n. get_or (keys_of front ++ (keys_of passed ++ (e.0 ∷ keys_of rest))) n x) to_old ∙ get_or-append-add (keys_of front) (keys_of passed ++ (e.0 ∷ keys_of rest)) j x ∙ get_or_append_left (keys_of passed) (e.0 ∷ keys_of rest) x j near)
+        ap (λ ks. get_or ks (k + 1) x) new_is ∙ ap (λ n. get_or (keys_of front ++ (e.0 ∷ (keys_of passed ++ keys_of rest))) n x) to_new
+            ∙ get_or-append-add (keys_of front) (e.0 ∷ (keys_of passed ++ keys_of rest)) (suc j) x
+            ∙ get_or_append_left (keys_of passed) (keys_of rest) x j near
+        ∙ sym (ap (λ ks. get_or ks k x) old_is ∙ ap (λ n. get_or (keys_of front ++ (keys_of passed ++ (e.0 ∷ keys_of rest))) n x) to_old
+                ∙ get_or-append-add (keys_of front) (keys_of passed ++ (e.0 ∷ keys_of rest)) j x
+                ∙ get_or_append_left (keys_of passed) (e.0 ∷ keys_of rest) x j near)
 
     pub before_move : TellsPlacesBefore eq New (length front) (length front + length passed) found
     before_move =
         let a = length-append (keys_of front) (keys_of passed ++ (e.0 ∷ keys_of rest)) in
         let b = length-append (keys_of passed) (e.0 ∷ keys_of rest) in
-        let n : length Old ≡ length (keys_of front) + (length (keys_of passed) + suc (length (keys_of rest))) = ap length old_is ∙ omega arith in
+        let n : length Old ≡ length (keys_of front) + (length (keys_of passed) + suc (length (keys_of rest))) =
+            ap length old_is ∙ omega arith in
         let f = length-keys_of front in
         let p = length-keys_of passed in
         record {
@@ -204,20 +235,26 @@ module _ {ID : Type 0} {eq : ID → ID → Bool} (laws : IsEquivalence eq) where
           unknown = λ x m. t.unknown x (sym (member_moved laws front passed e rest x) ∙ m);
         }
 
-  pub before_passed : {V P : Type 0} (cmp : P → P → Ordering) (part : V → P) (old : List (ID × V)) (from : ℕ) (new : List (ID × V)) (to : ℕ) → Passed cmp part old from new to → (found : ID → Option ℕ) → TellsPlaces eq (keys_of old) found → TellsPlacesBefore eq (keys_of new) to from found
+  pub before_passed : {V P : Type 0} (cmp : P → P → Ordering) (part : V → P) (old : List (ID × V)) (from : ℕ) (new : List (ID × V)) (to : ℕ)
+      → Passed cmp part old from new to → (found : ID → Option ℕ) → TellsPlaces eq (keys_of old) found
+      → TellsPlacesBefore eq (keys_of new) to from found
   before_passed {V} {P} cmp part old from new to p found t =
-      let b = before_move p.front p.passed p.entry p.rest found (subst (λ (es : List (ID × V)). TellsPlaces eq (keys_of es) found) p.was t) in
+      let b = before_move p.front p.passed p.entry p.rest found
+          (subst (λ (es : List (ID × V)). TellsPlaces eq (keys_of es) found) p.was t) in
       subst (λ (es : List (ID × V)). TellsPlacesBefore eq (keys_of es) to from found) (sym p.now)
       (subst (λ (n : ℕ). TellsPlacesBefore eq (keys_of (p.front ++ (p.entry ∷ (p.passed ++ p.rest)))) n from found) p.now_at
       (subst (λ (n : ℕ). TellsPlacesBefore eq (keys_of (p.front ++ (p.entry ∷ (p.passed ++ p.rest)))) (length p.front) n found) p.was_at b))
 
   -- the same ids, and a map that tells the same
-  pub tells_alike : (ids ids' : List ID) (found found' : ID → Option ℕ) → ids' ≡ ids → ((x : ID) → found' x ≡ found x) → TellsPlaces eq ids found → TellsPlaces eq ids' found'
+  pub tells_alike : (ids ids' : List ID) (found found' : ID → Option ℕ) → ids' ≡ ids → ((x : ID) → found' x ≡ found x)
+      → TellsPlaces eq ids found → TellsPlaces eq ids' found'
   tells_alike ids ids' found found' same is t =
-      subst (λ (ks : List ID). TellsPlaces eq ks found') (sym same) record { here = λ x k l h. is x ∙ t.here x k l h; unknown = λ x m. is x ∙ t.unknown x m }
+      subst (λ (ks : List ID). TellsPlaces eq ks found') (sym same) record
+          { here = λ x k l h. is x ∙ t.here x k l h; unknown = λ x m. is x ∙ t.unknown x m }
 
   -- each place that is told has a rank
-  pub place_ranked : (es : List (ID × ℕ)) (ranks : List ℕ) → AreInverse (values_of es) ranks → (ids : List ID) (k : ℕ) → k < length ids → TellsPlaces eq ids (place_in eq es) → k < length ranks
+  pub place_ranked : (es : List (ID × ℕ)) (ranks : List ℕ) → AreInverse (values_of es) ranks → (ids : List ID) (k : ℕ) → k < length ids
+      → TellsPlaces eq ids (place_in eq es) → k < length ranks
   place_ranked es ranks a [] k l t = absurd (omega arith)
   place_ranked es ranks a (i ∷ ids) k l t =
       let x = get_or (i ∷ ids) k i in

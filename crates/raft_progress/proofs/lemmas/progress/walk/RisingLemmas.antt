@@ -3,7 +3,8 @@ use Rattle.std.specs.Prelude.{◌≡◌, ℕ, ◌+◌, ◌-◌, ◌<◌, ◌≤�
 use Rattle.std.specs.declared.cmp.Ordering.{Ordering}
 use Rattle.std.specs.Ordering.{is_lt}
 use Rattle.std.specs.List.{swap}
-use Rattle.std.proofs.Common.{arith, sym, ap, refl, ◌∙◌, true≢false, get_or, set, suc, zero, append_assoc, add-one, ltb, ltb-true, ltb-false}
+use Rattle.std.proofs.Common.{arith, sym, ap, refl, ◌∙◌, true≢false, get_or, set, suc, zero, append_assoc, add-one, ltb, ltb-true,
+        ltb-false}
 use Rattle.std.specs.List.{prefix_len}
 use Rattle.std.proofs.lemmas.List.Sums.{prefix_len_passes, prefix_len_stops}
 use Rattle.std.proofs.lemmas.List.Edits.{swap_is}
@@ -33,19 +34,24 @@ length_less : {X : Type 0} (xs : List X) (x : X) (ys : List X) → length xs < l
 length_less [] x ys = omega arith
 length_less (k ∷ ks) x ys = let h = length_less ks x ys in omega arith
 
-swap_neighbours : {X : Type 0} (xs : List X) (f e : X) (ys : List X) → swap (xs ++ f ∷ e ∷ ys) (length xs) (suc (length xs)) ≡ xs ++ e ∷ f ∷ ys
+swap_neighbours : {X : Type 0} (xs : List X) (f e : X) (ys : List X)
+    → swap (xs ++ f ∷ e ∷ ys) (length xs) (suc (length xs)) ≡ xs ++ e ∷ f ∷ ys
 swap_neighbours {X} xs f e ys =
     let zs : List X = xs ++ f ∷ e ∷ ys in
     let assoc : (a b : X) → (xs ++ a ∷ []) ++ b ∷ ys ≡ xs ++ a ∷ b ∷ ys = λ a b. append_assoc xs (a ∷ []) (b ∷ ys) in
     let ga : get_or zs (length xs) f ≡ f = get_at xs f (e ∷ ys) f in
     let gb : get_or zs (suc (length xs)) f ≡ e =
-    ap (λ l. get_or l (suc (length xs)) f) (sym (assoc f e)) ∙ ap (λ n. get_or ((xs ++ f ∷ []) ++ e ∷ ys) n f) (sym (length_more xs f)) ∙ get_at (xs ++ f ∷ []) e ys f in
+    ap (λ l. get_or l (suc (length xs)) f) (sym (assoc f e)) ∙ ap (λ n. get_or ((xs ++ f ∷ []) ++ e ∷ ys) n f) (sym (length_more xs f))
+        ∙ get_at (xs ++ f ∷ []) e ys f in
     let s1 : set zs (length xs) e ≡ xs ++ e ∷ e ∷ ys = set_at xs f e (e ∷ ys) in
     let s2 : set (xs ++ e ∷ e ∷ ys) (suc (length xs)) f ≡ xs ++ e ∷ f ∷ ys =
-    ap (λ l. set l (suc (length xs)) f) (sym (assoc e e)) ∙ ap (λ n. set ((xs ++ e ∷ []) ++ e ∷ ys) n f) (sym (length_more xs e)) ∙ set_at (xs ++ e ∷ []) e f ys ∙ assoc e f in
+    ap (λ l. set l (suc (length xs)) f) (sym (assoc e e)) ∙ ap (λ n. set ((xs ++ e ∷ []) ++ e ∷ ys) n f) (sym (length_more xs e))
+        ∙ set_at (xs ++ e ∷ []) e f ys ∙ assoc e f in
     let la : length xs < length zs = length_less xs f (e ∷ ys) in
     let lb : suc (length xs) < length zs = rw (← length_more xs f, ← assoc f e) (length_less (xs ++ f ∷ []) e ys) in
-    sym (swap_is zs (length xs) (suc (length xs)) f la lb) ∙ ap (λ w. set (set zs (length xs) w) (suc (length xs)) (get_or zs (length xs) f)) gb ∙ ap (λ w. set (set zs (length xs) e) (suc (length xs)) w) ga ∙ ap (λ l. set l (suc (length xs)) f) s1 ∙ s2
+    sym (swap_is zs (length xs) (suc (length xs)) f la lb)
+        ∙ ap (λ w. set (set zs (length xs) w) (suc (length xs)) (get_or zs (length xs) f)) gb
+        ∙ ap (λ w. set (set zs (length xs) e) (suc (length xs)) w) ga ∙ ap (λ l. set l (suc (length xs)) f) s1 ∙ s2
 
 pub record LastSplit {X : Type 0} (xs : List X) (n : ℕ) : Type 0 where
   pub init : List X
@@ -62,7 +68,8 @@ last_split (x ∷ y ∷ ys) (suc n) l =
     record { init = x ∷ r.init; last = r.last; is = ap (λ zs. x ∷ zs) r.is; init_length = ap suc r.init_length }
 
 -- the elements on both sides of a cut have changed places
-pub swap_at_cut : {X : Type 0} (front back : List X) (n : ℕ) (d e : X) → 0 < n → length front ≡ n → 0 < length back → set front (n - 1) (get_or back 0 e) ++ set back 0 (get_or front (n - 1) d) ≡ swap (front ++ back) (n - 1) n
+pub swap_at_cut : {X : Type 0} (front back : List X) (n : ℕ) (d e : X) → 0 < n → length front ≡ n → 0 < length back
+    → set front (n - 1) (get_or back 0 e) ++ set back 0 (get_or front (n - 1) d) ≡ swap (front ++ back) (n - 1) n
 swap_at_cut front [] n d e some l more = absurd (omega arith)
 swap_at_cut front (b ∷ bs) n d e some l more =
     let s = last_split front (n - 1) (omega arith) in
@@ -72,8 +79,11 @@ swap_at_cut front (b ∷ bs) n d e some l more =
     ap (λ xs. set xs (n - 1) b) s.is ∙ ap (λ k. set (s.init ++ s.last ∷ []) k b) (sym s.init_length) ∙ set_at s.init s.last b [] in
     let next : n ≡ suc (length s.init) = let h = s.init_length in omega arith in
     let swapped : swap (front ++ b ∷ bs) (n - 1) n ≡ s.init ++ b ∷ s.last ∷ bs =
-    ap (λ xs. swap (xs ++ b ∷ bs) (n - 1) n) s.is ∙ ap (λ xs. swap xs (n - 1) n) (append_assoc s.init (s.last ∷ []) (b ∷ bs)) ∙ ap (λ k. swap (s.init ++ s.last ∷ b ∷ bs) k n) (sym s.init_length) ∙ ap (λ k. swap (s.init ++ s.last ∷ b ∷ bs) (length s.init) k) next ∙ swap_neighbours s.init s.last b bs in
-    ap (λ xs. xs ++ get_or front (n - 1) d ∷ bs) front_is ∙ append_assoc s.init (b ∷ []) (get_or front (n - 1) d ∷ bs) ∙ ap (λ x. s.init ++ b ∷ x ∷ bs) last_is ∙ sym swapped
+    ap (λ xs. swap (xs ++ b ∷ bs) (n - 1) n) s.is ∙ ap (λ xs. swap xs (n - 1) n) (append_assoc s.init (s.last ∷ []) (b ∷ bs))
+        ∙ ap (λ k. swap (s.init ++ s.last ∷ b ∷ bs) k n) (sym s.init_length)
+        ∙ ap (λ k. swap (s.init ++ s.last ∷ b ∷ bs) (length s.init) k) next ∙ swap_neighbours s.init s.last b bs in
+    ap (λ xs. xs ++ get_or front (n - 1) d ∷ bs) front_is ∙ append_assoc s.init (b ∷ []) (get_or front (n - 1) d ∷ bs)
+        ∙ ap (λ x. s.init ++ b ∷ x ∷ bs) last_is ∙ sym swapped
 
 pub record SplitAt {X : Type 0} (xs : List X) (n : ℕ) : Type 0 where
   pub front : List X
@@ -90,7 +100,8 @@ split_at (x ∷ xs) (suc n) l =
     record { front = x ∷ r.front; entry = r.entry; rest = r.rest; is = ap (λ zs. x ∷ zs) r.is; front_length = ap suc r.front_length }
 
 module _ {ID V P : Type 0} (cmp : P → P → Ordering) (part : V → P) where
-  last_from_get : (p : P) (xs : List (ID × V)) (n : ℕ) (d : ID × V) → length xs ≡ suc n → AtMost cmp p (part (get_or xs n d).1) → LastAtLeast cmp part p xs
+  last_from_get : (p : P) (xs : List (ID × V)) (n : ℕ) (d : ID × V) → length xs ≡ suc n → AtMost cmp p (part (get_or xs n d).1)
+      → LastAtLeast cmp part p xs
   last_from_get p [] n d l h = tt
   last_from_get p (x ∷ []) zero d l h = h
   last_from_get p (x ∷ []) (suc n) d l h = absurd (omega arith)
@@ -105,41 +116,58 @@ module _ {ID V P : Type 0} (cmp : P → P → Ordering) (part : V → P) where
   pub passed_none : (xs : List (ID × V)) (n : ℕ) → n < length xs → Passed cmp part xs n xs n
   passed_none xs n l =
       let s = split_at xs n l in
-      record { front = s.front; passed = []; entry = s.entry; rest = s.rest; was = s.is; was_at = omega (arith, s.front_length); now = s.is; now_at = s.front_length; lesser = tt }
+      record { front = s.front; passed = []; entry = s.entry; rest = s.rest; was = s.is; was_at = omega (arith, s.front_length); now = s.is;
+              now_at = s.front_length; lesser = tt }
 
   module _ (old : List (ID × V)) (from : ℕ) (now : List (ID × V)) (at : ℕ) (r : Passed cmp part old from now (at + 1)) where
     here : (d : ID × V) → get_or now (at + 1) d ≡ r.entry
-    here d = ap (λ xs. get_or xs (at + 1) d) r.now ∙ ap (λ n. get_or (r.front ++ (r.entry ∷ (r.passed ++ r.rest))) n d) (sym r.now_at) ∙ get_at r.front r.entry (r.passed ++ r.rest) d
+    here d = ap (λ xs. get_or xs (at + 1) d) r.now ∙ ap (λ n. get_or (r.front ++ (r.entry ∷ (r.passed ++ r.rest))) n d) (sym r.now_at)
+        ∙ get_at r.front r.entry (r.passed ++ r.rest) d
 
     before : (d : ID × V) → get_or now at d ≡ get_or r.front at d
-    before d = let l : at < length r.front = rw r.now_at (omega arith) in ap (λ xs. get_or xs at d) r.now ∙ get_front r.front (r.entry ∷ (r.passed ++ r.rest)) at d l
+    before d = let l : at < length r.front = rw r.now_at (omega arith) in
+        ap (λ xs. get_or xs at d) r.now ∙ get_front r.front (r.entry ∷ (r.passed ++ r.rest)) at d l
 
     -- one entry more has been passed
-    pub passed_more : (next : List (ID × V)) → next ≡ swap now at (at + 1) → ((d : ID × V) → is_lt (cmp (part (get_or now at d).1) (part (get_or now (at + 1) d).1)) ≡ true) → Passed cmp part old from next at
+    pub passed_more : (next : List (ID × V)) → next ≡ swap now at (at + 1)
+        → ((d : ID × V) → is_lt (cmp (part (get_or now at d).1) (part (get_or now (at + 1) d).1)) ≡ true) → Passed cmp part old from next at
     passed_more next is less =
         let s = last_split r.front at (r.now_at ∙ add-one at) in
-        let now_is : now ≡ s.init ++ s.last ∷ r.entry ∷ (r.passed ++ r.rest) = r.now ∙ ap (λ xs. xs ++ (r.entry ∷ (r.passed ++ r.rest))) s.is ∙ append_assoc s.init (s.last ∷ []) (r.entry ∷ (r.passed ++ r.rest)) in
-        let last_is : get_or now at s.last ≡ s.last = ap (λ xs. get_or xs at s.last) now_is ∙ ap (λ n. get_or (s.init ++ s.last ∷ r.entry ∷ (r.passed ++ r.rest)) n s.last) (sym s.init_length) ∙ get_at s.init s.last (r.entry ∷ (r.passed ++ r.rest)) s.last in
+        let now_is : now ≡ s.init ++ s.last ∷ r.entry ∷ (r.passed ++ r.rest) =
+            r.now ∙ ap (λ xs. xs ++ (r.entry ∷ (r.passed ++ r.rest))) s.is
+            ∙ append_assoc s.init (s.last ∷ []) (r.entry ∷ (r.passed ++ r.rest)) in
+        let last_is : get_or now at s.last ≡ s.last =
+            ap (λ xs. get_or xs at s.last) now_is ∙ ap (λ n. get_or (s.init ++ s.last ∷ r.entry ∷ (r.passed ++ r.rest)) n s.last)
+            (sym s.init_length) ∙ get_at s.init s.last (r.entry ∷ (r.passed ++ r.rest)) s.last in
         record {
           front = s.init;
           passed = s.last ∷ r.passed;
           entry = r.entry;
           rest = r.rest;
-          was = r.was ∙ ap (λ xs. xs ++ (r.passed ++ (r.entry ∷ r.rest))) s.is ∙ append_assoc s.init (s.last ∷ []) (r.passed ++ (r.entry ∷ r.rest));
+          was = r.was ∙ ap (λ xs. xs ++ (r.passed ++ (r.entry ∷ r.rest))) s.is
+              ∙ append_assoc s.init (s.last ∷ []) (r.passed ++ (r.entry ∷ r.rest));
           was_at = omega (arith, s.init_length, r.now_at, r.was_at);
-          now = is ∙ ap (λ xs. swap xs at (at + 1)) now_is ∙ ap (λ n. swap (s.init ++ s.last ∷ r.entry ∷ (r.passed ++ r.rest)) n (n + 1)) (sym s.init_length) ∙ ap (λ n. swap (s.init ++ s.last ∷ r.entry ∷ (r.passed ++ r.rest)) (length s.init) n) (add-one (length s.init)) ∙ swap_neighbours s.init s.last r.entry (r.passed ++ r.rest);
+          now = is ∙ ap (λ xs. swap xs at (at + 1)) now_is
+              ∙ ap (λ n. swap (s.init ++ s.last ∷ r.entry ∷ (r.passed ++ r.rest)) n (n + 1)) (sym s.init_length)
+              ∙ ap (λ n. swap (s.init ++ s.last ∷ r.entry ∷ (r.passed ++ r.rest)) (length s.init) n) (add-one (length s.init))
+              ∙ swap_neighbours s.init s.last r.entry (r.passed ++ r.rest);
           now_at = s.init_length;
-          lesser = (ap (λ e. is_lt (cmp (part e.1) (part r.entry.1))) (sym last_is) ∙ ap (λ e. is_lt (cmp (part (get_or now at s.last).1) (part e.1))) (sym (here s.last)) ∙ less s.last, r.lesser);
+          lesser = (ap (λ e. is_lt (cmp (part e.1) (part r.entry.1))) (sym last_is)
+                  ∙ ap (λ e. is_lt (cmp (part (get_or now at s.last).1) (part e.1))) (sym (here s.last)) ∙ less s.last, r.lesser);
         }
 
-    pub rises_stop : IsTotalOrder cmp → ((d : ID × V) → is_lt (cmp (part (get_or now at d).1) (part (get_or now (at + 1) d).1)) ≡ false) → RisesTo cmp part old from now (at + 1)
+    pub rises_stop : IsTotalOrder cmp → ((d : ID × V) → is_lt (cmp (part (get_or now at d).1) (part (get_or now (at + 1) d).1)) ≡ false)
+        → RisesTo cmp part old from now (at + 1)
     rises_stop o not_less = record {
       passes = r;
       stops = last_from_get (part r.entry.1) r.front at r.entry (r.now_at ∙ add-one at)
-          (AtMost-from_not_lt o (part (get_or r.front at r.entry).1) (part r.entry.1) (ap (λ e. is_lt (cmp (part e.1) (part r.entry.1))) (sym (before r.entry)) ∙ ap (λ e. is_lt (cmp (part (get_or now at r.entry).1) (part e.1))) (sym (here r.entry)) ∙ not_less r.entry));
+          (AtMost-from_not_lt o (part (get_or r.front at r.entry).1) (part r.entry.1)
+                  (ap (λ e. is_lt (cmp (part e.1) (part r.entry.1))) (sym (before r.entry))
+                  ∙ ap (λ e. is_lt (cmp (part (get_or now at r.entry).1) (part e.1))) (sym (here r.entry)) ∙ not_less r.entry));
     }
 
-  pub rises_front : (old : List (ID × V)) (from : ℕ) (now : List (ID × V)) → Passed cmp part old from now 0 → RisesTo cmp part old from now 0
+  pub rises_front : (old : List (ID × V)) (from : ℕ) (now : List (ID × V)) → Passed cmp part old from now 0
+      → RisesTo cmp part old from now 0
   rises_front old from now r = record { passes = r; stops = none_last r.front r.now_at }
     where
       none_last : (xs : List (ID × V)) → length xs ≡ 0 → LastAtLeast cmp part (part r.entry.1) xs
@@ -147,7 +175,8 @@ module _ {ID V P : Type 0} (cmp : P → P → Ordering) (part : V → P) where
       none_last (x ∷ xs) l = absurd (omega arith)
 
 -- where a prefix ends
-module _ {X : Type 0} (p : X → Bool) (xs : List X) (n : ℕ) (d x : X) (far : n ≤ prefix_len p xs) (l : n < length xs) (is : x ≡ get_or xs n d) where
+module _ {X : Type 0} (p : X → Bool) (xs : List X) (n : ℕ) (d x : X) (far : n ≤ prefix_len p xs) (l : n < length xs)
+    (is : x ≡ get_or xs n d) where
   pub prefix_ends : p x ≡ false → n ≡ prefix_len p xs
   prefix_ends h = by (ltb n (prefix_len p xs)) refl
     where

@@ -31,7 +31,9 @@ lead_ends {X} p (x ∷ xs) (suc n) d fails = by (p x) (lead_ends p xs n d fails)
     by false h = omega arith
     by true h = omega arith
 
-module _ {ID V P QS : Type 0} {eq : ID → ID → Bool} (laws : IsEquivalence eq) (cmp : P → P → Ordering) (part : V → P) (has_quorum : QS → (ID → Bool) → Bool) (old : Shown ID V P QS) (distinct : IsDistinct eq (keys_of (take old.voter_count old.walk))) (size : ℕ) (least : QuorumsHaveAtLeast eq (has_quorum old.quorum_set) size) (place low : ℕ) (is : low ≡ max (size - 1) place) where
+module _ {ID V P QS : Type 0} {eq : ID → ID → Bool} (laws : IsEquivalence eq) (cmp : P → P → Ordering) (part : V → P)
+    (has_quorum : QS → (ID → Bool) → Bool) (old : Shown ID V P QS) (distinct : IsDistinct eq (keys_of (take old.voter_count old.walk)))
+    (size : ℕ) (least : QuorumsHaveAtLeast eq (has_quorum old.quorum_set) size) (place low : ℕ) (is : low ≡ max (size - 1) place) where
   -- a front with fewer ids than each quorum is none
   short_fails : (k : ℕ) → k < size → front_test eq (has_quorum old.quorum_set) (take old.voter_count old.walk) k ≡ false
   short_fails k l = by (front_test eq (has_quorum old.quorum_set) voters k) refl
@@ -67,12 +69,15 @@ module _ {ID V P QS : Type 0} {eq : ID → ID → Bool} (laws : IsEquivalence eq
     rises = s.rises;
   }
     where
-      by : {Q : Type 0} (k : ℕ) → place < k → (low < k → Q → front_test eq (has_quorum old.quorum_set) (take old.voter_count old.walk) k ≡ false) → (low < k → Q) → (b : Bool) → ltb low k ≡ b → front_test eq (has_quorum old.quorum_set) (take old.voter_count old.walk) k ≡ false
+      by : {Q : Type 0} (k : ℕ) → place < k
+          → (low < k → Q → front_test eq (has_quorum old.quorum_set) (take old.voter_count old.walk) k ≡ false) → (low < k → Q) → (b : Bool)
+          → ltb low k ≡ b → front_test eq (has_quorum old.quorum_set) (take old.voter_count old.walk) k ≡ false
       by k l h q true t = h (ltb-true low k t) (q (ltb-true low k t))
       by k l h q false t = let m = ltb-false low k t in short_fails k (omega arith)
 
   -- where no front past `low` has parts that all exceed granted, none past the place is a quorum
-  pub not_scanned : prefix_len (exceeds cmp part old.granted) (take old.voter_count old.walk) ≤ low → old.stat.is_quorum_count < 2 ^ 64 → IsScanned eq cmp part has_quorum old place old
+  pub not_scanned : prefix_len (exceeds cmp part old.granted) (take old.voter_count old.walk) ≤ low → old.stat.is_quorum_count < 2 ^ 64
+      → IsScanned eq cmp part has_quorum old place old
   not_scanned ends fits = record {
     group = record { quorum_set = refl; voter_count = refl; default_part = refl; updates = refl };
     same_walk = refl;

@@ -13,7 +13,8 @@ module _ {ID V : Type 0} (eq : ID → ID → Bool) (id : ID) (n i : ℕ) where
   at_some [] h = cc
   at_some (e ∷ es) h = e
 
-  pub member_place : (walk : List (ID × V)) → position (λ (f : ID × V). eq id f.0) walk ≡ Some i → is_member eq (take n (keys_of walk)) id ≡ nat_lt i n
+  pub member_place : (walk : List (ID × V)) → position (λ (f : ID × V). eq id f.0) walk ≡ Some i
+      → is_member eq (take n (keys_of walk)) id ≡ nat_lt i n
   member_place walk at = by (ltb i n) refl
     where
       d : ID × V

@@ -21,11 +21,13 @@ loop-rank-2-preserved g c =
     let w : length R ≡ length (values_of es) = c.loop-rank-2.invariant.one_length ∙ sym n in
     record {
       one_length = length-set R _ rank ∙ c.loop-rank-2.invariant.one_length;
-      written = λ r l. ap (λ p. get_or (set R p rank) (get_or (values_of es) r 0) 0) e ∙ ranks_more (values_of es) c.requires R rank w (omega arith) c.loop-rank-2.invariant.written r l;
+      written = λ r l. ap (λ p. get_or (set R p rank) (get_or (values_of es) r 0) 0) e
+          ∙ ranks_more (values_of es) c.requires R rank w (omega arith) c.loop-rank-2.invariant.written r l;
     }
 
 pub returns : goal.returns
 returns g c =
     let es = c.args.entries.now in
     let n = length-map es (λ e. e.1) in
-    ranks_all (values_of es) c.requires c.loop-rank-2.ranks.items (c.loop-rank-2.invariant.one_length ∙ sym n) (λ r l. c.loop-rank-2.invariant.written r (omega arith))
+    ranks_all (values_of es) c.requires c.loop-rank-2.ranks.items (c.loop-rank-2.invariant.one_length ∙ sym n)
+        (λ r l. c.loop-rank-2.invariant.written r (omega arith))

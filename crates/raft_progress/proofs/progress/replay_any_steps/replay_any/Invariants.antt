@@ -15,5 +15,6 @@ invariant-loop-step g l =
       ordered : IsInOrder by.eq by.cmp by.part g.QS.QuorumSet.has_quorum (shown l.progress);
       left : l.yielded ++ into_iter_items l.step-iterator ≡ l.fn.steps.items;
       room : vec_len l.replies + length (into_iter_items l.step-iterator) ≤ vec_capacity l.replies;
-      run : IsShownRun by g.QS.QuorumSet.has_quorum g.QS.QuorumSet.is_voter (shown l.fn.progress) l.yielded l.replies.items (shown l.progress);
+      run : IsShownRun by g.QS.QuorumSet.has_quorum g.QS.QuorumSet.is_voter (shown l.fn.progress) l.yielded l.replies.items
+          (shown l.progress);
     }

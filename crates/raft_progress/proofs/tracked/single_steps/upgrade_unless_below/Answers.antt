@@ -13,10 +13,14 @@ use Rattle.raft_progress.proofs.lemmas.progress.UpdateLemmas.{IsSame-refl}
 use Rattle.raft_progress.proofs.tracked.single_steps.upgrade_unless_below.Goals as goal
 
 pub upgrade_quorum_set-requires-clause-learners_fit : goal.upgrade_quorum_set-requires-clause-learners_fit
-upgrade_quorum_set-requires-clause-learners_fit g c = learners_of_fit g.NID.PartialEq.eq (members_of g.NID.Ord.cmp c.args.next) c.args.configs c.args.learners.now c.requires.voters c.requires.are_learners
+upgrade_quorum_set-requires-clause-learners_fit g c =
+    learners_of_fit g.NID.PartialEq.eq (members_of g.NID.Ord.cmp c.args.next) c.args.configs c.args.learners.now c.requires.voters
+    c.requires.are_learners
 
 pub upgrade_quorum_set-requires-clause-ordered : goal.upgrade_quorum_set-requires-clause-ordered
-upgrade_quorum_set-requires-clause-ordered g c = (ready_of g.met.NID.Eq.laws g.NID.Ord.cmp g.met.P.Ord.total g.V.ProgressPart.part_of (Coded-set (coded_list (coded_list g.row.NID.coded))) (tracked c.args.cluster.now) c.args.cluster.now.ready).ordered
+upgrade_quorum_set-requires-clause-ordered g c =
+    (ready_of g.met.NID.Eq.laws g.NID.Ord.cmp g.met.P.Ord.total g.V.ProgressPart.part_of
+        (Coded-set (coded_list (coded_list g.row.NID.coded))) (tracked c.args.cluster.now) c.args.cluster.now.ready).ordered
 
 pub returns-in-Some-clause-step : goal.returns-in-Some-clause-step
 returns-in-Some-clause-step g c = record {
@@ -28,7 +32,8 @@ returns-in-Some-clause-step g c = record {
       c.requires.configs,
       c.requires.are_learners,
       (
-        learners_of_fit g.NID.PartialEq.eq (members_of g.NID.Ord.cmp c.args.next) c.args.configs c.args.learners.now c.requires.voters c.requires.are_learners,
+        learners_of_fit g.NID.PartialEq.eq (members_of g.NID.Ord.cmp c.args.next) c.args.configs c.args.learners.now c.requires.voters
+            c.requires.are_learners,
         c.requires.some c.in-Some.id c.in-Some.is,
         IsSame-refl (state g.NID.PartialEq.eq (shown c.args.cluster.now.progress)),
       ),
@@ -47,10 +52,13 @@ returns-in_ok-upgraded-in-None-clause-step g c = record {
       c.requires.configs,
       c.requires.are_learners,
       (
-        learners_of_fit g.NID.PartialEq.eq (members_of g.NID.Ord.cmp c.args.next) c.args.configs c.args.learners.now c.requires.voters c.requires.are_learners,
+        learners_of_fit g.NID.PartialEq.eq (members_of g.NID.Ord.cmp c.args.next) c.args.configs c.args.learners.now c.requires.voters
+            c.requires.are_learners,
         c.requires.none c.in-None.is,
         c.in_ok-upgraded-in-None.ensures.made,
-        subst (λ (p : g.row.P.Denot). IsCounted g.P.Ord.cmp g.V.ProgressPart.part_of (has_quorum g.NID.PartialEq.eq) (state g.NID.PartialEq.eq (shown c.in_ok-upgraded-in-None.upgraded)) p) (sym c.granted.ensures) c.in_ok-upgraded-in-None.ensures.ordered.counted,
+        subst (λ (p : g.row.P.Denot). IsCounted g.P.Ord.cmp g.V.ProgressPart.part_of (has_quorum g.NID.PartialEq.eq)
+                (state g.NID.PartialEq.eq (shown c.in_ok-upgraded-in-None.upgraded)) p) (sym c.granted.ensures)
+            c.in_ok-upgraded-in-None.ensures.ordered.counted,
       ),
     ),
   );
@@ -59,7 +67,10 @@ returns-in_ok-upgraded-in-None-clause-step g c = record {
     done = λ r. record {
       configs = c.args.configs;
       has_configs = c.requires.configs;
-      fold = subst (λ (ls : List g.row.NID.Denot). IsUpgradeFold g.NID.PartialEq.eq g.NID.Ord.cmp g.P.Ord.cmp g.V.ProgressPart.part_of g.V.Clone.is_clone (has_quorum g.NID.PartialEq.eq) (is_voter g.NID.PartialEq.eq) (shown c.args.cluster.now.progress) c.args.configs ls c.args.default (shown c.in_ok-upgraded-in-None.upgraded)) c.requires.learners c.in_ok-upgraded-in-None.ensures.fold;
+      fold = subst (λ (ls : List g.row.NID.Denot). IsUpgradeFold g.NID.PartialEq.eq g.NID.Ord.cmp g.P.Ord.cmp g.V.ProgressPart.part_of
+              g.V.Clone.is_clone (has_quorum g.NID.PartialEq.eq) (is_voter g.NID.PartialEq.eq) (shown c.args.cluster.now.progress)
+              c.args.configs ls c.args.default (shown c.in_ok-upgraded-in-None.upgraded)) c.requires.learners
+          c.in_ok-upgraded-in-None.ensures.fold;
     };
     tells = c.granted.ensures;
   };
@@ -68,7 +79,10 @@ returns-in_ok-upgraded-in-None-clause-step g c = record {
 pub invariant_of-cluster : goal.invariant_of-cluster
 invariant_of-cluster g c = record {
   ready = ∣
-      ready_upgraded g.NID.PartialEq.eq g.NID.Ord.cmp g.P.Ord.cmp g.V.ProgressPart.part_of c.args.next c.args.configs c.args.learners.now c.requires.voters c.requires.configs c.requires.are_learners g.V.Clone.is_clone c.args.default ((state g.NID.PartialEq.eq (shown c.args.cluster.now.progress)).value) (shown c.in_ok-upgraded-in-None.upgraded) c.in_ok-upgraded-in-None.ensures.ordered
+      ready_upgraded g.NID.PartialEq.eq g.NID.Ord.cmp g.P.Ord.cmp g.V.ProgressPart.part_of c.args.next c.args.configs c.args.learners.now
+          c.requires.voters c.requires.configs c.requires.are_learners g.V.Clone.is_clone c.args.default
+          ((state g.NID.PartialEq.eq (shown c.args.cluster.now.progress)).value) (shown c.in_ok-upgraded-in-None.upgraded)
+          c.in_ok-upgraded-in-None.ensures.ordered
       c.in_ok-upgraded-in-None.ensures.made
       ∣₁;
 }

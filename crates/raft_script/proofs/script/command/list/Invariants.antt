@@ -10,5 +10,6 @@ use Rattle.raft_script.proofs.script.command.list.Given as goal
 abbrev pub invariant-loop-part : goal.invariant-loop-part
 invariant-loop-part l = record {
   numbers : All IsNumber (map (λ (part : Bor (List ℕ)). part.now) l.yielded);
-  has : (n : ℕ) → contains nat_cmp l.numbers n ≡ list_any (λ part. digits_value 10 part == n) (map (λ (part : Bor (List ℕ)). part.now) l.yielded);
+  has : (n : ℕ) → contains nat_cmp l.numbers n
+      ≡ list_any (λ part. digits_value 10 part == n) (map (λ (part : Bor (List ℕ)). part.now) l.yielded);
 }

@@ -11,11 +11,14 @@ returns-then-eq g c =
     let ks = c.args.keys.now in
     let n : length ks ≡ suc (suc (length ks - 2)) = omega arith in
     let one : length ks - 1 ≡ suc (length ks - 2) = omega arith in
-    take_rest ks (length ks - 2) ∙ sym (last_two g.C.PartialEq.eq ks (length ks - 2) c.index-keys-count.result c.index-keys-count-2.result true n (rw one at (sym c.eq.ensures ∙ c.if-eq.true)))
+    take_rest ks (length ks - 2) ∙ sym (last_two g.C.PartialEq.eq ks (length ks - 2) c.index-keys-count.result c.index-keys-count-2.result
+            true n (rw one at (sym c.eq.ensures ∙ c.if-eq.true)))
 
 pub returns : goal.returns
 returns g c =
     let ks = c.args.keys.now in
     let n : length ks ≡ suc (suc (length ks - 2)) = omega arith in
     let one : length ks - 1 ≡ suc (length ks - 2) = omega arith in
-    take_rest ks (length ks - 1) ∙ rw one (sym (last_two g.C.PartialEq.eq ks (length ks - 2) c.index-keys-count.result c.index-keys-count-2.result false n (rw one at (sym c.eq.ensures ∙ c.if-eq.false))))
+    take_rest ks (length ks - 1) ∙ rw one
+        (sym (last_two g.C.PartialEq.eq ks (length ks - 2) c.index-keys-count.result c.index-keys-count-2.result false n
+            (rw one at (sym c.eq.ensures ∙ c.if-eq.false))))

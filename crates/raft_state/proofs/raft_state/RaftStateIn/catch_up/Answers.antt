@@ -9,4 +9,5 @@ catch_up_entry-requires-clause-logged g c =
     is_logged.logged can.0 (is_logged.exact ∙ can.1)
 
 pub catch_up_entry-requires-clause-can : goal.catch_up_entry-requires-clause-can
-catch_up_entry-requires-clause-can g c = (tested g.C.PartialEq.eq g.C.Ord.cmp c.args.self.now c.args.entry.now c.args.agree c.args.max_entries c.requires).2
+catch_up_entry-requires-clause-can g c = (tested g.C.PartialEq.eq g.C.Ord.cmp c.args.self.now c.args.entry.now c.args.agree
+        c.args.max_entries c.requires).2

@@ -10,6 +10,7 @@ abbrev pub invariant-loop-follower : goal.invariant-loop-follower
 invariant-loop-follower g l = record {
   small : l.count ≤ l.follower-index;
   ordered : IsInOrderByMatch g.NID.PartialEq.eq g.C.Ord.cmp g.QS.QuorumSet.has_quorum (shown l.progress);
-  along : Along g.met.NID.Eq.laws g.C.Ord.cmp g.QS.QuorumSet.has_quorum (view_of l.self) l.max_entries (state_can_catch_up g.C.PartialEq.eq g.C.Ord.cmp l.self) g.C.PartialEq.eq
+  along : Along g.met.NID.Eq.laws g.C.Ord.cmp g.QS.QuorumSet.has_quorum (view_of l.self) l.max_entries
+      (state_can_catch_up g.C.PartialEq.eq g.C.Ord.cmp l.self) g.C.PartialEq.eq
       (shown l.fn.progress) l.followers l.count (shown l.progress) (drop l.follower-index l.followers);
 }

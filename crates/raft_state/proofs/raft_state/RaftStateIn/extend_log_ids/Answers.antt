@@ -5,5 +5,6 @@ use Rattle.raft_state.proofs.raft_state.RaftStateIn.extend_log_ids.Goals as goal
 pub returns-clause-valid : goal.returns-clause-valid
 returns-clause-valid g c valid zero =
     let s = c.args.self.now in
-    extended_stays_valid g.C.Ord.cmp g.C.PartialEq.eq g.met.C.Ord.total g.met.C.Ord.matches_eq s (map g.LID.RaftLogId.id_of c.args.new_log_ids.now) c.extend.new.self s.membership_state
+    extended_stays_valid g.C.Ord.cmp g.C.PartialEq.eq g.met.C.Ord.total g.met.C.Ord.matches_eq s
+        (map g.LID.RaftLogId.id_of c.args.new_log_ids.now) c.extend.new.self s.membership_state
     c.in_ok-extend.ensures.ok c.in_ok-extend.ensures.last c.requires zero (λ members. members) valid

@@ -5,7 +5,8 @@ use Rattle.raft_state.proofs.lemmas.raft_state.StatePurgeLemmas.{both_below, pur
 use Rattle.raft_state.proofs.raft_state.RaftStateIn.purge_log.Goals as goal
 
 pub overflow_add-self : goal.overflow_add-self
-overflow_add-self g c = let small : c.args.upto.now.index + 1 < 2 ^ 64 = both_below _ (c.args.upto.now.index + 1) (2 ^ 64) c.requires in search rules
+overflow_add-self g c = let small : c.args.upto.now.index + 1 < 2 ^ 64 = both_below _ (c.args.upto.now.index + 1) (2 ^ 64) c.requires in
+    search rules
 
 pub returns-clause-valid : goal.returns-clause-valid
 returns-clause-valid g c valid low =

@@ -9,5 +9,6 @@ from_ok (Err e) P Q any h = any e
 
 pub returns : goal.returns
 returns g c = record {
-  cases = from_ok c.with_snapshot_meta.result _ _ (λ e z. z) (IfOk-weaker c.with_snapshot_meta.result _ _ (λ copy e. rw e (c.in_ok-clone.ensures.cases, refl)) c.with_snapshot_meta.ensures);
+  cases = from_ok c.with_snapshot_meta.result _ _ (λ e z. z)
+      (IfOk-weaker c.with_snapshot_meta.result _ _ (λ copy e. rw e (c.in_ok-clone.ensures.cases, refl)) c.with_snapshot_meta.ensures);
 }

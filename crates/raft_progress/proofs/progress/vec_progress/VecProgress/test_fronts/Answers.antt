@@ -10,17 +10,20 @@ use Rattle.raft_progress.proofs.progress.vec_progress.VecProgress.test_fronts.Go
 
 pub least_front-found-requires-clause-within : goal.least_front-found-requires-clause-within
 least_front-found-requires-clause-within g c =
-    let h = prefix_len-le-length (exceeds g.P.Ord.cmp g.V.ProgressPart.part_of c.args.self.now.granted) (take c.args.self.now.voter_count c.deref.result.now) in
+    let h = prefix_len-le-length (exceeds g.P.Ord.cmp g.V.ProgressPart.part_of c.args.self.now.granted)
+        (take c.args.self.now.voter_count c.deref.result.now) in
     rw c.gather_leading-high.ensures.count h
 
 pub least_front-found-requires-clause-distinct : goal.least_front-found-requires-clause-distinct
-least_front-found-requires-clause-distinct g c = rw c.deref.ensures.value (IsDistinct-voters g.met.ID.Eq.laws c.args.self.now.voter_count c.args.self.now.walk.items c.requires.distinct)
+least_front-found-requires-clause-distinct g c =
+    rw c.deref.ensures.value (IsDistinct-voters g.met.ID.Eq.laws c.args.self.now.voter_count c.args.self.now.walk.items c.requires.distinct)
 
 pub index-requires : goal.index-requires
 index-requires g c =
     let far = c.least_front-found.ensures.within c.in-Some.front c.in-Some.is in
     let near = c.least_front-found.ensures.above c.in-Some.front c.in-Some.is in
-    let top = prefix_len-le-length (exceeds g.P.Ord.cmp g.V.ProgressPart.part_of c.args.self.now.granted) (take c.args.self.now.voter_count c.deref.result.now) in
+    let top = prefix_len-le-length (exceeds g.P.Ord.cmp g.V.ProgressPart.part_of c.args.self.now.granted)
+        (take c.args.self.now.voter_count c.deref.result.now) in
     let h = c.gather_leading-high.ensures.count in
     let f = c.args.self.now.voters_fit in
     let t = length-take c.args.self.now.voter_count c.deref.result.now in
@@ -35,18 +38,23 @@ returns-in-Some-clause-scanned g c = record {
   moves = refl;
   found = c.least_front-found.result.front;
   tests = c.least_front-found.result.tests;
-  scanned = rw (← c.deref.ensures.value) (subst (λ (n : ℕ). IsLeastFront g.ID.PartialEq.eq (g.QS.QuorumSet.has_quorum c.args.self.now.quorum_set) (take c.args.self.now.voter_count c.deref.result.now) c.args.place n c.least_front-found.result.front c.least_front-found.result.tests) c.gather_leading-high.ensures.count c.least_front-found.ensures);
+  scanned = rw (← c.deref.ensures.value) (subst
+          (λ (n : ℕ). IsLeastFront g.ID.PartialEq.eq (g.QS.QuorumSet.has_quorum c.args.self.now.quorum_set)
+          (take c.args.self.now.voter_count c.deref.result.now) c.args.place n c.least_front-found.result.front
+          c.least_front-found.result.tests) c.gather_leading-high.ensures.count c.least_front-found.ensures);
   counts = c.saturating_add-self.ensures;
   stays = λ e. cc;
   rises = λ k e.
       let is : c.in-Some.front ≡ k = cc in
       let far = c.least_front-found.ensures.within c.in-Some.front c.in-Some.is in
       let near = c.least_front-found.ensures.above c.in-Some.front c.in-Some.is in
-      let top = prefix_len-le-length (exceeds g.P.Ord.cmp g.V.ProgressPart.part_of c.args.self.now.granted) (take c.args.self.now.voter_count c.deref.result.now) in
+      let top = prefix_len-le-length (exceeds g.P.Ord.cmp g.V.ProgressPart.part_of c.args.self.now.granted)
+          (take c.args.self.now.voter_count c.deref.result.now) in
       let h = c.gather_leading-high.ensures.count in
       let t = length_take_le c.deref.result.now c.args.self.now.voter_count in (
         c.index.result.now,
-        c.index.ensures ∙ ap (λ n. get_or c.args.self.now.walk.items (n - 1) c.index.result.now) is ∙ sym (get_take c.args.self.now.walk.items c.args.self.now.voter_count (k - 1) c.index.result.now (omega arith)),
+        c.index.ensures ∙ ap (λ n. get_or c.args.self.now.walk.items (n - 1) c.index.result.now) is
+            ∙ sym (get_take c.args.self.now.walk.items c.args.self.now.voter_count (k - 1) c.index.result.now (omega arith)),
         c.part-self.ensures,
       );
 }
@@ -58,7 +66,10 @@ returns-in_default-clause-scanned g c = record {
   moves = refl;
   found = c.least_front-found.result.front;
   tests = c.least_front-found.result.tests;
-  scanned = rw (← c.deref.ensures.value) (subst (λ (n : ℕ). IsLeastFront g.ID.PartialEq.eq (g.QS.QuorumSet.has_quorum c.args.self.now.quorum_set) (take c.args.self.now.voter_count c.deref.result.now) c.args.place n c.least_front-found.result.front c.least_front-found.result.tests) c.gather_leading-high.ensures.count c.least_front-found.ensures);
+  scanned = rw (← c.deref.ensures.value) (subst
+          (λ (n : ℕ). IsLeastFront g.ID.PartialEq.eq (g.QS.QuorumSet.has_quorum c.args.self.now.quorum_set)
+          (take c.args.self.now.voter_count c.deref.result.now) c.args.place n c.least_front-found.result.front
+          c.least_front-found.result.tests) c.gather_leading-high.ensures.count c.least_front-found.ensures);
   counts = c.saturating_add-self.ensures;
   stays = λ e. refl;
   rises = λ k e. cc;

@@ -11,7 +11,9 @@ returns g c =
         refl,
         (λ _. tt),
         record {
-          updated = updated_weaker g.ID.PartialEq.eq g.P.Ord.cmp g.V.ProgressPart.part_of _ (IsGreaterOf g.V.PartialOrd.partial_cmp c.args.value) (λ v w left. search rules) (shown c.args.self.now) c.args.id.now (shown c.update_with.follows.lender-at-none) h.updated;
+          updated = updated_weaker g.ID.PartialEq.eq g.P.Ord.cmp g.V.ProgressPart.part_of _
+              (IsGreaterOf g.V.PartialOrd.partial_cmp c.args.value) (λ v w left. search rules) (shown c.args.self.now) c.args.id.now
+              (shown c.update_with.follows.lender-at-none) h.updated;
           ordered = h.ordered;
           granted = h.granted;
           known = h.known;

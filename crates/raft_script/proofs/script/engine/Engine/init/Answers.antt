@@ -5,4 +5,5 @@ pub returns-clause-ok : goal.returns-clause-ok
 returns-clause-ok c =
     let nodes = c.in_ok-membership.ensures.nodes in
     let progress = c.in_ok-tracked.ensures.progress in
-    is_new _ c.args.learners.keys c.args.default _ _ c.in_ok-tracked.ensures.membership c.in_ok-membership.ensures.configs _ nodes.0 nodes.1 nodes.2 progress.configs _ progress.begins.values c.in_ok-tracked.ensures.ready
+    is_new _ c.args.learners.keys c.args.default _ _ c.in_ok-tracked.ensures.membership c.in_ok-membership.ensures.configs _ nodes.0 nodes.1
+        nodes.2 progress.configs _ progress.begins.values c.in_ok-tracked.ensures.ready
