@@ -1,11 +1,11 @@
 pub mod LeaderId
-pub mod LeaderIdLaws
+pub mod LeaderIdLawful
 pub mod LeaderIdStd
-pub mod LeaderIdStdLaws
+pub mod LeaderIdStdLawful
 pub mod LeaderOrder
-pub mod LeaderOrderLaws
+pub mod LeaderOrderLawful
 pub mod LogId
-pub mod LogIdLaws
+pub mod LogIdLawful
 pub mod LogIdRange
 pub mod LogIndex
 pub mod LogView
@@ -13,4 +13,4 @@ pub mod Logged
 pub mod UTime
 pub mod Validate
 pub mod Vote
-pub mod VoteLaws
+pub mod VoteLawful

@@ -18,11 +18,11 @@ use std::fmt::{Debug, Display};
 /// A leader id, as far as votes have to know it.
 ///
 /// Leaders are ordered, partly or wholly, and equal where the order says so. Where leaders do not
-/// compare, no more than one of them can be granted.
+/// compare, no more than one of them can be elected.
 pub trait LeaderIdentity: Eq + Copy + Default + Debug + Display + 'static {
     /// The id of a node.
     type Id: NodeId;
-    /// What is kept of a leader once a quorum has granted it.
+    /// What is kept of a leader once a quorum has elected it.
     type Committed: Ord + Copy + Default + Debug + Display + 'static;
 
     /// How two leaders compare, if they do.
@@ -34,7 +34,7 @@ pub trait LeaderIdentity: Eq + Copy + Default + Debug + Display + 'static {
     /// The node that the vote for a leader is for, if there is one.
     ghost voted: { Self → Option Self.Id };
 
-    /// What is kept of a leader once it is granted.
+    /// What is kept of a leader once it is elected.
     ghost committed: { Self → Self.Committed };
 
     /// The leader that a node is in a term.
@@ -43,7 +43,7 @@ pub trait LeaderIdentity: Eq + Copy + Default + Debug + Display + 'static {
     /// What is kept of the leader that a node is in a term.
     ghost committed_of: { ℕ → Self.Id → Self.Committed };
 
-    /// Whether a leader is the granted one.
+    /// Whether a leader is the elected one.
     ghost same_as: { Self → Self.Committed → Bool };
 
     /// How two leaders compare, if they do.
@@ -54,7 +54,7 @@ pub trait LeaderIdentity: Eq + Copy + Default + Debug + Display + 'static {
     fn new_leader(term: u64, id: Self::Id) -> Self
         ensures { result ≡ leader_of term id };
 
-    /// What is kept of that leader once it is granted.
+    /// What is kept of that leader once it is elected.
     fn new_committed(term: u64, id: Self::Id) -> Self::Committed
         ensures { result ≡ committed_of term id };
 
@@ -66,11 +66,11 @@ pub trait LeaderIdentity: Eq + Copy + Default + Debug + Display + 'static {
     fn voted_for(leader: &Self) -> Option<Self::Id>
         ensures { result ≡ voted leader.now };
 
-    /// What is kept of the leader once it is granted.
+    /// What is kept of the leader once it is elected.
     fn to_committed(leader: &Self) -> Self::Committed
         ensures { result ≡ committed leader.now };
 
-    /// Whether the leader is the granted one.
+    /// Whether the leader is the elected one.
     fn is_same_as_committed(leader: &Self, other: &Self::Committed) -> bool
         ensures { result ≡ same_as leader.now other.now };
 
@@ -86,7 +86,7 @@ pub trait LeaderIdentity: Eq + Copy + Default + Debug + Display + 'static {
     ghost rises: { (a b : Self) → IsTrue (partial_le order a b)
         → IsTrue (is_le (Self.Committed.cmp (committed a) (committed b))) };
 
-    /// A leader is the granted one exactly where what is kept of it equals that one.
+    /// A leader is the elected one exactly where what is kept of it equals that one.
     ghost same: { (a : Self) (c : Self.Committed)
         → same_as a c ≡ Self.Committed.eq (committed a) c };
 
@@ -128,7 +128,7 @@ pub trait LeaderKind<NID: NodeId>: 'static {
         <Self::Leader as LeaderIdentity>::new_leader(term, id)
     }
 
-    /// What is kept of that leader once it is granted.
+    /// What is kept of that leader once it is elected.
     final fn new_committed(term: u64, id: NID) -> Self::Committed
         ensures { result ≡ Self.Leader.committed (Self.Leader.leader_of term id) }
     {
@@ -149,14 +149,14 @@ pub trait LeaderKind<NID: NodeId>: 'static {
         <Self::Leader as LeaderIdentity>::voted_for(leader)
     }
 
-    /// What is kept of the leader once it is granted.
+    /// What is kept of the leader once it is elected.
     final fn to_committed(leader: &Self::Leader) -> Self::Committed
         ensures { result ≡ Self.Leader.committed leader.now }
     {
         <Self::Leader as LeaderIdentity>::to_committed(leader)
     }
 
-    /// Whether the leader is the granted one.
+    /// Whether the leader is the elected one.
     final fn is_same_as_committed(leader: &Self::Leader, other: &Self::Committed) -> bool
         ensures { result ≡ Self.Committed.eq (Self.Leader.committed leader.now) other.now }
     {
@@ -180,7 +180,7 @@ impl<NID: NodeId> LeaderIdentity for LeaderId<NID> {
     type Committed = CommittedLeaderId<NID>;
 
     ghost use Rattle.raft_base.specs.LeaderId.{leader_id_cmp};
-    ghost use Rattle.raft_base.specs.LeaderIdLaws.{term_then_node-partial, first_decides, apart, never_none};
+    ghost use Rattle.raft_base.specs.LeaderIdLawful.{term_then_node-partial, first_decides, apart, never_none};
 
     ghost order = { λ a b. Some (leader_id_cmp NID.cmp a b) };
 

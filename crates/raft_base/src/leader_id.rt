@@ -19,9 +19,9 @@ pub struct LeaderId<NID: NodeId> {
     pub node_id: NID,
 }
 
-/// A leader that a quorum has granted.
+/// A leader that a quorum has elected.
 ///
-/// Only what tells granted leaders apart has to be kept of it. Here that is the whole leader id.
+/// Only what tells elected leaders apart has to be kept of it. Here that is the whole leader id.
 pub type CommittedLeaderId<NID> = LeaderId<NID>;
 
 impl<NID: NodeId> LeaderId<NID> {
@@ -46,14 +46,14 @@ impl<NID: NodeId> LeaderId<NID> {
         Some(self.node_id)
     }
 
-    /// What is kept of the leader id once a quorum has granted it.
+    /// What is kept of the leader id once a quorum has elected it.
     pub fn to_committed(&self) -> CommittedLeaderId<NID>
         ensures { result ≡ self.now }
     {
         *self
     }
 
-    /// Whether the leader is the granted one.
+    /// Whether the leader is the elected one.
     pub fn is_same_as_committed(&self, other: &CommittedLeaderId<NID>) -> bool
         ensures { result ≡ is_eq (leader_id_cmp NID.cmp self.now other.now) }
     {

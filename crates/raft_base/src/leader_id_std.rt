@@ -2,9 +2,9 @@
 ghost use Rattle.std.specs.Prelude.{◌≡◌, Some, None, nat_eq, refl};
 ghost use Rattle.std.specs.Ordering.{nat_cmp};
 ghost use Rattle.raft_base.specs.LeaderIdStd.{std_leader_cmp, voted_cmp};
-ghost use Rattle.raft_base.specs.LeaderIdStdLaws.{alike_above, alike_below, first_decides, term_at_most, term_then_voted-partial};
-ghost use Rattle.raft_base.specs.LeaderIdLaws.{apart};
-ghost use Rattle.raft_base.specs.LeaderOrderLaws.{alike_if};
+ghost use Rattle.raft_base.specs.LeaderIdStdLawful.{alike_above, alike_below, first_decides, term_at_most, term_then_voted-partial};
+ghost use Rattle.raft_base.specs.LeaderIdLawful.{apart};
+ghost use Rattle.raft_base.specs.LeaderOrderLawful.{alike_if};
 
 use crate::display_ext::DisplayOption;
 use crate::kind::{LeaderIdentity, LeaderKind};
@@ -16,7 +16,7 @@ use std::fmt;
 /// Identifies a leader: the term, and the node that the vote is for, if there is one.
 ///
 /// Compared by term. In one term a vote for nobody is below each other one, and votes for two
-/// different nodes do not compare: a quorum grants no more than one of them.
+/// different nodes do not compare: a quorum elects no more than one of them.
 #[derive(Debug, Clone, Copy, Default, PartialEq, Eq)]
 pub struct LeaderId<NID: NodeId> {
     /// The term in which the node leads or means to lead.
@@ -25,10 +25,10 @@ pub struct LeaderId<NID: NodeId> {
     pub voted_for: Option<NID>,
 }
 
-/// A leader that a quorum has granted. A term has no more than one, so the term is enough.
+/// A leader that a quorum has elected. A term has no more than one, so the term is enough.
 #[derive(Debug, Clone, Copy, Default, PartialEq, Eq, PartialOrd, Ord)]
 pub struct CommittedLeaderId {
-    /// The term in which the leader was granted.
+    /// The term in which the leader was elected.
     pub term: u64,
 }
 
@@ -72,14 +72,14 @@ impl<NID: NodeId> LeaderId<NID> {
         self.voted_for
     }
 
-    /// What is kept of the leader id once a quorum has granted it.
+    /// What is kept of the leader id once a quorum has elected it.
     pub fn to_committed(&self) -> CommittedLeaderId
         ensures { result ≡ record { term = self.now.term } }
     {
         CommittedLeaderId { term: self.term }
     }
 
-    /// Whether the leader is the granted one: of one term there is only one.
+    /// Whether the leader is the elected one: of one term there is only one.
     pub fn is_same_as_committed(&self, other: &CommittedLeaderId) -> bool
         ensures { result ≡ nat_eq self.now.term other.now.term }
     {
@@ -108,7 +108,7 @@ fn compare_voted<NID: NodeId>(a: Option<NID>, b: Option<NID>) -> Option<Ordering
         (None, None) => Some(Ordering::Equal),
         (None, Some(_)) => Some(Ordering::Less),
         (Some(_), None) => Some(Ordering::Greater),
-        // A quorum can grant only one of two nodes.
+        // A quorum can elect only one of two nodes.
         (Some(a), Some(b)) => (a == b).then_some(Ordering::Equal),
     }
 }

@@ -19,7 +19,7 @@ pub use validate::{Invalid, Validate};
 
 /// Identifies a log entry in the whole cluster: the leader that proposed it, and its index.
 ///
-/// Compared by leader, then by index. The leader is one that a quorum has granted, and what is kept
+/// Compared by leader, then by index. The leader is one that a quorum has elected, and what is kept
 /// of such a leader is up to the kind of leader ids, so it is a parameter.
 #[derive(Clone, Copy, Default, PartialEq, Eq, PartialOrd, Ord)]
 pub struct LogIdOf<C> {

@@ -7,15 +7,15 @@ pub use crate::leader_id::{CommittedLeaderId, LeaderId};
 use std::cmp::Ordering;
 use std::fmt;
 
-/// A node's vote: the leader that it is for, and whether a quorum has granted that leader.
+/// A node's vote: the leader that it is for, and whether a quorum has elected that leader.
 ///
 /// Compared by leader, then with an uncommitted vote below a committed one. Where the leaders do
-/// not compare, a vote that alone is committed is the greater, since no quorum grants the other.
+/// not compare, a vote that alone is committed is the greater, since no quorum elects the other.
 #[derive(Clone, Copy, Default, PartialEq, Eq)]
 pub struct VoteIn<L> {
     /// The leader that the vote is for.
     pub leader_id: L,
-    /// Whether a quorum has granted the leader.
+    /// Whether a quorum has elected the leader.
     pub committed: bool,
 }
 
@@ -27,7 +27,7 @@ pub type Vote<NID> = VoteOf<NID, LeaderAdv>;
 
 impl<L: LeaderIdentity> PartialOrd for VoteIn<L> {
     ghost use Rattle.raft_base.specs.Vote.{vote_cmp};
-    ghost use Rattle.raft_base.specs.VoteLaws.{vote_cmp-partial};
+    ghost use Rattle.raft_base.specs.VoteLawful.{vote_cmp-partial};
 
     ghost partial_cmp = { vote_cmp L.order };
 
@@ -37,7 +37,7 @@ impl<L: LeaderIdentity> PartialOrd for VoteIn<L> {
     fn partial_cmp(&self, other: &Self) -> Option<Ordering> {
         match L::compare(&self.leader_id, &other.leader_id) {
             Some(Ordering::Equal) => self.committed.partial_cmp(&other.committed),
-            // Of leaders that do not compare only one can be granted.
+            // Of leaders that do not compare only one can be elected.
             None => match (self.committed, other.committed) {
                 (true, false) => Some(Ordering::Greater),
                 (false, true) => Some(Ordering::Less),
@@ -61,7 +61,7 @@ impl<L: LeaderIdentity> VoteIn<L> {
         }
     }
 
-    /// The vote that a quorum has granted to a node in a term.
+    /// The vote for a node that a quorum has elected in a term.
     pub fn new_committed(term: u64, node_id: L::Id) -> Self
         ensures { result ≡ record { leader_id = L.leader_of term node_id; committed = true } }
     {
@@ -71,7 +71,7 @@ impl<L: LeaderIdentity> VoteIn<L> {
         }
     }
 
-    /// Marks the vote's leader as granted by a quorum. This never lowers the vote.
+    /// Marks the vote's leader as elected by a quorum. This never lowers the vote.
     pub fn commit(&mut self)
         ensures committed { self.new ≡ record self.old { committed = true } }
         ensures not_lowered { IsTrue (partial_le (vote_cmp L.order) self.old self.new) }
@@ -79,23 +79,23 @@ impl<L: LeaderIdentity> VoteIn<L> {
         self.committed = true;
     }
 
-    /// Whether a quorum has granted the leader.
+    /// Whether a quorum has elected the leader.
     pub fn is_committed(&self) -> bool
         ensures { result ≡ self.now.committed }
     {
         self.committed
     }
 
-    /// The leader that the vote is for, granted or not.
+    /// The leader that the vote is for, elected or not.
     pub fn leader_id(&self) -> &L
         ensures { result.now ≡ self.now.leader_id }
     {
         &self.leader_id
     }
 
-    /// The leader under which log entries may be written: the vote's, once it is granted.
+    /// The leader under which log entries may be written: the vote's, once it is elected.
     ///
-    /// In term 0 it need not be granted. There the first entry of a new cluster is written, before
+    /// In term 0 it need not be elected. There the first entry of a new cluster is written, before
     /// anyone could vote.
     pub fn committed_leader_id(&self) -> Option<L::Committed>
         ensures { result ≡ (if self.now.committed || (L.term_of self.now.leader_id == 0)
@@ -108,7 +108,7 @@ impl<L: LeaderIdentity> VoteIn<L> {
         }
     }
 
-    /// Whether the vote is for the granted leader.
+    /// Whether the vote is for the elected leader.
     pub fn is_same_leader(&self, leader_id: &L::Committed) -> bool
         ensures { result ≡ L.Committed.eq (L.committed self.now.leader_id) leader_id.now }
     {

@@ -83,7 +83,7 @@ fn log_ids_compare_by_term_then_index(rt: HostRuntime) -> Result<(), Fail> {
     Ok(())
 }
 
-/// Whether a granted leader is known by its term alone.
+/// Whether a elected leader is known by its term alone.
 fn is_known_by_its_term(leader: &LeaderId<u64>) -> bool {
     leader.to_committed() == CommittedLeaderId { term: 2 }
         && leader.is_same_as_committed(&CommittedLeaderId::new(2, 7u64))
@@ -93,7 +93,7 @@ fn is_known_by_its_term(leader: &LeaderId<u64>) -> bool {
 }
 
 #[test]
-fn a_granted_leader_is_its_term(rt: HostRuntime) -> Result<(), Fail> {
+fn an_elected_leader_is_its_term(rt: HostRuntime) -> Result<(), Fail> {
     assert!(rt; is_known_by_its_term(&LeaderId::new(2, 1u64)));
     Ok(())
 }

@@ -1,12 +1,12 @@
 pub mod Majority
-pub mod MajorityLaws
+pub mod MajorityLawful
 pub mod QuorumSize
 pub mod AtLeast
 pub mod Coherence
 pub mod Meeting
 pub mod MemberList
 pub mod Members
-pub mod MembersLaws
+pub mod MembersLawful
 pub mod Valid
 pub mod Change
 pub mod ReplaceAll
@@ -17,5 +17,5 @@ pub mod Defaults
 pub mod InitializeError
 pub mod Learners
 pub mod Stored
-pub mod StoredLaws
+pub mod StoredLawful
 pub mod Inner

@@ -8,7 +8,7 @@ ghost use Rattle.std.specs.Set.{ClonesAreEqual, is_member};
 ghost use Rattle.std.specs.Map.{keys_of};
 ghost use Rattle.std.specs.BTreeMap.{get, keys};
 ghost use Rattle.std.specs.Cmp.{partial_equiv_from_equiv};
-ghost use Rattle.raft_members.specs.MembersLaws.{same_members-equiv};
+ghost use Rattle.raft_members.specs.MembersLawful.{same_members-equiv};
 ghost use Rattle.raft_members.specs.Majority.{is_majority, is_joint_majority, is_voter_of};
 ghost use Rattle.raft_members.specs.Members.{MemberList, node_at, members_of, same_members, AddsNoId, HasNodes};
 ghost use Rattle.raft_members.specs.Valid.{has_empty_config, FirstWithoutNode, IsValid};

@@ -18,6 +18,6 @@ pub mod Answered
 pub mod Steps
 pub mod ShownSteps
 pub mod Equal
-pub mod EqualLaws
+pub mod EqualLawful
 pub mod Threshold
 pub mod Calls

@@ -2,7 +2,7 @@
 //! counted quorum tests that are those made.
 
 ghost use Rattle.raft_members.specs.Majority.{is_majority};
-ghost use Rattle.raft_members.specs.MajorityLaws.{is_majority-superset};
+ghost use Rattle.raft_members.specs.MajorityLawful.{is_majority-superset};
 ghost use Rattle.raft_progress.specs.progress.InOrder.{IsInOrder};
 ghost use Rattle.raft_progress.specs.progress.VecProgress.{shown};
 ghost use Rattle.std.specs.Ordering.{nat_cmp};

@@ -5,11 +5,11 @@ pub mod CatchUp
 pub mod Commit
 pub mod FirstDenied
 pub mod FullLog
-pub mod FullLogLaws
+pub mod FullLogLawful
 pub mod Install
 pub mod IOState
 pub mod Entry
-pub mod EntryLaws
+pub mod EntryLawful
 pub mod Inner
 pub mod Keys
 pub mod Leads
@@ -18,11 +18,11 @@ pub mod LogEdits
 pub mod LogKept
 pub mod LogOrder
 pub mod LogReads
-pub mod LogReadsLaws
+pub mod LogReadsLawful
 pub mod MembershipMoves
 pub mod MembershipRelations
 pub mod Memberships
-pub mod MembershipsLaws
+pub mod MembershipsLawful
 pub mod NewState
 pub mod Purge
 pub mod Sending

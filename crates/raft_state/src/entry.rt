@@ -79,7 +79,7 @@ fn default_log_id<C: Default>() -> LogIdOf<C>
 
 impl<C, NID: NodeId, N: Node, D> RaftPayload<Membership<NID, N>> for EntryOf<C, NID, N, D> {
     ghost use Rattle.raft_state.specs.Entry.{is_blank_payload, payload_membership};
-    ghost use Rattle.raft_state.specs.EntryLaws.{blank_stores_none as none_in_blank};
+    ghost use Rattle.raft_state.specs.EntryLawful.{blank_stores_none as none_in_blank};
 
     ghost blank = { λ entry. is_blank_payload entry.payload };
 

@@ -274,7 +274,7 @@ impl<C: Ord + Copy> Clone for LogIdListOf<C> {
 
 impl<C: Ord + Copy> PartialEq for LogIdListOf<C> {
     ghost use Rattle.std.specs.Cmp.{partial_equiv_from_equiv};
-    ghost use Rattle.raft_state.specs.FullLogLaws.{same_full_log-equiv};
+    ghost use Rattle.raft_state.specs.FullLogLawful.{same_full_log-equiv};
 
     ghost eq = { λ a b. same_log C.eq (full_log a) (full_log b) };
 
@@ -287,7 +287,7 @@ impl<C: Ord + Copy> PartialEq for LogIdListOf<C> {
 }
 
 impl<C: Ord + Copy> Eq for LogIdListOf<C> {
-    ghost use Rattle.raft_state.specs.FullLogLaws.{same_full_log-equiv};
+    ghost use Rattle.raft_state.specs.FullLogLawful.{same_full_log-equiv};
 
     ghost laws = { same_full_log-equiv C.Eq.laws };
 }

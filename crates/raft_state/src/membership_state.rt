@@ -9,7 +9,7 @@ ghost use Rattle.raft_members.specs.Majority.{is_voter_of};
 ghost use Rattle.raft_members.specs.Members.{node_at};
 ghost use Rattle.raft_state.specs.Leads.{ForwardsTo, known_node};
 ghost use Rattle.raft_state.specs.Memberships.{in_effect, index_at, same_memberships, IsNoMembership};
-ghost use Rattle.raft_state.specs.MembershipsLaws.{same_memberships-equiv};
+ghost use Rattle.raft_state.specs.MembershipsLawful.{same_memberships-equiv};
 ghost use Rattle.raft_state.specs.MembershipMoves.{after_commit, commits, may_commit, after_append, may_append, after_truncate, is_cut, after_update_committed, effect_changes, effective_where, replaces_both};
 ghost use Rattle.raft_state.specs.MembershipRelations.{membership_relations};
 

@@ -88,7 +88,7 @@ pub type RaftState<NID, N, I> = RaftStateOf<NID, N, I, LeaderAdv>;
 
 impl<NID: NodeId, N: Node, I: Instant, L: Drop, C: Ord + Copy + Drop> LogStateReader<C>
     for RaftStateIn<NID, N, I, L, C> {
-    ghost use Rattle.raft_state.specs.LogReadsLaws.{id_at-indexed};
+    ghost use Rattle.raft_state.specs.LogReadsLawful.{id_at-indexed};
 
     ghost log_view = { view_of };
 

@@ -4,7 +4,7 @@ ghost use Rattle.std.specs.Ordering.{nat_cmp};
 ghost use Rattle.std.specs.Cmp.{po};
 ghost use Rattle.std.specs.Cmp.Rules.{comparing};
 ghost use Rattle.std.proofs.Common.{rules};
-ghost use Rattle.raft_base.specs.LeaderIdLaws.{apart, first_decides, never_none};
+ghost use Rattle.raft_base.specs.LeaderIdLawful.{apart, first_decides, never_none};
 
 use super::catch_up::{hundred, is_as_worked};
 use super::whole::State;

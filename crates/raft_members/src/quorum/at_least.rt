@@ -4,7 +4,7 @@ ghost use Rattle.std.specs.List.Sorted.{IsStrictlySortedBy};
 ghost use Rattle.std.specs.Set.{distinct_count, is_member};
 ghost use Rattle.std.proofs.lemmas.Map.Keys.{IsStrictlySortedBy-prop};
 ghost use Rattle.raft_members.specs.Majority.{has_at_least};
-ghost use Rattle.raft_members.specs.MajorityLaws.{has_at_least-superset};
+ghost use Rattle.raft_members.specs.MajorityLawful.{has_at_least-superset};
 ghost use Rattle.raft_members.specs.Meeting.{RespectsEquality};
 
 use super::quorum_set::QuorumSet;

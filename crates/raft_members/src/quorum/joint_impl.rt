@@ -3,7 +3,7 @@ ghost use Rattle.std.specs.Prelude.{◌≡◌, ◌||◌, IfOk, OnOk};
 ghost use Rattle.std.specs.List.{IsDistinct, list_any, list_all};
 ghost use Rattle.std.specs.List.Sorted.{IsStrictlySortedBy};
 ghost use Rattle.std.specs.Set.{is_member};
-ghost use Rattle.raft_members.specs.MajorityLaws.{list_all-weaker};
+ghost use Rattle.raft_members.specs.MajorityLawful.{list_all-weaker};
 ghost use Rattle.raft_members.specs.QuorumSize.{QuorumsHaveAtLeast, greatest};
 
 use super::joint::Joint;

@@ -6,7 +6,7 @@ ghost use Rattle.std.specs.Set.{is_member};
 ghost use Rattle.std.specs.Fn.{AnyResult};
 ghost use Rattle.std.specs.List.Sorted.{IsStrictlySortedBy};
 ghost use Rattle.raft_members.specs.Majority.{is_majority};
-ghost use Rattle.raft_members.specs.MajorityLaws.{is_majority-superset};
+ghost use Rattle.raft_members.specs.MajorityLawful.{is_majority-superset};
 ghost use Rattle.raft_members.specs.QuorumSize.{majority_size};
 
 use super::quorum_set::QuorumSet;

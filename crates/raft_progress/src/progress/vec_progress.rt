@@ -449,7 +449,7 @@ impl<ID: Copy + Ord, V: PartialEq, P: Copy + Ord, QS: PartialEq> PartialEq
     for VecProgress<ID, V, P, QS> {
     ghost use Rattle.std.specs.Cmp.{on_per};
     ghost use Rattle.raft_progress.specs.progress.Equal.{equal};
-    ghost use Rattle.raft_progress.specs.progress.EqualLaws.{equal-per};
+    ghost use Rattle.raft_progress.specs.progress.EqualLawful.{equal-per};
     ghost use Rattle.raft_progress.specs.progress.VecProgress.{shown};
 
     ghost eq = { λ a b. equal ID.eq V.eq P.eq QS.eq (shown a) (shown b) };
@@ -469,7 +469,7 @@ impl<ID: Copy + Ord, V: PartialEq, P: Copy + Ord, QS: PartialEq> PartialEq
 
 impl<ID: Copy + Ord, V: Eq, P: Copy + Ord, QS: Eq> Eq for VecProgress<ID, V, P, QS> {
     ghost use Rattle.std.specs.Cmp.{on_equiv};
-    ghost use Rattle.raft_progress.specs.progress.EqualLaws.{equal-equiv};
+    ghost use Rattle.raft_progress.specs.progress.EqualLawful.{equal-equiv};
     ghost use Rattle.raft_progress.specs.progress.VecProgress.{shown};
 
     ghost laws = { on_equiv shown (equal-equiv ID.Eq.laws V.Eq.laws P.Eq.laws QS.Eq.laws) };

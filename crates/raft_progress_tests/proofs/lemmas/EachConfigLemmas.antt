@@ -12,7 +12,7 @@ use Rattle.std.proofs.Common.{ap, arith, inl, inr, subst, sym, ◌∙◌, true�
 use Rattle.std.proofs.lemmas.Bool.Decides.{nat_tests}
 use Rattle.std.proofs.lemmas.List.Sums.{sum_by-cons}
 use Rattle.raft_members.specs.Majority.{is_joint_majority, is_majority, is_voter_of}
-use Rattle.raft_members.specs.MajorityLaws.{is_joint_majority-superset}
+use Rattle.raft_members.specs.MajorityLawful.{is_joint_majority-superset}
 use Rattle.raft_members.proofs.CallerLemmas.{majority_member}
 use Rattle.raft_members.proofs.lemmas.quorum.MajorityLemmas.{is_member-unique_keys}
 use Rattle.raft_progress.specs.progress.CountedValue.{AtMost, has_part, reached}

@@ -41,7 +41,7 @@ impl<NID: NodeId, N: Node, D: Clone + PartialEq + Drop> EntryPayload<NID, N, D> 
 
 impl<NID: NodeId, N: Node, D> RaftPayload<Membership<NID, N>> for EntryPayload<NID, N, D> {
     ghost use Rattle.raft_state.specs.Entry.{is_blank_payload, payload_membership};
-    ghost use Rattle.raft_state.specs.EntryLaws.{blank_stores_none as none_in_blank};
+    ghost use Rattle.raft_state.specs.EntryLawful.{blank_stores_none as none_in_blank};
 
     ghost blank = { is_blank_payload };
 

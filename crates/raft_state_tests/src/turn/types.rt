@@ -6,7 +6,7 @@ use raft_members::Membership;
 use raft_progress::{InflightOf, ProgressEntryOf};
 use raft_state::{EntryOf, RaftStateOf};
 
-/// What is kept of a leader that a quorum has granted.
+/// What is kept of a leader that a quorum has elected.
 pub type Leader<K> = <K as LeaderKind<u64>>::Committed;
 
 /// A log id.

@@ -1,5 +1,5 @@
 use Rattle.std.specs.Cmp.{upto}
-use Rattle.raft_base.specs.LogIdLaws.{optional-log_id_cmp-total}
+use Rattle.raft_base.specs.LogIdLawful.{optional-log_id_cmp-total}
 use Rattle.raft_base_tests.proofs.calls.in_turn.Goals as goal
 
 pub returns : goal.returns

@@ -10,7 +10,7 @@ use Rattle.std.specs.Option.{option_cmp, option_eq}
 use Rattle.std.specs.Cmp.{IsTotalOrder, second_so}
 use Rattle.std.proofs.lemmas.Cmp.{tied_itself}
 use Rattle.raft_base.specs.LogId.{id_le, id_lt, index_of, log_id_cmp, next_index, same_ids}
-use Rattle.raft_base.specs.LogIdLaws.{optional-log_id_cmp-total}
+use Rattle.raft_base.specs.LogIdLawful.{optional-log_id_cmp-total}
 use Rattle.raft_base.specs.LogView.{LogView, prev_id}
 use Rattle.raft_base.specs.Logged.{Logged}
 use Rattle.raft_base.proofs.lemmas.log_id.LoggedLemmas.{prev_at, prev_rises}

@@ -6,7 +6,7 @@ use Rattle.std.specs.Cmp.{IsTotalOrder}
 use Rattle.std.specs.Option.{option_cmp}
 use Rattle.std.specs.declared.cmp.Ordering.{Ordering}
 use Rattle.raft_base.specs.LogId.{id_le, id_lt, log_id_cmp, next_index}
-use Rattle.raft_base.specs.LogIdLaws.{optional-log_id_cmp-total}
+use Rattle.raft_base.specs.LogIdLawful.{optional-log_id_cmp-total}
 use Rattle.raft_base.specs.Validate.{first_false}
 use Rattle.raft_base.specs.declared.log_id.LogIdOf.{LogIdOf}
 use Rattle.raft_base.specs.declared.log_id.log_id_range.LogIdRangeOf.{LogIdRangeOf}

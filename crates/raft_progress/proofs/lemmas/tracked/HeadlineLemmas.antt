@@ -11,7 +11,7 @@ use Rattle.std.specs.Set.{is_member}
 use Rattle.std.proofs.Common.{ap, inl, inr, sym, ◌∙◌, true≢false, suc, zero}
 use Rattle.raft_members.specs.Change.{changed}
 use Rattle.raft_members.specs.Majority.{is_joint_majority, is_majority}
-use Rattle.raft_members.specs.MajorityLaws.{is_majority-superset, list_all-weaker}
+use Rattle.raft_members.specs.MajorityLawful.{is_majority-superset, list_all-weaker}
 use Rattle.raft_members.specs.Meeting.{RespectsEquality}
 use Rattle.raft_members.specs.Members.{members_of}
 use Rattle.raft_members.specs.Reached.{EachQuorumKnows, IsGranted, VotersReached}

@@ -2,7 +2,7 @@ use Rattle.std.proofs.Common.{◌≡◌, Bool, Result, Ok, Err, Some, false, ref
 use Rattle.std.specs.Prelude.{OnOk}
 use Rattle.std.specs.Result.{is_err}
 use Rattle.std.specs.declared.cmp.Ordering.{Ordering}
-use Rattle.raft_base.specs.LogIdLaws.{optional-log_id_cmp-total}
+use Rattle.raft_base.specs.LogIdLawful.{optional-log_id_cmp-total}
 use Rattle.raft_progress.specs.progress.ProgressState.{Writes}
 use Rattle.raft_progress.specs.progress.Shown.{Shown, state}
 use Rattle.raft_progress.specs.progress.Updated.{IsUpdated}

@@ -15,7 +15,7 @@ use Rattle.raft_state.specs.LogConditions.{all_follow, follows}
 use Rattle.raft_state.specs.LogEdits.{front, log_after_append, log_after_extend, log_after_purge, missing_ids, rest}
 use Rattle.raft_state.specs.LogKept.{HasIds, KeepsIds}
 use Rattle.raft_state.specs.LogReads.{id_at, last_id}
-use Rattle.raft_state.specs.LogReadsLaws.{id_at-indexed}
+use Rattle.raft_state.specs.LogReadsLawful.{id_at-indexed}
 use Rattle.raft_state.proofs.lemmas.log_id_list.FrontLemmas.{front_all, front_last, front_none, last_at, rest_last}
 use Rattle.raft_state.proofs.lemmas.log_id_list.FullLogLemmas.{ids_above, ids_below}
 use Rattle.raft_state.proofs.lemmas.log_id_list.OrderLemmas.{From}

@@ -11,7 +11,7 @@ use Rattle.raft_state.specs.FullLog.{first_index, full_log, ids_of}
 use Rattle.raft_state.proofs.lemmas.log_id_list.KeyListLemmas.{IsKeyList}
 use Rattle.raft_state.specs.LogOrder.{AreConsecutive, AreFound, LeadersNeverFall, LeadersNeverFallByIndex, NoneAboveLast}
 use Rattle.raft_state.specs.LogReads.{id_at, last_id}
-use Rattle.raft_state.specs.LogReadsLaws.{id_at-indexed}
+use Rattle.raft_state.specs.LogReadsLawful.{id_at-indexed}
 use Rattle.raft_state.proofs.lemmas.log_id_list.AppendLemmas.{then_below}
 use Rattle.raft_base.specs.LogId.{id_le}
 use Rattle.raft_state.proofs.lemmas.log_id_list.CutLemmas.{first_full, one_key}

@@ -3,7 +3,7 @@ use Rattle.std.proofs.Common.{◌≡◌, ℕ, Bool, false, refl}
 use Rattle.std.specs.declared.cmp.Ordering.{Ordering}
 use Rattle.std.specs.Cmp.{IsEquivalence}
 use Rattle.raft_base.specs.LogIndex.{index_le}
-use Rattle.raft_members.specs.MembersLaws.{same_members-equiv}
+use Rattle.raft_members.specs.MembersLawful.{same_members-equiv}
 use Rattle.raft_members.specs.Stored.{membership_of}
 use Rattle.raft_members.specs.declared.membership.stored.StoredMembershipOf.{StoredMembershipOf}
 use Rattle.raft_state.specs.MembershipMoves.{after_update_committed, effect_changes, is_covered}

@@ -20,7 +20,7 @@ use Rattle.raft_state.proofs.lemmas.follower.TruncateLemmas.{none_at_most}
 use Rattle.raft_state.specs.FullLog.{end_index, first_index, full_log}
 use Rattle.raft_state.specs.LogEdits.{front}
 use Rattle.raft_state.specs.LogReads.{id_at, last_id}
-use Rattle.raft_state.specs.LogReadsLaws.{id_at-indexed}
+use Rattle.raft_state.specs.LogReadsLawful.{id_at-indexed}
 use Rattle.raft_state.specs.StateView.{view_of}
 use Rattle.raft_state.specs.Valid.{none_or_logged}
 use Rattle.raft_state.specs.declared.raft_state.RaftStateIn.{RaftStateIn}

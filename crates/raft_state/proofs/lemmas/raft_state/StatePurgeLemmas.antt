@@ -7,7 +7,7 @@ use Rattle.std.specs.Cmp.{IsTotalOrder}
 use Rattle.std.specs.Option.{option_or}
 use Rattle.std.specs.Ordering.{is_le}
 use Rattle.raft_base.specs.LogId.{id_le, index_of, next_index}
-use Rattle.raft_base.specs.LogIdLaws.{optional-log_id_cmp-total}
+use Rattle.raft_base.specs.LogIdLawful.{optional-log_id_cmp-total}
 use Rattle.raft_base.specs.LogIndex.{next_index_of}
 use Rattle.raft_base.specs.declared.log_id.LogIdOf.{LogIdOf}
 use Rattle.raft_progress.proofs.lemmas.progress.recount.RecountLemmas.{AtMost-trans}
@@ -22,7 +22,7 @@ use Rattle.raft_state.specs.FullLog.{end_index, first_index, full_log}
 use Rattle.raft_state.specs.LogConditions.{may_be_purged_to}
 use Rattle.raft_state.specs.LogEdits.{log_after_purge, rest}
 use Rattle.raft_state.specs.LogReads.{first_id, id_at, last_id}
-use Rattle.raft_state.specs.LogReadsLaws.{id_at-indexed}
+use Rattle.raft_state.specs.LogReadsLawful.{id_at-indexed}
 use Rattle.raft_state.specs.Purge.{first_after_purge, may_purge}
 use Rattle.raft_state.specs.Valid.{broken_relation, fits_purged_next}
 use Rattle.raft_state.specs.declared.raft_state.RaftStateIn.{RaftStateIn}

@@ -1,7 +1,7 @@
 -- Equality of pairs of memberships has the laws of equality.
 use Rattle.std.specs.Prelude.{Bool}
 use Rattle.std.specs.Cmp.{IsEquivalence, and_equiv, on_equiv}
-use Rattle.raft_members.specs.StoredLaws.{same_stored-equiv}
+use Rattle.raft_members.specs.StoredLawful.{same_stored-equiv}
 use Rattle.raft_state.specs.Memberships.{same_memberships}
 
 pub same_memberships-equiv : {C K N : Type 0} {leader : C → C → Bool} {eq : K → K → Bool}

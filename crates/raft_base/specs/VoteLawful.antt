@@ -9,7 +9,7 @@ use Rattle.std.proofs.Common.{refl, sym, ◌∙◌, ap}
 use Rattle.std.specs.declared.cmp.Ordering.{Ordering}
 use Rattle.std.specs.declared.cmp.Ordering.TheVariants.{Less, Equal, Greater}
 use Rattle.raft_base.specs.LeaderOrder.{IncomparableAlike}
-use Rattle.raft_base.specs.LeaderOrderLaws.{apart_back}
+use Rattle.raft_base.specs.LeaderOrderLawful.{apart_back}
 use Rattle.raft_base.specs.Vote.{by_leader_then_committed}
 
 -- the other way round, the answer is the reverse

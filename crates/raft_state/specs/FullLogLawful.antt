@@ -2,7 +2,7 @@
 use Rattle.std.specs.Prelude.{Bool, List}
 use Rattle.std.specs.Cmp.{IsEquivalence, on_equiv}
 use Rattle.std.specs.Cmp.Lexicographic.{lists_equiv}
-use Rattle.raft_base.specs.LogIdLaws.{same_id-equiv}
+use Rattle.raft_base.specs.LogIdLawful.{same_id-equiv}
 use Rattle.raft_base.specs.declared.log_id.LogIdOf.{LogIdOf}
 use Rattle.raft_state.specs.FullLog.{full_log, same_log}
 

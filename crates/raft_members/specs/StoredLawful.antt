@@ -2,8 +2,8 @@
 use Rattle.std.specs.Prelude.{Bool}
 use Rattle.std.specs.Cmp.{IsEquivalence, and_equiv, on_equiv}
 use Rattle.std.specs.Cmp.Lexicographic.{options_equiv}
-use Rattle.raft_base.specs.LogIdLaws.{same_id-equiv}
-use Rattle.raft_members.specs.MembersLaws.{same_members-equiv}
+use Rattle.raft_base.specs.LogIdLawful.{same_id-equiv}
+use Rattle.raft_members.specs.MembersLawful.{same_members-equiv}
 use Rattle.raft_members.specs.Stored.{same_stored}
 
 pub same_stored-equiv : {C K N : Type 0} {leader : C → C → Bool} {eq : K → K → Bool}
