@@ -1,1 +1,1 @@
-mod CloneLemmas
+pub mod CloneLemmas

@@ -6,7 +6,7 @@ pub mod CloneLemmas
 pub mod GrantedLemmas
 pub mod InOrderLemmas
 pub mod KeptLemmas
-mod LentLemmas
+pub mod LentLemmas
 pub mod NewProgressLemmas
 pub mod OutcomeLemmas
 pub mod RefusalLemmas
