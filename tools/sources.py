@@ -27,11 +27,12 @@ class Item:
 
 @dataclasses.dataclass
 class Module:
-    """A module: its docs, its items, what it imports by name, and which names others see there."""
+    """A module: its docs, its items, what it imports by name, what of that for others alone, and which names they see."""
 
     docs: list
     items: list
     imports: dict
+    passed_on: set
     public: set
 
 
@@ -106,11 +107,12 @@ def read_module(modules, folder, place, path):
     lines = path.read_text().splitlines()
     docs = [line[3:].removeprefix(" ") for line in lines if line.startswith("//!")]
     items = items_of([line for line in lines if not line.startswith(("//!", "#!["))])
-    module = Module(docs, [], {}, set())
+    module = Module(docs, [], {}, set(), set())
     modules[place] = module
     for item in items:
         if item.kind == "use" and item.name != "use":
             module.imports.update(imports_of(item))
+            module.passed_on.update(name for name, _ in imports_of(item) if item.lines[0].startswith("pub"))
             module.public.update(name for name, _ in imports_of(item) if item.is_public)
         elif item.kind == "mod" and not any("cfg(test)" in line for line in item.attributes):
             module.public.update([item.name] if item.is_public else [])
@@ -122,10 +124,10 @@ def read_module(modules, folder, place, path):
             module.public.update([item.name] if item.is_public else [])
 
 
-def read_crates(root):
-    """The modules of each library but those of tests, each by its crate and path."""
+def read_crates(root, roots=("lib.rt",)):
+    """The modules of each library, or other crate with such a root, but those of tests, each by its crate and path."""
     modules = {}
-    for path in sorted(root.glob("crates/*/src/lib.rt")):
+    for path in sorted(path for name in roots for path in root.glob(f"crates/*/src/{name}")):
         name = path.parts[-3]
         if not name.endswith("_tests"):
             read_module(modules, path.parent, (name,), path)
