@@ -5,8 +5,7 @@
     python3 tools/wrap.py --check   says which lines are longer, and ends with status 1 if there are some
 
 A line is broken at a space: outside brackets rather than inside, and there at a definition's `=` rather than before an
-operator, and before an operator rather than between arguments. What goes on stands four columns further in, and eight where it
-is broken inside brackets.
+operator, and before an operator rather than between arguments. `rt fmt` has the last word on how its parts are laid out.
 """
 
 import pathlib
@@ -67,7 +66,7 @@ def wrapped(line):
         lines.append(" " * further + line[start:place])
         start = place + 1
         is_operator = line[start:].split(" ")[0] in RANKS
-        further = indent if is_going_on and is_operator and depth == 0 else indent + (8 if depth else 4)
+        further = indent if is_going_on and is_operator and depth == 0 else indent + 4
     return [*lines, " " * further + line[start:]]
 
 

@@ -1,6 +1,25 @@
 -- A line that is read up to its line feed.
-use Rattle.std.specs.Prelude.{◌≡◌, ◌==◌, ℕ, Bool, true, false, cond, not, List, [], ◌∷◌, ◌++◌, Option, Some, None, IfSome, ◌⊎◌, length,
-        is_some}
+use Rattle.std.specs.Prelude.{
+  ◌≡◌,
+  ◌==◌,
+  ℕ,
+  Bool,
+  true,
+  false,
+  cond,
+  not,
+  List,
+  [],
+  ◌∷◌,
+  ◌++◌,
+  Option,
+  Some,
+  None,
+  IfSome,
+  ◌⊎◌,
+  length,
+  is_some,
+}
 use Rattle.std.specs.Bool.{then_some}
 use Rattle.std.specs.Borrow.{MutBor}
 use Rattle.std.specs.Fn.{FnOnceReturnsAtMut, Once}
@@ -38,8 +57,13 @@ cut_by : (x : ℕ) (xs : List ℕ) (b : Bool) → (x == 10) ≡ b
     → IsWhole xs (take_through 10 xs) (drop_through 10 xs) ⊎ IsCut xs (take_through 10 xs) (drop_through 10 xs)
     → IsWhole (x ∷ xs) (cond b (x ∷ []) (x ∷ take_through 10 xs)) (cond b xs (drop_through 10 xs))
     ⊎ IsCut (x ∷ xs) (cond b (x ∷ []) (x ∷ take_through 10 xs)) (cond b xs (drop_through 10 xs))
-cut_by x xs true is next = inr ([], (λ k d l. absurd (omega arith)), ap (λ y. y ∷ xs) (eqb-true x 10 is), ap (λ y. y ∷ [])
-        (eqb-true x 10 is))
+cut_by x xs true is next = inr (
+  [],
+  (λ k d l. absurd (omega arith)),
+  ap (λ y. y ∷ xs) (eqb-true x 10 is),
+  ap (λ y. y ∷ [])
+      (eqb-true x 10 is),
+)
 cut_by x xs false is next = longer x xs (take_through 10 xs) (drop_through 10 xs) is next
 
 cut : (text : List ℕ) → IsWhole text (take_through 10 text) (drop_through 10 text)
@@ -76,11 +100,11 @@ takes_known : (text read line : List ℕ) (is_last : Bool) (rest : List ℕ) →
 takes_known text read line is_last rest (inl (plain, all, none)) trimmed =
     let last = whole_line text read line is_last plain all trimmed in
     subst (λ (b : Bool). TakesLine (Some text) line b (Some rest)) (sym last.1)
-        (slice_split_none (λ byte. byte == 10) text plain ∙ ap (λ l. l ∷ []) (sym last.0), none)
+    (slice_split_none (λ byte. byte == 10) text plain ∙ ap (λ l. l ∷ []) (sym last.0), none)
 takes_known text read line is_last rest (inr (front, plain, is, taken)) trimmed =
     let more = cut_line front read line is_last taken trimmed in
     subst (λ (b : Bool). TakesLine (Some text) line b (Some rest)) (sym more.1)
-        (ap lines is ∙ slice_split_at (λ byte. byte == 10) front 10 rest plain refl ∙ ap (λ l. l ∷ lines rest) (sym more.0))
+    (ap lines is ∙ slice_split_at (λ byte. byte == 10) front 10 rest plain refl ∙ ap (λ l. l ∷ lines rest) (sym more.0))
 
 -- a read up to a line feed, which is then taken off, takes a line
 pub takes_line : (old new : Option (List ℕ)) (read line : List ℕ) (is_last : Bool) → IfSome old (λ text. read ≡ take_through 10 text)
@@ -89,8 +113,8 @@ takes_line None new read line is_last bytes drops trimmed = tt
 takes_line (Some text) new read line is_last bytes drops trimmed =
     subst (λ (o : Option (List ℕ)). TakesLine (Some text) line is_last o) (sym drops)
     (takes_known text read line is_last (drop_through 10 text)
-            (subst (λ (l : List ℕ). IsWhole text l (drop_through 10 text) ⊎ IsCut text l (drop_through 10 text)) (sym bytes) (cut text))
-            trimmed)
+    (subst (λ (l : List ℕ). IsWhole text l (drop_through 10 text) ⊎ IsCut text l (drop_through 10 text)) (sym bytes) (cut text))
+    trimmed)
 
 shorten : (xs : List ℕ) (x y : ℕ) (b : Bool) → b ≡ (x == 10) → y ≡ x → cond b xs (xs ++ y ∷ []) ≡ cond (x == 10) xs (xs ++ x ∷ [])
 shorten xs x y b tests same = ap (λ c. cond c xs (xs ++ y ∷ [])) tests ∙ ap (λ z. cond (x == 10) xs (xs ++ z ∷ [])) same
@@ -112,5 +136,11 @@ trimmed g read line f taken_byte is_last tests (inl (none, empty, nothing)) last
     inl (none, empty, not_not _ is_last (ap is_some (sym nothing) ∙ last))
 trimmed g read line f taken_byte is_last tests (inr (xs, x, b, y, split, calls, popped, is)) last =
     let test = tests x b y calls in
-    inr (xs, x, split, is ∙ shorten xs x y b test.0 test.1, not_not _ is_last
-            (sym test.0 ∙ sym (is_some_by b y) ∙ ap is_some (sym popped) ∙ last))
+    inr (
+      xs,
+      x,
+      split,
+      is ∙ shorten xs x y b test.0 test.1,
+      not_not _ is_last
+          (sym test.0 ∙ sym (is_some_by b y) ∙ ap is_some (sym popped) ∙ last),
+    )

@@ -47,7 +47,7 @@ module _ (configs : List (List ℕ)) (learners : List ℕ) (default : ℕ) (made
     (IsDefault : EmptyNode → Type 0) (given : List (ℕ × EmptyNode))
     (gives : (id : ℕ) → WithDefault IsDefault None (is_member nat_eq learners id) (node_at nat_cmp given id))
     (with_voters : (id : ℕ) → WithDefault IsDefault (node_at nat_cmp given id) (is_voter_of nat_eq configs id)
-        (node_at nat_cmp membership.nodes id)) where
+    (node_at nat_cmp membership.nodes id)) where
   nodes : (id : ℕ) → is_some (node_at nat_cmp made.membership.nodes id) ≡ (is_voter_of nat_eq configs id || is_member nat_eq learners id)
   nodes id = ap (λ (m : MemberList ℕ EmptyNode). is_some (node_at nat_cmp m.nodes id)) same
       ∙ node_there IsDefault (is_member nat_eq learners id) (is_voter_of nat_eq configs id) (node_at nat_cmp given id)
@@ -62,7 +62,7 @@ module _ (configs : List (List ℕ)) (learners : List ℕ) (default : ℕ) (made
       → IsReady nat_eq nat_cmp nat_cmp part made → IsStart configs learners default (tracked_state nat_eq made)
   is_new joint ids new ready =
       let known : (id : ℕ) → is_some ((state nat_eq made.progress).value id)
-          ≡ (is_voter_of nat_eq configs id || is_member nat_eq learners id) = λ id.
+      ≡ (is_voter_of nat_eq configs id || is_member nat_eq learners id) = λ id.
       ready.counts_by.known id
       ∙ ap (λ (cs : List (List ℕ)). is_voter_of nat_eq cs id || is_some (node_at nat_cmp made.membership.nodes id)) made_configs
       ∙ ap (λ (b : Bool). is_voter_of nat_eq configs id || b) (nodes id)

@@ -31,9 +31,9 @@ answered first old step steps replies last new n is one run many ends =
     let single : n ≡ 1 = many ∙ ap length found.1 in
     let first_reply : last ≡ Some found.0 =
     ends found.0 (omega arith) ∙ ap (λ k. Some (slice_index_or replies (k - 1) found.0)) single
-        ∙ ap (λ rs. Some (slice_index_or rs 0 found.0)) found.1 in
+    ∙ ap (λ rs. Some (slice_index_or rs 0 found.0)) found.1 in
     subst (λ (f : Option EngineState). AnswersStep f step last (Some new)) (sym is)
-        (subst (λ (l : Option (Reply ℕ ℕ)). AnswersStep (Some old) step l (Some new)) (sym first_reply) (new, refl, found.2))
+    (subst (λ (l : Option (Reply ℕ ℕ)). AnswersStep (Some old) step l (Some new)) (sym first_reply) (new, refl, found.2))
 
 -- a step that was answered is left where its reply is not written
 pub left_by_step : (old : Option EngineState) (said : Command) (step : Step ℕ EmptyNode ℕ) (answer : Option (Reply ℕ ℕ)) (reply : Reply ℕ ℕ)
@@ -41,7 +41,7 @@ pub left_by_step : (old : Option EngineState) (said : Command) (step : Step ℕ 
     → IsLeftByFault (RunsCommand old said) old new
 left_by_step old said step answer reply new is one answers =
     subst (λ (c : Command). IsLeftByFault (RunsCommand old c) old new) (sym is)
-        (inr (reply_text reply, (reply, subst (λ (a : Option (Reply ℕ ℕ)). AnswersStep old step a new) one answers, refl)))
+    (inr (reply_text reply, (reply, subst (λ (a : Option (Reply ℕ ℕ)). AnswersStep old step a new) one answers, refl)))
 
 -- what a fault leaves of a command, it leaves of the line that says the command
 pub left_by_line : (old : Option EngineState) (line : List ℕ) (said : Command) (new : Option EngineState) → SaysCommand line said

@@ -58,12 +58,12 @@ leads_on number held next said left line others replies reply leads is answers =
     record {
       ends = λ status more runs. subst (λ (l : List ℕ). RunsLines 1 None said status l) (sym (append_assoc replies reply more))
           (leads.ends status (reply ++ more)
-                  (subst (λ (ls : List (List ℕ)). RunsLines number held ls status (reply ++ more)) (sym is)
-                  (inr (inr (next, reply, more, refl, answers, runs)))));
+          (subst (λ (ls : List (List ℕ)). RunsLines number held ls status (reply ++ more)) (sym is)
+          (inr (inr (next, reply, more, refl, answers, runs)))));
       breaks = λ more after runs. subst (λ (l : List ℕ). RunsFirst 1 None said l after) (sym (append_assoc replies reply more))
           (leads.breaks (reply ++ more) after
-                  (subst (λ (ls : List (List ℕ)). RunsFirst number held ls (reply ++ more) after) (sym is)
-                  (inr (next, reply, more, refl, answers, runs))));
+          (subst (λ (ls : List (List ℕ)). RunsFirst number held ls (reply ++ more) after) (sym is)
+          (inr (next, reply, more, refl, answers, runs))));
     }
 
 -- lines whose end is known
@@ -85,62 +85,75 @@ module _ (script before unread now : Option (List ℕ)) (passed : ℕ) (held : O
       (some.0, leads_on (passed + 1) held next some.0 (line ∷ others) line others so_far.0 reply some.1 refl answers)
   left_on (Some text) next reply (rest, same, leads) takes answers =
       go left (subst (λ (o : Option (List ℕ)). TakesLine o line false left) same takes) where
-    go : (o : Option (List ℕ)) → TakesLine (Some rest) line false o → IsLeft (Some text) (passed + 1 + 1) next o (so_far.0 ++ reply)
-    go None takes = absurd takes
-    go (Some others) takes = (others, refl, leads_on (passed + 1) held next (lines text) (lines rest) line (lines others) so_far.0 reply
-            leads takes answers)
+        go : (o : Option (List ℕ)) → TakesLine (Some rest) line false o → IsLeft (Some text) (passed + 1 + 1) next o (so_far.0 ++ reply)
+        go None takes = absurd takes
+        go (Some others) takes = (
+          others,
+          refl,
+          leads_on (passed + 1) held next (lines text) (lines rest) line (lines others) so_far.0 reply
+              leads takes answers,
+        )
 
   -- a line is run, and others are left
   pub passed_more : (next : Option EngineState) (is_last runs : Bool) → is_last ≡ false → runs ≡ true → TakesLine unread line is_last left
       → Prints between new (AnswersLine (passed + 1) held line runs next) → Passed script before (passed + 1) next left new
   passed_more next true runs last is takes prints = absurd (true≢false last)
   passed_more next false false last is takes prints = absurd (true≢false (sym is))
-  passed_more next false true last is takes (reply, prints, answers) =
-      (so_far.0 ++ reply, printed before now between new so_far.0 reply so_far.1 kept prints, left_on script next reply so_far.2 takes
-          answers)
+  passed_more next false true last is takes (reply, prints, answers) = (
+    so_far.0 ++ reply,
+    printed before now between new so_far.0 reply so_far.1 kept prints,
+    left_on script next reply so_far.2 takes
+        answers,
+  )
 
   -- the last line is run
   pub passed_last : (next : Option EngineState) (is_last runs : Bool) → is_last ≡ true → runs ≡ true → TakesLine unread line is_last left
       → Prints between new (AnswersLine (passed + 1) held line runs next) → Prints before new (RunsScript script 0)
   passed_last next false runs last is takes prints = absurd (true≢false (sym last))
   passed_last next true false last is takes prints = absurd (true≢false (sym is))
-  passed_last next true true last is takes (reply, prints, answers) =
-      (so_far.0 ++ reply, printed before now between new so_far.0 reply so_far.1 kept prints, ends_so script unread (passed + 1) held
-              so_far.0 0 reply so_far.2 (line ∷ []) one
-              (λ text is. go text left (subst (λ (o : Option (List ℕ)). TakesLine o line true left) is takes))) where
-        one : RunsLines (passed + 1) held (line ∷ []) 0 reply
-        one = inr (inr (next, reply, [], sym (append-nil reply), answers, (refl, refl)))
+  passed_last next true true last is takes (reply, prints, answers) = (
+    so_far.0 ++ reply,
+    printed before now between new so_far.0 reply so_far.1 kept prints,
+    ends_so script unread (passed + 1) held
+        so_far.0 0 reply so_far.2 (line ∷ []) one
+        (λ text is. go text left (subst (λ (o : Option (List ℕ)). TakesLine o line true left) is takes)),
+  ) where
+    one : RunsLines (passed + 1) held (line ∷ []) 0 reply
+    one = inr (inr (next, reply, [], sym (append-nil reply), answers, (refl, refl)))
 
-        go : (text : List ℕ) (o : Option (List ℕ)) → TakesLine (Some text) line true o → RunsLines (passed + 1) held (lines text) 0 reply
-        go text None takes = absurd takes
-        go text (Some others) takes = subst (λ (ls : List (List ℕ)). RunsLines (passed + 1) held ls 0 reply) (sym takes.0) one
+    go : (text : List ℕ) (o : Option (List ℕ)) → TakesLine (Some text) line true o → RunsLines (passed + 1) held (lines text) 0 reply
+    go text None takes = absurd takes
+    go text (Some others) takes = subst (λ (ls : List (List ℕ)). RunsLines (passed + 1) held ls 0 reply) (sym takes.0) one
 
   -- a line can't be run
   pub passed_to_bad : (next : Option EngineState) (is_last runs : Bool) → runs ≡ false → TakesLine unread line is_last left
       → Prints between new (AnswersLine (passed + 1) held line runs next) → Prints before new (RunsScript script 2)
   passed_to_bad next is_last true is takes prints = absurd (true≢false is)
-  passed_to_bad next is_last false is takes (reply, prints, answers) =
-      (so_far.0 ++ reply, printed before now between new so_far.0 reply so_far.1 kept prints, ends_so script unread (passed + 1) held
-              so_far.0 2 reply so_far.2 (line ∷ []) (here [])
-              (λ text is. go text is_last left (subst (λ (o : Option (List ℕ)). TakesLine o line is_last left) is takes))) where
-        here : (others : List (List ℕ)) → RunsLines (passed + 1) held (line ∷ others) 2 reply
-        here others = inl (refl, (answers.0, refl, answers.2))
+  passed_to_bad next is_last false is takes (reply, prints, answers) = (
+    so_far.0 ++ reply,
+    printed before now between new so_far.0 reply so_far.1 kept prints,
+    ends_so script unread (passed + 1) held
+        so_far.0 2 reply so_far.2 (line ∷ []) (here [])
+        (λ text is. go text is_last left (subst (λ (o : Option (List ℕ)). TakesLine o line is_last left) is takes)),
+  ) where
+    here : (others : List (List ℕ)) → RunsLines (passed + 1) held (line ∷ others) 2 reply
+    here others = inl (refl, (answers.0, refl, answers.2))
 
-        go : (text : List ℕ) (b : Bool) (o : Option (List ℕ)) → TakesLine (Some text) line b o
-            → RunsLines (passed + 1) held (lines text) 2 reply
-        go text b None takes = absurd takes
-        go text true (Some others) takes = subst (λ (ls : List (List ℕ)). RunsLines (passed + 1) held ls 2 reply) (sym takes.0) (here [])
-        go text false (Some others) takes =
-            subst (λ (ls : List (List ℕ)). RunsLines (passed + 1) held ls 2 reply) (sym takes) (here (lines others))
+    go : (text : List ℕ) (b : Bool) (o : Option (List ℕ)) → TakesLine (Some text) line b o
+        → RunsLines (passed + 1) held (lines text) 2 reply
+    go text b None takes = absurd takes
+    go text true (Some others) takes = subst (λ (ls : List (List ℕ)). RunsLines (passed + 1) held ls 2 reply) (sym takes.0) (here [])
+    go text false (Some others) takes =
+        subst (λ (ls : List (List ℕ)). RunsLines (passed + 1) held ls 2 reply) (sym takes) (here (lines others))
 
 -- the lines up to a fault
 up_to : (number : ℕ) (held : Option EngineState) (said left : List (List ℕ)) (replies : List ℕ) → Leads number held said left replies
     → RunsFirst 1 None said replies left
 up_to number held said left replies leads =
     subst (λ (l : List ℕ). RunsFirst 1 None said l left) (append-nil replies) (leads.breaks [] left (none left)) where
-  none : (ls : List (List ℕ)) → RunsFirst number held ls [] ls
-  none [] = (refl, refl)
-  none (line ∷ others) = inl (refl, refl)
+      none : (ls : List (List ℕ)) → RunsFirst number held ls [] ls
+      none [] = (refl, refl)
+      none (line ∷ others) = inl (refl, refl)
 
 kept_printed : (before now new : Option (List ℕ)) (replies : List ℕ) → Appends before now replies → Keeps now new
     → Appends before new replies
@@ -154,26 +167,37 @@ pub broken_inside : (script before unread now : Option (List ℕ)) (passed : ℕ
     → Passed script before passed held unread now → (left new : Option (List ℕ)) → TakesPart unread left → Keeps now new
     → BreaksOff script left before new
 broken_inside None before unread now passed held so_far left new takes kept = tt
-broken_inside (Some text) before unread now passed held (replies, prints, (rest, same, leads)) left new takes kept =
-    (rest, replies, up_to (passed + 1) held (lines text) (lines rest) replies leads, inl
-            (subst (λ (o : Option (List ℕ)). TakesPart o left) same takes, kept_printed before now new replies prints kept))
+broken_inside (Some text) before unread now passed held (replies, prints, (rest, same, leads)) left new takes kept = (
+  rest,
+  replies,
+  up_to (passed + 1) held (lines text) (lines rest) replies leads,
+  inl
+      (subst (λ (o : Option (List ℕ)). TakesPart o left) same takes, kept_printed before now new replies prints kept),
+)
 
 -- a line that is read can't be answered
 pub broken_after : (script before unread now : Option (List ℕ)) (passed : ℕ) (held : Option EngineState)
     → Passed script before passed held unread now → (left new : Option (List ℕ)) (line : List ℕ) (is_last : Bool)
     → TakesLine unread line is_last left → BreaksOff script left before new
 broken_after None before unread now passed held so_far left new line is_last takes = tt
-broken_after (Some text) before unread now passed held (replies, prints, (rest, same, leads)) left new line is_last takes =
-    (rest, replies, up_to (passed + 1) held (lines text) (lines rest) replies leads, inr
-            (line, is_last, subst (λ (o : Option (List ℕ)). TakesLine o line is_last left) same takes))
+broken_after (Some text) before unread now passed held (replies, prints, (rest, same, leads)) left new line is_last takes = (
+  rest,
+  replies,
+  up_to (passed + 1) held (lines text) (lines rest) replies leads,
+  inr
+      (line, is_last, subst (λ (o : Option (List ℕ)). TakesLine o line is_last left) same takes),
+)
 
 -- all numbers are used
 pub passed_all : (script before unread now : Option (List ℕ)) (passed : ℕ) (held : Option EngineState)
     → Passed script before passed held unread now → passed + 1 ≡ 2 ^ 64 → Prints before now (RunsScript script 1)
-passed_all script before unread now passed held (replies, prints, is) used =
-    (replies, prints, subst (λ (l : List ℕ). RunsScript script 1 l) (append-nil replies)
-            (ends_so script unread (passed + 1) held replies 1 [] is ([] ∷ []) (inr (inl (refl, used, refl)))
-            (λ text is. out (lines text) (omega (arith, length-slice_split (λ byte. byte == 10) text))))) where
-      out : (ls : List (List ℕ)) → 0 < length ls → RunsLines (passed + 1) held ls 1 []
-      out [] some = absurd (omega arith)
-      out (line ∷ others) some = inr (inl (refl, used, refl))
+passed_all script before unread now passed held (replies, prints, is) used = (
+  replies,
+  prints,
+  subst (λ (l : List ℕ). RunsScript script 1 l) (append-nil replies)
+      (ends_so script unread (passed + 1) held replies 1 [] is ([] ∷ []) (inr (inl (refl, used, refl)))
+      (λ text is. out (lines text) (omega (arith, length-slice_split (λ byte. byte == 10) text)))),
+) where
+  out : (ls : List (List ℕ)) → 0 < length ls → RunsLines (passed + 1) held ls 1 []
+  out [] some = absurd (omega arith)
+  out (line ∷ others) some = inr (inl (refl, used, refl))

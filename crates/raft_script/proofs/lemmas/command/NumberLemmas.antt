@@ -26,8 +26,8 @@ module _ (word : List ℕ) (i : ℕ) (within : i < length word) (b : ℕ) (byte 
     pub too_great : ¬ (n * 10 + digit_value b < 2 ^ 64) → ¬ (IsNumeral 10 word × (digits_value 10 word < 2 ^ 64))
     too_great above (numeral, fits) =
         let more : digits_value 10 (take (i + 1) word) ≡ n * 10 + digit_value b =
-            digits_value_more 10 word i within ∙ ap (λ m. m * 10 + digit_value (get_or word i 0)) (sym so_far)
-            ∙ ap (λ c. n * 10 + digit_value c) (sym byte) in
+        digits_value_more 10 word i within ∙ ap (λ m. m * 10 + digit_value (get_or word i 0)) (sym so_far)
+        ∙ ap (λ c. n * 10 + digit_value c) (sym byte) in
         let at_most : digits_value 10 (take (i + 1) word) ≤ digits_value 10 word = digits_value-take-le 10 word (i + 1) (omega arith) in
         above (omega arith)
 

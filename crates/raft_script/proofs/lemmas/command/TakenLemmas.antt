@@ -31,7 +31,7 @@ apart a b other same = true≢false (sym ((bytes_eq-Decides a b).1 same) ∙ oth
 
 -- a change, where what it is given does not fit
 pub no_change : (left : List (List ℕ)) → ((change : ChangeMembers ℕ EmptyNode) (retain : Bool) (default : ℕ)
-        → ¬ ((Is (kind_word change) ▸ IsListOf (speaks_of change) ▸ Is (retain_word retain) ▸ IsNumberOf default ▸ End) left))
+    → ¬ ((Is (kind_word change) ▸ IsListOf (speaks_of change) ▸ Is (retain_word retain) ▸ IsNumberOf default ▸ End) left))
     → SpellsNone (codes "change" ∷ left)
 no_change left lack (Init default configs learners) said = apart (codes "change") (codes "init") refl said.0
 no_change left lack (command.Step (Update id value)) said = apart (codes "change") (codes "update") refl said.0
@@ -41,21 +41,21 @@ no_change left lack (command.Step (Change change retain default)) said = lack ch
 -- where no kind and ids of a change come first
 pub change_lacks : (left : List (List ℕ)) → LacksChange left → SpellsNone (codes "change" ∷ left)
 change_lacks left lack = no_change left (λ change retain default. without_others left change
-        (Is (retain_word retain) ▸ IsNumberOf default ▸ End) (lack change)) where
-  without_others : (old : List (List ℕ)) (change : ChangeMembers ℕ EmptyNode) (Others : List (List ℕ) → Type 0)
-      → ¬ ((Is (kind_word change) ▸ IsListOf (speaks_of change) ▸ Whatever) old)
-      → ¬ ((Is (kind_word change) ▸ IsListOf (speaks_of change) ▸ Others) old)
-  without_others [] change Others none fit = fit
-  without_others (word ∷ []) change Others none fit = fit.1
-  without_others (word ∷ next ∷ others) change Others none fit = none (fit.0, (fit.1.0, tt))
+    (Is (retain_word retain) ▸ IsNumberOf default ▸ End) (lack change)) where
+      without_others : (old : List (List ℕ)) (change : ChangeMembers ℕ EmptyNode) (Others : List (List ℕ) → Type 0)
+          → ¬ ((Is (kind_word change) ▸ IsListOf (speaks_of change) ▸ Whatever) old)
+          → ¬ ((Is (kind_word change) ▸ IsListOf (speaks_of change) ▸ Others) old)
+      without_others [] change Others none fit = fit
+      without_others (word ∷ []) change Others none fit = fit.1
+      without_others (word ∷ next ∷ others) change Others none fit = none (fit.0, (fit.1.0, tt))
 
 -- where nothing is said of voters that go
 pub retain_lacks : {taken : ChangeMembers ℕ EmptyNode} (old : Words) {left : Words} → TakesChange taken old left
     → LacksRetain (left_in left) → SpellsNone (codes "change" ∷ left_in old)
 retain_lacks old {left} takes lack = no_change (left_in old) (λ change retain default.
     others_lack (Is (kind_word change)) _ takes.kind
-        (others_lack (IsListOf (speaks_of change)) _ takes.ids
-            (first_lacks (λ word fit. fit) (left_in left) (IsNumberOf default ▸ End) (lack retain))))
+    (others_lack (IsListOf (speaks_of change)) _ takes.ids
+    (first_lacks (λ word fit. fit) (left_in left) (IsNumberOf default ▸ End) (lack retain))))
 
 -- a name of no command
 pub no_name : (name : List ℕ) (left : List (List ℕ)) → name ≢ codes "init" → name ≢ codes "update" → name ≢ codes "increase"

@@ -1,6 +1,27 @@
 -- The words of a line, taken one by one.
-use Rattle.std.specs.Prelude.{◌≡◌, ◌==◌, ◌<◌, ◌≤◌, ◌+◌, ◌-◌, ℕ, Bool, true, false, cond, List, [], ◌∷◌, filter, length, not, Option, Some,
-        None, unwrap_or}
+use Rattle.std.specs.Prelude.{
+  ◌≡◌,
+  ◌==◌,
+  ◌<◌,
+  ◌≤◌,
+  ◌+◌,
+  ◌-◌,
+  ℕ,
+  Bool,
+  true,
+  false,
+  cond,
+  List,
+  [],
+  ◌∷◌,
+  filter,
+  length,
+  not,
+  Option,
+  Some,
+  None,
+  unwrap_or,
+}
 use Rattle.std.specs.List.{slice_split, onto_first, position_or_len}
 use Rattle.std.proofs.Common.{refl, sym, ap, ◌∙◌, take, drop, arith, get_or, ltb, length-drop}
 use Rattle.std.proofs.lemmas.Bool.{ltb-true, ltb-false}
@@ -37,7 +58,7 @@ opened x xs other = ap (λ (b : Bool). filled (cond b ([] ∷ parts xs) (onto_fi
 within : (x y : ℕ) (ys : List ℕ) → (y == 32) ≡ false → words (y ∷ ys) ≡ (y ∷ take (before ys) ys) ∷ words (drop (before ys) ys)
     → filled (onto_first x (onto_first y (parts ys))) ≡ (x ∷ take (1 + before ys) (y ∷ ys)) ∷ words (drop (1 + before ys) (y ∷ ys))
 within x y ys other next = rw one-add (longer x y (take (before ys) ys) (words (drop (before ys) ys)) (parts ys)
-        (sym (opened y ys other) ∙ next))
+    (sym (opened y ys other) ∙ next))
 
 by_test : (x y : ℕ) (ys : List ℕ) (b : Bool) → (y == 32) ≡ b
     → (b ≡ false → words (y ∷ ys) ≡ (y ∷ take (before ys) ys) ∷ words (drop (before ys) ys))
@@ -107,15 +128,15 @@ pub one_word : (line from : List ℕ) (place : Option ℕ) (start : ℕ) (size :
 one_word line from place start size n is some whole sized end =
     let at = found (spaces line) (length line) _ start refl (sym is ∙ some) in
     let from_start : from ≡ drop start line =
-        whole ∙ take_all (length line - start) (drop start line) (omega (arith, length-drop {A = ℕ})) in
+    whole ∙ take_all (length line - start) (drop start line) (omega (arith, length-drop {A = ℕ})) in
     let up : n ≡ before from = end ∙ ap (λ o. unwrap_or o (length from)) sized
-        ∙ up_to (before from) (length from) _ refl (prefix_len-le-length (λ b. not (b == 32)) from) in
+    ∙ up_to (before from) (length from) _ refl (prefix_len-le-length (λ b. not (b == 32)) from) in
     let same : words line ≡ words from = sym (skipped line) ∙ ap (λ k. words (drop k line)) (sym at.0) ∙ ap words (sym from_start) in
     let some_left : 0 < length from = omega (arith, ap length from_start, length-drop start line) in
     let first : get_or from 0 0 ≡ get_or line (spaces line) 0 =
-        ap (λ l. get_or l 0 0) from_start ∙ get_or-drop start line 0 0 ∙ ap (λ k. get_or line k 0) (omega (arith, at.0)) in
+    ap (λ l. get_or l 0 0) from_start ∙ get_or-drop start line 0 0 ∙ ap (λ k. get_or line k 0) (omega (arith, at.0)) in
     let no_space : (get_or from 0 0 == 32) ≡ false =
-        ap (λ b. b == 32) first ∙ not_so _ (passes_at_first (λ b. not (b == 32)) line 0 (omega (arith, at.0, at.1))) in
+    ap (λ b. b == 32) first ∙ not_so _ (passes_at_first (λ b. not (b == 32)) line 0 (omega (arith, at.0, at.1))) in
     same
     ∙ taken from some_left no_space
     ∙ ap (λ k. take k from ∷ words (drop k from)) (sym up)

@@ -9,6 +9,6 @@ use Rattle.raft_script.proofs.script.answer_line.Goals as goal
 pub returns-in_err-run_command-in-Ok-Some-clause-fault : goal.returns-in_err-run_command-in-Ok-Some-clause-fault
 returns-in_err-run_command-in-Ok-Some-clause-fault g c =
     let says = subst (λ (o : Option Command). IfSome o (SaysCommand c.args.line.now)) c.in-Ok-Some.field-0-is
-        c.in-Ok-Some.ensures.command in
+    c.in-Ok-Some.ensures.command in
     MatchResult-from_err c.from_residual.result (λ _. ⊤) _ c.from_residual.ensures.0
-        (λ _. left_by_line _ c.args.line.now c.in-Ok-Some.command _ says c.in_err-run_command-in-Ok-Some.ensures.fault)
+    (λ _. left_by_line _ c.args.line.now c.in-Ok-Some.command _ says c.in_err-run_command-in-Ok-Some.ensures.fault)

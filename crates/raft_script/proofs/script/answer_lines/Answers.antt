@@ -2,8 +2,15 @@ use Rattle.std.specs.Prelude.{⊤}
 use Rattle.std.proofs.lemmas.Result.{MatchResult-from_err}
 use Rattle.std.proofs.Common.{arith, rules}
 use Rattle.raft_script.specs.Engine.{engine_state}
-use Rattle.raft_script.proofs.lemmas.ScriptLemmas.{broken_after, broken_inside, passed_all, passed_last, passed_more, passed_none,
-        passed_to_bad}
+use Rattle.raft_script.proofs.lemmas.ScriptLemmas.{
+  broken_after,
+  broken_inside,
+  passed_all,
+  passed_last,
+  passed_more,
+  passed_none,
+  passed_to_bad,
+}
 use Rattle.raft_script.proofs.script.answer_lines.Goals as goal
 
 pub loop-passed-init : goal.loop-passed-init

@@ -17,16 +17,16 @@ returns-in_err-config-clause-bad_line c bad configs =
     let chain = YieldsList-from_slice_split _ (λ byte. byte == 47) c.args.word.now (cc) (cc) (cc) (λ x r q k. search (rules, tests)) in
     let turn = YieldsList-turn chain c.loop-part.yielded _ c.loop-part.yielded_by _ _ c.in-Some.part c.in-Some.is c.next.ensures.steps in
     not_all IsList _ _ c.in-Some.part.now turn.0 turn.1 (c.list.ensures.bad_line bad_list)
-        (subst (All IsList) (lists_of_other c.args.word.now (c.if-eq.ensures ∙ ap (pointwise nat_eq c.args.word.now) c.as_slice.ensures))
-            configs)
+    (subst (All IsList) (lists_of_other c.args.word.now (c.if-eq.ensures ∙ ap (pointwise nat_eq c.args.word.now) c.as_slice.ensures))
+    configs)
 
 pub loop-part-preserved : goal.loop-part-preserved
 loop-part-preserved c =
     let words = map (λ (part : Bor (List ℕ)). part.now) c.loop-part.yielded in
     let now = map-append (λ (part : Bor (List ℕ)). part.now) c.loop-part.yielded (c.in-Some.part ∷ []) in
     let pushed = c.push.ensures.items ∙ ap
-        (λ (b : Bool). if b then c.loop-part.configs.items ++ c.in_ok-config.config ∷ [] else c.loop-part.configs.items)
-        (sym c.map_err.ensures.variant ∙ ap is_ok c.in_ok-map_err.was) in
+    (λ (b : Bool). if b then c.loop-part.configs.items ++ c.in_ok-config.config ∷ [] else c.loop-part.configs.items)
+    (sym c.map_err.ensures.variant ∙ ap is_ok c.in_ok-map_err.was) in
     record {
       lists = subst (All IsList) (sym now)
           (All-push IsList words c.in-Some.part.now c.loop-part.invariant.lists c.in_ok-config.ensures.list.0);
@@ -38,6 +38,8 @@ pub returns-clause-configs : goal.returns-clause-configs
 returns-clause-configs c =
     let chain = YieldsList-from_slice_split _ (λ byte. byte == 47) c.args.word.now (cc) (cc) (cc) (λ x r q k. search (rules, tests)) in
     let end = YieldsList-end chain c.loop-part.yielded _ c.loop-part.yielded_by _ _ c.in-None.is c.next.ensures.steps in
-    let all = end.0 ∙ sym (lists_of_other c.args.word.now (c.if-eq.ensures ∙ ap (pointwise nat_eq c.args.word.now) c.as_slice.ensures)) in
-    (subst (All IsList) all c.loop-part.invariant.lists, subst (AllZip HasNumbersOf c.loop-part.configs.items) all
-            c.loop-part.invariant.configs)
+    let all = end.0 ∙ sym (lists_of_other c.args.word.now (c.if-eq.ensures ∙ ap (pointwise nat_eq c.args.word.now) c.as_slice.ensures)) in (
+      subst (All IsList) all c.loop-part.invariant.lists,
+      subst (AllZip HasNumbersOf c.loop-part.configs.items) all
+          c.loop-part.invariant.configs,
+    )

@@ -21,8 +21,8 @@ returns-in_err-number-clause-bad_line c bad list =
     let chain = YieldsList-from_slice_split _ (λ byte. byte == 44) c.args.word.now (cc) (cc) (cc) (λ x r q k. search (rules, tests)) in
     let turn = YieldsList-turn chain c.loop-part.yielded _ c.loop-part.yielded_by _ _ c.in-Some.part c.in-Some.is c.next.ensures.steps in
     not_all IsNumber _ _ c.in-Some.part.now turn.0 turn.1 (no_number _ _ c.number.ensures none)
-        (subst (All IsNumber) (parts_of_other c.args.word.now (c.if-eq.ensures ∙ ap (pointwise nat_eq c.args.word.now) c.as_slice.ensures))
-            list)
+    (subst (All IsNumber) (parts_of_other c.args.word.now (c.if-eq.ensures ∙ ap (pointwise nat_eq c.args.word.now) c.as_slice.ensures))
+    list)
 
 pub loop-part-preserved : goal.loop-part-preserved
 loop-part-preserved c =
@@ -30,7 +30,7 @@ loop-part-preserved c =
     let now = map-append (λ (part : Bor (List ℕ)). part.now) c.loop-part.yielded (c.in-Some.part ∷ []) in
     let number = number_of c.in-Some.part.now c.number.result c.in_ok-number.number c.number.ensures (grind arith) in
     let updated = where_ok c.insert.result c.map_err.result c.in_ok-map_err.field-0 _ c.map_err.ensures.variant c.in_ok-map_err.was
-        c.insert.ensures.updates in
+    c.insert.ensures.updates in
     record {
       numbers = subst (All IsNumber) (sym now) (All-push IsNumber words c.in-Some.part.now c.loop-part.invariant.numbers number.0);
       has = λ n.
@@ -42,6 +42,8 @@ pub returns-clause-list : goal.returns-clause-list
 returns-clause-list c =
     let chain = YieldsList-from_slice_split _ (λ byte. byte == 44) c.args.word.now (cc) (cc) (cc) (λ x r q k. search (rules, tests)) in
     let end = YieldsList-end chain c.loop-part.yielded _ c.loop-part.yielded_by _ _ c.in-None.is c.next.ensures.steps in
-    let all = end.0 ∙ sym (parts_of_other c.args.word.now (c.if-eq.ensures ∙ ap (pointwise nat_eq c.args.word.now) c.as_slice.ensures)) in
-    (subst (All IsNumber) all c.loop-part.invariant.numbers, λ n. c.loop-part.invariant.has n
-            ∙ ap (list_any (λ part. digits_value 10 part == n)) all)
+    let all = end.0 ∙ sym (parts_of_other c.args.word.now (c.if-eq.ensures ∙ ap (pointwise nat_eq c.args.word.now) c.as_slice.ensures)) in (
+      subst (All IsNumber) all c.loop-part.invariant.numbers,
+      λ n. c.loop-part.invariant.has n
+          ∙ ap (list_any (λ part. digits_value 10 part == n)) all,
+    )

@@ -6,20 +6,20 @@ use Rattle.raft_script.proofs.script.command.number.Goals as goal
 pub returns-in_err-digit : goal.returns-in_err-digit
 returns-in_err-digit c =
     none_where_not _ _ c.from_residual.ensures
-        (no_digit c.args.word.now c.loop-byte.byte-index c.loop-byte-test.true c.from.result c.from.ensures c.in_err-digit.ensures.value)
+    (no_digit c.args.word.now c.loop-byte.byte-index c.loop-byte-test.true c.from.result c.from.ensures c.in_err-digit.ensures.value)
 
 pub returns-in_err-checked_mul : goal.returns-in_err-checked_mul
 returns-in_err-checked_mul c =
     none_where_not _ _ c.from_residual-in_err-checked_mul.ensures
-        (too_great c.args.word.now c.loop-byte.byte-index c.loop-byte-test.true c.from.result c.from.ensures c.loop-byte.value
-            c.loop-byte.invariant.value (λ below. c.in_err-checked_mul.ensures (omega arith)))
+    (too_great c.args.word.now c.loop-byte.byte-index c.loop-byte-test.true c.from.result c.from.ensures c.loop-byte.value
+    c.loop-byte.invariant.value (λ below. c.in_err-checked_mul.ensures (omega arith)))
 
 pub returns-in_err-value : goal.returns-in_err-value
 returns-in_err-value c =
     none_where_not _ _ c.from_residual-in_err-value.ensures
-        (too_great c.args.word.now c.loop-byte.byte-index c.loop-byte-test.true c.from.result c.from.ensures c.loop-byte.value
-            c.loop-byte.invariant.value (λ below. c.in_err-value.ensures
-            (omega (arith, c.in_ok-checked_mul.ensures, c.in_ok-digit.ensures.value))))
+    (too_great c.args.word.now c.loop-byte.byte-index c.loop-byte-test.true c.from.result c.from.ensures c.loop-byte.value
+    c.loop-byte.invariant.value (λ below. c.in_err-value.ensures
+    (omega (arith, c.in_ok-checked_mul.ensures, c.in_ok-digit.ensures.value))))
 
 pub loop-byte-preserved : goal.loop-byte-preserved
 loop-byte-preserved c = record {

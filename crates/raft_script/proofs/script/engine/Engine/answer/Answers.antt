@@ -10,11 +10,11 @@ use Rattle.raft_script.proofs.script.engine.Engine.answer.Goals as goal
 pub returns-clause-ok : goal.returns-clause-ok
 returns-clause-ok c =
     answered _ (tracked_state nat_eq (tracked c.in-Some.tracked)) c.args.step c.in_ok-steps.steps.items c.in_ok-replies.replies.items
-        c.pop.result (tracked_state nat_eq (tracked c.replay.new.cluster)) _
-        (ap (option_map (λ t. tracked_state nat_eq (tracked t))) c.in-Some.is) c.in_ok-steps.ensures.items c.in_ok-replies.ensures.run
-        c.in_ok-replies.replies.ok.0 c.pop.ensures.value
+    c.pop.result (tracked_state nat_eq (tracked c.replay.new.cluster)) _
+    (ap (option_map (λ t. tracked_state nat_eq (tracked t))) c.in-Some.is) c.in_ok-steps.ensures.items c.in_ok-replies.ensures.run
+    c.in_ok-replies.replies.ok.0 c.pop.ensures.value
 
 pub returns-in_err-replies-clause-err : goal.returns-in_err-replies-clause-err
 returns-in_err-replies-clause-err c =
     MatchResult-from_err c.from_residual-in_err-replies.result (λ _. ⊤) _ c.from_residual-in_err-replies.ensures.0
-        (λ _. ap Some c.in_err-replies.ensures.err ∙ sym (ap (option_map tracked) c.in-Some.is))
+    (λ _. ap Some c.in_err-replies.ensures.err ∙ sym (ap (option_map tracked) c.in-Some.is))

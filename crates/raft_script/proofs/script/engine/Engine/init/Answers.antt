@@ -6,4 +6,4 @@ returns-clause-ok c =
     let nodes = c.in_ok-membership.ensures.nodes in
     let progress = c.in_ok-tracked.ensures.progress in
     is_new _ c.args.learners.keys c.args.default _ _ c.in_ok-tracked.ensures.membership c.in_ok-membership.ensures.configs _ nodes.0 nodes.1
-        nodes.2 progress.configs _ progress.begins.values c.in_ok-tracked.ensures.ready
+    nodes.2 progress.configs _ progress.begins.values c.in_ok-tracked.ensures.ready
