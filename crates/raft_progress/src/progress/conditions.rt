@@ -1,9 +1,11 @@
-//! The tests for the conditions of calls: that learners fit, that a progress is in order, and that
-//! no inherited value is below a default.
+//! The tests for the conditions of calls: that learners fit, that a progress is in order, that no
+//! inherited value is below a default, and that no value's part falls.
 ghost use Rattle.std.specs.Prelude.{◌≡◌};
 ghost use Rattle.std.specs.List.{list_all, list_any};
+ghost use Rattle.std.specs.Option.{option_copied};
 ghost use Rattle.raft_progress.specs.Inner.Recount.{at_least};
 ghost use Rattle.raft_progress.specs.Inner.Conditions.{among, apart, comes_before, ids_differ, is_ordered, never_rises};
+ghost use Rattle.raft_progress.specs.progress.Steps.{falls};
 
 use super::part::ProgressPart;
 
@@ -92,5 +94,15 @@ pub(crate) fn is_before<ID: Copy + Ord>(id: ID, least: Option<ID>) -> bool
     match least {
         Some(least) => id.cmp(&least).is_lt(),
         None => true,
+    }
+}
+
+/// Whether the value's part is below that of the present value.
+pub(crate) fn would_fall<V: ProgressPart<P>, P: Copy + Ord>(current: Option<&V>, value: &V) -> bool
+    ensures { result ≡ falls P.cmp V.part_of (option_copied current.entry) value.now }
+{
+    match current {
+        Some(current) => value.part().cmp(&current.part()).is_lt(),
+        None => false,
     }
 }

@@ -15,6 +15,7 @@ ghost use Rattle.raft_progress.specs.progress.VecProgress.{shown};
 ghost use Rattle.raft_progress.specs.progress.Steps.{IsRun, falls, stays};
 
 use super::Progress;
+use super::conditions::would_fall;
 use super::part::ProgressPart;
 use super::steps::{AnyStep, Reply};
 use super::vec_progress::VecProgress;
@@ -209,16 +210,6 @@ fn is_not_greater<V: PartialOrd>(current: Option<&V>, value: &V) -> bool
 {
     match current {
         Some(current) => !(*value > *current),
-        None => false,
-    }
-}
-
-/// Whether the value's part is below that of the present value.
-pub(crate) fn would_fall<V: ProgressPart<P>, P: Copy + Ord>(current: Option<&V>, value: &V) -> bool
-    ensures { result ≡ falls P.cmp V.part_of (option_copied current.entry) value.now }
-{
-    match current {
-        Some(current) => value.part().cmp(&current.part()).is_lt(),
         None => false,
     }
 }

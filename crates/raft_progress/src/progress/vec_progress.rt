@@ -5,11 +5,10 @@ ghost use Rattle.std.proofs.Props.{props};
 ghost use Rattle.raft_progress.specs.Inner.Places.{TellsPlaces, place_in};
 
 use super::Progress;
-use super::conditions::{are_apart, is_among, is_before, is_ordered};
+use super::conditions::{are_apart, is_among, is_before, is_ordered, would_fall};
 use super::part::{ProgressPart, is_at_most, is_below};
 use super::places::Places;
 use super::recount::count;
-use super::replay_any_steps::would_fall;
 use super::rise::move_up;
 use super::scan::{gather_leading, least_front};
 use super::stat::Stat;
