@@ -2,7 +2,6 @@
 //! quorum of the voters has reached.
 
 mod conditions;
-mod display;
 mod part;
 mod places;
 mod recount;

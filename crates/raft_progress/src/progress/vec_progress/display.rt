@@ -1,8 +1,8 @@
 //! The text of a progress.
 
-use super::Progress;
-use super::part::ProgressPart;
-use super::vec_progress::VecProgress;
+use super::VecProgress;
+use crate::progress::Progress;
+use crate::progress::part::ProgressPart;
 use raft_members::quorum::QuorumSet;
 use std::fmt;
 use std::fmt::Display;

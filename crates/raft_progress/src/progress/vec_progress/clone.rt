@@ -1,0 +1,69 @@
+//! Clones of a progress.
+
+use super::VecProgress;
+use crate::progress::walk::{clone_walk, copy_ids};
+use std::alloc::AllocError;
+
+impl<ID: Copy + Ord, V: Clone, P: Copy + Ord, QS: Drop> VecProgress<ID, V, P, QS> {
+    ghost use Rattle.std.specs.Prelude.{◌≡◌, IfOk};
+    ghost use Rattle.raft_progress.specs.progress.Equal.{IsCloned};
+    ghost use Rattle.raft_progress.specs.progress.VecProgress.{is_stale, shown};
+
+    /// A clone of the values over a quorum set, which reserves the room that `new` does. Where the
+    /// map here is not marked as stale, that of the clone is not, and so it tells every place.
+    pub(crate) fn clone_over(&self, quorum_set: QS) -> Result<Self, AllocError>
+        ensures cloned { IfOk result (λ made.
+            IsCloned V.is_clone (λ old new. new ≡ quorum_set) (shown self.now) (shown made)) }
+        ensures mark { IfOk result (λ made. is_stale made ≡ is_stale self.now) }
+    {
+        let alloc = *self.walk.allocator();
+        Ok(VecProgress {
+            quorum_set,
+            granted: self.granted,
+            default_part: self.default_part,
+            voter_count: self.voter_count,
+            walk: clone_walk(alloc, &self.walk)?,
+            places: self.places.try_clone()?,
+            stale: self.stale,
+            room: copy_ids(alloc, &self.room)?,
+            stat: self.stat.clone()?,
+        })
+    }
+}
+
+/// A clone reserves the room that `new` does.
+impl<ID: Copy + Ord, V: Clone, P: Copy + Ord, QS: Clone> Clone for VecProgress<ID, V, P, QS> {
+    ghost use Rattle.raft_progress.specs.progress.Equal.{IsCloned};
+    ghost use Rattle.raft_progress.specs.progress.VecProgress.{shown};
+
+    ghost is_clone = { λ old new. IsCloned V.is_clone QS.is_clone (shown old) (shown new) };
+
+    fn clone(&self) -> Result<Self, AllocError> {
+        let quorum_set = self.quorum_set.clone()?;
+        self.clone_over(quorum_set)
+    }
+}
+
+impl<ID: Copy + Ord, V: Clone + PartialEq, P: Copy + Ord, QS: Clone + PartialEq> VecProgress<
+    ID,
+    V,
+    P,
+    QS,
+> {
+    ghost use Rattle.std.specs.Prelude.{IfOk, IsTrue};
+    ghost use Rattle.std.specs.Set.{ClonesAreEqual};
+    ghost use Rattle.raft_progress.specs.progress.Equal.{IsCloned, equal};
+    ghost use Rattle.raft_progress.specs.progress.VecProgress.{shown};
+
+    /// An equal progress, where clones of values and of quorum sets equal their sources.
+    pub fn try_clone(&self) -> Result<Self, AllocError>
+        requires values { ClonesAreEqual V.eq V.is_clone }
+        requires quorum_sets { ClonesAreEqual QS.eq QS.is_clone }
+        ensures equal { IfOk result (λ made.
+            IsTrue (equal ID.eq V.eq P.eq QS.eq (shown self.now) (shown made))) }
+        ensures cloned { IfOk result (λ made.
+            IsCloned V.is_clone QS.is_clone (shown self.now) (shown made)) }
+    {
+        self.clone()
+    }
+}

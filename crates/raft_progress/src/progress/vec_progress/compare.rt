@@ -1,0 +1,49 @@
+//! When two progresses are equal, and the text of what is compared.
+
+use super::VecProgress;
+use std::fmt;
+
+/// What is compared, and no more.
+impl<ID: Copy + Ord + fmt::Debug, V: fmt::Debug, P: fmt::Debug, QS: fmt::Debug> fmt::Debug
+    for VecProgress<ID, V, P, QS> {
+    fn fmt<W: fmt::Write>(&self, f: &mut fmt::Formatter<W>) -> fmt::Result {
+        f.debug_struct("VecProgress")
+            .field("quorum_set", &self.quorum_set)
+            .field("granted", &self.granted)
+            .field("default_part", &self.default_part)
+            .field("voter_count", &self.voter_count)
+            .field("walk", &self.walk)
+            .field("stat", &self.stat)
+            .finish()
+    }
+}
+
+impl<ID: Copy + Ord, V: PartialEq, P: Copy + Ord, QS: PartialEq> PartialEq
+    for VecProgress<ID, V, P, QS> {
+    ghost use Rattle.std.specs.Cmp.{on_per};
+    ghost use Rattle.raft_progress.specs.progress.Equal.{equal};
+    ghost use Rattle.raft_progress.specs.progress.EqualLawful.{equal-per};
+    ghost use Rattle.raft_progress.specs.progress.VecProgress.{shown};
+
+    ghost eq = { λ a b. equal ID.eq V.eq P.eq QS.eq (shown a) (shown b) };
+
+    ghost laws = { on_per shown
+        (equal-per ID.PartialEq.laws V.PartialEq.laws P.PartialEq.laws QS.PartialEq.laws) };
+
+    fn eq(&self, other: &Self) -> bool {
+        self.quorum_set == other.quorum_set
+            && self.granted == other.granted
+            && self.voter_count == other.voter_count
+            && self.walk == other.walk
+            && self.default_part == other.default_part
+            && self.stat == other.stat
+    }
+}
+
+impl<ID: Copy + Ord, V: Eq, P: Copy + Ord, QS: Eq> Eq for VecProgress<ID, V, P, QS> {
+    ghost use Rattle.std.specs.Cmp.{on_equiv};
+    ghost use Rattle.raft_progress.specs.progress.EqualLawful.{equal-equiv};
+    ghost use Rattle.raft_progress.specs.progress.VecProgress.{shown};
+
+    ghost laws = { on_equiv shown (equal-equiv ID.Eq.laws V.Eq.laws P.Eq.laws QS.Eq.laws) };
+}

@@ -1,0 +1,193 @@
+//! How a value is written, and what is granted after it.
+ghost use Rattle.std.specs.Prelude.{◌≡◌, ◌≤◌, ◌<◌, ℕ, is_some, length, position, slice_get};
+ghost use Rattle.std.specs.Borrow.{sem};
+ghost use Rattle.std.specs.Fn.{FnOnceTakesAtMut};
+ghost use Rattle.std.specs.List.{IsDistinct};
+ghost use Rattle.std.specs.Map.{keys_of};
+ghost use Rattle.std.specs.Option.{ForSome, option_copied_mut};
+ghost use Rattle.raft_progress.specs.Inner.Lent.{LendsUnmarked};
+ghost use Rattle.raft_progress.specs.Inner.Settled.{IsPutInOrder, IsRisen, IsScanned};
+ghost use Rattle.raft_progress.specs.progress.CountedValue.{AtMost};
+ghost use Rattle.raft_progress.specs.progress.InOrder.{IsInOrder};
+ghost use Rattle.raft_progress.specs.progress.Lends.{Leaves};
+ghost use Rattle.raft_progress.specs.progress.Shown.{state};
+ghost use Rattle.raft_progress.specs.progress.Updated.{IsUpdated, NeverFalls};
+ghost use Rattle.raft_progress.specs.progress.VecProgress.{is_stale, shown};
+
+use super::VecProgress;
+use crate::progress::part::{ProgressPart, is_at_most, is_below};
+use crate::progress::rise::move_up;
+use crate::progress::scan::{gather_leading, least_front};
+use crate::progress::walk::write_at;
+use raft_members::quorum::QuorumSet;
+
+impl<
+    ID: Copy + Ord,
+    V: ProgressPart<P> + Drop,
+    P: Copy + Ord,
+    QS: QuorumSet<ID> + Drop,
+> VecProgress<ID, V, P, QS> {
+    /// The value of an id, to be written. The map is not marked as stale, since no id is lent.
+    pub(super) fn value_mut(&mut self, id: &ID) -> Option<&mut V>
+        ensures* writes_back { sem 𝓛 (LendsUnmarked ID.row V.row P.row QS.row ID.Ord.own
+            ID.PartialEq ID.PartialOrd.own self.entry id.now result) }
+        ensures value { option_copied_mut result ≡ (state ID.eq (shown self.old)).value id.now }
+    {
+        match self.index(id) {
+            Some(place) => {
+                let entry = &mut self.walk[place];
+                Some(&mut entry.1)
+            }
+            None => None,
+        }
+    }
+
+    /// Changes the value of an id by `f`, recounts granted, and answers whether the id is known.
+    #[inline(always)]
+    pub(super) fn apply<F: FnOnce(&mut V)>(&mut self, id: &ID, f: F) -> bool
+        requires ordered { IsInOrder ID.eq P.cmp V.part_of QS.has_quorum (shown self.old) }
+        requires callable { ForSome ((state ID.eq (shown self.old)).value id.now)
+            (FnOnceTakesAtMut F.FnOnce f) }
+        requires not_lower { NeverFalls ID.eq P.cmp V.part_of (Leaves F.FnOnce f)
+            (shown self.old) id.now }
+        ensures updated { IsUpdated ID.eq P.cmp V.part_of (Leaves F.FnOnce f)
+            (shown self.old) id.now (shown self.new) }
+        ensures ordered { IsInOrder ID.eq P.cmp V.part_of QS.has_quorum (shown self.new) }
+        ensures known { result ≡ is_some ((state ID.eq (shown self.old)).value id.now) }
+        ensures mark { is_stale self.new ≡ is_stale self.old }
+    {
+        if self.stale {
+            return self.apply_searching(id, f);
+        }
+        let found = self.places.get(id);
+        self.apply_at(found, f)
+    }
+
+    /// The same for an id whose place is searched for in the walk.
+    // Marked as cold, so that an update that asks the map is not held up by what the search needs.
+    #[cold]
+    fn apply_searching<F: FnOnce(&mut V)>(&mut self, id: &ID, f: F) -> bool
+        requires ordered { IsInOrder ID.eq P.cmp V.part_of QS.has_quorum (shown self.old) }
+        requires callable { ForSome ((state ID.eq (shown self.old)).value id.now)
+            (FnOnceTakesAtMut F.FnOnce f) }
+        requires not_lower { NeverFalls ID.eq P.cmp V.part_of (Leaves F.FnOnce f)
+            (shown self.old) id.now }
+        ensures updated { IsUpdated ID.eq P.cmp V.part_of (Leaves F.FnOnce f)
+            (shown self.old) id.now (shown self.new) }
+        ensures ordered { IsInOrder ID.eq P.cmp V.part_of QS.has_quorum (shown self.new) }
+        ensures known { result ≡ is_some ((state ID.eq (shown self.old)).value id.now) }
+        ensures mark { is_stale self.new ≡ is_stale self.old }
+    {
+        let found = self.place_in_walk(id);
+        self.apply_at(found, f)
+    }
+
+    /// The same for the id whose place a look-up has found.
+    #[inline(always)]
+    fn apply_at<F: FnOnce(&mut V)>(&mut self, found: Option<usize>, f: F) -> bool
+        requires within { ForSome found (λ place. place < length (shown self.old).walk) }
+        requires ordered { IsInOrder ID.eq P.cmp V.part_of QS.has_quorum (shown self.old) }
+        requires callable { (place : ℕ) (e : ID × V) → found ≡ Some place →
+            slice_get (shown self.old).walk place ≡ Some e → FnOnceTakesAtMut F.FnOnce f e.1 }
+        requires not_lower { (place : ℕ) (e : ID × V) (w : V) → found ≡ Some place →
+            slice_get (shown self.old).walk place ≡ Some e → Leaves F.FnOnce f e.1 w →
+            AtMost P.cmp (V.part_of e.1) (V.part_of w) }
+        ensures updated { (id : ID) → found ≡ position (λ e. ID.eq id e.0) (shown self.old).walk →
+            IsUpdated ID.eq P.cmp V.part_of (Leaves F.FnOnce f)
+            (shown self.old) id (shown self.new) }
+        ensures ordered { (id : ID) → found ≡ position (λ e. ID.eq id e.0) (shown self.old).walk →
+            IsInOrder ID.eq P.cmp V.part_of QS.has_quorum (shown self.new) }
+        ensures known { result ≡ is_some found }
+        ensures mark { is_stale self.new ≡ is_stale self.old }
+    {
+        // The proof knows that a count fits a u64 once it has been read.
+        let _counts = (self.stat.move_count, self.stat.is_quorum_count);
+        self.stat.update_count = self.stat.update_count.saturating_add(1);
+        match found {
+            Some(place) => {
+                let (before, after) = write_at(&mut self.walk, place, f);
+                self.settle(place, before, after);
+                true
+            }
+            None => false,
+        }
+    }
+
+    /// Puts the progress in order again, where the part of the value at a
+    /// place went from `before` to `after`.
+    #[inline(always)]
+    fn settle(&mut self, place: usize, before: P, after: P)
+        requires within { place < length (shown self.old).walk }
+        requires at { (e : ID × V) → slice_get (shown self.old).walk place ≡ Some e →
+            after ≡ V.part_of e.1 }
+        requires distinct { IsDistinct ID.eq (keys_of (shown self.old).walk) }
+        ensures put { IsPutInOrder ID.eq P.cmp V.part_of QS.has_quorum
+            (shown self.old) place before (shown self.new) }
+        ensures mark { is_stale self.new ≡ is_stale self.old }
+    {
+        if place >= self.voter_count || !is_below(&self.granted, &after) {
+            return;
+        }
+        if is_at_most(&before, &self.granted) {
+            let to = self.raise(place);
+            self.scan(to);
+        } else if is_below(&before, &after) {
+            self.raise(place);
+        }
+    }
+
+    /// Moves the voter at a place up, and answers its place.
+    #[inline(always)]
+    fn raise(&mut self, place: usize) -> usize
+        requires { place < (shown self.old).voter_count }
+        ensures risen { IsRisen P.cmp V.part_of (shown self.old) place result (shown self.new) }
+        ensures within { result ≤ place }
+        ensures mark { is_stale self.new ≡ is_stale self.old }
+    {
+        self.stat.move_count = self.stat.move_count.saturating_add(1);
+        let to = move_up(&mut self.walk, place);
+        if to < place && !self.stale {
+            self.places.rise(to, place);
+        }
+        to
+    }
+
+    /// Looks for the least front past a place that is a quorum, while its parts exceed granted.
+    ///
+    /// Where the shortest one that may be a quorum has a voter up to granted, there is none.
+    #[inline(always)]
+    fn scan(&mut self, place: usize)
+        requires within { place < (shown self.old).voter_count }
+        requires distinct { IsDistinct ID.eq (keys_of (shown self.old).walk) }
+        ensures scanned { IsScanned ID.eq P.cmp V.part_of QS.has_quorum
+            (shown self.old) place (shown self.new) }
+        ensures mark { is_stale self.new ≡ is_stale self.old }
+    {
+        // The proof knows that a count fits a u64 once it has been read.
+        let _count = self.stat.is_quorum_count;
+        let least = self.quorum_set.least_quorum_size();
+        // No front past the place of up to so many voters is a quorum.
+        let short = least.saturating_sub(1).max(place);
+        if short < self.voter_count && is_below(&self.granted, &self.walk[short].1.part()) {
+            self.test_fronts(short);
+        }
+    }
+
+    /// The same, by tests of fronts.
+    // Kept apart, so that an update that grants nothing has no need of its registers.
+    #[inline(never)]
+    fn test_fronts(&mut self, place: usize)
+        requires distinct { IsDistinct ID.eq (keys_of (shown self.old).walk) }
+        ensures scanned { IsScanned ID.eq P.cmp V.part_of QS.has_quorum
+            (shown self.old) place (shown self.new) }
+        ensures mark { is_stale self.new ≡ is_stale self.old }
+    {
+        let voters = &self.walk[..self.voter_count];
+        let high = gather_leading(voters, self.granted, &mut self.room);
+        let found = least_front(&self.quorum_set, voters, place, high, &self.room);
+        self.stat.is_quorum_count = self.stat.is_quorum_count.saturating_add(found.tests);
+        if let Some(front) = found.front {
+            self.granted = self.walk[front - 1].1.part();
+        }
+    }
+}

@@ -1,0 +1,107 @@
+//! What an upgrade takes over into a new progress, and what it would refuse.
+ghost use Rattle.std.specs.Prelude.{◌≡◌, ◌&&◌, ℕ, IfOk, None};
+ghost use Rattle.std.specs.Option.{ForSome};
+ghost use Rattle.raft_progress.specs.Inner.Conditions.{IsLeastPassing, among, is_value_below};
+ghost use Rattle.raft_progress.specs.progress.InOrder.{IsInOrder};
+ghost use Rattle.raft_progress.specs.progress.Shown.{state};
+ghost use Rattle.raft_progress.specs.progress.Statistics.{CountsGoOn};
+ghost use Rattle.raft_progress.specs.progress.Updated.{IsNotLower, IsUpdated};
+ghost use Rattle.raft_progress.specs.progress.Upgrade.{CanUpgrade, IsLeastBelow};
+ghost use Rattle.raft_progress.specs.progress.VecProgress.{shown};
+
+use super::VecProgress;
+use crate::progress::Progress;
+use crate::progress::conditions::{is_among, is_before};
+use crate::progress::part::ProgressPart;
+use crate::progress::stat::Stat;
+use raft_members::quorum::QuorumSet;
+use std::alloc::AllocError;
+
+impl<
+    ID: Copy + Ord,
+    V: ProgressPart<P> + Drop,
+    P: Copy + Ord,
+    QS: QuorumSet<ID> + Drop,
+> VecProgress<ID, V, P, QS> {
+    /// Goes on with the counts of another progress.
+    pub(super) fn go_on_from(&mut self, stat: &Stat)
+        ensures same { shown self.new ≡ record (shown self.old) { stat = stat.now } }
+        ensures counts { (voters : ℕ) → CountsGoOn 0 voters stat.now stat.now }
+    {
+        let (update_count, move_count, is_quorum_count) = (
+            stat.update_count,
+            stat.move_count,
+            stat.is_quorum_count,
+        );
+        self.stat = Stat {
+            update_count,
+            move_count,
+            is_quorum_count,
+        };
+    }
+
+    /// Writes the value of an id, where it is known.
+    pub(super) fn inherit(&mut self, id: &ID, value: V)
+        requires ordered { IsInOrder ID.eq P.cmp V.part_of QS.has_quorum (shown self.old) }
+        requires not_lower { IsNotLower ID.eq P.cmp V.part_of (shown self.old) id.now value }
+        ensures updated { IsUpdated ID.eq P.cmp V.part_of (λ v w. w ≡ value)
+            (shown self.old) id.now (shown self.new) }
+        ensures ordered { IsInOrder ID.eq P.cmp V.part_of QS.has_quorum (shown self.new) }
+    {
+        self.apply(id, |current| *current = value);
+    }
+
+    /// The least id whose value an upgrade would take over and that is below the new default.
+    pub(crate) fn least_below(
+        &self,
+        quorum_set: &QS,
+        learners: &[ID],
+        default: &V,
+    ) -> Result<Option<ID>, AllocError>
+        ensures none { IfOk result (λ least. least ≡ None → CanUpgrade ID.eq P.cmp V.part_of
+            (QS.is_voter quorum_set.now) learners.now default.now
+            (state ID.eq (shown self.now)).value) }
+        ensures some { IfOk result (λ least.
+            ForSome least (IsLeastBelow ID.eq ID.cmp P.cmp V.part_of
+            (QS.is_voter quorum_set.now) learners.now default.now
+            (state ID.eq (shown self.now)).value)) }
+    {
+        let alloc = self.allocator();
+        let voters = quorum_set.ids(alloc)?;
+        Ok(self.least_of(&voters, learners, default.part()))
+    }
+
+    /// The least id among the voters and the learners whose value is below a part.
+    fn least_of(&self, voters: &[ID], learners: &[ID], part: P) -> Option<ID>
+        ensures { IsLeastPassing ID.cmp (λ x. among ID.eq voters.now learners.now x
+            && is_value_below P.cmp V.part_of part ((state ID.eq (shown self.now)).value x))
+            (shown self.now).walk result }
+    {
+        let mut least = None;
+        for entry in &self.walk {
+            if self.inherits_below(voters, learners, part, &entry.0) && is_before(entry.0, least) {
+                least = Some(entry.0);
+            }
+        }
+        least
+    }
+
+    /// Whether an id is one of the voters or learners, and its value is below a part.
+    fn inherits_below(&self, voters: &[ID], learners: &[ID], part: P, id: &ID) -> bool
+        ensures { result ≡ (among ID.eq voters.now learners.now id.now
+            && is_value_below P.cmp V.part_of part ((state ID.eq (shown self.now)).value id.now)) }
+    {
+        is_among(voters, learners, id) && self.is_value_below(part, id)
+    }
+
+    /// Whether an id has a value that is below a part.
+    fn is_value_below(&self, part: P, id: &ID) -> bool
+        ensures { result ≡ is_value_below P.cmp V.part_of part
+            ((state ID.eq (shown self.now)).value id.now) }
+    {
+        match self.try_get(id) {
+            Some(value) => value.part().cmp(&part).is_lt(),
+            None => false,
+        }
+    }
+}
