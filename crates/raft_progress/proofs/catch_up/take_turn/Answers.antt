@@ -6,31 +6,31 @@ use Rattle.raft_progress.proofs.catch_up.take_turn.Goals as goal
 pub reply-requires : goal.reply-requires
 reply-requires g c =
     let ok = sent_ok _ c.next_send.result c.next_send.follows.lender-at-none (sym c.is_err.ensures.value ∙ c.if-is_err.false)
-        c.next_send.follows.holds-at-none in
+    c.next_send.follows.holds-at-none in
     sent_fits g.C.PartialEq.eq g.C.Ord.cmp g.met.C.Ord.total g.met.C.Eq.laws.refl (g.L.LogStateReader.log_view c.args.log.now)
-        c.requires.logged c.args.max_entries c.args.entry.now c.next_send.follows.lender-at-none c.args.agree.now c.in-Logs.id
-        c.in-Logs.log_id_range c.requires.ready ok c.in-Logs.is
+    c.requires.logged c.args.max_entries c.args.entry.now c.next_send.follows.lender-at-none c.args.agree.now c.in-Logs.id
+    c.in-Logs.log_id_range c.requires.ready ok c.in-Logs.is
 
 pub returns-then-reply : goal.returns-then-reply
 returns-then-reply g c i k =
     let ok = sent_ok _ c.next_send.result c.next_send.follows.lender-at-none (sym c.is_err.ensures.value ∙ c.if-is_err.false)
-        c.next_send.follows.holds-at-none in
+    c.next_send.follows.holds-at-none in
     turn_logs g.C.Ord.cmp (g.L.LogStateReader.log_view c.args.log.now) c.args.max_entries c.args.entry.now
-        c.next_send.follows.lender-at-none c.reply.new.entry c.args.agree.now c.reply.new.agree i k i _ c.in-Logs.id c.in-Logs.log_id_range
-        ok c.in-Logs.is (rw c.if-reply.true at (c.reply.ensures c.args.entry.now i k))
+    c.next_send.follows.lender-at-none c.reply.new.entry c.args.agree.now c.reply.new.agree i k i _ c.in-Logs.id c.in-Logs.log_id_range
+    ok c.in-Logs.is (rw c.if-reply.true at (c.reply.ensures c.args.entry.now i k))
 
 pub returns-else-reply : goal.returns-else-reply
 returns-else-reply g c i k =
     let ok = sent_ok _ c.next_send.result c.next_send.follows.lender-at-none (sym c.is_err.ensures.value ∙ c.if-is_err.false)
-        c.next_send.follows.holds-at-none in
+    c.next_send.follows.holds-at-none in
     turn_logs g.C.Ord.cmp (g.L.LogStateReader.log_view c.args.log.now) c.args.max_entries c.args.entry.now
-        c.next_send.follows.lender-at-none c.reply.new.entry c.args.agree.now c.reply.new.agree i k _ k c.in-Logs.id c.in-Logs.log_id_range
-        ok c.in-Logs.is (rw c.if-reply.false at (c.reply.ensures c.args.entry.now i k))
+    c.next_send.follows.lender-at-none c.reply.new.entry c.args.agree.now c.reply.new.agree i k _ k c.in-Logs.id c.in-Logs.log_id_range
+    ok c.in-Logs.is (rw c.if-reply.false at (c.reply.ensures c.args.entry.now i k))
 
 pub returns-in-None : goal.returns-in-None
 returns-in-None g c =
     let ok = sent_ok _ c.next_send.result c.next_send.follows.lender-at-none (sym c.is_err.ensures.value ∙ c.if-is_err.false)
-        c.next_send.follows.holds-at-none in
+    c.next_send.follows.holds-at-none in
     absurd (sent_none g.C.PartialEq.eq g.C.Ord.cmp g.met.C.Ord.total g.met.C.Eq.laws.refl (g.L.LogStateReader.log_view c.args.log.now)
-            c.requires.logged c.args.max_entries c.args.entry.now c.next_send.follows.lender-at-none c.args.agree.now c.requires.ready ok
-            c.in-None.is)
+    c.requires.logged c.args.max_entries c.args.entry.now c.next_send.follows.lender-at-none c.args.agree.now c.requires.ready ok
+    c.in-None.is)

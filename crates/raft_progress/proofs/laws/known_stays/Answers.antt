@@ -5,13 +5,25 @@ use Rattle.raft_progress.proofs.laws.known_stays.Goals as goal
 pub returns-clause-without_change : goal.returns-clause-without_change
 returns-clause-without_change g c =
     let by : Comparisons g.row.NID.Denot g.row.V.Denot g.row.P.Denot =
-        record { eq = g.NID.PartialEq.eq; id_cmp = g.NID.Ord.cmp; cmp = g.P.Ord.cmp; partial_cmp = g.V.PartialOrd.partial_cmp;
-            part = g.V.ProgressPart.part_of; IsClone = g.V.Clone.is_clone } in
+    record {
+      eq = g.NID.PartialEq.eq;
+      id_cmp = g.NID.Ord.cmp;
+      cmp = g.P.Ord.cmp;
+      partial_cmp = g.V.PartialOrd.partial_cmp;
+      part = g.V.ProgressPart.part_of;
+      IsClone = g.V.Clone.is_clone;
+    } in
     known_stays by g.met.NID.Eq.laws g.met.P.Ord.total g.N.PartialEq.eq
 
 pub returns-clause-over_changes : goal.returns-clause-over_changes
 returns-clause-over_changes g c =
     let by : Comparisons g.row.NID.Denot g.row.V.Denot g.row.P.Denot =
-        record { eq = g.NID.PartialEq.eq; id_cmp = g.NID.Ord.cmp; cmp = g.P.Ord.cmp; partial_cmp = g.V.PartialOrd.partial_cmp;
-            part = g.V.ProgressPart.part_of; IsClone = g.V.Clone.is_clone } in
+    record {
+      eq = g.NID.PartialEq.eq;
+      id_cmp = g.NID.Ord.cmp;
+      cmp = g.P.Ord.cmp;
+      partial_cmp = g.V.PartialOrd.partial_cmp;
+      part = g.V.ProgressPart.part_of;
+      IsClone = g.V.Clone.is_clone;
+    } in
     known_over_changes by g.met.NID.Eq.laws g.met.P.Ord.total g.N.PartialEq.eq

@@ -13,9 +13,9 @@ returns-clause-granted g c = (returns-clause-ready g c).ordered.counted
 
 pub returns-clause-quorums : goal.returns-clause-quorums
 returns-clause-quorums g c = λ some. (each_quorum_knows g.met.NID.Eq.laws g.NID.Ord.cmp g.met.P.Ord.total g.V.ProgressPart.part_of
-        (tracked c.args.cluster.now) (returns-clause-ready g c) some).0
+    (tracked c.args.cluster.now) (returns-clause-ready g c) some).0
 
 pub returns-clause-changed_quorums : goal.returns-clause-changed_quorums
 returns-clause-changed_quorums g c = λ some.
     (each_quorum_knows g.met.NID.Eq.laws g.NID.Ord.cmp g.met.P.Ord.total g.V.ProgressPart.part_of (tracked c.args.cluster.now)
-        (returns-clause-ready g c) some).1
+    (returns-clause-ready g c) some).1

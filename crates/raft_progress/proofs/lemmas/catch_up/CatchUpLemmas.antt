@@ -1,6 +1,40 @@
 -- A whole honest run: what its test says, and what stands between its turns.
-use Rattle.std.proofs.Common.{◌≡◌, ℕ, suc, ◌+◌, ◌-◌, ◌*◌, ◌^◌, ◌<◌, ◌≤◌, max, Bool, true, false, nat_eq, nat_le, nat_lt, if◌then◌else◌,
-        Option, Some, None, Result, Ok, Err, IsTrue, refl, sym, ap, arith, ◌⊎◌, inl, inr, ◌∙◌, ◌&&◌, ◌||◌}
+use Rattle.std.proofs.Common.{
+  ◌≡◌,
+  ℕ,
+  suc,
+  ◌+◌,
+  ◌-◌,
+  ◌*◌,
+  ◌^◌,
+  ◌<◌,
+  ◌≤◌,
+  max,
+  Bool,
+  true,
+  false,
+  nat_eq,
+  nat_le,
+  nat_lt,
+  if◌then◌else◌,
+  Option,
+  Some,
+  None,
+  Result,
+  Ok,
+  Err,
+  IsTrue,
+  refl,
+  sym,
+  ap,
+  arith,
+  ◌⊎◌,
+  inl,
+  inr,
+  ◌∙◌,
+  ◌&&◌,
+  ◌||◌,
+}
 use Rattle.std.proofs.Math.Nat.{suc-mul}
 use Rattle.std.proofs.lemmas.Bool.{cases_lt}
 use Rattle.std.proofs.lemmas.Bool.Decides.{nat_tests}
@@ -31,8 +65,19 @@ use Rattle.raft_progress.specs.declared.inflight.InflightError.{InflightError}
 use Rattle.raft_progress.specs.declared.inflight.InflightOf.{InflightOf}
 use Rattle.raft_progress.specs.declared.inflight.InflightOf.TheVariants.{Logs}
 use Rattle.raft_progress.proofs.lemmas.search.HalvingLemmas.{Near}
-use Rattle.raft_progress.proofs.lemmas.catch_up.HonestRunLemmas.{Acked, Refused, Sends, at_end, ids_total, le_lt, ready_acked,
-        ready_refused, sends, turn_acked, turn_refused}
+use Rattle.raft_progress.proofs.lemmas.catch_up.HonestRunLemmas.{
+  Acked,
+  Refused,
+  Sends,
+  at_end,
+  ids_total,
+  le_lt,
+  ready_acked,
+  ready_refused,
+  sends,
+  turn_acked,
+  turn_refused,
+}
 use Rattle.raft_progress.proofs.lemmas.catch_up.HonestTurnLemmas.{Stands, ack_falls, ack_near, conflict_falls, conflict_halves, measure}
 
 -- a send that is no error is the table's
@@ -93,16 +138,16 @@ module _ {C : Type 0} (eq : C → C → Bool) (cmp : C → C → Ordering) where
       → IsBetweenTurns eq cmp log n entry agree × (entry.curr_inflight_id + 64 + next_index log.last + 1 < 2 ^ 64)
   ready_from log n entry agree can =
       let p = both (is_idle entry.inflight && can_be_sent entry log && nat_le 1 n
-              && can_agree (next_index entry.matching) entry.searching_end (next_index log.purge_upto) agree
-              && has_request_ids entry.curr_inflight_id (next_index log.last)) (match_fits eq cmp log entry) can in
+      && can_agree (next_index entry.matching) entry.searching_end (next_index log.purge_upto) agree
+      && has_request_ids entry.curr_inflight_id (next_index log.last)) (match_fits eq cmp log entry) can in
       let q = five (is_idle entry.inflight) (can_be_sent entry log) (nat_le 1 n)
-          (can_agree (next_index entry.matching) entry.searching_end (next_index log.purge_upto) agree)
-          (has_request_ids entry.curr_inflight_id (next_index log.last)) p.0 in
+      (can_agree (next_index entry.matching) entry.searching_end (next_index log.purge_upto) agree)
+      (has_request_ids entry.curr_inflight_id (next_index log.last)) p.0 in
       let s = five (nat_le (next_index entry.matching) entry.searching_end) (nat_lt (next_index log.last) (2 ^ 64))
-          (nat_le entry.searching_end (next_index log.last)) (nat_lt (next_index log.purge_upto) (2 ^ 64))
-          (nat_lt (entry.curr_inflight_id + 1) (2 ^ 64)) (rw q.0 at q.1) in
+      (nat_le entry.searching_end (next_index log.last)) (nat_lt (next_index log.purge_upto) (2 ^ 64))
+      (nat_lt (entry.curr_inflight_id + 1) (2 ^ 64)) (rw q.0 at q.1) in
       let a = three (nat_le (next_index entry.matching) agree) (nat_le agree entry.searching_end) (nat_le (next_index log.purge_upto) agree)
-          q.3 in (
+      q.3 in (
         record {
           idle = q.0;
           some = true_le 1 n q.2;
@@ -155,8 +200,12 @@ pub acks_logs : {C U : Type 0} (cmp : C → C → Ordering) (old entry new : Pro
     → run_after_logs cmp (record { entry = old; agree = agree; conflicts = c; acks = k }) entry id range
     ≡ record { entry = new; agree = after; conflicts = c; acks = k + 1 }
 acks_logs cmp old entry new agree after c k id range result none answer is =
-    rw (none_if (nat_lt agree (next_index range.prev)) (next_index range.prev - 1) none, kept_after
-            (entry_after_ack cmp entry id range.last) entry result new answer, is) refl
+    rw (
+      none_if (nat_lt agree (next_index range.prev)) (next_index range.prev - 1) none,
+      kept_after
+          (entry_after_ack cmp entry id range.last) entry result new answer,
+      is,
+    ) refl
 
 pub turn_logs : {C : Type 0} (cmp : C → C → Ordering) (log : LogView C) (n : ℕ) (entry sending new : ProgressEntryOf C)
     (agree after c k d l id : ℕ) (range : LogIdRangeOf C) → send_table cmp entry log n ≡ Ok sending → sending.inflight ≡ Logs id range
@@ -166,7 +215,7 @@ pub turn_logs : {C : Type 0} (cmp : C → C → Ordering) (log : LogView C) (n :
     ≡ Some (record { entry = new; agree = after; conflicts = d; acks = l })
 turn_logs cmp log n entry sending new agree after c k d l id range ok logs reply =
     rw ok (ap Some (ap (λ (f : InflightOf _). run_after_reply cmp (record { entry = entry; agree = agree; conflicts = c; acks = k }) sending
-        f) logs ∙ reply))
+    f) logs ∙ reply))
 
 -- how far a run still is from its end
 abbrev pub to_go : {C : Type 0} → LogView C → ProgressEntryOf C → ℕ
@@ -183,8 +232,16 @@ module _ {C : Type 0} (eq : C → C → Bool) (cmp : C → C → Ordering) (tota
     Here entry agree conflicts acks = Along eq cmp log n entry0 agree0 entry agree conflicts acks
 
     pub begins : IsBetweenTurns eq cmp log n entry0 agree0 → Here entry0 agree0 0 0
-    begins ready = record { ready = ready; runs = λ turns end r. (turns, r); near = λ k h. (k, omega arith, h); part = λ lt. omega arith;
-            all = (let s = ready.some in omega arith); first = omega arith; ids = omega arith; many = omega arith }
+    begins ready = record {
+      ready = ready;
+      runs = λ turns end r. (turns, r);
+      near = λ k h. (k, omega arith, h);
+      part = λ lt. omega arith;
+      all = (let s = ready.some in omega arith);
+      first = omega arith;
+      ids = omega arith;
+      many = omega arith;
+    }
 
     refuse : (entry : ProgressEntryOf C) (agree c k : ℕ) → Here entry agree c k → Sends eq cmp total reflexive log logged n entry
         → agree < start_of entry log → Here (Refused log entry) agree (c + 1) k × (to_go log (Refused log entry) < to_go log entry)
@@ -194,12 +251,15 @@ module _ {C : Type 0} (eq : C → C → Bool) (cmp : C → C → Ordering) (tota
         let ids = here.ids in (
           record {
             ready = ready_refused eq cmp total reflexive log logged n entry agree ready lt past;
-            runs = λ turns end r. here.runs (suc turns) end
-                (record { entry = Refused log entry; agree = agree; conflicts = c + 1; acks = k }, turn_refused eq cmp total reflexive log
-                    logged n entry agree c k ready lt past, r);
+            runs = λ turns end r. here.runs (suc turns) end (
+              record { entry = Refused log entry; agree = agree; conflicts = c + 1; acks = k },
+              turn_refused eq cmp total reflexive log
+                  logged n entry agree c k ready lt past,
+              r,
+            );
             near = λ j h. (let b = here.near j h in
                 let q = conflict_halves (next_index entry.matching) entry.searching_end (next_index log.last) (next_index log.purge_upto)
-                    agree s b.0 past b.2 in
+                agree s b.0 past b.2 in
                 let b1 = b.1 in let q1 = q.1 in (q.0, omega arith, q.2));
             part = here.part;
             all = here.all;
@@ -220,19 +280,25 @@ module _ {C : Type 0} (eq : C → C → Bool) (cmp : C → C → Ordering) (tota
         let l0 = lt.0 in let l1 = lt.1 in let l2 = lt.2 in
         let r2 = ready.agreed in let r4 = ready.kept in
         let at1 : next_index (prev_id log.id_at (end_of entry log n)) ≡ end_of entry log n =
-            prev_at cmp log logged (end_of entry log n) (omega arith) (omega arith) in
+        prev_at cmp log logged (end_of entry log n) (omega arith) (omega arith) in
         let times = more_times k n in
         let part = here.part l1 in
         let first = here.first in
         let many = here.many in (
           record {
             ready = ready_acked eq cmp total reflexive log logged n entry agree ready lt past;
-            runs = λ turns end r. here.runs (suc turns) end
-                (record { entry = Acked log n entry; agree = max agree (end_of entry log n); conflicts = c; acks = k + 1 }, turn_acked eq
-                    cmp total reflexive log logged n entry agree c k ready lt past, r);
-            near = λ j h. (let b = here.near j h in
-                    (b.0, b.1, rw at1 (ack_near (next_index entry.matching) entry.searching_end (next_index log.last)
-                    (next_index log.purge_upto) agree s n ready.some l1 l2 past b.0 b.2)));
+            runs = λ turns end r. here.runs (suc turns) end (
+              record { entry = Acked log n entry; agree = max agree (end_of entry log n); conflicts = c; acks = k + 1 },
+              turn_acked eq
+                  cmp total reflexive log logged n entry agree c k ready lt past,
+              r,
+            );
+            near = λ j h. (let b = here.near j h in (
+              b.0,
+              b.1,
+              rw at1 (ack_near (next_index entry.matching) entry.searching_end (next_index log.last)
+                  (next_index log.purge_upto) agree s n ready.some l1 l2 past b.0 b.2),
+            ));
             part = λ below. omega arith;
             all = omega arith;
             first = omega arith;
@@ -240,7 +306,7 @@ module _ {C : Type 0} (eq : C → C → Bool) (cmp : C → C → Ordering) (tota
             many = omega arith;
           },
           rw at1 (ack_falls (next_index entry.matching) entry.searching_end (next_index log.last) (next_index log.purge_upto) agree s n
-                  ready.some l1 l2 past),
+              ready.some l1 l2 past),
         )
 
     -- a turn that was refused, or acked
@@ -255,7 +321,7 @@ module _ {C : Type 0} (eq : C → C → Bool) (cmp : C → C → Ordering) (tota
         | inl past ↦ (let q = turn_refused eq cmp total reflexive log logged n entry agree c k here.ready lt past in
             let f = some_inside _ _ (sym q ∙ t) in
             let e : Refused log entry ≡ new = ap (λ (h : HonestRun C). h.entry) f in let a : agree ≡ after =
-                ap (λ (h : HonestRun C). h.agree) f in
+            ap (λ (h : HonestRun C). h.agree) f in
             rw (← e, ← a) (refuse entry agree c k here lt past))
         | inr past ↦ (let q = turn_acked eq cmp total reflexive log logged n entry agree c k here.ready lt past in
             let f = some_inside _ _ (sym q ∙ t) in
@@ -277,7 +343,7 @@ module _ {C : Type 0} (eq : C → C → Bool) (cmp : C → C → Ordering) (tota
         | inr past ↦ (let q = turn_acked eq cmp total reflexive log logged n entry agree c k here.ready lt past in
             let f = some_inside _ _ (sym q ∙ t) in
             let e : Acked log n entry ≡ new = ap (λ (h : HonestRun C). h.entry) f in let a : max agree (end_of entry log n) ≡ after =
-                ap (λ (h : HonestRun C). h.agree) f in
+            ap (λ (h : HonestRun C). h.agree) f in
             rw (← e, ← a) (acknowledge entry agree c k here lt past))
       ]
     ]
@@ -308,15 +374,15 @@ module _ {C : Type 0} (eq : C → C → Bool) (cmp : C → C → Ordering) (tota
   tied (Some a) None h = cc
   tied (Some a) (Some b) h =
       let l : eq_by_cmp cmp a.leader_id b.leader_id ≡ true =
-          sym (ties a.leader_id b.leader_id) ∙ first_so (eq a.leader_id b.leader_id) (nat_eq a.index b.index) h in
+      sym (ties a.leader_id b.leader_id) ∙ first_so (eq a.leader_id b.leader_id) (nat_eq a.index b.index) h in
       rw (is_equal (cmp a.leader_id b.leader_id) l)
-          (index_tie a.index b.index (second_so (eq a.leader_id b.leader_id) (nat_eq a.index b.index) h))
+      (index_tie a.index b.index (second_so (eq a.leader_id b.leader_id) (nat_eq a.index b.index) h))
 
   le_same : (a l b : Option (LogIdOf C)) → id_le cmp a l ≡ true → same_ids eq b l ≡ true → id_le cmp a b ≡ true
   le_same a l b h k =
       let t = ids_total eq cmp total reflexive in
       let s : option_cmp (log_id_cmp cmp) b a ≡ option_cmp (log_id_cmp cmp) l a =
-          t.congr b l a (is_equal (option_cmp (log_id_cmp cmp) b l) (tied b l k)) in
+      t.congr b l a (is_equal (option_cmp (log_id_cmp cmp) b l) (tied b l k)) in
       rw (t.antisymm a b, s, ← t.antisymm a l) h
 
   pub not_lowered : (log : LogView C) (n : ℕ) (entry new : ProgressEntryOf C) (agree : ℕ) → Logged cmp log
@@ -326,8 +392,8 @@ module _ {C : Type 0} (eq : C → C → Bool) (cmp : C → C → Ordering) (tota
         | inl same ↦ le_of_eq (option_cmp (log_id_cmp cmp) entry.matching log.last) (tied entry.matching log.last same)
         | inr way ↦ (let from = max (next_index entry.matching) (next_index log.purge_upto) in
             let rises : id_lt cmp (prev_id log.id_at from) (prev_id log.id_at (next_index log.last)) ≡ true =
-                prev_rises cmp log logged from (next_index log.last) (omega arith) (omega (arith, way.0, way.1)) (omega arith) in
+            prev_rises cmp log logged from (next_index log.last) (omega arith) (omega (arith, way.0, way.1)) (omega arith) in
             let rises2 : id_lt cmp (prev_id log.id_at from) log.last ≡ true = rw (← logged.at_end) rises in
             le_of_lt (option_cmp (log_id_cmp cmp) entry.matching log.last)
-                (le_lt eq cmp total reflexive entry.matching (prev_id log.id_at from) log.last way.2 rises2))
+            (le_lt eq cmp total reflexive entry.matching (prev_id log.id_at from) log.last way.2 rises2))
       ]) caught.last

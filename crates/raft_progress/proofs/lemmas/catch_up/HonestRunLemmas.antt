@@ -1,6 +1,32 @@
 -- The turns of an honest run over a log that has all from the purge point on.
-use Rattle.std.proofs.Common.{◌≡◌, ℕ, ◌+◌, ◌-◌, ◌^◌, ◌<◌, ◌≤◌, max, Bool, true, false, nat_eq, nat_lt, ◌==◌, Option, Some, None, Ok, Err,
-        IsTrue, refl, arith, ◌⊎◌, inl, inr, ap}
+use Rattle.std.proofs.Common.{
+  ◌≡◌,
+  ℕ,
+  ◌+◌,
+  ◌-◌,
+  ◌^◌,
+  ◌<◌,
+  ◌≤◌,
+  max,
+  Bool,
+  true,
+  false,
+  nat_eq,
+  nat_lt,
+  ◌==◌,
+  Option,
+  Some,
+  None,
+  Ok,
+  Err,
+  IsTrue,
+  refl,
+  arith,
+  ◌⊎◌,
+  inl,
+  inr,
+  ap,
+}
 use Rattle.std.proofs.lemmas.Bool.{cases_lt}
 use Rattle.std.proofs.lemmas.Bool.Decides.{nat_tests}
 use Rattle.std.specs.declared.cmp.Ordering.{Ordering}
@@ -78,8 +104,12 @@ abbrev pub Refused : {C : Type 0} → LogView C → ProgressEntryOf C → Progre
 Refused log entry = record entry { curr_inflight_id = entry.curr_inflight_id + 1; inflight = Idle; searching_end = start_of entry log - 1 }
 
 abbrev pub Acked : {C : Type 0} → LogView C → ℕ → ProgressEntryOf C → ProgressEntryOf C
-Acked log n entry = record entry { matching = prev_id log.id_at (end_of entry log n); curr_inflight_id = entry.curr_inflight_id + 1;
-        inflight = Idle; searching_end = max entry.searching_end (end_of entry log n) }
+Acked log n entry = record entry {
+  matching = prev_id log.id_at (end_of entry log n);
+  curr_inflight_id = entry.curr_inflight_id + 1;
+  inflight = Idle;
+  searching_end = max entry.searching_end (end_of entry log n);
+}
 
 module _ {C : Type 0} (eq : C → C → Bool) (cmp : C → C → Ordering) (total : IsTotalOrder cmp) (reflexive : (x : C) → eq x x ≡ true) where
   abbrev pub ids_cmp : Option (LogIdOf C) → Option (LogIdOf C) → Ordering
@@ -121,9 +151,11 @@ module _ {C : Type 0} (eq : C → C → Bool) (cmp : C → C → Ordering) (tota
     module _ (n : ℕ) where
       -- the entry after a send of logs
       abbrev pub sending : ProgressEntryOf C → ProgressEntryOf C
-      sending entry = record entry { curr_inflight_id = entry.curr_inflight_id + 1;
-              inflight = Logs (entry.curr_inflight_id + 1)
-              (record { prev = prev_id log.id_at (start_of entry log); last = prev_id log.id_at (end_of entry log n) }) }
+      sending entry = record entry {
+        curr_inflight_id = entry.curr_inflight_id + 1;
+        inflight = Logs (entry.curr_inflight_id + 1)
+            (record { prev = prev_id log.id_at (start_of entry log); last = prev_id log.id_at (end_of entry log n) });
+      }
 
       -- where nothing is in flight and logs are sent, they are the ids from start to end
       pub sent_logs : (entry : ProgressEntryOf C) → is_idle entry.inflight ≡ true → next_index log.purge_upto ≤ entry.searching_end
@@ -132,7 +164,7 @@ module _ {C : Type 0} (eq : C → C → Bool) (cmp : C → C → Ordering) (tota
           let t : nat_lt entry.searching_end (next_index log.purge_upto) ≡ false = grind (arith, nat_tests) in
           let u : (start_of entry log == end_of entry log n) ≡ false = grind (arith, nat_tests) in
           let v : id_lt cmp (prev_id log.id_at (start_of entry log)) (prev_id log.id_at (end_of entry log n)) ≡ true =
-              prev_rises cmp log logged (start_of entry log) (end_of entry log n) (omega arith) lt (omega arith) in
+          prev_rises cmp log logged (start_of entry log) (end_of entry log n) (omega arith) lt (omega arith) in
           rw (idle, t, u, v) refl
 
       -- a follower that doesn't agree before the start
@@ -147,18 +179,22 @@ module _ {C : Type 0} (eq : C → C → Bool) (cmp : C → C → Ordering) (tota
           let index = index_from_next (prev_id log.id_at (start_of entry log)) (start_of entry log) at (omega arith) in
           let t : (id == id) ≡ true = eq_self id in
           let u : option_eq nat_eq (index_of (prev_id log.id_at (start_of entry log))) (Some (start_of entry log - 1)) ≡ true =
-              rw (index, same_number (start_of entry log - 1)) refl in
+          rw (index, same_number (start_of entry log - 1)) refl in
           let v : nat_lt (start_of entry log - 1) entry.searching_end ≡ true =
-              lt_true (start_of entry log - 1) entry.searching_end (omega arith) in
+          lt_true (start_of entry log - 1) entry.searching_end (omega arith) in
           let w : nat_lt (start_of entry log - 1) (next_index entry.matching) ≡ false =
-              lt_false (start_of entry log - 1) (next_index entry.matching) (omega arith) in
+          lt_false (start_of entry log - 1) (next_index entry.matching) (omega arith) in
           rw (t, u, v, w) refl
 
       pub acked_turn : (entry : ProgressEntryOf C) (agree : ℕ) → IsBetweenTurns eq cmp log n entry agree
           → start_of entry log < end_of entry log n → start_of entry log ≤ agree
           → entry_after_ack cmp (sending entry) (entry.curr_inflight_id + 1) (prev_id log.id_at (end_of entry log n))
-          ≡ Ok (record entry { matching = prev_id log.id_at (end_of entry log n); curr_inflight_id = entry.curr_inflight_id + 1;
-                  inflight = Idle; searching_end = max entry.searching_end (end_of entry log n) })
+          ≡ Ok (record entry {
+            matching = prev_id log.id_at (end_of entry log n);
+            curr_inflight_id = entry.curr_inflight_id + 1;
+            inflight = Idle;
+            searching_end = max entry.searching_end (end_of entry log n);
+          })
       acked_turn entry agree ready lt past =
           let r1 = ready.matched in let r2 = ready.agreed in let r3 = ready.logged in let r4 = ready.kept in
           let id = entry.curr_inflight_id + 1 in
@@ -179,9 +215,9 @@ module _ {C : Type 0} (eq : C → C → Bool) (cmp : C → C → Ordering) (tota
             | inl same ↦ absurd (let e = same_next entry.matching log.last same in omega arith)
             | inr more ↦ not_back entry.matching last
                 (lt_le entry.matching last (le_lt entry.matching
-                    (prev_id log.id_at (max (next_index entry.matching) (next_index log.purge_upto))) last more.2
+                (prev_id log.id_at (max (next_index entry.matching) (next_index log.purge_upto))) last more.2
                 (prev_rises cmp log logged (max (next_index entry.matching) (next_index log.purge_upto)) to (omega arith) (omega arith)
-                        (omega arith))))
+                (omega arith))))
           ] in
           let small : nat_lt (next_index last) (2 ^ 64) ≡ true = lt_true (next_index last) (2 ^ 64) (let f = ready.fits in omega arith) in
           let end_is : max entry.searching_end (next_index last) ≡ max entry.searching_end to = rw at1 refl in
@@ -198,11 +234,11 @@ module _ {C : Type 0} (eq : C → C → Bool) (cmp : C → C → Ordering) (tota
           let r1 = ready.matched in let r2 = ready.agreed in let r3 = ready.logged in let r4 = ready.kept in
           let e = same_next entry.matching log.last same in
           let t : nat_lt entry.searching_end (next_index log.purge_upto) ≡ false =
-              lt_false entry.searching_end (next_index log.purge_upto) (omega arith) in
+          lt_false entry.searching_end (next_index log.purge_upto) (omega arith) in
           let s : start_of entry log ≡ end_of entry log n = omega arith in
           let u : (start_of entry log == end_of entry log n) ≡ true = eq_true (start_of entry log) (end_of entry log n) s in
           let v : nat_lt (next_index entry.matching) entry.searching_end ≡ false =
-              lt_false (next_index entry.matching) entry.searching_end (omega arith) in
+          lt_false (next_index entry.matching) entry.searching_end (omega arith) in
           let i = ready.idle in
           (rw (i, t, u, v) refl, record { idle = ready.idle; match_end = e; search_end = omega arith; last = same })
 
@@ -211,31 +247,46 @@ module _ {C : Type 0} (eq : C → C → Bool) (cmp : C → C → Ordering) (tota
       sends entry agree ready = elim ready.left [
         | inl same ↦ inl same
         | inr more ↦ (let r0 = ready.some in let r1 = ready.matched in let r2 = ready.agreed in let r3 = ready.logged in let r4 =
-                ready.kept in let m0 = more.0 in let m1 = more.1 in inr (omega arith, m0, m1))
+            ready.kept in let m0 = more.0 in let m1 = more.1 in inr (omega arith, m0, m1))
       ]
 
       pub turn_refused : (entry : ProgressEntryOf C) (agree c k : ℕ) → IsBetweenTurns eq cmp log n entry agree → Sends entry
           → agree < start_of entry log
           → turn cmp log n (record { entry = entry; agree = agree; conflicts = c; acks = k })
-          ≡ Some (record { entry = record entry { curr_inflight_id = entry.curr_inflight_id + 1; inflight = Idle;
-                  searching_end = start_of entry log - 1 }; agree = agree; conflicts = c + 1; acks = k })
+          ≡ Some (record {
+            entry = record entry {
+              curr_inflight_id = entry.curr_inflight_id + 1;
+              inflight = Idle;
+              searching_end = start_of entry log - 1;
+            };
+            agree = agree;
+            conflicts = c + 1;
+            acks = k;
+          })
       turn_refused entry agree c k ready lt past =
           let r1 = ready.matched in let r2 = ready.agreed in let r3 = ready.logged in let r4 = ready.kept in
           let l0 = lt.0 in
           let sent_is = sent_logs entry ready.idle (omega arith) lt.0 in
           let at = prev_at cmp log logged (start_of entry log) (omega arith) (omega arith) in
           let t : nat_lt agree (next_index (prev_id log.id_at (start_of entry log))) ≡ true =
-              lt_true agree (next_index (prev_id log.id_at (start_of entry log))) (omega arith) in
+          lt_true agree (next_index (prev_id log.id_at (start_of entry log))) (omega arith) in
           let r = refused_turn entry agree ready lt.0 past in
           rw (sent_is, t, at, r) refl
 
       pub turn_acked : (entry : ProgressEntryOf C) (agree c k : ℕ) → IsBetweenTurns eq cmp log n entry agree → Sends entry
           → start_of entry log ≤ agree
           → turn cmp log n (record { entry = entry; agree = agree; conflicts = c; acks = k })
-          ≡ Some (record { entry = record entry { matching = prev_id log.id_at (end_of entry log n);
-                  curr_inflight_id = entry.curr_inflight_id + 1; inflight = Idle;
-                  searching_end = max entry.searching_end (end_of entry log n) }; agree = max agree (end_of entry log n); conflicts = c;
-                  acks = k + 1 })
+          ≡ Some (record {
+            entry = record entry {
+              matching = prev_id log.id_at (end_of entry log n);
+              curr_inflight_id = entry.curr_inflight_id + 1;
+              inflight = Idle;
+              searching_end = max entry.searching_end (end_of entry log n);
+            };
+            agree = max agree (end_of entry log n);
+            conflicts = c;
+            acks = k + 1;
+          })
       turn_acked entry agree c k ready lt past =
           let r1 = ready.matched in let r2 = ready.agreed in let r3 = ready.logged in let r4 = ready.kept in
           let l0 = lt.0 in
@@ -243,7 +294,7 @@ module _ {C : Type 0} (eq : C → C → Bool) (cmp : C → C → Ordering) (tota
           let at = prev_at cmp log logged (start_of entry log) (omega arith) (omega arith) in
           let at1 = prev_at cmp log logged (end_of entry log n) (omega arith) (omega arith) in
           let t : nat_lt agree (next_index (prev_id log.id_at (start_of entry log))) ≡ false =
-              lt_false agree (next_index (prev_id log.id_at (start_of entry log))) (omega arith) in
+          lt_false agree (next_index (prev_id log.id_at (start_of entry log))) (omega arith) in
           let r = acked_turn entry agree ready lt.0 past in
           rw (sent_is, t, r, at1) refl
 
@@ -273,14 +324,25 @@ module _ {C : Type 0} (eq : C → C → Bool) (cmp : C → C → Ordering) (tota
           (record entry { curr_inflight_id = entry.curr_inflight_id + 1; inflight = Idle; searching_end = start_of entry log - 1 }) agree
       ready_refused entry agree ready lt past =
           let r1 = ready.matched in let r2 = ready.agreed in let r3 = ready.logged in let r4 = ready.kept in
-          record { idle = refl; some = ready.some; matched = r1; agreed = omega arith; logged = omega arith; kept = r4; fits = ready.fits;
-                  left = ready.left }
+          record {
+            idle = refl;
+            some = ready.some;
+            matched = r1;
+            agreed = omega arith;
+            logged = omega arith;
+            kept = r4;
+            fits = ready.fits;
+            left = ready.left;
+          }
 
       pub ready_acked : (entry : ProgressEntryOf C) (agree : ℕ) → IsBetweenTurns eq cmp log n entry agree → Sends entry
           → start_of entry log ≤ agree
-          → IsBetweenTurns eq cmp log n (record entry
-                  { matching = prev_id log.id_at (end_of entry log n); curr_inflight_id = entry.curr_inflight_id + 1; inflight = Idle;
-                  searching_end = max entry.searching_end (end_of entry log n) }) (max agree (end_of entry log n))
+          → IsBetweenTurns eq cmp log n (record entry {
+            matching = prev_id log.id_at (end_of entry log n);
+            curr_inflight_id = entry.curr_inflight_id + 1;
+            inflight = Idle;
+            searching_end = max entry.searching_end (end_of entry log n);
+          }) (max agree (end_of entry log n))
       ready_acked entry agree ready lt past =
           let r1 = ready.matched in let r2 = ready.agreed in let r3 = ready.logged in let r4 = ready.kept in
           let l0 = lt.0 in let l1 = lt.1 in let l2 = lt.2 in
@@ -298,10 +360,10 @@ module _ {C : Type 0} (eq : C → C → Bool) (cmp : C → C → Ordering) (tota
                 omega arith,
                 l2,
                 (let top : max (next_index (prev_id log.id_at (end_of entry log n))) (next_index log.purge_upto) ≡ end_of entry log n =
-                        omega arith in
+                    omega arith in
                     rw top (le_itself (prev_id log.id_at (end_of entry log n)))),
               )
               | inr past_end ↦ inl (let all : end_of entry log n ≡ next_index log.last = omega arith in
-                      rw (all, logged.at_end) (same_itself log.last))
+                  rw (all, logged.at_end) (same_itself log.last))
             ];
           }

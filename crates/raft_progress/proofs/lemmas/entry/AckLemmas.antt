@@ -1,6 +1,28 @@
 -- An ack that is taken leaves a valid entry, whatever it was before.
-use Rattle.std.proofs.Common.{◌≡◌, ℕ, ◌≤◌, Bool, true, false, nat_le, ◌==◌, if◌then◌else◌, Option, Some, None, Result, Ok, Err, ◌⊎◌, inl,
-        inr, refl, sym, subst, arith}
+use Rattle.std.proofs.Common.{
+  ◌≡◌,
+  ℕ,
+  ◌≤◌,
+  Bool,
+  true,
+  false,
+  nat_le,
+  ◌==◌,
+  if◌then◌else◌,
+  Option,
+  Some,
+  None,
+  Result,
+  Ok,
+  Err,
+  ◌⊎◌,
+  inl,
+  inr,
+  refl,
+  sym,
+  subst,
+  arith,
+}
 use Rattle.std.proofs.lemmas.Bool.Decides.{nat_tests}
 use Rattle.std.specs.Cmp.{IsTotalOrder}
 use Rattle.std.specs.Option.{option_cmp}
@@ -31,7 +53,7 @@ module _ {C : Type 0} (cmp : C → C → Ordering) where
   taken_leaves (Logs mine range) id m after h = by (mine == id) (is_within cmp range m) h
     where
       by : (t u : Bool) → (if t then (if u then Ok (logs_from cmp mine m range.last) else Err AckOutOfRange) else Err
-              (InvalidRequestId (Some mine) id)) ≡ Ok after
+          (InvalidRequestId (Some mine) id)) ≡ Ok after
           → (after ≡ Idle) ⊎ ((mine : ℕ) × (last : Option (LogIdOf C)) × (after ≡ logs_from cmp mine m last))
       by true true e = inr (mine, range.last, ok_inside (logs_from cmp mine m range.last) after e)
       by true false e = cc
@@ -54,7 +76,7 @@ module _ {C : Type 0} (cmp : C → C → Ordering) where
       where
         by : (t : Bool) → (t ≡ true → id_le cmp entry.matching last ≡ true)
             → first_false (sending_relations cmp entry
-                (if t then Logs mine (let range : LogIdRangeOf C = record { prev = entry.matching; last = last } in range) else Idle))
+            (if t then Logs mine (let range : LogIdRangeOf C = record { prev = entry.matching; last = last } in range) else Idle))
             ≡ None
         by true le = rw (le refl, AtMost-refl (optional-log_id_cmp-total total) entry.matching, within) refl
         by false le = refl

@@ -1,6 +1,24 @@
 -- Which replies an entry refuses by their id.
-use Rattle.std.specs.Prelude.{◌≡◌, ℕ, ◌+◌, ◌==◌, ◌&&◌, ◌||◌, nat_lt, Bool, true, false, cond, Option, Some, Result, Ok, Err, refl,
-        if◌then◌else◌}
+use Rattle.std.specs.Prelude.{
+  ◌≡◌,
+  ℕ,
+  ◌+◌,
+  ◌==◌,
+  ◌&&◌,
+  ◌||◌,
+  nat_lt,
+  Bool,
+  true,
+  false,
+  cond,
+  Option,
+  Some,
+  Result,
+  Ok,
+  Err,
+  refl,
+  if◌then◌else◌,
+}
 use Rattle.std.specs.declared.cmp.Ordering.{Ordering}
 use Rattle.std.proofs.Common.{ap, ◌∙◌}
 use Rattle.std.proofs.lemmas.Bool.{ne_eqb}
@@ -56,16 +74,20 @@ module _ {C : Type 0} (cmp : C → C → Ordering) where
       → idle_send_table cmp entry log max_entries ≡ Ok sent → id_of sent.inflight ≡ Some id → entry.curr_inflight_id + 1 ≡ id
   sends_next entry sent log max_entries id e h =
       by (nat_lt entry.searching_end (next_index log.purge_upto)
-              || (start_of entry log == end_of entry log max_entries && nat_lt (next_index entry.matching) entry.searching_end))
-          (start_of entry log == end_of entry log max_entries) e
+      || (start_of entry log == end_of entry log max_entries && nat_lt (next_index entry.matching) entry.searching_end))
+      (start_of entry log == end_of entry log max_entries) e
     where
       by : (b c : Bool)
-          → (if b then Ok (record entry { curr_inflight_id = entry.curr_inflight_id + 1;
-                  inflight = Snapshot (entry.curr_inflight_id + 1) log.snapshot })
+          → (if b then Ok (record entry {
+            curr_inflight_id = entry.curr_inflight_id + 1;
+            inflight = Snapshot (entry.curr_inflight_id + 1) log.snapshot;
+          })
           else if c then Err entry
-          else Ok (record entry { curr_inflight_id = entry.curr_inflight_id + 1;
-                  inflight = logs_from cmp (entry.curr_inflight_id + 1) (prev_id log.id_at (start_of entry log))
-                  (prev_id log.id_at (end_of entry log max_entries)) }))
+          else Ok (record entry {
+            curr_inflight_id = entry.curr_inflight_id + 1;
+            inflight = logs_from cmp (entry.curr_inflight_id + 1) (prev_id log.id_at (start_of entry log))
+                (prev_id log.id_at (end_of entry log max_entries));
+          }))
           ≡ Ok sent
           → entry.curr_inflight_id + 1 ≡ id
       by true c is = sent_is sent _ (entry.curr_inflight_id + 1) id is (λ k. some_is (entry.curr_inflight_id + 1) id k) h

@@ -39,16 +39,26 @@ module _ {ID V P QS : Type 0} (by : Comparisons ID V P) (laws : IsEquivalence by
     known = λ v e.
         let k = u.known v e in
         record {
-          values = (v, e, not_lower (by.part v) (by.part value) (lower v e), subst
-                  (λ (w : V). Writes by.eq (state by.eq old) id w (state by.eq new)) k.1 k.2, is.counted);
+          values = (
+            v,
+            e,
+            not_lower (by.part v) (by.part value) (lower v e),
+            subst
+                (λ (w : V). Writes by.eq (state by.eq old) id w (state by.eq new)) k.1 k.2,
+            is.counted,
+          );
           answered = record { refused = λ r. absurd (true≢false (sym r)); done = λ _. u; tells = refl };
           ordered = is;
         };
     unknown = λ e.
         let same = u.unknown e in
         record {
-          values = (e, subst (λ (n : Shown ID V P QS). IsCounted by.cmp by.part has_quorum (state by.eq old) n.granted) (sym same)
-                  was.counted, unknown_same by.eq by.cmp by.part (λ v w. w ≡ value) old id new u e);
+          values = (
+            e,
+            subst (λ (n : Shown ID V P QS). IsCounted by.cmp by.part has_quorum (state by.eq old) n.granted) (sym same)
+                was.counted,
+            unknown_same by.eq by.cmp by.part (λ v w. w ≡ value) old id new u e,
+          );
           answered = record { refused = λ r. absurd (true≢false (sym r)); done = λ _. u; tells = refl };
           ordered = is;
         };
@@ -69,19 +79,21 @@ module _ {ID V P QS : Type 0} (by : Comparisons ID V P) (laws : IsEquivalence by
   increases_are_steps old new id value was lower u is = record {
     known = λ v e.
         let made = increase_known laws by.cmp by.part has_quorum old new id value new.granted refl is by.partial_cmp u (ap is_some e)
-            (rising value ((state by.eq old).value id) lower) in
+        (rising value ((state by.eq old).value id) lower) in
         record { values = made.values; answered = made.answered; ordered = is };
     unknown = λ e.
         let same = u.unknown e in
         record {
           values =
               subst (λ (b : Bool). MatchBool b
-                      ((p : P) × (◌≡◌ {A = Reply ID P} (Unknown new.granted) (Granted p))
-                      × IsCounted by.cmp by.part has_quorum (state by.eq old) p × IsSame (state by.eq old) (state by.eq new))
-                      (IsWritten by.eq by.cmp by.part has_quorum (state by.eq old) id value (Unknown new.granted) (state by.eq new)))
-              (sym (ap (λ o. stays by.partial_cmp o value) e))
-              (e, subst (λ (n : Shown ID V P QS). IsCounted by.cmp by.part has_quorum (state by.eq old) n.granted) (sym same) was.counted,
-                      unknown_same by.eq by.cmp by.part (IsGreaterOf by.partial_cmp value) old id new u e);
+              ((p : P) × (◌≡◌ {A = Reply ID P} (Unknown new.granted) (Granted p))
+              × IsCounted by.cmp by.part has_quorum (state by.eq old) p × IsSame (state by.eq old) (state by.eq new))
+              (IsWritten by.eq by.cmp by.part has_quorum (state by.eq old) id value (Unknown new.granted) (state by.eq new)))
+              (sym (ap (λ o. stays by.partial_cmp o value) e)) (
+                e,
+                subst (λ (n : Shown ID V P QS). IsCounted by.cmp by.part has_quorum (state by.eq old) n.granted) (sym same) was.counted,
+                unknown_same by.eq by.cmp by.part (IsGreaterOf by.partial_cmp value) old id new u e,
+              );
           answered = record { refused = λ r. absurd (true≢false (sym r)); done = λ _. u; tells = refl };
           ordered = is;
         };

@@ -1,6 +1,26 @@
 -- Clones of entries, one after another.
-use Rattle.std.specs.Prelude.{◌≡◌, ℕ, ◌+◌, ◌<◌, Bool, true, ◌&&◌, List, [], ◌∷◌, ◌++◌, length, take, refl, nat_eq, Result, Ok, Err,
-        MatchResult, IfOk}
+use Rattle.std.specs.Prelude.{
+  ◌≡◌,
+  ℕ,
+  ◌+◌,
+  ◌<◌,
+  Bool,
+  true,
+  ◌&&◌,
+  List,
+  [],
+  ◌∷◌,
+  ◌++◌,
+  length,
+  take,
+  refl,
+  nat_eq,
+  Result,
+  Ok,
+  Err,
+  MatchResult,
+  IfOk,
+}
 use Rattle.std.specs.List.{AllZip}
 use Rattle.std.specs.Map.{keys_of}
 use Rattle.std.specs.Set.{ClonesAreEqual}
@@ -18,7 +38,7 @@ pub zip_step : {A B : Type 0} (R : A → B → Type 0) (xs : List A) (i : ℕ) (
 zip_step {A} {B} R xs i x ys zs y l is a made r =
     let more : take (i + 1) xs ≡ take i xs ++ x ∷ [] = take_more xs i x l ∙ ap (λ e. take i xs ++ e ∷ []) (sym is) in
     subst (λ (es : List A). AllZip R es zs) (sym more)
-        (subst (λ (es : List B). AllZip R (take i xs ++ x ∷ []) es) (sym made) (all_zipped_more R (take i xs) ys x y a r))
+    (subst (λ (es : List B). AllZip R (take i xs ++ x ∷ []) es) (sym made) (all_zipped_more R (take i xs) ys x y a r))
 
 pub same_length : {A B : Type 0} (R : A → B → Type 0) (xs : List A) (ys : List B) → AllZip R xs ys → length ys ≡ length xs
 same_length R [] [] a = refl
@@ -43,7 +63,7 @@ walks_equal laws value_eq IsClone c [] (f ∷ fs) a = absurd a
 walks_equal laws value_eq IsClone c (e ∷ es) [] a = absurd a
 walks_equal {ID} {V} {eq} laws value_eq IsClone c (e ∷ es) (f ∷ fs) a =
     both _ _ (both _ _ (subst (λ (x : ID). eq e.0 x ≡ true) (sym a.0.0) (laws.refl e.0)) (c e.1 f.1 a.0.1))
-        (walks_equal laws value_eq IsClone c es fs a.1)
+    (walks_equal laws value_eq IsClone c es fs a.1)
 
 -- a clone is equal
 pub clone_is_equal : {ID V P QS : Type 0} {id_eq : ID → ID → Bool} (laws : IsEquivalence id_eq) (value_eq : V → V → Bool)
@@ -56,17 +76,17 @@ clone_is_equal {ID} {V} {P} {QS} {id_eq} laws value_eq {part_eq} part_laws set_e
     (both _ _
     (both _ _
     (both _ _ (sets old.quorum_set new.quorum_set c.quorum_set)
-            (subst (λ (p : P). part_eq old.granted p ≡ true) (sym c.granted) (part_laws.refl old.granted)))
+    (subst (λ (p : P). part_eq old.granted p ≡ true) (sym c.granted) (part_laws.refl old.granted)))
     (subst (λ (n : ℕ). nat_eq old.voter_count n ≡ true) (sym c.voter_count) (nat_eq_equiv.refl old.voter_count)))
     (walks_equal laws value_eq IsClone values old.walk new.walk c.walk))
     (subst (λ (p : P). part_eq old.default_part p ≡ true) (sym c.default_part) (part_laws.refl old.default_part)))
     (both _ _
     (both _ _
     (subst (λ (n : ℕ). nat_eq old.stat.update_count n ≡ true) (sym (ap (λ t. t.update_count) c.stat))
-            (nat_eq_equiv.refl old.stat.update_count))
+    (nat_eq_equiv.refl old.stat.update_count))
     (subst (λ (n : ℕ). nat_eq old.stat.move_count n ≡ true) (sym (ap (λ t. t.move_count) c.stat)) (nat_eq_equiv.refl old.stat.move_count)))
     (subst (λ (n : ℕ). nat_eq old.stat.is_quorum_count n ≡ true) (sym (ap (λ t. t.is_quorum_count) c.stat))
-            (nat_eq_equiv.refl old.stat.is_quorum_count)))
+    (nat_eq_equiv.refl old.stat.is_quorum_count)))
 
 -- what holds of each success holds of this one
 pub ok_from_match : {T E : Type 0} (P R : T → Type 0) (Q : E → Type 0) (r : Result T E) → MatchResult r P Q → ((x : T) → P x → R x)

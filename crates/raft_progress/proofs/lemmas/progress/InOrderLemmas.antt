@@ -65,7 +65,7 @@ module _ {ID V P : Type 0} {cmp : P → P → Ordering} (o : IsTotalOrder cmp) (
   behind e (f ∷ es) h =
       let t = if_false (is_lt (cmp g (part f.1)) && is_lt (cmp (part e.1) (part f.1))) (never_rises cmp part g (f ∷ es)) h in
       let here : is_lt (cmp g (part f.1)) ≡ true → AtMost cmp (part f.1) (part e.1) =
-          λ a. AtMost-from_not_lt o (part e.1) (part f.1) (and_lt _ _ t.0 a) in
+      λ a. AtMost-from_not_lt o (part e.1) (part f.1) (and_lt _ _ t.0 a) in
       (here, further f here es (behind f es t.1))
     where
       further : (f : ID × V) → (is_lt (cmp g (part f.1)) ≡ true → AtMost cmp (part f.1) (part e.1)) → (hs : List (ID × V))
@@ -80,8 +80,11 @@ module _ {ID V P : Type 0} {cmp : P → P → Ordering} (o : IsTotalOrder cmp) (
   pub falling_from_test : (es : List (ID × V)) → never_rises cmp part g es ≡ true → IsFalling cmp part g es
   falling_from_test [] h = tt
   falling_from_test (e ∷ []) h = (tt, tt)
-  falling_from_test (e ∷ f ∷ es) h = (behind e (f ∷ es) h, falling_from_test (f ∷ es)
-          (if_false (is_lt (cmp g (part f.1)) && is_lt (cmp (part e.1) (part f.1))) (never_rises cmp part g (f ∷ es)) h).1)
+  falling_from_test (e ∷ f ∷ es) h = (
+    behind e (f ∷ es) h,
+    falling_from_test (f ∷ es)
+        (if_false (is_lt (cmp g (part f.1)) && is_lt (cmp (part e.1) (part f.1))) (never_rises cmp part g (f ∷ es)) h).1,
+  )
 
   pub test_from_falling : (es : List (ID × V)) → IsFalling cmp part g es → never_rises cmp part g es ≡ true
   test_from_falling [] h = refl
@@ -138,10 +141,10 @@ module _ {ID V P QS : Type 0} {cmp : P → P → Ordering} (o : IsTotalOrder cmp
   pub counted_tied : (g h : P) → IsCounted cmp part has_quorum s g → cmp g h ≡ Equal → IsCounted cmp part has_quorum s h
   counted_tied g h c e = record {
     is_one = elim c.is_one as (λ _. (cmp s.default_part h ≡ Equal)
-            ⊎ ((x : ID) × (v : V) × IsReached cmp part has_quorum s x v × (cmp (part v) h ≡ Equal))) [
-      | inl t ↦ inl (tied_with o s.default_part g h t e)
-      | inr w ↦ inr (w.0, w.1, w.2, tied_with o (part w.1) g h w.3 e)
-    ];
+        ⊎ ((x : ID) × (v : V) × IsReached cmp part has_quorum s x v × (cmp (part v) h ≡ Equal))) [
+          | inl t ↦ inl (tied_with o s.default_part g h t e)
+          | inr w ↦ inr (w.0, w.1, w.2, tied_with o (part w.1) g h w.3 e)
+        ];
     default_at_most = AtMost-trans o s.default_part g h c.default_at_most up;
     others_at_most = λ x v r. AtMost-trans o (part v) g h (c.others_at_most x v r) up;
   }
@@ -174,9 +177,9 @@ module _ {ID V P QS : Type 0} {eq : ID → ID → Bool} (laws : IsEquivalence eq
       (each_passes (at_least cmp part d0) (take n walk) h)
 
   pub test_from_lowest : ((x : ID) (v : V) → is_member eq (take n (keys_of walk)) x ≡ true → lookup (eq x) walk ≡ Some v
-          → AtMost cmp d0 (part v)) → list_all (at_least cmp part d0) (take n walk) ≡ true
+      → AtMost cmp d0 (part v)) → list_all (at_least cmp part d0) (take n walk) ≡ true
   test_from_lowest low =
       all_pass (λ (e : ID × V). is_member eq (take n (keys_of walk)) e.0 ≡ true) (λ e. lookup (eq e.0) walk ≡ Some e.1)
-          (at_least cmp part d0) (λ e m l. low e.0 e.1 m l) (take n walk) (members laws walk n)
+      (at_least cmp part d0) (λ e m l. low e.0 e.1 m l) (take n walk) (members laws walk n)
       (recursion_from_All (λ (e : ID × V). lookup (eq e.0) walk ≡ Some e.1) (take n walk)
-              (All-take (λ (e : ID × V). lookup (eq e.0) walk ≡ Some e.1) n walk (found laws o part has_quorum quorum_set walk n d0 d)))
+      (All-take (λ (e : ID × V). lookup (eq e.0) walk ≡ Some e.1) n walk (found laws o part has_quorum quorum_set walk n d0 d)))

@@ -126,7 +126,7 @@ module _ {ID V P : Type 0} (part : V → P) where
       let here : part a.1 ≡ part b.1 = cc in
       let rest : map (λ f. part f.1) (take n as') ≡ map (λ f. part f.1) (take n bs) = cc in
       ap (λ (i : ID). option_map part (cond (eq x i) (Some a.1) (lookup (eq x) as'))) key
-          ∙ by here (eq x b.0) m (value_parts eq x n as' bs keys rest)
+      ∙ by here (eq x b.0) m (value_parts eq x n as' bs keys rest)
     where
       by : part a.1 ≡ part b.1 → (t : Bool) → (t || is_member eq (take n (keys_of bs)) x) ≡ true
           → (is_member eq (take n (keys_of bs)) x ≡ true → option_map part (lookup (eq x) as') ≡ option_map part (lookup (eq x) bs))
@@ -145,7 +145,7 @@ module _ {ID V P : Type 0} (part : V → P) where
       by : (b : Bool) → cond b (Some x.1) (lookup (eq id) xs) ≡ Some v
           → ((b || is_member eq (take n (keys_of xs)) id) ≡ true → part w ≡ part v)
           → (lookup (eq id) xs ≡ Some v → (is_member eq (take n (keys_of xs)) id ≡ true → part w ≡ part v)
-              → map (λ f. part f.1) (take n (set_value (eq id) xs w)) ≡ map (λ f. part f.1) (take n xs))
+          → map (λ f. part f.1) (take n (set_value (eq id) xs w)) ≡ map (λ f. part f.1) (take n xs))
           → map (λ f. part f.1) (take (suc n) (cond b ((x.0, w) ∷ xs) (x ∷ set_value (eq id) xs w)))
           ≡ part x.1 ∷ map (λ f. part f.1) (take n xs)
       by true i s r = let is : x.1 ≡ v = cc in ap (λ p. p ∷ map (λ f. part f.1) (take n xs)) (s refl ∙ ap part (sym is))
@@ -170,14 +170,14 @@ module _ {ID V P QS : Type 0} (eq : ID → ID → Bool) (cmp : P → P → Order
     falling =
         subst (λ (n : ℕ). IsFalling cmp part new.granted (take n new.walk)) (sym voter_count)
         (subst (λ (g : P). IsFalling cmp part g (take old.voter_count new.walk)) (sym granted)
-                (falling_alike part cmp old.granted (take old.voter_count old.walk) (take old.voter_count new.walk) (sym parts) r.falling));
+        (falling_alike part cmp old.granted (take old.voter_count old.walk) (take old.voter_count new.walk) (sym parts) r.falling));
     not_below = λ x v m h.
         let voter : is_member eq (take old.voter_count (keys_of old.walk)) x ≡ true = sym (voters_alike x) ∙ m in
         let there = same_part part (lookup (eq x) new.walk) (lookup (eq x) old.walk) v (voter_parts x voter) h in
         subst (λ (d : P). AtMost cmp d (part v)) (sym default_part)
-            (subst (λ (q : P). AtMost cmp old.default_part q) (sym there.2) (r.not_below x there.0 voter there.1));
+        (subst (λ (q : P). AtMost cmp old.default_part q) (sym there.2) (r.not_below x there.0 voter there.1));
     counted =
         subst (IsCounted cmp part has_quorum (state eq new)) (sym granted)
         (counted_alike cmp part has_quorum (state eq old) (state eq new) record
-                { quorums = quorums; voters = voters_alike; default_part = default_part; parts = voter_parts } old.granted r.counted);
+        { quorums = quorums; voters = voters_alike; default_part = default_part; parts = voter_parts } old.granted r.counted);
   }

@@ -19,7 +19,7 @@ module _ {ID V P QS : Type 0} {o : order_ghosts.Ghosts ID} {e : eq_ghosts.Ghosts
       let fits_prop : IsProp (p.voter_count ≤ length (with_items p.walk walk).items) = hlevel props in
       let room_prop : IsProp (length p.room.items ≡ p.voter_count) = hlevel props in
       let agree_prop : IsProp (true ≡ false
-              → TellsPlaces e.eq (keys_of (with_items p.walk walk).items) (place_in e.eq p.places.entries.items)) = hlevel props in
+      → TellsPlaces e.eq (keys_of (with_items p.walk walk).items) (place_in e.eq p.places.entries.items)) = hlevel props in
       λ i. record p {
         walk = with_items p.walk walk;
         stale = true;

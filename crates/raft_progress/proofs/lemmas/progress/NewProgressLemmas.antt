@@ -66,7 +66,7 @@ module _ {ID V : Type 0} {IsClone : V → V → Type 0} {default : V} (ids learn
       → AllByRecursion (λ e. IsClone default e.1) last
   all_placed n a b = subst (λ (es : List (ID × V)). AllByRecursion (λ e. IsClone default e.1) es) (sym b.is)
       (all_append _ first b.added (subst (λ (es : List (ID × V)). AllByRecursion (λ e. IsClone default e.1) es)
-          (sym (a.is ∙ ap (λ es. es ++ a.added) n)) a.clones) b.clones)
+      (sym (a.is ∙ ap (λ es. es ++ a.added) n)) a.clones) b.clones)
 
 module _ {ID : Type 0} {eq : ID → ID → Bool} (laws : IsEquivalence eq) where
   member_append : (ks ls : List ID) (x : ID) → is_member eq (ks ++ ls) x ≡ (is_member eq ks x || is_member eq ls x)
@@ -102,8 +102,11 @@ module _ {ID : Type 0} {eq : ID → ID → Bool} (laws : IsEquivalence eq) where
   all_from_members : (k : ID) (ls : List ID) → ((y : ID) → is_member eq ls y ≡ true → eq k y ≡ false)
       → AllByRecursion (λ y. eq k y ≡ false) ls
   all_from_members k [] h = tt
-  all_from_members k (l ∷ ls) h = (h l (ap (λ b. b || is_member eq ls l) (laws.refl l)), all_from_members k ls
-          (λ y m. h y (or_right (eq y l) (is_member eq ls y) m)))
+  all_from_members k (l ∷ ls) h = (
+    h l (ap (λ b. b || is_member eq ls l) (laws.refl l)),
+    all_from_members k ls
+        (λ y m. h y (or_right (eq y l) (is_member eq ls y) m)),
+  )
 
   IsDistinct-append : (ks ls : List ID) → IsDistinct eq ks → IsDistinct eq ls
       → ((y : ID) → is_member eq ls y ≡ true → is_member eq ks y ≡ false) → IsDistinct eq (ks ++ ls)

@@ -1,6 +1,28 @@
 -- What an update comes to, from what its steps do.
-use Rattle.std.specs.Prelude.{◌≡◌, ℕ, ◌-◌, ◌<◌, ◌≤◌, ◌^◌, Bool, true, false, cond, ◌&&◌, ◌||◌, nat_lt, List, [], ◌∷◌, length, take, Option,
-        Some, None, position}
+use Rattle.std.specs.Prelude.{
+  ◌≡◌,
+  ℕ,
+  ◌-◌,
+  ◌<◌,
+  ◌≤◌,
+  ◌^◌,
+  Bool,
+  true,
+  false,
+  cond,
+  ◌&&◌,
+  ◌||◌,
+  nat_lt,
+  List,
+  [],
+  ◌∷◌,
+  length,
+  take,
+  Option,
+  Some,
+  None,
+  position,
+}
 use Rattle.std.specs.Ordering.{is_le, is_lt}
 use Rattle.std.specs.declared.cmp.Ordering.{Ordering}
 use Rattle.std.specs.Cmp.{IsEquivalence, IsTotalOrder}
@@ -46,7 +68,7 @@ pub record Outcome {ID V P QS : Type 0} (eq : ID → ID → Bool) (cmp : P → P
   pub few_tests : (k : ℕ) → mid.voter_count < 2 ^ k → tests ≤ k
   pub tested_to_rise : is_lt (cmp mid.granted new.granted) ≡ true → 1 ≤ tests
   pub not_tested : (is_member eq (take mid.voter_count (keys_of ws)) id
-          && (is_le (cmp (part v) mid.granted) && is_lt (cmp mid.granted (part w)))) ≡ false → (tests ≡ 0) × (new.granted ≡ mid.granted)
+      && (is_le (cmp (part v) mid.granted) && is_lt (cmp mid.granted (part w)))) ≡ false → (tests ≡ 0) × (new.granted ≡ mid.granted)
 
 pub some_before : {ID V : Type 0} (eq : ID → Bool) (es : List (ID × V)) (n i : ℕ) (d : ID × V) → i < n → i < length es
     → eq (get_or es i d).0 ≡ true → list_any eq (take n (keys_of es)) ≡ true
@@ -70,7 +92,7 @@ order_alike {ID} {V} {P} {QS} eq cmp part hq qs qs' ws n n' d d' g g' a b c f r 
 
 module _ {ID V P QS : Type 0} {eq : ID → ID → Bool} (laws : IsEquivalence eq) {cmp : P → P → Ordering} (o : IsTotalOrder cmp) (part : V → P)
     (has_quorum : QS → (ID → Bool) → Bool) (superset : (qs : QS) (s t : ID → Bool) → ((x : ID) → s x ≡ true → t x ≡ true)
-        → has_quorum qs s ≡ true → has_quorum qs t ≡ true) (mid new : Shown ID V P QS) (ws : List (ID × V))
+    → has_quorum qs s ≡ true → has_quorum qs t ≡ true) (mid new : Shown ID V P QS) (ws : List (ID × V))
     (r : IsWalkInOrder eq cmp part has_quorum mid.quorum_set ws mid.voter_count mid.default_part mid.granted) (id : ID) (i : ℕ)
     (e0 : ID × V) (at : position (λ (f : ID × V). eq id f.0) ws ≡ Some i) (is : e0 ≡ get_or ws i e0) (w : V)
     (up : AtMost cmp (part e0.1) (part w)) (next_is : mid.walk ≡ set ws i (e0.0, w)) (was : lookup (eq id) ws ≡ Some e0.1)
@@ -98,7 +120,7 @@ module _ {ID V P QS : Type 0} {eq : ID → ID → Bool} (laws : IsEquivalence eq
       ap (λ b. b && (is_lt (cmp (part e0.1) (part w)) && is_lt (cmp mid.granted (part w)))) member_is
       ∙ ap (λ (x : P). nat_lt i mid.voter_count && (is_lt (cmp x (part w)) && is_lt (cmp mid.granted (part w)))) (sym before_is)
       ∙ ap (λ (f : ID × V). nat_lt i mid.voter_count && (is_lt (cmp before (part f.1)) && is_lt (cmp mid.granted (part f.1))))
-          (sym entry_is)
+      (sym entry_is)
 
   keys_same : keys_of mid.walk ≡ keys_of ws
   keys_same = same_keys laws ws mid.walk id e0.1 w was wrote
@@ -143,7 +165,7 @@ module _ {ID V P QS : Type 0} {eq : ID → ID → Bool} (laws : IsEquivalence eq
       by : (b : Bool) → is_lt (cmp mid.granted (part e0.1)) ≡ b → b ≡ true
       by true u = refl
       by false u = absurd (true≢false (sym (AtMost-from_not_lt o mid.granted (part e0.1) u)
-              ∙ ap (λ (x : P). is_le (cmp x mid.granted)) (sym before_is) ∙ t))
+          ∙ ap (λ (x : P). is_le (cmp x mid.granted)) (sym before_is) ∙ t))
 
   module _ (rise : raises ≡ true) where
     voter : i < mid.voter_count
@@ -198,8 +220,8 @@ module _ {ID V P QS : Type 0} {eq : ID → ID → Bool} (laws : IsEquivalence eq
               m.default_part mid.granted m.granted raised.risen.group.quorum_set raised.risen.group.voter_count
               raised.risen.group.default_part raised.risen.granted
               (settles.order_moved laws o part has_quorum mid.quorum_set (superset mid.quorum_set) mid.default_part mid.voter_count ws
-                      mid.granted r id i e0 at is w up mid.walk next_is keys_same value_written was voter high (m.walk) raised.to
-                      raised.risen.rises (above_of t));
+              mid.granted r id i e0 at is w up mid.walk next_is keys_same value_written was voter high (m.walk) raised.to
+              raised.risen.rises (above_of t));
           written = written_m m refl record { quorum_set = refl; voter_count = refl; default_part = refl; updates = refl };
           voter_count = raised.risen.group.voter_count;
           updates = raised.risen.group.updates;
@@ -210,7 +232,7 @@ module _ {ID V P QS : Type 0} {eq : ID → ID → Bool} (laws : IsEquivalence eq
           counts_tests = raised.risen.tests ∙ counted_none mid.stat.is_quorum_count fits;
           few_tests = λ k h. omega arith;
           tested_to_rise = λ h. absurd (true≢false
-                  (sym h ∙ ap (λ (x : P). is_lt (cmp mid.granted x)) raised.risen.granted ∙ ap is_lt (tied_itself o mid.granted)));
+              (sym h ∙ ap (λ (x : P). is_lt (cmp mid.granted x)) raised.risen.granted ∙ ap is_lt (tied_itself o mid.granted)));
           not_tested = λ h. (refl, raised.risen.granted);
         }
 
@@ -222,27 +244,27 @@ module _ {ID V P QS : Type 0} {eq : ID → ID → Bool} (laws : IsEquivalence eq
           (prefix_len (exceeds cmp part mid.granted) (take mid.voter_count (m.walk))) s.found s.tests
       scan =
           subst (λ (x : QS). IsLeastFront eq (has_quorum x) (take mid.voter_count (m.walk)) raised.to
-                  (prefix_len (exceeds cmp part mid.granted) (take mid.voter_count (m.walk))) s.found s.tests) raised.risen.group.quorum_set
+          (prefix_len (exceeds cmp part mid.granted) (take mid.voter_count (m.walk))) s.found s.tests) raised.risen.group.quorum_set
           (subst (λ (x : ℕ). IsLeastFront eq (has_quorum m.quorum_set) (take x (m.walk)) raised.to
-                  (prefix_len (exceeds cmp part mid.granted) (take x (m.walk))) s.found s.tests) raised.risen.group.voter_count
+          (prefix_len (exceeds cmp part mid.granted) (take x (m.walk))) s.found s.tests) raised.risen.group.voter_count
           (subst (λ (x : P). IsLeastFront eq (has_quorum m.quorum_set) (take m.voter_count (m.walk)) raised.to
-                  (prefix_len (exceeds cmp part x) (take m.voter_count (m.walk))) s.found s.tests) raised.risen.granted s.scanned))
+          (prefix_len (exceeds cmp part x) (take m.voter_count (m.walk))) s.found s.tests) raised.risen.granted s.scanned))
 
       ordered_new : (found : Option ℕ) → s.found ≡ found
           → IsWalkInOrder eq cmp part has_quorum mid.quorum_set (m.walk) mid.voter_count mid.default_part new.granted
       ordered_new None none =
           subst (λ (x : P). IsWalkInOrder eq cmp part has_quorum mid.quorum_set (m.walk) mid.voter_count mid.default_part x)
-              (sym (s.stays none ∙ raised.risen.granted))
+          (sym (s.stays none ∙ raised.risen.granted))
           (settles.order_none laws o part has_quorum mid.quorum_set (superset mid.quorum_set) mid.default_part mid.voter_count ws
-                  mid.granted r id i e0 at is w up mid.walk next_is keys_same value_written was voter high (m.walk) raised.to
-                  raised.risen.rises s.found s.tests scan none)
+          mid.granted r id i e0 at is w up mid.walk next_is keys_same value_written was voter high (m.walk) raised.to
+          raised.risen.rises s.found s.tests scan none)
       ordered_new (Some k) some =
           let f = s.rises k some in
           subst (λ (x : P). IsWalkInOrder eq cmp part has_quorum mid.quorum_set (m.walk) mid.voter_count mid.default_part x) (sym f.2)
           (settles.order_found laws o part has_quorum mid.quorum_set (superset mid.quorum_set) mid.default_part mid.voter_count ws
-                  mid.granted r id i e0 at is w up mid.walk next_is keys_same value_written was voter high (m.walk) raised.to
-                  raised.risen.rises s.found s.tests scan k f.0 some
-                  (f.1 ∙ ap (λ x. get_or (take x (m.walk)) (k - 1) f.0) raised.risen.group.voter_count))
+          mid.granted r id i e0 at is w up mid.walk next_is keys_same value_written was voter high (m.walk) raised.to
+          raised.risen.rises s.found s.tests scan k f.0 some
+          (f.1 ∙ ap (λ x. get_or (take x (m.walk)) (k - 1) f.0) raised.risen.group.voter_count))
 
       never_less : (found : Option ℕ) → s.found ≡ found → AtMost cmp mid.granted new.granted
       never_less None none = subst (AtMost cmp mid.granted) (sym (s.stays none ∙ raised.risen.granted)) (AtMost-refl o mid.granted)
@@ -252,16 +274,16 @@ module _ {ID V P QS : Type 0} {eq : ID → ID → Bool} (laws : IsEquivalence eq
           let low = s.scanned.above k some in
           let far = s.scanned.within k some in
           let over : is_lt (cmp m.granted (part (get_or voters (k - 1) f.0).1)) ≡ true =
-              prefix_len_passes (exceeds cmp part m.granted) voters (k - 1) f.0 (omega arith) in
+          prefix_len_passes (exceeds cmp part m.granted) voters (k - 1) f.0 (omega arith) in
           subst (AtMost cmp mid.granted) (sym f.2)
-              (AtMost-from_lt cmp mid.granted (part f.0.1)
-                  (ap (λ (x : P). is_lt (cmp x (part f.0.1))) (sym raised.risen.granted)
-                  ∙ ap (λ (e : ID × V). is_lt (cmp m.granted (part e.1))) f.1 ∙ over))
+          (AtMost-from_lt cmp mid.granted (part f.0.1)
+          (ap (λ (x : P). is_lt (cmp x (part f.0.1))) (sym raised.risen.granted)
+          ∙ ap (λ (e : ID × V). is_lt (cmp m.granted (part e.1))) f.1 ∙ over))
 
       tested : (found : Option ℕ) → s.found ≡ found → is_lt (cmp mid.granted new.granted) ≡ true → 1 ≤ s.tests
       tested None none h = absurd (true≢false
-              (sym h ∙ ap (λ (x : P). is_lt (cmp mid.granted x)) (s.stays none ∙ raised.risen.granted)
-              ∙ ap is_lt (tied_itself o mid.granted)))
+          (sym h ∙ ap (λ (x : P). is_lt (cmp mid.granted x)) (s.stays none ∙ raised.risen.granted)
+          ∙ ap is_lt (tied_itself o mid.granted)))
       tested (Some k) some h = scan.tested k some
 
       scanned_outcome : Outcome eq cmp part has_quorum mid ws id e0.1 w new
@@ -270,7 +292,7 @@ module _ {ID V P QS : Type 0} {eq : ID → ID → Bool} (laws : IsEquivalence eq
             new.default_part new.granted new.granted (s.group.quorum_set ∙ raised.risen.group.quorum_set)
             (s.group.voter_count ∙ raised.risen.group.voter_count) (s.group.default_part ∙ raised.risen.group.default_part) refl
             (subst (λ (es : List (ID × V)). IsWalkInOrder eq cmp part has_quorum mid.quorum_set es mid.voter_count mid.default_part
-                    new.granted) (sym s.same_walk) (ordered_new s.found refl));
+            new.granted) (sym s.same_walk) (ordered_new s.found refl));
         written = written_m new s.same_walk s.group;
         voter_count = s.group.voter_count ∙ raised.risen.group.voter_count;
         updates = s.group.updates ∙ raised.risen.group.updates;
@@ -282,7 +304,7 @@ module _ {ID V P QS : Type 0} {eq : ID → ID → Bool} (laws : IsEquivalence eq
         few_tests = λ k h. scan.few k (let l = length_take_le (m.walk) mid.voter_count in omega arith);
         tested_to_rise = tested s.found refl;
         not_tested = λ h. absurd (true≢false
-                (sym (passed (of_both _ _ rise).0 (ap (λ (x : P). is_le (cmp x mid.granted)) (sym before_is) ∙ t) high) ∙ h));
+            (sym (passed (of_both _ _ rise).0 (ap (λ (x : P). is_le (cmp x mid.granted)) (sym before_is) ∙ t) high) ∙ h));
       }
         where
           length_take_le : (xs : List (ID × V)) (n : ℕ) → length (take n xs) ≤ n

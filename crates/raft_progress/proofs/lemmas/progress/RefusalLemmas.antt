@@ -9,8 +9,13 @@ use Rattle.raft_members.specs.Refusal.{IsRefusal}
 use Rattle.raft_members.specs.Valid.{IsValid}
 use Rattle.raft_members.specs.declared.change_members.ChangeMembers.{ChangeMembers}
 use Rattle.raft_members.specs.declared.error.ChangeMembershipErrorOf.{ChangeMembershipErrorOf}
-use Rattle.raft_members.specs.declared.error.ChangeMembershipErrorOf.TheVariants.{InProgress, EmptyMembership, LearnerNotFound, OutOfMemory
-        as WantOfMemory}
+use Rattle.raft_members.specs.declared.error.ChangeMembershipErrorOf.TheVariants.{
+  InProgress,
+  EmptyMembership,
+  LearnerNotFound,
+  OutOfMemory
+      as WantOfMemory,
+}
 use Rattle.raft_progress.specs.Inner.Refusal.{RefusesUpgrade, refusal_reply}
 use Rattle.raft_progress.specs.Inner.ShownAnswers.{IsShownChange, IsShownUpgrade}
 use Rattle.raft_progress.specs.progress.Answered.{Tells, is_refused}
@@ -31,12 +36,15 @@ module _ {ID V P QS : Type 0} (eq : ID → ID → Bool) (id_cmp : ID → ID → 
     pub refused_upgrade : (reply : Reply ID P)
         → RefusesUpgrade eq id_cmp cmp part (is_voter quorum_set) learners default (state eq old).value reply
         → IsShownUpgrade eq id_cmp cmp part IsClone has_quorum is_voter old quorum_set learners default reply old
-    refused_upgrade BadLearners r = record
-        { values = (r, IsSame-refl (state eq old));
-            answered = record { refused = λ h. refl; done = λ h. absurd (true≢false h); tells = tt } }
+    refused_upgrade BadLearners r = record {
+      values = (r, IsSame-refl (state eq old));
+      answered = record { refused = λ h. refl; done = λ h. absurd (true≢false h); tells = tt };
+    }
     refused_upgrade (BelowDefault id) r =
-        record { values = (r.0, r.1, IsSame-refl (state eq old));
-            answered = record { refused = λ h. refl; done = λ h. absurd (true≢false h); tells = tt } }
+        record {
+          values = (r.0, r.1, IsSame-refl (state eq old));
+          answered = record { refused = λ h. refl; done = λ h. absurd (true≢false h); tells = tt };
+        }
     refused_upgrade reply r = absurd r
 
 -- going over to a membership is answered by its reply, or by want of memory where nothing has changed
@@ -47,8 +55,10 @@ pub change_or_memory : {K N V P E : Type 0} (eq : K → K → Bool) (id_cmp : K 
 change_or_memory eq id_cmp cmp part IsClone old new next default (Ok reply) step kept = step
 change_or_memory {K} {N} {V} {P} eq id_cmp cmp part IsClone old new next default (Err e) step kept =
     subst (λ (n : TrackedShown K N V P). IsTrackedChangeTo eq id_cmp cmp part IsClone old next default OutOfMemory n) (sym kept)
-    record { values = IsSameTracked-refl (tracked_state eq old);
-            answered = record { refused = λ h. refl; done = λ h. absurd (true≢false h); tells = tt } }
+    record {
+      values = IsSameTracked-refl (tracked_state eq old);
+      answered = record { refused = λ h. refl; done = λ h. absurd (true≢false h); tells = tt };
+    }
 
 module _ {K N V P : Type 0} (eq : K → K → Bool) (id_cmp : K → K → Ordering) (same : N → N → Bool) (cmp : P → P → Ordering) (part : V → P)
     (IsClone : V → V → Type 0)
@@ -68,8 +78,11 @@ module _ {K N V P : Type 0} (eq : K → K → Bool) (id_cmp : K → K → Orderi
     unchanged reply given is kept values refused tells =
         subst (λ (n : TrackedShown K N V P). IsShownChange eq id_cmp same cmp part IsClone old change retain default reply n) (sym kept)
         (subst (λ (r : Reply K P). IsShownChange eq id_cmp same cmp part IsClone old change retain default r old) (sym is)
-        record { values = values; answered = record
-                { refused = λ h. refl; done = λ h. absurd (true≢false (sym refused ∙ h)); tells = tells } })
+        record {
+          values = values;
+          answered = record
+              { refused = λ h. refl; done = λ h. absurd (true≢false (sym refused ∙ h)); tells = tells };
+        })
 
     -- a change is answered by what is made of the membership, or by why it is refused
     pub change_answered : {C : Type 0} (made : Result (MemberList K N) (ChangeMembershipErrorOf C K)) (reply : Reply K P)

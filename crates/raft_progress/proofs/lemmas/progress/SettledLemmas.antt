@@ -1,6 +1,26 @@
 -- A progress is in order after an update.
-use Rattle.std.specs.Prelude.{◌≡◌, ℕ, ◌+◌, ◌-◌, ◌<◌, ◌≤◌, Bool, true, false, cond, List, [], ◌∷◌, ◌++◌, length, take, Option, Some, None,
-        position}
+use Rattle.std.specs.Prelude.{
+  ◌≡◌,
+  ℕ,
+  ◌+◌,
+  ◌-◌,
+  ◌<◌,
+  ◌≤◌,
+  Bool,
+  true,
+  false,
+  cond,
+  List,
+  [],
+  ◌∷◌,
+  ◌++◌,
+  length,
+  take,
+  Option,
+  Some,
+  None,
+  position,
+}
 use Rattle.std.specs.Ordering.{is_le, is_lt}
 use Rattle.std.specs.declared.cmp.Ordering.{Ordering}
 use Rattle.std.specs.declared.cmp.Ordering.TheVariants.{Less, Equal, Greater}
@@ -8,8 +28,24 @@ use Rattle.std.specs.Cmp.{IsEquivalence, IsTotalOrder}
 use Rattle.std.specs.Map.{keys_of, lookup}
 use Rattle.std.specs.Set.{is_member}
 use Rattle.std.specs.List.{IsDistinct, prefix_len}
-use Rattle.std.proofs.Common.{arith, sym, ap, refl, ◌∙◌, true≢false, get_or, set, subst, suc, zero, ltb, ltb-true, ltb-false, length-append,
-        append_assoc}
+use Rattle.std.proofs.Common.{
+  arith,
+  sym,
+  ap,
+  refl,
+  ◌∙◌,
+  true≢false,
+  get_or,
+  set,
+  subst,
+  suc,
+  zero,
+  ltb,
+  ltb-true,
+  ltb-false,
+  length-append,
+  append_assoc,
+}
 use Rattle.std.proofs.lemmas.List.{take-set-le, set-set, set-get_or, get_or-set_same}
 use Rattle.std.proofs.Math.Seq.{take-set-lt}
 use Rattle.std.proofs.lemmas.List.Quantifiers.{position-Some}
@@ -23,8 +59,15 @@ use Rattle.raft_progress.proofs.lemmas.progress.walk.FallingLemmas.{falling_rise
 use Rattle.raft_progress.proofs.lemmas.progress.walk.FrontLemmas.{front_fails}
 use Rattle.raft_progress.proofs.lemmas.progress.walk.RisingLemmas.{get_at, set_at}
 use Rattle.raft_progress.proofs.lemmas.progress.walk.MovedLemmas.{take_add, take_within, distinct_moved, member_moved, lookup_moved}
-use Rattle.raft_progress.proofs.lemmas.progress.recount.CountedValueLemmas.{counted_still, counted_none, counted_front, not_below_still,
-        lead_fails, in_lead, not_both}
+use Rattle.raft_progress.proofs.lemmas.progress.recount.CountedValueLemmas.{
+  counted_still,
+  counted_none,
+  counted_front,
+  not_below_still,
+  lead_fails,
+  in_lead,
+  not_both,
+}
 use Rattle.raft_progress.proofs.lemmas.progress.UpdateLemmas.{keys_take}
 
 tied : {P : Type 0} {cmp : P → P → Ordering} (o : IsTotalOrder cmp) (a b : P) → AtMost cmp a b → AtMost cmp b a → cmp a b ≡ Equal
@@ -116,8 +159,8 @@ module _ {ID V P QS : Type 0} {eq : ID → ID → Bool} (laws : IsEquivalence eq
         by true t =
             let l = ltb-true i n t in
             rw next_is (rw (take-set-lt n walk i (e0.0, w) l)
-                    (falling_set o part g (take n walk) i e0 (e0.0, w) e0 (length_take walk n i l place.0)
-                    (is ∙ sym (get_take walk n i e0 l)) up (λ h. (over l h, low l h)) r.falling))
+            (falling_set o part g (take n walk) i e0 (e0.0, w) e0 (length_take walk n i l place.0)
+            (is ∙ sym (get_take walk n i e0 l)) up (λ h. (over l h, low l h)) r.falling))
         by false t = let l = ltb-false i n t in rw next_is (rw (take-set-le n walk i (e0.0, w) l) r.falling)
 
     pub order_still : IsWalkInOrder eq cmp part has_quorum qs next n d0 g
@@ -142,7 +185,7 @@ module _ {ID V P QS : Type 0} {eq : ID → ID → Bool} (laws : IsEquivalence eq
         let len : length (p.front ++ p.passed) ≡ i = length-append p.front p.passed ∙ p.was_at in
         let was' : next ≡ (p.front ++ p.passed) ++ (p.entry ∷ p.rest) = p.was ∙ sym (append_assoc p.front p.passed (p.entry ∷ p.rest)) in
         sym (ap (λ xs. get_or xs i e0) was' ∙ ap (λ k. get_or ((p.front ++ p.passed) ++ (p.entry ∷ p.rest)) k e0) (sym len)
-                ∙ get_at (p.front ++ p.passed) p.entry p.rest e0)
+        ∙ get_at (p.front ++ p.passed) p.entry p.rest e0)
         ∙ ap (λ xs. get_or xs i e0) next_is ∙ get_or-set_same walk i (e0.0, w) e0 place.0
 
     part_is : part p.entry.1 ≡ part w
@@ -187,8 +230,8 @@ module _ {ID V P QS : Type 0} {eq : ID → ID → Bool} (laws : IsEquivalence eq
     pub voters_to : (x : ID) → is_member eq (take n (keys_of moved)) x ≡ is_member eq (take n (keys_of walk)) x
     voters_to x =
         ap (λ es. is_member eq (take n (keys_of es)) x) p.now
-            ∙ ap (λ ks. is_member eq ks x) (sym (keys_take laws n (p.front ++ (p.entry ∷ (p.passed ++ p.rest)))))
-            ∙ ap (λ es. is_member eq (keys_of es) x) take_new
+        ∙ ap (λ ks. is_member eq ks x) (sym (keys_take laws n (p.front ++ (p.entry ∷ (p.passed ++ p.rest)))))
+        ∙ ap (λ es. is_member eq (keys_of es) x) take_new
         ∙ member_moved laws p.front p.passed p.entry (take after p.rest) x
         ∙ ap (λ es. is_member eq (keys_of es) x) (sym (take_old p.entry))
         ∙ ap (λ ks. is_member eq ks x) (keys_take laws n (p.front ++ (p.passed ++ (p.entry ∷ p.rest))))
@@ -205,7 +248,7 @@ module _ {ID V P QS : Type 0} {eq : ID → ID → Bool} (laws : IsEquivalence eq
     falling_to =
         subst (IsFalling cmp part g) (sym take_moved)
         (falling_risen o part g p.front p.passed e0 p.entry (take after p.rest) (ap (λ x. is_lt (cmp g x)) part_is ∙ high)
-                (ap (λ x. is_le (cmp (part e0.1) x)) part_is ∙ up) p.lesser rises.stops (subst (IsFalling cmp part g) take_walk r.falling))
+        (ap (λ x. is_le (cmp (part e0.1) x)) part_is ∙ up) p.lesser rises.stops (subst (IsFalling cmp part g) take_walk r.falling))
 
     pub not_below_to : (x : ID) (u : V) → is_member eq (take n (keys_of moved)) x ≡ true → lookup (eq x) moved ≡ Some u
         → AtMost cmp d0 (part u)
@@ -228,26 +271,26 @@ module _ {ID V P QS : Type 0} {eq : ID → ID → Bool} (laws : IsEquivalence eq
     lead_to =
         in_lead laws o part has_quorum qs superset d0 n moved distinct_to g falling_to to e0 length_moved
         (ap (λ xs. is_lt (cmp g (part (get_or xs to e0).1))) take_moved
-                ∙ ap (λ k. is_lt (cmp g (part (get_or (p.front ++ (p.entry ∷ (p.passed ++ take after p.rest))) k e0).1))) (sym p.now_at)
-                ∙ ap (λ (f : ID × V). is_lt (cmp g (part f.1))) (get_at p.front p.entry (p.passed ++ take after p.rest) e0)
-                ∙ ap (λ x. is_lt (cmp g x)) part_is ∙ high)
+        ∙ ap (λ k. is_lt (cmp g (part (get_or (p.front ++ (p.entry ∷ (p.passed ++ take after p.rest))) k e0).1))) (sym p.now_at)
+        ∙ ap (λ (f : ID × V). is_lt (cmp g (part f.1))) (get_at p.front p.entry (p.passed ++ take after p.rest) e0)
+        ∙ ap (λ x. is_lt (cmp g x)) part_is ∙ high)
 
     -- the fronts before the voter were no quorum, and none of them has changed
     fails_before : (l : ℕ) → 1 ≤ l → l ≤ to → front_test eq (has_quorum qs) (take n moved) l ≡ false
     fails_before l one far =
         let q = p.now_at in
         let lead : length p.front ≤ prefix_len (exceeds cmp part g) (p.front ++ (p.entry ∷ (p.passed ++ take after p.rest))) =
-            subst (λ (xs : List (ID × V)). length p.front ≤ prefix_len (exceeds cmp part g) xs) take_moved
-            (let h = lead_to in omega arith) in
+        subst (λ (xs : List (ID × V)). length p.front ≤ prefix_len (exceeds cmp part g) xs) take_moved
+        (let h = lead_to in omega arith) in
         let lead' : length p.front ≤ prefix_len (exceeds cmp part g) (take n walk) =
-            subst (λ (xs : List (ID × V)). length p.front ≤ prefix_len (exceeds cmp part g) xs) (sym take_walk)
-            (prefix_any (exceeds cmp part g) p.front _ (p.passed ++ (e0 ∷ take after p.rest)) lead) in
+        subst (λ (xs : List (ID × V)). length p.front ≤ prefix_len (exceeds cmp part g) xs) (sym take_walk)
+        (prefix_any (exceeds cmp part g) p.front _ (p.passed ++ (e0 ∷ take after p.rest)) lead) in
         let fails : front_test eq (has_quorum qs) (take n walk) l ≡ false =
-            front_fails eq (has_quorum qs) superset (take n walk) l (prefix_len (exceeds cmp part g) (take n walk)) (omega arith)
-            (lead_fails laws o part has_quorum qs superset d0 n walk r.distinct g r.falling r.counted (omega arith)) in
+        front_fails eq (has_quorum qs) superset (take n walk) l (prefix_len (exceeds cmp part g) (take n walk)) (omega arith)
+        (lead_fails laws o part has_quorum qs superset d0 n walk r.distinct g r.falling r.counted (omega arith)) in
         let same : take l (take n moved) ≡ take l (take n walk) =
         ap (take l) take_moved ∙ take_within p.front (p.entry ∷ (p.passed ++ take after p.rest)) l (omega arith)
-            ∙ sym (take_within p.front (p.passed ++ (e0 ∷ take after p.rest)) l (omega arith)) ∙ ap (take l) (sym take_walk) in
+        ∙ sym (take_within p.front (p.passed ++ (e0 ∷ take after p.rest)) l (omega arith)) ∙ ap (take l) (sym take_walk) in
         ap (λ es. has_quorum qs (is_member eq (keys_of es))) same ∙ fails
 
     module _ (found : Option ℕ) (tests : ℕ)
@@ -273,7 +316,7 @@ module _ {ID V P QS : Type 0} {eq : ID → ID → Bool} (laws : IsEquivalence eq
       order_found k f s here =
           let a = scan.above k s in
           let c = counted_front laws o part has_quorum qs superset d0 n walk moved id e0.1 w voters_to written_to was up g r.counted
-              distinct_to falling_to k f (omega arith) (scan.within k s) (scan.holds k s) (fails_least k s) here in
+          distinct_to falling_to k f (omega arith) (scan.within k s) (scan.holds k s) (fails_least k s) here in
           record {
             distinct = distinct_to;
             falling = falling_weaker o part g (part f.1) c.0 (take n moved) falling_to;

@@ -19,8 +19,12 @@ use Rattle.raft_progress.proofs.lemmas.progress.UpdateLemmas.{lookup_alike}
 module _ {ID V P QS : Type 0} where
   -- what is the same everywhere is the same
   pub same_is_equal : (old new : ProgressState ID V P QS) → IsSame old new → new ≡ old
-  same_is_equal old new s = λ i. record { quorum_set = s.quorum_set i; is_voter = λ x. s.is_voter x i; value = λ x. s.value x i;
-          default_part = s.default_part i }
+  same_is_equal old new s = λ i. record {
+    quorum_set = s.quorum_set i;
+    is_voter = λ x. s.is_voter x i;
+    value = λ x. s.value x i;
+    default_part = s.default_part i;
+  }
 
   -- writing the value that is there changes nothing
   written_same : (eq : ID → ID → Bool) (old new : ProgressState ID V P QS) (id : ID) (v : V)
@@ -50,8 +54,8 @@ module _ {ID V P QS : Type 0} {eq : ID → ID → Bool} (laws : IsEquivalence eq
       → IsIncreased eq cmp partial_cmp part has_quorum (state eq old) id value (Granted granted) (state eq new)
   increased v e up =
       subst (λ (b : Bool). MatchBool b ((p : P) × (◌≡◌ {A = Reply ID P} (Granted granted) (Granted p))
-              × IsCounted cmp part has_quorum (state eq old) p × IsSame (state eq old) (state eq new))
-              (IsWritten eq cmp part has_quorum (state eq old) id value (Granted granted) (state eq new)))
+      × IsCounted cmp part has_quorum (state eq old) p × IsSame (state eq old) (state eq new))
+      (IsWritten eq cmp part has_quorum (state eq old) id value (Granted granted) (state eq new)))
       (sym (ap (λ o. stays partial_cmp o value) e)) (by (partial_gt partial_cmp value v) refl)
     where
       k : (w : V) × (w ≡ (if partial_gt partial_cmp value v then value else v)) × Writes eq (state eq old) id w (state eq new)
@@ -59,19 +63,28 @@ module _ {ID V P QS : Type 0} {eq : ID → ID → Bool} (laws : IsEquivalence eq
 
       by : (b : Bool) → partial_gt partial_cmp value v ≡ b
           → MatchBool (not b) ((p : P) × (◌≡◌ {A = Reply ID P} (Granted granted) (Granted p))
-              × IsCounted cmp part has_quorum (state eq old) p × IsSame (state eq old) (state eq new))
+          × IsCounted cmp part has_quorum (state eq old) p × IsSame (state eq old) (state eq new))
           (IsWritten eq cmp part has_quorum (state eq old) id value (Granted granted) (state eq new))
       by true t =
-          let is : k.0 ≡ value = k.1 ∙ ap (λ b. cond b value v) t in
-          (v, e, sym (ap (λ o. falls cmp part o value) e)
-                  ∙ up (ap (λ o. stays partial_cmp o value) e ∙ ap not t), subst (λ (w : V). Writes eq (state eq old) id w (state eq new))
-                  is k.2, counted)
+          let is : k.0 ≡ value = k.1 ∙ ap (λ b. cond b value v) t in (
+            v,
+            e,
+            sym (ap (λ o. falls cmp part o value) e)
+                ∙ up (ap (λ o. stays partial_cmp o value) e ∙ ap not t),
+            subst (λ (w : V). Writes eq (state eq old) id w (state eq new))
+                is k.2,
+            counted,
+          )
       by false t =
           let is : k.0 ≡ v = k.1 ∙ ap (λ b. cond b value v) t in
           let same = written_same eq (state eq old) (state eq new) id v (λ x y h. lookup_alike laws x y h old.walk) e
-              (subst (λ (w : V). Writes eq (state eq old) id w (state eq new)) is k.2) in
-          (granted, refl, subst (λ (s : ProgressState ID V P QS). IsCounted cmp part has_quorum s granted)
-                  (same_is_equal (state eq old) (state eq new) same) counted, same)
+          (subst (λ (w : V). Writes eq (state eq old) id w (state eq new)) is k.2) in (
+            granted,
+            refl,
+            subst (λ (s : ProgressState ID V P QS). IsCounted cmp part has_quorum s granted)
+                (same_is_equal (state eq old) (state eq new) same) counted,
+            same,
+          )
 
 -- what a reply to an increase says of a progress that was updated
 module _ {ID V P QS : Type 0} {eq : ID → ID → Bool} (laws : IsEquivalence eq) (cmp : P → P → Ordering) (part : V → P)

@@ -80,7 +80,7 @@ module _ {ID V P : Type 0} {cmp : P → P → Ordering} (o : IsTotalOrder cmp) (
 
 module _ {ID V P QS : Type 0} {eq : ID → ID → Bool} (laws : IsEquivalence eq) {cmp : P → P → Ordering} (o : IsTotalOrder cmp) (part : V → P)
     (has_quorum : QS → (ID → Bool) → Bool) (superset : (c : QS) (s t : ID → Bool) → ((x : ID) → s x ≡ true → t x ≡ true)
-        → has_quorum c s ≡ true → has_quorum c t ≡ true) (p : Shown ID V P QS) (r : IsInOrder eq cmp part has_quorum p) where
+    → has_quorum c s ≡ true → has_quorum c t ≡ true) (p : Shown ID V P QS) (r : IsInOrder eq cmp part has_quorum p) where
   back : (a b : P) → cmp a b ≡ Equal → AtMost cmp b a
   back a b e = AtMost-from_not_lt o a b (ap is_lt e)
 
@@ -99,7 +99,7 @@ module _ {ID V P QS : Type 0} {eq : ID → ID → Bool} (laws : IsEquivalence eq
               has_reached = both _ _ w.2.voter (ap (has_part cmp part q) w.2.value ∙ here);
               quorum = superset p.quorum_set (reached cmp part (state eq p) (part w.1)) (reached cmp part (state eq p) q)
                   (λ x h. both _ _ (first_so _ _ h) (less q (part w.1) here ((state eq p).value x)
-                      (second_so ((state eq p).is_voter x) _ h))) w.2.quorum;
+                  (second_so ((state eq p).is_voter x) _ h))) w.2.quorum;
             }
             )
       ]
@@ -122,34 +122,34 @@ module _ {ID V P QS : Type 0} {eq : ID → ID → Bool} (laws : IsEquivalence eq
   good = pair_all (λ (e : ID × V). is_member eq (take p.voter_count (keys_of p.walk)) e.0 ≡ true)
       (λ (e : ID × V). lookup (eq e.0) p.walk ≡ Some e.1) (take p.voter_count p.walk) (members laws p.walk p.voter_count)
       (recursion_from_All (λ (e : ID × V). lookup (eq e.0) p.walk ≡ Some e.1) (take p.voter_count p.walk)
-              (All-take (λ (e : ID × V). lookup (eq e.0) p.walk ≡ Some e.1) p.voter_count p.walk
-              (found laws o part has_quorum p.quorum_set p.walk p.voter_count p.default_part r.distinct)))
+      (All-take (λ (e : ID × V). lookup (eq e.0) p.walk ≡ Some e.1) p.voter_count p.walk
+      (found laws o part has_quorum p.quorum_set p.walk p.voter_count p.default_part r.distinct)))
 
   pub below_reached : (q : P) → AtMost cmp q p.default_part ⊎ QuorumReached cmp part has_quorum (state eq p) q → AtMost cmp q p.granted
   below_reached q (inl d) = AtMost-trans o q p.default_part p.granted d r.counted.default_at_most
   below_reached q (inr k) =
       let voter : (state eq p).is_voter k.voter ≡ true = first_so _ _ k.has_reached in
       elim (least_reached o part (λ (e : ID × V). (is_member eq (take p.voter_count (keys_of p.walk)) e.0 ≡ true)
-              × (lookup (eq e.0) p.walk ≡ Some e.1)) q (take p.voter_count p.walk) good) as (λ _. AtMost cmp q p.granted) [
+      × (lookup (eq e.0) p.walk ≡ Some e.1)) q (take p.voter_count p.walk) good) as (λ _. AtMost cmp q p.granted) [
         | inl none ↦ absurd (none_reached q none k.voter voter ((state eq p).value k.voter) refl
-                (second_so ((state eq p).is_voter k.voter) _ k.has_reached))
+            (second_so ((state eq p).is_voter k.voter) _ k.has_reached))
         | inr m ↦ AtMost-trans o q (part m.entry.1) p.granted m.passes (r.counted.others_at_most m.entry.0 m.entry.1 record {
           voter = m.good.0;
           value = m.good.1;
           quorum = superset p.quorum_set (reached cmp part (state eq p) q) (reached cmp part (state eq p) (part m.entry.1))
               (λ y h. both _ _ (first_so _ _ h) (rises_to q (part m.entry.1) m.least y (first_so _ _ h) ((state eq p).value y) refl
-                  (second_so ((state eq p).is_voter y) _ h))) k.quorum;
+              (second_so ((state eq p).is_voter y) _ h))) k.quorum;
         })
       ]
 
   pub meeting_know : ((s t : ID → Bool) → has_quorum p.quorum_set s ≡ true → has_quorum p.quorum_set t ≡ true
-          → (id : ID) × ((state eq p).is_voter id ≡ true) × (s id ≡ true) × (t id ≡ true)) → (set : ID → Bool)
+      → (id : ID) × ((state eq p).is_voter id ≡ true) × (s id ≡ true) × (t id ≡ true)) → (set : ID → Bool)
       → has_quorum p.quorum_set set ≡ true → (id : ID) × (set id ≡ true) × ((state eq p).is_voter id ≡ true)
       × (has_part cmp part p.granted ((state eq p).value id) ≡ true)
   meeting_know meet set h =
       elim (granted_reached laws o part has_quorum p (superset p.quorum_set) r) as
-          (λ _. (id : ID) × (set id ≡ true) × ((state eq p).is_voter id ≡ true)
-              × (has_part cmp part p.granted ((state eq p).value id) ≡ true)) [
+      (λ _. (id : ID) × (set id ≡ true) × ((state eq p).is_voter id ≡ true)
+      × (has_part cmp part p.granted ((state eq p).value id) ≡ true)) [
         | inl q ↦ let w = meet (λ id. (state eq p).is_voter id && has_part cmp part p.granted ((state eq p).value id)) set q h in
             (w.0, w.3, w.1, second_so ((state eq p).is_voter w.0) _ w.2)
         | inr all ↦ let w = meet set set h h in (w.0, w.2, w.1, all w.0 w.1)

@@ -1,6 +1,45 @@
 -- How many conflicts a search can still accept.
-use Rattle.std.proofs.Common.{◌≡◌, ℕ, zero, suc, ◌+◌, ◌-◌, ◌*◌, ◌/◌, ◌<◌, ◌≤◌, min, max, nat_eq, Bool, true, false, nat_lt, nat_le, ◌==◌,
-        if◌then◌else◌, Option, Some, None, Result, Ok, Err, refl, sym, subst, arith, ◌⊎◌, inl, inr, ap, IfSome, List, [], ◌∷◌, ◌&&◌}
+use Rattle.std.proofs.Common.{
+  ◌≡◌,
+  ℕ,
+  zero,
+  suc,
+  ◌+◌,
+  ◌-◌,
+  ◌*◌,
+  ◌/◌,
+  ◌<◌,
+  ◌≤◌,
+  min,
+  max,
+  nat_eq,
+  Bool,
+  true,
+  false,
+  nat_lt,
+  nat_le,
+  ◌==◌,
+  if◌then◌else◌,
+  Option,
+  Some,
+  None,
+  Result,
+  Ok,
+  Err,
+  refl,
+  sym,
+  subst,
+  arith,
+  ◌⊎◌,
+  inl,
+  inr,
+  ap,
+  IfSome,
+  List,
+  [],
+  ◌∷◌,
+  ◌&&◌,
+}
 use Rattle.std.proofs.lemmas.Bool.{cases_lt}
 use Rattle.std.proofs.lemmas.Bool.Decides.{nat_tests}
 use Rattle.std.specs.declared.cmp.Ordering.{Ordering}
@@ -33,8 +72,11 @@ module _ {L C : Type 0} (cmp : C → C → Ordering) (log_view : L → LogView C
       (λ t. grind (arith, nat_tests))
     where
       by : (t u : Bool) → (u ≡ true → s.purged ≤ next_index (log_view log.now).purge_upto)
-          → s.purged ≤ (if t && u then record { entry = after_send (send_table cmp s.entry (log_view log.now) n);
-              purged = next_index (log_view log.now).purge_upto; accepted = s.accepted } else s).purged
+          → s.purged ≤ (if t && u then record {
+            entry = after_send (send_table cmp s.entry (log_view log.now) n);
+            purged = next_index (log_view log.now).purge_upto;
+            accepted = s.accepted;
+          } else s).purged
       by true true later = later refl
       by true false later = omega arith
       by false u later = omega arith
@@ -141,12 +183,28 @@ module _ (Fits : ℕ → ℕ → Type 0)
                   rw (t, u) (refused ConflictBelowMatching w))
               | inr above ↦ (let t : nat_lt index entry.searching_end ≡ true = grind (arith, nat_tests) in
                   let u : nat_lt index (next_index entry.matching) ≡ false = grind (arith, nat_tests) in
-                  rw (t, u) (w0, above, (a, omega arith, open_shrinks m purged a (min entry.searching_end index) index (omega arith)
-                          stretch)))
+                  rw (t, u) (
+                    w0,
+                    above,
+                    (
+                      a,
+                      omega arith,
+                      open_shrinks m purged a (min entry.searching_end index) index (omega arith)
+                          stretch,
+                    ),
+                  ))
             ]
             | inr long ↦ (let t : nat_lt index entry.searching_end ≡ false = grind (arith, nat_tests) in
-                rw t (w0, w1, (a, omega arith, open_shrinks m purged a (min entry.searching_end index) entry.searching_end (omega arith)
-                        stretch)))
+                rw t (
+                  w0,
+                  w1,
+                  (
+                    a,
+                    omega arith,
+                    open_shrinks m purged a (min entry.searching_end index) entry.searching_end (omega arith)
+                        stretch,
+                  ),
+                ))
           ]
 
       by_tests : (t u : Bool) (e f : InflightError) (index b : ℕ) → Within total m purged accepted entry → accepted + b ≡ total
@@ -172,7 +230,7 @@ module _ (Fits : ℕ → ℕ → Type 0)
       by_flight (Logs mine range) id index b w sum h =
           by_tests (mine == id) _ _ _ index b w sum
           (λ same. let o = same_index (index_of range.prev) index same in
-              subst (λ (q : Option ℕ). Probing m purged b entry.searching_end q) o h)
+          subst (λ (q : Option ℕ). Probing m purged b entry.searching_end q) o h)
 
       pub conflict_keeps : (id index : ℕ) → Within total m purged accepted entry → Keeps (entry_after_conflict entry (Some id) index)
       conflict_keeps id index w = by_flight entry.inflight id index w.2.0 w w.2.1 w.2.2
@@ -189,8 +247,16 @@ module _ (Fits : ℕ → ℕ → Type 0)
                   rw (t, u) w)
               | inr above ↦ (let t : nat_lt index entry.searching_end ≡ true = grind (arith, nat_tests) in
                   let u : nat_lt index (next_index entry.matching) ≡ false = grind (arith, nat_tests) in
-                  rw (t, u) (w0, above, (w.2.0, w.2.1, left_shrinks m purged w.2.0 entry.searching_end index entry.inflight (omega arith)
-                          w.2.2)))
+                  rw (t, u) (
+                    w0,
+                    above,
+                    (
+                      w.2.0,
+                      w.2.1,
+                      left_shrinks m purged w.2.0 entry.searching_end index entry.inflight (omega arith)
+                          w.2.2,
+                    ),
+                  ))
             ]
             | inr long ↦ (let t : nat_lt index entry.searching_end ≡ false = grind (arith, nat_tests) in rw t w)
           ]
@@ -209,34 +275,51 @@ module _ (Fits : ℕ → ℕ → Type 0)
         start_left b e (suc c) le pe (inr h) at =
             by_id (next_index log.purge_upto) b e c (log.id_at c) (indexed c)
             (probe_left m purged (next_index log.purge_upto) b e c le later pe (inr h) (λ past one. spare past b (e - m) h one)
-                (omega arith))
+            (omega arith))
 
         logs_left : (cmp : C → C → Ordering) (t : Bool) (b e from to id : ℕ) → m ≤ e → next_index log.purge_upto ≤ e → Open m purged b e
             → from ≡ max (calc_mid m e) (next_index log.purge_upto)
             → Left m (next_index log.purge_upto) b e (if t then Logs id
-                (record { prev = prev_id log.id_at from; last = prev_id log.id_at to }) else Idle)
+            (record { prev = prev_id log.id_at from; last = prev_id log.id_at to }) else Idle)
         logs_left cmp true b e from to id le pe left at = start_left b e from le pe left at
         logs_left cmp false b e from to id le pe left at = open_purges m purged (next_index log.purge_upto) b e later left
 
         unsent : Within total m purged accepted entry → Within total m (next_index log.purge_upto) accepted entry
-        unsent w = (w.0, w.1, (w.2.0, w.2.1, left_purges m purged (next_index log.purge_upto) w.2.0 entry.searching_end entry.inflight later
-                w.2.2))
+        unsent w = (
+          w.0,
+          w.1,
+          (
+            w.2.0,
+            w.2.1,
+            left_purges m purged (next_index log.purge_upto) w.2.0 entry.searching_end entry.inflight later
+                w.2.2,
+          ),
+        )
 
         same_ends : (cmp : C → C → Ordering) (n : ℕ) (t u : Bool) → next_index log.purge_upto ≤ entry.searching_end
             → (w : Within total m purged accepted entry) → Open m purged w.2.0 entry.searching_end
             → Within total m (next_index log.purge_upto) accepted
-                (after_send (if t && u then Ok (record entry
-                    { curr_inflight_id = entry.curr_inflight_id + 1; inflight = Snapshot (entry.curr_inflight_id + 1) log.snapshot }) else
-                    (if t then Err entry
-            else Ok (record entry { curr_inflight_id = entry.curr_inflight_id + 1;
-                    inflight = logs_from cmp (entry.curr_inflight_id + 1) (prev_id log.id_at (start_of entry log))
-                    (prev_id log.id_at (end_of entry log n)) }))))
+            (after_send (if t && u then Ok (record entry
+            { curr_inflight_id = entry.curr_inflight_id + 1; inflight = Snapshot (entry.curr_inflight_id + 1) log.snapshot }) else
+            (if t then Err entry
+            else Ok (record entry {
+              curr_inflight_id = entry.curr_inflight_id + 1;
+              inflight = logs_from cmp (entry.curr_inflight_id + 1) (prev_id log.id_at (start_of entry log))
+                  (prev_id log.id_at (end_of entry log n));
+            }))))
         same_ends cmp n true true long w left = (w.0, w.1, (w.2.0, w.2.1, tt))
         same_ends cmp n true false long w left = unsent w
-        same_ends cmp n false u long w left =
-            (w.0, w.1, (w.2.0, w.2.1, logs_left cmp (id_lt cmp (prev_id log.id_at (start_of entry log))
+        same_ends cmp n false u long w left = (
+          w.0,
+          w.1,
+          (
+            w.2.0,
+            w.2.1,
+            logs_left cmp (id_lt cmp (prev_id log.id_at (start_of entry log))
                 (prev_id log.id_at (end_of entry log n))) w.2.0 entry.searching_end (start_of entry log) (end_of entry log n)
-                (entry.curr_inflight_id + 1) w.1 long left (rw w.0 refl)))
+                (entry.curr_inflight_id + 1) w.1 long left (rw w.0 refl),
+          ),
+        )
 
         idle_keeps : (cmp : C → C → Ordering) (n : ℕ) → entry.inflight ≡ Idle → Within total m purged accepted entry
             → Within total m (next_index log.purge_upto) accepted (after_send (idle_send_table cmp entry log n))
@@ -246,10 +329,10 @@ module _ (Fits : ℕ → ℕ → Type 0)
             let left = subst (Left m purged w.2.0 entry.searching_end) idle w.2.2 in
             elim (cases_lt entry.searching_end (next_index log.purge_upto)) [
               | inl short ↦ (let t : nat_lt entry.searching_end (next_index log.purge_upto) ≡ true = grind (arith, nat_tests) in
-                      rw t (w0, w1, (w.2.0, w.2.1, tt)))
+                  rw t (w0, w1, (w.2.0, w.2.1, tt)))
               | inr long ↦ (let t : nat_lt entry.searching_end (next_index log.purge_upto) ≡ false = grind (arith, nat_tests) in
                   rw t (same_ends cmp n (start_of entry log == end_of entry log n) (nat_lt (next_index entry.matching) entry.searching_end)
-                          long w left))
+                  long w left))
             ]
 
         pub send_keeps : (cmp : C → C → Ordering) (n : ℕ) (t : Bool) → t ≡ is_idle entry.inflight → Within total m purged accepted entry
@@ -277,10 +360,13 @@ module _ (Fits : ℕ → ℕ → Type 0)
       Keeps-search s = Within total m s.purged s.accepted s.entry
 
       sent_step : (s : Search C) (log : LogView C) (n : ℕ) (t u : Bool) → (u ≡ true → s.purged ≤ next_index log.purge_upto)
-          → (if t && u then record { entry = after_send (send_table cmp s.entry log n); purged = next_index log.purge_upto;
-                  accepted = s.accepted } else s).purged ≤ last → SoundLog log → Keeps-search s
+          → (if t && u then record {
+            entry = after_send (send_table cmp s.entry log n);
+            purged = next_index log.purge_upto;
+            accepted = s.accepted;
+          } else s).purged ≤ last → SoundLog log → Keeps-search s
           → Keeps-search (if t && u then record
-                  { entry = after_send (send_table cmp s.entry log n); purged = next_index log.purge_upto; accepted = s.accepted } else s)
+          { entry = after_send (send_table cmp s.entry log n); purged = next_index log.purge_upto; accepted = s.accepted } else s)
       sent_step s log n true true later within sound w =
           send_keeps total m s.purged s.accepted s.entry log sound.0 (later refl) (sound.1 within) cmp n (is_idle s.entry.inflight) refl w
       sent_step s log n true false later within sound w = w
@@ -309,6 +395,6 @@ module _ (Fits : ℕ → ℕ → Type 0)
           → (after_events cmp log_view (new_search entry) events).accepted ≤ total
       accepted_within entry events idle is le fits within sound =
           let left : Left m 0 total entry.searching_end entry.inflight =
-              subst (λ (f : InflightOf C). Left m 0 total entry.searching_end f) (sym (idle_is entry.inflight idle)) (inr fits) in
+          subst (λ (f : InflightOf C). Left m 0 total entry.searching_end f) (sym (idle_is entry.inflight idle)) (inr fits) in
           let w = run_keeps (new_search entry) events within sound (is, le, (total, omega arith, left)) in
           let sum = w.2.1 in omega arith

@@ -21,9 +21,12 @@ module _ {L C : Type 0} (cmp : C → C → Ordering) (log_view : L → LogView C
   none_purged_past search [] l all = l
   none_purged_past search (Send log n ∷ es) l all =
       let view = log_view log.now in
-      let next : Search C = record { entry = after_send (send_table cmp search.entry view n); purged = next_index view.purge_upto;
-              accepted = search.accepted } in
+      let next : Search C = record {
+        entry = after_send (send_table cmp search.entry view n);
+        purged = next_index view.purge_upto;
+        accepted = search.accepted;
+      } in
       none_purged_past (after_event cmp log_view search (Send log n)) es
-          (either_within (can_be_sent search.entry view && nat_le search.purged (next_index view.purge_upto)) search next l all.0) all.1
+      (either_within (can_be_sent search.entry view && nat_le search.purged (next_index view.purge_upto)) search next l all.0) all.1
   none_purged_past search (Conflict id i ∷ es) l all = none_purged_past (after_event cmp log_view search (Conflict id i)) es l all.1
   none_purged_past search (Heartbeat i ∷ es) l all = none_purged_past (after_event cmp log_view search (Heartbeat i)) es l all.1

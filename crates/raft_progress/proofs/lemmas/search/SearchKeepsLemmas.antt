@@ -1,6 +1,32 @@
 -- What the events of a search keep of an entry: its match, and that the search ends no later.
-use Rattle.std.proofs.Common.{◌≡◌, ◌∙◌, ◌≤◌, ℕ, Bool, true, false, nat_le, nat_lt, ◌&&◌, ◌||◌, ◌==◌, ◌+◌, if◌then◌else◌, Result, Ok, Err,
-        List, [], ◌∷◌, length, drop, refl, sym, subst, arith}
+use Rattle.std.proofs.Common.{
+  ◌≡◌,
+  ◌∙◌,
+  ◌≤◌,
+  ℕ,
+  Bool,
+  true,
+  false,
+  nat_le,
+  nat_lt,
+  ◌&&◌,
+  ◌||◌,
+  ◌==◌,
+  ◌+◌,
+  if◌then◌else◌,
+  Result,
+  Ok,
+  Err,
+  List,
+  [],
+  ◌∷◌,
+  length,
+  drop,
+  refl,
+  sym,
+  subst,
+  arith,
+}
 use Rattle.std.proofs.lemmas.Bool.Decides.{nat_tests}
 use Rattle.std.proofs.lemmas.List.{at_drop_all}
 use Rattle.std.specs.declared.cmp.Ordering.{Ordering}
@@ -46,13 +72,13 @@ module _ {C : Type 0} (cmp : C → C → Ordering) where
       let until = end_of entry log n in
       let id = entry.curr_inflight_id + 1 in
       by (is_idle entry.inflight) (nat_lt entry.searching_end (next_index log.purge_upto)
-              || (start == until && nat_lt (next_index entry.matching) entry.searching_end)) (start == until) id
+      || (start == until && nat_lt (next_index entry.matching) entry.searching_end)) (start == until) id
       (Snapshot id log.snapshot) (logs_from cmp id (prev_id log.id_at start) (prev_id log.id_at until))
     where
       by : (idle probes none : Bool) (id : ℕ) (snapshot logs : InflightOf C)
           → Keeps entry (after_send (if idle then
-                  (if probes then Ok (record entry { curr_inflight_id = id; inflight = snapshot }) else if none then Err entry else Ok
-                  (record entry { curr_inflight_id = id; inflight = logs })) else Err entry))
+          (if probes then Ok (record entry { curr_inflight_id = id; inflight = snapshot }) else if none then Err entry else Ok
+          (record entry { curr_inflight_id = id; inflight = logs })) else Err entry))
       by true true none id snapshot logs = unchanged entry (record entry { curr_inflight_id = id; inflight = snapshot }) refl refl
       by true false true id snapshot logs = unchanged entry entry refl refl
       by true false false id snapshot logs = unchanged entry (record entry { curr_inflight_id = id; inflight = logs }) refl refl
@@ -67,8 +93,8 @@ module _ {C : Type 0} where
     where
       by : (a b : Bool) → (a ≡ true → index ≤ entry.searching_end) → (b ≡ false → next_index entry.matching ≤ index)
           → Keeps entry (after_reply entry
-                  (if a then (if b then Err ConflictBelowMatching else Ok (record entry { inflight = inflight; searching_end = index }))
-                  else Ok (record entry { inflight = inflight })))
+          (if a then (if b then Err ConflictBelowMatching else Ok (record entry { inflight = inflight; searching_end = index }))
+          else Ok (record entry { inflight = inflight })))
       by true true p q = unchanged entry entry refl refl
       by true false p q = record { matching = refl; end = p refl; within = λ w. q refl }
       by false b p q = unchanged entry (record entry { inflight = inflight }) refl refl
@@ -77,9 +103,11 @@ module _ {L C : Type 0} (cmp : C → C → Ordering) (log_view : L → LogView C
   event_keeps : (s : Search C) (event : SearchEvent L) → Keeps s.entry (after_event cmp log_view s event).entry
   event_keeps s (Send log n) = by (can_be_sent s.entry (log_view log.now) && nat_le s.purged (next_index (log_view log.now).purge_upto))
     where
-      by : (t : Bool) → Keeps s.entry (if t then record
-              { entry = after_send (send_table cmp s.entry (log_view log.now) n); purged = next_index (log_view log.now).purge_upto;
-              accepted = s.accepted } else s).entry
+      by : (t : Bool) → Keeps s.entry (if t then record {
+        entry = after_send (send_table cmp s.entry (log_view log.now) n);
+        purged = next_index (log_view log.now).purge_upto;
+        accepted = s.accepted;
+      } else s).entry
       by true = sends_keep cmp s.entry (log_view log.now) n
       by false = unchanged s.entry s.entry refl refl
   event_keeps s (Conflict id index) = ends_keep s.entry index (inflight_after_conflict s.entry.inflight id index)

@@ -1,6 +1,29 @@
 -- The bounds on the conflicts that a search accepts.
-use Rattle.std.proofs.Common.{◌≡◌, ◌∙◌, ℕ, zero, suc, ◌+◌, ◌/◌, ◌^◌, ◌<◌, ◌≤◌, refl, sym, ap, arith, List, [], ◌∷◌, IfSome, length, get_or,
-        drop, drop-cons, add-one}
+use Rattle.std.proofs.Common.{
+  ◌≡◌,
+  ◌∙◌,
+  ℕ,
+  zero,
+  suc,
+  ◌+◌,
+  ◌/◌,
+  ◌^◌,
+  ◌<◌,
+  ◌≤◌,
+  refl,
+  sym,
+  ap,
+  arith,
+  List,
+  [],
+  ◌∷◌,
+  IfSome,
+  length,
+  get_or,
+  drop,
+  drop-cons,
+  add-one,
+}
 use Rattle.std.proofs.lemmas.List.{at_drop_all}
 use Rattle.std.specs.declared.cmp.Ordering.{Ordering}
 use Rattle.raft_base.specs.LogId.{next_index}
@@ -63,7 +86,7 @@ module _ {L C : Type 0} (cmp : C → C → Ordering) (log_view : L → LogView C
     pub within_one_more : (k : ℕ) → stretch entry / 16 < 2 ^ k → count ≤ k + 1
     within_one_more k fits =
         let bound = potential.accepted_within NearAndOne near_one_shrinks near_and_one_halves cmp log_view (suc k)
-            (next_index entry.matching) end.purged entry events can.0 refl can.1 (k, refl, fits) (omega arith) (sound events) in omega arith
+        (next_index entry.matching) end.purged entry events can.0 refl can.1 (k, refl, fits) (omega arith) (sound events) in omega arith
       where
         sound : (es : List (SearchEvent L))
             → potential.AllSound NearAndOne near_one_shrinks near_and_one_halves cmp log_view (suc k) (next_index entry.matching) end.purged

@@ -35,9 +35,12 @@ module _ {K N V P : Type 0} (eq : K → K → Bool) (id_cmp : K → K → Orderi
       → GoBothOver eq id_cmp cmp part IsClone old next default reply new
       → IsChanged eq id_cmp same cmp part IsClone old change retain default reply new
   changed_step old change retain default next new valid says (Granted p) t =
-      let w = changed eq id_cmp (members_of id_cmp old.membership) change retain in
-      (valid, subst (λ (l : MemberList K N). Says same id_cmp l w) (sym t.0) says, goes_over old.progress new.progress next w says default
-              (Granted p) t.1)
+      let w = changed eq id_cmp (members_of id_cmp old.membership) change retain in (
+        valid,
+        subst (λ (l : MemberList K N). Says same id_cmp l w) (sym t.0) says,
+        goes_over old.progress new.progress next w says default
+            (Granted p) t.1,
+      )
   changed_step old change retain default next new valid says (BelowDefault id) t =
       let w = changed eq id_cmp (members_of id_cmp old.membership) change retain in
       (valid, t.0, goes_over old.progress new.progress next w says default (BelowDefault id) t.1)

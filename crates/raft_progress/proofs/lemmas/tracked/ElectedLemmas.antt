@@ -45,8 +45,8 @@ module _ {K N V P : Type 0} {eq : K → K → Bool} (laws : IsEquivalence eq) {i
       by (inl e) = absurd (true≢false (sym lt ∙ ap is_lt e))
       by (inr w) = by_configs laws o part t r votes
           (larger laws o part t r (reached cmp part (state eq t.progress) (part w.1)) votes
-              (λ x h. both _ _ (first_so _ _ h) (up (part w.1) (AtMost-from_not_lt o (part w.1) t.progress.granted (ap is_lt w.3))
-              ((state eq t.progress).value x) (second_so ((state eq t.progress).is_voter x) _ h))) w.2.quorum)
+          (λ x h. both _ _ (first_so _ _ h) (up (part w.1) (AtMost-from_not_lt o (part w.1) t.progress.granted (ap is_lt w.3))
+          ((state eq t.progress).value x) (second_so ((state eq t.progress).is_voter x) _ h))) w.2.quorum)
 
 module _ {K N M V P W Q : Type 0} {eq : K → K → Bool} (laws : IsEquivalence eq) (id_cmp : K → K → Ordering) {cmp : P → P → Ordering}
     (o : IsTotalOrder cmp) (part : V → P) {vote_cmp : Q → Q → Ordering} (vote_order : IsTotalOrder vote_cmp) (vote_part : W → Q) where
@@ -54,8 +54,8 @@ module _ {K N M V P W Q : Type 0} {eq : K → K → Bool} (laws : IsEquivalence 
   granted_meet matches votes e =
       let set = quorum_has laws vote_order vote_part votes e.votes_ready e.has_voted in
       let k = quorum_reaches laws matches.membership.configs votes.membership.configs _ _
-          (is_granted laws o part matches e.matches_ready
-              (some_config eq matches.membership.configs votes.membership.configs e.share_config)) e.share_config _ set in
+      (is_granted laws o part matches e.matches_ready
+      (some_config eq matches.membership.configs votes.membership.configs e.share_config)) e.share_config _ set in
       record {
         voter = k.0;
         counts_in_matches = k.2;

@@ -1,6 +1,26 @@
 -- What is granted has been reached by a quorum of the membership, or by all voters.
-use Rattle.std.specs.Prelude.{◌≡◌, ◌<◌, ◌⊎◌, ℕ, Bool, true, false, ◌&&◌, ◌||◌, cond, List, [], ◌∷◌, Option, Some, None, length, map, take,
-        refl}
+use Rattle.std.specs.Prelude.{
+  ◌≡◌,
+  ◌<◌,
+  ◌⊎◌,
+  ℕ,
+  Bool,
+  true,
+  false,
+  ◌&&◌,
+  ◌||◌,
+  cond,
+  List,
+  [],
+  ◌∷◌,
+  Option,
+  Some,
+  None,
+  length,
+  map,
+  take,
+  refl,
+}
 use Rattle.std.specs.declared.cmp.Ordering.{Ordering}
 use Rattle.std.specs.declared.cmp.Ordering.TheVariants.{Equal}
 use Rattle.std.specs.Ordering.{is_lt}
@@ -42,7 +62,7 @@ has_value {K} {V} eq (suc n) (e ∷ es) x h = by (eq x e.0) h (has_value eq n es
 module _ {K V P QS : Type 0} {eq : K → K → Bool} (laws : IsEquivalence eq) {cmp : P → P → Ordering} (o : IsTotalOrder cmp) (part : V → P)
     (has_quorum : QS → (K → Bool) → Bool) (p : Shown K V P QS)
     (superset : (s t : K → Bool) → ((x : K) → s x ≡ true → t x ≡ true) → has_quorum p.quorum_set s ≡ true
-        → has_quorum p.quorum_set t ≡ true) (r : IsInOrder eq cmp part has_quorum p) where
+    → has_quorum p.quorum_set t ≡ true) (r : IsInOrder eq cmp part has_quorum p) where
   abbrev knows : K → Bool
   knows id = has_part cmp part p.granted ((state eq p).value id)
 
@@ -62,18 +82,18 @@ module _ {K V P QS : Type 0} {eq : K → K → Bool} (laws : IsEquivalence eq) {
       ⊎ ((id : K) → (state eq p).is_voter id ≡ true → knows id ≡ true)
   granted_reached =
       elim r.counted.is_one as (λ _. (has_quorum p.quorum_set (λ id. (state eq p).is_voter id && knows id) ≡ true)
-              ⊎ ((id : K) → (state eq p).is_voter id ≡ true → knows id ≡ true)) [
+      ⊎ ((id : K) → (state eq p).is_voter id ≡ true → knows id ≡ true)) [
         | inl e ↦ inr (λ id v. all e id v)
         | inr w ↦ inl (superset (reached cmp part (state eq p) (part w.1)) (λ id. (state eq p).is_voter id && knows id)
-                (λ x h. both _ _ (first_so _ _ h) (more (part w.1) (back (part w.1) p.granted w.3) ((state eq p).value x)
-                (second_so ((state eq p).is_voter x) _ h))) w.2.quorum)
+            (λ x h. both _ _ (first_so _ _ h) (more (part w.1) (back (part w.1) p.granted w.3) ((state eq p).value x)
+            (second_so ((state eq p).is_voter x) _ h))) w.2.quorum)
       ]
     where
       all : cmp p.default_part p.granted ≡ Equal → (id : K) → (state eq p).is_voter id ≡ true → knows id ≡ true
       all e id v =
           let at = has_value eq p.voter_count p.walk id v in
           ap (has_part cmp part p.granted) at.1
-              ∙ AtMost-trans o p.granted p.default_part (part at.0) (back p.default_part p.granted e) (r.not_below id at.0 v at.1)
+          ∙ AtMost-trans o p.granted p.default_part (part at.0) (back p.default_part p.granted e) (r.not_below id at.0 v at.1)
 
 pub list_all-mapped : {X Y : Type 0} (f : X → Y) (t : Y → Bool) (xs : List X) → list_all t (map f xs) ≡ list_all (λ x. t (f x)) xs
 list_all-mapped f t [] = refl
@@ -116,11 +136,11 @@ pub each_quorum_knows : {K N V P : Type 0} {eq : K → K → Bool} (laws : IsEqu
     {cmp : P → P → Ordering} (o : IsTotalOrder cmp) (part : V → P) (t : TrackedShown K N V P) → IsReady eq id_cmp cmp part t
     → 0 < length t.membership.configs
     → EachQuorumKnows eq t.membership.configs (state eq t.progress).is_voter
-        (λ id. has_part cmp part t.progress.granted ((state eq t.progress).value id))
+    (λ id. has_part cmp part t.progress.granted ((state eq t.progress).value id))
     × ((change : ChangeMembers K N) (retain : Bool)
-            → EachQuorumKnows eq (changed eq id_cmp (members_of id_cmp t.membership) change retain).configs (state eq t.progress).is_voter
-            (λ id. has_part cmp part t.progress.granted ((state eq t.progress).value id)))
+    → EachQuorumKnows eq (changed eq id_cmp (members_of id_cmp t.membership) change retain).configs (state eq t.progress).is_voter
+    (λ id. has_part cmp part t.progress.granted ((state eq t.progress).value id)))
 each_quorum_knows {eq = eq} laws id_cmp {cmp} o part t r some =
     let known = change_keeps_reached laws id_cmp (members_of id_cmp t.membership) (state eq t.progress).is_voter
-        (λ id. has_part cmp part t.progress.granted ((state eq t.progress).value id)) (is_granted laws o part t r some) in
+    (λ id. has_part cmp part t.progress.granted ((state eq t.progress).value id)) (is_granted laws o part t r some) in
     (known.quorums, known.changed_quorums)

@@ -1,6 +1,25 @@
 -- What was granted before a change is known after it.
-use Rattle.std.specs.Prelude.{◌≡◌, ◌*◌, ℕ, Bool, true, false, ◌&&◌, ◌||◌, cond, List, [], ◌∷◌, Option, Some, None, count_by, length, nat_lt,
-        refl}
+use Rattle.std.specs.Prelude.{
+  ◌≡◌,
+  ◌*◌,
+  ℕ,
+  Bool,
+  true,
+  false,
+  ◌&&◌,
+  ◌||◌,
+  cond,
+  List,
+  [],
+  ◌∷◌,
+  Option,
+  Some,
+  None,
+  count_by,
+  length,
+  nat_lt,
+  refl,
+}
 use Rattle.std.specs.Cmp.{IsEquivalence, IsTotalOrder, first_so, second_so}
 use Rattle.std.specs.Cmp.Derive.{both_true}
 use Rattle.std.specs.Ordering.{is_le}
@@ -54,15 +73,15 @@ module _ {K : Type 0} {eq : K → K → Bool} (laws : IsEquivalence eq) where
   within c set voters h q =
       ap (λ n. nat_lt (length c) (2 * n))
       (count_same set voters (unique_keys eq c)
-              (all_weaker (λ (x : K). is_member eq (unique_keys eq c) x ≡ true) (λ (x : K). voters x ≡ true)
-              (λ x m. h x (sym (is_member-unique_keys laws c x) ∙ m)) (unique_keys eq c) (own_members (unique_keys eq c)))) ∙ q
+      (all_weaker (λ (x : K). is_member eq (unique_keys eq c) x ≡ true) (λ (x : K). voters x ≡ true)
+      (λ x m. h x (sym (is_member-unique_keys laws c x) ∙ m)) (unique_keys eq c) (own_members (unique_keys eq c)))) ∙ q
 
   pub joint_within : (cs : List (List K)) (set voters : K → Bool) → ((x : K) → is_voter_of eq cs x ≡ true → voters x ≡ true)
       → is_joint_majority eq cs set ≡ true → is_joint_majority eq cs (λ x. set x && voters x) ≡ true
   joint_within [] set voters h q = q
   joint_within (c ∷ cs) set voters h q =
       both_true (within c set voters (λ x m. h x (left_so _ _ m)) (first_so _ _ q))
-          (joint_within cs set voters (λ x m. h x (or_right _ _ m)) (second_so _ _ q))
+      (joint_within cs set voters (λ x m. h x (or_right _ _ m)) (second_so _ _ q))
 
 pub change_keeps_granted : {K N V P : Type 0} {eq : K → K → Bool} (laws : IsEquivalence eq) (id_cmp : K → K → Ordering)
     (same : N → N → Bool) {cmp : P → P → Ordering} (o : IsTotalOrder cmp) (part : V → P) (IsClone : V → V → Type 0)
@@ -71,12 +90,16 @@ change_keeps_granted {K} {N} {V} {P} {eq} laws id_cmp same {cmp} o part IsClone 
     (valid, says, (configs, learners, has, are, (fit, can, upgraded, counted))) some set q =
     let voters : K → Bool = is_voter_of eq new.membership.configs in
     let both : is_joint_majority eq new.membership.configs (λ x. set x && voters x) ≡ true =
-        joint_within laws new.membership.configs set voters (λ x m. m) q in
+    joint_within laws new.membership.configs set voters (λ x m. m) q in
     let known = (each_quorum_knows laws id_cmp o part old was some).1 change retain (λ x. set x && voters x)
-        (subst (λ cs. is_joint_majority eq cs (λ x. set x && voters x) ≡ true) says.0 both) in
-    let voter : (state eq new.progress).is_voter known.0 ≡ true = is.counts_by.voters known.0 ∙ second_so (set known.0) _ known.1 in
-    (known.0, first_so _ _ known.1, voter, by ((state eq old.progress).value known.0) ((state eq new.progress).value known.0) known.3
-            (upgraded.value known.0 (left_so _ _ (sym (upgraded.voters known.0) ∙ voter))))
+    (subst (λ cs. is_joint_majority eq cs (λ x. set x && voters x) ≡ true) says.0 both) in
+    let voter : (state eq new.progress).is_voter known.0 ≡ true = is.counts_by.voters known.0 ∙ second_so (set known.0) _ known.1 in (
+      known.0,
+      first_so _ _ known.1,
+      voter,
+      by ((state eq old.progress).value known.0) ((state eq new.progress).value known.0) known.3
+          (upgraded.value known.0 (left_so _ _ (sym (upgraded.voters known.0) ∙ voter))),
+    )
   where
     by : (before after : Option V) → has_part cmp part old.progress.granted before ≡ true → Inherits IsClone default before after
         → has_part cmp part old.progress.granted after ≡ true

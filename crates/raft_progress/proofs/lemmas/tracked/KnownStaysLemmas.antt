@@ -1,6 +1,24 @@
 -- What each quorum knows it knows after a run, over the changes that are made while it is granted.
-use Rattle.std.specs.Prelude.{◌≡◌, ◌<◌, Bool, true, false, ◌&&◌, ◌||◌, cond, length, not, List, [], ◌∷◌, Option, Some, None, MatchBool,
-        refl}
+use Rattle.std.specs.Prelude.{
+  ◌≡◌,
+  ◌<◌,
+  Bool,
+  true,
+  false,
+  ◌&&◌,
+  ◌||◌,
+  cond,
+  length,
+  not,
+  List,
+  [],
+  ◌∷◌,
+  Option,
+  Some,
+  None,
+  MatchBool,
+  refl,
+}
 use Rattle.std.specs.Cmp.{IsEquivalence, IsTotalOrder}
 use Rattle.std.specs.Ordering.{is_lt}
 use Rattle.std.specs.declared.cmp.Ordering.{Ordering}
@@ -20,8 +38,15 @@ use Rattle.raft_progress.specs.tracked.Known.{GrantedAtChanges, KnownOverChanges
 use Rattle.raft_progress.specs.tracked.TrackedShownSteps.{IsTrackedDone, IsTrackedShownRun, IsTrackedShownStep, is_change}
 use Rattle.raft_progress.specs.tracked.TrackedState.{Configs, IsReady, TrackedShown, has_quorum}
 use Rattle.raft_progress.specs.declared.progress.steps.Reply.{Reply}
-use Rattle.raft_progress.specs.declared.progress.steps.Reply.TheVariants.{Granted, Unknown, WouldFall, Refused, BelowDefault, BadLearners,
-        OutOfMemory}
+use Rattle.raft_progress.specs.declared.progress.steps.Reply.TheVariants.{
+  Granted,
+  Unknown,
+  WouldFall,
+  Refused,
+  BelowDefault,
+  BadLearners,
+  OutOfMemory,
+}
 use Rattle.raft_progress.specs.declared.tracked.step.Step.{Step}
 use Rattle.raft_progress.specs.declared.tracked.step.Step.TheVariants.{Update, IncreaseTo, Change}
 use Rattle.raft_progress.proofs.lemmas.tracked.KnownLemmas.{change_keeps_granted}
@@ -103,10 +128,10 @@ module _ {K N V P : Type 0} (by : Comparisons K V P) (laws : IsEquivalence by.eq
       → IsTrackedShownStep by same old step reply new → Stays old new
   step_stays old new (Update id value) reply n s =
       carried old new s.values.0 (rises_step o by.part (has_quorum by.eq) (state by.eq old.progress) (state by.eq new.progress)
-              (λ x y e. lookup_alike laws x y e old.progress.walk) id value reply s.values.1)
+      (λ x y e. lookup_alike laws x y e old.progress.walk) id value reply s.values.1)
   step_stays old new (IncreaseTo id value) reply n s =
       carried old new s.values.0 (rises_increase o by.part by.partial_cmp (has_quorum by.eq) (state by.eq old.progress)
-              (state by.eq new.progress) (λ x y e. lookup_alike laws x y e old.progress.walk) id value reply s.values.1)
+      (state by.eq new.progress) (λ x y e. lookup_alike laws x y e old.progress.walk) id value reply s.values.1)
   step_stays old new (Change change retain default) reply n s = absurd (true≢false n)
 
   pub known_stays : KnownStays K N V P by same
@@ -143,10 +168,10 @@ module _ {K N V P : Type 0} (by : Comparisons K V P) (laws : IsEquivalence by.eq
   changed_known clones old new p was known change retain default (Granted g) s at = (
     has_other old.membership.configs new.membership.configs
         (ap (λ cs. is_coherent by.eq old.membership.configs cs) s.values.1.0
-            ∙ changed_coherent laws by.id_cmp (members_of by.id_cmp old.membership) change retain known.0),
+        ∙ changed_coherent laws by.id_cmp (members_of by.id_cmp old.membership) change retain known.0),
     λ set q.
         let k = change_keeps_granted laws by.id_cmp same o by.part by.IsClone clones old new was s.ready change retain default g s.values
-            known.0 set q in
+        known.0 set q in
         (k.0, k.1, k.2, less p old.progress.granted (at refl) ((state by.eq new.progress).value k.0) k.3),
   )
   changed_known clones old new p was known change retain default (Unknown g) s at = absurd s.values
@@ -188,8 +213,8 @@ module _ {K N V P : Type 0} (by : Comparisons K V P) (laws : IsEquivalence by.eq
   runs_known clones old new [] [] p was run at known = kept old new p run known
   runs_known clones old new (x ∷ xs) (r ∷ rs) p was (middle, here, rest) at known =
       runs_known clones middle new xs rs p here.ready rest
-          (subst (λ (g : P). GrantedAtChanges by.cmp p g xs rs) (told x old middle r here.answered) at.1)
-          (step_known clones old middle p was known x r here at.0)
+      (subst (λ (g : P). GrantedAtChanges by.cmp p g xs rs) (told x old middle r here.answered) at.1)
+      (step_known clones old middle p was known x r here at.0)
   runs_known clones old new [] (r ∷ rs) p was run at known = absurd run
   runs_known clones old new (x ∷ xs) [] p was run at known = absurd run
 

@@ -41,14 +41,14 @@ module _ {K N V P X E : Type 0} (eq : K → K → Bool) (id_cmp : K → K → Or
     -- an upgraded one has its own quorum set, and the membership's learners
     pub upgraded_over : (made : Result X E)
         → IfOk made (λ p. IsUpgraded eq IsClone part (is_voter eq configs) configs learners default (state eq old).value
-            (state eq (seen p)))
+        (state eq (seen p)))
         → IfOk made (λ p. IsUpgraded eq IsClone part (is_voter eq (seen p).quorum_set) (seen p).quorum_set (learners_of eq m) default
-                (state eq old).value (state eq (seen p)))
+        (state eq old).value (state eq (seen p)))
     upgraded_over (Ok p) u =
         subst (λ (ls : List K). IsUpgraded eq IsClone part (is_voter eq (seen p).quorum_set) (seen p).quorum_set ls default
-                (state eq old).value (state eq (seen p))) same
+        (state eq old).value (state eq (seen p))) same
         (subst (λ (q : Configs K). IsUpgraded eq IsClone part (is_voter eq q) q learners default (state eq old).value (state eq (seen p)))
-                (sym u.same_quorum_set) u)
+        (sym u.same_quorum_set) u)
     upgraded_over (Err e) u = tt
 
     -- and is a fold over them
@@ -56,19 +56,19 @@ module _ {K N V P X E : Type 0} (eq : K → K → Bool) (id_cmp : K → K → Or
         (λ p. IsUpgraded eq IsClone part (is_voter eq configs) configs learners default (state eq old).value (state eq (seen p)))
         → IfOk made (λ p. IsUpgradeFold eq id_cmp cmp part IsClone (has_quorum eq) (is_voter eq) old configs learners default (seen p))
         → IfOk made (λ p. IsUpgradeFold eq id_cmp cmp part IsClone (has_quorum eq) (is_voter eq) old (seen p).quorum_set (learners_of eq m)
-                default (seen p))
+        default (seen p))
     fold_over (Ok p) u f =
         subst (λ (ls : List K). IsUpgradeFold eq id_cmp cmp part IsClone (has_quorum eq) (is_voter eq) old (seen p).quorum_set ls default
-                (seen p)) same
+        (seen p)) same
         (subst (λ (q : Configs K). IsUpgradeFold eq id_cmp cmp part IsClone (has_quorum eq) (is_voter eq) old q learners default (seen p))
-                (sym u.same_quorum_set) f)
+        (sym u.same_quorum_set) f)
     fold_over (Err e) u f = tt
 
     -- and is ready
     pub ready_over : ((id : K) → is_voter eq configs id ≡ is_voter_of eq m.configs id) → AreLearners eq (members_of id_cmp m) learners
         → (made : Result X E) → IfOk made (λ p. IsInOrder eq cmp part (has_quorum eq) (seen p))
         → IfOk made (λ p. IsUpgraded eq IsClone part (is_voter eq configs) configs learners default (state eq old).value
-            (state eq (seen p)))
+        (state eq (seen p)))
         → IfOk made (λ p. IsReady eq id_cmp cmp part (over m (seen p)))
     ready_over voters are_learners (Ok p) r u =
         ready_upgraded eq id_cmp cmp part m configs learners voters has_configs are_learners IsClone default (state eq old).value (seen p) r

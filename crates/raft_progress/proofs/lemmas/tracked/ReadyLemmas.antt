@@ -19,8 +19,17 @@ use Rattle.raft_progress.specs.progress.Steps.{IsIncreased, IsWritten}
 use Rattle.raft_progress.specs.tracked.TrackedState.{Configs, IsReady, TrackedShown, has_quorum}
 use Rattle.raft_progress.specs.declared.progress.steps.Reply.{Reply}
 use Rattle.raft_progress.proofs.lemmas.progress.recount.CountedAfreshLemmas.{IsCounted-from_greatest}
-use Rattle.raft_progress.proofs.lemmas.progress.InOrderLemmas.{counted_once, counted_tied, distinct_from_test, equal_from_test,
-        falling_from_test, lowest_from_test, test_from_distinct, test_from_falling, test_from_lowest}
+use Rattle.raft_progress.proofs.lemmas.progress.InOrderLemmas.{
+  counted_once,
+  counted_tied,
+  distinct_from_test,
+  equal_from_test,
+  falling_from_test,
+  lowest_from_test,
+  test_from_distinct,
+  test_from_falling,
+  test_from_lowest,
+}
 use Rattle.raft_progress.proofs.lemmas.progress.recount.RecountLemmas.{AtMost-from_not_lt, greatest_keeps, greatest_none, greatest_rises}
 use Rattle.raft_progress.proofs.lemmas.tracked.TrackedLemmas.{counts_increased, counts_written}
 use Rattle.raft_progress.proofs.lemmas.progress.UpdateLemmas.{lookup_alike}
@@ -41,16 +50,22 @@ module _ {ID V P : Type 0} (eq : ID → ID → Bool) {cmp : P → P → Ordering
       let e = item_at voters i (omega arith) in
       let one : i + 1 ≡ suc i = omega arith in
       subst (λ (n : ℕ). (g : P) × IsGreatest eq cmp part is_quorum voters (take n voters) default g) one
-          (by r.0 r.1 e.0 e.1 (omega arith) (is_lt (cmp r.0 (part e.0.1))) (reaches eq cmp part is_quorum voters (part e.0.1)) refl refl)
+      (by r.0 r.1 e.0 e.1 (omega arith) (is_lt (cmp r.0 (part e.0.1))) (reaches eq cmp part is_quorum voters (part e.0.1)) refl refl)
     where
       by : (g : P) → IsGreatest eq cmp part is_quorum voters (take i voters) default g → (e : ID × V) → e ≡ get_or voters i e
           → i < length voters → (b c : Bool) → is_lt (cmp g (part e.1)) ≡ b → reaches eq cmp part is_quorum voters (part e.1) ≡ c
           → (h : P) × IsGreatest eq cmp part is_quorum voters (take (i + 1) voters) default h
       by g r e is m true true t u = (part e.1, greatest_rises eq o part is_quorum voters default i e g m is t u r)
-      by g r e is m false c t u = (g, greatest_keeps eq o part is_quorum voters default i e g m is
-              (λ q. AtMost-from_not_lt o g (part e.1) t) r)
-      by g r e is m true false t u = (g, greatest_keeps eq o part is_quorum voters default i e g m is (λ q. absurd (true≢false (sym q ∙ u)))
-              r)
+      by g r e is m false c t u = (
+        g,
+        greatest_keeps eq o part is_quorum voters default i e g m is
+            (λ q. AtMost-from_not_lt o g (part e.1) t) r,
+      )
+      by g r e is m true false t u = (
+        g,
+        greatest_keeps eq o part is_quorum voters default i e g m is (λ q. absurd (true≢false (sym q ∙ u)))
+            r,
+      )
 
 module _ {ID V P QS : Type 0} {eq : ID → ID → Bool} (laws : IsEquivalence eq) {cmp : P → P → Ordering} (o : IsTotalOrder cmp) (part : V → P)
     (has_quorum : QS → (ID → Bool) → Bool) (p : Shown ID V P QS) where
@@ -62,7 +77,7 @@ module _ {ID V P QS : Type 0} {eq : ID → ID → Bool} (laws : IsEquivalence eq
         r.0,
         IsCounted-from_greatest laws o part has_quorum p.quorum_set p.walk p.voter_count p.default_part d r.0
             (subst (λ (vs : List (ID × V)). IsGreatest eq cmp part (has_quorum p.quorum_set) voters vs p.default_part r.0)
-                    (take_all (length voters) voters (omega arith)) r.1),
+            (take_all (length voters) voters (omega arith)) r.1),
       )
 
   -- in order in some way is in order
@@ -71,14 +86,14 @@ module _ {ID V P QS : Type 0} {eq : ID → ID → Bool} (laws : IsEquivalence eq
       let voters = take p.voter_count p.walk in
       let differ : ids_differ eq p.walk ≡ true = ∥∥₁_elim h (Coded-set coded_bool _ _) (λ r. test_from_distinct laws p.walk r.distinct) in
       let falls : never_rises cmp part p.granted voters ≡ true =
-          ∥∥₁_elim h (Coded-set coded_bool _ _) (λ r. test_from_falling o part p.granted voters r.falling) in
+      ∥∥₁_elim h (Coded-set coded_bool _ _) (λ r. test_from_falling o part p.granted voters r.falling) in
       let d = distinct_from_test laws p.walk differ in
       let lowest : list_all (at_least cmp part p.default_part) voters ≡ true =
-          ∥∥₁_elim h (Coded-set coded_bool _ _) (λ r. test_from_lowest laws o part has_quorum p.quorum_set p.walk p.voter_count
-              p.default_part d r.not_below) in
+      ∥∥₁_elim h (Coded-set coded_bool _ _) (λ r. test_from_lowest laws o part has_quorum p.quorum_set p.walk p.voter_count
+      p.default_part d r.not_below) in
       let k = some_counted d in
       let tied : is_eq (cmp k.0 p.granted) ≡ true =
-          ∥∥₁_elim h (Coded-set coded_bool _ _) (λ r. ap is_eq (counted_once o part has_quorum (state eq p) k.0 p.granted k.1 r.counted)) in
+      ∥∥₁_elim h (Coded-set coded_bool _ _) (λ r. ap is_eq (counted_once o part has_quorum (state eq p) k.0 p.granted k.1 r.counted)) in
       record {
         distinct = d;
         falling = falling_from_test o part p.granted voters falls;

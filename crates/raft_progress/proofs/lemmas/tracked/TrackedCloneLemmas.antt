@@ -50,7 +50,7 @@ pub clones_keep_order : {ID V P QS : Type 0} (eq : ID → ID → Bool) (cmp : P 
     → ClonesKeepOrder ID V P QS eq part cmp has_quorum IsClone IsSetClone
 clones_keep_order eq cmp part has_quorum IsClone IsSetClone clones sets old new c =
     order_alike eq cmp part has_quorum old new (sets old.quorum_set new.quorum_set c.quorum_set) c.voter_count c.default_part c.granted
-        (zip_keys IsClone old.walk new.walk c.walk) (zip_parts IsClone part clones old.voter_count old.walk new.walk c.walk)
+    (zip_keys IsClone old.walk new.walk c.walk) (zip_parts IsClone part clones old.voter_count old.walk new.walk c.walk)
 
 -- equal nodes are at the same ids
 nodes_there : {K N : Type 0} {eq : K → K → Bool} (laws : IsEquivalence eq) (id_cmp : K → K → Ordering)
@@ -63,9 +63,9 @@ nodes_there {K} {N} {eq} laws id_cmp ties same (x ∷ xs) (y ∷ ys) h id =
     let pair : (eq x.0 y.0 && same x.1 y.1) ≡ true = first_so _ _ h in
     let rest : same_nodes eq same xs ys ≡ true = second_so (eq x.0 y.0 && same x.1 y.1) _ h in
     let keys : is_at (id_cmp id) y.0 ≡ is_at (id_cmp id) x.0 =
-        sym (ties id y.0) ∙ laws.symm id y.0 ∙ sym (laws.congr x.0 y.0 id (first_so _ _ pair)) ∙ laws.symm x.0 id ∙ ties id x.0 in
+    sym (ties id y.0) ∙ laws.symm id y.0 ∙ sym (laws.congr x.0 y.0 id (first_so _ _ pair)) ∙ laws.symm x.0 id ∙ ties id x.0 in
     ap (λ b. is_some (cond b (Some y.1) (lookup (is_at (id_cmp id)) ys))) keys
-        ∙ by (is_at (id_cmp id) x.0) (nodes_there laws id_cmp ties same xs ys rest id)
+    ∙ by (is_at (id_cmp id) x.0) (nodes_there laws id_cmp ties same xs ys rest id)
   where
     by : (b : Bool) → is_some (node_at id_cmp ys id) ≡ is_some (node_at id_cmp xs id)
         → is_some (cond b (Some y.1) (lookup (is_at (id_cmp id)) ys)) ≡ is_some (cond b (Some x.1) (lookup (is_at (id_cmp id)) xs))
@@ -108,6 +108,6 @@ ready_cloned {K} {N} {V} {P} {eq} laws id_cmp ties same cmp part IsClone clones 
             zip_there IsClone (eq id) old.progress.walk new.progress.walk c.walk ∙ r.counts_by.known id
             ∙ ap (λ cs. is_voter_of eq cs id || is_some (node_at id_cmp old.membership.nodes id)) (sym configs)
             ∙ ap (λ b. is_voter_of eq new.membership.configs id || b)
-                (sym (nodes_there laws id_cmp ties same old.membership.nodes new.membership.nodes (second_so _ _ nodes) id));
+            (sym (nodes_there laws id_cmp ties same old.membership.nodes new.membership.nodes (second_so _ _ nodes) id));
       };
     }

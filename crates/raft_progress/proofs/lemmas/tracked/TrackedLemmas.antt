@@ -14,8 +14,15 @@ use Rattle.raft_progress.specs.progress.Steps.{IsIncreased, IsWritten, stays}
 use Rattle.raft_progress.specs.tracked.TrackedState.{AreLearners, Configs, CountsBy, HasConfigs, IsReady, has_quorum, is_voter}
 use Rattle.raft_progress.specs.progress.Upgrade.{Inherits, IsUpgraded}
 use Rattle.raft_progress.specs.declared.progress.steps.Reply.{Reply}
-use Rattle.raft_progress.specs.declared.progress.steps.Reply.TheVariants.{Granted, Unknown, WouldFall, Refused, BelowDefault, BadLearners,
-        OutOfMemory}
+use Rattle.raft_progress.specs.declared.progress.steps.Reply.TheVariants.{
+  Granted,
+  Unknown,
+  WouldFall,
+  Refused,
+  BelowDefault,
+  BadLearners,
+  OutOfMemory,
+}
 
 and_not : (a b : Bool) → (a && not b) ≡ true → b ≡ false
 and_not true false h = refl
@@ -31,8 +38,10 @@ module _ {K N : Type 0} (eq : K → K → Bool) (m : Members K N) (configs : Con
     (voters : (id : K) → is_voter eq configs id ≡ is_voter_of eq m.configs id) (l : AreLearners eq m learners) where
   -- the learners of a membership fit its configs
   pub learners_of_fit : LearnersFit eq (is_voter eq configs) learners
-  learners_of_fit = record { distinct = l.distinct;
-          no_voters = λ id h. voters id ∙ and_not (is_some (m.node id)) (is_voter_of eq m.configs id) (sym (l.are_known id) ∙ h) }
+  learners_of_fit = record {
+    distinct = l.distinct;
+    no_voters = λ id h. voters id ∙ and_not (is_some (m.node id)) (is_voter_of eq m.configs id) (sym (l.are_known id) ∙ h);
+  }
 
   -- voters and learners are the voters and the ids with a node
   is_in : (id : K) → (is_voter eq configs id || is_member eq learners id) ≡ (is_voter_of eq m.configs id || is_some (m.node id))
@@ -128,7 +137,7 @@ module _ {K N V P : Type 0} (eq : K → K → Bool) (id_cmp : K → K → Orderi
   counts_increased cmp partial_cmp part has_quorum id value reply alike h = by (stays partial_cmp (old.value id) value) h
     where
       by : (b : Bool) → MatchBool b ((p : P) × (◌≡◌ {A = Reply K P} reply (Granted p))
-              × Rattle.raft_progress.specs.progress.CountedValue.IsCounted cmp part has_quorum old p × IsSame old new)
+          × Rattle.raft_progress.specs.progress.CountedValue.IsCounted cmp part has_quorum old p × IsSame old new)
           (IsWritten eq cmp part has_quorum old id value reply new) → CountsBy eq id_cmp (record { membership = list'; progress = new })
       by true g = counts_same g.3
       by false g = counts_written cmp part has_quorum id value reply alike g

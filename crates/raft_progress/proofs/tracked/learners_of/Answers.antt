@@ -13,7 +13,7 @@ returns-clause-same g c = none_ahead (learners_of g.NID.PartialEq.eq c.args.memb
 pub returns-clause-learners : goal.returns-clause-learners
 returns-clause-learners g c =
     let same : c.loop-id.ids.items ≡ learners_ahead g.NID.PartialEq.eq c.learner_ids-id-items.result =
-        returns-clause-same g c ∙ sym c.learner_ids-id-items.ensures.rest in
+    returns-clause-same g c ∙ sym c.learner_ids-id-items.ensures.rest in
     record {
       distinct = subst (IsDistinct g.NID.PartialEq.eq) (sym same)
           (IsDistinct-from_cmp g.NID.Ord.cmp g.met.NID.Ord.matches_eq _ c.learner_ids-id-items.ensures.ascending);
@@ -27,5 +27,5 @@ loop-id-init g c = rw c.new-ids.ensures.items
 pub loop-id-preserved : goal.loop-id-preserved
 loop-id-preserved g c =
     rw c.in_ok-push.ensures.items (push_ahead (learners_of g.NID.PartialEq.eq c.args.membership.now) c.loop-id.ids.items
-            (learners_ahead g.NID.PartialEq.eq c.loop-id.id-iterator) (learners_ahead g.NID.PartialEq.eq c.next.new.self) c.in-Some.id
-            c.loop-id.invariant c.in-Some.ensures.steps)
+    (learners_ahead g.NID.PartialEq.eq c.loop-id.id-iterator) (learners_ahead g.NID.PartialEq.eq c.next.new.self) c.in-Some.id
+    c.loop-id.invariant c.in-Some.ensures.steps)

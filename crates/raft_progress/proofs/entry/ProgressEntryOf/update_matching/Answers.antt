@@ -9,25 +9,25 @@ use Rattle.raft_progress.proofs.entry.ProgressEntryOf.update_matching.Goals as g
 pub returns-in_err-check_ack-clause-table : goal.returns-in_err-check_ack-clause-table
 returns-in_err-check_ack-clause-table g c =
     let table = table_of_refused (inflight_after_ack g.C.Ord.cmp c.args.self.now.inflight c.args.request_id c.args.matching) _
-        c.in_err-check_ack.ensures in
+    c.in_err-check_ack.ensures in
     rw table (search rules)
 
 pub returns-then-is_lt-clause-table : goal.returns-then-is_lt-clause-table
 returns-then-is_lt-clause-table g c =
     let entry = c.args.self.now in
     let table = table_of_taken (inflight_after_ack g.C.Ord.cmp entry.inflight c.args.request_id c.args.matching)
-        c.in_ok-check_ack.ensures in
+    c.in_ok-check_ack.ensures in
     let below : id_lt g.C.Ord.cmp c.args.matching entry.matching ≡ true =
-        sym (ap is_lt c.cmp.ensures) ∙ sym c.is_lt.ensures ∙ c.if-is_lt.true in
+    sym (ap is_lt c.cmp.ensures) ∙ sym c.is_lt.ensures ∙ c.if-is_lt.true in
     rw (table.1, below) (refl, refl)
 
 pub returns-then-not-has_next_index-clause-table : goal.returns-then-not-has_next_index-clause-table
 returns-then-not-has_next_index-clause-table g c =
     let entry = c.args.self.now in
     let table = table_of_taken (inflight_after_ack g.C.Ord.cmp entry.inflight c.args.request_id c.args.matching)
-        c.in_ok-check_ack.ensures in
+    c.in_ok-check_ack.ensures in
     let above : id_lt g.C.Ord.cmp c.args.matching entry.matching ≡ false =
-        sym (ap is_lt c.cmp.ensures) ∙ sym c.is_lt.ensures ∙ c.if-is_lt.false in
+    sym (ap is_lt c.cmp.ensures) ∙ sym c.is_lt.ensures ∙ c.if-is_lt.false in
     let large : nat_lt (next_index c.args.matching) (2 ^ 64) ≡ false = sym c.has_next_index.ensures ∙ c.if-not-has_next_index.true in
     rw (table.1, above, large) (refl, refl)
 
@@ -35,11 +35,11 @@ pub returns-clause-table : goal.returns-clause-table
 returns-clause-table g c =
     let entry = c.args.self.now in
     let taken = table_of_taken (inflight_after_ack g.C.Ord.cmp entry.inflight c.args.request_id c.args.matching)
-        c.in_ok-check_ack.ensures in
+    c.in_ok-check_ack.ensures in
     let table : inflight_after_ack g.C.Ord.cmp entry.inflight c.args.request_id c.args.matching ≡ Ok c.take_ack.new.self =
-        taken.1 ∙ ap Ok (sym (c.take_ack.ensures c.args.request_id taken.0 taken.1)) in
+    taken.1 ∙ ap Ok (sym (c.take_ack.ensures c.args.request_id taken.0 taken.1)) in
     let above : id_lt g.C.Ord.cmp c.args.matching entry.matching ≡ false =
-        sym (ap is_lt c.cmp.ensures) ∙ sym c.is_lt.ensures ∙ c.if-is_lt.false in
+    sym (ap is_lt c.cmp.ensures) ∙ sym c.is_lt.ensures ∙ c.if-is_lt.false in
     let fits : nat_lt (next_index c.args.matching) (2 ^ 64) ≡ true = sym c.has_next_index.ensures ∙ c.if-not-has_next_index.false in
     let end : c.max-self.result ≡ max entry.searching_end (next_index c.args.matching) = rw c.next_index.ensures at c.max-self.ensures in
     rw (table, above, fits, end) refl
@@ -50,9 +50,13 @@ returns-clause-valid g c =
     let matching = c.args.matching in
     let taken = table_of_taken (inflight_after_ack g.C.Ord.cmp entry.inflight c.args.request_id matching) c.in_ok-check_ack.ensures in
     let table : inflight_after_ack g.C.Ord.cmp entry.inflight c.args.request_id matching ≡ Ok c.take_ack.new.self =
-        taken.1 ∙ ap Ok (sym (c.take_ack.ensures c.args.request_id taken.0 taken.1)) in
+    taken.1 ∙ ap Ok (sym (c.take_ack.ensures c.args.request_id taken.0 taken.1)) in
     let end : c.max-self.result ≡ max entry.searching_end (next_index matching) = rw c.next_index.ensures at c.max-self.ensures in
     let new : ProgressEntryOf g.row.C.Denot =
-        record { matching = matching; curr_inflight_id = entry.curr_inflight_id; inflight = c.take_ack.new.self;
-            searching_end = c.max-self.result } in
+    record {
+      matching = matching;
+      curr_inflight_id = entry.curr_inflight_id;
+      inflight = c.take_ack.new.self;
+      searching_end = c.max-self.result;
+    } in
     taken_is_valid g.C.Ord.cmp g.met.C.Ord.total new entry.inflight c.args.request_id table (omega arith)

@@ -6,7 +6,7 @@ use Rattle.raft_progress.proofs.inflight.InflightOf.ack.Goals as goal
 pub returns-in_err-check_ack : goal.returns-in_err-check_ack
 returns-in_err-check_ack g c =
     let table = table_of_refused (inflight_after_ack g.C.Ord.cmp c.args.self.now c.args.request_id c.args.upto) _
-        c.in_err-check_ack.ensures in
+    c.in_err-check_ack.ensures in
     rw table (search rules)
 
 pub returns : goal.returns

@@ -97,8 +97,8 @@ module _ {ID : Type 0} {eq : ID → ID → Bool} (laws : IsEquivalence eq) where
       default_at_most = r.default_at_most;
       others_at_most = λ x v k.
           voter_value (λ (u : V). reaches eq cmp part (has_quorum quorum_set) (take n walk) (part u) ≡ true → AtMost cmp (part u) g) walk n
-              x v k.voter k.value
+          x v k.voter k.value
           (recursion_from_All (λ (e : ID × V). reaches eq cmp part (has_quorum quorum_set) (take n walk) (part e.1) ≡ true
-                  → AtMost cmp (part e.1) g) (take n walk) r.others_at_most)
+          → AtMost cmp (part e.1) g) (take n walk) r.others_at_most)
           (same_test (part v) ∙ k.quorum);
     }

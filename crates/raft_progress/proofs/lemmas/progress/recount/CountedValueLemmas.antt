@@ -1,6 +1,27 @@
 -- The counted value after a voter's part has risen.
-use Rattle.std.specs.Prelude.{◌≡◌, ℕ, ◌-◌, ◌<◌, ◌≤◌, Bool, true, false, cond, ◌&&◌, ◌||◌, List, [], ◌∷◌, length, filter, take, Option, Some,
-        None, ◌⊎◌}
+use Rattle.std.specs.Prelude.{
+  ◌≡◌,
+  ℕ,
+  ◌-◌,
+  ◌<◌,
+  ◌≤◌,
+  Bool,
+  true,
+  false,
+  cond,
+  ◌&&◌,
+  ◌||◌,
+  List,
+  [],
+  ◌∷◌,
+  length,
+  filter,
+  take,
+  Option,
+  Some,
+  None,
+  ◌⊎◌,
+}
 use Rattle.std.specs.Ordering.{is_le, is_lt, ordering_reverse}
 use Rattle.std.specs.declared.cmp.Ordering.{Ordering}
 use Rattle.std.specs.declared.cmp.Ordering.TheVariants.{Less, Equal, Greater}
@@ -87,7 +108,7 @@ module _ {ID V P QS : Type 0} {eq : ID → ID → Bool} (laws : IsEquivalence eq
         ≡ front_test eq (has_quorum qs) (take n walk) (prefix_len (at_least cmp part p) (take n walk))
     reaches_front p h = ap (λ es. has_quorum qs (is_member eq (keys_of es)))
         (filter_is_front o part g (λ q. is_le (cmp p q)) (λ a b k l. AtMost-trans o p a b k l) (λ a k. lt_le o g p a h k) (take n walk)
-            fall)
+        fall)
 
     in_reach : (p : P) → is_lt (cmp g p) ≡ true → (i : ℕ) (e : ID × V) → i < length (take n walk)
         → AtMost cmp p (part (get_or (take n walk) i e).1) → i < prefix_len (at_least cmp part p) (take n walk)
@@ -125,10 +146,10 @@ module _ {ID V P QS : Type 0} {eq : ID → ID → Bool} (laws : IsEquivalence eq
             let f : ID × V = get_or (take n walk) i e in
             let over : is_lt (cmp g (part f.1)) ≡ true = prefix_len_passes (exceeds cmp part g) (take n walk) i e (omega arith) in
             let far : i < prefix_len (at_least cmp part (part f.1)) (take n walk) =
-                in_reach (part f.1) over i e within (AtMost-refl o (part f.1)) in
+            in_reach (part f.1) over i e within (AtMost-refl o (part f.1)) in
             let q : front_test eq (has_quorum qs) (take n walk) (prefix_len (at_least cmp part (part f.1)) (take n walk)) ≡ true =
-                superset _ _ (front_grows eq (take n walk) (lead walk g) (prefix_len (at_least cmp part (part f.1)) (take n walk))
-                    (omega arith)) t in
+            superset _ _ (front_grows eq (take n walk) (lead walk g) (prefix_len (at_least cmp part (part f.1)) (take n walk))
+            (omega arith)) t in
             absurd (not_both o g (part f.1) over (c.others_at_most f.0 f.1 (entry_reached i e within (reaches_front (part f.1) over ∙ q))))
 
     pub above_fails : IsCounted cmp part has_quorum (St walk) g → (x : ID) → above walk g x ≡ true → has_quorum qs (above walk g) ≡ false
@@ -153,7 +174,7 @@ module _ {ID V P QS : Type 0} {eq : ID → ID → Bool} (laws : IsEquivalence eq
       by true t =
           let here : above walk g x ≡ true = rw (r.voter, r.value) t in
           absurd (true≢false (sym (superset (reached cmp part (St walk) (part v)) (above walk g) (λ y h. up y h t) r.quorum)
-                  ∙ fails x here))
+          ∙ fails x here))
 
   -- either some part ties with g, or those of at least g exceed it
   tie_or_not : (g : P) (xs : List (ID × V))
@@ -203,7 +224,7 @@ module _ {ID V P QS : Type 0} {eq : ID → ID → Bool} (laws : IsEquivalence eq
             rw (same_voters y, a.0, r.1) (AtMost-trans o p' (part u) (part r.0) (AtMost-trans o p' p (part u) l far) r.2)
 
     pub not_below_still : ((x : ID) (u : V) → is_member eq (take n (keys_of walk)) x ≡ true → lookup (eq x) walk ≡ Some u
-            → AtMost cmp d0 (part u)) → (x : ID) (u : V) → is_member eq (take n (keys_of walk')) x ≡ true → lookup (eq x) walk' ≡ Some u
+        → AtMost cmp d0 (part u)) → (x : ID) (u : V) → is_member eq (take n (keys_of walk')) x ≡ true → lookup (eq x) walk' ≡ Some u
         → AtMost cmp d0 (part u)
     not_below_still below x u m l = by (eq id x) refl (sym (written x) ∙ l)
       where
@@ -249,18 +270,32 @@ module _ {ID V P QS : Type 0} {eq : ID → ID → Bool} (laws : IsEquivalence eq
           where
             by : (b : Bool) → eq id x ≡ b
                 → (x' : ID) × (u' : V) × IsReached cmp part has_quorum (St walk') x' u' × (cmp (part u') g ≡ Equal)
-            by false q = (x, u, record { voter = same_voters x ∙ r.voter;
-                    value = written x ∙ ap (λ b. cond b (Some w) (lookup (eq x) walk)) q ∙ r.value;
-                    quorum = superset (reached cmp part (St walk) (part u)) (reached cmp part (St walk') (part u))
-                    (reached_up (part u) (part u) (AtMost-refl o (part u))) r.quorum }, t)
+            by false q = (
+              x,
+              u,
+              record {
+                voter = same_voters x ∙ r.voter;
+                value = written x ∙ ap (λ b. cond b (Some w) (lookup (eq x) walk)) q ∙ r.value;
+                quorum = superset (reached cmp part (St walk) (part u)) (reached cmp part (St walk') (part u))
+                    (reached_up (part u) (part u) (AtMost-refl o (part u))) r.quorum;
+              },
+              t,
+            )
             by true q =
                 let is : v ≡ u = let e = sym was ∙ lookup_alike laws id x q walk ∙ r.value in cc in
                 let t' : cmp (part w) g ≡ Equal =
-                    tie (is_member-alike laws id x q (take n (keys_of walk)) ∙ r.voter) (ap (λ y. cmp (part y) g) is ∙ t) in
-                let less : AtMost cmp (part w) (part u) = tied_le _ (alike_right o (part u) g (part w) t ∙ t') in
-                (x, w, record { voter = same_voters x ∙ r.voter; value = written x ∙ ap (λ b. cond b (Some w) (lookup (eq x) walk)) q;
-                        quorum = superset (reached cmp part (St walk) (part u)) (reached cmp part (St walk') (part w))
-                        (reached_up (part u) (part w) less) r.quorum }, t')
+                tie (is_member-alike laws id x q (take n (keys_of walk)) ∙ r.voter) (ap (λ y. cmp (part y) g) is ∙ t) in
+                let less : AtMost cmp (part w) (part u) = tied_le _ (alike_right o (part u) g (part w) t ∙ t') in (
+                  x,
+                  w,
+                  record {
+                    voter = same_voters x ∙ r.voter;
+                    value = written x ∙ ap (λ b. cond b (Some w) (lookup (eq x) walk)) q;
+                    quorum = superset (reached cmp part (St walk) (part u)) (reached cmp part (St walk') (part w))
+                        (reached_up (part u) (part w) less) r.quorum;
+                  },
+                  t',
+                )
 
     module _ (g : P) (c : IsCounted cmp part has_quorum (St walk) g) (d' : IsDistinct eq (keys_of walk'))
         (fall' : IsFalling cmp part g (take n walk')) where
@@ -280,22 +315,22 @@ module _ {ID V P QS : Type 0} {eq : ID → ID → Bool} (laws : IsEquivalence eq
           one x u r t =
               let back : AtMost cmp g (part u) = tied_le _ (o.antisymm g (part u) ∙ ap ordering_reverse t) in
               let q : has_quorum qs (reached cmp part (St walk') g) ≡ true =
-                  superset (reached cmp part (St walk) (part u)) (reached cmp part (St walk') g) (reached_up (part u) g back) r.quorum in
+              superset (reached cmp part (St walk) (part u)) (reached cmp part (St walk') g) (reached_up (part u) g back) r.quorum in
               let reach : reaches eq cmp part (has_quorum qs) (take n walk') g ≡ true =
-                  same_test laws o part has_quorum qs walk' n d0 d' g ∙ q in
+              same_test laws o part has_quorum qs walk' n d0 d' g ∙ q in
               elim (tie_or_not g (take n walk')) [
                 | inl h ↦ (
                   (get_or (take n walk') h.0 h.1).0,
                   (get_or (take n walk') h.0 h.1).1,
                   entry_reached walk' d' g fall' h.0 h.1 h.2
                       (ap (λ (t' : ID × V → Bool). has_quorum qs (is_member eq (keys_of (filter t' (take n walk')))))
-                          (λ i e. is_le (o.congr (part (get_or (take n walk') h.0 h.1).1) g (part e.1) h.3 i)) ∙ reach),
+                      (λ i e. is_le (o.congr (part (get_or (take n walk') h.0 h.1).1) g (part e.1) h.3 i)) ∙ reach),
                   h.3,
                 )
                 | inr h ↦ absurd (true≢false
-                        (sym reach ∙ ap (λ (es : List (ID × V)). has_quorum qs (is_member eq (keys_of es)))
-                        (h ∙ filter_is_front o part g (λ p. is_lt (cmp g p)) (λ a b h k. lt_le o g a b h k) (λ a h. h) (take n walk') fall')
-                        ∙ f))
+                    (sym reach ∙ ap (λ (es : List (ID × V)). has_quorum qs (is_member eq (keys_of es)))
+                    (h ∙ filter_is_front o part g (λ p. is_lt (cmp g p)) (λ a b h k. lt_le o g a b h k) (λ a h. h) (take n walk') fall')
+                    ∙ f))
               ]
 
       -- the least front that is a quorum
@@ -306,26 +341,31 @@ module _ {ID V P QS : Type 0} {eq : ID → ID → Bool} (laws : IsEquivalence eq
           let w = lead_within walk' d' g fall' in
           let within : k - 1 < length (take n walk') = omega arith in
           let over' : is_lt (cmp g (part (get_or (take n walk') (k - 1) f).1)) ≡ true =
-              prefix_len_passes (exceeds cmp part g) (take n walk') (k - 1) f (omega arith) in
+          prefix_len_passes (exceeds cmp part g) (take n walk') (k - 1) f (omega arith) in
           let over : is_lt (cmp g (part f.1)) ≡ true = ap (λ (e : ID × V). is_lt (cmp g (part e.1))) is ∙ over' in
           let more : AtMost cmp g (part f.1) = AtMost-from_lt cmp g (part f.1) over in
           let far' = in_reach walk' d' g fall' (part f.1) over (k - 1) f within
-              (ap (λ (e : ID × V). is_le (cmp (part f.1) (part e.1))) (sym is) ∙ AtMost-refl o (part f.1)) in
+          (ap (λ (e : ID × V). is_le (cmp (part f.1) (part e.1))) (sym is) ∙ AtMost-refl o (part f.1)) in
           let grown : front_test eq (has_quorum qs) (take n walk') (prefix_len (at_least cmp part (part f.1)) (take n walk')) ≡ true =
-              superset _ _ (front_grows eq (take n walk') k (prefix_len (at_least cmp part (part f.1)) (take n walk')) (omega arith)) q in
+          superset _ _ (front_grows eq (take n walk') k (prefix_len (at_least cmp part (part f.1)) (take n walk')) (omega arith)) q in
           let reach : reaches eq cmp part (has_quorum qs) (take n walk') (part (get_or (take n walk') (k - 1) f).1) ≡ true =
-              ap (λ (e : ID × V). reaches eq cmp part (has_quorum qs) (take n walk') (part e.1)) (sym is)
-              ∙ reaches_front walk' d' g fall' (part f.1) over ∙ grown in (
+          ap (λ (e : ID × V). reaches eq cmp part (has_quorum qs) (take n walk') (part e.1)) (sym is)
+          ∙ reaches_front walk' d' g fall' (part f.1) over ∙ grown in (
             more,
             record {
-              is_one = inr (f.0, f.1, subst (λ (e : ID × V). IsReached cmp part has_quorum (St walk') e.0 e.1) (sym is)
-                      (entry_reached walk' d' g fall' (k - 1) f within reach), tied_itself o (part f.1));
+              is_one = inr (
+                f.0,
+                f.1,
+                subst (λ (e : ID × V). IsReached cmp part has_quorum (St walk') e.0 e.1) (sym is)
+                    (entry_reached walk' d' g fall' (k - 1) f within reach),
+                tied_itself o (part f.1),
+              );
               default_at_most = AtMost-trans o d0 g (part f.1) c.default_at_most more;
               others_at_most = λ x u r.
                   voter_value laws (λ (y : V). reaches eq cmp part (has_quorum qs) (take n walk') (part y) ≡ true
-                          → AtMost cmp (part y) (part f.1)) walk' n x u r.voter r.value
+                  → AtMost cmp (part y) (part f.1)) walk' n x u r.voter r.value
                   (recursion_from_All (λ (e : ID × V). reaches eq cmp part (has_quorum qs) (take n walk') (part e.1) ≡ true
-                          → AtMost cmp (part e.1) (part f.1)) (take n walk') (λ j e l h. below j e l h more))
+                  → AtMost cmp (part e.1) (part f.1)) (take n walk') (λ j e l h. below j e l h more))
                   (same_test laws o part has_quorum qs walk' n d0 d' (part u) ∙ r.quorum);
             },
           )

@@ -67,10 +67,10 @@ module _ {ID V P : Type 0} (eq : ID → ID → Bool) {cmp : P → P → Ordering
         others_at_most = All-more (λ f. reaches eq cmp part is_quorum voters (part f.1) ≡ true → AtMost cmp (part f.1) (part e.1)) voters i
             e l
             (All-weaker (λ (f : ID × V). reaches eq cmp part is_quorum voters (part f.1) ≡ true → AtMost cmp (part f.1) g)
-                    (λ f. reaches eq cmp part is_quorum voters (part f.1) ≡ true → AtMost cmp (part f.1) (part e.1))
-                    (λ f k y. AtMost-trans o (part f.1) g (part e.1) (k y) up) (take i voters) r.others_at_most)
+            (λ f. reaches eq cmp part is_quorum voters (part f.1) ≡ true → AtMost cmp (part f.1) (part e.1))
+            (λ f k y. AtMost-trans o (part f.1) g (part e.1) (k y) up) (take i voters) r.others_at_most)
             (subst (λ (f : ID × V). reaches eq cmp part is_quorum voters (part f.1) ≡ true → AtMost cmp (part f.1) (part e.1)) is
-                    (λ _. AtMost-refl o (part e.1)));
+            (λ _. AtMost-refl o (part e.1)));
       }
 
   -- the two ways on from a voter, with the loop's names for its part and the best
@@ -90,4 +90,4 @@ module _ {ID V P : Type 0} (eq : ID → ID → Bool) {cmp : P → P → Ordering
       subst (IsGreatest eq cmp part is_quorum voters (take (i + 1) voters) default) (sym be)
       (greatest_keeps i e g l is (λ q.
       AtMost-from_not_lt o g (part e.1) (ap (λ x. is_lt (cmp g x)) (sym pe) ∙ h (ap (λ x. reaches eq cmp part is_quorum voters x) pe ∙ q)))
-              r)
+      r)

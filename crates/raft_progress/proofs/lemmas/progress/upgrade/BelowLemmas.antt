@@ -24,15 +24,21 @@ module _ {ID V : Type 0} {cmp : ID → ID → Ordering} (o : IsTotalOrder cmp) (
   pub least_stays : (least : Option ID) → test e.0 ≡ false → IsLeastPassing cmp test seen least
       → IsLeastPassing cmp test (seen ++ e ∷ []) least
   least_stays None h a = all_both (λ (f : ID × V). test f.0 ≡ false) seen (e ∷ []) a (h, tt)
-  least_stays (Some id) h a = (a.0, all_both (λ (f : ID × V). test f.0 ≡ true → is_le (cmp id f.0) ≡ true) seen (e ∷ []) a.1
-          ((λ k. absurd (true≢false (sym k ∙ h))), tt))
+  least_stays (Some id) h a = (
+    a.0,
+    all_both (λ (f : ID × V). test f.0 ≡ true → is_le (cmp id f.0) ≡ true) seen (e ∷ []) a.1
+        ((λ k. absurd (true≢false (sym k ∙ h))), tt),
+  )
 
   -- it passes, and is no less than the least
   pub least_holds : (least : Option ID) → comes_before cmp e.0 least ≡ false → IsLeastPassing cmp test seen least
       → IsLeastPassing cmp test (seen ++ e ∷ []) least
   least_holds None h a = absurd (true≢false h)
-  least_holds (Some id) h a = (a.0, all_both (λ (f : ID × V). test f.0 ≡ true → is_le (cmp id f.0) ≡ true) seen (e ∷ []) a.1
-          ((λ k. AtMost-from_not_lt o e.0 id h), tt))
+  least_holds (Some id) h a = (
+    a.0,
+    all_both (λ (f : ID × V). test f.0 ≡ true → is_le (cmp id f.0) ≡ true) seen (e ∷ []) a.1
+        ((λ k. AtMost-from_not_lt o e.0 id h), tt),
+  )
 
   -- it passes, and is the least now
   pub least_falls : (least : Option ID) → test e.0 ≡ true → comes_before cmp e.0 least ≡ true → IsLeastPassing cmp test seen least
@@ -41,14 +47,14 @@ module _ {ID V : Type 0} {cmp : ID → ID → Ordering} (o : IsTotalOrder cmp) (
     t,
     all_both (λ (f : ID × V). test f.0 ≡ true → is_le (cmp e.0 f.0) ≡ true) seen (e ∷ [])
         (all_weaker (λ (f : ID × V). test f.0 ≡ false) (λ f. test f.0 ≡ true → is_le (cmp e.0 f.0) ≡ true)
-                (λ f n k. absurd (true≢false (sym k ∙ n))) seen a)
+        (λ f n k. absurd (true≢false (sym k ∙ n))) seen a)
         ((λ k. AtMost-refl o e.0), tt),
   )
   least_falls (Some id) t h a = (
     t,
     all_both (λ (f : ID × V). test f.0 ≡ true → is_le (cmp e.0 f.0) ≡ true) seen (e ∷ [])
         (all_weaker (λ (f : ID × V). test f.0 ≡ true → is_le (cmp id f.0) ≡ true) (λ f. test f.0 ≡ true → is_le (cmp e.0 f.0) ≡ true)
-                (λ f n k. AtMost-trans o e.0 id f.0 (AtMost-from_lt cmp e.0 id h) (n k)) seen a.1)
+        (λ f n k. AtMost-trans o e.0 id f.0 (AtMost-from_lt cmp e.0 id h) (n k)) seen a.1)
         ((λ k. AtMost-refl o e.0), tt),
   )
 
@@ -69,8 +75,16 @@ module _ {ID V P : Type 0} {eq : ID → ID → Bool} (laws : IsEquivalence eq) (
   test x = among eq voters learners x && is_value_below cmp part (part default) (lookup (eq x) walk)
 
   test_alike : (x y : ID) → eq x y ≡ true → test x ≡ test y
-  test_alike x y e = rw (among_is x, among_is y, sym (known x), sym (known y), is_member-alike laws x y e voters, is_member-alike laws x y e
-          learners, lookup_alike laws x y e walk) refl
+  test_alike x y e = rw (
+    among_is x,
+    among_is y,
+    sym (known x),
+    sym (known y),
+    is_member-alike laws x y e voters,
+    is_member-alike laws x y e
+        learners,
+    lookup_alike laws x y e walk,
+  ) refl
 
   is_value : (x : ID) (v : V) → lookup (eq x) walk ≡ Some v → test x ≡ (is_inherited x && is_lt (cmp (part v) (part default)))
   is_value x v h = rw (among_is x, h) refl
@@ -101,7 +115,7 @@ module _ {ID V P : Type 0} {eq : ID → ID → Bool} (laws : IsEquivalence eq) (
   value_there : (x : ID) (w : Option V) → lookup (eq x) walk ≡ w → test x ≡ true
       → InheritsBelow eq cmp part is_voter learners default (λ x. lookup (eq x) walk) x
   value_there x None e h = absurd (true≢false
-          (sym (second_so (among eq voters learners x) _ h) ∙ ap (is_value_below cmp part (part default)) e))
+      (sym (second_so (among eq voters learners x) _ h) ∙ ap (is_value_below cmp part (part default)) e))
   value_there x (Some v) e h =
       let t : (is_inherited x && is_lt (cmp (part v) (part default))) ≡ true = sym (is_value x v e) ∙ h in
       record { inherited = first_so _ _ t; value = v; present = e; below = second_so (is_inherited x) _ t }

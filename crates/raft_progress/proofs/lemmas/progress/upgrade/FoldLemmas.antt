@@ -47,11 +47,11 @@ module _ {ID V P QS : Type 0} (eq : ID → ID → Bool) (id_cmp : ID → ID → 
   each_counts [] n s first new c same =
       let none : 0 + n ≡ n = omega arith in
       subst (λ (k : ℕ). CountsGoOn k new.voter_count s new.stat) (sym none)
-          (subst (λ (p : Shown ID V P QS). CountsGoOn n p.voter_count s p.stat) (sym same) c)
+      (subst (λ (p : Shown ID V P QS). CountsGoOn n p.voter_count s p.stat) (sym same) c)
   each_counts (e ∷ es) n s first new c (m, u, r, rest) =
       let more : length es + (n + 1) ≡ length (e ∷ es) + n = omega arith in
       subst (λ (k : ℕ). CountsGoOn k new.voter_count s new.stat) more
-          (each_counts es (n + 1) s m new (counts_more eq cmp part (λ v w. IsClone e.1 w) n s first e.0 m u c) rest)
+      (each_counts es (n + 1) s m new (counts_more eq cmp part (λ v w. IsClone e.1 w) n s first e.0 m u c) rest)
 
   -- nothing has been taken over yet
   pub fold_none : (stat : Stat) (quorum_set : QS) (learners : List ID) (default : V) (first : Shown ID V P QS)
@@ -77,5 +77,5 @@ module _ {ID V P QS : Type 0} (eq : ID → ID → Bool) (id_cmp : ID → ID → 
         let all : length es + 0 ≡ length es = omega arith in
         subst (λ (k : ℕ). CountsGoOn k old.voter_count stat old.stat) all
         (each_counts es 0 stat f.first old
-                (subst (λ (t : Stat). CountsGoOn 0 f.first.voter_count stat t) (sym f.begins.counts) (none f.first.voter_count))
-                f.takes_over)
+        (subst (λ (t : Stat). CountsGoOn 0 f.first.voter_count stat t) (sym f.begins.counts) (none f.first.voter_count))
+        f.takes_over)

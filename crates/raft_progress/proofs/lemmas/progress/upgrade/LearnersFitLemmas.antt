@@ -52,4 +52,4 @@ module _ {ID : Type 0} {eq : ID → ID → Bool} (laws : IsEquivalence eq) where
   fits_apart voters is_voter v (k ∷ ks) f =
       rw (some_alike ks k f.distinct.0, member_flipped laws voters k ∙ v k ∙ f.no_voters k (ap (λ b. b || is_member eq ks k) (laws.refl k)))
       (fits_apart voters is_voter v ks record
-              { distinct = f.distinct.1; no_voters = λ x m. f.no_voters x (or_right (eq x k) (is_member eq ks x) m) })
+      { distinct = f.distinct.1; no_voters = λ x m. f.no_voters x (or_right (eq x k) (is_member eq ks x) m) })

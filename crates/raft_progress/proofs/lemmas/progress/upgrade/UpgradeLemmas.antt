@@ -64,7 +64,7 @@ module _ {ID V P QS : Type 0} {eq : ID → ID → Bool} (laws : IsEquivalence eq
       by : (b : Bool) → is_in e.0 ≡ b → (is_in e.0 ≡ true) × IsClone default v
       by true t =
           let d : HasClone IsClone default (s.value e.0) =
-              subst (λ (o : Option V). Inherits IsClone default o (s.value e.0)) new_key (u.value e.0 t) in
+          subst (λ (o : Option V). Inherits IsClone default o (s.value e.0)) new_key (u.value e.0 t) in
           let same : d.0 ≡ v = let k = d.1 in cc in
           (t, subst (IsClone default) same d.2)
       by false t = absurd (no_value _ _ (u.others e.0 t) h)
@@ -101,7 +101,7 @@ module _ {ID V P QS : Type 0} {eq : ID → ID → Bool} (laws : IsEquivalence eq
       val : (x : ID) → is_in x ≡ true → (b : Bool) → eq e.0 x ≡ b → Inherits IsClone default (lookup (eq x) (seen ++ e ∷ [])) (s'.value x)
       val x t true q =
           let d : HasClone IsClone default (s.value x) =
-              subst (λ (o : Option V). Inherits IsClone default o (s.value x)) (seen_alike x q) (u.value x t) in
+          subst (λ (o : Option V). Inherits IsClone default o (s.value x)) (seen_alike x q) (u.value x t) in
           absurd (no_value _ _ (sym (alike e.0 x q) ∙ h) d.1)
       val x t false q = rw (lookup_other (eq x) seen e (laws.symm x e.0 ∙ q), same.value x) (u.value x t)
 

@@ -131,10 +131,10 @@ module _ {ID V P : Type 0} {cmp : P → P → Ordering} (o : IsTotalOrder cmp) (
   falling_risen [] passed e e' rest q up lesser l s = (
     all_both _ passed rest
         (all_weaker _ (λ f. is_lt (cmp g (part f.1)) ≡ true → AtMost cmp (part f.1) (part e'.1))
-                (λ f h _. AtMost-from_lt cmp (part f.1) (part e'.1) h) passed lesser)
+        (λ f h _. AtMost-from_lt cmp (part f.1) (part e'.1) h) passed lesser)
         (all_weaker (λ (f : ID × V). is_lt (cmp g (part f.1)) ≡ true → AtMost cmp (part f.1) (part e.1))
-                (λ f. is_lt (cmp g (part f.1)) ≡ true → AtMost cmp (part f.1) (part e'.1))
-                (λ f h k. AtMost-trans o (part f.1) (part e.1) (part e'.1) (h k) up) rest (falling_last passed e rest s)),
+        (λ f. is_lt (cmp g (part f.1)) ≡ true → AtMost cmp (part f.1) (part e'.1))
+        (λ f h k. AtMost-trans o (part f.1) (part e.1) (part e'.1) (h k) up) rest (falling_last passed e rest s)),
     falling_less passed e rest s,
   )
   falling_risen (f ∷ fs) passed e e' rest q up lesser l s =

@@ -34,8 +34,8 @@ module _ {ID V : Type 0} (eq : ID → ID → Bool) where
       by : (b : Bool) → front_test eq is_quorum voters k ≡ b → b ≡ false
       by false e = refl
       by true e = absurd (true≢false (sym
-              (superset (is_member eq (keys_of (take k voters))) (is_member eq (keys_of (take n voters))) (front_grows voters k n l) e)
-              ∙ f))
+          (superset (is_member eq (keys_of (take k voters))) (is_member eq (keys_of (take n voters))) (front_grows voters k n l) e)
+          ∙ f))
 
 -- a number that isn't zero loses a binary digit by halving
 fewer_digits : (left j : ℕ) → 1 ≤ left → left < 2 ^ j → (i : ℕ) × (j ≡ suc i) × (left / 2 < 2 ^ i)

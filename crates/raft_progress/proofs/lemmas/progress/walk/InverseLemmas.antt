@@ -93,7 +93,7 @@ module _ (P R : List ℕ) (a : AreInverse P R) (at u l : ℕ) (second : 0 < at) 
               let b = (a.back r m).1 in
               get_or-set_other P u r at 0 o
               ∙ sym (exchanged_other at (get_or P r 0) (λ e. n (sym b ∙ ap (λ p. get_or R p 0) e ∙ sym ls))
-                      (λ e. o (sym b ∙ ap (λ p. get_or R p 0) e ∙ sym us)))
+              (λ e. o (sym b ∙ ap (λ p. get_or R p 0) e ∙ sym us)))
         ]
   ]
 
@@ -116,9 +116,9 @@ module _ (P R : List ℕ) (a : AreInverse P R) (at u l : ℕ) (second : 0 < at) 
   pub inverse_swapped : AreInverse (set (set P u at) l (at - 1)) (set (set R (at - 1) l) at u)
   inverse_swapped =
       renumbered P R _ _ (exchanged at) (exchanged at) a (length-set (set P u at) l (at - 1) ∙ length-set P u at)
-          (length-set (set R (at - 1) l) at u ∙ length-set R (at - 1) l)
+      (length-set (set R (at - 1) l) at u ∙ length-set R (at - 1) l)
       swapped_places swapped_ranks (λ p m. exchanged_within at p (length R) within m) (λ p m. exchanged_within at p (length R) within m)
-          (λ p. exchanged_twice at p second) (λ p. exchanged_twice at p second)
+      (λ p. exchanged_twice at p second) (λ p. exchanged_twice at p second)
 
   pub places_swapped : set (set P u at) l (at - 1) ≡ map (exchanged at) P
   places_swapped =
@@ -159,7 +159,7 @@ pub lookup_renumbered : {ID : Type 0} (f : ℕ → ℕ) (test : ID → Bool) (es
     → values_of fs ≡ map f (values_of es) → lookup test fs ≡ option_map f (lookup test es)
 lookup_renumbered f test es fs k v =
     ap (lookup test) (sym (parted_itself fs) ∙ ap (λ ks. parted ks (values_of fs)) k ∙ ap (parted (keys_of es)) v
-            ∙ parted-map f (keys_of es) (values_of es) ∙ ap (map (λ e. (e.0, f e.1))) (parted_itself es))
+    ∙ parted-map f (keys_of es) (values_of es) ∙ ap (map (λ e. (e.0, f e.1))) (parted_itself es))
     ∙ lookup-map_values f test es
 
 -- where an entry moves up step by step, its last step is an exchange
@@ -217,10 +217,10 @@ module _ (P R : List ℕ) (last risen place : ℕ) (P' R' : List ℕ) (m : Lifte
         let ne = apart (set P' risen place) (set R' place risen) m.inverse place passed risen second n passed_at risen_at in
         let ps : set (set (set P' risen place) passed place) risen (place - 1) ≡ set (set P' passed place) risen (place - 1) =
         ap (λ vs. set vs risen (place - 1)) (set_comm P' risen passed place place (λ e. ne (sym e)))
-            ∙ set-set (set P' passed place) risen place (place - 1) in
+        ∙ set-set (set P' passed place) risen place (place - 1) in
         let rs : set (set (set R' place risen) (place - 1) risen) place passed ≡ set (set R' place passed) (place - 1) risen =
         ap (λ vs. set vs place passed) (set_comm R' place (place - 1) risen risen (λ e. down (sym e)))
-            ∙ set-set (set R' (place - 1) risen) place risen passed
+        ∙ set-set (set R' (place - 1) risen) place risen passed
         ∙ set_comm R' (place - 1) place risen passed down in
         let inv = inverse_swapped (set P' risen place) (set R' place risen) m.inverse place passed risen second n passed_at risen_at in
         record {
@@ -228,7 +228,7 @@ module _ (P R : List ℕ) (last risen place : ℕ) (P' R' : List ℕ) (m : Lifte
               (subst (AreInverse (set (set (set P' risen place) passed place) risen (place - 1))) rs inv);
           places =
               sym ps ∙ places_swapped (set P' risen place) (set R' place risen) m.inverse place passed risen second n passed_at risen_at
-                  ∙ ap (map (exchanged place)) m.places
+              ∙ ap (map (exchanged place)) m.places
               ∙ after_both P (exchanged place) (place_after place last) (place_after (place - 1) last) (after_step place last second top);
         }
 

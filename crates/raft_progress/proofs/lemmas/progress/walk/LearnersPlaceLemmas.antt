@@ -46,7 +46,7 @@ risen_keys {ID} {V} cmp part is_id before (e ∷ es) n (suc k) same m =
   where
     by : (b : Bool) → (b || list_any is_id (take k (keys_of es))) ≡ true
         → (list_any is_id (take k (keys_of es)) ≡ true
-            → drop n (keys_of (walk_after_rise cmp part is_id (before ++ e ∷ []) es)) ≡ drop k (keys_of es))
+        → drop n (keys_of (walk_after_rise cmp part is_id (before ++ e ∷ []) es)) ≡ drop k (keys_of es))
         → drop n (keys_of (cond b (put_after_last cmp part e before ++ es) (walk_after_rise cmp part is_id (before ++ e ∷ []) es)))
         ≡ drop k (keys_of es)
     by true h later = let l = put_length cmp part e before in drop_past (put_after_last cmp part e before) es k n (omega arith)
@@ -65,10 +65,10 @@ module _ {ID V P QS : Type 0} (eq : ID → ID → Bool) (cmp : P → P → Order
           → drop old.voter_count (keys_of new.walk) ≡ drop old.voter_count (keys_of old.walk)
       by true c =
           let voter : is_member eq (take old.voter_count (keys_of (set_value (eq id) old.walk w))) id ≡ true =
-              ap (λ ks. is_member eq (take old.voter_count ks) id) keys ∙ first_so _ _ c in
+          ap (λ ks. is_member eq (take old.voter_count ks) id) keys ∙ first_so _ _ c in
           ap (λ (es : List (ID × V)). drop old.voter_count (keys_of es)) (s.rises c).0
-              ∙ risen_keys cmp part (eq id) [] (set_value (eq id) old.walk w) old.voter_count old.voter_count (omega arith) voter
-              ∙ ap (drop old.voter_count) keys
+          ∙ risen_keys cmp part (eq id) [] (set_value (eq id) old.walk w) old.voter_count old.voter_count (omega arith) voter
+          ∙ ap (drop old.voter_count) keys
       by false c = ap (λ (es : List (ID × V)). drop old.voter_count (keys_of es)) (s.stays c).0 ∙ ap (drop old.voter_count) keys
 
   -- an update moves no learner

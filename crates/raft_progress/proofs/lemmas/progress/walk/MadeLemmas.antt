@@ -13,8 +13,13 @@ use Rattle.std.proofs.Common.{arith, sym, ap, refl, ◌∙◌, subst, true≢fal
 use Rattle.std.proofs.lemmas.Bool.{cases_eq, cases_lt, eqb-false, ne_eqb}
 use Rattle.std.proofs.lemmas.List.{get_or-set_same, get_or-set_other, length-map, map-id}
 use Rattle.std.proofs.lemmas.List.FromFn.{length-range_with_len, get_or-range_with_len, map-range_with_len_more}
-use Rattle.std.proofs.lemmas.List.Sorted.{IsPermutation-map, All-permutation, Contains-permutation, length_permutation,
-        list_any-IsPermutation}
+use Rattle.std.proofs.lemmas.List.Sorted.{
+  IsPermutation-map,
+  All-permutation,
+  Contains-permutation,
+  length_permutation,
+  list_any-IsPermutation,
+}
 use Rattle.std.proofs.lemmas.Map.Entries.{length-keys_of}
 use Rattle.std.proofs.lemmas.Map.Keys.{IsDistinct-IsPermutation, IsDistinct-from_apart, apart_from_distinct, sorted_from_all_adjacent}
 use Rattle.std.proofs.lemmas.Map.Made.{is_some-lookup}
@@ -46,8 +51,11 @@ none_from (Some v) h = absurd (true≢false h)
 none_from None h = refl
 
 eqb_flips : (x y : ℕ) → eqb x y ≡ eqb y x
-eqb_flips x y = elim (cases_eq x y) [ inl e ↦ ap (λ z. eqb z y) e ∙ ap (eqb y) (sym e) | inr n ↦
-        ne_eqb x y n ∙ sym (ne_eqb y x (λ e. n (sym e))) ]
+eqb_flips x y = elim (cases_eq x y) [
+  | inl e ↦ ap (λ z. eqb z y) e ∙ ap (eqb y) (sym e)
+  | inr n ↦
+      ne_eqb x y n ∙ sym (ne_eqb y x (λ e. n (sym e)))
+]
 
 -- one place more
 pub range_more : (n : ℕ) → range_with_len 0 (n + 1) ≡ range_with_len 0 n ++ n ∷ []
@@ -60,7 +68,7 @@ module _ (P : List ℕ) (all : AreAllPlaces P) where
   place_below r l =
       All-permutation (λ p. p < length P) (range_with_len 0 (length P)) P all
       (λ k d m. let w = length-range_with_len 0 (length P) in let e = get_or-range_with_len 0 (length P) k d (omega arith) in omega arith) r
-          0 l
+      0 l
 
   pub places_differ : (i j : ℕ) → i < length P → j < length P → i ≢ j → get_or P i 0 ≢ get_or P j 0
   places_differ i j l m n = elim (cases_lt i j) [
@@ -85,7 +93,7 @@ module _ (P : List ℕ) (all : AreAllPlaces P) where
   place_taken p l =
       let w = length-range_with_len 0 (length P) in
       let h = Contains-permutation (range_with_len 0 (length P)) P p all
-          (p, omega arith, get_or-range_with_len 0 (length P) p p l ∙ omega arith) in
+      (p, omega arith, get_or-range_with_len 0 (length P) p p l ∙ omega arith) in
       (h.0, h.1, any_default P h.0 0 p h.1 ∙ h.2)
 
   -- the ranks of the first places are written
@@ -129,7 +137,7 @@ module _ {ID : Type 0} {eq : ID → ID → Bool} {cmp : ID → ID → Ordering} 
       let m : k + 1 < length (e ∷ es) = omega (arith, length-keys_of (e ∷ es)) in
       less_from _ _
       (ap is_lt (ap (cmp (get_or (keys_of (e ∷ es)) (k + 1) e.0)) (sym (key_at (e ∷ es) k e e.0 (omega arith)))
-              ∙ ap (λ x. cmp x (get_or (e ∷ es) k e).0) (sym (key_at (e ∷ es) (k + 1) e e.0 m))) ∙ sorted k e (omega arith) m)
+      ∙ ap (λ x. cmp x (get_or (e ∷ es) k e).0) (sym (key_at (e ∷ es) (k + 1) e e.0 m))) ∙ sorted k e (omega arith) m)
       (apart_from_distinct eq (keys_of (e ∷ es)) k (k + 1) e.0 distinct (omega arith) l))
 
   -- entries that are those of a list of ids in another order
@@ -145,7 +153,7 @@ module _ {ID : Type 0} {eq : ID → ID → Bool} {cmp : ID → ID → Ordering} 
     pub places_moved : AreAllPlaces (values_of es)
     places_moved =
         subst (λ vs. IsPermutation vs (values_of es)) (places ∙ ap (range_with_len 0) (sym (length-map es (λ e. e.1) ∙ length_moved)))
-            (IsPermutation-map (λ e. e.1) made es moved)
+        (IsPermutation-map (λ e. e.1) made es moved)
 
     pub tells_moved : TellsPlaces eq ids (λ x. lookup (eq x) es)
     tells_moved = record { here = here; unknown = unknown }
@@ -156,15 +164,15 @@ module _ {ID : Type 0} {eq : ID → ID → Bool} {cmp : ID → ID → Ordering} 
             let w : k < length made = omega (arith, length-keys_of made, ap length keys) in
             let id_is : get_or (keys_of made) k q ≡ q = ap (λ ks. get_or ks k q) keys ∙ any_default ids k q x l in
             let place_is : get_or (values_of made) k 0 ≡ k =
-                ap (λ vs. get_or vs k 0) places ∙ get_or-range_with_len 0 (length ids) k 0 l ∙ omega arith in
+            ap (λ vs. get_or vs k 0) places ∙ get_or-range_with_len 0 (length ids) k 0 l ∙ omega arith in
             let is : get_or made k (q, k) ≡ (q, k) =
-                entry_at made k (q, k) q 0 w ∙ ap (λ y. (y, get_or (values_of made) k 0)) id_is ∙ ap (λ (p : ℕ). (q, p)) place_is in
+            entry_at made k (q, k) q 0 w ∙ ap (λ y. (y, get_or (values_of made) k 0)) id_is ∙ ap (λ (p : ℕ). (q, p)) place_is in
             lookup_tests (eq x) (eq q) es (λ y. laws.congr x q y at)
-                ∙ lookup-from_Contains laws q k es distinct_moved (Contains-permutation made es (q, k) moved (k, w, is))
+            ∙ lookup-from_Contains laws q k es distinct_moved (Contains-permutation made es (q, k) moved (k, w, is))
 
         unknown : (x : ID) → is_member eq ids x ≡ false → lookup (eq x) es ≡ None
         unknown x m =
             none_from (lookup (eq x) es)
             (is_some-lookup (eq x) es ∙ sym
-                    (list_any-IsPermutation (eq x) (keys_of made) (keys_of es) (IsPermutation-map (λ e. e.0) made es moved))
-                    ∙ ap (list_any (eq x)) keys ∙ m)
+            (list_any-IsPermutation (eq x) (keys_of made) (keys_of es) (IsPermutation-map (λ e. e.0) made es moved))
+            ∙ ap (list_any (eq x)) keys ∙ m)

@@ -126,7 +126,7 @@ module _ {ID V P : Type 0} {cmp : P → P → Ordering} (o : IsTotalOrder cmp) (
   risen_at is_id before [] e rest a h = rw h (ap (λ xs. put_after_last cmp part e xs ++ rest) (sym (append-nil before)))
   risen_at is_id before (f ∷ fs) e rest a h =
       rw a.0 (risen_at is_id (before ++ f ∷ []) fs e rest a.1 h
-          ∙ ap (λ xs. put_after_last cmp part e xs ++ rest) (append_assoc before (f ∷ []) fs))
+      ∙ ap (λ xs. put_after_last cmp part e xs ++ rest) (append_assoc before (f ∷ []) fs))
 
   all_below : (is_id : ID → Bool) (xs ys : List (ID × V)) (d : ID × V) → ((k : ℕ) → k < length xs → is_id (get_or (xs ++ ys) k d).0 ≡ false)
       → AllByRecursion (λ f. is_id f.0 ≡ false) xs
@@ -142,11 +142,11 @@ module _ {ID V P : Type 0} {cmp : P → P → Ordering} (o : IsTotalOrder cmp) (
       let was : old ≡ (p.front ++ p.passed) ++ (p.entry ∷ p.rest) = p.was ∙ sym (append_assoc p.front p.passed (p.entry ∷ p.rest)) in
       let len : length (p.front ++ p.passed) ≡ from = length-append p.front p.passed ∙ p.was_at in
       let is_it : is_id p.entry.0 ≡ true =
-          ap (λ (e : ID × V). is_id e.0) (sym (ap (λ xs. get_or xs from d) was
-              ∙ ap (λ n. get_or ((p.front ++ p.passed) ++ (p.entry ∷ p.rest)) n d) (sym len)
-              ∙ get_at (p.front ++ p.passed) p.entry p.rest d)) ∙ h in
+      ap (λ (e : ID × V). is_id e.0) (sym (ap (λ xs. get_or xs from d) was
+      ∙ ap (λ n. get_or ((p.front ++ p.passed) ++ (p.entry ∷ p.rest)) n d) (sym len)
+      ∙ get_at (p.front ++ p.passed) p.entry p.rest d)) ∙ h in
       let is_first = all_below is_id (p.front ++ p.passed) (p.entry ∷ p.rest) d
-          (λ k l. ap (λ xs. is_id (get_or xs k d).0) (sym was) ∙ b k (omega arith)) in
+      (λ k l. ap (λ xs. is_id (get_or xs k d).0) (sym was) ∙ b k (omega arith)) in
       p.now
       ∙ sym (append_assoc p.front (p.entry ∷ p.passed) p.rest)
       ∙ ap (λ xs. xs ++ p.rest) (sym (put_moved p.entry p.front p.passed r.stops p.lesser))

@@ -1,6 +1,25 @@
 -- A map that tells the places of ids.
-use Rattle.std.specs.Prelude.{◌≡◌, ℕ, ◌+◌, ◌-◌, ◌<◌, ◌≤◌, Bool, true, false, List, [], ◌∷◌, ◌++◌, length, Option, Some, None, position,
-        slice_get}
+use Rattle.std.specs.Prelude.{
+  ◌≡◌,
+  ℕ,
+  ◌+◌,
+  ◌-◌,
+  ◌<◌,
+  ◌≤◌,
+  Bool,
+  true,
+  false,
+  List,
+  [],
+  ◌∷◌,
+  ◌++◌,
+  length,
+  Option,
+  Some,
+  None,
+  position,
+  slice_get,
+}
 use Rattle.std.specs.Cmp.{IsEquivalence}
 use Rattle.std.specs.Map.{keys_of, values_of}
 use Rattle.std.specs.List.{IsDistinct}
@@ -124,9 +143,11 @@ module _ {ID : Type 0} {eq : ID → ID → Bool} (laws : IsEquivalence eq) where
             here : (b : Bool) → ltb first k ≡ b → (j : ℕ) × (found x ≡ Some j) × (place_after first last j ≡ k)
             here true u =
                 let h = ltb-true first k u in
-                let same : k ≡ k - 1 + 1 = omega arith in
-                (k - 1, t.passed x (k - 1) (omega arith) (ap (λ n. eq x (get_or ids n x)) (sym same) ∙ at) (omega arith) (omega arith),
-                        after_passed first last (k - 1) (omega arith) (omega arith) ∙ sym same)
+                let same : k ≡ k - 1 + 1 = omega arith in (
+                  k - 1,
+                  t.passed x (k - 1) (omega arith) (ap (λ n. eq x (get_or ids n x)) (sym same) ∙ at) (omega arith) (omega arith),
+                  after_passed first last (k - 1) (omega arith) (omega arith) ∙ sym same,
+                )
             here false u =
                 let h = ltb-false first k u in
                 let same : k ≡ first = omega arith in
@@ -174,7 +195,7 @@ module _ {ID : Type 0} {eq : ID → ID → Bool} (laws : IsEquivalence eq) where
     same_before k x l =
         let m : k < length (keys_of front) = rw (length-keys_of front) l in
         ap (λ ks. get_or ks k x) new_is ∙ get_or_append_left (keys_of front) _ x k m ∙ sym (get_or_append_left (keys_of front) _ x k m)
-            ∙ ap (λ ks. get_or ks k x) (sym old_is)
+        ∙ ap (λ ks. get_or ks k x) (sym old_is)
 
     same_behind : (k : ℕ) (x : ID) → length front + length passed + 1 ≤ k → get_or New k x ≡ get_or Old k x
     same_behind k x l =
@@ -184,11 +205,11 @@ module _ {ID : Type 0} {eq : ID → ID → Bool} (laws : IsEquivalence eq) where
         let to_new : k ≡ length (keys_of front) + suc (length (keys_of passed) + j) = omega arith in
         let to_old : k ≡ length (keys_of front) + (length (keys_of passed) + suc j) = omega arith in
         ap (λ ks. get_or ks k x) new_is ∙ ap (λ n. get_or (keys_of front ++ (e.0 ∷ (keys_of passed ++ keys_of rest))) n x) to_new
-            ∙ get_or-append-add (keys_of front) (e.0 ∷ (keys_of passed ++ keys_of rest)) (suc (length (keys_of passed) + j)) x
-            ∙ get_or-append-add (keys_of passed) (keys_of rest) j x
+        ∙ get_or-append-add (keys_of front) (e.0 ∷ (keys_of passed ++ keys_of rest)) (suc (length (keys_of passed) + j)) x
+        ∙ get_or-append-add (keys_of passed) (keys_of rest) j x
         ∙ sym (ap (λ ks. get_or ks k x) old_is ∙ ap (λ n. get_or (keys_of front ++ (keys_of passed ++ (e.0 ∷ keys_of rest))) n x) to_old
-                ∙ get_or-append-add (keys_of front) (keys_of passed ++ (e.0 ∷ keys_of rest)) (length (keys_of passed) + suc j) x
-                ∙ get_or-append-add (keys_of passed) (e.0 ∷ keys_of rest) (suc j) x)
+        ∙ get_or-append-add (keys_of front) (keys_of passed ++ (e.0 ∷ keys_of rest)) (length (keys_of passed) + suc j) x
+        ∙ get_or-append-add (keys_of passed) (e.0 ∷ keys_of rest) (suc j) x)
 
     same_moved : (x : ID) → get_or New (length front) x ≡ get_or Old (length front + length passed) x
     same_moved x =
@@ -197,12 +218,12 @@ module _ {ID : Type 0} {eq : ID → ID → Bool} (laws : IsEquivalence eq) where
         let to_new : length front ≡ length (keys_of front) + 0 = omega arith in
         let to_old : length front + length passed ≡ length (keys_of front) + (length (keys_of passed) + 0) = omega arith in
         ap (λ ks. get_or ks (length front) x) new_is
-            ∙ ap (λ n. get_or (keys_of front ++ (e.0 ∷ (keys_of passed ++ keys_of rest))) n x) to_new
-            ∙ get_or-append-add (keys_of front) (e.0 ∷ (keys_of passed ++ keys_of rest)) 0 x
+        ∙ ap (λ n. get_or (keys_of front ++ (e.0 ∷ (keys_of passed ++ keys_of rest))) n x) to_new
+        ∙ get_or-append-add (keys_of front) (e.0 ∷ (keys_of passed ++ keys_of rest)) 0 x
         ∙ sym (ap (λ ks. get_or ks (length front + length passed) x) old_is
-                ∙ ap (λ n. get_or (keys_of front ++ (keys_of passed ++ (e.0 ∷ keys_of rest))) n x) to_old
-                ∙ get_or-append-add (keys_of front) (keys_of passed ++ (e.0 ∷ keys_of rest)) (length (keys_of passed) + 0) x
-                ∙ get_or-append-add (keys_of passed) (e.0 ∷ keys_of rest) 0 x)
+        ∙ ap (λ n. get_or (keys_of front ++ (keys_of passed ++ (e.0 ∷ keys_of rest))) n x) to_old
+        ∙ get_or-append-add (keys_of front) (keys_of passed ++ (e.0 ∷ keys_of rest)) (length (keys_of passed) + 0) x
+        ∙ get_or-append-add (keys_of passed) (e.0 ∷ keys_of rest) 0 x)
 
     same_passed : (k : ℕ) (x : ID) → length front ≤ k → k < length front + length passed → get_or New (k + 1) x ≡ get_or Old k x
     same_passed k x l m =
@@ -213,18 +234,18 @@ module _ {ID : Type 0} {eq : ID → ID → Bool} (laws : IsEquivalence eq) where
         let to_new : k + 1 ≡ length (keys_of front) + suc j = omega arith in
         let to_old : k ≡ length (keys_of front) + j = omega arith in
         ap (λ ks. get_or ks (k + 1) x) new_is ∙ ap (λ n. get_or (keys_of front ++ (e.0 ∷ (keys_of passed ++ keys_of rest))) n x) to_new
-            ∙ get_or-append-add (keys_of front) (e.0 ∷ (keys_of passed ++ keys_of rest)) (suc j) x
-            ∙ get_or_append_left (keys_of passed) (keys_of rest) x j near
+        ∙ get_or-append-add (keys_of front) (e.0 ∷ (keys_of passed ++ keys_of rest)) (suc j) x
+        ∙ get_or_append_left (keys_of passed) (keys_of rest) x j near
         ∙ sym (ap (λ ks. get_or ks k x) old_is ∙ ap (λ n. get_or (keys_of front ++ (keys_of passed ++ (e.0 ∷ keys_of rest))) n x) to_old
-                ∙ get_or-append-add (keys_of front) (keys_of passed ++ (e.0 ∷ keys_of rest)) j x
-                ∙ get_or_append_left (keys_of passed) (e.0 ∷ keys_of rest) x j near)
+        ∙ get_or-append-add (keys_of front) (keys_of passed ++ (e.0 ∷ keys_of rest)) j x
+        ∙ get_or_append_left (keys_of passed) (e.0 ∷ keys_of rest) x j near)
 
     pub before_move : TellsPlacesBefore eq New (length front) (length front + length passed) found
     before_move =
         let a = length-append (keys_of front) (keys_of passed ++ (e.0 ∷ keys_of rest)) in
         let b = length-append (keys_of passed) (e.0 ∷ keys_of rest) in
         let n : length Old ≡ length (keys_of front) + (length (keys_of passed) + suc (length (keys_of rest))) =
-            ap length old_is ∙ omega arith in
+        ap length old_is ∙ omega arith in
         let f = length-keys_of front in
         let p = length-keys_of passed in
         record {
@@ -240,7 +261,7 @@ module _ {ID : Type 0} {eq : ID → ID → Bool} (laws : IsEquivalence eq) where
       → TellsPlacesBefore eq (keys_of new) to from found
   before_passed {V} {P} cmp part old from new to p found t =
       let b = before_move p.front p.passed p.entry p.rest found
-          (subst (λ (es : List (ID × V)). TellsPlaces eq (keys_of es) found) p.was t) in
+      (subst (λ (es : List (ID × V)). TellsPlaces eq (keys_of es) found) p.was t) in
       subst (λ (es : List (ID × V)). TellsPlacesBefore eq (keys_of es) to from found) (sym p.now)
       (subst (λ (n : ℕ). TellsPlacesBefore eq (keys_of (p.front ++ (p.entry ∷ (p.passed ++ p.rest)))) n from found) p.now_at
       (subst (λ (n : ℕ). TellsPlacesBefore eq (keys_of (p.front ++ (p.entry ∷ (p.passed ++ p.rest)))) (length p.front) n found) p.was_at b))
@@ -250,7 +271,7 @@ module _ {ID : Type 0} {eq : ID → ID → Bool} (laws : IsEquivalence eq) where
       → TellsPlaces eq ids found → TellsPlaces eq ids' found'
   tells_alike ids ids' found found' same is t =
       subst (λ (ks : List ID). TellsPlaces eq ks found') (sym same) record
-          { here = λ x k l h. is x ∙ t.here x k l h; unknown = λ x m. is x ∙ t.unknown x m }
+      { here = λ x k l h. is x ∙ t.here x k l h; unknown = λ x m. is x ∙ t.unknown x m }
 
   -- each place that is told has a rank
   pub place_ranked : (es : List (ID × ℕ)) (ranks : List ℕ) → AreInverse (values_of es) ranks → (ids : List ID) (k : ℕ) → k < length ids

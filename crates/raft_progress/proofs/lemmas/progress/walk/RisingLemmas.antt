@@ -3,8 +3,23 @@ use Rattle.std.specs.Prelude.{◌≡◌, ℕ, ◌+◌, ◌-◌, ◌<◌, ◌≤�
 use Rattle.std.specs.declared.cmp.Ordering.{Ordering}
 use Rattle.std.specs.Ordering.{is_lt}
 use Rattle.std.specs.List.{swap}
-use Rattle.std.proofs.Common.{arith, sym, ap, refl, ◌∙◌, true≢false, get_or, set, suc, zero, append_assoc, add-one, ltb, ltb-true,
-        ltb-false}
+use Rattle.std.proofs.Common.{
+  arith,
+  sym,
+  ap,
+  refl,
+  ◌∙◌,
+  true≢false,
+  get_or,
+  set,
+  suc,
+  zero,
+  append_assoc,
+  add-one,
+  ltb,
+  ltb-true,
+  ltb-false,
+}
 use Rattle.std.specs.List.{prefix_len}
 use Rattle.std.proofs.lemmas.List.Sums.{prefix_len_passes, prefix_len_stops}
 use Rattle.std.proofs.lemmas.List.Edits.{swap_is}
@@ -42,16 +57,16 @@ swap_neighbours {X} xs f e ys =
     let ga : get_or zs (length xs) f ≡ f = get_at xs f (e ∷ ys) f in
     let gb : get_or zs (suc (length xs)) f ≡ e =
     ap (λ l. get_or l (suc (length xs)) f) (sym (assoc f e)) ∙ ap (λ n. get_or ((xs ++ f ∷ []) ++ e ∷ ys) n f) (sym (length_more xs f))
-        ∙ get_at (xs ++ f ∷ []) e ys f in
+    ∙ get_at (xs ++ f ∷ []) e ys f in
     let s1 : set zs (length xs) e ≡ xs ++ e ∷ e ∷ ys = set_at xs f e (e ∷ ys) in
     let s2 : set (xs ++ e ∷ e ∷ ys) (suc (length xs)) f ≡ xs ++ e ∷ f ∷ ys =
     ap (λ l. set l (suc (length xs)) f) (sym (assoc e e)) ∙ ap (λ n. set ((xs ++ e ∷ []) ++ e ∷ ys) n f) (sym (length_more xs e))
-        ∙ set_at (xs ++ e ∷ []) e f ys ∙ assoc e f in
+    ∙ set_at (xs ++ e ∷ []) e f ys ∙ assoc e f in
     let la : length xs < length zs = length_less xs f (e ∷ ys) in
     let lb : suc (length xs) < length zs = rw (← length_more xs f, ← assoc f e) (length_less (xs ++ f ∷ []) e ys) in
     sym (swap_is zs (length xs) (suc (length xs)) f la lb)
-        ∙ ap (λ w. set (set zs (length xs) w) (suc (length xs)) (get_or zs (length xs) f)) gb
-        ∙ ap (λ w. set (set zs (length xs) e) (suc (length xs)) w) ga ∙ ap (λ l. set l (suc (length xs)) f) s1 ∙ s2
+    ∙ ap (λ w. set (set zs (length xs) w) (suc (length xs)) (get_or zs (length xs) f)) gb
+    ∙ ap (λ w. set (set zs (length xs) e) (suc (length xs)) w) ga ∙ ap (λ l. set l (suc (length xs)) f) s1 ∙ s2
 
 pub record LastSplit {X : Type 0} (xs : List X) (n : ℕ) : Type 0 where
   pub init : List X
@@ -80,10 +95,10 @@ swap_at_cut front (b ∷ bs) n d e some l more =
     let next : n ≡ suc (length s.init) = let h = s.init_length in omega arith in
     let swapped : swap (front ++ b ∷ bs) (n - 1) n ≡ s.init ++ b ∷ s.last ∷ bs =
     ap (λ xs. swap (xs ++ b ∷ bs) (n - 1) n) s.is ∙ ap (λ xs. swap xs (n - 1) n) (append_assoc s.init (s.last ∷ []) (b ∷ bs))
-        ∙ ap (λ k. swap (s.init ++ s.last ∷ b ∷ bs) k n) (sym s.init_length)
-        ∙ ap (λ k. swap (s.init ++ s.last ∷ b ∷ bs) (length s.init) k) next ∙ swap_neighbours s.init s.last b bs in
+    ∙ ap (λ k. swap (s.init ++ s.last ∷ b ∷ bs) k n) (sym s.init_length)
+    ∙ ap (λ k. swap (s.init ++ s.last ∷ b ∷ bs) (length s.init) k) next ∙ swap_neighbours s.init s.last b bs in
     ap (λ xs. xs ++ get_or front (n - 1) d ∷ bs) front_is ∙ append_assoc s.init (b ∷ []) (get_or front (n - 1) d ∷ bs)
-        ∙ ap (λ x. s.init ++ b ∷ x ∷ bs) last_is ∙ sym swapped
+    ∙ ap (λ x. s.init ++ b ∷ x ∷ bs) last_is ∙ sym swapped
 
 pub record SplitAt {X : Type 0} (xs : List X) (n : ℕ) : Type 0 where
   pub front : List X
@@ -116,8 +131,17 @@ module _ {ID V P : Type 0} (cmp : P → P → Ordering) (part : V → P) where
   pub passed_none : (xs : List (ID × V)) (n : ℕ) → n < length xs → Passed cmp part xs n xs n
   passed_none xs n l =
       let s = split_at xs n l in
-      record { front = s.front; passed = []; entry = s.entry; rest = s.rest; was = s.is; was_at = omega (arith, s.front_length); now = s.is;
-              now_at = s.front_length; lesser = tt }
+      record {
+        front = s.front;
+        passed = [];
+        entry = s.entry;
+        rest = s.rest;
+        was = s.is;
+        was_at = omega (arith, s.front_length);
+        now = s.is;
+        now_at = s.front_length;
+        lesser = tt;
+      }
 
   module _ (old : List (ID × V)) (from : ℕ) (now : List (ID × V)) (at : ℕ) (r : Passed cmp part old from now (at + 1)) where
     here : (d : ID × V) → get_or now (at + 1) d ≡ r.entry
@@ -134,11 +158,11 @@ module _ {ID V P : Type 0} (cmp : P → P → Ordering) (part : V → P) where
     passed_more next is less =
         let s = last_split r.front at (r.now_at ∙ add-one at) in
         let now_is : now ≡ s.init ++ s.last ∷ r.entry ∷ (r.passed ++ r.rest) =
-            r.now ∙ ap (λ xs. xs ++ (r.entry ∷ (r.passed ++ r.rest))) s.is
-            ∙ append_assoc s.init (s.last ∷ []) (r.entry ∷ (r.passed ++ r.rest)) in
+        r.now ∙ ap (λ xs. xs ++ (r.entry ∷ (r.passed ++ r.rest))) s.is
+        ∙ append_assoc s.init (s.last ∷ []) (r.entry ∷ (r.passed ++ r.rest)) in
         let last_is : get_or now at s.last ≡ s.last =
-            ap (λ xs. get_or xs at s.last) now_is ∙ ap (λ n. get_or (s.init ++ s.last ∷ r.entry ∷ (r.passed ++ r.rest)) n s.last)
-            (sym s.init_length) ∙ get_at s.init s.last (r.entry ∷ (r.passed ++ r.rest)) s.last in
+        ap (λ xs. get_or xs at s.last) now_is ∙ ap (λ n. get_or (s.init ++ s.last ∷ r.entry ∷ (r.passed ++ r.rest)) n s.last)
+        (sym s.init_length) ∙ get_at s.init s.last (r.entry ∷ (r.passed ++ r.rest)) s.last in
         record {
           front = s.init;
           passed = s.last ∷ r.passed;
@@ -152,8 +176,11 @@ module _ {ID V P : Type 0} (cmp : P → P → Ordering) (part : V → P) where
               ∙ ap (λ n. swap (s.init ++ s.last ∷ r.entry ∷ (r.passed ++ r.rest)) (length s.init) n) (add-one (length s.init))
               ∙ swap_neighbours s.init s.last r.entry (r.passed ++ r.rest);
           now_at = s.init_length;
-          lesser = (ap (λ e. is_lt (cmp (part e.1) (part r.entry.1))) (sym last_is)
-                  ∙ ap (λ e. is_lt (cmp (part (get_or now at s.last).1) (part e.1))) (sym (here s.last)) ∙ less s.last, r.lesser);
+          lesser = (
+            ap (λ e. is_lt (cmp (part e.1) (part r.entry.1))) (sym last_is)
+                ∙ ap (λ e. is_lt (cmp (part (get_or now at s.last).1) (part e.1))) (sym (here s.last)) ∙ less s.last,
+            r.lesser,
+          );
         }
 
     pub rises_stop : IsTotalOrder cmp → ((d : ID × V) → is_lt (cmp (part (get_or now at d).1) (part (get_or now (at + 1) d).1)) ≡ false)
@@ -162,8 +189,8 @@ module _ {ID V P : Type 0} (cmp : P → P → Ordering) (part : V → P) where
       passes = r;
       stops = last_from_get (part r.entry.1) r.front at r.entry (r.now_at ∙ add-one at)
           (AtMost-from_not_lt o (part (get_or r.front at r.entry).1) (part r.entry.1)
-                  (ap (λ e. is_lt (cmp (part e.1) (part r.entry.1))) (sym (before r.entry))
-                  ∙ ap (λ e. is_lt (cmp (part (get_or now at r.entry).1) (part e.1))) (sym (here r.entry)) ∙ not_less r.entry));
+          (ap (λ e. is_lt (cmp (part e.1) (part r.entry.1))) (sym (before r.entry))
+          ∙ ap (λ e. is_lt (cmp (part (get_or now at r.entry).1) (part e.1))) (sym (here r.entry)) ∙ not_less r.entry));
     }
 
   pub rises_front : (old : List (ID × V)) (from : ℕ) (now : List (ID × V)) → Passed cmp part old from now 0

@@ -4,4 +4,4 @@ use Rattle.raft_progress.proofs.progress.conditions.is_falling.Goals as goal
 
 pub returns : goal.returns
 returns g c = sym (c.loop-place.invariant
-        ∙ last_falls g.P.Ord.cmp g.V.ProgressPart.part_of c.args.granted c.args.voters.now (c.loop-place.place - 1) (omega arith))
+    ∙ last_falls g.P.Ord.cmp g.V.ProgressPart.part_of c.args.granted c.args.voters.now (c.loop-place.place - 1) (omega arith))

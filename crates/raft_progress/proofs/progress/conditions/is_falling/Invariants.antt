@@ -6,4 +6,4 @@ use Rattle.raft_progress.proofs.progress.conditions.is_falling.Given as goal
 abbrev pub invariant-loop-place : goal.invariant-loop-place
 invariant-loop-place g l =
     never_rises g.P.Ord.cmp g.V.ProgressPart.part_of l.granted l.voters
-        ≡ never_rises g.P.Ord.cmp g.V.ProgressPart.part_of l.granted (drop (l.place - 1) l.voters)
+    ≡ never_rises g.P.Ord.cmp g.V.ProgressPart.part_of l.granted (drop (l.place - 1) l.voters)

@@ -30,4 +30,4 @@ returns g c =
     let es = c.args.entries.now in
     let n = length-map es (λ e. e.1) in
     ranks_all (values_of es) c.requires c.loop-rank-2.ranks.items (c.loop-rank-2.invariant.one_length ∙ sym n)
-        (λ r l. c.loop-rank-2.invariant.written r (omega arith))
+    (λ r l. c.loop-rank-2.invariant.written r (omega arith))

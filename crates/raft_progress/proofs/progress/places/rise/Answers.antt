@@ -2,8 +2,14 @@ use Rattle.std.proofs.Common.{arith, rules, refl, sym, ap, subst, set, get_or, l
 use Rattle.std.specs.Map.{values_of}
 use Rattle.std.proofs.lemmas.List.{length-map}
 use Rattle.raft_progress.specs.Inner.Places.{AreInverse, place_after}
-use Rattle.raft_progress.proofs.lemmas.progress.walk.InverseLemmas.{keys_rewritten, values_rewritten, Lifted, lifted_none, lifted_more,
-        passed_within}
+use Rattle.raft_progress.proofs.lemmas.progress.walk.InverseLemmas.{
+  keys_rewritten,
+  values_rewritten,
+  Lifted,
+  lifted_none,
+  lifted_more,
+  passed_within,
+}
 use Rattle.raft_progress.proofs.progress.places.rise.Goals as goal
 
 pub loop-place-init : goal.loop-place-init
@@ -19,26 +25,26 @@ pub offset_bounds-entries-passed : goal.offset_bounds-entries-passed
 offset_bounds-entries-passed g c =
     let P = values_of c.args.entries.now in
     let l = passed_within P c.args.ranks.now c.args.last (get_or c.args.ranks.now c.args.last 0) c.loop-place.place
-        (values_of c.loop-place.entries) c.loop-place.ranks c.loop-place.invariant.lifted (omega arith)
-        (get_or c.loop-place.ranks (c.loop-place.place - 1) 0) (omega arith) c.loop-place.invariant.up refl in
+    (values_of c.loop-place.entries) c.loop-place.ranks c.loop-place.invariant.lifted (omega arith)
+    (get_or c.loop-place.ranks (c.loop-place.place - 1) 0) (omega arith) c.loop-place.invariant.up refl in
     let b : get_or c.loop-place.ranks (c.loop-place.place - 1) 0 < length c.loop-place.entries =
-        omega (arith, length-map c.loop-place.entries (λ e. e.1)) in
+    omega (arith, length-map c.loop-place.entries (λ e. e.1)) in
     search rules
 
 pub bounds-entries-passed : goal.bounds-entries-passed
 bounds-entries-passed g c =
     let P = values_of c.args.entries.now in
     let l = passed_within P c.args.ranks.now c.args.last (get_or c.args.ranks.now c.args.last 0) c.loop-place.place
-        (values_of c.loop-place.entries) c.loop-place.ranks c.loop-place.invariant.lifted (omega arith)
-        (get_or c.loop-place.ranks (c.loop-place.place - 1) 0) (omega arith) c.loop-place.invariant.up refl in
+    (values_of c.loop-place.entries) c.loop-place.ranks c.loop-place.invariant.lifted (omega arith)
+    (get_or c.loop-place.ranks (c.loop-place.place - 1) 0) (omega arith) c.loop-place.invariant.up refl in
     omega (arith, length-map c.loop-place.entries (λ e. e.1))
 
 pub bounds-entries-passed-in-loop-place : goal.bounds-entries-passed-in-loop-place
 bounds-entries-passed-in-loop-place g c =
     let P = values_of c.args.entries.now in
     let l = passed_within P c.args.ranks.now c.args.last (get_or c.args.ranks.now c.args.last 0) c.loop-place.place
-        (values_of c.loop-place.entries) c.loop-place.ranks c.loop-place.invariant.lifted (omega arith)
-        (get_or c.loop-place.ranks (c.loop-place.place - 1) 0) (omega arith) c.loop-place.invariant.up refl in
+    (values_of c.loop-place.entries) c.loop-place.ranks c.loop-place.invariant.lifted (omega arith)
+    (get_or c.loop-place.ranks (c.loop-place.place - 1) 0) (omega arith) c.loop-place.invariant.up refl in
     omega (arith, length-map c.loop-place.entries (λ e. e.1))
 
 pub loop-place-preserved : goal.loop-place-preserved
@@ -48,7 +54,7 @@ loop-place-preserved g c =
     let risen = get_or R c.args.last 0 in
     let passed = get_or c.loop-place.ranks (c.loop-place.place - 1) 0 in
     let m = lifted_more P R c.args.last risen c.loop-place.place (values_of c.loop-place.entries) c.loop-place.ranks
-        c.loop-place.invariant.lifted (omega arith) passed (omega arith) c.loop-place.invariant.up refl in
+    c.loop-place.invariant.lifted (omega arith) passed (omega arith) c.loop-place.invariant.up refl in
     record {
       lifted = subst (λ vs. Lifted P R c.args.last risen (c.loop-place.place - 1) vs (set c.loop-place.ranks c.loop-place.place passed))
           (sym (values_rewritten c.loop-place.entries passed _ c.loop-place.place)) m;
@@ -65,13 +71,13 @@ returns-clause-shifted g c =
     let P = values_of c.args.entries.now in
     let e : c.loop-place.place ≡ c.args.first = omega arith in
     values_rewritten _ _ _ _ ∙ ap (set (values_of c.loop-place.entries) (get_or c.args.ranks.now c.args.last 0)) (sym e)
-        ∙ c.loop-place.invariant.lifted.places ∙ ap (λ n. map (place_after n c.args.last) P) e
+    ∙ c.loop-place.invariant.lifted.places ∙ ap (λ n. map (place_after n c.args.last) P) e
 
 pub returns-clause-inverse : goal.returns-clause-inverse
 returns-clause-inverse g c =
     let risen = get_or c.args.ranks.now c.args.last 0 in
     let e : c.loop-place.place ≡ c.args.first = omega arith in
     subst (λ vs. AreInverse vs (set c.loop-place.ranks c.args.first risen))
-        (sym (values_rewritten c.loop-place.entries risen _ c.args.first))
+    (sym (values_rewritten c.loop-place.entries risen _ c.args.first))
     (subst (λ (n : ℕ). AreInverse (set (values_of c.loop-place.entries) risen n) (set c.loop-place.ranks n risen)) e
-            c.loop-place.invariant.lifted.inverse)
+    c.loop-place.invariant.lifted.inverse)

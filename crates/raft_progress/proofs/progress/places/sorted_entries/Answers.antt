@@ -5,8 +5,13 @@ use Rattle.std.proofs.lemmas.Fn.{always_returns_same}
 use Rattle.std.proofs.lemmas.List.{map-append, take_all, take_more}
 use Rattle.std.proofs.lemmas.Map.Entries.{length-keys_of}
 use Rattle.raft_progress.proofs.lemmas.progress.walk.LookupLemmas.{key_at}
-use Rattle.raft_progress.proofs.lemmas.progress.walk.MadeLemmas.{ascending_from_sorted, distinct_moved, places_moved, tells_moved,
-        range_more}
+use Rattle.raft_progress.proofs.lemmas.progress.walk.MadeLemmas.{
+  ascending_from_sorted,
+  distinct_moved,
+  places_moved,
+  tells_moved,
+  range_more,
+}
 use Rattle.raft_progress.proofs.progress.places.sorted_entries.Goals as goal
 
 pub loop-place-preserved : goal.loop-place-preserved
@@ -19,12 +24,12 @@ loop-place-preserved g c =
     record {
       ids =
           ap (λ (es : List (g.row.ID.Denot × ℕ)). keys_of es) c.in_ok-push.ensures.items
-              ∙ map-append (λ (e : g.row.ID.Denot × ℕ). e.0) old ((id, place) ∷ [])
+          ∙ map-append (λ (e : g.row.ID.Denot × ℕ). e.0) old ((id, place) ∷ [])
           ∙ ap (λ ks. ks ++ id ∷ []) c.loop-place.invariant.ids ∙ ap (λ k. take place (keys_of walk) ++ k ∷ []) is
           ∙ sym (take_more (keys_of walk) place id (rw (length-keys_of walk) c.loop-place-test.true));
       places =
           ap (λ (es : List (g.row.ID.Denot × ℕ)). values_of es) c.in_ok-push.ensures.items
-              ∙ map-append (λ (e : g.row.ID.Denot × ℕ). e.1) old ((id, place) ∷ [])
+          ∙ map-append (λ (e : g.row.ID.Denot × ℕ). e.1) old ((id, place) ∷ [])
           ∙ ap (λ ps. ps ++ place ∷ []) c.loop-place.invariant.places ∙ sym (range_more place);
     }
 
@@ -37,9 +42,9 @@ returns-clause-ascending g c =
     let same : c.loop-place.place ≡ length (keys_of walk) = omega (arith, length-keys_of walk) in
     let places = c.loop-place.invariant.places ∙ ap (range_with_len 0) same in
     let distinct = distinct_moved g.met.ID.Eq.laws g.met.ID.Ord.total g.met.ID.Ord.matches_eq (keys_of walk) made es c.requires ids places
-        c.sort_unstable_by_key.ensures.permutation in
+    c.sort_unstable_by_key.ensures.permutation in
     ascending_from_sorted g.met.ID.Eq.laws g.met.ID.Ord.total g.met.ID.Ord.matches_eq es distinct
-        (c.sort_unstable_by_key.ensures.sorted (λ e. e.0) (always_returns_same _ _ _ (λ a r q k. search rules)))
+    (c.sort_unstable_by_key.ensures.sorted (λ e. e.0) (always_returns_same _ _ _ (λ a r q k. search rules)))
 
 pub returns-clause-tells : goal.returns-clause-tells
 returns-clause-tells g c =
@@ -50,7 +55,7 @@ returns-clause-tells g c =
     let same : c.loop-place.place ≡ length (keys_of walk) = omega (arith, length-keys_of walk) in
     let places = c.loop-place.invariant.places ∙ ap (range_with_len 0) same in
     tells_moved g.met.ID.Eq.laws g.met.ID.Ord.total g.met.ID.Ord.matches_eq (keys_of walk) made es c.requires ids places
-        c.sort_unstable_by_key.ensures.permutation
+    c.sort_unstable_by_key.ensures.permutation
 
 pub returns-clause-places : goal.returns-clause-places
 returns-clause-places g c =
@@ -61,4 +66,4 @@ returns-clause-places g c =
     let same : c.loop-place.place ≡ length (keys_of walk) = omega (arith, length-keys_of walk) in
     let places = c.loop-place.invariant.places ∙ ap (range_with_len 0) same in
     places_moved g.met.ID.Eq.laws g.met.ID.Ord.total g.met.ID.Ord.matches_eq (keys_of walk) made es c.requires ids places
-        c.sort_unstable_by_key.ensures.permutation
+    c.sort_unstable_by_key.ensures.permutation

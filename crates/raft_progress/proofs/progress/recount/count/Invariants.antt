@@ -6,4 +6,4 @@ use Rattle.raft_progress.proofs.progress.recount.count.Given as goal
 abbrev pub invariant-loop-entry : goal.invariant-loop-entry
 invariant-loop-entry g l =
     IsGreatest g.ID.PartialEq.eq g.P.Ord.cmp g.V.ProgressPart.part_of (g.QS.QuorumSet.has_quorum l.quorum_set) l.voters
-        (take l.entry-index l.voters) l.fn.default_part l.best
+    (take l.entry-index l.voters) l.fn.default_part l.best

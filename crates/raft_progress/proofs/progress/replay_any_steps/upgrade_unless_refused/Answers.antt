@@ -8,7 +8,7 @@ use Rattle.raft_progress.proofs.progress.replay_any_steps.upgrade_unless_refused
 pub returns-in-Some-clause-step : goal.returns-in-Some-clause-step
 returns-in-Some-clause-step g c =
     refused_upgrade g.ID.PartialEq.eq g.ID.Ord.cmp g.P.Ord.cmp g.V.ProgressPart.part_of g.V.Clone.is_clone g.QS.QuorumSet.has_quorum
-        g.QS.QuorumSet.is_voter (shown c.args.progress.now) c.args.quorum_set c.args.learners.now c.args.default c.in-Some.refusal
+    g.QS.QuorumSet.is_voter (shown c.args.progress.now) c.args.quorum_set c.args.learners.now c.args.default c.in-Some.refusal
     (c.requires.some c.in-Some.refusal c.in-Some.is)
 
 pub returns-in_ok-upgraded-in-None-clause-step : goal.returns-in_ok-upgraded-in-None-clause-step
@@ -18,9 +18,12 @@ returns-in_ok-upgraded-in-None-clause-step g c = record {
     (c.requires.none c.in-None.is).1,
     c.in_ok-upgraded-in-None.ensures.made,
     subst (λ (p : g.row.P.Denot). IsCounted g.P.Ord.cmp g.V.ProgressPart.part_of g.QS.QuorumSet.has_quorum
-            (state g.ID.PartialEq.eq (shown c.in_ok-upgraded-in-None.upgraded)) p) (sym c.granted.ensures)
+        (state g.ID.PartialEq.eq (shown c.in_ok-upgraded-in-None.upgraded)) p) (sym c.granted.ensures)
         c.in_ok-upgraded-in-None.ensures.ordered.counted,
   );
-  answered = record { refused = λ r. absurd (true≢false (sym r)); done = λ r. c.in_ok-upgraded-in-None.ensures.fold;
-          tells = c.granted.ensures };
+  answered = record {
+    refused = λ r. absurd (true≢false (sym r));
+    done = λ r. c.in_ok-upgraded-in-None.ensures.fold;
+    tells = c.granted.ensures;
+  };
 }

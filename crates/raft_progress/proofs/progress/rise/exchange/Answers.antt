@@ -16,13 +16,13 @@ returns g c =
     let new_back = set back 0 (c.swap.new.y, c.swap-2.new.y) in
     let is : new_front ++ new_back ≡ set front (place - 1) (get_or back 0 e) ++ set back 0 (get_or front (place - 1) d) =
     λ i. set front (place - 1) (c.swap.ensures.x_after i, c.swap-2.ensures.x_after i)
-        ++ set back 0 (c.swap.ensures.y_after i, c.swap-2.ensures.y_after i) in
+    ++ set back 0 (c.swap.ensures.y_after i, c.swap-2.ensures.y_after i) in
     let whole = sym c.split_at_mut-front.ensures.value ∙ c.deref_mut.ensures.value in
     let same_length = ap length whole in
     let front_length = c.split_at_mut-front.ensures.front_len in
     let cut = length-append front back in
     let swapped = is ∙ swap_at_cut front back place d e c.requires.0 front_length (omega (arith, c.requires.1))
-        ∙ ap (λ xs. swap xs (place - 1) place) whole in
+    ∙ ap (λ xs. swap xs (place - 1) place) whole in
     let length_left = length-append new_front new_back in
     let length_front = length-set front (place - 1) (c.swap.new.x, c.swap-2.new.x) in
     let length_back = length-set back 0 (c.swap.new.y, c.swap-2.new.y) in

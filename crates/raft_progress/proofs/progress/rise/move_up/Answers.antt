@@ -15,7 +15,7 @@ loop-at-init g c = record {
   passes = passed_none g.P.Ord.cmp g.V.ProgressPart.part_of c.args.walk.now.items c.args.place c.requires;
   carries = λ d.
       ap (λ (e : g.row.ID.Denot × g.row.V.Denot). g.V.ProgressPart.part_of e.1)
-          (any_default c.args.walk.now.items c.args.place d c.index.result.now c.requires ∙ sym c.index.ensures)
+      (any_default c.args.walk.now.items c.args.place d c.index.result.now c.requires ∙ sym c.index.ensures)
       ∙ sym c.part-part.ensures;
 }
 
@@ -23,20 +23,20 @@ pub loop-at-preserved : goal.loop-at-preserved
 loop-at-preserved g c =
     let e : c.loop-at.at ≡ c.loop-at.at - 1 + 1 = omega arith in
     let at_within = passed_within g.P.Ord.cmp g.V.ProgressPart.part_of c.args.walk.now.items c.args.place c.loop-at.walk.items c.loop-at.at
-        c.loop-at.invariant.passes in
+    c.loop-at.invariant.passes in
     let moved : (d : g.row.ID.Denot × g.row.V.Denot)
-        → get_or c.exchange.new.walk.items (c.loop-at.at - 1) d ≡ get_or c.loop-at.walk.items c.loop-at.at d =
+    → get_or c.exchange.new.walk.items (c.loop-at.at - 1) d ≡ get_or c.loop-at.walk.items c.loop-at.at d =
     λ d. (swapped_from_swap c.loop-at.walk.items c.exchange.new.walk.items (c.loop-at.at - 1) c.loop-at.at d (before_within _ at_within)
-            at_within c.exchange.ensures).0 in
+    at_within c.exchange.ensures).0 in
     record {
       passes =
           passed_more g.P.Ord.cmp g.V.ProgressPart.part_of c.args.walk.now.items c.args.place c.loop-at.walk.items (c.loop-at.at - 1)
           (subst (λ (n : ℕ). Passed g.P.Ord.cmp g.V.ProgressPart.part_of c.args.walk.now.items c.args.place c.loop-at.walk.items n) e
-                  c.loop-at.invariant.passes)
+          c.loop-at.invariant.passes)
           c.exchange.new.walk.items (c.exchange.ensures ∙ ap (swap c.loop-at.walk.items (c.loop-at.at - 1)) e)
           (λ d. ap (λ q. is_lt (g.P.Ord.cmp (g.V.ProgressPart.part_of (get_or c.loop-at.walk.items (c.loop-at.at - 1) d).1) q))
-                  (ap (λ (n : ℕ). g.V.ProgressPart.part_of (get_or c.loop-at.walk.items n d).1) (sym e) ∙ c.loop-at.invariant.carries d)
-                  ∙ sym (rw c.deref.ensures.value at (c.has_part_below.ensures d)) ∙ c.if-not-has_part_below.false);
+          (ap (λ (n : ℕ). g.V.ProgressPart.part_of (get_or c.loop-at.walk.items n d).1) (sym e) ∙ c.loop-at.invariant.carries d)
+          ∙ sym (rw c.deref.ensures.value at (c.has_part_below.ensures d)) ∙ c.if-not-has_part_below.false);
       carries = λ d. ap (λ (e : g.row.ID.Denot × g.row.V.Denot). g.V.ProgressPart.part_of e.1) (moved d) ∙ c.loop-at.invariant.carries d;
     }
 
@@ -46,11 +46,11 @@ returns-then-not-has_part_below g c =
     subst (λ (n : ℕ). RisesTo g.P.Ord.cmp g.V.ProgressPart.part_of c.args.walk.now.items c.args.place c.loop-at.walk.items n) (sym e)
     (rises_stop g.P.Ord.cmp g.V.ProgressPart.part_of c.args.walk.now.items c.args.place c.loop-at.walk.items (c.loop-at.at - 1)
     (subst (λ (n : ℕ). Passed g.P.Ord.cmp g.V.ProgressPart.part_of c.args.walk.now.items c.args.place c.loop-at.walk.items n) e
-            c.loop-at.invariant.passes)
+    c.loop-at.invariant.passes)
     g.met.P.Ord.total
     (λ d. ap (λ q. is_lt (g.P.Ord.cmp (g.V.ProgressPart.part_of (get_or c.loop-at.walk.items (c.loop-at.at - 1) d).1) q))
-            (ap (λ (n : ℕ). g.V.ProgressPart.part_of (get_or c.loop-at.walk.items n d).1) (sym e) ∙ c.loop-at.invariant.carries d)
-            ∙ sym (rw c.deref.ensures.value at (c.has_part_below.ensures d)) ∙ c.if-not-has_part_below.true))
+    (ap (λ (n : ℕ). g.V.ProgressPart.part_of (get_or c.loop-at.walk.items n d).1) (sym e) ∙ c.loop-at.invariant.carries d)
+    ∙ sym (rw c.deref.ensures.value at (c.has_part_below.ensures d)) ∙ c.if-not-has_part_below.true))
 
 pub returns : goal.returns
 returns g c =
@@ -58,13 +58,16 @@ returns g c =
     subst (λ (n : ℕ). RisesTo g.P.Ord.cmp g.V.ProgressPart.part_of c.args.walk.now.items c.args.place c.loop-at.walk.items n) (sym e)
     (rises_front g.P.Ord.cmp g.V.ProgressPart.part_of c.args.walk.now.items c.args.place c.loop-at.walk.items
     (subst (λ (n : ℕ). Passed g.P.Ord.cmp g.V.ProgressPart.part_of c.args.walk.now.items c.args.place c.loop-at.walk.items n) e
-            c.loop-at.invariant.passes))
+    c.loop-at.invariant.passes))
 
 pub has_part_below-requires : goal.has_part_below-requires
 has_part_below-requires g c = rw c.deref.ensures.value
     (before_within _ (passed_within g.P.Ord.cmp g.V.ProgressPart.part_of c.args.walk.now.items c.args.place c.loop-at.walk.items
-        c.loop-at.at c.loop-at.invariant.passes))
+    c.loop-at.at c.loop-at.invariant.passes))
 
 pub exchange-requires : goal.exchange-requires
-exchange-requires g c = (omega arith, passed_within g.P.Ord.cmp g.V.ProgressPart.part_of c.args.walk.now.items c.args.place
-        c.loop-at.walk.items c.loop-at.at c.loop-at.invariant.passes)
+exchange-requires g c = (
+  omega arith,
+  passed_within g.P.Ord.cmp g.V.ProgressPart.part_of c.args.walk.now.items c.args.place
+      c.loop-at.walk.items c.loop-at.at c.loop-at.invariant.passes,
+)

@@ -8,10 +8,10 @@ use Rattle.raft_progress.proofs.progress.scan.gather_leading.Goals as goal
 pub returns-then-not-is_lt-clause-count : goal.returns-then-not-is_lt-clause-count
 returns-then-not-is_lt-clause-count g c =
     prefix_ends (exceeds g.P.Ord.cmp g.V.ProgressPart.part_of c.args.least) c.args.voters.now c.loop-entry.n c.entry-item.result
-        c.entry-item.result
+    c.entry-item.result
     c.loop-entry.invariant.lead (omega arith) (rw c.loop-entry.invariant.at c.entry-item.is)
     (ap (λ q. is_lt (g.P.Ord.cmp c.args.least q)) (sym c.part.ensures) ∙ ap is_lt (sym c.cmp.ensures) ∙ sym c.is_lt.ensures
-            ∙ c.if-not-is_lt.true)
+    ∙ c.if-not-is_lt.true)
 
 pub loop-entry-preserved : goal.loop-entry-preserved
 loop-entry-preserved g c = record {
@@ -19,10 +19,10 @@ loop-entry-preserved g c = record {
   gathered = grind (arith, common_steps);
   lead =
       prefix_goes (exceeds g.P.Ord.cmp g.V.ProgressPart.part_of c.args.least) c.args.voters.now c.loop-entry.n c.entry-item.result
-          c.entry-item.result
+      c.entry-item.result
       c.loop-entry.invariant.lead (omega arith) (rw c.loop-entry.invariant.at c.entry-item.is)
       (ap (λ q. is_lt (g.P.Ord.cmp c.args.least q)) (sym c.part.ensures) ∙ ap is_lt (sym c.cmp.ensures) ∙ sym c.is_lt.ensures
-              ∙ c.if-not-is_lt.false);
+      ∙ c.if-not-is_lt.false);
 }
 
 pub returns-clause-count : goal.returns-clause-count

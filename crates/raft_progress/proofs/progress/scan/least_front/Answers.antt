@@ -1,13 +1,20 @@
 use Rattle.std.proofs.Common.{arith, sym, ◌∙◌, ◌≤◌}
-use Rattle.raft_progress.proofs.lemmas.progress.walk.FrontLemmas.{front_tested, halves_failed, halves_found, halves_missed, halves_none,
-        halves_passed, tests_fit}
+use Rattle.raft_progress.proofs.lemmas.progress.walk.FrontLemmas.{
+  front_tested,
+  halves_failed,
+  halves_found,
+  halves_missed,
+  halves_none,
+  halves_passed,
+  tests_fit,
+}
 use Rattle.raft_progress.proofs.progress.scan.least_front.Goals as goal
 
 pub test_front-requires : goal.test_front-requires
 test_front-requires g c =
     let t = tests_fit g.ID.PartialEq.eq (g.QS.QuorumSet.has_quorum c.args.quorum_set.now) c.args.voters.now c.args.low c.args.high
-        c.loop-failed.failed c.loop-failed.end c.loop-failed.left c.loop-failed.tests c.loop-failed.invariant.halves
-        c.loop-failed.invariant.fits in
+    c.loop-failed.failed c.loop-failed.end c.loop-failed.left c.loop-failed.tests c.loop-failed.invariant.halves
+    c.loop-failed.invariant.fits in
     omega arith
 
 pub loop-failed-init : goal.loop-failed-init
@@ -23,12 +30,12 @@ loop-failed-preserved-then-test_front g c =
     let a = c.saturating_add.ensures in
     let l : c.min-front.result ≤ c.args.high = let w = c.loop-failed.invariant.halves.within in omega arith in
     let tested = front_tested g.met.ID.Eq.laws (g.QS.QuorumSet.has_quorum c.args.quorum_set.now) c.args.voters.now c.requires.distinct
-        c.args.room.now c.args.high c.min-front.result l c.requires.gathered c.test_front.result c.test_front.ensures.quorum in
+    c.args.room.now c.args.high c.min-front.result l c.requires.gathered c.test_front.result c.test_front.ensures.quorum in
     record {
       halves = rw c.test_front.ensures.counted
           (halves_passed g.ID.PartialEq.eq (g.QS.QuorumSet.has_quorum c.args.quorum_set.now) c.args.voters.now c.args.low c.args.high
-              c.loop-failed.failed c.loop-failed.end c.loop-failed.left c.loop-failed.tests c.loop-failed.invariant.halves
-              c.loop-failed-test.true c.min-front.result (omega arith) (sym tested ∙ c.if-test_front.true));
+          c.loop-failed.failed c.loop-failed.end c.loop-failed.left c.loop-failed.tests c.loop-failed.invariant.halves
+          c.loop-failed-test.true c.min-front.result (omega arith) (sym tested ∙ c.if-test_front.true));
       fits = c.loop-failed.invariant.fits;
     }
 
@@ -38,13 +45,13 @@ loop-failed-preserved g c =
     let a = c.saturating_add.ensures in
     let l : c.min-front.result ≤ c.args.high = let w = c.loop-failed.invariant.halves.within in omega arith in
     let tested = front_tested g.met.ID.Eq.laws (g.QS.QuorumSet.has_quorum c.args.quorum_set.now) c.args.voters.now c.requires.distinct
-        c.args.room.now c.args.high c.min-front.result l c.requires.gathered c.test_front.result c.test_front.ensures.quorum in
+    c.args.room.now c.args.high c.min-front.result l c.requires.gathered c.test_front.result c.test_front.ensures.quorum in
     record {
       halves = rw c.test_front.ensures.counted
           (halves_failed g.ID.PartialEq.eq (g.QS.QuorumSet.has_quorum c.args.quorum_set.now) c.args.voters.now c.args.low c.args.high
-              c.loop-failed.failed c.loop-failed.end c.loop-failed.left c.loop-failed.tests c.loop-failed.invariant.halves
-              c.loop-failed-test.true c.min-front.result (omega arith) (g.met.QS.QuorumSet.superset c.args.quorum_set.now)
-              (sym tested ∙ c.if-test_front.false));
+          c.loop-failed.failed c.loop-failed.end c.loop-failed.left c.loop-failed.tests c.loop-failed.invariant.halves
+          c.loop-failed-test.true c.min-front.result (omega arith) (g.met.QS.QuorumSet.superset c.args.quorum_set.now)
+          (sym tested ∙ c.if-test_front.false));
       fits = c.loop-failed.invariant.fits;
     }
 

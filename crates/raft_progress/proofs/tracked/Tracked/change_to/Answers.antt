@@ -9,8 +9,8 @@ pub returns-clause-step : goal.returns-clause-step
 returns-clause-step g c =
     rw c.unwrap_or.ensures
     (change_or_memory g.NID.PartialEq.eq g.NID.Ord.cmp g.P.Ord.cmp g.V.ProgressPart.part_of g.V.Clone.is_clone (tracked c.args.self.now)
-            (tracked c.upgrade_to.new.cluster) c.args.membership c.args.default c.upgrade_to.result c.upgrade_to.ensures.step
-            c.upgrade_to.ensures.err)
+    (tracked c.upgrade_to.new.cluster) c.args.membership c.args.default c.upgrade_to.result c.upgrade_to.ensures.step
+    c.upgrade_to.ensures.err)
 
 pub returns-clause-ready : goal.returns-clause-ready
 returns-clause-ready g c = ready_of g.met.NID.Eq.laws g.NID.Ord.cmp g.met.P.Ord.total g.V.ProgressPart.part_of
@@ -21,9 +21,9 @@ returns-clause-granted g c = (returns-clause-ready g c).ordered.counted
 
 pub returns-clause-quorums : goal.returns-clause-quorums
 returns-clause-quorums g c = λ some. (each_quorum_knows g.met.NID.Eq.laws g.NID.Ord.cmp g.met.P.Ord.total g.V.ProgressPart.part_of
-        (tracked c.upgrade_to.new.cluster) (returns-clause-ready g c) some).0
+    (tracked c.upgrade_to.new.cluster) (returns-clause-ready g c) some).0
 
 pub returns-clause-changed_quorums : goal.returns-clause-changed_quorums
 returns-clause-changed_quorums g c = λ some.
     (each_quorum_knows g.met.NID.Eq.laws g.NID.Ord.cmp g.met.P.Ord.total g.V.ProgressPart.part_of (tracked c.upgrade_to.new.cluster)
-        (returns-clause-ready g c) some).1
+    (returns-clause-ready g c) some).1

@@ -8,16 +8,16 @@ use Rattle.raft_progress.proofs.tracked.replay_steps.answer.Goals as goal
 
 pub increase-requires : goal.increase-requires
 increase-requires g c = (ready_of g.met.NID.Eq.laws g.NID.Ord.cmp g.met.P.Ord.total g.V.ProgressPart.part_of
-        (Coded-set (coded_list (coded_list g.row.NID.coded))) (tracked c.args.cluster.now) c.args.cluster.now.ready).ordered
+    (Coded-set (coded_list (coded_list g.row.NID.coded))) (tracked c.args.cluster.now) c.args.cluster.now.ready).ordered
 
 pub invariant_of-cluster : goal.invariant_of-cluster
 invariant_of-cluster g c = record {
   ready = ∣
       ready_increased g.met.NID.Eq.laws g.NID.Ord.cmp g.met.P.Ord.total g.V.ProgressPart.part_of
-          (Coded-set (coded_list (coded_list g.row.NID.coded))) (tracked c.args.cluster.now)
-          (record { membership = c.args.cluster.now.membership; progress = shown c.increase.new.progress }) refl c.args.cluster.now.ready
-          c.increase.ensures.ordered c.in-IncreaseTo.id c.in-IncreaseTo.value c.increase.result g.V.PartialOrd.partial_cmp
-          c.increase.ensures.step.values
+      (Coded-set (coded_list (coded_list g.row.NID.coded))) (tracked c.args.cluster.now)
+      (record { membership = c.args.cluster.now.membership; progress = shown c.increase.new.progress }) refl c.args.cluster.now.ready
+      c.increase.ensures.ordered c.in-IncreaseTo.id c.in-IncreaseTo.value c.increase.result g.V.PartialOrd.partial_cmp
+      c.increase.ensures.step.values
       ∣₁;
 }
 
@@ -40,7 +40,7 @@ returns-in-IncreaseTo g c =
     record {
       values = (refl, c.increase.ensures.step.values);
       answered = answered_tracked (IsIncreasedTo g.NID.PartialEq.eq g.P.Ord.cmp g.V.ProgressPart.part_of g.V.PartialOrd.partial_cmp
-              (shown c.args.cluster.now.progress) c.in-IncreaseTo.id c.in-IncreaseTo.value) (tracked c.args.cluster.now) c.increase.result
+          (shown c.args.cluster.now.progress) c.in-IncreaseTo.id c.in-IncreaseTo.value) (tracked c.args.cluster.now) c.increase.result
           (record { membership = c.args.cluster.now.membership; progress = shown c.increase.new.progress }) refl
           c.increase.ensures.step.answered;
       ready = ready_increased g.met.NID.Eq.laws g.NID.Ord.cmp g.met.P.Ord.total g.V.ProgressPart.part_of

@@ -5,6 +5,6 @@ use Rattle.raft_progress.proofs.tracked.replay_steps.change_members.Goals as goa
 pub returns : goal.returns
 returns g c =
     change_answered g.NID.PartialEq.eq g.NID.Ord.cmp g.N.PartialEq.eq g.P.Ord.cmp g.V.ProgressPart.part_of g.V.Clone.is_clone
-        (tracked c.args.cluster.now) (tracked c.answer_change.new.cluster) c.args.change c.args.retain c.args.default
+    (tracked c.args.cluster.now) (tracked c.answer_change.new.cluster) c.args.change c.args.retain c.args.default
     c.change-made.result c.answer_change.result c.change-made.ensures.valid c.change-made.ensures.changed c.change-made.ensures.refused
-        c.answer_change.ensures.refused c.answer_change.ensures.changed
+    c.answer_change.ensures.refused c.answer_change.ensures.changed

@@ -8,6 +8,6 @@ use Rattle.raft_progress.proofs.tracked.single_steps.upgrade_to.Goals as goal
 pub upgrade_unless_below-requires-clause-some : goal.upgrade_unless_below-requires-clause-some
 upgrade_unless_below-requires-clause-some g c κs within = λ id is.
     subst (λ (ls : List g.row.NID.Denot). IsLeastBelow g.NID.PartialEq.eq g.NID.Ord.cmp g.P.Ord.cmp g.V.ProgressPart.part_of
-            (is_voter g.NID.PartialEq.eq c.in_ok-configs.configs) ls c.args.default
-            ((state g.NID.PartialEq.eq (shown c.args.cluster.now.progress)).value) id) (c.deref.ensures.value ∙ sym c.deref-2.ensures.value)
+    (is_voter g.NID.PartialEq.eq c.in_ok-configs.configs) ls c.args.default
+    ((state g.NID.PartialEq.eq (shown c.args.cluster.now.progress)).value) id) (c.deref.ensures.value ∙ sym c.deref-2.ensures.value)
     (c.in_ok-below.ensures.some id is)

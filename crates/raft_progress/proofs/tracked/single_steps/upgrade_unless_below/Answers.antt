@@ -20,7 +20,7 @@ upgrade_quorum_set-requires-clause-learners_fit g c =
 pub upgrade_quorum_set-requires-clause-ordered : goal.upgrade_quorum_set-requires-clause-ordered
 upgrade_quorum_set-requires-clause-ordered g c =
     (ready_of g.met.NID.Eq.laws g.NID.Ord.cmp g.met.P.Ord.total g.V.ProgressPart.part_of
-        (Coded-set (coded_list (coded_list g.row.NID.coded))) (tracked c.args.cluster.now) c.args.cluster.now.ready).ordered
+    (Coded-set (coded_list (coded_list g.row.NID.coded))) (tracked c.args.cluster.now) c.args.cluster.now.ready).ordered
 
 pub returns-in-Some-clause-step : goal.returns-in-Some-clause-step
 returns-in-Some-clause-step g c = record {
@@ -57,7 +57,7 @@ returns-in_ok-upgraded-in-None-clause-step g c = record {
         c.requires.none c.in-None.is,
         c.in_ok-upgraded-in-None.ensures.made,
         subst (λ (p : g.row.P.Denot). IsCounted g.P.Ord.cmp g.V.ProgressPart.part_of (has_quorum g.NID.PartialEq.eq)
-                (state g.NID.PartialEq.eq (shown c.in_ok-upgraded-in-None.upgraded)) p) (sym c.granted.ensures)
+            (state g.NID.PartialEq.eq (shown c.in_ok-upgraded-in-None.upgraded)) p) (sym c.granted.ensures)
             c.in_ok-upgraded-in-None.ensures.ordered.counted,
       ),
     ),
@@ -68,8 +68,8 @@ returns-in_ok-upgraded-in-None-clause-step g c = record {
       configs = c.args.configs;
       has_configs = c.requires.configs;
       fold = subst (λ (ls : List g.row.NID.Denot). IsUpgradeFold g.NID.PartialEq.eq g.NID.Ord.cmp g.P.Ord.cmp g.V.ProgressPart.part_of
-              g.V.Clone.is_clone (has_quorum g.NID.PartialEq.eq) (is_voter g.NID.PartialEq.eq) (shown c.args.cluster.now.progress)
-              c.args.configs ls c.args.default (shown c.in_ok-upgraded-in-None.upgraded)) c.requires.learners
+          g.V.Clone.is_clone (has_quorum g.NID.PartialEq.eq) (is_voter g.NID.PartialEq.eq) (shown c.args.cluster.now.progress)
+          c.args.configs ls c.args.default (shown c.in_ok-upgraded-in-None.upgraded)) c.requires.learners
           c.in_ok-upgraded-in-None.ensures.fold;
     };
     tells = c.granted.ensures;
@@ -80,9 +80,9 @@ pub invariant_of-cluster : goal.invariant_of-cluster
 invariant_of-cluster g c = record {
   ready = ∣
       ready_upgraded g.NID.PartialEq.eq g.NID.Ord.cmp g.P.Ord.cmp g.V.ProgressPart.part_of c.args.next c.args.configs c.args.learners.now
-          c.requires.voters c.requires.configs c.requires.are_learners g.V.Clone.is_clone c.args.default
-          ((state g.NID.PartialEq.eq (shown c.args.cluster.now.progress)).value) (shown c.in_ok-upgraded-in-None.upgraded)
-          c.in_ok-upgraded-in-None.ensures.ordered
+      c.requires.voters c.requires.configs c.requires.are_learners g.V.Clone.is_clone c.args.default
+      ((state g.NID.PartialEq.eq (shown c.args.cluster.now.progress)).value) (shown c.in_ok-upgraded-in-None.upgraded)
+      c.in_ok-upgraded-in-None.ensures.ordered
       c.in_ok-upgraded-in-None.ensures.made
       ∣₁;
 }

@@ -11,7 +11,7 @@ returns-clause-shifted g c x =
     let fs = c.rise.new.entries in
     let same_keys = c.rise.ensures.ids ∙ ap (λ (es : List (g.row.ID.Denot × ℕ)). keys_of es) c.deref_mut.ensures.value in
     let values = c.rise.ensures.shifted ∙ ap (λ (es : List (g.row.ID.Denot × ℕ)). map (place_after c.args.first c.args.last) (values_of es))
-        c.deref_mut.ensures.value in
+    c.deref_mut.ensures.value in
     ap (lookup (g.ID.PartialEq.eq x)) (lent_whole es fs c.args.self.now.entries.len c.args.self.now.entries.ok.0
-            (sym (length-keys_of fs) ∙ ap length same_keys ∙ length-keys_of es))
+    (sym (length-keys_of fs) ∙ ap length same_keys ∙ length-keys_of es))
     ∙ lookup_renumbered (place_after c.args.first c.args.last) (g.ID.PartialEq.eq x) es fs same_keys values

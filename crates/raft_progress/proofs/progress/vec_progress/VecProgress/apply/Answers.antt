@@ -11,8 +11,8 @@ pub apply_at-requires : goal.apply_at-requires
 apply_at-requires g c =
     let p = c.args.self.now in
     let found : c.get-found.result ≡ position (λ (e : g.row.ID.Denot × g.row.V.Denot). g.ID.PartialEq.eq c.args.id.now e.0) p.walk.items =
-        c.get-found.ensures ∙ place_is g.met.ID.Eq.laws p.walk.items (place_in g.ID.PartialEq.eq p.places.entries.items)
-        (p.agree c.if-self.false) c.args.id.now in
+    c.get-found.ensures ∙ place_is g.met.ID.Eq.laws p.walk.items (place_in g.ID.PartialEq.eq p.places.entries.items)
+    (p.agree c.if-self.false) c.args.id.now in
     record {
       within = rw found (search rules);
       ordered = c.requires.ordered;
@@ -25,8 +25,8 @@ pub returns : goal.returns
 returns g c =
     let p = c.args.self.now in
     let found : c.get-found.result ≡ position (λ (e : g.row.ID.Denot × g.row.V.Denot). g.ID.PartialEq.eq c.args.id.now e.0) p.walk.items =
-        c.get-found.ensures ∙ place_is g.met.ID.Eq.laws p.walk.items (place_in g.ID.PartialEq.eq p.places.entries.items)
-        (p.agree c.if-self.false) c.args.id.now in
+    c.get-found.ensures ∙ place_is g.met.ID.Eq.laws p.walk.items (place_in g.ID.PartialEq.eq p.places.entries.items)
+    (p.agree c.if-self.false) c.args.id.now in
     record {
       updated = c.apply_at.ensures.updated c.args.id.now found;
       ordered = c.apply_at.ensures.ordered c.args.id.now found;

@@ -27,7 +27,7 @@ pub settle-requires-clause-distinct : goal.settle-requires-clause-distinct
 settle-requires-clause-distinct g c =
     let h = c.write_at-before.ensures in
     subst (IsDistinct g.ID.PartialEq.eq) (sym (ap keys_of h.4 ∙ keys_written c.args.self.now.walk.items c.in-Some.place h.0 h.1 h.2))
-        c.requires.ordered.distinct
+    c.requires.ordered.distinct
 
 pub returns-in-Some-clause-updated : goal.returns-in-Some-clause-updated
 returns-in-Some-clause-updated g c = λ id found.
@@ -35,12 +35,12 @@ returns-in-Some-clause-updated g c = λ id found.
     let before = was g.met.ID.Eq.laws c.args.self.now.walk.items id c.in-Some.place h.0 (sym found ∙ c.in-Some.is) h.2 in
     let is = wrote g.met.ID.Eq.laws c.args.self.now.walk.items id c.in-Some.place h.0 (sym found ∙ c.in-Some.is) h.2 h.1 in
     let here : h.0 ≡ get_or c.args.self.now.walk.items c.in-Some.place h.0 =
-        sym (get_or_from_slice_get c.args.self.now.walk.items c.in-Some.place h.0 h.0 h.2) in
+    sym (get_or_from_slice_get c.args.self.now.walk.items c.in-Some.place h.0 h.0 h.2) in
     let fits : c.args.self.now.stat.is_quorum_count < 2 ^ 64 = omega arith in
     let oc = outcome g.met.ID.Eq.laws g.met.P.Ord.total g.V.ProgressPart.part_of g.QS.QuorumSet.has_quorum g.met.QS.QuorumSet.superset _
-        (shown c.settle.new.self) c.args.self.now.walk.items c.requires.ordered id c.in-Some.place h.0 (sym found ∙ c.in-Some.is) here h.1
-        (c.requires.not_lower c.in-Some.place h.0 h.1 c.in-Some.is h.2 h.3) h.4 before (h.4 ∙ is) c.write_at-before.result.0 h.5 fits
-        c.settle.ensures.put in
+    (shown c.settle.new.self) c.args.self.now.walk.items c.requires.ordered id c.in-Some.place h.0 (sym found ∙ c.in-Some.is) here h.1
+    (c.requires.not_lower c.in-Some.place h.0 h.1 c.in-Some.is h.2 h.3) h.4 before (h.4 ∙ is) c.write_at-before.result.0 h.5 fits
+    c.settle.ensures.put in
     record {
       counts = oc.updates ∙ c.saturating_add-self.ensures;
       same_voter_count = oc.voter_count;
@@ -51,9 +51,16 @@ returns-in-Some-clause-updated g c = λ id found.
             rw (← same) h.3,
             oc.written,
             subst (λ (v : g.row.V.Denot). IsSettled g.ID.PartialEq.eq g.P.Ord.cmp g.V.ProgressPart.part_of (shown c.args.self.now) id v h.1
-                    (shown c.settle.new.self)) same
-                record { rises = oc.rises; stays = oc.stays; tests = oc.tests; counts_tests = oc.counts_tests; few_tests = oc.few_tests;
-                        tested_to_rise = oc.tested_to_rise; not_tested = oc.not_tested },
+                (shown c.settle.new.self)) same
+                record {
+                  rises = oc.rises;
+                  stays = oc.stays;
+                  tests = oc.tests;
+                  counts_tests = oc.counts_tests;
+                  few_tests = oc.few_tests;
+                  tested_to_rise = oc.tested_to_rise;
+                  not_tested = oc.not_tested;
+                },
           );
       unknown = λ e. absurd (no_value _ _ e before);
     }
@@ -64,12 +71,12 @@ returns-in-Some-clause-ordered g c = λ id found.
     let before = was g.met.ID.Eq.laws c.args.self.now.walk.items id c.in-Some.place h.0 (sym found ∙ c.in-Some.is) h.2 in
     let is = wrote g.met.ID.Eq.laws c.args.self.now.walk.items id c.in-Some.place h.0 (sym found ∙ c.in-Some.is) h.2 h.1 in
     let here : h.0 ≡ get_or c.args.self.now.walk.items c.in-Some.place h.0 =
-        sym (get_or_from_slice_get c.args.self.now.walk.items c.in-Some.place h.0 h.0 h.2) in
+    sym (get_or_from_slice_get c.args.self.now.walk.items c.in-Some.place h.0 h.0 h.2) in
     let fits : c.args.self.now.stat.is_quorum_count < 2 ^ 64 = omega arith in
     let oc = outcome g.met.ID.Eq.laws g.met.P.Ord.total g.V.ProgressPart.part_of g.QS.QuorumSet.has_quorum g.met.QS.QuorumSet.superset _
-        (shown c.settle.new.self) c.args.self.now.walk.items c.requires.ordered id c.in-Some.place h.0 (sym found ∙ c.in-Some.is) here h.1
-        (c.requires.not_lower c.in-Some.place h.0 h.1 c.in-Some.is h.2 h.3) h.4 before (h.4 ∙ is) c.write_at-before.result.0 h.5 fits
-        c.settle.ensures.put in
+    (shown c.settle.new.self) c.args.self.now.walk.items c.requires.ordered id c.in-Some.place h.0 (sym found ∙ c.in-Some.is) here h.1
+    (c.requires.not_lower c.in-Some.place h.0 h.1 c.in-Some.is h.2 h.3) h.4 before (h.4 ∙ is) c.write_at-before.result.0 h.5 fits
+    c.settle.ensures.put in
     oc.ordered
 
 pub returns-in-None-clause-updated : goal.returns-in-None-clause-updated

@@ -7,5 +7,5 @@ use Rattle.raft_progress.proofs.progress.vec_progress.VecProgress.least_of.Given
 abbrev pub invariant-loop-entry : goal.invariant-loop-entry
 invariant-loop-entry g l =
     IsLeastPassing g.ID.Ord.cmp (λ x. among g.ID.PartialEq.eq l.voters l.learners x
-            && is_value_below g.P.Ord.cmp g.V.ProgressPart.part_of l.part (lookup (g.ID.PartialEq.eq x) l.self.walk.items))
-        (take l.entry-index l.self.walk.items) l.least
+    && is_value_below g.P.Ord.cmp g.V.ProgressPart.part_of l.part (lookup (g.ID.PartialEq.eq x) l.self.walk.items))
+    (take l.entry-index l.self.walk.items) l.least

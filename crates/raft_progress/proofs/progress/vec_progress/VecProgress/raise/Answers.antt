@@ -6,8 +6,10 @@ use Rattle.raft_progress.specs.Inner.Rises.{RisesTo}
 use Rattle.raft_progress.specs.progress.VecProgress.{shown}
 use Rattle.raft_progress.proofs.lemmas.progress.walk.PlacesLemmas.{before_passed, passed_length, passed_nothing, place_ranked, tells_after}
 use Rattle.raft_progress.proofs.progress.vec_progress.VecProgress.raise.Goals as goal
-use Rattle.raft_progress.proofs.progress.vec_progress.VecProgress.raise.Goals.{else-to-place-via-then-to-place+else-not-self,
-        else-to-place-via-else-to-place}
+use Rattle.raft_progress.proofs.progress.vec_progress.VecProgress.raise.Goals.{
+  else-to-place-via-then-to-place+else-not-self,
+  else-to-place-via-else-to-place,
+}
 
 pub rise-requires : goal.rise-requires
 rise-requires g c =
@@ -32,14 +34,14 @@ invariant_of-self g c =
       agree = λ fresh.
           tells_after g.met.ID.Eq.laws (keys_of new) c.move_up-to.result c.args.place (omega arith) old
           (before_passed g.met.ID.Eq.laws g.P.Ord.cmp g.V.ProgressPart.part_of c.args.self.now.walk.items c.args.place new
-                  c.move_up-to.result p old (c.args.self.now.agree fresh))
+          c.move_up-to.result p old (c.args.self.now.agree fresh))
           (place_in g.ID.PartialEq.eq c.rise.new.self.entries.items) c.rise.ensures.shifted;
     }
 
 pub invariant_of-self-else-to-place : goal.invariant_of-self-else-to-place
 invariant_of-self-else-to-place g c =
     let same = passed_nothing g.P.Ord.cmp g.V.ProgressPart.part_of c.args.self.now.walk.items c.args.place c.move_up-to.new.walk.items
-        c.move_up-to.result c.move_up-to.ensures.passes c.if-to-place.false in
+    c.move_up-to.result c.move_up-to.ensures.passes c.if-to-place.false in
     record {
       voters_fit = subst (λ n. c.args.self.now.voter_count ≤ n) (sym (ap length same)) c.args.self.now.voters_fit;
       room_fits = c.args.self.now.room_fits;
@@ -49,18 +51,24 @@ invariant_of-self-else-to-place g c =
 pub returns-else-to-place-clause-risen : goal.returns-else-to-place-clause-risen
 returns-else-to-place-clause-risen g c =
     let same : shown c.else-to-place.self
-        ≡ record (shown c.args.self.now) { walk = c.move_up-to.new.walk.items;
-            stat = record c.args.self.now.stat { move_count = c.saturating_add-self.result } } =
+    ≡ record (shown c.args.self.now) {
+      walk = c.move_up-to.new.walk.items;
+      stat = record c.args.self.now.stat { move_count = c.saturating_add-self.result };
+    } =
     elim c.else-to-place.branch [
       | else-to-place-via-then-to-place+else-not-self w ↦ ap (λ p. shown p) w.self-is
       | else-to-place-via-else-to-place w ↦ ap (λ p. shown p) w.self-is
     ] in
     record {
-      group = record { quorum_set = ap (λ p. p.quorum_set) same; voter_count = ap (λ p. p.voter_count) same;
-              default_part = ap (λ p. p.default_part) same; updates = ap (λ p. p.stat.update_count) same };
+      group = record {
+        quorum_set = ap (λ p. p.quorum_set) same;
+        voter_count = ap (λ p. p.voter_count) same;
+        default_part = ap (λ p. p.default_part) same;
+        updates = ap (λ p. p.stat.update_count) same;
+      };
       granted = ap (λ p. p.granted) same;
       tests = ap (λ p. p.stat.is_quorum_count) same;
       moves = ap (λ p. p.stat.move_count) same ∙ c.saturating_add-self.ensures;
       rises = subst (λ (es : List (g.row.ID.Denot × g.row.V.Denot)). RisesTo g.P.Ord.cmp g.V.ProgressPart.part_of c.args.self.now.walk.items
-              c.args.place es c.move_up-to.result) (sym (ap (λ p. p.walk) same)) c.move_up-to.ensures;
+          c.args.place es c.move_up-to.result) (sym (ap (λ p. p.walk) same)) c.move_up-to.ensures;
     }

@@ -8,24 +8,26 @@ use Rattle.raft_progress.proofs.lemmas.progress.SettledLemmas.{get_take}
 use Rattle.raft_progress.proofs.lemmas.progress.walk.ShortFrontLemmas.{lead_ends, length_take_le, not_scanned, scanned_from}
 use Rattle.raft_progress.proofs.lemmas.progress.UpdateLemmas.{IsDistinct-voters}
 use Rattle.raft_progress.proofs.progress.vec_progress.VecProgress.scan.Goals as goal
-use Rattle.raft_progress.proofs.progress.vec_progress.VecProgress.scan.Goals.{else-short-self-via-then-short-self+else-is_below,
-        else-short-self-via-else-short-self}
+use Rattle.raft_progress.proofs.progress.vec_progress.VecProgress.scan.Goals.{
+  else-short-self-via-then-short-self+else-is_below,
+  else-short-self-via-else-short-self,
+}
 
 pub returns-then-is_below-clause-scanned : goal.returns-then-is_below-clause-scanned
 returns-then-is_below-clause-scanned g c =
     let p = c.args.self.now in
     let short_is : c.max-short.result ≡ max (c.least_quorum_size-least.result - 1) c.args.place =
-        rw (c.max-short.ensures, c.saturating_sub.ensures) refl in
+    rw (c.max-short.ensures, c.saturating_sub.ensures) refl in
     scanned_from g.met.ID.Eq.laws g.P.Ord.cmp g.V.ProgressPart.part_of g.QS.QuorumSet.has_quorum (shown p)
-        (IsDistinct-voters g.met.ID.Eq.laws p.voter_count p.walk.items c.requires.distinct) c.least_quorum_size-least.result
-        c.least_quorum_size-least.ensures.least c.args.place c.max-short.result short_is (shown c.test_fronts.new.self)
-        c.test_fronts.ensures.scanned
+    (IsDistinct-voters g.met.ID.Eq.laws p.voter_count p.walk.items c.requires.distinct) c.least_quorum_size-least.result
+    c.least_quorum_size-least.ensures.least c.args.place c.max-short.result short_is (shown c.test_fronts.new.self)
+    c.test_fronts.ensures.scanned
 
 pub returns-else-short-self-clause-scanned : goal.returns-else-short-self-clause-scanned
 returns-else-short-self-clause-scanned g c =
     let p = c.args.self.now in
     let short_is : c.max-short.result ≡ max (c.least_quorum_size-least.result - 1) c.args.place =
-        rw (c.max-short.ensures, c.saturating_sub.ensures) refl in
+    rw (c.max-short.ensures, c.saturating_sub.ensures) refl in
     let fits : p.stat.is_quorum_count < 2 ^ 64 = omega arith in
     let over = exceeds g.P.Ord.cmp g.V.ProgressPart.part_of p.granted in
     let ends : prefix_len over (take p.voter_count p.walk.items) ≤ c.max-short.result =
@@ -35,7 +37,7 @@ returns-else-short-self-clause-scanned g c =
           let within = w.if-short-self.true in
           let fails : is_lt (g.P.Ord.cmp p.granted (g.V.ProgressPart.part_of e.1)) ≡ false = cc in
           lead_ends over (take p.voter_count p.walk.items) c.max-short.result e
-              (ap over (get_take p.walk.items p.voter_count c.max-short.result e within ∙ sym w.index.ensures) ∙ fails)
+          (ap over (get_take p.walk.items p.voter_count c.max-short.result e within ∙ sym w.index.ensures) ∙ fails)
       | else-short-self-via-else-short-self w ↦
           let past = w.if-short-self.false in
           omega (arith, prefix_len-le-length over (take p.voter_count p.walk.items), length_take_le p.walk.items p.voter_count)
@@ -46,5 +48,5 @@ returns-else-short-self-clause-scanned g c =
       | else-short-self-via-else-short-self w ↦ ap (λ p. shown p) w.self-is
     ] in
     rw same (not_scanned g.met.ID.Eq.laws g.P.Ord.cmp g.V.ProgressPart.part_of g.QS.QuorumSet.has_quorum (shown p)
-            (IsDistinct-voters g.met.ID.Eq.laws p.voter_count p.walk.items c.requires.distinct) c.least_quorum_size-least.result
-            c.least_quorum_size-least.ensures.least c.args.place c.max-short.result short_is ends fits)
+    (IsDistinct-voters g.met.ID.Eq.laws p.voter_count p.walk.items c.requires.distinct) c.least_quorum_size-least.result
+    c.least_quorum_size-least.ensures.least c.args.place c.max-short.result short_is ends fits)

@@ -11,7 +11,7 @@ use Rattle.raft_progress.proofs.progress.vec_progress.VecProgress.test_fronts.Go
 pub least_front-found-requires-clause-within : goal.least_front-found-requires-clause-within
 least_front-found-requires-clause-within g c =
     let h = prefix_len-le-length (exceeds g.P.Ord.cmp g.V.ProgressPart.part_of c.args.self.now.granted)
-        (take c.args.self.now.voter_count c.deref.result.now) in
+    (take c.args.self.now.voter_count c.deref.result.now) in
     rw c.gather_leading-high.ensures.count h
 
 pub least_front-found-requires-clause-distinct : goal.least_front-found-requires-clause-distinct
@@ -23,7 +23,7 @@ index-requires g c =
     let far = c.least_front-found.ensures.within c.in-Some.front c.in-Some.is in
     let near = c.least_front-found.ensures.above c.in-Some.front c.in-Some.is in
     let top = prefix_len-le-length (exceeds g.P.Ord.cmp g.V.ProgressPart.part_of c.args.self.now.granted)
-        (take c.args.self.now.voter_count c.deref.result.now) in
+    (take c.args.self.now.voter_count c.deref.result.now) in
     let h = c.gather_leading-high.ensures.count in
     let f = c.args.self.now.voters_fit in
     let t = length-take c.args.self.now.voter_count c.deref.result.now in
@@ -39,9 +39,9 @@ returns-in-Some-clause-scanned g c = record {
   found = c.least_front-found.result.front;
   tests = c.least_front-found.result.tests;
   scanned = rw (← c.deref.ensures.value) (subst
-          (λ (n : ℕ). IsLeastFront g.ID.PartialEq.eq (g.QS.QuorumSet.has_quorum c.args.self.now.quorum_set)
-          (take c.args.self.now.voter_count c.deref.result.now) c.args.place n c.least_front-found.result.front
-          c.least_front-found.result.tests) c.gather_leading-high.ensures.count c.least_front-found.ensures);
+      (λ (n : ℕ). IsLeastFront g.ID.PartialEq.eq (g.QS.QuorumSet.has_quorum c.args.self.now.quorum_set)
+      (take c.args.self.now.voter_count c.deref.result.now) c.args.place n c.least_front-found.result.front
+      c.least_front-found.result.tests) c.gather_leading-high.ensures.count c.least_front-found.ensures);
   counts = c.saturating_add-self.ensures;
   stays = λ e. cc;
   rises = λ k e.
@@ -49,7 +49,7 @@ returns-in-Some-clause-scanned g c = record {
       let far = c.least_front-found.ensures.within c.in-Some.front c.in-Some.is in
       let near = c.least_front-found.ensures.above c.in-Some.front c.in-Some.is in
       let top = prefix_len-le-length (exceeds g.P.Ord.cmp g.V.ProgressPart.part_of c.args.self.now.granted)
-          (take c.args.self.now.voter_count c.deref.result.now) in
+      (take c.args.self.now.voter_count c.deref.result.now) in
       let h = c.gather_leading-high.ensures.count in
       let t = length_take_le c.deref.result.now c.args.self.now.voter_count in (
         c.index.result.now,
@@ -67,9 +67,9 @@ returns-in_default-clause-scanned g c = record {
   found = c.least_front-found.result.front;
   tests = c.least_front-found.result.tests;
   scanned = rw (← c.deref.ensures.value) (subst
-          (λ (n : ℕ). IsLeastFront g.ID.PartialEq.eq (g.QS.QuorumSet.has_quorum c.args.self.now.quorum_set)
-          (take c.args.self.now.voter_count c.deref.result.now) c.args.place n c.least_front-found.result.front
-          c.least_front-found.result.tests) c.gather_leading-high.ensures.count c.least_front-found.ensures);
+      (λ (n : ℕ). IsLeastFront g.ID.PartialEq.eq (g.QS.QuorumSet.has_quorum c.args.self.now.quorum_set)
+      (take c.args.self.now.voter_count c.deref.result.now) c.args.place n c.least_front-found.result.front
+      c.least_front-found.result.tests) c.gather_leading-high.ensures.count c.least_front-found.ensures);
   counts = c.saturating_add-self.ensures;
   stays = λ e. refl;
   rises = λ k e. cc;

@@ -15,8 +15,8 @@ returns-in-Some g c =
         (λ w. (
           ap (λ (es : List (g.row.ID.Denot × g.row.V.Denot)). record (shown c.args.self.now) { walk = es })
               (ap (λ (e : g.row.ID.Denot × g.row.V.Denot). set c.args.self.now.walk.items c.in-Some.place (e.0, w)) is
-                      ∙ set_found (g.ID.PartialEq.eq c.args.id.now) c.args.self.now.walk.items c.in-Some.place c.index_mut-entry.result.now
-                      w at),
+              ∙ set_found (g.ID.PartialEq.eq c.args.id.now) c.args.self.now.walk.items c.in-Some.place c.index_mut-entry.result.now
+              w at),
           refl,
         )),
         (refl, refl),
@@ -25,22 +25,25 @@ returns-in-Some g c =
         writes_back = tt;
         value = ap (λ (e : g.row.ID.Denot × g.row.V.Denot). Some e.1) is
             ∙ sym (lookup_found (g.ID.PartialEq.eq c.args.id.now) c.args.self.now.walk.items c.in-Some.place c.index_mut-entry.result.now
-                at);
+            at);
       },
     )
 
 pub returns-in-None : goal.returns-in-None
 returns-in-None g c = (
   (refl, (λ w. tt), (refl, refl)),
-  record { writes_back = tt; value = sym (lookup_absent (g.ID.PartialEq.eq c.args.id.now) c.args.self.now.walk.items
-          (sym c.in-None.ensures)) },
+  record {
+    writes_back = tt;
+    value = sym (lookup_absent (g.ID.PartialEq.eq c.args.id.now) c.args.self.now.walk.items
+        (sym c.in-None.ensures));
+  },
 )
 
 pub invariant_of-self-lent : goal.invariant_of-self-lent
 invariant_of-self-lent g c = λ w.
     let is = c.index_mut-entry.ensures.value in
     let same = ap (λ (e : g.row.ID.Denot × g.row.V.Denot). keys_of (set c.args.self.now.walk.items c.in-Some.place (e.0, w))) is
-        ∙ keys_rewritten c.args.self.now.walk.items c.in-Some.place c.index_mut-entry.result.now w in (
+    ∙ keys_rewritten c.args.self.now.walk.items c.in-Some.place c.index_mut-entry.result.now w in (
       subst (λ n. c.args.self.now.voter_count ≤ n)
           (sym (length-set c.args.self.now.walk.items c.in-Some.place (c.index_mut-entry.result.now.0, w))) c.args.self.now.voters_fit,
       (c.args.self.now.room_fits, ((λ fresh. rw same (c.args.self.now.agree fresh)), tt)),

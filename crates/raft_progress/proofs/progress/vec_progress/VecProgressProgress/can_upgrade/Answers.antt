@@ -19,7 +19,7 @@ pub returns : goal.returns
 returns g c = (
   (λ e. c.in_ok-least.ensures.none (none_from_test _ _ c.is_none.ensures e)),
   (λ can. test_from_not_some _ _ c.is_none.ensures
-          (λ id e. below_refuses g.ID.PartialEq.eq g.ID.Ord.cmp g.met.P.Ord.total g.V.ProgressPart.part_of
-          (g.QS.QuorumSet.is_voter c.args.quorum_set.now) c.args.learners.now c.args.default.now
-          ((state g.ID.PartialEq.eq (shown c.args.self.now)).value) id (c.in_ok-least.ensures.some id e) can)),
+      (λ id e. below_refuses g.ID.PartialEq.eq g.ID.Ord.cmp g.met.P.Ord.total g.V.ProgressPart.part_of
+      (g.QS.QuorumSet.is_voter c.args.quorum_set.now) c.args.learners.now c.args.default.now
+      ((state g.ID.PartialEq.eq (shown c.args.self.now)).value) id (c.in_ok-least.ensures.some id e) can)),
 )

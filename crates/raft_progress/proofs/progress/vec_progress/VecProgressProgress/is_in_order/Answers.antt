@@ -6,8 +6,17 @@ use Rattle.raft_progress.specs.Inner.Recount.{IsGreatest, at_least}
 use Rattle.raft_progress.specs.Inner.Conditions.{ids_differ, never_rises}
 use Rattle.raft_progress.specs.progress.Walk.{state_of}
 use Rattle.raft_progress.proofs.lemmas.progress.recount.CountedAfreshLemmas.{IsCounted-from_greatest}
-use Rattle.raft_progress.proofs.lemmas.progress.InOrderLemmas.{counted_once, counted_tied, distinct_from_test, equal_from_test,
-        falling_from_test, lowest_from_test, test_from_distinct, test_from_falling, test_from_lowest}
+use Rattle.raft_progress.proofs.lemmas.progress.InOrderLemmas.{
+  counted_once,
+  counted_tied,
+  distinct_from_test,
+  equal_from_test,
+  falling_from_test,
+  lowest_from_test,
+  test_from_distinct,
+  test_from_falling,
+  test_from_lowest,
+}
 use Rattle.raft_progress.proofs.lemmas.progress.UpdateLemmas.{IsDistinct-voters}
 use Rattle.raft_progress.proofs.progress.vec_progress.VecProgressProgress.is_in_order.Goals as goal
 
@@ -45,29 +54,29 @@ returns-clause-answer g c =
     let falls = never_rises g.P.Ord.cmp g.V.ProgressPart.part_of c.args.self.now.granted voters in
     let low = list_all (at_least g.P.Ord.cmp g.V.ProgressPart.part_of c.args.self.now.default_part) voters in
     let d : IsDistinct g.ID.PartialEq.eq (keys_of walk) =
-        distinct_from_test g.met.ID.Eq.laws walk (first_so ids falls (first_so (ids && falls) low all)) in
+    distinct_from_test g.met.ID.Eq.laws walk (first_so ids falls (first_so (ids && falls) low all)) in
     let s = state_of g.ID.PartialEq.eq c.args.self.now.quorum_set walk c.args.self.now.voter_count c.args.self.now.default_part in
     let k =
     IsCounted-from_greatest g.met.ID.Eq.laws g.met.P.Ord.total g.V.ProgressPart.part_of g.QS.QuorumSet.has_quorum c.args.self.now.quorum_set
-        walk c.args.self.now.voter_count c.args.self.now.default_part d c.count-counted.result
+    walk c.args.self.now.voter_count c.args.self.now.default_part d c.count-counted.result
     (subst (λ (es : List (g.row.ID.Denot × g.row.V.Denot)). IsGreatest g.ID.PartialEq.eq g.P.Ord.cmp g.V.ProgressPart.part_of
-            (g.QS.QuorumSet.has_quorum c.args.self.now.quorum_set) (take c.args.self.now.voter_count es)
-            (take c.args.self.now.voter_count es) c.args.self.now.default_part c.count-counted.result) c.deref.ensures.value
-            c.count-counted.ensures) in (
+    (g.QS.QuorumSet.has_quorum c.args.self.now.quorum_set) (take c.args.self.now.voter_count es)
+    (take c.args.self.now.voter_count es) c.args.self.now.default_part c.count-counted.result) c.deref.ensures.value
+    c.count-counted.ensures) in (
       (λ e. record {
         distinct = d;
         falling = falling_from_test g.met.P.Ord.total g.V.ProgressPart.part_of c.args.self.now.granted voters
             (second_so ids falls (first_so (ids && falls) low all));
         not_below =
             lowest_from_test g.met.ID.Eq.laws g.met.P.Ord.total g.V.ProgressPart.part_of g.QS.QuorumSet.has_quorum
-                c.args.self.now.quorum_set walk c.args.self.now.voter_count c.args.self.now.default_part d
+            c.args.self.now.quorum_set walk c.args.self.now.voter_count c.args.self.now.default_part d
             (second_so (ids && falls) low all);
         counted = counted_tied g.met.P.Ord.total g.V.ProgressPart.part_of g.QS.QuorumSet.has_quorum s c.count-counted.result
             c.args.self.now.granted k (equal_from_test _ (ap is_eq (sym c.cmp.ensures) ∙ sym c.is_eq.ensures ∙ e));
       }),
       (λ r. c.is_eq.ensures ∙ ap is_eq (c.cmp.ensures
-              ∙ counted_once g.met.P.Ord.total g.V.ProgressPart.part_of g.QS.QuorumSet.has_quorum s c.count-counted.result
-              c.args.self.now.granted k r.counted)),
+          ∙ counted_once g.met.P.Ord.total g.V.ProgressPart.part_of g.QS.QuorumSet.has_quorum s c.count-counted.result
+          c.args.self.now.granted k r.counted)),
     )
 
 -- only the room has changed

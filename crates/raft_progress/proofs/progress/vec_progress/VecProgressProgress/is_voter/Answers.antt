@@ -7,7 +7,7 @@ pub returns-in-Some : goal.returns-in-Some
 returns-in-Some g c =
     let v = value_place g.ID.PartialEq.eq c.args.id.now 0 c.in-Some.place c.args.self.now.walk.items (sym c.in-Some.ensures) in
     rw v.1 (ap Some (sym (member_place g.ID.PartialEq.eq c.args.id.now c.args.self.now.voter_count c.in-Some.place
-            c.args.self.now.walk.items (sym c.in-Some.ensures))))
+    c.args.self.now.walk.items (sym c.in-Some.ensures))))
 
 pub returns-in-None : goal.returns-in-None
 returns-in-None g c = rw (lookup_absent (g.ID.PartialEq.eq c.args.id.now) c.args.self.now.walk.items (sym c.in-None.ensures)) refl
