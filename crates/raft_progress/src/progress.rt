@@ -2,11 +2,11 @@
 //! quorum of the voters has reached.
 
 mod conditions;
+mod move_up;
 mod part;
 mod places;
 mod recount;
 mod replay_any_steps;
-mod rise;
 mod scan;
 mod stat;
 mod steps;

@@ -77,14 +77,14 @@ impl<ID: Copy + Ord> Places<ID> {
     /// Writes the places that an entry's move from `last` up to `first` has changed. No memory is
     /// taken.
     #[inline(always)]
-    pub(crate) fn rise(&mut self, first: usize, last: usize)
+    pub(crate) fn record_move(&mut self, first: usize, last: usize)
         requires ascending { first ≤ last }
         requires within { last < length self.old.ranks.items }
         ensures shifted { (x : ID) → place_in ID.eq self.new.entries.items x ≡
             option_map (place_after first last) (place_in ID.eq self.old.entries.items x) }
         ensures one_length { length self.new.ranks.items ≡ length self.old.ranks.items }
     {
-        rise(&mut self.entries, &mut self.ranks, first, last);
+        shift_between(&mut self.entries, &mut self.ranks, first, last);
     }
 }
 
@@ -130,7 +130,12 @@ fn ranks_of<ID: Copy + Ord>(
 /// Moves the entry at `last` up to `first`, so that each entry between is one place further down.
 // Both lists are given as slices, so that where they stand is not read anew in each step.
 #[inline(always)]
-fn rise<ID: Copy + Ord>(entries: &mut [(ID, usize)], ranks: &mut [usize], first: usize, last: usize)
+fn shift_between<ID: Copy + Ord>(
+    entries: &mut [(ID, usize)],
+    ranks: &mut [usize],
+    first: usize,
+    last: usize,
+)
     requires ascending { first ≤ last }
     requires within { last < length ranks.old }
     requires inverse { AreInverse (values_of entries.old) ranks.old }

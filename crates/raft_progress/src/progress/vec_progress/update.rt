@@ -15,8 +15,8 @@ ghost use Rattle.raft_progress.specs.progress.Updated.{IsUpdated, NeverFalls};
 ghost use Rattle.raft_progress.specs.progress.VecProgress.{is_stale, shown};
 
 use super::VecProgress;
+use crate::progress::move_up::move_up;
 use crate::progress::part::{ProgressPart, is_at_most, is_below};
-use crate::progress::rise::move_up;
 use crate::progress::scan::{gather_leading, least_front};
 use crate::progress::walk::write_at;
 use raft_members::quorum::QuorumSet;
@@ -43,6 +43,8 @@ impl<
     }
 
     /// Changes the value of an id by `f`, recounts granted, and answers whether the id is known.
+    // Each way to find the place has its own call of `apply_at`, the search in a cold function: by
+    // `self.apply_at(self.index(id), f)` an update takes 5 to 11 instructions more.
     #[inline(always)]
     pub(super) fn apply<F: FnOnce(&mut V)>(&mut self, id: &ID, f: F) -> bool
         requires ordered { IsInOrder ID.eq P.cmp V.part_of QS.has_quorum (shown self.old) }
@@ -147,7 +149,7 @@ impl<
         self.stat.move_count = self.stat.move_count.saturating_add(1);
         let to = move_up(&mut self.walk, place);
         if to < place && !self.stale {
-            self.places.rise(to, place);
+            self.places.record_move(to, place);
         }
         to
     }

@@ -11,8 +11,8 @@ use Rattle.raft_progress.proofs.progress.vec_progress.VecProgress.raise.Goals.{
   else-to-place-via-else-to-place,
 }
 
-pub rise-requires : goal.rise-requires
-rise-requires g c =
+pub record_move-requires : goal.record_move-requires
+record_move-requires g c =
     let f = c.args.self.now.voters_fit in
     let l = c.requires in
     record {
@@ -35,7 +35,7 @@ invariant_of-self g c =
           tells_after g.met.ID.Eq.laws (keys_of new) c.move_up-to.result c.args.place (omega arith) old
           (before_passed g.met.ID.Eq.laws g.P.Ord.cmp g.V.ProgressPart.part_of c.args.self.now.walk.items c.args.place new
           c.move_up-to.result p old (c.args.self.now.agree fresh))
-          (place_in g.ID.PartialEq.eq c.rise.new.self.entries.items) c.rise.ensures.shifted;
+          (place_in g.ID.PartialEq.eq c.record_move.new.self.entries.items) c.record_move.ensures.shifted;
     }
 
 pub invariant_of-self-else-to-place : goal.invariant_of-self-else-to-place

@@ -1,6 +1,6 @@
 use Rattle.std.proofs.Common.{◌≡◌, get_or}
 use Rattle.raft_progress.specs.Inner.Rises.{Passed}
-use Rattle.raft_progress.proofs.progress.rise.move_up.Given as goal
+use Rattle.raft_progress.proofs.progress.move_up.move_up.Given as goal
 
 -- the entry has passed those down to its place, and the part is still its part
 abbrev pub invariant-loop-at : goal.invariant-loop-at

@@ -4,7 +4,7 @@ use Rattle.std.proofs.lemmas.List.Edits.{swapped_from_swap}
 use Rattle.raft_progress.specs.Inner.Rises.{Passed, RisesTo}
 use Rattle.raft_progress.proofs.lemmas.progress.walk.PlacesLemmas.{any_default}
 use Rattle.raft_progress.proofs.lemmas.progress.walk.RisingLemmas.{passed_none, passed_more, passed_within, rises_stop, rises_front}
-use Rattle.raft_progress.proofs.progress.rise.move_up.Goals as goal
+use Rattle.raft_progress.proofs.progress.move_up.move_up.Goals as goal
 
 -- the place before a place in a list is in it too
 before_within : {n : ℕ} (m : ℕ) → n < m → n - 1 < m
@@ -25,15 +25,16 @@ loop-at-preserved g c =
     let at_within = passed_within g.P.Ord.cmp g.V.ProgressPart.part_of c.args.walk.now.items c.args.place c.loop-at.walk.items c.loop-at.at
     c.loop-at.invariant.passes in
     let moved : (d : g.row.ID.Denot × g.row.V.Denot)
-    → get_or c.exchange.new.walk.items (c.loop-at.at - 1) d ≡ get_or c.loop-at.walk.items c.loop-at.at d =
-    λ d. (swapped_from_swap c.loop-at.walk.items c.exchange.new.walk.items (c.loop-at.at - 1) c.loop-at.at d (before_within _ at_within)
-    at_within c.exchange.ensures).0 in
+    → get_or c.swap_with_previous.new.walk.items (c.loop-at.at - 1) d ≡ get_or c.loop-at.walk.items c.loop-at.at d =
+    λ d. (swapped_from_swap c.loop-at.walk.items c.swap_with_previous.new.walk.items (c.loop-at.at - 1) c.loop-at.at d
+    (before_within _ at_within)
+    at_within c.swap_with_previous.ensures).0 in
     record {
       passes =
           passed_more g.P.Ord.cmp g.V.ProgressPart.part_of c.args.walk.now.items c.args.place c.loop-at.walk.items (c.loop-at.at - 1)
           (subst (λ (n : ℕ). Passed g.P.Ord.cmp g.V.ProgressPart.part_of c.args.walk.now.items c.args.place c.loop-at.walk.items n) e
           c.loop-at.invariant.passes)
-          c.exchange.new.walk.items (c.exchange.ensures ∙ ap (swap c.loop-at.walk.items (c.loop-at.at - 1)) e)
+          c.swap_with_previous.new.walk.items (c.swap_with_previous.ensures ∙ ap (swap c.loop-at.walk.items (c.loop-at.at - 1)) e)
           (λ d. ap (λ q. is_lt (g.P.Ord.cmp (g.V.ProgressPart.part_of (get_or c.loop-at.walk.items (c.loop-at.at - 1) d).1) q))
           (ap (λ (n : ℕ). g.V.ProgressPart.part_of (get_or c.loop-at.walk.items n d).1) (sym e) ∙ c.loop-at.invariant.carries d)
           ∙ sym (rw c.deref.ensures.value at (c.has_part_below.ensures d)) ∙ c.if-not-has_part_below.false);
@@ -65,8 +66,8 @@ has_part_below-requires g c = rw c.deref.ensures.value
     (before_within _ (passed_within g.P.Ord.cmp g.V.ProgressPart.part_of c.args.walk.now.items c.args.place c.loop-at.walk.items
     c.loop-at.at c.loop-at.invariant.passes))
 
-pub exchange-requires : goal.exchange-requires
-exchange-requires g c = (
+pub swap_with_previous-requires : goal.swap_with_previous-requires
+swap_with_previous-requires g c = (
   omega arith,
   passed_within g.P.Ord.cmp g.V.ProgressPart.part_of c.args.walk.now.items c.args.place
       c.loop-at.walk.items c.loop-at.at c.loop-at.invariant.passes,

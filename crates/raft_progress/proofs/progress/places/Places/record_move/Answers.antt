@@ -3,14 +3,15 @@ use Rattle.std.specs.Map.{lookup, keys_of, values_of}
 use Rattle.std.proofs.lemmas.Map.Entries.{length-keys_of}
 use Rattle.raft_progress.specs.Inner.Places.{place_after}
 use Rattle.raft_progress.proofs.lemmas.progress.walk.InverseLemmas.{lent_whole, lookup_renumbered}
-use Rattle.raft_progress.proofs.progress.places.Places.rise.Goals as goal
+use Rattle.raft_progress.proofs.progress.places.Places.record_move.Goals as goal
 
 pub returns-clause-shifted : goal.returns-clause-shifted
 returns-clause-shifted g c x =
     let es = c.args.self.now.entries.items in
-    let fs = c.rise.new.entries in
-    let same_keys = c.rise.ensures.ids ∙ ap (λ (es : List (g.row.ID.Denot × ℕ)). keys_of es) c.deref_mut.ensures.value in
-    let values = c.rise.ensures.shifted ∙ ap (λ (es : List (g.row.ID.Denot × ℕ)). map (place_after c.args.first c.args.last) (values_of es))
+    let fs = c.shift_between.new.entries in
+    let same_keys = c.shift_between.ensures.ids ∙ ap (λ (es : List (g.row.ID.Denot × ℕ)). keys_of es) c.deref_mut.ensures.value in
+    let values = c.shift_between.ensures.shifted
+    ∙ ap (λ (es : List (g.row.ID.Denot × ℕ)). map (place_after c.args.first c.args.last) (values_of es))
     c.deref_mut.ensures.value in
     ap (lookup (g.ID.PartialEq.eq x)) (lent_whole es fs c.args.self.now.entries.len c.args.self.now.entries.ok.0
     (sym (length-keys_of fs) ∙ ap length same_keys ∙ length-keys_of es))

@@ -10,7 +10,7 @@ use Rattle.raft_progress.proofs.lemmas.progress.walk.InverseLemmas.{
   lifted_more,
   passed_within,
 }
-use Rattle.raft_progress.proofs.progress.places.rise.Goals as goal
+use Rattle.raft_progress.proofs.progress.places.shift_between.Goals as goal
 
 pub loop-place-init : goal.loop-place-init
 loop-place-init g c = record {

@@ -23,7 +23,7 @@ fn has_part_below<ID: Copy, V: ProgressPart<P>, P: Copy + Ord>(
 
 /// Exchanges the entry at a place with the one before it.
 // Id and value apart: to swap whole entries is to copy one of them aside and back.
-fn exchange<ID: Copy, V>(walk: &mut Vec<(ID, V)>, place: usize)
+fn swap_with_previous<ID: Copy, V>(walk: &mut Vec<(ID, V)>, place: usize)
     requires { (0 < place) × (place < length walk.old.items) }
     ensures { walk.new.items ≡ swap walk.old.items (place - 1) place }
 {
@@ -48,7 +48,7 @@ pub(crate) fn move_up<ID: Copy, V: ProgressPart<P>, P: Copy + Ord>(
         if !has_part_below(walk, at - 1, part) {
             return at;
         }
-        exchange(walk, at);
+        swap_with_previous(walk, at);
         at -= 1;
     }
     at
