@@ -1,3 +1,3 @@
--- Catching up a follower that replies honestly.
+-- Catching up a follower that responds honestly.
 pub mod CatchUp
 pub mod HonestRun

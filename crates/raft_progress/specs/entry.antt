@@ -1,5 +1,5 @@
--- What a leader keeps of a follower, and what replies and sends make of it.
+-- What a leader keeps of a follower, and what responses and sends make of it.
 pub mod EntryTable
 pub mod EntryValid
 pub mod Send
-pub mod LateReply
+pub mod LateResponse

@@ -1,4 +1,4 @@
-//! Catching up a follower that replies honestly: sends until it has all.
+//! Catching up a follower that responds honestly: sends until it has all.
 ghost use Rattle.std.specs.Prelude.{◌≡◌, ◌+◌, ◌-◌, ◌*◌, ◌/◌, ◌^◌, ◌<◌, ◌≤◌, ℕ, nat_lt, IsTrue, Some, None, if◌then◌else◌};
 ghost use Rattle.raft_base.specs.LogId.{id_le, next_index};
 ghost use Rattle.raft_base.specs.Logged.{Logged};
@@ -49,11 +49,11 @@ pub fn can_catch_up_entry<C: Ord + Copy, L: LogStateReader<C>>(
         && log_id_at_most(entry.matching, log.prev_log_id(matched.max(purged)))
 }
 
-/// Sends to a follower whose log agrees with this one below an index, and takes its replies, until
-/// nothing is left to send. Answers how many conflicts came, and how many acks.
+/// Sends to a follower whose log agrees with this one below an index, and takes its responses,
+/// until nothing is left to send. Answers how many conflicts came, and how many acks.
 ///
-/// The follower replies honestly: with a conflict where it does not agree before the logs that were
-/// sent, else with an ack of them all. At the end it has all. Conflicts are at most the binary
+/// The follower responds honestly: with a conflict where it does not agree before the logs that
+/// were sent, else with an ack of them all. At the end it has all. Conflicts are at most the binary
 /// digits of a sixteenth of the stretch from the match to the end of the search, acks at most what
 /// is left of the log by `max_entries`, rounded up.
 pub fn catch_up_entry<C: Ord + Copy, L: LogStateReader<C>>(
@@ -79,15 +79,15 @@ pub fn catch_up_entry<C: Ord + Copy, L: LogStateReader<C>>(
     let mut acks = 0;
     'turns: loop {
         match take_turn(log, entry, &mut agreed, max_entries) {
-            Turn::Ended => return (conflicts, acks),
-            Turn::Refused => conflicts += 1,
-            Turn::Acked => acks += 1,
+            TurnOutcome::Ended => return (conflicts, acks),
+            TurnOutcome::Refused => conflicts += 1,
+            TurnOutcome::Acked => acks += 1,
         }
     }
 }
 
-/// What one turn came to.
-enum Turn {
+/// What a turn has come to.
+enum TurnOutcome {
     /// Nothing was sent.
     Ended,
     /// A conflict came.
@@ -96,13 +96,13 @@ enum Turn {
     Acked,
 }
 
-/// One send and its reply.
+/// One send and its response.
 fn take_turn<C: Ord + Copy, L: LogStateReader<C>>(
     log: &L,
     entry: &mut ProgressEntryOf<C>,
     agree: &mut u64,
     max_entries: u64,
-) -> Turn
+) -> TurnOutcome
     requires logged { Logged C.cmp (L.log_view log.now) }
     requires ready { IsBetweenTurns C.eq C.cmp (L.log_view log.now) max_entries entry.old
         agree.old }
@@ -111,23 +111,23 @@ fn take_turn<C: Ord + Copy, L: LogStateReader<C>>(
         entry.old agree.old result entry.new agree.new }
 {
     if entry.next_send(log, max_entries).is_err() {
-        return Turn::Ended;
+        return TurnOutcome::Ended;
     }
     match entry.inflight {
         InflightOf::Logs { id, log_id_range } => {
-            if reply(entry, id, log_id_range, agree) {
-                Turn::Acked
+            if take_response(entry, id, log_id_range, agree) {
+                TurnOutcome::Acked
             } else {
-                Turn::Refused
+                TurnOutcome::Refused
             }
         }
-        InflightOf::None => Turn::Ended,
-        InflightOf::Snapshot { .. } => Turn::Ended,
+        InflightOf::None => TurnOutcome::Ended,
+        InflightOf::Snapshot { .. } => TurnOutcome::Ended,
     }
 }
 
-/// Takes the honest reply to logs, and answers whether it is an ack.
-fn reply<C: Ord + Copy>(
+/// Takes the honest response to logs, and answers whether it is an ack.
+fn take_response<C: Ord + Copy>(
     entry: &mut ProgressEntryOf<C>,
     id: u64,
     range: LogIdRangeOf<C>,

@@ -3,7 +3,7 @@ ghost use Rattle.std.specs.Prelude.{◌≡◌, ◌^◌, ◌<◌, ◌≤◌, nat_
 ghost use Rattle.raft_base.specs.LogId.{id_le, next_index};
 ghost use Rattle.raft_base.specs.Validate.{first_false};
 ghost use Rattle.raft_progress.specs.entry.EntryTable.{entry_after_conflict, entry_after_ack};
-ghost use Rattle.raft_progress.specs.entry.LateReply.{RefusesRepliesTo};
+ghost use Rattle.raft_progress.specs.entry.LateResponse.{RefusesResponsesTo};
 ghost use Rattle.raft_progress.specs.entry.EntryValid.{entry_relations};
 ghost use Rattle.raft_progress.specs.entry.Send.{IsSent, calc_mid, can_be_sent, send_table};
 ghost use Rattle.raft_progress.specs.inflight.Inflight.{is_after_prev, is_idle};
@@ -126,8 +126,8 @@ impl<C: Ord + Copy> ProgressEntryOf<C> {
         }
     }
 
-    /// Takes the reply that the follower has all up to a log id: it matches up to it, and the entry
-    /// is valid then, whatever it was before. The match is never lowered.
+    /// Takes the response that the follower has all up to a log id: it matches up to it, and the
+    /// entry is valid then, whatever it was before. The match is never lowered.
     #[inline(always)]
     pub fn update_matching(
         &mut self,
@@ -154,9 +154,9 @@ impl<C: Ord + Copy> ProgressEntryOf<C> {
         Ok(())
     }
 
-    /// Takes the reply that the follower does not match at an index: the search ends there.
+    /// Takes the response that the follower does not match at an index: the search ends there.
     ///
-    /// The reply to a heartbeat has no request id, and what is in flight stays.
+    /// The response to a heartbeat has no request id, and what is in flight stays.
     pub fn update_conflicting(
         &mut self,
         request_id: Option<u64>,
@@ -181,16 +181,16 @@ impl<C: Ord + Copy> ProgressEntryOf<C> {
 
     /// Takes what is in flight as lost: nothing is in flight, and `next_send` sends again.
     ///
-    /// Of a request that was lost, or whose reply was, no reply ends what is in flight, and each
-    /// `next_send` answers `Err`. So a leader calls this where a reply stays out for too long.
-    /// A late reply is refused by its id: nothing is in flight, and what is sent next takes a
-    /// greater one.
+    /// Of a request that was lost, or whose response was, no response ends what is in flight, and
+    /// each `next_send` answers `Err`. So a leader calls this where a response stays out for too
+    /// long. A late response is refused by its id: nothing is in flight, and what is sent next
+    /// takes a greater one.
     pub fn give_up(&mut self)
         ensures idle { self.new ≡ record self.old { inflight = Idle } }
-        ensures refuses_late { (id : ℕ) → RefusesRepliesTo C.cmp self.new id }
+        ensures refuses_late { (id : ℕ) → RefusesResponsesTo C.cmp self.new id }
         ensures refuses_older { (log : LogView C) (max_entries : ℕ) (sent : ProgressEntryOf C) →
             send_table C.cmp self.new log max_entries ≡ Ok sent →
-            (id : ℕ) → id ≤ self.old.curr_inflight_id → RefusesRepliesTo C.cmp sent id }
+            (id : ℕ) → id ≤ self.old.curr_inflight_id → RefusesResponsesTo C.cmp sent id }
     {
         self.inflight = InflightOf::None;
     }
@@ -213,10 +213,10 @@ impl<C: Ord + Copy> ProgressEntryOf<C> {
 
     /// Puts in flight what is sent next, if anything is: logs up to so many entries, or a snapshot.
     ///
-    /// Logs start half of the way from the match to the end of the search, so that each reply tells
-    /// much of where they part; close to it they start at the match. Where the logs that a probe
-    /// needs are purged, it is a snapshot. `Err` has what is in flight already, or nothing where
-    /// there is no log to send. `Ok` has nothing in flight where the log's ids do not rise.
+    /// Logs start half of the way from the match to the end of the search, so that each response
+    /// tells much of where they part; close to it they start at the match. Where the logs that a
+    /// probe needs are purged, it is a snapshot. `Err` has what is in flight already, or nothing
+    /// where there is no log to send. `Ok` has nothing in flight where the log's ids do not rise.
     #[inline(always)]
     pub fn next_send<L: LogStateReader<C>>(
         &mut self,

@@ -1,4 +1,4 @@
-//! What is in flight to a follower, and what its replies make of it.
+//! What is in flight to a follower, and what its responses make of it.
 ghost use Rattle.std.specs.Prelude.{◌≡◌, ◌↔◌, ℕ, ◌&&◌, Some, Ok, IsSome, IsTrue};
 ghost use Rattle.std.specs.Result.{result_err};
 ghost use Rattle.raft_base.specs.LogId.{id_le, index_of};
@@ -31,7 +31,8 @@ pub enum RequestId {
     },
 }
 
-/// Why a follower's reply is refused. They are asked in this order, as far as they concern a call.
+/// Why a follower's response is refused. They are asked in this order, as far as they concern a
+/// call.
 #[derive(Debug, Clone, Copy, PartialEq, Eq, Error)]
 pub enum InflightError {
     /// Nothing is in flight, or another request.
@@ -39,7 +40,7 @@ pub enum InflightError {
     InvalidRequestId {
         /// The request in flight.
         mine: Option<u64>,
-        /// The request that was replied to.
+        /// The request that was responded to.
         received: u64,
     },
     /// An ack of logs is not between the ends of what is in flight, by order or by index.
@@ -65,7 +66,7 @@ pub enum InflightError {
     IndexTooLarge,
 }
 
-/// What is in flight to a follower: it was sent, and its reply has not come.
+/// What is in flight to a follower: it was sent, and its response has not come.
 #[derive(Debug, Clone, Copy, PartialEq, Eq)]
 pub enum InflightOf<C> {
     /// Nothing.
@@ -136,7 +137,7 @@ impl<C: Ord + Copy> InflightOf<C> {
         }
     }
 
-    /// Refuses the reply to another request than the one in flight.
+    /// Refuses the response to another request than the one in flight.
     pub fn assert_my_id(&self, request_id: u64) -> Result<(), InflightError>
         ensures { result_err result ≡ wrong_id self.now request_id }
     {
@@ -191,7 +192,8 @@ impl<C: Ord + Copy> InflightOf<C> {
         matches!(self, InflightOf::Snapshot { .. })
     }
 
-    /// Takes the reply that the follower has all up to a log id. The logs after it stay in flight.
+    /// Takes the response that the follower has all up to a log id. The logs after it stay in
+    /// flight.
     pub fn ack(&mut self, request_id: u64, upto: Option<LogIdOf<C>>) -> Result<(), InflightError>
         ensures { FollowsTable (inflight_after_ack C.cmp self.old request_id upto) self.old result
             self.new }
@@ -247,8 +249,8 @@ impl<C: Ord + Copy> InflightOf<C> {
         *self = InflightOf::None;
     }
 
-    /// Takes the reply that the follower does not have the log before those in flight, which stands
-    /// at an index. Nothing stays in flight.
+    /// Takes the response that the follower does not have the log before those in flight, which
+    /// stands at an index. Nothing stays in flight.
     pub fn conflict(&mut self, request_id: u64, conflict: u64) -> Result<(), InflightError>
         ensures { FollowsTable (inflight_after_conflict self.old request_id conflict) self.old
             result self.new }

@@ -50,7 +50,7 @@ pub fn quorums_know_granted<NID: NodeId, N: Node, V: ProgressPart<P>, P: Copy + 
 /// voters has reached it.
 ///
 /// So an index is committed exactly where a quorum matches up to it; a vote is won exactly where a
-/// quorum has voted; since a moment a quorum has been heard exactly where one has replied since.
+/// quorum has voted; since a moment a quorum has been heard exactly where one has responded since.
 pub fn granted_is_threshold<ID: Copy + Ord, V: ProgressPart<P>, P: Copy + Ord, QS: QuorumSet<ID>>()
     ensures { GrantedIsThreshold ID V P QS ID.eq P.cmp V.part_of QS.has_quorum }
 {}

@@ -17,14 +17,14 @@ pub enum SearchEvent<'a, L> {
         /// How many entries a request has at most.
         max_entries: u64,
     },
-    /// The follower replies that it does not have the log before those in flight.
+    /// The follower responds that it does not have the log before those in flight.
     Conflict {
-        /// The request that it replies to.
+        /// The request that it responds to.
         request_id: u64,
         /// The index of the log that it does not have.
         conflict: u64,
     },
-    /// The follower replies to a heartbeat that it does not match at an index.
+    /// The follower responds to a heartbeat that it does not match at an index.
     Heartbeat {
         /// The index.
         conflict: u64,
@@ -35,7 +35,7 @@ pub enum SearchEvent<'a, L> {
 ///
 /// The match stays, and the end of the search never grows nor passes it. A send is skipped where
 /// `can_send` is false, and where its purge point is before that of an
-/// earlier send that was not skipped. A reply that is refused changes nothing. Each probe halves
+/// earlier send that was not skipped. A response that is refused changes nothing. Each probe halves
 /// the stretch that is left, so the accepted conflicts are few: at most the binary digits of the
 /// stretch from the match to the end of the search, and at most those of a sixteenth of it, or one
 /// more where a send that was not skipped had its purge point past the match.

@@ -1,3 +1,3 @@
 pub mod AckLemmas
 pub mod EntryLemmas
-pub mod LateReplyLemmas
+pub mod LateResponseLemmas

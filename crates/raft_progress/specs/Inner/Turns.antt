@@ -6,8 +6,8 @@ use Rattle.raft_base.specs.LogView.{LogView, prev_id}
 use Rattle.raft_progress.specs.catch_up.CatchUp.{MatchesAll}
 use Rattle.raft_progress.specs.catch_up.HonestRun.{turn}
 use Rattle.raft_progress.specs.inflight.Inflight.{is_idle}
-use Rattle.raft_progress.specs.declared.catch_up.Turn.{Turn}
-use Rattle.raft_progress.specs.declared.catch_up.Turn.TheVariants.{Ended, Refused, Acked}
+use Rattle.raft_progress.specs.declared.catch_up.TurnOutcome.{TurnOutcome}
+use Rattle.raft_progress.specs.declared.catch_up.TurnOutcome.TheVariants.{Ended, Refused, Acked}
 use Rattle.raft_progress.specs.declared.entry.ProgressEntryOf.{ProgressEntryOf}
 
 -- where a run may begin, and stands between its turns
@@ -30,7 +30,7 @@ pub record IsBetweenTurns {C : Type 0} (eq : C → C → Bool) (cmp : C → C �
 module _ {C : Type 0} (eq : C → C → Bool) (cmp : C → C → Ordering) (log : LogView C) (n : ℕ) where
   -- a turn, whatever the counts before it: nothing was sent and all is matched, or one more
   -- conflict or ack came
-  abbrev pub TurnDone : ProgressEntryOf C → ℕ → Turn → ProgressEntryOf C → ℕ → Type 0
+  abbrev pub TurnDone : ProgressEntryOf C → ℕ → TurnOutcome → ProgressEntryOf C → ℕ → Type 0
   TurnDone entry agree Ended new after =
       ((c k : ℕ) → turn cmp log n (record { entry = entry; agree = agree; conflicts = c; acks = k })
       ≡ None) × (new ≡ entry) × (after ≡ agree) × MatchesAll eq log entry

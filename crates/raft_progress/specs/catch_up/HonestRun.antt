@@ -1,5 +1,5 @@
 -- An honest run: sends to a follower whose log agrees with the leader's below an
--- index, each with its honest reply.
+-- index, each with its honest response.
 use Rattle.std.specs.Prelude.{◌≡◌, ℕ, zero, suc, ◌+◌, ◌-◌, max, nat_lt, Option, Some, None, Result, Ok, Err, if◌then◌else◌}
 use Rattle.std.specs.declared.cmp.Ordering.{Ordering}
 use Rattle.raft_base.specs.LogId.{next_index}
@@ -7,7 +7,7 @@ use Rattle.raft_base.specs.LogView.{LogView}
 use Rattle.raft_base.specs.declared.log_id.log_id_range.LogIdRangeOf.{LogIdRangeOf}
 use Rattle.raft_progress.specs.entry.EntryTable.{entry_after_conflict, entry_after_ack}
 use Rattle.raft_progress.specs.entry.Send.{send_table}
-use Rattle.raft_progress.specs.search.Search.{after_reply}
+use Rattle.raft_progress.specs.search.Search.{after_response}
 use Rattle.raft_progress.specs.declared.entry.ProgressEntryOf.{ProgressEntryOf}
 use Rattle.raft_progress.specs.declared.inflight.InflightOf.{InflightOf}
 use Rattle.raft_progress.specs.declared.inflight.InflightOf.TheVariants.{None as Idle, Logs, Snapshot}
@@ -19,39 +19,39 @@ pub record HonestRun (C : Type 0) : Type 0 where
   pub conflicts : ℕ
   pub acks : ℕ
 
--- the reply to logs: a conflict at the log before them where the follower does not
+-- the response to logs: a conflict at the log before them where the follower does not
 -- agree there, else an ack of them all
 abbrev pub run_after_logs : {C : Type 0} → (C → C → Ordering) → HonestRun C → ProgressEntryOf C → ℕ
     → LogIdRangeOf C → HonestRun C
 run_after_logs cmp run entry id range =
     if nat_lt run.agree (next_index range.prev)
     then record {
-      entry = after_reply entry (entry_after_conflict entry (Some id) (next_index range.prev - 1));
+      entry = after_response entry (entry_after_conflict entry (Some id) (next_index range.prev - 1));
       agree = run.agree;
       conflicts = run.conflicts + 1;
       acks = run.acks;
     }
     else record {
-      entry = after_reply entry (entry_after_ack cmp entry id range.last);
+      entry = after_response entry (entry_after_ack cmp entry id range.last);
       agree = max run.agree (next_index range.last);
       conflicts = run.conflicts;
       acks = run.acks + 1;
     }
 
--- the reply to what an entry has in flight; nothing but logs is replied to
-abbrev pub run_after_reply : {C : Type 0} → (C → C → Ordering) → HonestRun C → ProgressEntryOf C
+-- the response to what an entry has in flight; nothing but logs is responded to
+abbrev pub run_after_response : {C : Type 0} → (C → C → Ordering) → HonestRun C → ProgressEntryOf C
     → InflightOf C → HonestRun C
-run_after_reply cmp run entry Idle = record run { entry = entry }
-run_after_reply cmp run entry (Snapshot id last) = record run { entry = entry }
-run_after_reply cmp run entry (Logs id range) = run_after_logs cmp run entry id range
+run_after_response cmp run entry Idle = record run { entry = entry }
+run_after_response cmp run entry (Snapshot id last) = record run { entry = entry }
+run_after_response cmp run entry (Logs id range) = run_after_logs cmp run entry id range
 
--- the reply to a send, and none where nothing was sent
+-- the response to a send, and none where nothing was sent
 abbrev pub run_after_send : {C : Type 0} → (C → C → Ordering) → HonestRun C
     → Result (ProgressEntryOf C) (ProgressEntryOf C) → Option (HonestRun C)
 run_after_send cmp run (Err entry) = None
-run_after_send cmp run (Ok entry) = Some (run_after_reply cmp run entry entry.inflight)
+run_after_send cmp run (Ok entry) = Some (run_after_response cmp run entry entry.inflight)
 
--- a turn: a send and its reply
+-- a turn: a send and its response
 abbrev pub turn : {C : Type 0} → (C → C → Ordering) → LogView C → ℕ → HonestRun C
     → Option (HonestRun C)
 turn cmp log max_entries run = run_after_send cmp run (send_table cmp run.entry log max_entries)

@@ -1,4 +1,4 @@
--- What a follower's reply makes of its progress entry, case by case.
+-- What a follower's response makes of its progress entry, case by case.
 use Rattle.std.specs.Prelude.{ℕ, ◌^◌, max, nat_lt, Option, Some, None, Result, Ok, Err, if◌then◌else◌}
 use Rattle.std.specs.declared.cmp.Ordering.{Ordering}
 use Rattle.raft_base.specs.LogId.{id_lt, next_index}

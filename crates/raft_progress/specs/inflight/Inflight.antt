@@ -53,7 +53,7 @@ id_of Idle = None
 id_of (Logs id range) = Some id
 id_of (Snapshot id last) = Some id
 
--- why a reply to a request is refused: another request is in flight, or none
+-- why a response to a request is refused: another request is in flight, or none
 abbrev pub wrong_id : {C : Type 0} → InflightOf C → ℕ → Option InflightError
 wrong_id inflight id =
     if option_eq nat_eq (id_of inflight) (Some id) then None

@@ -1,4 +1,4 @@
--- What a follower's reply makes of what is in flight, case by case.
+-- What a follower's response makes of what is in flight, case by case.
 use Rattle.std.specs.Prelude.{◌≡◌, ℕ, Bool, ◌&&◌, ◌==◌, nat_eq, Option, Some, None, Result, Ok, Err, if◌then◌else◌}
 use Rattle.std.specs.declared.cmp.Ordering.{Ordering}
 use Rattle.std.specs.Option.{option_eq}
@@ -26,7 +26,7 @@ is_within cmp range upto =
     && index_le (index_of range.prev) (index_of upto)
     && index_le (index_of upto) (index_of range.last)
 
--- what is answered to a reply to the request in flight, and to none other
+-- what is answered to a response to the request in flight, and to none other
 abbrev pub if_mine : {S : Type 0} → ℕ → ℕ → Result S InflightError → Result S InflightError
 if_mine mine id answer = if mine == id then answer else Err (InvalidRequestId (Some mine) id)
 

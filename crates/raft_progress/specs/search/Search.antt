@@ -26,12 +26,12 @@ abbrev pub after_send : {S : Type 0} → Result S S → S
 after_send (Ok entry) = entry
 after_send (Err entry) = entry
 
--- the entry after a reply: where it is refused, the entry as it was
-abbrev pub after_reply : {S E : Type 0} → S → Result S E → S
-after_reply entry (Ok new) = new
-after_reply entry (Err e) = entry
+-- the entry after a response: where it is refused, the entry as it was
+abbrev pub after_response : {S E : Type 0} → S → Result S E → S
+after_response entry (Ok new) = new
+after_response entry (Err e) = entry
 
--- 1 where a reply is accepted, 0 where it is refused
+-- 1 where a response is accepted, 0 where it is refused
 abbrev pub one_if_accepted : {S E : Type 0} → Result S E → ℕ
 one_if_accepted (Ok new) = 1
 one_if_accepted (Err e) = 0
@@ -55,13 +55,13 @@ module _ {L C : Type 0} (cmp : C → C → Ordering) (log_view : L → LogView C
   after_event search (Conflict request_id index) =
       let answer = entry_after_conflict search.entry (Some request_id) index in
       record {
-        entry = after_reply search.entry answer;
+        entry = after_response search.entry answer;
         purged = search.purged;
         accepted = search.accepted + one_if_accepted answer;
       }
   after_event search (Heartbeat index) =
       record search
-      { entry = after_reply search.entry (entry_after_conflict search.entry None index) }
+      { entry = after_response search.entry (entry_after_conflict search.entry None index) }
 
   -- the search after events, one after another
   abbrev pub after_events : Search C → List (SearchEvent L) → Search C

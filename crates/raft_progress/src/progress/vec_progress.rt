@@ -125,6 +125,8 @@ impl<
     }
 
     /// The place of an id in the walk, counted from 0. It may change with each update.
+    ///
+    /// It goes by the original's name, and is no index of a log.
     #[inline(always)]
     pub fn index(&self, id: &ID) -> Option<usize>
         ensures { result ≡ position (λ e. ID.eq id.now e.0) ((shown self.now).walk) }

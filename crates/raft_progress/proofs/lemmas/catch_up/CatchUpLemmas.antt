@@ -53,13 +53,13 @@ use Rattle.raft_base.specs.declared.log_id.LogIdOf.{LogIdOf}
 use Rattle.raft_base.specs.declared.log_id.log_id_range.LogIdRangeOf.{LogIdRangeOf}
 use Rattle.raft_members.proofs.lemmas.membership.AddedLemmas.{is_equal}
 use Rattle.raft_progress.specs.catch_up.CatchUp.{MatchesAll, can_agree, can_catch_up, has_request_ids, match_fits}
-use Rattle.raft_progress.specs.catch_up.HonestRun.{HonestRun, HonestRunEnds, TurnsLeadTo, new_run, run_after_reply, run_after_logs, turn}
+use Rattle.raft_progress.specs.catch_up.HonestRun.{HonestRun, HonestRunEnds, TurnsLeadTo, new_run, run_after_response, run_after_logs, turn}
 use Rattle.raft_progress.specs.entry.EntryTable.{entry_after_ack}
 use Rattle.raft_progress.specs.entry.Send.{IsSent, can_be_sent, end_of, send_table, start_of}
 use Rattle.raft_progress.specs.inflight.Inflight.{is_idle}
 use Rattle.raft_progress.specs.inflight.InflightTable.{FollowsTable}
 use Rattle.raft_progress.specs.Inner.Turns.{IsBetweenTurns}
-use Rattle.raft_progress.specs.search.Search.{after_reply}
+use Rattle.raft_progress.specs.search.Search.{after_response}
 use Rattle.raft_progress.specs.declared.entry.ProgressEntryOf.{ProgressEntryOf}
 use Rattle.raft_progress.specs.declared.inflight.InflightError.{InflightError}
 use Rattle.raft_progress.specs.declared.inflight.InflightOf.{InflightOf}
@@ -187,7 +187,7 @@ none_if true x h = cc
 none_if false x h = refl
 
 pub kept_after : {S E U : Type 0} (r : Result S E) (old : S) (result : Result U E) (new : S) → FollowsTable r old result new
-    → after_reply old r ≡ new
+    → after_response old r ≡ new
 kept_after (Ok s) old (Ok u) new h = sym h
 kept_after (Ok s) old (Err e) new h = absurd h
 kept_after (Err e) old (Ok u) new h = absurd h
@@ -213,9 +213,10 @@ pub turn_logs : {C : Type 0} (cmp : C → C → Ordering) (log : LogView C) (n :
     ≡ record { entry = new; agree = after; conflicts = d; acks = l }
     → turn cmp log n (record { entry = entry; agree = agree; conflicts = c; acks = k })
     ≡ Some (record { entry = new; agree = after; conflicts = d; acks = l })
-turn_logs cmp log n entry sending new agree after c k d l id range ok logs reply =
-    rw ok (ap Some (ap (λ (f : InflightOf _). run_after_reply cmp (record { entry = entry; agree = agree; conflicts = c; acks = k }) sending
-    f) logs ∙ reply))
+turn_logs cmp log n entry sending new agree after c k d l id range ok logs response =
+    rw ok (ap Some (ap (λ (f : InflightOf _). run_after_response cmp (record { entry = entry; agree = agree; conflicts = c; acks = k })
+    sending
+    f) logs ∙ response))
 
 -- how far a run still is from its end
 abbrev pub to_go : {C : Type 0} → LogView C → ProgressEntryOf C → ℕ

@@ -62,8 +62,8 @@ module _ {ID V P QS : Type 0} (cmp : P → P → Ordering) (part : V → P) (has
         there.2,
       )
 
-  turned_round : (old new : ProgressState ID V P QS) → HasSameParts part has_quorum old new → HasSameParts part has_quorum new old
-  turned_round old new k = record {
+  HasSameParts-sym : (old new : ProgressState ID V P QS) → HasSameParts part has_quorum old new → HasSameParts part has_quorum new old
+  HasSameParts-sym old new k = record {
     quorums = λ set. sym (k.quorums set);
     voters = λ x. sym (k.voters x);
     default_part = sym k.default_part;
@@ -77,7 +77,7 @@ module _ {ID V P QS : Type 0} (cmp : P → P → Ordering) (part : V → P) (has
     is_one = elim c.is_one [
       | inl e ↦ inl (ap (λ d. cmp d g) k.default_part ∙ e)
       | inr w ↦ inr (
-          let there = reached_there new old (turned_round old new k) w.0 w.1 w.2 in
+          let there = reached_there new old (HasSameParts-sym old new k) w.0 w.1 w.2 in
           (w.0, there.0, there.1, ap (λ p. cmp p g) (sym there.2) ∙ w.3)
           )
     ];

@@ -51,7 +51,7 @@ use Rattle.raft_progress.specs.entry.EntryTable.{entry_after_conflict, with_sear
 use Rattle.raft_progress.specs.entry.Send.{calc_mid, can_be_sent, end_of, send_table, idle_send_table, start_of}
 use Rattle.raft_progress.specs.inflight.Inflight.{is_idle, logs_from}
 use Rattle.raft_progress.specs.inflight.InflightTable.{inflight_after_conflict}
-use Rattle.raft_progress.specs.search.Search.{Search, after_event, after_events, after_reply, after_send, new_search, one_if_accepted}
+use Rattle.raft_progress.specs.search.Search.{Search, after_event, after_events, after_response, after_send, new_search, one_if_accepted}
 use Rattle.raft_progress.specs.declared.entry.ProgressEntryOf.{ProgressEntryOf}
 use Rattle.raft_progress.specs.declared.inflight.InflightError.{InflightError}
 use Rattle.raft_progress.specs.declared.inflight.InflightError.TheVariants.{ConflictBelowMatching, InvalidRequestId}
@@ -159,7 +159,7 @@ module _ (Fits : ℕ → ℕ → Type 0)
     module _ {C : Type 0} (total m purged accepted : ℕ) (entry : ProgressEntryOf C) where
       -- what a conflict answers keeps within total
       abbrev pub Keeps : Result (ProgressEntryOf C) InflightError → Type 0
-      Keeps after = Within total m purged (accepted + one_if_accepted after) (after_reply entry after)
+      Keeps after = Within total m purged (accepted + one_if_accepted after) (after_response entry after)
 
       refused : (e : InflightError) → Within total m purged accepted entry → Keeps (Err e)
       refused e w = let z : accepted + 0 ≡ accepted = omega arith in rw z w
@@ -236,7 +236,7 @@ module _ (Fits : ℕ → ℕ → Type 0)
       conflict_keeps id index w = by_flight entry.inflight id index w.2.0 w w.2.1 w.2.2
 
       pub heartbeat_keeps : (index : ℕ) → Within total m purged accepted entry
-          → Within total m purged accepted (after_reply entry (entry_after_conflict entry None index))
+          → Within total m purged accepted (after_response entry (entry_after_conflict entry None index))
       heartbeat_keeps index w =
           let w0 : m ≡ next_index entry.matching = w.0 in
           let w1 : m ≤ entry.searching_end = w.1 in

@@ -36,7 +36,7 @@ use Rattle.raft_progress.specs.entry.EntryTable.{with_search_end}
 use Rattle.raft_progress.specs.entry.Send.{can_be_sent, end_of, send_table, start_of}
 use Rattle.raft_progress.specs.inflight.Inflight.{is_idle, logs_from}
 use Rattle.raft_progress.specs.inflight.InflightTable.{inflight_after_conflict}
-use Rattle.raft_progress.specs.search.Search.{Search, after_event, after_events, after_reply, after_send}
+use Rattle.raft_progress.specs.search.Search.{Search, after_event, after_events, after_response, after_send}
 use Rattle.raft_progress.specs.declared.entry.ProgressEntryOf.{ProgressEntryOf}
 use Rattle.raft_progress.specs.declared.inflight.InflightError.{InflightError}
 use Rattle.raft_progress.specs.declared.inflight.InflightError.TheVariants.{ConflictBelowMatching}
@@ -86,13 +86,13 @@ module _ {C : Type 0} (cmp : C → C → Ordering) where
 
 module _ {C : Type 0} where
   ends_keep : (entry : ProgressEntryOf C) (index : ℕ) (found : Result (InflightOf C) InflightError)
-      → Keeps entry (after_reply entry (with_search_end entry index found))
+      → Keeps entry (after_response entry (with_search_end entry index found))
   ends_keep entry index (Err e) = unchanged entry entry refl refl
   ends_keep entry index (Ok inflight) = by (nat_lt index entry.searching_end) (nat_lt index (next_index entry.matching))
       (λ h. grind (arith, nat_tests)) (λ h. grind (arith, nat_tests))
     where
       by : (a b : Bool) → (a ≡ true → index ≤ entry.searching_end) → (b ≡ false → next_index entry.matching ≤ index)
-          → Keeps entry (after_reply entry
+          → Keeps entry (after_response entry
           (if a then (if b then Err ConflictBelowMatching else Ok (record entry { inflight = inflight; searching_end = index }))
           else Ok (record entry { inflight = inflight })))
       by true true p q = unchanged entry entry refl refl

@@ -1,5 +1,5 @@
 use Rattle.std.proofs.Common.{arith}
-use Rattle.raft_progress.proofs.lemmas.entry.LateReplyLemmas.{refuses_others, sends_next}
+use Rattle.raft_progress.proofs.lemmas.entry.LateResponseLemmas.{refuses_others, sends_next}
 use Rattle.raft_progress.proofs.entry.ProgressEntryOf.give_up.Goals as goal
 
 pub returns-clause-refuses_late : goal.returns-clause-refuses_late

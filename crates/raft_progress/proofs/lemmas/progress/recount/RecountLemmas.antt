@@ -25,10 +25,10 @@ le_from_not_gt Less e = refl
 le_from_not_gt Equal e = refl
 le_from_not_gt Greater e = absurd (true≢false e)
 
-turned : (r : Ordering) → is_lt r ≡ false → is_le (ordering_reverse r) ≡ true
-turned Less e = absurd (true≢false e)
-turned Equal e = refl
-turned Greater e = refl
+not_lt_reversed : (r : Ordering) → is_lt r ≡ false → is_le (ordering_reverse r) ≡ true
+not_lt_reversed Less e = absurd (true≢false e)
+not_lt_reversed Equal e = refl
+not_lt_reversed Greater e = refl
 
 module _ {P : Type 0} {cmp : P → P → Ordering} (o : IsTotalOrder cmp) where
   pub AtMost-refl : (a : P) → AtMost cmp a a
@@ -38,7 +38,7 @@ module _ {P : Type 0} {cmp : P → P → Ordering} (o : IsTotalOrder cmp) where
   AtMost-trans a b c p q = le_from_not_gt (cmp a c) (upto o a b c (not_gt_from_le (cmp a b) p) (not_gt_from_le (cmp b c) q))
 
   pub AtMost-from_not_lt : (a b : P) → is_lt (cmp a b) ≡ false → AtMost cmp b a
-  AtMost-from_not_lt a b h = ap is_le (o.antisymm b a) ∙ turned (cmp a b) h
+  AtMost-from_not_lt a b h = ap is_le (o.antisymm b a) ∙ not_lt_reversed (cmp a b) h
 
 module _ {ID V P : Type 0} (eq : ID → ID → Bool) {cmp : P → P → Ordering} (o : IsTotalOrder cmp) (part : V → P)
     (is_quorum : (ID → Bool) → Bool) (voters : List (ID × V)) (default : P) where

@@ -88,17 +88,17 @@ module _ {ID V : Type 0} {eq : ID → ID → Bool} (laws : IsEquivalence eq) whe
   lookup_moved [] xs e ys d x = lookup_passed xs e ys d x
   lookup_moved (f ∷ fs) xs e ys d x = ap (λ r. cond (eq x f.0) (Some f.1) r) (lookup_moved fs xs e ys d.1 x)
 
-turned : (r : Ordering) → is_lt r ≡ true → is_le (ordering_reverse r) ≡ false
-turned Less h = refl
-turned Equal h = absurd (true≢false (sym h))
-turned Greater h = absurd (true≢false (sym h))
+lt_reversed : (r : Ordering) → is_lt r ≡ true → is_le (ordering_reverse r) ≡ false
+lt_reversed Less h = refl
+lt_reversed Equal h = absurd (true≢false (sym h))
+lt_reversed Greater h = absurd (true≢false (sym h))
 
 -- the walk is the risen one
 module _ {ID V P : Type 0} {cmp : P → P → Ordering} (o : IsTotalOrder cmp) (part : V → P) where
   none_reaches : (e : ID × V) (xs : List (ID × V)) → AllByRecursion (λ f. is_lt (cmp (part f.1) (part e.1)) ≡ true) xs
       → list_any (λ h. is_le (cmp (part e.1) (part h.1))) xs ≡ false
   none_reaches e [] a = refl
-  none_reaches e (x ∷ xs) a = rw (ap is_le (o.antisymm (part e.1) (part x.1)) ∙ turned (cmp (part x.1) (part e.1)) a.0)
+  none_reaches e (x ∷ xs) a = rw (ap is_le (o.antisymm (part e.1) (part x.1)) ∙ lt_reversed (cmp (part x.1) (part e.1)) a.0)
       (none_reaches e xs a.1)
 
   put_first : (e : ID × V) (xs : List (ID × V)) → AllByRecursion (λ f. is_lt (cmp (part f.1) (part e.1)) ≡ true) xs

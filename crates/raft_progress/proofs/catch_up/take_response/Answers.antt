@@ -3,7 +3,7 @@ use Rattle.raft_base.specs.LogId.{next_index}
 use Rattle.raft_progress.specs.entry.EntryTable.{with_search_end}
 use Rattle.raft_progress.specs.inflight.InflightTable.{inflight_after_conflict}
 use Rattle.raft_progress.proofs.lemmas.catch_up.CatchUpLemmas.{acks_logs, kept_after}
-use Rattle.raft_progress.proofs.catch_up.reply.Goals as goal
+use Rattle.raft_progress.proofs.catch_up.take_response.Goals as goal
 
 -- a number that a test lets through
 some_if : (t : Bool) (n m : ℕ) → (if t then Some n else None) ≡ Some m → (t ≡ true) × (n ≡ m)

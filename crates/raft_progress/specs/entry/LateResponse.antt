@@ -1,4 +1,4 @@
--- Which replies come too late.
+-- Which responses come too late.
 use Rattle.std.specs.Prelude.{◌≡◌, ℕ, Option, Some, Err}
 use Rattle.std.specs.declared.cmp.Ordering.{Ordering}
 use Rattle.raft_base.specs.declared.log_id.LogIdOf.{LogIdOf}
@@ -8,7 +8,7 @@ use Rattle.raft_progress.specs.declared.entry.ProgressEntryOf.{ProgressEntryOf}
 use Rattle.raft_progress.specs.declared.inflight.InflightError.TheVariants.{InvalidRequestId}
 
 -- an ack and a conflict that answer the request with this id are refused, as it is not in flight
-pub record RefusesRepliesTo {C : Type 0} (cmp : C → C → Ordering) (entry : ProgressEntryOf C)
+pub record RefusesResponsesTo {C : Type 0} (cmp : C → C → Ordering) (entry : ProgressEntryOf C)
     (id : ℕ) : Type 0 where
   pub acks : (matching : Option (LogIdOf C))
       → entry_after_ack cmp entry id matching ≡ Err (InvalidRequestId (id_of entry.inflight) id)

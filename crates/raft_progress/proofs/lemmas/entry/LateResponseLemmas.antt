@@ -1,4 +1,4 @@
--- Which replies an entry refuses by their id.
+-- Which responses an entry refuses by their id.
 use Rattle.std.specs.Prelude.{
   ◌≡◌,
   ℕ,
@@ -27,7 +27,7 @@ use Rattle.raft_base.specs.LogView.{LogView, prev_id}
 use Rattle.raft_base.specs.declared.log_id.LogIdOf.{LogIdOf}
 use Rattle.raft_base.specs.declared.log_id.log_id_range.LogIdRangeOf.{LogIdRangeOf}
 use Rattle.raft_progress.specs.entry.EntryTable.{with_matching, with_search_end}
-use Rattle.raft_progress.specs.entry.LateReply.{RefusesRepliesTo}
+use Rattle.raft_progress.specs.entry.LateResponse.{RefusesResponsesTo}
 use Rattle.raft_progress.specs.entry.Send.{end_of, idle_send_table, start_of}
 use Rattle.raft_progress.specs.inflight.Inflight.{id_of, logs_from}
 use Rattle.raft_progress.specs.inflight.InflightTable.{inflight_after_ack, inflight_after_conflict}
@@ -50,8 +50,8 @@ module _ {C : Type 0} (cmp : C → C → Ordering) where
   conflict_refused entry (Logs mine range) id index n = let e : (mine == id) ≡ false = ne_eqb mine id (λ h. n (ap Some h)) in rw e refl
   conflict_refused entry (Snapshot mine last) id index n = let e : (mine == id) ≡ false = ne_eqb mine id (λ h. n (ap Some h)) in rw e refl
 
-  -- replies to a request that is not in flight are refused
-  pub refuses_others : (entry : ProgressEntryOf C) (id : ℕ) → (id_of entry.inflight ≡ Some id → ⊥) → RefusesRepliesTo cmp entry id
+  -- responses to a request that is not in flight are refused
+  pub refuses_others : (entry : ProgressEntryOf C) (id : ℕ) → (id_of entry.inflight ≡ Some id → ⊥) → RefusesResponsesTo cmp entry id
   refuses_others entry id n = record {
     acks = λ matching. ack_refused entry entry.inflight id matching n;
     conflicts = λ index. conflict_refused entry entry.inflight id index n;
