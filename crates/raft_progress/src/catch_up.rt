@@ -144,10 +144,12 @@ fn take_response<C: Ord + Copy>(
     let LogIdRangeOf { prev, last } = range;
     match refused_at(prev, *agree) {
         Some(index) => {
+            // A refusal would leave the entry as it was, and the run would count the response too.
             let _ = entry.update_conflicting(Some(id), index);
             false
         }
         None => {
+            // The same of an ack.
             let _ = entry.update_matching(id, last);
             *agree = (*agree).max(last.next_index());
             true

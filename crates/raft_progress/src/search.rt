@@ -88,6 +88,7 @@ fn run_event<C: Ord + Copy, L: LogStateReader<C>>(
             let purge_upto = log.purge_upto().copied().index();
             if entry.can_send(*log) && *purged <= purge_upto {
                 *purged = purge_upto;
+                // What it answers stands in the entry: what is in flight now, or that nothing is.
                 let _ = entry.next_send(*log, *max_entries);
             }
         }
@@ -103,6 +104,7 @@ fn run_event<C: Ord + Copy, L: LogStateReader<C>>(
             }
         }
         SearchEvent::Heartbeat { conflict } => {
+            // Accepted or refused, it is not counted, and a refusal leaves the entry as it was.
             let _ = entry.update_conflicting(None, *conflict);
         }
     }

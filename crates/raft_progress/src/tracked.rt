@@ -120,6 +120,8 @@ fn learners_of<NID: NodeId, N: Node>(
         AreLearners NID.eq (members_of NID.cmp membership.now) ids.items) }
 {
     let mut ids = Vec::new(alloc);
+    // Pushed and not collected: std's `collect` survives a refused growth by asking for less, and a
+    // step that wanted memory would not say so.
     for id in membership.learner_ids() {
         ids.push(id)?;
     }

@@ -102,7 +102,7 @@ impl<
         ensures known { result ≡ is_some found }
         ensures mark { is_stale self.new ≡ is_stale self.old }
     {
-        // The proof knows that a count fits a u64 once it has been read.
+        // Read for the proof alone: it knows from then on that each of them fits a u64.
         let _counts = (self.stat.move_count, self.stat.is_quorum_count);
         self.stat.update_count = self.stat.update_count.saturating_add(1);
         match found {
@@ -165,7 +165,7 @@ impl<
             (shown self.old) place (shown self.new) }
         ensures mark { is_stale self.new ≡ is_stale self.old }
     {
-        // The proof knows that a count fits a u64 once it has been read.
+        // Read for the proof alone: it knows from then on that it fits a u64.
         let _count = self.stat.is_quorum_count;
         let least = self.quorum_set.least_quorum_size();
         // No front past the place of up to so many voters is a quorum.
