@@ -4,3 +4,4 @@ pub mod entry
 pub mod search
 pub mod catch_up
 pub mod ListLemmas
+pub mod OrderLemmas

@@ -36,7 +36,7 @@ use Rattle.std.proofs.Common.{
   ◌||◌,
 }
 use Rattle.std.proofs.Math.Nat.{suc-mul}
-use Rattle.std.proofs.lemmas.Bool.{cases_lt}
+use Rattle.std.proofs.lemmas.Bool.{cases_lt, leb-true, ltb-true}
 use Rattle.std.proofs.lemmas.Bool.Decides.{nat_tests}
 use Rattle.std.specs.Borrow.{Bor}
 use Rattle.std.specs.declared.cmp.Ordering.{Ordering}
@@ -71,7 +71,6 @@ use Rattle.raft_progress.proofs.lemmas.catch_up.HonestRunLemmas.{
   Sends,
   at_end,
   ids_total,
-  le_lt,
   ready_acked,
   ready_refused,
   sends,
@@ -79,6 +78,8 @@ use Rattle.raft_progress.proofs.lemmas.catch_up.HonestRunLemmas.{
   turn_refused,
 }
 use Rattle.raft_progress.proofs.lemmas.catch_up.HonestTurnLemmas.{Stands, ack_falls, ack_near, conflict_falls, conflict_halves, measure}
+use Rattle.raft_progress.proofs.lemmas.OrderLemmas.{AtMost-from_lt, le_lt, le_of_eq}
+use Rattle.raft_progress.proofs.lemmas.ListLemmas.{of_both}
 
 -- a send that is no error is the table's
 pub sent_ok : {C : Type 0} (table : Result (ProgressEntryOf C) (ProgressEntryOf C))
@@ -87,12 +88,6 @@ pub sent_ok : {C : Type 0} (table : Result (ProgressEntryOf C) (ProgressEntryOf 
 sent_ok table (Ok sending) new h is = is.0
 sent_ok table (Err sending) new h is = cc
 
-true_le : (a b : ℕ) → nat_le a b ≡ true → a ≤ b
-true_le a b h = grind (arith, nat_tests)
-
-true_lt : (a b : ℕ) → nat_lt a b ≡ true → a < b
-true_lt a b h = grind (arith, nat_tests)
-
 or_split : (a b : Bool) → (a || b) ≡ true → (a ≡ true) ⊎ (b ≡ true)
 or_split true b h = inl refl
 or_split false b h = inr h
@@ -100,27 +95,12 @@ or_split false b h = inr h
 index_tie : (i j : ℕ) → nat_eq i j ≡ true → is_eq (nat_cmp i j) ≡ true
 index_tie i j h = grind (arith, nat_tests)
 
-le_of_lt : (o : Ordering) → is_lt o ≡ true → is_le o ≡ true
-le_of_lt Less h = refl
-le_of_lt Equal h = cc
-le_of_lt Greater h = cc
-
-pub le_of_eq : (o : Ordering) → is_eq o ≡ true → is_le o ≡ true
-le_of_eq Less h = cc
-le_of_eq Equal h = refl
-le_of_eq Greater h = cc
-
 -- tests in a row
-both : (a b : Bool) → (a && b) ≡ true → (a ≡ true) × (b ≡ true)
-both true true h = (refl, refl)
-both true false h = cc
-both false b h = cc
-
 three : (a b c : Bool) → (a && b && c) ≡ true → (a ≡ true) × (b ≡ true) × (c ≡ true)
-three a b c h = let p = both (a && b) c h in let q = both a b p.0 in (q.0, q.1, p.1)
+three a b c h = let p = of_both (a && b) c h in let q = of_both a b p.0 in (q.0, q.1, p.1)
 
 five : (a b c d e : Bool) → (a && b && c && d && e) ≡ true → (a ≡ true) × (b ≡ true) × (c ≡ true) × (d ≡ true) × (e ≡ true)
-five a b c d e h = let p = both (a && b && c && d) e h in let q = both (a && b && c) d p.0 in let r = three a b c q.0 in
+five a b c d e h = let p = of_both (a && b && c && d) e h in let q = of_both (a && b && c) d p.0 in let r = three a b c q.0 in
     (r.0, r.1, r.2, q.1, p.1)
 
 module _ {C : Type 0} (eq : C → C → Bool) (cmp : C → C → Ordering) where
@@ -130,14 +110,14 @@ module _ {C : Type 0} (eq : C → C → Bool) (cmp : C → C → Ordering) where
       × IsTrue (id_le cmp entry.matching (prev_id log.id_at (max (next_index entry.matching) (next_index log.purge_upto)))))
   fits_left log entry h = elim (or_split (same_ids eq entry.matching log.last) _ h) [
     | inl same ↦ inl same
-    | inr ahead ↦ (let q = three _ _ _ ahead in inr (true_lt _ _ q.0, true_lt _ _ q.1, q.2))
+    | inr ahead ↦ (let q = three _ _ _ ahead in inr (ltb-true _ _ q.0, ltb-true _ _ q.1, q.2))
   ]
 
   -- what the test says
   pub ready_from : (log : LogView C) (n : ℕ) (entry : ProgressEntryOf C) (agree : ℕ) → can_catch_up eq cmp log entry agree n ≡ true
       → IsBetweenTurns eq cmp log n entry agree × (entry.curr_inflight_id + 64 + next_index log.last + 1 < 2 ^ 64)
   ready_from log n entry agree can =
-      let p = both (is_idle entry.inflight && can_be_sent entry log && nat_le 1 n
+      let p = of_both (is_idle entry.inflight && can_be_sent entry log && nat_le 1 n
       && can_agree (next_index entry.matching) entry.searching_end (next_index log.purge_upto) agree
       && has_request_ids entry.curr_inflight_id (next_index log.last)) (match_fits eq cmp log entry) can in
       let q = five (is_idle entry.inflight) (can_be_sent entry log) (nat_le 1 n)
@@ -150,15 +130,15 @@ module _ {C : Type 0} (eq : C → C → Bool) (cmp : C → C → Ordering) where
       q.3 in (
         record {
           idle = q.0;
-          some = true_le 1 n q.2;
-          matched = true_le _ _ a.0;
-          agreed = true_le _ _ a.1;
-          logged = true_le _ _ s.2;
-          kept = true_le _ _ a.2;
-          fits = true_lt _ _ s.1;
+          some = leb-true 1 n q.2;
+          matched = leb-true _ _ a.0;
+          agreed = leb-true _ _ a.1;
+          logged = leb-true _ _ s.2;
+          kept = leb-true _ _ a.2;
+          fits = ltb-true _ _ s.1;
           left = fits_left log entry p.1;
         },
-        true_lt _ _ q.4,
+        ltb-true _ _ q.4,
       )
 
 -- from a start to here: a run, with so many conflicts and acks
@@ -395,6 +375,6 @@ module _ {C : Type 0} (eq : C → C → Bool) (cmp : C → C → Ordering) (tota
             let rises : id_lt cmp (prev_id log.id_at from) (prev_id log.id_at (next_index log.last)) ≡ true =
             prev_rises cmp log logged from (next_index log.last) (omega arith) (omega (arith, way.0, way.1)) (omega arith) in
             let rises2 : id_lt cmp (prev_id log.id_at from) log.last ≡ true = rw (← logged.at_end) rises in
-            le_of_lt (option_cmp (log_id_cmp cmp) entry.matching log.last)
-            (le_lt eq cmp total reflexive entry.matching (prev_id log.id_at from) log.last way.2 rises2))
+            AtMost-from_lt (option_cmp (log_id_cmp cmp)) entry.matching log.last
+            (le_lt (ids_total eq cmp total reflexive) entry.matching (prev_id log.id_at from) log.last way.2 rises2))
       ]) caught.last

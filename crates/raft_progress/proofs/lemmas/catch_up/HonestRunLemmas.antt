@@ -27,7 +27,7 @@ use Rattle.std.proofs.Common.{
   inr,
   ap,
 }
-use Rattle.std.proofs.lemmas.Bool.{cases_lt}
+use Rattle.std.proofs.lemmas.Bool.{cases_lt, le-ltb, lt-ltb}
 use Rattle.std.proofs.lemmas.Bool.Decides.{nat_tests}
 use Rattle.std.specs.declared.cmp.Ordering.{Ordering}
 use Rattle.std.specs.declared.cmp.Ordering.TheVariants.{Less, Equal, Greater}
@@ -51,29 +51,9 @@ use Rattle.raft_base.specs.LogIndex.{index_le}
 use Rattle.raft_progress.specs.Inner.Turns.{IsBetweenTurns}
 use Rattle.raft_progress.specs.declared.entry.ProgressEntryOf.{ProgressEntryOf}
 use Rattle.raft_progress.specs.declared.inflight.InflightOf.TheVariants.{None as Idle, Logs}
+use Rattle.raft_progress.proofs.lemmas.OrderLemmas.{AtMost-from_lt, AtMost-refl, le_lt, not_lt-from_AtMost}
 
--- orders as tests
-lt_less : (o : Ordering) → is_lt o ≡ true → o ≡ Less
-lt_less Less h = refl
-lt_less Equal h = cc
-lt_less Greater h = cc
-
-back_not_lt : (o : Ordering) → is_le (ordering_reverse o) ≡ true → is_lt o ≡ false
-back_not_lt Less h = cc
-back_not_lt Equal h = refl
-back_not_lt Greater h = refl
-
-le_split : (o : Ordering) → is_le o ≡ true → (o ≡ Less) ⊎ (o ≡ Equal)
-le_split Less h = inl refl
-le_split Equal h = inr refl
-le_split Greater h = cc
-
-pub lt_true : (a b : ℕ) → a < b → nat_lt a b ≡ true
-lt_true a b h = grind (arith, nat_tests)
-
-lt_false : (a b : ℕ) → b ≤ a → nat_lt a b ≡ false
-lt_false a b h = grind (arith, nat_tests)
-
+-- numbers as tests
 eq_true : (a b : ℕ) → a ≡ b → (a == b) ≡ true
 eq_true a b h = grind (arith, nat_tests)
 
@@ -121,21 +101,6 @@ module _ {C : Type 0} (eq : C → C → Bool) (cmp : C → C → Ordering) (tota
   pub lt_itself : (a : Option (LogIdOf C)) → id_lt cmp a a ≡ false
   lt_itself a = rw (tied_itself ids_total a) refl
 
-  pub le_itself : (a : Option (LogIdOf C)) → id_le cmp a a ≡ true
-  le_itself a = rw (tied_itself ids_total a) refl
-
-  pub lt_le : (a b : Option (LogIdOf C)) → id_lt cmp a b ≡ true → id_le cmp a b ≡ true
-  lt_le a b h = rw (lt_less (ids_cmp a b) h) refl
-
-  pub le_lt : (a b c : Option (LogIdOf C)) → id_le cmp a b ≡ true → id_lt cmp b c ≡ true → id_lt cmp a c ≡ true
-  le_lt a b c h g = elim (le_split (ids_cmp a b) h) [
-    | inl less ↦ rw (ids_total.trans a b c less (lt_less (ids_cmp b c) g)) refl
-    | inr same ↦ rw (ids_total.congr a b c same) g
-  ]
-
-  pub not_back : (a b : Option (LogIdOf C)) → id_le cmp a b ≡ true → id_lt cmp b a ≡ false
-  not_back a b h = back_not_lt (ids_cmp b a) (rw (ids_total.antisymm a b) at h)
-
   same_next : (a b : Option (LogIdOf C)) → IsTrue (same_ids eq a b) → next_index a ≡ next_index b
   same_next None None h = refl
   same_next None (Some b) h = cc
@@ -181,9 +146,9 @@ module _ {C : Type 0} (eq : C → C → Bool) (cmp : C → C → Ordering) (tota
           let u : option_eq nat_eq (index_of (prev_id log.id_at (start_of entry log))) (Some (start_of entry log - 1)) ≡ true =
           rw (index, same_number (start_of entry log - 1)) refl in
           let v : nat_lt (start_of entry log - 1) entry.searching_end ≡ true =
-          lt_true (start_of entry log - 1) entry.searching_end (omega arith) in
+          lt-ltb (start_of entry log - 1) entry.searching_end (omega arith) in
           let w : nat_lt (start_of entry log - 1) (next_index entry.matching) ≡ false =
-          lt_false (start_of entry log - 1) (next_index entry.matching) (omega arith) in
+          le-ltb (start_of entry log - 1) (next_index entry.matching) (omega arith) in
           rw (t, u, v, w) refl
 
       pub acked_turn : (entry : ProgressEntryOf C) (agree : ℕ) → IsBetweenTurns eq cmp log n entry agree
@@ -206,20 +171,20 @@ module _ {C : Type 0} (eq : C → C → Bool) (cmp : C → C → Ordering) (tota
           let at1 : next_index last ≡ to = prev_at cmp log logged to (omega arith) (omega arith) in
           let less : id_lt cmp prev last ≡ true = prev_rises cmp log logged from to (omega arith) lt (omega arith) in
           let t : (id == id) ≡ true = eq_self id in
-          let b1 : id_le cmp prev last ≡ true = lt_le prev last less in
-          let b2 : id_le cmp last last ≡ true = le_itself last in
+          let b1 : id_le cmp prev last ≡ true = AtMost-from_lt ids_cmp prev last less in
+          let b2 : id_le cmp last last ≡ true = AtMost-refl ids_total last in
           let b3 : index_le (index_of prev) (index_of last) ≡ true = index_at_most prev last (omega arith) in
           let b4 : index_le (index_of last) (index_of last) ≡ true = index_at_most last last (omega arith) in
           let none : id_lt cmp last last ≡ false = lt_itself last in
           let forward : id_lt cmp last entry.matching ≡ false = elim ready.left [
             | inl same ↦ absurd (let e = same_next entry.matching log.last same in omega arith)
-            | inr more ↦ not_back entry.matching last
-                (lt_le entry.matching last (le_lt entry.matching
+            | inr more ↦ not_lt-from_AtMost ids_total entry.matching last
+                (AtMost-from_lt ids_cmp entry.matching last (le_lt ids_total entry.matching
                 (prev_id log.id_at (max (next_index entry.matching) (next_index log.purge_upto))) last more.2
                 (prev_rises cmp log logged (max (next_index entry.matching) (next_index log.purge_upto)) to (omega arith) (omega arith)
                 (omega arith))))
           ] in
-          let small : nat_lt (next_index last) (2 ^ 64) ≡ true = lt_true (next_index last) (2 ^ 64) (let f = ready.fits in omega arith) in
+          let small : nat_lt (next_index last) (2 ^ 64) ≡ true = lt-ltb (next_index last) (2 ^ 64) (let f = ready.fits in omega arith) in
           let end_is : max entry.searching_end (next_index last) ≡ max entry.searching_end to = rw at1 refl in
           rw (t, b1, b2, b3, b4, none, forward, small, end_is) refl
 
@@ -234,11 +199,11 @@ module _ {C : Type 0} (eq : C → C → Bool) (cmp : C → C → Ordering) (tota
           let r1 = ready.matched in let r2 = ready.agreed in let r3 = ready.logged in let r4 = ready.kept in
           let e = same_next entry.matching log.last same in
           let t : nat_lt entry.searching_end (next_index log.purge_upto) ≡ false =
-          lt_false entry.searching_end (next_index log.purge_upto) (omega arith) in
+          le-ltb entry.searching_end (next_index log.purge_upto) (omega arith) in
           let s : start_of entry log ≡ end_of entry log n = omega arith in
           let u : (start_of entry log == end_of entry log n) ≡ true = eq_true (start_of entry log) (end_of entry log n) s in
           let v : nat_lt (next_index entry.matching) entry.searching_end ≡ false =
-          lt_false (next_index entry.matching) entry.searching_end (omega arith) in
+          le-ltb (next_index entry.matching) entry.searching_end (omega arith) in
           let i = ready.idle in
           (rw (i, t, u, v) refl, record { idle = ready.idle; match_end = e; search_end = omega arith; last = same })
 
@@ -269,7 +234,7 @@ module _ {C : Type 0} (eq : C → C → Bool) (cmp : C → C → Ordering) (tota
           let sent_is = sent_logs entry ready.idle (omega arith) lt.0 in
           let at = prev_at cmp log logged (start_of entry log) (omega arith) (omega arith) in
           let t : nat_lt agree (next_index (prev_id log.id_at (start_of entry log))) ≡ true =
-          lt_true agree (next_index (prev_id log.id_at (start_of entry log))) (omega arith) in
+          lt-ltb agree (next_index (prev_id log.id_at (start_of entry log))) (omega arith) in
           let r = refused_turn entry agree ready lt.0 past in
           rw (sent_is, t, at, r) refl
 
@@ -294,7 +259,7 @@ module _ {C : Type 0} (eq : C → C → Bool) (cmp : C → C → Ordering) (tota
           let at = prev_at cmp log logged (start_of entry log) (omega arith) (omega arith) in
           let at1 = prev_at cmp log logged (end_of entry log n) (omega arith) (omega arith) in
           let t : nat_lt agree (next_index (prev_id log.id_at (start_of entry log))) ≡ false =
-          lt_false agree (next_index (prev_id log.id_at (start_of entry log))) (omega arith) in
+          le-ltb agree (next_index (prev_id log.id_at (start_of entry log))) (omega arith) in
           let r = acked_turn entry agree ready lt.0 past in
           rw (sent_is, t, r, at1) refl
 
@@ -361,7 +326,7 @@ module _ {C : Type 0} (eq : C → C → Bool) (cmp : C → C → Ordering) (tota
                 l2,
                 (let top : max (next_index (prev_id log.id_at (end_of entry log n))) (next_index log.purge_upto) ≡ end_of entry log n =
                     omega arith in
-                    rw top (le_itself (prev_id log.id_at (end_of entry log n)))),
+                    rw top (AtMost-refl ids_total (prev_id log.id_at (end_of entry log n)))),
               )
               | inr past_end ↦ inl (let all : end_of entry log n ≡ next_index log.last = omega arith in
                   rw (all, logged.at_end) (same_itself log.last))

@@ -40,7 +40,7 @@ use Rattle.raft_progress.specs.declared.inflight.InflightError.{InflightError}
 use Rattle.raft_progress.specs.declared.inflight.InflightError.TheVariants.{AckOutOfRange, InvalidRequestId, SnapshotAckRegress}
 use Rattle.raft_progress.specs.declared.inflight.InflightOf.{InflightOf}
 use Rattle.raft_progress.specs.declared.inflight.InflightOf.TheVariants.{None as Idle, Logs, Snapshot}
-use Rattle.raft_progress.proofs.lemmas.progress.recount.RecountLemmas.{AtMost-from_lt, AtMost-refl}
+use Rattle.raft_progress.proofs.lemmas.OrderLemmas.{AtMost-from_lt, AtMost-refl}
 
 ok_inside : {S : Type 0} (x y : S) → (let r : Result S InflightError = Ok x in r) ≡ Ok y → y ≡ x
 ok_inside x y h = cc

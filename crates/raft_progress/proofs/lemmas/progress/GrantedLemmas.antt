@@ -18,7 +18,7 @@ use Rattle.raft_progress.specs.declared.progress.steps.AnyStep.TheVariants as an
 use Rattle.raft_progress.specs.declared.progress.steps.Reply.{Reply}
 use Rattle.raft_progress.specs.declared.tracked.step.Step.{Step}
 use Rattle.raft_progress.specs.declared.tracked.step.Step.TheVariants as step_of
-use Rattle.raft_progress.proofs.lemmas.progress.recount.RecountLemmas.{AtMost-refl, AtMost-trans}
+use Rattle.raft_progress.proofs.lemmas.OrderLemmas.{AtMost-refl, AtMost-trans}
 
 module _ {S A R : Type 0} (Made : S → A → R → S → Type 0) (Keeps : S → S → Type 0) (same : (s : S) → Keeps s s)
     (on : (a b c : S) → Keeps a b → Keeps b c → Keeps a c) (breaks : A → Bool)

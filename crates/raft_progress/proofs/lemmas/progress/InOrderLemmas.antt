@@ -14,9 +14,8 @@ use Rattle.raft_progress.specs.progress.ProgressState.{ProgressState}
 use Rattle.raft_progress.specs.progress.Walk.{IsFalling}
 use Rattle.raft_progress.specs.Inner.Recount.{at_least}
 use Rattle.raft_progress.specs.Inner.Conditions.{ids_differ, never_rises}
-use Rattle.raft_progress.proofs.lemmas.progress.recount.RecountLemmas.{AtMost-trans, AtMost-from_not_lt}
+use Rattle.raft_progress.proofs.lemmas.OrderLemmas.{AtMost-trans, AtMost-from_not_lt, lt_le}
 use Rattle.raft_progress.proofs.lemmas.progress.recount.CountedValueLemmas.{not_both}
-use Rattle.raft_progress.proofs.lemmas.progress.walk.FallingLemmas.{lt_le}
 use Rattle.raft_progress.proofs.lemmas.progress.recount.CountedAfreshLemmas.{found, members, voter_value}
 
 if_false : (a b : Bool) → (if a then false else b) ≡ true → (a ≡ false) × (b ≡ true)

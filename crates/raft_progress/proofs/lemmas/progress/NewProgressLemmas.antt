@@ -15,7 +15,7 @@ use Rattle.raft_progress.specs.progress.InOrder.{IsWalkInOrder}
 use Rattle.raft_progress.specs.Inner.Placed.{IsPlaced}
 use Rattle.raft_progress.specs.progress.NewProgress.{IsNew, LearnersFit}
 use Rattle.raft_progress.specs.progress.Walk.{IsFalling, state_of}
-use Rattle.raft_progress.proofs.lemmas.progress.recount.RecountLemmas.{AtMost-refl}
+use Rattle.raft_progress.proofs.lemmas.OrderLemmas.{AtMost-refl}
 use Rattle.raft_progress.proofs.lemmas.progress.walk.WalkLemmas.{no_value}
 use Rattle.raft_progress.proofs.lemmas.ListLemmas.{or_right}
 

@@ -54,8 +54,8 @@ use Rattle.raft_progress.specs.progress.InOrder.{IsWalkInOrder}
 use Rattle.raft_progress.specs.Inner.Recount.{exceeds, front_test}
 use Rattle.raft_progress.specs.Inner.Rises.{IsLeastFront, Passed, RisesTo}
 use Rattle.raft_progress.specs.progress.Walk.{IsFalling}
-use Rattle.raft_progress.proofs.lemmas.progress.recount.RecountLemmas.{AtMost-from_not_lt}
-use Rattle.raft_progress.proofs.lemmas.progress.walk.FallingLemmas.{falling_risen, falling_set, falling_weaker, lt_le}
+use Rattle.raft_progress.proofs.lemmas.OrderLemmas.{AtMost-from_not_lt, lt_le}
+use Rattle.raft_progress.proofs.lemmas.progress.walk.FallingLemmas.{falling_risen, falling_set, falling_weaker}
 use Rattle.raft_progress.proofs.lemmas.progress.walk.FrontLemmas.{front_fails}
 use Rattle.raft_progress.proofs.lemmas.progress.walk.RisingLemmas.{get_at, set_at}
 use Rattle.raft_progress.proofs.lemmas.progress.walk.MovedLemmas.{take_add, take_within, distinct_moved, member_moved, lookup_moved}

@@ -18,7 +18,7 @@ use Rattle.raft_progress.proofs.lemmas.progress.recount.CountedAfreshLemmas.{fou
 use Rattle.raft_progress.proofs.lemmas.tracked.HeadlineLemmas.{granted_reached}
 use Rattle.raft_progress.proofs.lemmas.progress.InOrderLemmas.{counted_once, counted_tied}
 use Rattle.raft_progress.proofs.lemmas.ListLemmas.{all_weaker, both}
-use Rattle.raft_progress.proofs.lemmas.progress.recount.RecountLemmas.{AtMost-from_lt, AtMost-from_not_lt, AtMost-refl, AtMost-trans}
+use Rattle.raft_progress.proofs.lemmas.OrderLemmas.{AtMost-from_lt, AtMost-from_not_lt, AtMost-refl, AtMost-trans}
 
 pair_all : {X : Type 0} (A B : X → Type 0) (xs : List X) → AllByRecursion A xs → AllByRecursion B xs → AllByRecursion (λ x. A x × B x) xs
 pair_all A B [] a b = tt

@@ -13,7 +13,7 @@ use Rattle.raft_progress.specs.progress.Shown.{state}
 use Rattle.raft_progress.specs.tracked.Elected.{ElectedLacksNothing, GrantedMeet}
 use Rattle.raft_progress.specs.tracked.TrackedState.{IsReady, TrackedShown, has_quorum}
 use Rattle.raft_progress.proofs.lemmas.tracked.HeadlineLemmas.{by_configs, is_granted, larger}
-use Rattle.raft_progress.proofs.lemmas.progress.recount.RecountLemmas.{AtMost-from_not_lt, AtMost-trans}
+use Rattle.raft_progress.proofs.lemmas.OrderLemmas.{AtMost-from_not_lt, AtMost-trans}
 use Rattle.raft_progress.proofs.lemmas.ListLemmas.{both}
 
 no_configs : {K : Type 0} (eq : K → K → Bool) (ds : List (List K)) → is_coherent eq [] ds ≡ false

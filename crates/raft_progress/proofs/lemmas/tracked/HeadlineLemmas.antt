@@ -41,7 +41,7 @@ use Rattle.raft_progress.specs.progress.CountedValue.{AtMost, has_part, reached}
 use Rattle.raft_progress.specs.progress.InOrder.{IsInOrder}
 use Rattle.raft_progress.specs.progress.Shown.{Shown, state}
 use Rattle.raft_progress.specs.tracked.TrackedState.{IsReady, TrackedShown, has_quorum}
-use Rattle.raft_progress.proofs.lemmas.progress.recount.RecountLemmas.{AtMost-from_not_lt, AtMost-trans}
+use Rattle.raft_progress.proofs.lemmas.OrderLemmas.{AtMost-from_not_lt, AtMost-trans}
 use Rattle.raft_progress.proofs.lemmas.progress.UpdateLemmas.{lookup_alike}
 use Rattle.raft_progress.proofs.lemmas.ListLemmas.{both}
 use Rattle.raft_members.proofs.CallerLemmas.{is_member-alike}

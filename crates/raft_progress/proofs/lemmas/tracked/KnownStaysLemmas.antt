@@ -50,7 +50,7 @@ use Rattle.raft_progress.specs.declared.progress.steps.Reply.TheVariants.{
 use Rattle.raft_progress.specs.declared.tracked.step.Step.{Step}
 use Rattle.raft_progress.specs.declared.tracked.step.Step.TheVariants.{Update, IncreaseTo, Change}
 use Rattle.raft_progress.proofs.lemmas.tracked.KnownLemmas.{change_keeps_granted}
-use Rattle.raft_progress.proofs.lemmas.progress.recount.RecountLemmas.{AtMost-from_not_lt, AtMost-trans}
+use Rattle.raft_progress.proofs.lemmas.OrderLemmas.{AtMost-from_not_lt, AtMost-trans}
 use Rattle.raft_progress.proofs.lemmas.progress.UpdateLemmas.{lookup_alike}
 
 left_false : (a b : Bool) → (a || b) ≡ false → a ≡ false

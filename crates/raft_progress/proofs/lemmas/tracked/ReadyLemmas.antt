@@ -30,7 +30,8 @@ use Rattle.raft_progress.proofs.lemmas.progress.InOrderLemmas.{
   test_from_falling,
   test_from_lowest,
 }
-use Rattle.raft_progress.proofs.lemmas.progress.recount.RecountLemmas.{AtMost-from_not_lt, greatest_keeps, greatest_none, greatest_rises}
+use Rattle.raft_progress.proofs.lemmas.progress.recount.RecountLemmas.{greatest_keeps, greatest_none, greatest_rises}
+use Rattle.raft_progress.proofs.lemmas.OrderLemmas.{AtMost-from_not_lt}
 use Rattle.raft_progress.proofs.lemmas.tracked.TrackedLemmas.{counts_increased, counts_written}
 use Rattle.raft_progress.proofs.lemmas.progress.UpdateLemmas.{lookup_alike}
 

@@ -14,10 +14,10 @@ use Rattle.raft_base.specs.LogIdLawful.{optional-log_id_cmp-total}
 use Rattle.raft_base.specs.LogView.{LogView}
 use Rattle.raft_base.specs.declared.log_id.LogIdOf.{LogIdOf}
 use Rattle.raft_members.proofs.lemmas.membership.AddedLemmas.{is_equal}
-use Rattle.raft_progress.proofs.lemmas.catch_up.CatchUpLemmas.{le_of_eq, tied}
+use Rattle.raft_progress.proofs.lemmas.catch_up.CatchUpLemmas.{tied}
+use Rattle.raft_progress.proofs.lemmas.OrderLemmas.{le_of_eq, AtMost-refl, AtMost-trans}
 use Rattle.raft_progress.specs.progress.CountedValue.{IsReached, reached}
 use Rattle.raft_progress.specs.progress.ProgressState.{Writes}
-use Rattle.raft_progress.proofs.lemmas.progress.recount.RecountLemmas.{AtMost-refl, AtMost-trans}
 use Rattle.raft_progress.specs.progress.Shown.{Shown, state}
 use Rattle.raft_progress.specs.progress.Statistics.{count_after}
 use Rattle.raft_progress.specs.progress.Updated.{IsUpdated}

@@ -10,7 +10,7 @@ use Rattle.raft_base.specs.declared.log_id.LogIdOf.{LogIdOf}
 use Rattle.raft_members.specs.Members.{MemberList}
 use Rattle.raft_members.specs.Stored.{log_id_of}
 use Rattle.raft_members.specs.declared.membership.stored.StoredMembershipOf.{StoredMembershipOf}
-use Rattle.raft_progress.proofs.lemmas.progress.recount.RecountLemmas.{AtMost-from_lt}
+use Rattle.raft_progress.proofs.lemmas.OrderLemmas.{AtMost-from_lt}
 use Rattle.raft_state.proofs.lemmas.raft_state.CommitLemmas.{hold_all}
 use Rattle.raft_state.proofs.lemmas.log_id_list.SameLogLemmas.{both}
 use Rattle.raft_state.specs.Appended.{AppendsMemberships, IsStoredBy, memberships_follow}

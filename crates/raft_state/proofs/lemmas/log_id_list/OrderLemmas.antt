@@ -17,7 +17,7 @@ use Rattle.raft_base.specs.LogId.{id_le}
 use Rattle.raft_state.proofs.lemmas.log_id_list.CutLemmas.{first_full, one_key}
 use Rattle.raft_state.proofs.lemmas.log_id_list.EqualLemmas.{rises_once, tail_keys}
 use Rattle.raft_state.proofs.lemmas.log_id_list.LoggedLemmas.{step_keys}
-use Rattle.raft_progress.proofs.lemmas.progress.recount.RecountLemmas.{AtMost-refl, AtMost-trans}
+use Rattle.raft_progress.proofs.lemmas.OrderLemmas.{AtMost-refl, AtMost-trans}
 
 -- consecutive indexes from i on
 abbrev pub From : {C : Type 0} → ℕ → List (LogIdOf C) → Type 0

@@ -37,9 +37,9 @@ use Rattle.raft_progress.specs.progress.CountedValue.{AtMost, IsCounted, IsReach
 use Rattle.raft_progress.specs.Inner.Recount.{at_least, exceeds, front_test, reaches}
 use Rattle.raft_progress.specs.progress.ProgressState.{ProgressState}
 use Rattle.raft_progress.specs.progress.Walk.{IsFalling, state_of}
-use Rattle.raft_progress.proofs.lemmas.progress.recount.RecountLemmas.{AtMost-refl, AtMost-trans, AtMost-from_lt, AtMost-from_not_lt}
+use Rattle.raft_progress.proofs.lemmas.OrderLemmas.{AtMost-refl, AtMost-trans, AtMost-from_lt, AtMost-from_not_lt, lt_le, le_lt}
 use Rattle.raft_progress.proofs.lemmas.progress.recount.CountedAfreshLemmas.{absent, members, found, same_test, voter_value}
-use Rattle.raft_progress.proofs.lemmas.progress.walk.FallingLemmas.{filter_is_front, in_front, all_get, lt_le, le_lt}
+use Rattle.raft_progress.proofs.lemmas.progress.walk.FallingLemmas.{filter_is_front, in_front, all_get}
 use Rattle.raft_progress.proofs.lemmas.progress.walk.FrontLemmas.{front_grows}
 use Rattle.raft_progress.proofs.lemmas.progress.walk.RisingLemmas.{split_at}
 use Rattle.raft_progress.proofs.lemmas.progress.UpdateLemmas.{lookup_alike}

@@ -9,36 +9,7 @@ use Rattle.std.proofs.lemmas.Cmp.{upto, tied_itself}
 use Rattle.std.proofs.lemmas.List.Elements.{All-more, All-weaker, Contains-get_or}
 use Rattle.raft_progress.specs.progress.CountedValue.{AtMost}
 use Rattle.raft_progress.specs.Inner.Recount.{IsGreatest, reaches}
-
--- what `<` says of `<=`
-pub AtMost-from_lt : {P : Type 0} (cmp : P → P → Ordering) (a b : P) → is_lt (cmp a b) ≡ true → AtMost cmp a b
-AtMost-from_lt cmp a b = elim (cmp a b) as (λ o. is_lt o ≡ true → is_le o ≡ true)
-    [ Less ↦ λ e. refl | Equal ↦ λ e. refl | Greater ↦ λ e. e ]
-
-not_gt_from_le : (r : Ordering) → is_le r ≡ true → is_gt r ≡ false
-not_gt_from_le Less e = refl
-not_gt_from_le Equal e = refl
-not_gt_from_le Greater e = absurd (true≢false (sym e))
-
-le_from_not_gt : (r : Ordering) → is_gt r ≡ false → is_le r ≡ true
-le_from_not_gt Less e = refl
-le_from_not_gt Equal e = refl
-le_from_not_gt Greater e = absurd (true≢false e)
-
-not_lt_reversed : (r : Ordering) → is_lt r ≡ false → is_le (ordering_reverse r) ≡ true
-not_lt_reversed Less e = absurd (true≢false e)
-not_lt_reversed Equal e = refl
-not_lt_reversed Greater e = refl
-
-module _ {P : Type 0} {cmp : P → P → Ordering} (o : IsTotalOrder cmp) where
-  pub AtMost-refl : (a : P) → AtMost cmp a a
-  AtMost-refl a = ap is_le (tied_itself o a)
-
-  pub AtMost-trans : (a b c : P) → AtMost cmp a b → AtMost cmp b c → AtMost cmp a c
-  AtMost-trans a b c p q = le_from_not_gt (cmp a c) (upto o a b c (not_gt_from_le (cmp a b) p) (not_gt_from_le (cmp b c) q))
-
-  pub AtMost-from_not_lt : (a b : P) → is_lt (cmp a b) ≡ false → AtMost cmp b a
-  AtMost-from_not_lt a b h = ap is_le (o.antisymm b a) ∙ not_lt_reversed (cmp a b) h
+use Rattle.raft_progress.proofs.lemmas.OrderLemmas.{AtMost-refl, AtMost-trans, AtMost-from_lt, AtMost-from_not_lt}
 
 module _ {ID V P : Type 0} (eq : ID → ID → Bool) {cmp : P → P → Ordering} (o : IsTotalOrder cmp) (part : V → P)
     (is_quorum : (ID → Bool) → Bool) (voters : List (ID × V)) (default : P) where

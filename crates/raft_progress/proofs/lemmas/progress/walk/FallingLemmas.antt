@@ -10,7 +10,7 @@ use Rattle.std.proofs.Common.{arith, sym, ap, refl, ◌∙◌, true≢false, suc
 use Rattle.raft_progress.specs.progress.CountedValue.{AtMost}
 use Rattle.raft_progress.specs.Inner.Rises.{LastAtLeast}
 use Rattle.raft_progress.specs.progress.Walk.{IsFalling}
-use Rattle.raft_progress.proofs.lemmas.progress.recount.RecountLemmas.{AtMost-trans, AtMost-from_lt}
+use Rattle.raft_progress.proofs.lemmas.OrderLemmas.{AtMost-trans, AtMost-from_lt, lt_le, le_lt}
 use Rattle.raft_progress.proofs.lemmas.ListLemmas.{all_weaker}
 
 pub nothing_kept : {X : Type 0} (p : X → Bool) (xs : List X) → AllByRecursion (λ x. p x ≡ false) xs → filter p xs ≡ []
@@ -34,31 +34,6 @@ all_last P (x ∷ xs) ys a = all_last P xs ys a.1
 pub all_both : {X : Type 0} (P : X → Type 0) (xs ys : List X) → AllByRecursion P xs → AllByRecursion P ys → AllByRecursion P (xs ++ ys)
 all_both P [] ys a b = b
 all_both P (x ∷ xs) ys a b = (a.0, all_both P xs ys a.1 b)
-
-less : (r : Ordering) → is_lt r ≡ true → r ≡ Less
-less Less e = refl
-less Equal e = absurd (true≢false (sym e))
-less Greater e = absurd (true≢false (sym e))
-
--- g < p <= q gives g < q
-pub lt_le : {P : Type 0} {cmp : P → P → Ordering} (o : IsTotalOrder cmp) (g p q : P) → is_lt (cmp g p) ≡ true → AtMost cmp p q
-    → is_lt (cmp g q) ≡ true
-lt_le {P} {cmp} o g p q a b = by (cmp p q) refl b
-  where
-    by : (r : Ordering) → cmp p q ≡ r → is_le r ≡ true → is_lt (cmp g q) ≡ true
-    by Less t e = ap is_lt (o.trans g p q (less (cmp g p) a) t)
-    by Equal t e = ap is_lt (sym (alike_right o p q g t)) ∙ a
-    by Greater t e = absurd (true≢false (sym e))
-
--- g <= p < q gives g < q
-pub le_lt : {P : Type 0} {cmp : P → P → Ordering} (o : IsTotalOrder cmp) (g p q : P) → AtMost cmp g p → is_lt (cmp p q) ≡ true
-    → is_lt (cmp g q) ≡ true
-le_lt {P} {cmp} o g p q a b = by (cmp g p) refl a
-  where
-    by : (r : Ordering) → cmp g p ≡ r → is_le r ≡ true → is_lt (cmp g q) ≡ true
-    by Less t e = ap is_lt (o.trans g p q t (less (cmp p q) b))
-    by Equal t e = ap is_lt (o.congr g p q t) ∙ b
-    by Greater t e = absurd (true≢false (sym e))
 
 module _ {ID V P : Type 0} {cmp : P → P → Ordering} (o : IsTotalOrder cmp) (part : V → P) (g : P) where
   -- a test that a greater part passes too, and only parts above g

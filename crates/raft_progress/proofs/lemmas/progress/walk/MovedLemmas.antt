@@ -13,6 +13,7 @@ use Rattle.raft_progress.proofs.lemmas.progress.walk.RisingLemmas.{get_at}
 use Rattle.raft_progress.specs.Inner.Rises.{LastAtLeast, RisesTo}
 use Rattle.raft_progress.specs.progress.Walk.{put_after_last, walk_after_rise}
 use Rattle.raft_progress.proofs.lemmas.ListLemmas.{or_right}
+use Rattle.raft_progress.proofs.lemmas.OrderLemmas.{lt_reversed}
 
 pub take_add : {X : Type 0} (xs ys : List X) (k n : ℕ) → n ≡ length xs + k → take n (xs ++ ys) ≡ xs ++ take k ys
 take_add [] ys k n e = let z : n ≡ k = omega arith in ap (λ m. take m ys) z
@@ -87,11 +88,6 @@ module _ {ID V : Type 0} {eq : ID → ID → Bool} (laws : IsEquivalence eq) whe
   unfolding IsDistinct
   lookup_moved [] xs e ys d x = lookup_passed xs e ys d x
   lookup_moved (f ∷ fs) xs e ys d x = ap (λ r. cond (eq x f.0) (Some f.1) r) (lookup_moved fs xs e ys d.1 x)
-
-lt_reversed : (r : Ordering) → is_lt r ≡ true → is_le (ordering_reverse r) ≡ false
-lt_reversed Less h = refl
-lt_reversed Equal h = absurd (true≢false (sym h))
-lt_reversed Greater h = absurd (true≢false (sym h))
 
 -- the walk is the risen one
 module _ {ID V P : Type 0} {cmp : P → P → Ordering} (o : IsTotalOrder cmp) (part : V → P) where

@@ -26,7 +26,7 @@ use Rattle.std.proofs.lemmas.List.Edits.{swap_is}
 use Rattle.std.specs.Cmp.{IsTotalOrder}
 use Rattle.raft_progress.specs.progress.CountedValue.{AtMost}
 use Rattle.raft_progress.specs.Inner.Rises.{LastAtLeast, Passed, RisesTo}
-use Rattle.raft_progress.proofs.lemmas.progress.recount.RecountLemmas.{AtMost-from_not_lt}
+use Rattle.raft_progress.proofs.lemmas.OrderLemmas.{AtMost-from_not_lt}
 
 pub get_at : {X : Type 0} (xs : List X) (x : X) (ys : List X) (d : X) → get_or (xs ++ x ∷ ys) (length xs) d ≡ x
 get_at [] x ys d = refl

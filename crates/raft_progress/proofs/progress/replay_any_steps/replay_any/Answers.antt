@@ -9,7 +9,7 @@ use Rattle.std.proofs.lemmas.List.{append-nil, nil_from_length}
 use Rattle.raft_progress.specs.declared.progress.steps.AnyStep.{AnyStep}
 use Rattle.raft_progress.specs.declared.progress.steps.Reply.{Reply}
 use Rattle.raft_progress.proofs.lemmas.progress.GrantedLemmas.{run_not_lower}
-use Rattle.raft_progress.proofs.lemmas.progress.recount.RecountLemmas.{AtMost-refl}
+use Rattle.raft_progress.proofs.lemmas.OrderLemmas.{AtMost-refl}
 use Rattle.raft_progress.proofs.lemmas.progress.RunLemmas.{run_more, run_seen}
 use Rattle.raft_progress.proofs.lemmas.progress.Traits.{compared}
 use Rattle.raft_progress.proofs.lemmas.progress.UpdateLemmas.{IsSame-refl}

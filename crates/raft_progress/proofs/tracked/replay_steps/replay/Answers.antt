@@ -12,7 +12,7 @@ use Rattle.raft_progress.proofs.lemmas.tracked.ChangeLemmas.{IsSameTracked-refl}
 use Rattle.raft_progress.proofs.lemmas.progress.GrantedLemmas.{tracked_run_not_lower}
 use Rattle.raft_progress.proofs.lemmas.tracked.HeadlineLemmas.{each_quorum_knows}
 use Rattle.raft_progress.proofs.lemmas.tracked.ReadyLemmas.{ready_of}
-use Rattle.raft_progress.proofs.lemmas.progress.recount.RecountLemmas.{AtMost-refl}
+use Rattle.raft_progress.proofs.lemmas.OrderLemmas.{AtMost-refl}
 use Rattle.raft_progress.proofs.lemmas.progress.RunLemmas.{run_more, run_seen}
 use Rattle.raft_progress.proofs.lemmas.progress.Traits.{compared}
 use Rattle.raft_progress.proofs.tracked.replay_steps.replay.Goals as goal

@@ -25,7 +25,7 @@ use Rattle.std.specs.List.{IsDistinct}
 use Rattle.std.specs.Map.{keys_of}
 use Rattle.std.proofs.lemmas.Option.{get_or_from_slice_get}
 use Rattle.raft_progress.specs.progress.VecProgress.{shown}
-use Rattle.raft_progress.proofs.lemmas.progress.walk.FallingLemmas.{le_lt}
+use Rattle.raft_progress.proofs.lemmas.OrderLemmas.{le_lt}
 use Rattle.raft_progress.proofs.lemmas.ListLemmas.{element_at}
 use Rattle.raft_progress.proofs.lemmas.progress.walk.MovedLemmas.{distinct_moved}
 use Rattle.raft_progress.proofs.progress.vec_progress.VecProgress.settle.Goals as goal
@@ -33,13 +33,7 @@ use Rattle.raft_progress.proofs.progress.vec_progress.VecProgress.settle.Goals.{
   then-place-self-via-then-place-self,
   then-place-self-via-else-place-self+then-not-is_below,
 }
-
-not_less : (a b : ℕ) → b ≤ a → nat_lt a b ≡ false
-not_less a b l = by (ltb a b) refl
-  where
-    by : (t : Bool) → ltb a b ≡ t → t ≡ false
-    by false e = refl
-    by true e = let h = ltb-true a b e in absurd (omega arith)
+use Rattle.std.proofs.lemmas.Bool.{le-ltb}
 
 and_false : (b c : Bool) → c ≡ false → (b && c) ≡ false
 and_false true c e = e
@@ -54,7 +48,7 @@ returns-then-place-self-clause-put g c =
     let no : (nat_lt c.args.place c.args.self.now.voter_count && rises) ≡ false =
     elim c.then-place-self.branch [
       | then-place-self-via-then-place-self w ↦
-          ap (λ b. b && rises) (not_less c.args.place c.args.self.now.voter_count w.if-place-self.true)
+          ap (λ b. b && rises) (le-ltb c.args.place c.args.self.now.voter_count w.if-place-self.true)
       | then-place-self-via-else-place-self+then-not-is_below w ↦
           let low : is_lt (g.P.Ord.cmp c.args.self.now.granted c.args.after) ≡ false = cc in
           and_false (nat_lt c.args.place c.args.self.now.voter_count) rises
