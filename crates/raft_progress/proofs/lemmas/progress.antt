@@ -1,5 +1,6 @@
 pub mod upgrade
 pub mod walk
+pub mod places
 pub mod recount
 pub mod CallStepLemmas
 pub mod CloneLemmas

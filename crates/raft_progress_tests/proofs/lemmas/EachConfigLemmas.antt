@@ -19,9 +19,9 @@ use Rattle.raft_progress.specs.progress.CountedValue.{AtMost, has_part, reached}
 use Rattle.raft_progress.specs.progress.Shown.{state}
 use Rattle.raft_progress.specs.progress.Threshold.{QuorumReached}
 use Rattle.raft_progress.specs.tracked.TrackedState.{IsReady, TrackedShown, has_quorum}
-use Rattle.raft_progress.proofs.lemmas.tracked.HeadlineLemmas.{list_all-mapped}
 use Rattle.raft_progress.proofs.lemmas.ListLemmas.{all_weaker, or_right}
 use Rattle.raft_progress_tests.specs.Uses.{MajorityOfEach}
+use Rattle.std.proofs.lemmas.List.Folds.{list_all-map}
 
 or_left : (a b : Bool) → a ≡ true → (a || b) ≡ true
 or_left a b h = rw h refl
@@ -89,7 +89,7 @@ module _ {K N V P : Type 0} {eq : K → K → Bool} (laws : IsEquivalence eq) {i
 
   -- quorums of the progress are those of the configs
   same_quorums : (s : K → Bool) → has_quorum eq t.progress.quorum_set s ≡ is_joint_majority eq t.membership.configs s
-  same_quorums s = sym (list_all-mapped (λ c. c.items) (λ c. is_majority eq c s) t.progress.quorum_set.items)
+  same_quorums s = sym (list_all-map (λ c. is_majority eq c s) (λ c. c.items) t.progress.quorum_set.items)
       ∙ ap (list_all (λ c. is_majority eq c s)) r.counts_by.configs
 
   pub each_reached : QuorumReached cmp part (has_quorum eq) (state eq t.progress) q ↔ MajorityOfEach eq t (λ v. is_le (cmp q (part v)))

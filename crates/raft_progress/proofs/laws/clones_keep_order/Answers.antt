@@ -1,4 +1,4 @@
-use Rattle.raft_progress.proofs.lemmas.tracked.TrackedCloneLemmas.{clones_keep_order}
+use Rattle.raft_progress.proofs.lemmas.progress.CloneLemmas.{clones_keep_order}
 use Rattle.raft_progress.proofs.laws.clones_keep_order.Goals as goal
 
 pub returns : goal.returns

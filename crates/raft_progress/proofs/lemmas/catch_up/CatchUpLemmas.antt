@@ -40,8 +40,7 @@ use Rattle.std.proofs.lemmas.Bool.{cases_lt, leb-true, ltb-true}
 use Rattle.std.proofs.lemmas.Bool.Decides.{nat_tests}
 use Rattle.std.specs.Borrow.{Bor}
 use Rattle.std.specs.declared.cmp.Ordering.{Ordering}
-use Rattle.std.specs.declared.cmp.Ordering.TheVariants.{Less, Equal, Greater}
-use Rattle.std.specs.Ordering.{eq_by_cmp, is_eq, is_le, is_lt, nat_cmp}
+use Rattle.std.specs.Ordering.{eq_by_cmp, is_eq, nat_cmp}
 use Rattle.std.specs.Cmp.{IsTotalOrder, first_so, second_so}
 use Rattle.std.specs.Option.{option_cmp}
 use Rattle.std.specs.Result.{is_err}
@@ -79,7 +78,7 @@ use Rattle.raft_progress.proofs.lemmas.catch_up.HonestRunLemmas.{
 }
 use Rattle.raft_progress.proofs.lemmas.catch_up.HonestTurnLemmas.{Stands, ack_falls, ack_near, conflict_falls, conflict_halves, measure}
 use Rattle.raft_progress.proofs.lemmas.OrderLemmas.{AtMost-from_lt, le_lt, le_of_eq}
-use Rattle.raft_progress.proofs.lemmas.ListLemmas.{of_both}
+use Rattle.raft_progress.proofs.lemmas.ListLemmas.{of_both, some_inside}
 
 -- a send that is no error is the table's
 pub sent_ok : {C : Type 0} (table : Result (ProgressEntryOf C) (ProgressEntryOf C))
@@ -158,9 +157,6 @@ pub record Along {C : Type 0} (eq : C → C → Bool) (cmp : C → C → Orderin
 
 more_times : (k n : ℕ) → (k + 1) * n ≡ k * n + n
 more_times k n = let e : k + 1 ≡ suc k = omega arith in rw e (suc-mul k n)
-
-some_inside : {A : Type 0} (x y : A) → Some x ≡ Some y → x ≡ y
-some_inside x y h = cc
 
 none_if : (t : Bool) (x : ℕ) → (if t then Some x else None) ≡ None → t ≡ false
 none_if true x h = cc

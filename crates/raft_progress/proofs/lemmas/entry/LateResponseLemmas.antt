@@ -35,6 +35,7 @@ use Rattle.raft_progress.specs.declared.entry.ProgressEntryOf.{ProgressEntryOf}
 use Rattle.raft_progress.specs.declared.inflight.InflightError.TheVariants.{InvalidRequestId}
 use Rattle.raft_progress.specs.declared.inflight.InflightOf.{InflightOf}
 use Rattle.raft_progress.specs.declared.inflight.InflightOf.TheVariants.{None as Idle, Logs, Snapshot}
+use Rattle.raft_progress.proofs.lemmas.ListLemmas.{some_inside}
 
 module _ {C : Type 0} (cmp : C → C → Ordering) where
   ack_refused : (entry : ProgressEntryOf C) (inflight : InflightOf C) (id : ℕ) (matching : Option (LogIdOf C))
@@ -57,11 +58,8 @@ module _ {C : Type 0} (cmp : C → C → Ordering) where
     conflicts = λ index. conflict_refused entry entry.inflight id index n;
   }
 
-  some_is : (a b : ℕ) → Some a ≡ Some b → a ≡ b
-  some_is a b h = cc
-
   logs_have : (b : Bool) (mine id : ℕ) (range : LogIdRangeOf C) → id_of (cond b (Logs mine range) Idle) ≡ Some id → mine ≡ id
-  logs_have true mine id range h = some_is mine id h
+  logs_have true mine id range h = some_inside mine id h
   logs_have false mine id range h = cc
 
   sent_is : (sent sending : ProgressEntryOf C) (mine id : ℕ)
@@ -90,6 +88,6 @@ module _ {C : Type 0} (cmp : C → C → Ordering) where
           }))
           ≡ Ok sent
           → entry.curr_inflight_id + 1 ≡ id
-      by true c is = sent_is sent _ (entry.curr_inflight_id + 1) id is (λ k. some_is (entry.curr_inflight_id + 1) id k) h
+      by true c is = sent_is sent _ (entry.curr_inflight_id + 1) id is (λ k. some_inside (entry.curr_inflight_id + 1) id k) h
       by false true is = cc
       by false false is = sent_is sent _ (entry.curr_inflight_id + 1) id is (λ k. logs_have _ (entry.curr_inflight_id + 1) id _ k) h

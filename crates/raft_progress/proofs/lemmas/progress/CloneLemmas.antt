@@ -1,4 +1,4 @@
--- Clones of entries, one after another.
+-- Clones of entries, one after another, and of a whole progress.
 use Rattle.std.specs.Prelude.{
   ◌≡◌,
   ℕ,
@@ -20,18 +20,23 @@ use Rattle.std.specs.Prelude.{
   Err,
   MatchResult,
   IfOk,
+  map,
 }
 use Rattle.std.specs.List.{AllZip}
 use Rattle.std.specs.Map.{keys_of}
 use Rattle.std.specs.Set.{ClonesAreEqual}
 use Rattle.std.specs.Cmp.{IsEquivalence, nat_eq_equiv}
 use Rattle.std.specs.Cmp.Lexicographic.{pointwise}
-use Rattle.std.proofs.Common.{ap, subst, suc, sym, ◌∙◌, get_or}
+use Rattle.std.proofs.Common.{ap, subst, suc, sym, ◌∙◌, get_or, refl, zero}
 use Rattle.std.proofs.lemmas.List.{take_more}
 use Rattle.raft_progress.specs.progress.Equal.{IsCloned, equal}
 use Rattle.raft_progress.specs.progress.Shown.{Shown}
 use Rattle.raft_progress.proofs.lemmas.ListLemmas.{both}
 use Rattle.std.proofs.lemmas.Slice.Zip.{all_zipped_more}
+use Rattle.std.specs.declared.cmp.Ordering.{Ordering}
+use Rattle.raft_progress.specs.progress.Kept.{ClonesKeepOrder}
+use Rattle.raft_progress.specs.tracked.TrackedState.{has_quorum}
+use Rattle.raft_progress.proofs.lemmas.progress.KeptLemmas.{order_alike}
 
 pub zip_step : {A B : Type 0} (R : A → B → Type 0) (xs : List A) (i : ℕ) (x : A) (ys zs : List B) (y : B) → i < length xs
     → x ≡ get_or xs i x → AllZip R (take i xs) ys → zs ≡ ys ++ y ∷ [] → R x y → AllZip R (take (i + 1) xs) zs
@@ -101,3 +106,21 @@ list_is_equal eq IsClone c [] [] a = refl
 list_is_equal eq IsClone c [] (y ∷ ys) a = absurd a
 list_is_equal eq IsClone c (x ∷ xs) [] a = absurd a
 list_is_equal eq IsClone c (x ∷ xs) (y ∷ ys) a = both _ _ (c x y a.0) (list_is_equal eq IsClone c xs ys a.1)
+
+-- and their parts
+pub same_parts : {ID V P : Type 0} (IsClone : V → V → Type 0) (part : V → P) → ((v w : V) → IsClone v w → part w ≡ part v)
+    → (n : ℕ) (es fs : List (ID × V))
+    → AllZip (λ d e. (e.0 ≡ d.0) × IsClone d.1 e.1) es fs → map (λ e. part e.1) (take n fs) ≡ map (λ e. part e.1) (take n es)
+same_parts IsClone part same zero es fs a = refl
+same_parts IsClone part same (suc n) [] [] a = refl
+same_parts IsClone part same (suc n) [] (f ∷ fs) a = absurd a
+same_parts IsClone part same (suc n) (e ∷ es) [] a = absurd a
+same_parts IsClone part same (suc n) (e ∷ es) (f ∷ fs) a = λ i. same e.1 f.1 a.0.1 i ∷ same_parts IsClone part same n es fs a.1 i
+
+-- a clone of a progress in order is in order
+pub clones_keep_order : {ID V P QS : Type 0} (eq : ID → ID → Bool) (cmp : P → P → Ordering) (part : V → P)
+    (has_quorum : QS → (ID → Bool) → Bool) (IsClone : V → V → Type 0) (IsSetClone : QS → QS → Type 0)
+    → ClonesKeepOrder ID V P QS eq part cmp has_quorum IsClone IsSetClone
+clones_keep_order eq cmp part has_quorum IsClone IsSetClone clones sets old new c =
+    order_alike eq cmp part has_quorum old new (sets old.quorum_set new.quorum_set c.quorum_set) c.voter_count c.default_part c.granted
+    (same_ids IsClone old.walk new.walk c.walk) (same_parts IsClone part clones old.voter_count old.walk new.walk c.walk)

@@ -47,7 +47,7 @@ use Rattle.raft_progress.proofs.lemmas.OrderLemmas.{AtMost-from_lt, AtMost-from_
 use Rattle.raft_progress.proofs.lemmas.progress.walk.MovedLemmas.{is_risen}
 use Rattle.raft_progress.proofs.lemmas.progress.SettledLemmas as settles
 use Rattle.raft_progress.proofs.lemmas.progress.UpdateLemmas.{same_keys, lookup_written, writes}
-use Rattle.raft_progress.proofs.lemmas.ListLemmas.{of_both}
+use Rattle.raft_progress.proofs.lemmas.ListLemmas.{of_both, length_take_le}
 use Rattle.raft_progress.proofs.lemmas.progress.StatisticsLemmas.{counted_none}
 
 -- an id's value went from v to w; the walk was ws, and mid has it written
@@ -307,11 +307,6 @@ module _ {ID V P QS : Type 0} {eq : ID → ID → Bool} (laws : IsEquivalence eq
             (sym (passed (of_both _ _ rise).0 (ap (λ (x : P). is_le (cmp x mid.granted)) (sym before_is) ∙ t) high) ∙ h));
       }
         where
-          length_take_le : (xs : List (ID × V)) (n : ℕ) → length (take n xs) ≤ n
-          length_take_le xs zero = omega arith
-          length_take_le [] (suc n) = omega arith
-          length_take_le (x ∷ xs) (suc n) = let h = length_take_le xs n in omega arith
-
           passed : {a b c : Bool} → a ≡ true → b ≡ true → c ≡ true → (a && (b && c)) ≡ true
           passed x y z = rw (x, y, z) refl
 

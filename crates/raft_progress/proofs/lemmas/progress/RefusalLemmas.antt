@@ -1,32 +1,13 @@
 -- A step that was refused has changed nothing.
-use Rattle.std.specs.Prelude.{◌≡◌, Bool, true, Err, IfErr, IfOk, List, None, Ok, OnErr, Result, Some, refl}
+use Rattle.std.specs.Prelude.{Bool, true, List, refl}
 use Rattle.std.specs.declared.cmp.Ordering.{Ordering}
-use Rattle.std.specs.Result.{result_unwrap_or}
-use Rattle.std.proofs.Common.{subst, sym, true≢false, ◌∙◌}
-use Rattle.raft_members.specs.Change.{changed}
-use Rattle.raft_members.specs.Members.{MemberList, Members, Says, members_of}
-use Rattle.raft_members.specs.Refusal.{IsRefusal}
-use Rattle.raft_members.specs.Valid.{IsValid}
-use Rattle.raft_members.specs.declared.change_members.ChangeMembers.{ChangeMembers}
-use Rattle.raft_members.specs.declared.error.ChangeMembershipErrorOf.{ChangeMembershipErrorOf}
-use Rattle.raft_members.specs.declared.error.ChangeMembershipErrorOf.TheVariants.{
-  InProgress,
-  EmptyMembership,
-  LearnerNotFound,
-  OutOfMemory
-      as WantOfMemory,
-}
-use Rattle.raft_progress.specs.Inner.Refusal.{RefusesUpgrade, refusal_reply}
-use Rattle.raft_progress.specs.Inner.ShownAnswers.{IsShownChange, IsShownUpgrade}
-use Rattle.raft_progress.specs.progress.Answered.{Tells, is_refused}
+use Rattle.std.proofs.Common.{true≢false}
+use Rattle.raft_progress.specs.Inner.Refusal.{RefusesUpgrade}
+use Rattle.raft_progress.specs.Inner.ShownAnswers.{IsShownUpgrade}
 use Rattle.raft_progress.specs.progress.Shown.{Shown, state}
-use Rattle.raft_progress.specs.tracked.SingleSteps.{IsTrackedChangeTo}
-use Rattle.raft_progress.specs.tracked.TrackedState.{TrackedShown, tracked_state}
-use Rattle.raft_progress.specs.tracked.TrackedSteps.{IsChanged, IsSameTracked}
-use Rattle.raft_progress.proofs.lemmas.tracked.ChangeLemmas.{IsSameTracked-refl, changed_step}
 use Rattle.raft_progress.proofs.lemmas.progress.UpdateLemmas.{IsSame-refl}
 use Rattle.raft_progress.specs.declared.progress.steps.Reply.{Reply}
-use Rattle.raft_progress.specs.declared.progress.steps.Reply.TheVariants.{Refused, BelowDefault, BadLearners, OutOfMemory}
+use Rattle.raft_progress.specs.declared.progress.steps.Reply.TheVariants.{BelowDefault, BadLearners}
 
 module _ {ID V P QS : Type 0} (eq : ID → ID → Bool) (id_cmp : ID → ID → Ordering) (cmp : P → P → Ordering) (part : V → P)
     (IsClone : V → V → Type 0) (has_quorum : QS → (ID → Bool) → Bool) (is_voter : QS → ID → Bool)
@@ -46,59 +27,3 @@ module _ {ID V P QS : Type 0} (eq : ID → ID → Bool) (id_cmp : ID → ID → 
           answered = record { refused = λ h. refl; done = λ h. absurd (true≢false h); tells = tt };
         }
     refused_upgrade reply r = absurd r
-
--- going over to a membership is answered by its reply, or by want of memory where nothing has changed
-pub change_or_memory : {K N V P E : Type 0} (eq : K → K → Bool) (id_cmp : K → K → Ordering) (cmp : P → P → Ordering) (part : V → P)
-    (IsClone : V → V → Type 0) (old new : TrackedShown K N V P) (next : MemberList K N) (default : V) (made : Result (Reply K P) E)
-    → IfOk made (λ reply. IsTrackedChangeTo eq id_cmp cmp part IsClone old next default reply new) → OnErr made (new ≡ old)
-    → IsTrackedChangeTo eq id_cmp cmp part IsClone old next default (result_unwrap_or made OutOfMemory) new
-change_or_memory eq id_cmp cmp part IsClone old new next default (Ok reply) step kept = step
-change_or_memory {K} {N} {V} {P} eq id_cmp cmp part IsClone old new next default (Err e) step kept =
-    subst (λ (n : TrackedShown K N V P). IsTrackedChangeTo eq id_cmp cmp part IsClone old next default OutOfMemory n) (sym kept)
-    record {
-      values = IsSameTracked-refl (tracked_state eq old);
-      answered = record { refused = λ h. refl; done = λ h. absurd (true≢false h); tells = tt };
-    }
-
-module _ {K N V P : Type 0} (eq : K → K → Bool) (id_cmp : K → K → Ordering) (same : N → N → Bool) (cmp : P → P → Ordering) (part : V → P)
-    (IsClone : V → V → Type 0)
-    (old new : TrackedShown K N V P) (change : ChangeMembers K N) (retain : Bool) (default : V)
-  where
-    abbrev pub after : Members K N
-    after = changed eq id_cmp (members_of id_cmp old.membership) change retain
-
-    same_tracked : IsSameTracked (tracked_state eq old) (tracked_state eq old)
-    same_tracked = IsSameTracked-refl (tracked_state eq old)
-
-    -- a reply that may answer the change with nothing changed does
-    unchanged : (reply given : Reply K P) → reply ≡ given → new ≡ old
-        → IsChanged eq id_cmp same cmp part IsClone (tracked_state eq old) change retain default given (tracked_state eq old)
-        → is_refused given ≡ true → Tells given old.progress.granted
-        → IsShownChange eq id_cmp same cmp part IsClone old change retain default reply new
-    unchanged reply given is kept values refused tells =
-        subst (λ (n : TrackedShown K N V P). IsShownChange eq id_cmp same cmp part IsClone old change retain default reply n) (sym kept)
-        (subst (λ (r : Reply K P). IsShownChange eq id_cmp same cmp part IsClone old change retain default r old) (sym is)
-        record {
-          values = values;
-          answered = record
-              { refused = λ h. refl; done = λ h. absurd (true≢false (sym refused ∙ h)); tells = tells };
-        })
-
-    -- a change is answered by what is made of the membership, or by why it is refused
-    pub change_answered : {C : Type 0} (made : Result (MemberList K N) (ChangeMembershipErrorOf C K)) (reply : Reply K P)
-        → IfOk made (λ m. IsValid eq after) → IfOk made (λ m. Says same id_cmp m after) → IfErr made (IsRefusal eq id_cmp after)
-        → IfErr made (λ e. (reply ≡ refusal_reply e) × (new ≡ old))
-        → IfOk made (λ next. IsTrackedChangeTo eq id_cmp cmp part IsClone old next default reply new)
-        → IsShownChange eq id_cmp same cmp part IsClone old change retain default reply new
-    change_answered (Ok next) reply valid says why refused taken = record {
-      values = changed_step eq id_cmp same cmp part IsClone (tracked_state eq old) change retain default next (tracked_state eq new) valid
-          says reply taken.values;
-      answered = taken.answered;
-    }
-    change_answered (Err (InProgress e)) reply valid says why refused taken = absurd why
-    change_answered (Err (EmptyMembership e)) reply valid says why refused taken =
-        unchanged reply (Refused None) refused.0 refused.1 (why, same_tracked) refl tt
-    change_answered (Err (LearnerNotFound e)) reply valid says why refused taken =
-        unchanged reply (Refused (Some e.node_id)) refused.0 refused.1 (why.0, why.1, same_tracked) refl tt
-    change_answered (Err WantOfMemory) reply valid says why refused taken =
-        unchanged reply OutOfMemory refused.0 refused.1 same_tracked refl tt

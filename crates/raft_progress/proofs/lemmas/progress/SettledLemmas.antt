@@ -46,8 +46,8 @@ use Rattle.std.proofs.Common.{
   length-append,
   append_assoc,
 }
-use Rattle.std.proofs.lemmas.List.{take-set-le, set-set, set-get_or, get_or-set_same}
-use Rattle.std.proofs.Math.Seq.{take-set-lt}
+use Rattle.std.proofs.lemmas.List.{take-set-le, set-set, set-get_or, get_or-set_same, take-append-le, get_or-take}
+use Rattle.std.proofs.Math.Seq.{take-set-lt, get_or-append_seam, set-append_seam}
 use Rattle.std.proofs.lemmas.List.Quantifiers.{position-Some}
 use Rattle.raft_progress.specs.progress.CountedValue.{AtMost}
 use Rattle.raft_progress.specs.progress.InOrder.{IsWalkInOrder}
@@ -57,8 +57,8 @@ use Rattle.raft_progress.specs.progress.Walk.{IsFalling}
 use Rattle.raft_progress.proofs.lemmas.OrderLemmas.{AtMost-from_not_lt, lt_le}
 use Rattle.raft_progress.proofs.lemmas.progress.walk.FallingLemmas.{falling_risen, falling_set, falling_weaker}
 use Rattle.raft_progress.proofs.lemmas.progress.walk.FrontLemmas.{front_fails}
-use Rattle.raft_progress.proofs.lemmas.progress.walk.RisingLemmas.{get_at, set_at}
-use Rattle.raft_progress.proofs.lemmas.progress.walk.MovedLemmas.{take_add, take_within, distinct_moved, member_moved, lookup_moved}
+use Rattle.raft_progress.proofs.lemmas.progress.walk.MovedLemmas.{distinct_moved, member_moved, lookup_moved}
+use Rattle.raft_progress.proofs.lemmas.ListLemmas.{take_add}
 use Rattle.raft_progress.proofs.lemmas.progress.recount.CountedValueLemmas.{
   counted_still,
   counted_none,
@@ -77,12 +77,6 @@ tied {P} {cmp} o a b h k = by (cmp a b) refl
     by Equal t = refl
     by Less t = absurd (not_both o a b (ap is_lt t) k)
     by Greater t = absurd (true≢false (sym h ∙ ap is_le t))
-
-pub get_take : {X : Type 0} (xs : List X) (n i : ℕ) (d : X) → i < n → get_or (take n xs) i d ≡ get_or xs i d
-get_take xs zero i d l = absurd (omega arith)
-get_take [] (suc n) i d l = refl
-get_take (x ∷ xs) (suc n) zero d l = refl
-get_take (x ∷ xs) (suc n) (suc i) d l = get_take xs n i d (omega arith)
 
 length_take : {X : Type 0} (xs : List X) (n i : ℕ) → i < n → i < length xs → i < length (take n xs)
 length_take xs zero i l h = absurd (omega arith)
@@ -160,7 +154,7 @@ module _ {ID V P QS : Type 0} {eq : ID → ID → Bool} (laws : IsEquivalence eq
             let l = ltb-true i n t in
             rw next_is (rw (take-set-lt n walk i (e0.0, w) l)
             (falling_set o part g (take n walk) i e0 (e0.0, w) e0 (length_take walk n i l place.0)
-            (is ∙ sym (get_take walk n i e0 l)) up (λ h. (over l h, low l h)) r.falling))
+            (is ∙ sym (get_or-take n walk i e0 l)) up (λ h. (over l h, low l h)) r.falling))
         by false t = let l = ltb-false i n t in rw next_is (rw (take-set-le n walk i (e0.0, w) l) r.falling)
 
     pub order_still : IsWalkInOrder eq cmp part has_quorum qs next n d0 g
@@ -185,7 +179,7 @@ module _ {ID V P QS : Type 0} {eq : ID → ID → Bool} (laws : IsEquivalence eq
         let len : length (p.front ++ p.passed) ≡ i = length-append p.front p.passed ∙ p.was_at in
         let was' : next ≡ (p.front ++ p.passed) ++ (p.entry ∷ p.rest) = p.was ∙ sym (append_assoc p.front p.passed (p.entry ∷ p.rest)) in
         sym (ap (λ xs. get_or xs i e0) was' ∙ ap (λ k. get_or ((p.front ++ p.passed) ++ (p.entry ∷ p.rest)) k e0) (sym len)
-        ∙ get_at (p.front ++ p.passed) p.entry p.rest e0)
+        ∙ get_or-append_seam (p.front ++ p.passed) p.entry p.rest e0)
         ∙ ap (λ xs. get_or xs i e0) next_is ∙ get_or-set_same walk i (e0.0, w) e0 place.0
 
     part_is : part p.entry.1 ≡ part w
@@ -197,7 +191,7 @@ module _ {ID V P QS : Type 0} {eq : ID → ID → Bool} (laws : IsEquivalence eq
         sym (set-get_or walk i e0) ∙ ap (set walk i) (sym is) ∙ sym (set-set walk i (e0.0, w) e0) ∙ ap (λ xs. set xs i e0) (sym next_is)
         ∙ ap (λ xs. set xs i e0) (p.was ∙ sym (append_assoc p.front p.passed (p.entry ∷ p.rest)))
         ∙ ap (λ k. set ((p.front ++ p.passed) ++ (p.entry ∷ p.rest)) k e0) (sym len)
-        ∙ set_at (p.front ++ p.passed) p.entry e0 p.rest ∙ append_assoc p.front p.passed (e0 ∷ p.rest)
+        ∙ set-append_seam (p.front ++ p.passed) p.entry p.rest e0 ∙ append_assoc p.front p.passed (e0 ∷ p.rest)
 
     after : ℕ
     after = n - i - 1
@@ -272,7 +266,7 @@ module _ {ID V P QS : Type 0} {eq : ID → ID → Bool} (laws : IsEquivalence eq
         in_lead laws o part has_quorum qs superset d0 n moved distinct_to g falling_to to e0 length_moved
         (ap (λ xs. is_lt (cmp g (part (get_or xs to e0).1))) take_moved
         ∙ ap (λ k. is_lt (cmp g (part (get_or (p.front ++ (p.entry ∷ (p.passed ++ take after p.rest))) k e0).1))) (sym p.now_at)
-        ∙ ap (λ (f : ID × V). is_lt (cmp g (part f.1))) (get_at p.front p.entry (p.passed ++ take after p.rest) e0)
+        ∙ ap (λ (f : ID × V). is_lt (cmp g (part f.1))) (get_or-append_seam p.front p.entry (p.passed ++ take after p.rest) e0)
         ∙ ap (λ x. is_lt (cmp g x)) part_is ∙ high)
 
     -- the fronts before the voter were no quorum, and none of them has changed
@@ -289,8 +283,8 @@ module _ {ID V P QS : Type 0} {eq : ID → ID → Bool} (laws : IsEquivalence eq
         front_fails eq (has_quorum qs) superset (take n walk) l (prefix_len (exceeds cmp part g) (take n walk)) (omega arith)
         (lead_fails laws o part has_quorum qs superset d0 n walk r.distinct g r.falling r.counted (omega arith)) in
         let same : take l (take n moved) ≡ take l (take n walk) =
-        ap (take l) take_moved ∙ take_within p.front (p.entry ∷ (p.passed ++ take after p.rest)) l (omega arith)
-        ∙ sym (take_within p.front (p.passed ++ (e0 ∷ take after p.rest)) l (omega arith)) ∙ ap (take l) (sym take_walk) in
+        ap (take l) take_moved ∙ take-append-le l p.front (p.entry ∷ (p.passed ++ take after p.rest)) (omega arith)
+        ∙ sym (take-append-le l p.front (p.passed ++ (e0 ∷ take after p.rest)) (omega arith)) ∙ ap (take l) (sym take_walk) in
         ap (λ es. has_quorum qs (is_member eq (keys_of es))) same ∙ fails
 
     module _ (found : Option ℕ) (tests : ℕ)

@@ -1,11 +1,7 @@
 pub mod FallingLemmas
 pub mod FrontLemmas
-pub mod InverseLemmas
 pub mod LearnersPlaceLemmas
-pub mod LookupLemmas
-pub mod MadeLemmas
 pub mod MovedLemmas
-pub mod PlacesLemmas
 pub mod RisingLemmas
 pub mod ShortFrontLemmas
 pub mod VoterLemmas

@@ -1,31 +1,9 @@
 -- What is granted has been reached by a quorum of the membership, or by all voters.
-use Rattle.std.specs.Prelude.{
-  ◌≡◌,
-  ◌<◌,
-  ◌⊎◌,
-  ℕ,
-  Bool,
-  true,
-  false,
-  ◌&&◌,
-  ◌||◌,
-  cond,
-  List,
-  [],
-  ◌∷◌,
-  Option,
-  Some,
-  None,
-  length,
-  map,
-  take,
-  refl,
-}
+use Rattle.std.specs.Prelude.{◌≡◌, ◌<◌, ◌⊎◌, ℕ, Bool, true, false, ◌&&◌, ◌||◌, cond, List, [], ◌∷◌, Option, Some, None, length, take, refl}
 use Rattle.std.specs.declared.cmp.Ordering.{Ordering}
 use Rattle.std.specs.declared.cmp.Ordering.TheVariants.{Equal}
 use Rattle.std.specs.Ordering.{is_lt}
 use Rattle.std.specs.Cmp.{IsEquivalence, IsTotalOrder, first_so, second_so}
-use Rattle.std.specs.List.{list_all}
 use Rattle.std.specs.Map.{keys_of, lookup}
 use Rattle.std.specs.Set.{is_member}
 use Rattle.std.proofs.Common.{ap, inl, inr, sym, ◌∙◌, true≢false, suc, zero}
@@ -45,6 +23,7 @@ use Rattle.raft_progress.proofs.lemmas.OrderLemmas.{AtMost-from_not_lt, AtMost-t
 use Rattle.raft_progress.proofs.lemmas.progress.UpdateLemmas.{lookup_alike}
 use Rattle.raft_progress.proofs.lemmas.ListLemmas.{both}
 use Rattle.raft_members.proofs.CallerLemmas.{is_member-alike}
+use Rattle.std.proofs.lemmas.List.Folds.{list_all-map}
 
 -- a member of the first keys has a value
 has_value : {K V : Type 0} (eq : K → K → Bool) (n : ℕ) (walk : List (K × V)) (x : K) → is_member eq (take n (keys_of walk)) x ≡ true
@@ -95,10 +74,6 @@ module _ {K V P QS : Type 0} {eq : K → K → Bool} (laws : IsEquivalence eq) {
           ap (has_part cmp part p.granted) at.1
           ∙ AtMost-trans o p.granted p.default_part (part at.0) (back p.default_part p.granted e) (r.not_below id at.0 v at.1)
 
-pub list_all-mapped : {X Y : Type 0} (f : X → Y) (t : Y → Bool) (xs : List X) → list_all t (map f xs) ≡ list_all (λ x. t (f x)) xs
-list_all-mapped f t [] = refl
-list_all-mapped f t (x ∷ xs) = ap (λ b. t (f x) && b) (list_all-mapped f t xs)
-
 module _ {K N V P : Type 0} {eq : K → K → Bool} (laws : IsEquivalence eq) {id_cmp : K → K → Ordering} {cmp : P → P → Ordering}
     (o : IsTotalOrder cmp) (part : V → P) (t : TrackedShown K N V P) (r : IsReady eq id_cmp cmp part t) where
   abbrev pub voter : K → Bool
@@ -115,7 +90,7 @@ module _ {K N V P : Type 0} {eq : K → K → Bool} (laws : IsEquivalence eq) {i
   -- a quorum that is counted is one of the membership's configs
   pub by_configs : (s : K → Bool) → has_quorum eq t.progress.quorum_set s ≡ true → is_joint_majority eq t.membership.configs s ≡ true
   by_configs s q = ap (λ cs. is_joint_majority eq cs s) (sym r.counts_by.configs)
-      ∙ list_all-mapped (λ c. c.items) (λ c. is_majority eq c s) t.progress.quorum_set.items ∙ q
+      ∙ list_all-map (λ c. is_majority eq c s) (λ c. c.items) t.progress.quorum_set.items ∙ q
 
   -- what is granted is granted in the configs of the membership
   pub is_granted : 0 < length t.membership.configs → IsGranted eq t.membership.configs voter knows_granted

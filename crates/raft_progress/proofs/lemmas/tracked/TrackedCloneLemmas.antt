@@ -1,36 +1,22 @@
--- A clone of a progress in order is in order, and that of a tracked one is ready.
-use Rattle.std.specs.Prelude.{◌≡◌, ℕ, Bool, true, false, ◌&&◌, ◌||◌, cond, List, [], ◌∷◌, Some, is_some, map, take}
+-- A clone of a tracked progress is ready.
+use Rattle.std.specs.Prelude.{◌≡◌, Bool, true, false, ◌&&◌, ◌||◌, cond, List, [], ◌∷◌, Some, is_some, map}
 use Rattle.std.specs.Cmp.{IsEquivalence, first_so, second_so}
 use Rattle.std.specs.Ordering.{eq_by_cmp}
 use Rattle.std.specs.declared.cmp.Ordering.{Ordering}
 use Rattle.std.specs.BTreeMap.{is_at}
 use Rattle.std.specs.List.{AllZip, list_all}
-use Rattle.std.specs.Map.{keys_of, lookup}
+use Rattle.std.specs.Map.{lookup}
 use Rattle.std.proofs.Common.{ap, refl, suc, sym, zero, ◌∙◌, true≢false}
 use Rattle.raft_members.specs.Majority.{is_majority, is_voter_of}
 use Rattle.raft_members.specs.Members.{node_at, same_members, same_nodes}
 use Rattle.raft_progress.specs.progress.Equal.{IsCloned}
-use Rattle.raft_progress.specs.progress.Kept.{ClonesKeepOrder}
 use Rattle.raft_progress.specs.progress.Shown.{Shown}
 use Rattle.raft_progress.specs.tracked.TrackedState.{Configs, HasSameConfigs, IsReady, TrackedShown, has_quorum}
-use Rattle.raft_progress.proofs.lemmas.tracked.HeadlineLemmas.{list_all-mapped}
 use Rattle.raft_progress.proofs.lemmas.progress.KeptLemmas.{order_alike, voters_alike}
+use Rattle.raft_progress.proofs.lemmas.progress.CloneLemmas.{same_ids, same_parts}
+use Rattle.std.proofs.lemmas.List.Folds.{list_all-map}
 
 module _ {ID V : Type 0} (IsClone : V → V → Type 0) where
-  zip_keys : (es fs : List (ID × V)) → AllZip (λ d e. (e.0 ≡ d.0) × IsClone d.1 e.1) es fs → keys_of fs ≡ keys_of es
-  zip_keys [] [] a = refl
-  zip_keys [] (f ∷ fs) a = absurd a
-  zip_keys (e ∷ es) [] a = absurd a
-  zip_keys (e ∷ es) (f ∷ fs) a = λ i. a.0.0 i ∷ zip_keys es fs a.1 i
-
-  zip_parts : {P : Type 0} (part : V → P) → ((v w : V) → IsClone v w → part w ≡ part v) → (n : ℕ) (es fs : List (ID × V))
-      → AllZip (λ d e. (e.0 ≡ d.0) × IsClone d.1 e.1) es fs → map (λ e. part e.1) (take n fs) ≡ map (λ e. part e.1) (take n es)
-  zip_parts part same zero es fs a = refl
-  zip_parts part same (suc n) [] [] a = refl
-  zip_parts part same (suc n) [] (f ∷ fs) a = absurd a
-  zip_parts part same (suc n) (e ∷ es) [] a = absurd a
-  zip_parts part same (suc n) (e ∷ es) (f ∷ fs) a = λ i. same e.1 f.1 a.0.1 i ∷ zip_parts part same n es fs a.1 i
-
   zip_there : (test : ID → Bool) (es fs : List (ID × V)) → AllZip (λ d e. (e.0 ≡ d.0) × IsClone d.1 e.1) es fs
       → is_some (lookup test fs) ≡ is_some (lookup test es)
   zip_there test [] [] a = refl
@@ -45,13 +31,6 @@ module _ {ID V : Type 0} (IsClone : V → V → Type 0) where
       by false r = r
 
 -- a clone of a progress in order is in order
-pub clones_keep_order : {ID V P QS : Type 0} (eq : ID → ID → Bool) (cmp : P → P → Ordering) (part : V → P)
-    (has_quorum : QS → (ID → Bool) → Bool) (IsClone : V → V → Type 0) (IsSetClone : QS → QS → Type 0)
-    → ClonesKeepOrder ID V P QS eq part cmp has_quorum IsClone IsSetClone
-clones_keep_order eq cmp part has_quorum IsClone IsSetClone clones sets old new c =
-    order_alike eq cmp part has_quorum old new (sets old.quorum_set new.quorum_set c.quorum_set) c.voter_count c.default_part c.granted
-    (zip_keys IsClone old.walk new.walk c.walk) (zip_parts IsClone part clones old.voter_count old.walk new.walk c.walk)
-
 -- equal nodes are at the same ids
 nodes_there : {K N : Type 0} {eq : K → K → Bool} (laws : IsEquivalence eq) (id_cmp : K → K → Ordering)
     → ((x y : K) → eq x y ≡ eq_by_cmp id_cmp x y) → (same : N → N → Bool) (xs ys : List (K × N)) → same_nodes eq same xs ys ≡ true
@@ -91,12 +70,12 @@ pub ready_cloned : {K N V P : Type 0} {eq : K → K → Bool} (laws : IsEquivale
     → same_members eq same old.membership new.membership ≡ true → IsCloned IsClone HasSameConfigs old.progress new.progress
     → IsReady eq id_cmp cmp part old → IsReady eq id_cmp cmp part new
 ready_cloned {K} {N} {V} {P} {eq} laws id_cmp ties same cmp part IsClone clones old new configs nodes c r =
-    let ids = zip_keys IsClone old.progress.walk new.progress.walk c.walk in
-    let parts = zip_parts IsClone part clones old.progress.voter_count old.progress.walk new.progress.walk c.walk in
+    let ids = same_ids IsClone old.progress.walk new.progress.walk c.walk in
+    let parts = same_parts IsClone part clones old.progress.voter_count old.progress.walk new.progress.walk c.walk in
     let quorums : (set : K → Bool) → has_quorum eq new.progress.quorum_set set ≡ has_quorum eq old.progress.quorum_set set = λ set.
-    sym (list_all-mapped (λ q. q.items) (λ ks. is_majority eq ks set) new.progress.quorum_set.items)
+    sym (list_all-map (λ ks. is_majority eq ks set) (λ q. q.items) new.progress.quorum_set.items)
     ∙ ap (λ cs. list_all (λ ks. is_majority eq ks set) cs) c.quorum_set
-    ∙ list_all-mapped (λ q. q.items) (λ ks. is_majority eq ks set) old.progress.quorum_set.items in
+    ∙ list_all-map (λ ks. is_majority eq ks set) (λ q. q.items) old.progress.quorum_set.items in
     record {
       ordered = order_alike eq cmp part (has_quorum eq) old.progress new.progress quorums c.voter_count c.default_part c.granted ids parts
           r.ordered;

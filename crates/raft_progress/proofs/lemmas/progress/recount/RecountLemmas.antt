@@ -1,11 +1,9 @@
 -- Gathering the ids that have reached a part, and counting the greatest part.
 use Rattle.std.specs.Prelude.{◌≡◌, ℕ, ◌+◌, ◌<◌, Bool, true, false, List, length, take, Contains}
-use Rattle.std.specs.Ordering.{is_le, is_lt, is_gt, ordering_reverse}
+use Rattle.std.specs.Ordering.{is_lt}
 use Rattle.std.specs.declared.cmp.Ordering.{Ordering}
-use Rattle.std.specs.declared.cmp.Ordering.TheVariants.{Less, Equal, Greater}
 use Rattle.std.specs.Cmp.{IsTotalOrder}
-use Rattle.std.proofs.Common.{arith, sym, ap, refl, ◌∙◌, true≢false, get_or, inl, inr, subst}
-use Rattle.std.proofs.lemmas.Cmp.{upto, tied_itself}
+use Rattle.std.proofs.Common.{arith, sym, ap, refl, ◌∙◌, get_or, inl, inr, subst}
 use Rattle.std.proofs.lemmas.List.Elements.{All-more, All-weaker, Contains-get_or}
 use Rattle.raft_progress.specs.progress.CountedValue.{AtMost}
 use Rattle.raft_progress.specs.Inner.Recount.{IsGreatest, reaches}

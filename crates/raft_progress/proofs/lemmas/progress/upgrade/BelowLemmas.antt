@@ -10,11 +10,10 @@ use Rattle.std.specs.List.{AllByRecursion}
 use Rattle.std.proofs.Common.{sym, ap, refl, ◌∙◌, true≢false}
 use Rattle.raft_progress.specs.progress.Upgrade.{CanUpgrade, InheritsBelow, IsLeastBelow}
 use Rattle.raft_progress.specs.Inner.Conditions.{IsLeastPassing, among, comes_before, is_value_below}
-use Rattle.raft_progress.proofs.lemmas.progress.walk.FallingLemmas.{all_both}
+use Rattle.raft_progress.proofs.lemmas.ListLemmas.{all_both, all_weaker, both, member_flipped}
 use Rattle.raft_progress.proofs.lemmas.OrderLemmas.{AtMost-refl, AtMost-trans, AtMost-from_lt, AtMost-from_not_lt}
 use Rattle.raft_progress.proofs.lemmas.progress.recount.CountedValueLemmas.{not_both}
 use Rattle.raft_progress.proofs.lemmas.progress.UpdateLemmas.{lookup_alike}
-use Rattle.raft_progress.proofs.lemmas.ListLemmas.{all_weaker, both, member_flipped}
 use Rattle.raft_members.proofs.CallerLemmas.{is_member-alike}
 
 -- ---- one entry more

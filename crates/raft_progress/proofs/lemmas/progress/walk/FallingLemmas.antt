@@ -2,8 +2,6 @@
 use Rattle.std.specs.Prelude.{◌≡◌, ℕ, ◌+◌, ◌<◌, Bool, true, false, cond, List, [], ◌∷◌, ◌++◌, length, filter, take}
 use Rattle.std.specs.Ordering.{is_le, is_lt}
 use Rattle.std.specs.declared.cmp.Ordering.{Ordering}
-use Rattle.std.specs.declared.cmp.Ordering.TheVariants.{Less, Equal, Greater}
-use Rattle.std.proofs.lemmas.Cmp.{alike_right}
 use Rattle.std.specs.Cmp.{IsTotalOrder}
 use Rattle.std.specs.List.{AllByRecursion, prefix_len}
 use Rattle.std.proofs.Common.{arith, sym, ap, refl, ◌∙◌, true≢false, suc, zero, get_or, set}
@@ -11,29 +9,7 @@ use Rattle.raft_progress.specs.progress.CountedValue.{AtMost}
 use Rattle.raft_progress.specs.Inner.Rises.{LastAtLeast}
 use Rattle.raft_progress.specs.progress.Walk.{IsFalling}
 use Rattle.raft_progress.proofs.lemmas.OrderLemmas.{AtMost-trans, AtMost-from_lt, lt_le, le_lt}
-use Rattle.raft_progress.proofs.lemmas.ListLemmas.{all_weaker}
-
-pub nothing_kept : {X : Type 0} (p : X → Bool) (xs : List X) → AllByRecursion (λ x. p x ≡ false) xs → filter p xs ≡ []
-nothing_kept p [] a = refl
-nothing_kept p (x ∷ xs) a = rw (a.0, nothing_kept p xs a.1) refl
-
-pub all_get : {X : Type 0} (R : X → Type 0) (xs : List X) (i : ℕ) (d : X) → i < length xs → AllByRecursion R xs → R (get_or xs i d)
-all_get R [] i d l a = absurd (omega arith)
-all_get R (x ∷ xs) zero d l a = a.0
-all_get R (x ∷ xs) (suc i) d l a = all_get R xs i d (omega arith) a.1
-
--- all of two lists
-pub all_first : {X : Type 0} (P : X → Type 0) (xs ys : List X) → AllByRecursion P (xs ++ ys) → AllByRecursion P xs
-all_first P [] ys a = tt
-all_first P (x ∷ xs) ys a = (a.0, all_first P xs ys a.1)
-
-pub all_last : {X : Type 0} (P : X → Type 0) (xs ys : List X) → AllByRecursion P (xs ++ ys) → AllByRecursion P ys
-all_last P [] ys a = a
-all_last P (x ∷ xs) ys a = all_last P xs ys a.1
-
-pub all_both : {X : Type 0} (P : X → Type 0) (xs ys : List X) → AllByRecursion P xs → AllByRecursion P ys → AllByRecursion P (xs ++ ys)
-all_both P [] ys a b = b
-all_both P (x ∷ xs) ys a b = (a.0, all_both P xs ys a.1 b)
+use Rattle.raft_progress.proofs.lemmas.ListLemmas.{all_weaker, filter_none, all_get, all_first, all_last, all_both}
 
 module _ {ID V P : Type 0} {cmp : P → P → Ordering} (o : IsTotalOrder cmp) (part : V → P) (g : P) where
   -- a test that a greater part passes too, and only parts above g
@@ -60,7 +36,7 @@ module _ {ID V P : Type 0} {cmp : P → P → Ordering} (o : IsTotalOrder cmp) (
             ≡ take (cond b (1 + prefix_len (λ f. t (part f.1)) es) 0) (e ∷ es)
         by true h i = let one : suc (prefix_len (λ f. t (part f.1)) es) ≡ 1 + prefix_len (λ f. t (part f.1)) es = omega arith in
             ap (λ xs. e ∷ xs) i ∙ ap (λ k. take k (e ∷ es)) one
-        by false h i = nothing_kept (λ f. t (part f.1)) es (none_behind e es h s.0)
+        by false h i = filter_none (λ f. t (part f.1)) es (none_behind e es h s.0)
 
     -- a voter that passes is in that front
     pub in_front : (voters : List (ID × V)) → IsFalling cmp part g voters → (i : ℕ) (d : ID × V) → i < length voters

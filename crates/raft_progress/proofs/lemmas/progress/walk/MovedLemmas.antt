@@ -1,29 +1,18 @@
 -- An entry that has moved up in a walk.
-use Rattle.std.specs.Prelude.{◌≡◌, ℕ, ◌+◌, ◌<◌, ◌≤◌, Bool, true, false, cond, ◌||◌, List, [], ◌∷◌, ◌++◌, length, take, Some}
+use Rattle.std.specs.Prelude.{◌≡◌, ℕ, ◌+◌, ◌<◌, Bool, true, false, cond, ◌||◌, List, [], ◌∷◌, ◌++◌, length, Some}
 use Rattle.std.specs.declared.cmp.Ordering.{Ordering}
-use Rattle.std.specs.declared.cmp.Ordering.TheVariants.{Less, Equal, Greater}
-use Rattle.std.specs.Ordering.{is_le, is_lt, ordering_reverse}
+use Rattle.std.specs.Ordering.{is_le, is_lt}
 use Rattle.std.specs.Cmp.{IsEquivalence, IsTotalOrder}
 use Rattle.std.specs.List.{AllByRecursion, IsDistinct, list_any}
 use Rattle.std.specs.Map.{keys_of, lookup}
 use Rattle.std.specs.Set.{is_member}
 use Rattle.std.proofs.Common.{arith, sym, ap, refl, ◌∙◌, true≢false, suc, zero, get_or, append_assoc, length-append}
 use Rattle.std.proofs.lemmas.List.{append-nil}
-use Rattle.raft_progress.proofs.lemmas.progress.walk.RisingLemmas.{get_at}
 use Rattle.raft_progress.specs.Inner.Rises.{LastAtLeast, RisesTo}
 use Rattle.raft_progress.specs.progress.Walk.{put_after_last, walk_after_rise}
 use Rattle.raft_progress.proofs.lemmas.ListLemmas.{or_right}
 use Rattle.raft_progress.proofs.lemmas.OrderLemmas.{lt_reversed}
-
-pub take_add : {X : Type 0} (xs ys : List X) (k n : ℕ) → n ≡ length xs + k → take n (xs ++ ys) ≡ xs ++ take k ys
-take_add [] ys k n e = let z : n ≡ k = omega arith in ap (λ m. take m ys) z
-take_add (x ∷ xs) ys k zero e = absurd (omega arith)
-take_add (x ∷ xs) ys k (suc n) e = ap (λ zs. x ∷ zs) (take_add xs ys k n (omega arith))
-
-pub take_within : {X : Type 0} (xs ys : List X) (k : ℕ) → k ≤ length xs → take k (xs ++ ys) ≡ take k xs
-take_within xs ys zero l = refl
-take_within [] ys (suc k) l = absurd (omega arith)
-take_within (x ∷ xs) ys (suc k) l = ap (λ zs. x ∷ zs) (take_within xs ys k (omega arith))
+use Rattle.std.proofs.Math.Seq.{get_or-append_seam}
 
 or_swap : (a b c : Bool) → (a || (b || c)) ≡ (b || (a || c))
 or_swap true true c = refl
@@ -140,7 +129,7 @@ module _ {ID V P : Type 0} {cmp : P → P → Ordering} (o : IsTotalOrder cmp) (
       let is_it : is_id p.entry.0 ≡ true =
       ap (λ (e : ID × V). is_id e.0) (sym (ap (λ xs. get_or xs from d) was
       ∙ ap (λ n. get_or ((p.front ++ p.passed) ++ (p.entry ∷ p.rest)) n d) (sym len)
-      ∙ get_at (p.front ++ p.passed) p.entry p.rest d)) ∙ h in
+      ∙ get_or-append_seam (p.front ++ p.passed) p.entry p.rest d)) ∙ h in
       let is_first = all_below is_id (p.front ++ p.passed) (p.entry ∷ p.rest) d
       (λ k l. ap (λ xs. is_id (get_or xs k d).0) (sym was) ∙ b k (omega arith)) in
       p.now

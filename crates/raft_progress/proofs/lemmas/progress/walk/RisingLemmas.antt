@@ -27,19 +27,8 @@ use Rattle.std.specs.Cmp.{IsTotalOrder}
 use Rattle.raft_progress.specs.progress.CountedValue.{AtMost}
 use Rattle.raft_progress.specs.Inner.Rises.{LastAtLeast, Passed, RisesTo}
 use Rattle.raft_progress.proofs.lemmas.OrderLemmas.{AtMost-from_not_lt}
-
-pub get_at : {X : Type 0} (xs : List X) (x : X) (ys : List X) (d : X) → get_or (xs ++ x ∷ ys) (length xs) d ≡ x
-get_at [] x ys d = refl
-get_at (k ∷ ks) x ys d = get_at ks x ys d
-
-get_front : {X : Type 0} (xs ys : List X) (i : ℕ) (d : X) → i < length xs → get_or (xs ++ ys) i d ≡ get_or xs i d
-get_front [] ys i d l = absurd (omega arith)
-get_front (k ∷ ks) ys zero d l = refl
-get_front (k ∷ ks) ys (suc i) d l = get_front ks ys i d (omega arith)
-
-pub set_at : {X : Type 0} (xs : List X) (x y : X) (ys : List X) → set (xs ++ x ∷ ys) (length xs) y ≡ xs ++ y ∷ ys
-set_at [] x y ys = refl
-set_at (k ∷ ks) x y ys = ap (λ zs. k ∷ zs) (set_at ks x y ys)
+use Rattle.std.proofs.Math.Seq.{get_or-append_seam, set-append_seam}
+use Rattle.std.proofs.lemmas.List.{get_or_append_left}
 
 length_more : {X : Type 0} (xs : List X) (y : X) → length (xs ++ y ∷ []) ≡ suc (length xs)
 length_more [] y = refl
@@ -54,14 +43,14 @@ swap_neighbours : {X : Type 0} (xs : List X) (f e : X) (ys : List X)
 swap_neighbours {X} xs f e ys =
     let zs : List X = xs ++ f ∷ e ∷ ys in
     let assoc : (a b : X) → (xs ++ a ∷ []) ++ b ∷ ys ≡ xs ++ a ∷ b ∷ ys = λ a b. append_assoc xs (a ∷ []) (b ∷ ys) in
-    let ga : get_or zs (length xs) f ≡ f = get_at xs f (e ∷ ys) f in
+    let ga : get_or zs (length xs) f ≡ f = get_or-append_seam xs f (e ∷ ys) f in
     let gb : get_or zs (suc (length xs)) f ≡ e =
     ap (λ l. get_or l (suc (length xs)) f) (sym (assoc f e)) ∙ ap (λ n. get_or ((xs ++ f ∷ []) ++ e ∷ ys) n f) (sym (length_more xs f))
-    ∙ get_at (xs ++ f ∷ []) e ys f in
-    let s1 : set zs (length xs) e ≡ xs ++ e ∷ e ∷ ys = set_at xs f e (e ∷ ys) in
+    ∙ get_or-append_seam (xs ++ f ∷ []) e ys f in
+    let s1 : set zs (length xs) e ≡ xs ++ e ∷ e ∷ ys = set-append_seam xs f (e ∷ ys) e in
     let s2 : set (xs ++ e ∷ e ∷ ys) (suc (length xs)) f ≡ xs ++ e ∷ f ∷ ys =
     ap (λ l. set l (suc (length xs)) f) (sym (assoc e e)) ∙ ap (λ n. set ((xs ++ e ∷ []) ++ e ∷ ys) n f) (sym (length_more xs e))
-    ∙ set_at (xs ++ e ∷ []) e f ys ∙ assoc e f in
+    ∙ set-append_seam (xs ++ e ∷ []) e ys f ∙ assoc e f in
     let la : length xs < length zs = length_less xs f (e ∷ ys) in
     let lb : suc (length xs) < length zs = rw (← length_more xs f, ← assoc f e) (length_less (xs ++ f ∷ []) e ys) in
     sym (swap_is zs (length xs) (suc (length xs)) f la lb)
@@ -89,9 +78,10 @@ swap_at_cut front [] n d e some l more = absurd (omega arith)
 swap_at_cut front (b ∷ bs) n d e some l more =
     let s = last_split front (n - 1) (omega arith) in
     let last_is : get_or front (n - 1) d ≡ s.last =
-    ap (λ xs. get_or xs (n - 1) d) s.is ∙ ap (λ k. get_or (s.init ++ s.last ∷ []) k d) (sym s.init_length) ∙ get_at s.init s.last [] d in
+    ap (λ xs. get_or xs (n - 1) d) s.is ∙ ap (λ k. get_or (s.init ++ s.last ∷ []) k d) (sym s.init_length)
+    ∙ get_or-append_seam s.init s.last [] d in
     let front_is : set front (n - 1) b ≡ s.init ++ b ∷ [] =
-    ap (λ xs. set xs (n - 1) b) s.is ∙ ap (λ k. set (s.init ++ s.last ∷ []) k b) (sym s.init_length) ∙ set_at s.init s.last b [] in
+    ap (λ xs. set xs (n - 1) b) s.is ∙ ap (λ k. set (s.init ++ s.last ∷ []) k b) (sym s.init_length) ∙ set-append_seam s.init s.last [] b in
     let next : n ≡ suc (length s.init) = let h = s.init_length in omega arith in
     let swapped : swap (front ++ b ∷ bs) (n - 1) n ≡ s.init ++ b ∷ s.last ∷ bs =
     ap (λ xs. swap (xs ++ b ∷ bs) (n - 1) n) s.is ∙ ap (λ xs. swap xs (n - 1) n) (append_assoc s.init (s.last ∷ []) (b ∷ bs))
@@ -146,11 +136,11 @@ module _ {ID V P : Type 0} (cmp : P → P → Ordering) (part : V → P) where
   module _ (old : List (ID × V)) (from : ℕ) (now : List (ID × V)) (at : ℕ) (r : Passed cmp part old from now (at + 1)) where
     here : (d : ID × V) → get_or now (at + 1) d ≡ r.entry
     here d = ap (λ xs. get_or xs (at + 1) d) r.now ∙ ap (λ n. get_or (r.front ++ (r.entry ∷ (r.passed ++ r.rest))) n d) (sym r.now_at)
-        ∙ get_at r.front r.entry (r.passed ++ r.rest) d
+        ∙ get_or-append_seam r.front r.entry (r.passed ++ r.rest) d
 
     before : (d : ID × V) → get_or now at d ≡ get_or r.front at d
     before d = let l : at < length r.front = rw r.now_at (omega arith) in
-        ap (λ xs. get_or xs at d) r.now ∙ get_front r.front (r.entry ∷ (r.passed ++ r.rest)) at d l
+        ap (λ xs. get_or xs at d) r.now ∙ get_or_append_left r.front (r.entry ∷ (r.passed ++ r.rest)) d at l
 
     -- one entry more has been passed
     pub passed_more : (next : List (ID × V)) → next ≡ swap now at (at + 1)
@@ -162,7 +152,7 @@ module _ {ID V P : Type 0} (cmp : P → P → Ordering) (part : V → P) where
         ∙ append_assoc s.init (s.last ∷ []) (r.entry ∷ (r.passed ++ r.rest)) in
         let last_is : get_or now at s.last ≡ s.last =
         ap (λ xs. get_or xs at s.last) now_is ∙ ap (λ n. get_or (s.init ++ s.last ∷ r.entry ∷ (r.passed ++ r.rest)) n s.last)
-        (sym s.init_length) ∙ get_at s.init s.last (r.entry ∷ (r.passed ++ r.rest)) s.last in
+        (sym s.init_length) ∙ get_or-append_seam s.init s.last (r.entry ∷ (r.passed ++ r.rest)) s.last in
         record {
           front = s.init;
           passed = s.last ∷ r.passed;

@@ -1,5 +1,5 @@
 -- Fronts that are too short to be a quorum need no test.
-use Rattle.std.specs.Prelude.{◌≡◌, ℕ, ◌+◌, ◌-◌, ◌^◌, ◌<◌, ◌≤◌, Bool, true, false, cond, None, List, [], ◌∷◌, length, max, take}
+use Rattle.std.specs.Prelude.{◌≡◌, ℕ, ◌+◌, ◌-◌, ◌^◌, ◌<◌, ◌≤◌, Bool, true, false, cond, None, List, [], ◌∷◌, max, take}
 use Rattle.std.specs.declared.cmp.Ordering.{Ordering}
 use Rattle.std.specs.Cmp.{IsEquivalence}
 use Rattle.std.specs.List.{IsDistinct, prefix_len}
@@ -11,11 +11,7 @@ use Rattle.raft_progress.specs.Inner.Recount.{exceeds, front_test}
 use Rattle.raft_progress.specs.Inner.Settled.{IsScanned}
 use Rattle.raft_progress.specs.progress.Shown.{Shown}
 use Rattle.raft_progress.proofs.lemmas.progress.UpdateLemmas.{IsDistinct-voters}
-
-pub length_take_le : {X : Type 0} (xs : List X) (n : ℕ) → length (take n xs) ≤ n
-length_take_le xs zero = omega arith
-length_take_le [] (suc n) = omega arith
-length_take_le (x ∷ xs) (suc n) = let h = length_take_le xs n in omega arith
+use Rattle.raft_progress.proofs.lemmas.ListLemmas.{length_take_le}
 
 -- entries that pass a test lead up to one that doesn't at most
 pub lead_ends : {X : Type 0} (p : X → Bool) (xs : List X) (n : ℕ) (d : X) → p (get_or xs n d) ≡ false → prefix_len p xs ≤ n

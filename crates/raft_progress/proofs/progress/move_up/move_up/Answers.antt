@@ -2,7 +2,7 @@ use Rattle.std.proofs.Common.{arith, get_or, is_lt, ◌≡◌, ◌+◌, ◌-◌,
 use Rattle.std.specs.List.{swap}
 use Rattle.std.proofs.lemmas.List.Edits.{swapped_from_swap}
 use Rattle.raft_progress.specs.Inner.Rises.{Passed, RisesTo}
-use Rattle.raft_progress.proofs.lemmas.progress.walk.PlacesLemmas.{any_default}
+use Rattle.raft_progress.proofs.lemmas.progress.places.PlacesLemmas.{any_default}
 use Rattle.raft_progress.proofs.lemmas.progress.walk.RisingLemmas.{passed_none, passed_more, passed_within, rises_stop, rises_front}
 use Rattle.raft_progress.proofs.progress.move_up.move_up.Goals as goal
 

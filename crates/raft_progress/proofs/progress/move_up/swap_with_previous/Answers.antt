@@ -1,7 +1,7 @@
 use Rattle.std.proofs.Common.{arith, ap, sym, ◌≡◌, ◌∙◌, ◌-◌, ◌++◌, get_or, length, length-append, set}
 use Rattle.std.specs.List.{swap}
 use Rattle.std.proofs.lemmas.List.{length-set}
-use Rattle.raft_progress.proofs.lemmas.progress.walk.InverseLemmas.{lent_whole}
+use Rattle.raft_progress.proofs.lemmas.progress.places.InverseLemmas.{lent_whole}
 use Rattle.raft_progress.proofs.lemmas.progress.walk.RisingLemmas.{swap_at_cut}
 use Rattle.raft_progress.proofs.progress.move_up.swap_with_previous.Goals as goal
 

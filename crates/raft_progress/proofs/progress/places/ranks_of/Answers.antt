@@ -1,7 +1,7 @@
 use Rattle.std.proofs.Common.{arith, sym, ap, ◌∙◌, ◌≡◌, get_or, set, length}
 use Rattle.std.specs.Map.{values_of}
 use Rattle.std.proofs.lemmas.List.{length-map, length-set}
-use Rattle.raft_progress.proofs.lemmas.progress.walk.MadeLemmas.{place_at, place_below, ranks_more, ranks_all}
+use Rattle.raft_progress.proofs.lemmas.progress.places.MadeLemmas.{place_at, place_below, ranks_more, ranks_all}
 use Rattle.raft_progress.proofs.progress.places.ranks_of.Goals as goal
 
 pub index_mut-requires : goal.index_mut-requires

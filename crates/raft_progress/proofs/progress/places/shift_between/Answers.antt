@@ -2,7 +2,7 @@ use Rattle.std.proofs.Common.{arith, rules, refl, sym, ap, subst, set, get_or, l
 use Rattle.std.specs.Map.{values_of}
 use Rattle.std.proofs.lemmas.List.{length-map}
 use Rattle.raft_progress.specs.Inner.Places.{AreInverse, place_after}
-use Rattle.raft_progress.proofs.lemmas.progress.walk.InverseLemmas.{
+use Rattle.raft_progress.proofs.lemmas.progress.places.InverseLemmas.{
   keys_rewritten,
   values_rewritten,
   Lifted,

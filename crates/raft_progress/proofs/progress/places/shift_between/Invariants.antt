@@ -1,6 +1,6 @@
 use Rattle.std.proofs.Common.{◌≡◌, ◌≤◌}
 use Rattle.std.specs.Map.{keys_of, values_of}
-use Rattle.raft_progress.proofs.lemmas.progress.walk.InverseLemmas.{Lifted}
+use Rattle.raft_progress.proofs.lemmas.progress.places.InverseLemmas.{Lifted}
 use Rattle.raft_progress.proofs.progress.places.shift_between.Given as goal
 
 -- put down where it has come to, the entry would have moved that far

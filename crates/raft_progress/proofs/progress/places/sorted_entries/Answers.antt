@@ -4,10 +4,11 @@ use Rattle.std.specs.Map.{keys_of, values_of}
 use Rattle.std.proofs.lemmas.Fn.{always_returns_same}
 use Rattle.std.proofs.lemmas.List.{map-append, take_all, take_more}
 use Rattle.std.proofs.lemmas.Map.Entries.{length-keys_of}
-use Rattle.raft_progress.proofs.lemmas.progress.walk.LookupLemmas.{key_at}
-use Rattle.raft_progress.proofs.lemmas.progress.walk.MadeLemmas.{
+use Rattle.raft_progress.proofs.lemmas.progress.places.LookupLemmas.{key_at}
+use Rattle.raft_progress.proofs.lemmas.progress.places.MadeLemmas.{
   ascending_from_sorted,
   distinct_moved,
+  length_moved,
   places_moved,
   tells_moved,
   range_more,
@@ -33,37 +34,23 @@ loop-place-preserved g c =
           ∙ ap (λ ps. ps ++ place ∷ []) c.loop-place.invariant.places ∙ sym (range_more place);
     }
 
-pub returns-clause-ascending : goal.returns-clause-ascending
-returns-clause-ascending g c =
+pub returns : goal.returns
+returns g c =
     let walk = c.args.walk.now in
     let made = c.loop-place.entries.items in
     let es = c.sort_unstable_by_key.new.self.items in
     let ids = c.loop-place.invariant.ids ∙ take_all c.loop-place.place (keys_of walk) (rw (length-keys_of walk) c.loop-place-test.false) in
     let same : c.loop-place.place ≡ length (keys_of walk) = omega (arith, length-keys_of walk) in
     let places = c.loop-place.invariant.places ∙ ap (range_with_len 0) same in
+    let moved = c.sort_unstable_by_key.ensures.permutation in
     let distinct = distinct_moved g.met.ID.Eq.laws g.met.ID.Ord.total g.met.ID.Ord.matches_eq (keys_of walk) made es c.requires ids places
-    c.sort_unstable_by_key.ensures.permutation in
-    ascending_from_sorted g.met.ID.Eq.laws g.met.ID.Ord.total g.met.ID.Ord.matches_eq es distinct
-    (c.sort_unstable_by_key.ensures.sorted (λ e. e.0) (always_returns_same _ _ _ (λ a r q k. search rules)))
-
-pub returns-clause-tells : goal.returns-clause-tells
-returns-clause-tells g c =
-    let walk = c.args.walk.now in
-    let made = c.loop-place.entries.items in
-    let es = c.sort_unstable_by_key.new.self.items in
-    let ids = c.loop-place.invariant.ids ∙ take_all c.loop-place.place (keys_of walk) (rw (length-keys_of walk) c.loop-place-test.false) in
-    let same : c.loop-place.place ≡ length (keys_of walk) = omega (arith, length-keys_of walk) in
-    let places = c.loop-place.invariant.places ∙ ap (range_with_len 0) same in
-    tells_moved g.met.ID.Eq.laws g.met.ID.Ord.total g.met.ID.Ord.matches_eq (keys_of walk) made es c.requires ids places
-    c.sort_unstable_by_key.ensures.permutation
-
-pub returns-clause-places : goal.returns-clause-places
-returns-clause-places g c =
-    let walk = c.args.walk.now in
-    let made = c.loop-place.entries.items in
-    let es = c.sort_unstable_by_key.new.self.items in
-    let ids = c.loop-place.invariant.ids ∙ take_all c.loop-place.place (keys_of walk) (rw (length-keys_of walk) c.loop-place-test.false) in
-    let same : c.loop-place.place ≡ length (keys_of walk) = omega (arith, length-keys_of walk) in
-    let places = c.loop-place.invariant.places ∙ ap (range_with_len 0) same in
-    places_moved g.met.ID.Eq.laws g.met.ID.Ord.total g.met.ID.Ord.matches_eq (keys_of walk) made es c.requires ids places
-    c.sort_unstable_by_key.ensures.permutation
+    moved in
+    record {
+      ascending = ascending_from_sorted g.met.ID.Eq.laws g.met.ID.Ord.total g.met.ID.Ord.matches_eq es distinct
+          (c.sort_unstable_by_key.ensures.sorted (λ e. e.0) (always_returns_same _ _ _ (λ a r q k. search rules)));
+      tells = tells_moved g.met.ID.Eq.laws g.met.ID.Ord.total g.met.ID.Ord.matches_eq (keys_of walk) made es c.requires ids places moved;
+      places = places_moved g.met.ID.Eq.laws g.met.ID.Ord.total g.met.ID.Ord.matches_eq (keys_of walk) made es c.requires ids places moved;
+      one_length = length_moved g.met.ID.Eq.laws g.met.ID.Ord.total g.met.ID.Ord.matches_eq (keys_of walk) made es c.requires ids places
+          moved
+          ∙ length-keys_of walk;
+    }

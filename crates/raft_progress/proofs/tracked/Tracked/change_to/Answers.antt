@@ -2,7 +2,7 @@ use Rattle.std.specs.Coded.{Coded-set, coded_list}
 use Rattle.raft_progress.specs.tracked.Tracked.{tracked}
 use Rattle.raft_progress.proofs.lemmas.tracked.HeadlineLemmas.{each_quorum_knows}
 use Rattle.raft_progress.proofs.lemmas.tracked.ReadyLemmas.{ready_of}
-use Rattle.raft_progress.proofs.lemmas.progress.RefusalLemmas.{change_or_memory}
+use Rattle.raft_progress.proofs.lemmas.tracked.ChangeLemmas.{change_or_memory}
 use Rattle.raft_progress.proofs.tracked.Tracked.change_to.Goals as goal
 
 pub returns-clause-step : goal.returns-clause-step

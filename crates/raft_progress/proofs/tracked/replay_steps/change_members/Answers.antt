@@ -1,5 +1,5 @@
 use Rattle.raft_progress.specs.tracked.Tracked.{tracked}
-use Rattle.raft_progress.proofs.lemmas.progress.RefusalLemmas.{change_answered}
+use Rattle.raft_progress.proofs.lemmas.tracked.ChangeLemmas.{change_answered}
 use Rattle.raft_progress.proofs.tracked.replay_steps.change_members.Goals as goal
 
 pub returns : goal.returns

@@ -2,7 +2,7 @@ use Rattle.std.proofs.Common.{rules, sym, ap, ◌∙◌}
 use Rattle.std.specs.Option.{option_map}
 use Rattle.std.proofs.lemmas.Iterator.{YieldsList-from_slice}
 use Rattle.std.proofs.lemmas.Iterator.Search.{find_from_yields_List}
-use Rattle.raft_progress.proofs.lemmas.progress.walk.LookupLemmas.{lookup-find}
+use Rattle.raft_progress.proofs.lemmas.progress.places.LookupLemmas.{lookup-find}
 use Rattle.raft_progress.proofs.progress.places.Places.get.Goals as goal
 
 pub returns-in-Some : goal.returns-in-Some

@@ -2,7 +2,7 @@ use Rattle.std.proofs.Common.{◌∙◌, ap, sym, map, length, ℕ, List}
 use Rattle.std.specs.Map.{lookup, keys_of, values_of}
 use Rattle.std.proofs.lemmas.Map.Entries.{length-keys_of}
 use Rattle.raft_progress.specs.Inner.Places.{place_after}
-use Rattle.raft_progress.proofs.lemmas.progress.walk.InverseLemmas.{lent_whole, lookup_renumbered}
+use Rattle.raft_progress.proofs.lemmas.progress.places.InverseLemmas.{lent_whole, lookup_renumbered}
 use Rattle.raft_progress.proofs.progress.places.Places.record_move.Goals as goal
 
 pub returns-clause-shifted : goal.returns-clause-shifted

@@ -2,7 +2,7 @@ use Rattle.std.proofs.Common.{rules, sym, ap, ◌∙◌, ◌≡◌}
 use Rattle.std.specs.Option.{is_some}
 use Rattle.std.specs.Prelude.{position}
 use Rattle.raft_progress.specs.Inner.Places.{place_in}
-use Rattle.raft_progress.proofs.lemmas.progress.walk.PlacesLemmas.{place_is}
+use Rattle.raft_progress.proofs.lemmas.progress.places.PlacesLemmas.{place_is}
 use Rattle.raft_progress.proofs.lemmas.progress.UpdateLemmas.{was}
 use Rattle.raft_progress.proofs.lemmas.progress.walk.WalkLemmas.{found_is_known}
 use Rattle.raft_progress.proofs.progress.vec_progress.VecProgress.apply.Goals as goal

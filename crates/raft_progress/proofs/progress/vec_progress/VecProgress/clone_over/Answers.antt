@@ -3,7 +3,7 @@ use Rattle.std.specs.List.{AllZip}
 use Rattle.std.specs.Map.{keys_of, lookup}
 use Rattle.raft_progress.specs.Inner.Places.{place_in}
 use Rattle.raft_progress.proofs.lemmas.progress.CloneLemmas.{same_ids, same_length}
-use Rattle.raft_progress.proofs.lemmas.progress.walk.PlacesLemmas.{tells_alike}
+use Rattle.raft_progress.proofs.lemmas.progress.places.PlacesLemmas.{tells_alike}
 use Rattle.raft_progress.proofs.progress.vec_progress.VecProgress.clone_over.Goals as goal
 
 pub returns-clause-cloned : goal.returns-clause-cloned

@@ -1,6 +1,6 @@
 use Rattle.std.proofs.Common.{◌∙◌}
 use Rattle.raft_progress.specs.Inner.Places.{place_in}
-use Rattle.raft_progress.proofs.lemmas.progress.walk.PlacesLemmas.{place_is}
+use Rattle.raft_progress.proofs.lemmas.progress.places.PlacesLemmas.{place_is}
 use Rattle.raft_progress.proofs.progress.vec_progress.VecProgress.index.Goals as goal
 
 pub returns : goal.returns

@@ -4,7 +4,13 @@ use Rattle.std.proofs.lemmas.Map.Entries.{length-keys_of}
 use Rattle.raft_progress.specs.Inner.Places.{place_in}
 use Rattle.raft_progress.specs.Inner.Rises.{RisesTo}
 use Rattle.raft_progress.specs.progress.VecProgress.{shown}
-use Rattle.raft_progress.proofs.lemmas.progress.walk.PlacesLemmas.{before_passed, passed_length, passed_nothing, place_ranked, tells_after}
+use Rattle.raft_progress.proofs.lemmas.progress.places.PlacesLemmas.{
+  before_passed,
+  passed_length,
+  same_unless_passed,
+  place_ranked,
+  tells_after,
+}
 use Rattle.raft_progress.proofs.progress.vec_progress.VecProgress.raise.Goals as goal
 use Rattle.raft_progress.proofs.progress.vec_progress.VecProgress.raise.Goals.{
   else-to-place-via-then-to-place+else-not-self,
@@ -40,7 +46,7 @@ invariant_of-self g c =
 
 pub invariant_of-self-else-to-place : goal.invariant_of-self-else-to-place
 invariant_of-self-else-to-place g c =
-    let same = passed_nothing g.P.Ord.cmp g.V.ProgressPart.part_of c.args.self.now.walk.items c.args.place c.move_up-to.new.walk.items
+    let same = same_unless_passed g.P.Ord.cmp g.V.ProgressPart.part_of c.args.self.now.walk.items c.args.place c.move_up-to.new.walk.items
     c.move_up-to.result c.move_up-to.ensures.passes c.if-to-place.false in
     record {
       voters_fit = subst (λ n. c.args.self.now.voter_count ≤ n) (sym (ap length same)) c.args.self.now.voters_fit;

@@ -4,14 +4,15 @@ use Rattle.std.proofs.Common.{ap, arith, is_lt, refl, sym, take, ◌∙◌, ◌�
 use Rattle.std.proofs.lemmas.List.Sums.{prefix_len-le-length}
 use Rattle.raft_progress.specs.Inner.Recount.{exceeds}
 use Rattle.raft_progress.specs.progress.VecProgress.{shown}
-use Rattle.raft_progress.proofs.lemmas.progress.SettledLemmas.{get_take}
-use Rattle.raft_progress.proofs.lemmas.progress.walk.ShortFrontLemmas.{lead_ends, length_take_le, not_scanned, scanned_from}
+use Rattle.raft_progress.proofs.lemmas.progress.walk.ShortFrontLemmas.{lead_ends, not_scanned, scanned_from}
+use Rattle.raft_progress.proofs.lemmas.ListLemmas.{length_take_le}
 use Rattle.raft_progress.proofs.lemmas.progress.UpdateLemmas.{IsDistinct-voters}
 use Rattle.raft_progress.proofs.progress.vec_progress.VecProgress.scan.Goals as goal
 use Rattle.raft_progress.proofs.progress.vec_progress.VecProgress.scan.Goals.{
   else-short-self-via-then-short-self+else-is_below,
   else-short-self-via-else-short-self,
 }
+use Rattle.std.proofs.lemmas.List.{get_or-take}
 
 pub returns-then-is_below-clause-scanned : goal.returns-then-is_below-clause-scanned
 returns-then-is_below-clause-scanned g c =
@@ -37,7 +38,7 @@ returns-else-short-self-clause-scanned g c =
           let within = w.if-short-self.true in
           let fails : is_lt (g.P.Ord.cmp p.granted (g.V.ProgressPart.part_of e.1)) ≡ false = cc in
           lead_ends over (take p.voter_count p.walk.items) c.max-short.result e
-          (ap over (get_take p.walk.items p.voter_count c.max-short.result e within ∙ sym w.index.ensures) ∙ fails)
+          (ap over (get_or-take p.voter_count p.walk.items c.max-short.result e within ∙ sym w.index.ensures) ∙ fails)
       | else-short-self-via-else-short-self w ↦
           let past = w.if-short-self.false in
           omega (arith, prefix_len-le-length over (take p.voter_count p.walk.items), length_take_le p.walk.items p.voter_count)

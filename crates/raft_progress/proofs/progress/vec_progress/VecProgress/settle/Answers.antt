@@ -7,7 +7,6 @@ use Rattle.std.proofs.Common.{
   true≢false,
   nat_lt,
   lt-ltb,
-  ltb,
   is_le,
   is_lt,
   ◌&&◌,
@@ -15,9 +14,6 @@ use Rattle.std.proofs.Common.{
   Bool,
   true,
   false,
-  ◌≤◌,
-  ℕ,
-  ltb-true,
   subst,
   List,
 }

@@ -1,12 +1,29 @@
-use Rattle.std.proofs.Common.{arith, refl, sym, ap, ◌≡◌, get_or, ◌∙◌, subst, ◌-◌, length, take, ℕ}
-use Rattle.std.proofs.lemmas.List.{length-take}
+use Rattle.std.proofs.Common.{arith, refl, sym, ap, ◌≡◌, get_or, ◌∙◌, subst, ◌-◌, ◌<◌, ◌≤◌, length, take, ℕ, Bool, List, Option, Some}
+use Rattle.std.specs.List.{prefix_len}
+use Rattle.std.proofs.lemmas.List.{length-take, get_or-take}
 use Rattle.std.proofs.lemmas.List.Sums.{prefix_len-le-length}
 use Rattle.raft_progress.specs.Inner.Recount.{exceeds}
 use Rattle.raft_progress.specs.Inner.Rises.{IsLeastFront}
 use Rattle.raft_progress.proofs.lemmas.progress.UpdateLemmas.{IsDistinct-voters}
-use Rattle.raft_progress.proofs.lemmas.progress.SettledLemmas.{get_take}
-use Rattle.raft_progress.proofs.lemmas.progress.walk.ShortFrontLemmas.{length_take_le}
+use Rattle.raft_progress.proofs.lemmas.ListLemmas.{length_take_le}
 use Rattle.raft_progress.proofs.progress.vec_progress.VecProgress.test_fronts.Goals as goal
+
+-- where a front that was found ends, over the voters, which lead with `high` of them
+module _ {ID V : Type 0} {eq : ID → ID → Bool} {has_quorum : (ID → Bool) → Bool} {place high tests : ℕ} {found : Option ℕ}
+    (leads : ID × V → Bool) (n : ℕ) (lent : List (ID × V)) (count : high ≡ prefix_len leads (take n lent))
+    (least : IsLeastFront eq has_quorum (take n lent) place high found tests) where
+  front_within : (k : ℕ) → found ≡ Some k → (place < k) × (k ≤ length (take n lent))
+  front_within k is =
+      let far = least.within k is in
+      let top = prefix_len-le-length leads (take n lent) in
+      (least.above k is, omega arith)
+
+  -- and as it is said of the walk
+  least_of_walk : (walk : List (ID × V)) → lent ≡ walk
+      → IsLeastFront eq has_quorum (take n walk) place (prefix_len leads (take n walk)) found tests
+  least_of_walk walk same =
+      subst (λ ws. IsLeastFront eq has_quorum (take n ws) place (prefix_len leads (take n ws)) found tests) same
+      (subst (λ h. IsLeastFront eq has_quorum (take n lent) place h found tests) count least)
 
 pub least_front-found-requires-clause-within : goal.least_front-found-requires-clause-within
 least_front-found-requires-clause-within g c =
@@ -20,13 +37,12 @@ least_front-found-requires-clause-distinct g c =
 
 pub index-requires : goal.index-requires
 index-requires g c =
-    let far = c.least_front-found.ensures.within c.in-Some.front c.in-Some.is in
-    let near = c.least_front-found.ensures.above c.in-Some.front c.in-Some.is in
-    let top = prefix_len-le-length (exceeds g.P.Ord.cmp g.V.ProgressPart.part_of c.args.self.now.granted)
-    (take c.args.self.now.voter_count c.deref.result.now) in
-    let h = c.gather_leading-high.ensures.count in
-    let f = c.args.self.now.voters_fit in
+    let at = front_within (exceeds g.P.Ord.cmp g.V.ProgressPart.part_of c.args.self.now.granted) c.args.self.now.voter_count
+    c.deref.result.now c.gather_leading-high.ensures.count c.least_front-found.ensures c.in-Some.front c.in-Some.is in
+    let near = at.0 in
+    let far = at.1 in
     let t = length-take c.args.self.now.voter_count c.deref.result.now in
+    let f = c.args.self.now.voters_fit in
     let q = c.args.self.now.walk.ok.0 in
     let z = ap (length {A = g.row.ID.Denot × g.row.V.Denot}) c.deref.ensures.value in
     omega arith
@@ -38,23 +54,20 @@ returns-in-Some-clause-scanned g c = record {
   moves = refl;
   found = c.least_front-found.result.front;
   tests = c.least_front-found.result.tests;
-  scanned = rw (← c.deref.ensures.value) (subst
-      (λ (n : ℕ). IsLeastFront g.ID.PartialEq.eq (g.QS.QuorumSet.has_quorum c.args.self.now.quorum_set)
-      (take c.args.self.now.voter_count c.deref.result.now) c.args.place n c.least_front-found.result.front
-      c.least_front-found.result.tests) c.gather_leading-high.ensures.count c.least_front-found.ensures);
+  scanned = least_of_walk (exceeds g.P.Ord.cmp g.V.ProgressPart.part_of c.args.self.now.granted) c.args.self.now.voter_count
+      c.deref.result.now c.gather_leading-high.ensures.count c.least_front-found.ensures c.args.self.now.walk.items c.deref.ensures.value;
   counts = c.saturating_add-self.ensures;
   stays = λ e. cc;
   rises = λ k e.
       let is : c.in-Some.front ≡ k = cc in
-      let far = c.least_front-found.ensures.within c.in-Some.front c.in-Some.is in
-      let near = c.least_front-found.ensures.above c.in-Some.front c.in-Some.is in
-      let top = prefix_len-le-length (exceeds g.P.Ord.cmp g.V.ProgressPart.part_of c.args.self.now.granted)
-      (take c.args.self.now.voter_count c.deref.result.now) in
-      let h = c.gather_leading-high.ensures.count in
+      let at = front_within (exceeds g.P.Ord.cmp g.V.ProgressPart.part_of c.args.self.now.granted) c.args.self.now.voter_count
+      c.deref.result.now c.gather_leading-high.ensures.count c.least_front-found.ensures c.in-Some.front c.in-Some.is in
+      let near = at.0 in
+      let far = at.1 in
       let t = length_take_le c.deref.result.now c.args.self.now.voter_count in (
         c.index.result.now,
         c.index.ensures ∙ ap (λ n. get_or c.args.self.now.walk.items (n - 1) c.index.result.now) is
-            ∙ sym (get_take c.args.self.now.walk.items c.args.self.now.voter_count (k - 1) c.index.result.now (omega arith)),
+            ∙ sym (get_or-take c.args.self.now.voter_count c.args.self.now.walk.items (k - 1) c.index.result.now (omega arith)),
         c.part-self.ensures,
       );
 }
@@ -66,10 +79,8 @@ returns-in_default-clause-scanned g c = record {
   moves = refl;
   found = c.least_front-found.result.front;
   tests = c.least_front-found.result.tests;
-  scanned = rw (← c.deref.ensures.value) (subst
-      (λ (n : ℕ). IsLeastFront g.ID.PartialEq.eq (g.QS.QuorumSet.has_quorum c.args.self.now.quorum_set)
-      (take c.args.self.now.voter_count c.deref.result.now) c.args.place n c.least_front-found.result.front
-      c.least_front-found.result.tests) c.gather_leading-high.ensures.count c.least_front-found.ensures);
+  scanned = least_of_walk (exceeds g.P.Ord.cmp g.V.ProgressPart.part_of c.args.self.now.granted) c.args.self.now.voter_count
+      c.deref.result.now c.gather_leading-high.ensures.count c.least_front-found.ensures c.args.self.now.walk.items c.deref.ensures.value;
   counts = c.saturating_add-self.ensures;
   stays = λ e. refl;
   rises = λ k e. cc;

@@ -1,7 +1,7 @@
 use Rattle.std.proofs.Common.{sym, ap, ◌∙◌, ◌≤◌, refl, Some, set, List, subst}
 use Rattle.std.proofs.Math.ListN.{length-set}
 use Rattle.std.specs.Map.{keys_of}
-use Rattle.raft_progress.proofs.lemmas.progress.walk.PlacesLemmas.{keys_rewritten}
+use Rattle.raft_progress.proofs.lemmas.progress.places.PlacesLemmas.{keys_rewritten}
 use Rattle.raft_progress.proofs.lemmas.progress.walk.WalkLemmas.{lookup_found, lookup_absent, set_found}
 use Rattle.raft_progress.specs.progress.VecProgress.{shown}
 use Rattle.raft_progress.proofs.progress.vec_progress.VecProgress.value_mut.Goals as goal

@@ -25,7 +25,7 @@ use Rattle.std.proofs.lemmas.Map.Keys.{IsDistinct-IsPermutation, IsDistinct-from
 use Rattle.std.proofs.lemmas.Map.Made.{is_some-lookup}
 use Rattle.std.proofs.lemmas.Map.Views.{lookup-from_Contains}
 use Rattle.raft_progress.specs.Inner.Places.{AreAllPlaces, AreInverse, TellsPlaces}
-use Rattle.raft_progress.proofs.lemmas.progress.walk.LookupLemmas.{key_at, lookup_tests}
+use Rattle.raft_progress.proofs.lemmas.progress.places.LookupLemmas.{key_at, lookup_tests}
 
 -- within a list the default does not matter
 any_default : {X : Type 0} (xs : List X) (i : ℕ) (d e : X) → i < length xs → get_or xs i d ≡ get_or xs i e

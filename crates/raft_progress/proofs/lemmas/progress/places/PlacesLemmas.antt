@@ -35,7 +35,7 @@ use Rattle.std.proofs.lemmas.Map.Made.{is_some-lookup}
 use Rattle.std.specs.declared.cmp.Ordering.{Ordering}
 use Rattle.raft_progress.specs.Inner.Places.{TellsPlaces, AreInverse, TellsPlacesBefore, place_after, place_in}
 use Rattle.raft_progress.specs.Inner.Rises.{Passed}
-use Rattle.raft_progress.proofs.lemmas.progress.walk.MadeLemmas.{place_at}
+use Rattle.raft_progress.proofs.lemmas.progress.places.MadeLemmas.{place_at}
 use Rattle.raft_progress.proofs.lemmas.progress.walk.MovedLemmas.{member_moved}
 use Rattle.raft_progress.proofs.lemmas.progress.walk.WalkLemmas.{lookup_absent}
 
@@ -78,9 +78,9 @@ passed_length cmp part old from new to p =
     ap length p.now ∙ omega arith ∙ sym (ap length p.was)
 
 -- what has passed nothing stands where it stood
-pub passed_nothing : {ID V P : Type 0} (cmp : P → P → Ordering) (part : V → P) (old : List (ID × V)) (from : ℕ) (new : List (ID × V))
+pub same_unless_passed : {ID V P : Type 0} (cmp : P → P → Ordering) (part : V → P) (old : List (ID × V)) (from : ℕ) (new : List (ID × V))
     (to : ℕ) → Passed cmp part old from new to → from ≤ to → new ≡ old
-passed_nothing {ID} {V} cmp part old from new to p l = by p.passed refl
+same_unless_passed {ID} {V} cmp part old from new to p l = by p.passed refl
   where
     by : (passed : List (ID × V)) → p.passed ≡ passed → new ≡ old
     by [] none = p.now ∙ ap (λ (es : List (ID × V)). p.front ++ (p.entry ∷ (es ++ p.rest))) none
