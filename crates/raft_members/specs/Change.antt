@@ -11,8 +11,16 @@ use Rattle.raft_members.specs.Majority.{is_voter_of}
 use Rattle.raft_members.specs.Coherence.{next_configs}
 use Rattle.raft_members.specs.Members.{Members}
 use Rattle.raft_members.specs.declared.change_members.ChangeMembers.{ChangeMembers}
-use Rattle.raft_members.specs.declared.change_members.ChangeMembers.TheVariants.{AddVoterIds, AddVoters, RemoveVoters, ReplaceAllVoters,
-        AddNodes, SetNodes, RemoveNodes, ReplaceAllNodes}
+use Rattle.raft_members.specs.declared.change_members.ChangeMembers.TheVariants.{
+  AddVoterIds,
+  AddVoters,
+  RemoveVoters,
+  ReplaceAllVoters,
+  AddNodes,
+  SetNodes,
+  RemoveNodes,
+  ReplaceAllNodes,
+}
 
 -- the last config, and the empty one where there is none
 abbrev pub last_config : {K : Type 0} → List (List K) → List K

@@ -2,8 +2,16 @@
 use Rattle.std.specs.Prelude.{◌≡◌, Bool, List, [], IsTrue}
 use Rattle.raft_members.specs.Members.{same_nodes}
 use Rattle.raft_members.specs.declared.change_members.ChangeMembers.{ChangeMembers}
-use Rattle.raft_members.specs.declared.change_members.ChangeMembers.TheVariants.{AddVoterIds, AddVoters, RemoveVoters, ReplaceAllVoters,
-        AddNodes, SetNodes, RemoveNodes, ReplaceAllNodes}
+use Rattle.raft_members.specs.declared.change_members.ChangeMembers.TheVariants.{
+  AddVoterIds,
+  AddVoters,
+  RemoveVoters,
+  ReplaceAllVoters,
+  AddNodes,
+  SetNodes,
+  RemoveNodes,
+  ReplaceAllNodes,
+}
 
 -- what kind of change it is
 pub data Kind : Type 0 where

@@ -7,8 +7,14 @@ use Rattle.raft_base.specs.LogView.{LogView}
 use Rattle.raft_base.specs.Validate.{first_false}
 use Rattle.raft_base.specs.declared.log_id.LogIdOf.{LogIdOf}
 use Rattle.raft_base.specs.declared.log_id.validate.Invalid.{Invalid}
-use Rattle.raft_base.specs.declared.log_id.validate.Invalid.TheVariants.{PurgedNext, LastPurgedPastUpto, UptoPastCommitted,
-        UptoPastSnapshot, SnapshotPastCommitted, CommittedPastLast}
+use Rattle.raft_base.specs.declared.log_id.validate.Invalid.TheVariants.{
+  PurgedNext,
+  LastPurgedPastUpto,
+  UptoPastCommitted,
+  UptoPastSnapshot,
+  SnapshotPastCommitted,
+  CommittedPastLast,
+}
 use Rattle.raft_state.specs.FullLog.{full_log}
 use Rattle.raft_state.specs.LogReads.{first_id}
 use Rattle.raft_state.specs.MembershipRelations.{membership_relations}

@@ -69,7 +69,7 @@ module _ {K N : Type 0} {cmp : K → K → Ordering} (o : IsTotalOrder cmp) wher
     new_step : (es fs rest : List (K × N)) (x : K × N) (w : N) (q : K) (b : Bool) → is_at (cmp q) x.0 ≡ b → same w x.1 ≡ true
         → is_some (lookup (is_at (cmp x.0)) es) ≡ false → lookup (is_at (cmp q)) fs ≡ cond b (Some w) (lookup (is_at (cmp q)) es)
         → IsTrue (option_eq same (option_or (lookup (is_at (cmp q)) fs) (lookup (is_at (cmp q)) rest))
-            (option_or (lookup (is_at (cmp q)) es) (cond b (Some x.1) (lookup (is_at (cmp q)) rest))))
+        (option_or (lookup (is_at (cmp q)) es) (cond b (Some x.1) (lookup (is_at (cmp q)) rest))))
     new_step es fs rest x w q true e s h u =
         rw (u, none_first (lookup (is_at (cmp q)) es) (Some x.1) (ap is_some (alike_at es q x.0 e) ∙ h)) s
     new_step es fs rest x w q false e s h u = rw u (option_alike laws (option_or (lookup (is_at (cmp q)) es) (lookup (is_at (cmp q)) rest)))
@@ -78,7 +78,7 @@ module _ {K N : Type 0} {cmp : K → K → Ordering} (o : IsTotalOrder cmp) wher
     pub add_new : (es fs rest : List (K × N)) (x : K × N) (w : N) → same w x.1 ≡ true → is_some (lookup (is_at (cmp x.0)) es) ≡ false
         → ((q : K) → lookup (is_at (cmp q)) fs ≡ cond (is_at (cmp x.0) q) (Some w) (lookup (is_at (cmp q)) es)) → (q : K)
         → IsTrue (option_eq same (option_or (lookup (is_at (cmp q)) fs) (lookup (is_at (cmp q)) rest))
-            (option_or (lookup (is_at (cmp q)) es) (lookup (is_at (cmp q)) (x ∷ rest))))
+        (option_or (lookup (is_at (cmp q)) es) (lookup (is_at (cmp q)) (x ∷ rest))))
     add_new es fs rest x w s h u q = new_step es fs rest x w q (is_at (cmp q) x.0) refl s h
         (u q ∙ ap (λ b. cond b (Some w) (lookup (is_at (cmp q)) es)) (flip o x.0 q))
 
@@ -90,12 +90,12 @@ module _ {K N : Type 0} {cmp : K → K → Ordering} (o : IsTotalOrder cmp) wher
   pub either_has : (same : N → N → Bool) (now given more : List (K × N)) (x : K × N) (rest : List (K × N))
       → is_some (lookup (is_at (cmp x.0)) now) ≡ false
       → IsTrue (option_eq same (option_or (lookup (is_at (cmp x.0)) now) (lookup (is_at (cmp x.0)) (x ∷ rest)))
-          (option_or (lookup (is_at (cmp x.0)) given) (lookup (is_at (cmp x.0)) more)))
+      (option_or (lookup (is_at (cmp x.0)) given) (lookup (is_at (cmp x.0)) more)))
       → IsTrue (is_some (lookup (is_at (cmp x.0)) given)) ⊎ IsTrue (is_some (lookup (is_at (cmp x.0)) more))
   either_has same now given more x rest gone e =
       by (lookup (is_at (cmp x.0)) now) (lookup (is_at (cmp x.0)) given) (lookup (is_at (cmp x.0)) more) gone
       (subst (λ (v : Option N). IsTrue (option_eq same (option_or (lookup (is_at (cmp x.0)) now) v)
-              (option_or (lookup (is_at (cmp x.0)) given) (lookup (is_at (cmp x.0)) more)))) (head_at x rest) e)
+      (option_or (lookup (is_at (cmp x.0)) given) (lookup (is_at (cmp x.0)) more)))) (head_at x rest) e)
     where
       by : (n g m : Option N) → is_some n ≡ false → IsTrue (option_eq same (option_or n (Some x.1)) (option_or g m))
           → IsTrue (is_some g) ⊎ IsTrue (is_some m)

@@ -20,7 +20,7 @@ module _ {K : Type 0} {cmp : K → K → Ordering} (o : IsTotalOrder cmp) where
   insert_last [] rest k s = refl
   insert_last (x ∷ xs) rest k s =
       let g : cmp k x ≡ Greater = o.antisymm k x
-          ∙ ap ordering_reverse (middle (λ y. cmp x y ≡ Less) xs rest k (sorted_head cmp x (xs ++ k ∷ rest) s)) in
+      ∙ ap ordering_reverse (middle (λ y. cmp x y ≡ Less) xs rest k (sorted_head cmp x (xs ++ k ∷ rest) s)) in
       rw g (ap (λ ys. x ∷ ys) (insert_last xs rest k (sorted_tail cmp x (xs ++ k ∷ rest) s)))
 
   -- one more key of a sorted list is inserted

@@ -50,7 +50,7 @@ module _ {N : Type 0} (is_default : N → Type 0) where
         → WithDefault is_default a (is_member eq (take (i + 1) ids) q) (lookup (is_at (cmp q)) es)
     default_there t w =
         subst (λ (b : Bool). WithDefault is_default a b (lookup (is_at (cmp q)) es)) one_more
-            (there_by (is_member eq (take i ids) q) (is_at (cmp q) x) refl t w)
+        (there_by (is_member eq (take i ids) q) (is_at (cmp q) x) refl t w)
 
     made_by : (v b : Bool) (d : N) (n : Option N) → is_at (cmp q) x ≡ b → is_some (lookup (is_at (cmp x)) es) ≡ false → is_default d
         → n ≡ cond b (Some d) (lookup (is_at (cmp q)) es) → WithDefault is_default a v (lookup (is_at (cmp q)) es)
@@ -68,4 +68,4 @@ module _ {N : Type 0} (is_default : N → Type 0) where
     default_made fs d t p u w =
         subst (λ (b : Bool). WithDefault is_default a b (lookup (is_at (cmp q)) fs)) one_more
         (made_by (is_member eq (take i ids) q) (is_at (cmp q) x) d (lookup (is_at (cmp q)) fs) refl t p
-                (u q ∙ ap (λ b. cond b (Some d) (lookup (is_at (cmp q)) es)) ((eq_by_cmp_equiv o).symm x q)) w)
+        (u q ∙ ap (λ b. cond b (Some d) (lookup (is_at (cmp q)) es)) ((eq_by_cmp_equiv o).symm x q)) w)

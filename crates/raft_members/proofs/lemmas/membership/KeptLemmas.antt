@@ -89,9 +89,11 @@ module _ {K N : Type 0} (same : N → N → Bool) where
   pub below_from_sorted : (cmp : K → K → Ordering) (xs ys : List (K × N)) (e : K × N) → IsStrictlySortedBy cmp (keys_of (xs ++ e ∷ ys))
       → AllBelow cmp e.0 xs
   below_from_sorted cmp [] ys e h = tt
-  below_from_sorted cmp (x ∷ xs) ys e h =
-      (head_below cmp x xs ys e (sorted_head cmp x.0 (keys_of (xs ++ e ∷ ys)) h), below_from_sorted cmp xs ys e
-          (sorted_tail cmp x.0 (keys_of (xs ++ e ∷ ys)) h))
+  below_from_sorted cmp (x ∷ xs) ys e h = (
+    head_below cmp x xs ys e (sorted_head cmp x.0 (keys_of (xs ++ e ∷ ys)) h),
+    below_from_sorted cmp xs ys e
+        (sorted_tail cmp x.0 (keys_of (xs ++ e ∷ ys)) h),
+  )
 
   front_step : (b : Bool) (x : K × N) (f g t : List (K × N)) → g ≡ f ++ t → cond b (x ∷ g) g ≡ cond b (x ∷ f) f ++ t
   front_step true x f g t h = ap (λ l. x ∷ l) h
@@ -107,7 +109,7 @@ module _ {K N : Type 0} (same : N → N → Bool) where
       → SameEntries (insert_entry cmp kept k w) (filter p (xs ++ (k, v) ∷ []))
   kept_in {cmp} o p xs rest kept k v w s h e t =
       rw (kept_front p xs (k, v) true (sym h)) (same_insert o kept (filter p xs) k w v t
-          (below_filter cmp k p xs (below_from_sorted cmp xs rest (k, v) s)) e)
+      (below_filter cmp k p xs (below_from_sorted cmp xs rest (k, v) s)) e)
 
   pub kept_out : (p : K × N → Bool) (xs kept : List (K × N)) (e : K × N) → false ≡ p e → SameEntries kept (filter p xs)
       → SameEntries kept (filter p (xs ++ e ∷ []))

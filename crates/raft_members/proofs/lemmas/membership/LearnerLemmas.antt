@@ -28,4 +28,4 @@ module _ {K : Type 0} {eq : K → K → Bool} (laws : IsEquivalence eq) where
   learner_with_node cmp ties configs nodes id =
       learner_in configs (keys_of nodes) id
       ∙ ap (λ b. b && not (is_voter_of eq configs id))
-          (sym (in_set laws cmp ties id (keys_of nodes)) ∙ sym (is_some-lookup (is_at (cmp id)) nodes))
+      (sym (in_set laws cmp ties id (keys_of nodes)) ∙ sym (is_some-lookup (is_at (cmp id)) nodes))

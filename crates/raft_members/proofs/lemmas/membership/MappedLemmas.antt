@@ -44,7 +44,7 @@ pub any_more : {X : Type 0} (p : X → Bool) (xs : List X) (i : ℕ) (d : X) →
     → list_any p (take (i + 1) xs) ≡ (list_any p (take i xs) || p d)
 any_more p xs i d h e =
     ap (list_any p) (take_more xs i d h) ∙ list_any-append p (take i xs) (get_or xs i d ∷ [])
-        ∙ ap (λ x. list_any p (take i xs) || (p x || false)) e ∙ ap (λ b. list_any p (take i xs) || b) (or_false (p d))
+    ∙ ap (λ x. list_any p (take i xs) || (p x || false)) e ∙ ap (λ b. list_any p (take i xs) || b) (or_false (p d))
   where
     or_false : (b : Bool) → (b || false) ≡ b
     or_false true = refl

@@ -153,6 +153,6 @@ module _ {K X : Type 0} {eq : K → K → Bool} {cmp : K → K → Ordering} (la
       → FirstUnknown cmp (is_voter_of eq (map f (take (i + 1) xs))) known (lesser cmp a (find (λ q. not (known q)) (f x)))
   one_more_first xs i x a l e s h =
       subst (λ (v : K → Bool). FirstUnknown cmp v known (lesser cmp a (find (λ q. not (known q)) (f x))))
-          (λ j k. more_voters xs i x l e k j)
+      (λ j k. more_voters xs i x l e k j)
       (lesser_first o (is_voter_of eq (map f (take i xs))) (is_member eq (f x)) known a (find (λ q. not (known q)) (f x)) h
-              (find_first laws o ties known alike (f x) s))
+      (find_first laws o ties known alike (f x) s))

@@ -1,6 +1,25 @@
 -- Voters that are replaced by a goal, and what two changes of voters lead to.
-use Rattle.std.specs.Prelude.{◌≡◌, ◌⊎◌, ◌<◌, ◌-◌, Bool, true, false, not, cond, ◌||◌, Option, Some, None, List, [], ◌∷◌, length, is_some,
-        refl}
+use Rattle.std.specs.Prelude.{
+  ◌≡◌,
+  ◌⊎◌,
+  ◌<◌,
+  ◌-◌,
+  Bool,
+  true,
+  false,
+  not,
+  cond,
+  ◌||◌,
+  Option,
+  Some,
+  None,
+  List,
+  [],
+  ◌∷◌,
+  length,
+  is_some,
+  refl,
+}
 use Rattle.std.proofs.Common.{sym, ◌∙◌, ap, arith, inl, inr, subst}
 use Rattle.std.specs.declared.cmp.Ordering.{Ordering}
 use Rattle.std.specs.declared.cmp.Ordering.TheVariants.{Equal}
@@ -66,7 +85,7 @@ module _ {K : Type 0} (e : K → K → Bool) (cs : List (List K)) (goal : List K
   either_by true k h l = inl (next_if_has (pointwise e) cs goal h)
   either_by false None h l = inl (next_if_none (pointwise e) cs goal l)
   either_by false (Some c) h l = inr (next_if_lacks (pointwise e) cs goal c h l
-          ∙ ap (λ d. d ∷ goal ∷ []) (sym (ap (λ o. unwrap_or o []) l)))
+      ∙ ap (λ d. d ∷ goal ∷ []) (sym (ap (λ o. unwrap_or o []) l)))
 
   -- the goal alone, or behind the last config
   pub next_either : (next_configs e cs goal ≡ goal ∷ []) ⊎ (next_configs e cs goal ≡ last_config cs ∷ goal ∷ [])
@@ -88,7 +107,7 @@ module _ {K N : Type 0} {e : K → K → Bool} (m : Members K N) (goal : List K)
   no_empty : (ds : List (List K)) → (ds ≡ goal ∷ []) ⊎ (ds ≡ last_config m.configs ∷ goal ∷ []) → has_empty_config ds ≡ false
   no_empty ds (inl h) = rw h (either_false _ _ (not_empty goal can.has_id) refl)
   no_empty ds (inr h) = rw h (either_false _ _ (last_not_empty e m.configs can.has_config can.valid.0)
-          (either_false _ _ (not_empty goal can.has_id) refl))
+      (either_false _ _ (not_empty goal can.has_id) refl))
 
   has_node : (ds : List (List K)) → (ds ≡ goal ∷ []) ⊎ (ds ≡ last_config m.configs ∷ goal ∷ []) → (k : K) → is_voter_of e ds k ≡ true
       → is_some (m.node k) ≡ true
@@ -131,8 +150,8 @@ module _ {K N : Type 0} {e : K → K → Bool} (laws : IsEquivalence e) (cmp : K
   leads_to c n aim fixed is next =
       let goal = aim (last_config m.configs) in
       let either : (n.configs ≡ goal ∷ []) ⊎ (n.configs ≡ last_config m.configs ∷ goal ∷ []) =
-          subst (λ (cs : List (List K)). (cs ≡ goal ∷ []) ⊎ (cs ≡ last_config m.configs ∷ goal ∷ [])) (sym is)
-          (next_either e m.configs goal) in
+      subst (λ (cs : List (List K)). (cs ≡ goal ∷ []) ⊎ (cs ≡ last_config m.configs ∷ goal ∷ [])) (sym is)
+      (next_either e m.configs goal) in
       record {
         configs = either;
         again = λ again.
@@ -140,7 +159,7 @@ module _ {K N : Type 0} {e : K → K → Bool} (laws : IsEquivalence e) (cmp : K
             ∙ ap (λ last. next_configs e n.configs (aim last)) (last_is n.configs (last_config m.configs) goal either)
             ∙ ap (next_configs e n.configs) fixed
             ∙ next_if_has (pointwise e) n.configs goal
-                (ap (λ cs. has_config e cs goal) is ∙ next_has_goal (lists_equiv laws) m.configs goal);
+            (ap (λ cs. has_config e cs goal) is ∙ next_has_goal (lists_equiv laws) m.configs goal);
       }
 
   pub two_changes : ((x : K) → cmp x x ≡ Equal) → (same : N → N → Bool) (c : ChangeMembers K N) (n : MemberList K N)

@@ -1,6 +1,26 @@
 -- What holds of a membership holds of what it says.
-use Rattle.std.specs.Prelude.{◌≡◌, Bool, true, false, not, cond, ◌||◌, Option, Some, None, List, IsTrue, is_some, refl, length, ◌<◌, Result,
-        Ok, Err, IfOk}
+use Rattle.std.specs.Prelude.{
+  ◌≡◌,
+  Bool,
+  true,
+  false,
+  not,
+  cond,
+  ◌||◌,
+  Option,
+  Some,
+  None,
+  List,
+  IsTrue,
+  is_some,
+  refl,
+  length,
+  ◌<◌,
+  Result,
+  Ok,
+  Err,
+  IfOk,
+}
 use Rattle.std.proofs.Common.{sym, ◌∙◌, ap, subst}
 use Rattle.std.specs.declared.cmp.Ordering.{Ordering}
 use Rattle.std.specs.Cmp.{IsEquivalence}
@@ -24,8 +44,16 @@ use Rattle.raft_members.specs.Refusal.{IsRefusal}
 use Rattle.raft_members.specs.Valid.{has_empty_config, FirstWithoutNode, FirstUnknown}
 use Rattle.raft_members.specs.Change.{changed, next_members, with_nodes, union_of, last_config, keeps_node}
 use Rattle.raft_members.specs.declared.change_members.ChangeMembers.{ChangeMembers}
-use Rattle.raft_members.specs.declared.change_members.ChangeMembers.TheVariants.{AddVoterIds, AddVoters, RemoveVoters, ReplaceAllVoters,
-        AddNodes, SetNodes, RemoveNodes, ReplaceAllNodes}
+use Rattle.raft_members.specs.declared.change_members.ChangeMembers.TheVariants.{
+  AddVoterIds,
+  AddVoters,
+  RemoveVoters,
+  ReplaceAllVoters,
+  AddNodes,
+  SetNodes,
+  RemoveNodes,
+  ReplaceAllNodes,
+}
 use Rattle.raft_members.specs.declared.error.ChangeMembershipErrorOf.{ChangeMembershipErrorOf}
 use Rattle.raft_members.specs.declared.error.ChangeMembershipErrorOf.TheVariants.{InProgress, EmptyMembership, LearnerNotFound, OutOfMemory}
 
@@ -42,7 +70,7 @@ module _ {K N : Type 0} (same : N → N → Bool) (eq : K → K → Bool) (cmp :
       let known : K → Bool = λ k. is_some (w.node k) in
       subst (λ (v : K → Bool). FirstUnknown cmp v known o) (λ i. is_voter_of eq (s.0 i))
       (subst (λ (f : K → Bool). FirstUnknown cmp (is_voter_of eq m.configs) f o)
-              (λ i k. some_alike same (node_at cmp m.nodes k) (w.node k) (s.1 k) i) h)
+      (λ i k. some_alike same (node_at cmp m.nodes k) (w.node k) (s.1 k) i) h)
 
   pub same_empty : has_empty_config m.configs ≡ has_empty_config w.configs
   same_empty = ap has_empty_config s.0
@@ -104,19 +132,21 @@ module _ {K N : Type 0} {eq : K → K → Bool} (laws : IsEquivalence eq) (cmp :
   added_votes id h =
       let goal = union_of cmp (last_config m.configs) (keys more) in
       let named : is_member eq (keys more) id ≡ true =
-          sym (in_set laws cmp ties id (keys more)) ∙ sym (is_some-lookup (is_at (cmp id)) more.entries) ∙ h in
+      sym (in_set laws cmp ties id (keys more)) ∙ sym (is_some-lookup (is_at (cmp id)) more.entries) ∙ h in
       voter_there laws (next_configs eq m.configs goal) goal id (next_has_goal (lists_equiv laws) m.configs goal)
-          (is_member-union_of laws cmp ties id (last_config m.configs) (keys more) named)
+      (is_member-union_of laws cmp ties id (last_config m.configs) (keys more) named)
 
   -- a step to voters with nodes, to which those nodes are added, is the change that adds the voters
   pub more_says : (n r : MemberList K N) → Says same cmp n (next_members eq m (union_of cmp (last_config m.configs) (keys more)) retain)
       → r.configs ≡ n.configs → ((id : K) → node_at cmp r.nodes id ≡ option_or (node_at cmp n.nodes id) (get cmp more id))
       → Says same cmp r (changed eq cmp m (AddVoters more) retain)
   more_says n r s c u =
-      let next : List (List K) = next_configs eq m.configs (union_of cmp (last_config m.configs) (keys more)) in
-      (c ∙ s.0, λ id. rw (u id) (more_by alike (node_at cmp n.nodes id) (m.node id) (get cmp more id)
-              (keeps_node eq m.configs next retain id) (λ h. ap (λ v. retain || (not (is_voter_of eq m.configs id) || v)) (added_votes id h)
-              ∙ or_true retain (not (is_voter_of eq m.configs id))) (s.1 id)))
+      let next : List (List K) = next_configs eq m.configs (union_of cmp (last_config m.configs) (keys more)) in (
+        c ∙ s.0,
+        λ id. rw (u id) (more_by alike (node_at cmp n.nodes id) (m.node id) (get cmp more id)
+            (keeps_node eq m.configs next retain id) (λ h. ap (λ v. retain || (not (is_voter_of eq m.configs id) || v)) (added_votes id h)
+            ∙ or_true retain (not (is_voter_of eq m.configs id))) (s.1 id)),
+      )
 
 -- the same configs with nodes that equal the given ones
 pub if_says : {K N E : Type 0} {same : N → N → Bool} → IsEquivalence same

@@ -21,8 +21,13 @@ use Rattle.raft_members.specs.AtLeast.{IsAlike, ids_of, need_of}
 use Rattle.raft_members.specs.Majority.{has_at_least}
 use Rattle.raft_members.specs.declared.quorum.at_least.AtLeast.{AtLeast}
 use Rattle.raft_members.specs.Meeting.{AtLeastQuorumsMeet, NeedPastIdsHasNoQuorum, RespectsEquality, ShareMember}
-use Rattle.raft_members.proofs.lemmas.quorum.MajorityLemmas.{IsDistinct-filter, IsDistinct-unique_keys, count_by-is_member, flipped,
-        is_member-unique_keys}
+use Rattle.raft_members.proofs.lemmas.quorum.MajorityLemmas.{
+  IsDistinct-filter,
+  IsDistinct-unique_keys,
+  count_by-is_member,
+  flipped,
+  is_member-unique_keys,
+}
 use Rattle.raft_members.proofs.lemmas.quorum.MeetingLemmas.{shared}
 
 -- a test of a count against one less
@@ -57,14 +62,14 @@ module _ {K : Type 0} {eq : K → K → Bool} (laws : IsEquivalence eq) (kept gi
       → length kept ≡ distinct_count eq given
   ascending_count cmp ties ascending =
       length-from_keys laws kept given (subst (λ (e : K → K → Bool). IsDistinct e kept) (λ i x y. sym (ties x y) i)
-              (IsDistinct-from_sorted cmp kept ascending)) same
+      (IsDistinct-from_sorted cmp kept ascending)) same
 
   -- the same ids have the same quorums, in whatever order and however often they come
   pub same_quorums : (need : ℕ) (set : K → Bool) → RespectsEquality eq set → has_at_least eq kept need set ≡ has_at_least eq given need set
   same_quorums need set respects = ap (λ n. leb need n)
       (sym (length-filter set (unique_keys eq kept))
-          ∙ length-from_same_keys laws (chosen kept) (chosen given) (distinct kept) (distinct given)
-          (λ x. has kept x ∙ ap (λ b. b && set x) (same x) ∙ sym (has given x)) ∙ length-filter set (unique_keys eq given))
+      ∙ length-from_same_keys laws (chosen kept) (chosen given) (distinct kept) (distinct given)
+      (λ x. has kept x ∙ ap (λ b. b && set x) (same x) ∙ sym (has given x)) ∙ length-filter set (unique_keys eq given))
     where
       chosen : List K → List K
       chosen ids = filter set (unique_keys eq ids)

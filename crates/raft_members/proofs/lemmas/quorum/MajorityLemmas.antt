@@ -54,14 +54,14 @@ module _ {K : Type 0} {eq : K → K → Bool} (laws : IsEquivalence eq) where
   all_filter x p [] a = tt
   all_filter x p (y ∷ ys) a =
       elim (p y) as (λ b. AllByRecursion (λ z. eq x z ≡ false) (cond b (y ∷ filter p ys) (filter p ys)))
-          [ true ↦ (a.0, all_filter x p ys a.1) | false ↦ all_filter x p ys a.1 ]
+      [ true ↦ (a.0, all_filter x p ys a.1) | false ↦ all_filter x p ys a.1 ]
 
   pub IsDistinct-filter : (p : K → Bool) (xs : List K) → IsDistinct eq xs → IsDistinct eq (filter p xs)
   unfolding IsDistinct
   IsDistinct-filter p [] d = tt
   IsDistinct-filter p (x ∷ xs) d =
       elim (p x) as (λ b. IsDistinct eq (cond b (x ∷ filter p xs) (filter p xs)))
-          [ true ↦ (all_filter x p xs d.0, IsDistinct-filter p xs d.1) | false ↦ IsDistinct-filter p xs d.1 ]
+      [ true ↦ (all_filter x p xs d.0, IsDistinct-filter p xs d.1) | false ↦ IsDistinct-filter p xs d.1 ]
 
   and_comm : (a b : Bool) → (a && b) ≡ (b && a)
   and_comm true true = refl
@@ -75,7 +75,7 @@ module _ {K : Type 0} {eq : K → K → Bool} (laws : IsEquivalence eq) where
   count_by-is_member ids voters d =
       sym (length-filter (is_member eq voters) ids)
       ∙ length-IsIntersection laws (unique_keys eq voters) ids (filter (is_member eq voters) ids) (IsDistinct-unique_keys voters)
-          (IsDistinct-filter (is_member eq voters) ids d)
+      (IsDistinct-filter (is_member eq voters) ids d)
       (λ q. is_member-filter laws (is_member eq voters) q (λ x e. is_member-alike q x e voters) ids
       ∙ and_comm (is_member eq ids q) (is_member eq voters q)
       ∙ ap (λ b. b && is_member eq ids q) (sym (is_member-unique_keys voters q)))

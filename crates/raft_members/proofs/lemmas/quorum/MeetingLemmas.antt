@@ -1,6 +1,25 @@
 -- Quorums that meet share a voter.
-use Rattle.std.specs.Prelude.{◌≡◌, ℕ, ◌+◌, ◌*◌, ◌<◌, ◌≤◌, Bool, true, false, ◌&&◌, ◌||◌, cond, List, [], ◌∷◌, length, nat_lt, count_by,
-        refl}
+use Rattle.std.specs.Prelude.{
+  ◌≡◌,
+  ℕ,
+  ◌+◌,
+  ◌*◌,
+  ◌<◌,
+  ◌≤◌,
+  Bool,
+  true,
+  false,
+  ◌&&◌,
+  ◌||◌,
+  cond,
+  List,
+  [],
+  ◌∷◌,
+  length,
+  nat_lt,
+  count_by,
+  refl,
+}
 use Rattle.std.proofs.Common.{sym, ◌∙◌, arith, ltb-true}
 use Rattle.std.specs.Cmp.{IsEquivalence, first_so, second_so}
 use Rattle.std.specs.List.{filter}
@@ -44,7 +63,7 @@ module _ {K : Type 0} {e : K → K → Bool} (laws : IsEquivalence e) where
       let a : length c < 2 * length (filter s u) = rw length-filter (ltb-true (length c) (2 * count_by s u) h) in
       let b : length c < 2 * length (filter t u) = rw length-filter (ltb-true (length c) (2 * count_by t u) k) in
       let m : ShareMember e u s t = shared s t u
-          (share (length c) (length (filter s u)) (length (filter t u)) (length u) a b (distinct_count-le e c)) in
+      (share (length c) (length (filter s u)) (length (filter t u)) (length u) a b (distinct_count-le e c)) in
       (m.0, sym (is_member-unique_keys laws c m.0) ∙ m.1, m.2, m.3)
 
   -- a majority has a voter of its config

@@ -21,7 +21,7 @@ pub tested : {K N I L C : Type 0} (eq : C → C → Bool) (cmp : C → C → Ord
     × (can_catch_up eq cmp (view_of s) entry agree n ≡ true)
 tested eq cmp s entry agree n h =
     let two = first_so (is_none (broken_relation cmp s) && none_or_logged eq (view_of s) s.purge_upto)
-        (can_catch_up eq cmp (view_of s) entry agree n) h in (
+    (can_catch_up eq cmp (view_of s) entry agree n) h in (
       none_is (broken_relation cmp s) (first_so (is_none (broken_relation cmp s)) (none_or_logged eq (view_of s) s.purge_upto) two),
       second_so (is_none (broken_relation cmp s)) (none_or_logged eq (view_of s) s.purge_upto) two,
       second_so (is_none (broken_relation cmp s) && none_or_logged eq (view_of s) s.purge_upto)

@@ -1,6 +1,32 @@
 -- What stands between the visits of a round, and what is granted after it.
-use Rattle.std.proofs.Common.{◌≡◌, ◌⊎◌, inl, inr, ℕ, ◌+◌, ◌≤◌, Bool, true, false, ◌&&◌, ◌||◌, List, [], ◌∷◌, ◌++◌, length, Option, Some,
-        refl, sym, ap, ◌∙◌, subst, arith, if◌then◌else◌}
+use Rattle.std.proofs.Common.{
+  ◌≡◌,
+  ◌⊎◌,
+  inl,
+  inr,
+  ℕ,
+  ◌+◌,
+  ◌≤◌,
+  Bool,
+  true,
+  false,
+  ◌&&◌,
+  ◌||◌,
+  List,
+  [],
+  ◌∷◌,
+  ◌++◌,
+  length,
+  Option,
+  Some,
+  refl,
+  sym,
+  ap,
+  ◌∙◌,
+  subst,
+  arith,
+  if◌then◌else◌,
+}
 use Rattle.std.proofs.lemmas.List.{append_assoc, append-nil}
 use Rattle.std.proofs.lemmas.Cmp.{tied_itself}
 use Rattle.std.specs.Cmp.{IsEquivalence, IsTotalOrder, first_so, second_so}
@@ -71,8 +97,11 @@ module _ {ID C QS : Type 0} {eq : ID → ID → Bool} (e : IsEquivalence eq) (cm
   kept old (pair ∷ pairs) ran new r =
       let one = visit_stays old pair.0 pair.1 r.0 r.2 r.4 in
       let more = kept r.2 pairs r.1 new r.5 in
-      record { quorum_set = more.quorum_set ∙ one.quorum_set; is_voter = λ x. more.is_voter x ∙ one.is_voter x;
-              default_part = more.default_part ∙ one.default_part }
+      record {
+        quorum_set = more.quorum_set ∙ one.quorum_set;
+        is_voter = λ x. more.is_voter x ∙ one.is_voter x;
+        default_part = more.default_part ∙ one.default_part;
+      }
 
   -- a value is as it was, or its id is that of a follower that ran
   visit_value : (old : Followers ID C QS) (id : ID) (agree : ℕ) (did : Bool) (new : Followers ID C QS)
@@ -172,7 +201,7 @@ module _ {ID C QS : Type 0} {eq : ID → ID → Bool} (e : IsEquivalence eq) (cm
   not_lower total old [] ran new r = rw r.1 (AtMost-refl (optional-log_id_cmp-total total) old.granted)
   not_lower total old (pair ∷ pairs) ran new r =
       AtMost-trans (optional-log_id_cmp-total total) old.granted r.2.granted new.granted
-          (visit_not_lower total old pair.0 pair.1 r.0 r.2 r.4) (not_lower total r.2 pairs r.1 new r.5)
+      (visit_not_lower total old pair.0 pair.1 r.0 r.2 r.4) (not_lower total r.2 pairs r.1 new r.5)
 
   -- some followers ran so far and are caught up, and any round from here is one from the start
   pub record Along (same_leader : C → C → Bool) (old : Followers ID C QS) (pairs : List (ID × ℕ)) (count : ℕ) (now : Followers ID C QS)
@@ -244,9 +273,9 @@ module _ {ID C QS : Type 0} {eq : ID → ID → Bool} (e : IsEquivalence eq) (cm
 module _ {ID C QS : Type 0} {same_leader : C → C → Bool} {eq : ID → ID → Bool} (e : IsEquivalence eq) (cmp : C → C → Ordering)
     (total : IsTotalOrder cmp)
     (reflexive : (x : C) → same_leader x x ≡ true) (ties : (x y : C) → same_leader x y ≡ eq_by_cmp cmp x y) (log : LogView C) (n : ℕ)
-        (can : ProgressEntryOf C → ℕ → ℕ → Bool)
+    (can : ProgressEntryOf C → ℕ → ℕ → Bool)
     (has_quorum : QS → (ID → Bool) → Bool)
-        (superset : (c : QS) (s t : ID → Bool) → ((x : ID) → s x ≡ true → t x ≡ true) → has_quorum c s ≡ true → has_quorum c t ≡ true)
+    (superset : (c : QS) (s t : ID → Bool) → ((x : ID) → s x ≡ true → t x ≡ true) → has_quorum c s ≡ true → has_quorum c t ≡ true)
     (old new : Followers ID C QS) (pairs : List (ID × ℕ)) (ran : List ID)
     (round : IsRound eq cmp has_quorum log n can old pairs ran new)
     (caught : (id : ID) → is_member eq ran id ≡ true → IsCaughtUp eq same_leader log new id)
@@ -264,7 +293,7 @@ module _ {ID C QS : Type 0} {same_leader : C → C → Bool} {eq : ID → ID →
   alike : (a b : Option (LogIdOf C)) → same_ids same_leader a log.last ≡ true
       → option_cmp (log_id_cmp cmp) a b ≡ option_cmp (log_id_cmp cmp) log.last b
   alike a b h = order.congr a log.last b (is_equal (option_cmp (log_id_cmp cmp) a log.last)
-          (tied same_leader cmp total reflexive ties a log.last h))
+      (tied same_leader cmp total reflexive ties a log.last h))
 
   alike_right : (a b : Option (LogIdOf C)) → same_ids same_leader a log.last ≡ true
       → option_cmp (log_id_cmp cmp) b a ≡ option_cmp (log_id_cmp cmp) b log.last
@@ -278,7 +307,7 @@ module _ {ID C QS : Type 0} {same_leader : C → C → Bool} {eq : ID → ID →
       let v = mine.0 in
       let s = v.matching in
       let reaches : (y : ID) → ((state eq old).is_voter y && is_member eq ran y) ≡ true
-          → reached (option_cmp (log_id_cmp cmp)) (λ (w : ProgressEntryOf C). w.matching) (state eq new) s y ≡ true =
+      → reached (option_cmp (log_id_cmp cmp)) (λ (w : ProgressEntryOf C). w.matching) (state eq new) s y ≡ true =
       λ y h. (let theirs = caught y (second_so ((state eq old).is_voter y) (is_member eq ran y) h) in
       both ((state eq new).is_voter y) _ (stays.is_voter y ∙ first_so ((state eq old).is_voter y) (is_member eq ran y) h)
       (rw (theirs.1, alike s theirs.0.matching mine.2.last, alike_right theirs.0.matching log.last theirs.2.last) (le_last))) in
@@ -286,7 +315,7 @@ module _ {ID C QS : Type 0} {same_leader : C → C → Bool} {eq : ID → ID →
         voter = stays.is_voter x ∙ q.0.1;
         value = mine.1;
         quorum = rw stays.quorum_set (superset old.quorum_set (λ y. (state eq old).is_voter y && is_member eq ran y)
-                (reached (option_cmp (log_id_cmp cmp)) (λ (w : ProgressEntryOf C). w.matching) (state eq new) s) reaches q.1);
+            (reached (option_cmp (log_id_cmp cmp)) (λ (w : ProgressEntryOf C). w.matching) (state eq new) s) reaches q.1);
       } in
       rw (← alike s new.granted mine.2.last) (ordered.counted.others_at_most x v full)
 
@@ -300,15 +329,15 @@ module _ {ID C QS : Type 0} {same_leader : C → C → Bool} {eq : ID → ID →
         | inl same ↦ below x v (sym (stays.is_voter x) ∙ voter) (sym same ∙ is)
         | inr did ↦ (let mine = caught x did in let f : mine.0 ≡ v = some_inside mine.0 v (sym mine.1 ∙ is) in
             le_of_eq (option_cmp (log_id_cmp cmp) v.matching log.last)
-                (tied same_leader cmp total reflexive ties v.matching log.last (rw (← f) mine.2.last)))
+            (tied same_leader cmp total reflexive ties v.matching log.last (rw (← f) mine.2.last)))
       ]
 
       upper : id_le cmp new.granted log.last ≡ true
       upper = elim ordered.counted.is_one [
         | inl default ↦ (let x = q.0.0 in let mine = caught x q.0.2 in let low =
-                ordered.not_below x mine.0 (stays.is_voter x ∙ q.0.1) mine.1 in
+            ordered.not_below x mine.0 (stays.is_voter x ∙ q.0.1) mine.1 in
             rw (← order.congr new.default_part new.granted log.last default, ← alike_right mine.0.matching new.default_part mine.2.last)
-                low)
+            low)
         | inr one ↦ rw (← order.congr one.1.matching new.granted log.last one.3) (under one.0 one.1 one.2.voter one.2.value)
       ]
 

@@ -53,9 +53,9 @@ one_stays : {C K N : Type 0} (cmp : C → C → Ordering) (id : LogIdOf C) (stor
 one_stays cmp id stored m is follows =
     let up = both _ _ follows in
     let low : id_le cmp (log_id_of m.effective) (log_id_of stored) ≡ true =
-        rw is (AtMost-from_lt (option_cmp (log_id_cmp cmp)) (log_id_of m.effective) (Some id) up.0) in
+    rw is (AtMost-from_lt (option_cmp (log_id_cmp cmp)) (log_id_of m.effective) (Some id) up.0) in
     let index : index_le (index_at m.effective) (index_at stored) ≡ true =
-        rw is (AtMost-from_lt (option_cmp nat_cmp) (index_at m.effective) (Some id.index) up.1) in
+    rw is (AtMost-from_lt (option_cmp nat_cmp) (index_at m.effective) (Some id.index) up.1) in
     hold_all _ _ _ low (hold_all _ _ _ index refl)
 
 -- valid memberships stay valid

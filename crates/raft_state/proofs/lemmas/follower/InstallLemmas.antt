@@ -1,6 +1,39 @@
 -- A state over which a snapshot is installed stays valid.
-use Rattle.std.proofs.Common.{◌≡◌, ℕ, zero, suc, ◌+◌, ◌==◌, ◌≤◌, ◌<◌, Bool, true, false, ◌&&◌, ◌||◌, List, [], ◌∷◌, Option, Some, None,
-        if◌then◌else◌, IsTrue, length, nat_eq, nat_lt, nat_le, refl, sym, ap, subst, arith, inl, inr, ◌∙◌}
+use Rattle.std.proofs.Common.{
+  ◌≡◌,
+  ℕ,
+  zero,
+  suc,
+  ◌+◌,
+  ◌==◌,
+  ◌≤◌,
+  ◌<◌,
+  Bool,
+  true,
+  false,
+  ◌&&◌,
+  ◌||◌,
+  List,
+  [],
+  ◌∷◌,
+  Option,
+  Some,
+  None,
+  if◌then◌else◌,
+  IsTrue,
+  length,
+  nat_eq,
+  nat_lt,
+  nat_le,
+  refl,
+  sym,
+  ap,
+  subst,
+  arith,
+  inl,
+  inr,
+  ◌∙◌,
+}
 use Rattle.std.proofs.lemmas.Bool.{cases_lt}
 use Rattle.std.proofs.lemmas.Bool.Decides.{nat_tests}
 use Rattle.std.specs.declared.cmp.Ordering.{Ordering}
@@ -16,9 +49,13 @@ use Rattle.raft_base.specs.Validate.{first_false}
 use Rattle.raft_base.specs.declared.log_id.LogIdOf.{LogIdOf}
 use Rattle.raft_members.specs.Stored.{log_id_of}
 use Rattle.raft_members.specs.declared.membership.stored.StoredMembershipOf.{StoredMembershipOf}
-use Rattle.raft_progress.proofs.lemmas.OrderLemmas.{AtMost-refl, AtMost-trans}
-use Rattle.raft_base.specs.declared.log_id.validate.Invalid.TheVariants.{PurgedNext, LastPurgedPastUpto, SnapshotPastCommitted,
-        CommittedPastLast}
+use Rattle.raft_progress.proofs.lemmas.progress.recount.RecountLemmas.{AtMost-refl, AtMost-trans}
+use Rattle.raft_base.specs.declared.log_id.validate.Invalid.TheVariants.{
+  PurgedNext,
+  LastPurgedPastUpto,
+  SnapshotPastCommitted,
+  CommittedPastLast,
+}
 use Rattle.raft_state.proofs.lemmas.log_id_list.AppendLemmas.{itself, then_below, upto_equal}
 use Rattle.raft_state.proofs.lemmas.raft_state.CommitLemmas.{hold_all}
 use Rattle.raft_state.proofs.lemmas.log_id_list.FrontLemmas.{front_none, from_first, last_at, rest_first, rest_last}
@@ -29,8 +66,15 @@ use Rattle.raft_state.proofs.lemmas.log_id_list.SameLogLemmas.{both}
 use Rattle.raft_state.proofs.lemmas.follower.TruncateLemmas.{memberships_stay}
 use Rattle.raft_state.specs.Accepted.{after_accept}
 use Rattle.raft_state.specs.FullLog.{end_index, first_index, full_log}
-use Rattle.raft_state.specs.Install.{is_logged, is_not_past, is_past_committed, log_after_install, log_to_keep, may_go_over,
-        memberships_to_keep}
+use Rattle.raft_state.specs.Install.{
+  is_logged,
+  is_not_past,
+  is_past_committed,
+  log_after_install,
+  log_to_keep,
+  may_go_over,
+  memberships_to_keep,
+}
 use Rattle.raft_state.specs.LogConditions.{may_be_purged_to}
 use Rattle.raft_state.specs.LogEdits.{front, log_after_purge, rest}
 use Rattle.raft_state.specs.LogReads.{first_id, id_at, last_id}
@@ -133,14 +177,14 @@ module _ {C : Type 0} (cmp : C → C → Ordering) (eq : C → C → Bool) (tota
 
       by_end : (t : Bool) → t ≡ nat_le (end_index (full_log (k ∷ ks))) id.index
           → IsFrom cmp id (if t then id ∷ [] else (if nat_lt id.index (first_index (full_log (k ∷ ks))) then full_log (k ∷ ks) else rest
-              (full_log (k ∷ ks)) id.index))
+          (full_log (k ∷ ks)) id.index))
       by_end true e = alone id
       by_end false e =
           let f = found eq (id_at (full_log (k ∷ ks)) id.index) id h in
           let f3 = f.3 in
           let w = within (first_index (full_log (k ∷ ks))) id.index (full_log (k ∷ ks)) f.0 row f.1 in let w0 = w.0 in
           let z = last_at_least cmp total k.leader_id (first_index (full_log (k ∷ ks))) id.index (full_log (k ∷ ks)) f.0
-              (above_full cmp total k.leader_id k ks s (AtMost-refl total k.leader_id)) row f.1 in
+          (above_full cmp total k.leader_id k ks s (AtMost-refl total k.leader_id)) row f.1 in
           let t : nat_lt id.index (first_index (full_log (k ∷ ks))) ≡ false = grind (arith, nat_tests) in
           rw t (record {
             first = f.0;
@@ -151,8 +195,8 @@ module _ {C : Type 0} (cmp : C → C → Ordering) (eq : C → C → Bool) (tota
                 (omega arith);
             last_at_least = rw (rest_last (first_index (full_log (k ∷ ks))) id.index (full_log (k ∷ ks)) row w.1, z.1)
                 (then_below (cmp id.leader_id z.0.leader_id) id.index z.0.index
-                        (upto_equal cmp eq total law id.leader_id f.0.leader_id z.0.leader_id (turn f.0.leader_id id.leader_id f.2) z.2)
-                        z.3);
+                (upto_equal cmp eq total law id.leader_id f.0.leader_id z.0.leader_id (turn f.0.leader_id id.leader_id f.2) z.2)
+                z.3);
           })
 
   -- a log that does not, cut off at or below it
@@ -183,7 +227,7 @@ module _ {C : Type 0} (cmp : C → C → Ordering) (eq : C → C → Bool) (tota
       whole (k ∷ ks) is h =
           let f = found eq (id_at (full_log (k ∷ ks)) id.index) id h in
           let z = last_at_least cmp total k.leader_id (first_index (full_log (k ∷ ks))) id.index (full_log (k ∷ ks)) f.0
-              (above_full cmp total k.leader_id k ks is (AtMost-refl total k.leader_id)) (from_first cmp (k ∷ ks) is) f.1 in
+          (above_full cmp total k.leader_id k ks is (AtMost-refl total k.leader_id)) (from_first cmp (k ∷ ks) is) f.1 in
           let z3 = z.3 in
           let t : nat_le id.index z.0.index ≡ true = grind (arith, nat_tests) in
           rw z.1 (either (nat_le id.index z.0.index) (is_le (cmp z.0.leader_id id.leader_id)) t)
@@ -196,7 +240,7 @@ module _ {C : Type 0} (cmp : C → C → Ordering) (eq : C → C → Bool) (tota
       by : (t : Bool) → t ≡ is_logged eq id s
           → (if t then is_covered id.index s.membership_state || id_le cmp (log_id_of stored) (log_id_of s.membership_state.effective)
           else may_truncate cmp (next_index s.committed) s
-              && id_le cmp (last_id (front (full_log s.log_ids) (next_index s.committed))) (Some id)) ≡ true
+          && id_le cmp (last_id (front (full_log s.log_ids) (next_index s.committed))) (Some id)) ≡ true
           → may_be_purged_to cmp (last_id (if t then full_log s.log_ids else front (full_log s.log_ids) (next_index s.committed))) id ≡ true
       by true e m = whole s.log_ids keys (sym e)
       by false e m = cut (last_id (front (full_log s.log_ids) (next_index s.committed))) (both _ _ m).1
@@ -215,14 +259,14 @@ module _ {C : Type 0} (cmp : C → C → Ordering) (eq : C → C → Bool) (tota
       kept : (t : Bool) → id_le cmp (log_id_of stored) (log_id_of m.effective) ≡ true
           → index_le (index_at stored) (index_at m.effective) ≡ true
           → first_false (membership_relations cmp
-                  (let new : Memberships C K N = record { committed = if t then stored else m.committed; effective = m.effective } in new))
+          (let new : Memberships C K N = record { committed = if t then stored else m.committed; effective = m.effective } in new))
           ≡ None
       kept true low index = hold_all _ _ _ low (hold_all _ _ _ index refl)
       kept false low index = hold_all _ _ _ old.0 (hold_all _ _ _ old.1 refl)
 
       by : (t : Bool) → t ≡ is_covered id.index m → t || id_le cmp (log_id_of stored) (log_id_of m.effective) ≡ true
           → first_false (membership_relations cmp
-                  (let new : Memberships C K N = (if t then record { committed = stored; effective = stored } else record {
+          (let new : Memberships C K N = (if t then record { committed = stored; effective = stored } else record {
             committed = if id_lt cmp (log_id_of m.committed) (log_id_of stored) then stored else m.committed;
             effective = if index_le (index_at m.effective) (index_at stored) then stored else m.effective;
           }) in new)) ≡ None
@@ -231,9 +275,9 @@ module _ {C : Type 0} (cmp : C → C → Ordering) (eq : C → C → Bool) (tota
       by false e o =
           let in_snapshot = (both _ _ past).1 in
           let stays : index_le (index_at m.effective) (index_at stored) ≡ false =
-              not_in_index (index_at stored) (index_at m.effective) id.index in_snapshot (sym e) in
+          not_in_index (index_at stored) (index_at m.effective) id.index in_snapshot (sym e) in
           rw stays (kept (id_lt cmp (log_id_of m.committed) (log_id_of stored)) o
-                  (in_index (index_at stored) (index_at m.effective) id.index id.index in_snapshot (sym e) (omega arith)))
+          (in_index (index_at stored) (index_at m.effective) id.index id.index in_snapshot (sym e) (omega arith)))
 
   -- memberships that are cut off below a snapshot's last index are in the snapshot
   cut_covers : {K N : Type 0} (since i : ℕ) (m : Memberships C K N) → index_lt (index_at m.committed) (Some since) ≡ true → since ≤ i
@@ -250,7 +294,7 @@ module _ {C : Type 0} (cmp : C → C → Ordering) (eq : C → C → Bool) (tota
 
       by : (t : Bool) → t ≡ is_cut since m
           → is_covered i (let new : Memberships C K N = (if t then record { committed = m.committed; effective = m.committed } else m) in
-              new) ≡ true
+          new) ≡ true
       by true e = below (index_at m.committed) low
       by false e = not_from (index_at m.effective) (sym e)
 
@@ -264,18 +308,18 @@ module _ {C : Type 0} (cmp : C → C → Ordering) (eq : C → C → Bool) (tota
       by : (t : Bool)
           → (if t then is_covered id.index s.membership_state || id_le cmp (log_id_of stored) (log_id_of s.membership_state.effective)
           else may_truncate cmp (next_index s.committed) s
-              && id_le cmp (last_id (front (full_log s.log_ids) (next_index s.committed))) (Some id)) ≡ true
+          && id_le cmp (last_id (front (full_log s.log_ids) (next_index s.committed))) (Some id)) ≡ true
           → first_false (membership_relations cmp
-                  (after_update_committed cmp stored id.index
-                  (let kept : Memberships C K N = (if t then s.membership_state else after_truncate (next_index s.committed)
-                  s.membership_state) in kept))) ≡ None
+          (after_update_committed cmp stored id.index
+          (let kept : Memberships C K N = (if t then s.membership_state else after_truncate (next_index s.committed)
+          s.membership_state) in kept))) ≡ None
       by true m = members_stay id stored s.membership_state valid past m
       by false m =
           let low = (both _ _ (both _ _ m).0).1 in
           let cut = after_truncate (next_index s.committed) s.membership_state in
           members_stay id stored cut (memberships_stay total (next_index s.committed) s.membership_state valid) past
           (either (is_covered id.index cut) (id_le cmp (log_id_of stored) (log_id_of cut.effective))
-                  (cut_covers (next_index s.committed) id.index s.membership_state low le))
+          (cut_covers (next_index s.committed) id.index s.membership_state low le))
 
   begins_so : (log : List (LogIdOf C)) (id : LogIdOf C) → IsFrom cmp id log
       → (fits_purged_next (id.index + 1) (first_id log) ≡ true)
@@ -292,8 +336,15 @@ module _ {C : Type 0} (cmp : C → C → Ordering) (eq : C → C → Bool) (tota
       → m ≡ after_update_committed cmp stored id.index (memberships_to_keep eq id s) → meta.last_log_id ≡ Some id
       → is_past_committed cmp id s ≡ true → is_not_past cmp id stored ≡ true → may_go_over cmp eq id stored s ≡ true
       → broken_relation cmp s ≡ None
-      → broken_relation cmp (record s { committed = Some id; purged_next = id.index + 1; log_ids = keys; membership_state = m;
-              accepted = accepted; snapshot_meta = meta; purge_upto = Some id }) ≡ None
+      → broken_relation cmp (record s {
+        committed = Some id;
+        purged_next = id.index + 1;
+        log_ids = keys;
+        membership_state = m;
+        accepted = accepted;
+        snapshot_meta = meta;
+        purge_upto = Some id;
+      }) ≡ None
   install_stays_valid s id stored keys m accepted meta are is is_m is_meta past not_past may valid =
       let le = is_past s.committed id (both _ _ (both _ _ past).0).1 in
       let log = full_log s.log_ids in

@@ -1,6 +1,28 @@
 -- A state that is cut off past what is committed stays valid.
-use Rattle.std.proofs.Common.{◌≡◌, ℕ, ◌==◌, ◌≤◌, ◌<◌, Bool, true, false, List, [], ◌∷◌, Option, Some, None, if◌then◌else◌, IsTrue, nat_lt,
-        refl, arith, inl, inr, ◌∙◌}
+use Rattle.std.proofs.Common.{
+  ◌≡◌,
+  ℕ,
+  ◌==◌,
+  ◌≤◌,
+  ◌<◌,
+  Bool,
+  true,
+  false,
+  List,
+  [],
+  ◌∷◌,
+  Option,
+  Some,
+  None,
+  if◌then◌else◌,
+  IsTrue,
+  nat_lt,
+  refl,
+  arith,
+  inl,
+  inr,
+  ◌∙◌,
+}
 use Rattle.std.proofs.lemmas.Bool.{cases_lt}
 use Rattle.std.proofs.lemmas.Bool.Decides.{nat_tests}
 use Rattle.std.specs.declared.cmp.Ordering.{Ordering}
@@ -61,7 +83,7 @@ module _ {C : Type 0} {cmp : C → C → Ordering} (total : IsTotalOrder cmp) wh
     | inl below ↦ (let t : nat_lt x.index a ≡ true = grind (arith, nat_tests) in rw t fits)
     | inr past ↦ (let none = front_none b a (x ∷ xs) row (omega arith) in
         rw none (none_purged cmp next (next == 0) x
-                (AtMost-trans (optional-log_id_cmp-total total) (if next == 0 then None else Some x) committed None low (rw none at up))))
+        (AtMost-trans (optional-log_id_cmp-total total) (if next == 0 then None else Some x) committed None low (rw none at up))))
   ]
 
   purged_so : (t : Bool) (a b : ℕ) (log : List (LogIdOf C)) (upto : Option (LogIdOf C)) → From b log
@@ -78,7 +100,7 @@ module _ {C : Type 0} {cmp : C → C → Ordering} (total : IsTotalOrder cmp) wh
   memberships_stay since m h = by (is_cut since m)
     where
       by : (t : Bool) → first_false (membership_relations cmp
-              (if t then record { committed = m.committed; effective = m.committed } else m)) ≡ None
+          (if t then record { committed = m.committed; effective = m.committed } else m)) ≡ None
       by true = hold_all _ _ _ (AtMost-refl (optional-log_id_cmp-total total) (log_id_of m.committed))
           (hold_all _ _ _ (AtMost-refl (options_total nat_cmp_total) (index_at m.committed)) refl)
       by false = h
@@ -96,12 +118,12 @@ module _ {C : Type 0} {cmp : C → C → Ordering} (total : IsTotalOrder cmp) wh
       let log = full_log s.log_ids in
       let in_log = (both _ _ (both _ _ may).0).1 in
       let low = AtMost-trans (optional-log_id_cmp-total total) (if s.purged_next == 0 then None else first_id log) s.purge_upto s.committed
-          purge_point.0
+      purge_point.0
       (upto_committed s.purge_upto s.committed s.snapshot_meta.last_log_id upto.0 snapshot.0) in
       let ends : id_le cmp s.committed (last_id (full_log keys)) ≡ true = rw is in_log in
       let members : first_false (membership_relations cmp m) ≡ None = rw is_m (memberships_stay since s.membership_state committed.1) in
       let begins : fits_purged_next s.purged_next (first_id (full_log keys)) ≡ true =
-          rw is (begins_so s.purged_next since b log s.committed row fits.0 low in_log) in
+      rw is (begins_so s.purged_next since b log s.committed row fits.0 low in_log) in
       let purged : id_le cmp (if s.purged_next == 0 then None else first_id (full_log keys)) s.purge_upto ≡ true =
-          rw is (purged_so (s.purged_next == 0) since b log s.purge_upto row purge_point.0) in
+      rw is (purged_so (s.purged_next == 0) since b log s.purge_upto row purge_point.0) in
       hold_all _ _ _ begins (hold_all _ _ _ purged (hold_all _ _ _ upto.0 (hold_all _ _ _ snapshot.0 (hold_all _ _ _ ends members))))

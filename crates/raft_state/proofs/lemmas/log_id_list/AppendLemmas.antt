@@ -1,6 +1,31 @@
 -- What an append to the keys does to the full log.
-use Rattle.std.proofs.Common.{◌≡◌, ℕ, zero, suc, ◌+◌, ◌-◌, ◌<◌, ◌≤◌, Bool, true, false, List, [], ◌∷◌, ◌++◌, if◌then◌else◌, IsTrue, refl,
-        sym, arith, append_assoc, length, get_or, set, ap}
+use Rattle.std.proofs.Common.{
+  ◌≡◌,
+  ℕ,
+  zero,
+  suc,
+  ◌+◌,
+  ◌-◌,
+  ◌<◌,
+  ◌≤◌,
+  Bool,
+  true,
+  false,
+  List,
+  [],
+  ◌∷◌,
+  ◌++◌,
+  if◌then◌else◌,
+  IsTrue,
+  refl,
+  sym,
+  arith,
+  append_assoc,
+  length,
+  get_or,
+  set,
+  ap,
+}
 use Rattle.std.specs.declared.cmp.Ordering.{Ordering}
 use Rattle.std.proofs.lemmas.Bool.Decides.{nat_tests}
 use Rattle.std.specs.Ordering.{is_le, is_lt, is_eq, nat_cmp, ordering_then}
@@ -106,8 +131,12 @@ module _ {C : Type 0} (eq : C → C → Bool) (same : (c : C) → eq c c ≡ tru
   -- the full log ends with the last key
   ends : (k : LogIdOf C) (ks : List (LogIdOf C)) → (xs : List (LogIdOf C)) × (y : LogIdOf C) × (full_log (k ∷ ks) ≡ xs ++ y ∷ [])
   ends k [] = ([], k, rw (one_id k) refl)
-  ends k (l ∷ ks) = let e = ends l ks in (ids_of k.leader_id k.index (l.index - k.index)
-          ++ e.0, e.1, rw (e.2, append_assoc (ids_of k.leader_id k.index (l.index - k.index)) e.0 (e.1 ∷ [])) refl)
+  ends k (l ∷ ks) = let e = ends l ks in (
+    ids_of k.leader_id k.index (l.index - k.index)
+        ++ e.0,
+    e.1,
+    rw (e.2, append_assoc (ids_of k.leader_id k.index (l.index - k.index)) e.0 (e.1 ∷ [])) refl,
+  )
 
   appended_full : (k l : LogIdOf C) (ks : List (LogIdOf C)) (id : LogIdOf C)
       → log_after_append (full_log (k ∷ l ∷ ks)) id
@@ -123,16 +152,16 @@ module _ {C : Type 0} (eq : C → C → Bool) (same : (c : C) → eq c c ≡ tru
       let at : k.index + (l.index - k.index) ≡ l.index = omega arith in
       let one : ids_of id.leader_id id.index (id.index + 1 - id.index) ≡ id ∷ [] = one_id id in
       let left : full_log (k ∷ id ∷ []) ≡ (ids_of k.leader_id k.index (l.index - k.index)
-              ++ ids_of k.leader_id l.index (suc (id.index - (l.index + 1)))) ++ id ∷ [] =
-          rw (one, n, ids_split k.leader_id k.index (l.index - k.index) (suc (id.index - (l.index + 1))), at) refl in
+      ++ ids_of k.leader_id l.index (suc (id.index - (l.index + 1)))) ++ id ∷ [] =
+      rw (one, n, ids_split k.leader_id k.index (l.index - k.index) (suc (id.index - (l.index + 1))), at) refl in
       let right : log_after_append (full_log (k ∷ l ∷ [])) id
-          ≡ ids_of k.leader_id k.index (l.index - k.index) ++ (ids_of l.leader_id l.index (suc (id.index - (l.index + 1))) ++ id ∷ []) =
-          rw (appended_full k l [] id, one_id l) refl in
+      ≡ ids_of k.leader_id k.index (l.index - k.index) ++ (ids_of l.leader_id l.index (suc (id.index - (l.index + 1))) ++ id ∷ []) =
+      rw (appended_full k l [] id, one_id l) refl in
       rw (left, right, append_assoc)
       (same_append (ids_of k.leader_id k.index (l.index - k.index)) (ids_of k.leader_id k.index (l.index - k.index)) _ _ (same_refl _)
       (same_append (ids_of k.leader_id l.index (suc (id.index - (l.index + 1))))
-              (ids_of l.leader_id l.index (suc (id.index - (l.index + 1)))) _ _
-              (same_ids k.leader_id l.leader_id l.index (suc (id.index - (l.index + 1))) e) (same_refl (id ∷ []))))
+      (ids_of l.leader_id l.index (suc (id.index - (l.index + 1)))) _ _
+      (same_ids k.leader_id l.leader_id l.index (suc (id.index - (l.index + 1))) e) (same_refl (id ∷ []))))
 
   -- the keys after an append have the full log after it
   pub full_added : (cmp : C → C → Ordering) (k : LogIdOf C) (ks : List (LogIdOf C)) (id : LogIdOf C) → IsKeyList cmp (k ∷ ks)
@@ -146,7 +175,7 @@ module _ {C : Type 0} (eq : C → C → Bool) (same : (c : C) → eq c c ≡ tru
       by_last false e = rw (appended_full k l [] id, full_one l id can.0) (same_refl _)
   full_added cmp k (l ∷ m ∷ ks) id s can =
       rw (appended_full k l (m ∷ ks) id) (same_append (ids_of k.leader_id k.index (l.index - k.index))
-              (ids_of k.leader_id k.index (l.index - k.index)) _ _ (same_refl _) (full_added cmp l (m ∷ ks) id s.2 can))
+      (ids_of k.leader_id k.index (l.index - k.index)) _ _ (same_refl _) (full_added cmp l (m ∷ ks) id s.2 can))
 
   -- the last key gives way
   pub gives_way : (ks : List (LogIdOf C)) (n : ℕ) (id x y : LogIdOf C) → length ks ≡ suc (suc n) → x ≡ get_or ks n x

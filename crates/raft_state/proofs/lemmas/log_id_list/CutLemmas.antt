@@ -1,6 +1,42 @@
 -- What a truncation or a purge of the keys does to the full log.
-use Rattle.std.proofs.Common.{◌≡◌, ℕ, zero, suc, ◌+◌, ◌-◌, ◌<◌, ◌≤◌, min, max, Bool, true, false, List, [], ◌∷◌, ◌++◌, if◌then◌else◌,
-        IsTrue, nat_lt, nat_le, refl, sym, arith, length, get_or, set, ap, take, drop, ◌∙◌, inl, inr, drop-cons, subst, length-drop}
+use Rattle.std.proofs.Common.{
+  ◌≡◌,
+  ℕ,
+  zero,
+  suc,
+  ◌+◌,
+  ◌-◌,
+  ◌<◌,
+  ◌≤◌,
+  min,
+  max,
+  Bool,
+  true,
+  false,
+  List,
+  [],
+  ◌∷◌,
+  ◌++◌,
+  if◌then◌else◌,
+  IsTrue,
+  nat_lt,
+  nat_le,
+  refl,
+  sym,
+  arith,
+  length,
+  get_or,
+  set,
+  ap,
+  take,
+  drop,
+  ◌∙◌,
+  inl,
+  inr,
+  drop-cons,
+  subst,
+  length-drop,
+}
 use Rattle.std.specs.declared.cmp.Ordering.{Ordering}
 use Rattle.std.specs.Ordering.{is_le, is_lt}
 use Rattle.std.specs.declared.cmp.Ordering.TheVariants.{Less, Equal, Greater}
@@ -95,13 +131,19 @@ full_cut_after k (l ∷ ks) e j r is le = filter-step (λ past. full_cut_after l
       | inl below ↦ (let t : nat_le l.index j ≡ false = grind (arith, nat_tests) in
           let m : min (l.index - k.index) (suc j - k.index) ≡ j + 1 - k.index = omega arith in
           let none : front (full_log (l ∷ ks)) (suc j) ≡ [] =
-              front_above l.index (l ∷ ks) (end_index (l ∷ ks)) (suc j) (omega arith, rw is at r.1) (omega arith) in
-          rw (t, none, front_ids k.leader_id k.index (l.index - k.index) (suc j), m, append-nil
-                  (ids_of k.leader_id k.index (j + 1 - k.index))) (one_to k j le))
+          front_above l.index (l ∷ ks) (end_index (l ∷ ks)) (suc j) (omega arith, rw is at r.1) (omega arith) in
+          rw (
+            t,
+            none,
+            front_ids k.leader_id k.index (l.index - k.index) (suc j),
+            m,
+            append-nil
+                (ids_of k.leader_id k.index (j + 1 - k.index)),
+          ) (one_to k j le))
       | inr past ↦ (let t : nat_le l.index j ≡ true = grind (arith, nat_tests) in
           let m : min (l.index - k.index) (suc j - k.index) ≡ l.index - k.index = omega arith in
           rw (t, front_ids k.leader_id k.index (l.index - k.index) (suc j), m)
-              (ap (λ (x : List (LogIdOf _)). ids_of k.leader_id k.index (l.index - k.index) ++ x) (more past)))
+          (ap (λ (x : List (LogIdOf _)). ids_of k.leader_id k.index (l.index - k.index) ++ x) (more past)))
     ]
 
     parts : front (ids_of k.leader_id k.index (l.index - k.index)) (suc j) ++ front (full_log (l ∷ ks)) (suc j)
@@ -153,7 +195,7 @@ module _ {C : Type 0} (cmp : C → C → Ordering) (same : (c : C) → IsTrue (i
   cut_after_stays k (l ∷ m ∷ ks) j s le = elim (cases_lt j l.index) [
     | inl below ↦ (let t : nat_le l.index j ≡ false = grind (arith, nat_tests) in rw t (ends_stay k j le))
     | inr past ↦ (let t : nat_le l.index j ≡ true = grind (arith, nat_tests) in
-            rw t (cons_key cmp k l (rest_up_to l (m ∷ ks) j) s.0 s.1 (cut_after_stays l (m ∷ ks) j s.2 past)))
+        rw t (cons_key cmp k l (rest_up_to l (m ∷ ks) j) s.0 s.1 (cut_after_stays l (m ∷ ks) j s.2 past)))
   ]
 
   pub cut_stays : (ks : List (LogIdOf C)) (a : ℕ) → IsKeyList cmp ks → IsKeyList cmp (keys_below ks a)
@@ -197,7 +239,7 @@ full_kept_after k [] e a r is le lt =
     let n : a + 1 - a ≡ (k.index + 1 - k.index) - (a - k.index) = omega arith in
     let p : max k.index a ≡ a = omega arith in
     sym (filter-append (λ id. nat_le a id.index) (ids_of k.leader_id k.index (k.index + 1 - k.index)) []
-            ∙ rw (rest_ids k.leader_id k.index (k.index + 1 - k.index) a, p, ← n) refl)
+    ∙ rw (rest_ids k.leader_id k.index (k.index + 1 - k.index) a, p, ← n) refl)
 full_kept_after k (l ∷ ks) e a r is le lt =
     by_place (λ past. full_kept_after l ks e a r.1 is past lt)
     ∙ sym (filter-append (λ id. nat_le a id.index) (ids_of k.leader_id k.index (l.index - k.index)) (full_log (l ∷ ks)))
@@ -209,7 +251,7 @@ full_kept_after k (l ∷ ks) e a r is le lt =
           let n : (l.index - k.index) - (a - k.index) ≡ l.index - a = omega arith in
           let p : max k.index a ≡ a = omega arith in
           let all : rest (full_log (l ∷ ks)) a ≡ full_log (l ∷ ks) =
-              rest_above l.index (l ∷ ks) (end_index (l ∷ ks)) a (omega arith, rw is at r.1) (omega arith) in
+          rest_above l.index (l ∷ ks) (end_index (l ∷ ks)) a (omega arith, rw is at r.1) (omega arith) in
           rw (t, all, rest_ids k.leader_id k.index (l.index - k.index) a, n, p) refl)
       | inr past ↦ (let t : nat_le l.index a ≡ true = grind (arith, nat_tests) in
           let n : (l.index - k.index) - (a - k.index) ≡ 0 = omega arith in
@@ -299,10 +341,11 @@ purged_first {C} cmp (k ∷ ks) upto s = elim (cases_lt upto.index (end_index (k
       let up = rises_end 0 (k ∷ ks) (end_index (k ∷ ks)) (key_list_rises_zero cmp (k ∷ ks) s) in
       rw t (omega arith))
   | inl within ↦ (let t : nat_le (end_index (k ∷ ks)) upto.index ≡ false = grind (arith, nat_tests) in
-          rw t (elim (cases_lt upto.index k.index) [
-    | inl below ↦ (let u : nat_le k.index upto.index ≡ false = grind (arith, nat_tests) in rw u (omega arith))
-    | inr from ↦ (let u : nat_le k.index upto.index ≡ true = grind (arith, nat_tests) in rw (u, kept_first k ks upto.index) (omega arith))
-  ]))
+      rw t (elim (cases_lt upto.index k.index) [
+        | inl below ↦ (let u : nat_le k.index upto.index ≡ false = grind (arith, nat_tests) in rw u (omega arith))
+        | inr from ↦ (let u : nat_le k.index upto.index ≡ true = grind (arith, nat_tests) in
+                rw (u, kept_first k ks upto.index) (omega arith))
+      ]))
 ]
 
 -- the edits by place
@@ -355,7 +398,7 @@ kept_place k [] j (suc n) d e = absurd (omega arith)
 kept_place {C} k (l ∷ ks) j n d e = step (λ m e. kept_place l ks j m d e) (nat_le l.index j) n e
   where
     step : ((m : ℕ) → keys_to ks j ≡ m → rest_from l ks j
-            ≡ (let x : LogIdOf C = record { leader_id = (get_or (l ∷ ks) m d).leader_id; index = j } in x) ∷ drop m ks) → (t : Bool) (n : ℕ)
+        ≡ (let x : LogIdOf C = record { leader_id = (get_or (l ∷ ks) m d).leader_id; index = j } in x) ∷ drop m ks) → (t : Bool) (n : ℕ)
         → (if t then suc (keys_to ks j) else 0) ≡ n
         → (if t then rest_from l ks j else record { leader_id = k.leader_id; index = j } ∷ l ∷ ks)
         ≡ (let x : LogIdOf C = record { leader_id = (get_or (k ∷ l ∷ ks) n d).leader_id; index = j } in x) ∷ drop n (l ∷ ks)
@@ -448,7 +491,7 @@ pub cut_moved : {C : Type 0} (ks : List (LogIdOf C)) (a n : ℕ) (key : LogIdOf 
 cut_moved {C} ks a n key some count kept lt place less =
     let t : nat_lt key.index (a - 1) ≡ true = grind (arith, nat_tests) in
     take_more_set ks n (record { leader_id = key.leader_id; index = a - 1 }) lt
-        ∙ sym (some_stay ks a n key some count kept lt place ∙ rw t refl)
+    ∙ sym (some_stay ks a n key some count kept lt place ∙ rw t refl)
 
 pub next_at : {C : Type 0} (ks : List (LogIdOf C)) (key : LogIdOf C) → 0 < length ks → key ≡ get_or ks (length ks - 1) key
     → end_index ks ≡ key.index + 1
@@ -485,7 +528,7 @@ purged_moved {C} ks upto key first n some place le count kept bound here =
     let one : n - 1 ≡ b.0 = let e = b.1 in omega arith in
     let at : first ≡ get_or ks b.0 first = subst (λ (q : ℕ). first ≡ get_or ks q first) one here in
     let rest_is : take (length ks - (n - 1)) (drop (n - 1) ks ++ take (n - 1) ks) ≡ drop (n - 1) ks =
-        take_at (drop (n - 1) ks) (take (n - 1) ks) (length ks - (n - 1)) (omega (arith, length-drop (n - 1) ks)) in
+    take_at (drop (n - 1) ks) (take (n - 1) ks) (length ks - (n - 1)) (omega (arith, length-drop (n - 1) ks)) in
     let cons : drop b.0 ks ≡ get_or ks b.0 first ∷ drop (suc b.0) ks = drop-cons ks b.0 first (let e = b.1 in omega arith) in
     rw (rest_is, one, cons) (sym (purged_within ks upto key some place le ∙ kept_at ks upto.index b.0 first (sym count ∙ b.1) at))
 

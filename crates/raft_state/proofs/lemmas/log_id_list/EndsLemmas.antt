@@ -1,6 +1,26 @@
 -- Appending log ids of one leader: the keys are those of appending the first one and the last one.
-use Rattle.std.proofs.Common.{◌≡◌, ◌-◌, ◌≤◌, Bool, true, false, List, [], ◌∷◌, Some, if◌then◌else◌, IsTrue, nat_lt, refl, sym, ◌∙◌, ap,
-        arith, length, map}
+use Rattle.std.proofs.Common.{
+  ◌≡◌,
+  ◌-◌,
+  ◌≤◌,
+  Bool,
+  true,
+  false,
+  List,
+  [],
+  ◌∷◌,
+  Some,
+  if◌then◌else◌,
+  IsTrue,
+  nat_lt,
+  refl,
+  sym,
+  ◌∙◌,
+  ap,
+  arith,
+  length,
+  map,
+}
 use Rattle.std.specs.Prelude.{slice_get, unwrap_or}
 use Rattle.std.specs.Option.{option_map}
 use Rattle.std.specs.declared.cmp.Ordering.{Ordering}
@@ -49,7 +69,7 @@ module _ {C : Type 0} (eq : C → C → Bool) (same : (c : C) → eq c c ≡ tru
       by_last false e = rw h refl
   merged_after k (l ∷ m ∷ ks) y z h =
       past_first k l (rest_after_append eq l (m ∷ ks) y) z (some_after eq same l (m ∷ ks) y)
-          ∙ ap (λ (r : List (LogIdOf C)). l ∷ r) (merged_after l (m ∷ ks) y z h)
+      ∙ ap (λ (r : List (LogIdOf C)). l ∷ r) (merged_after l (m ∷ ks) y z h)
 
   merged : (ks : List (LogIdOf C)) (y z : LogIdOf C) → EndsWith eq ks y
       → keys_after_append eq (keys_after_append eq ks y) z ≡ keys_after_append eq ks z
@@ -82,7 +102,7 @@ module _ {C : Type 0} (eq : C → C → Bool) (same : (c : C) → eq c c ≡ tru
   added_by_ends ks x y [] h = refl
   added_by_ends ks x y (z ∷ ids) h =
       ap (λ (r : List (LogIdOf C)). keys_after_extend eq r ids) (merged (keys_after_append eq ks x) y z (ends_added ks x y h.0))
-          ∙ added_by_ends ks x z ids h.1
+      ∙ added_by_ends ks x z ids h.1
 
 -- what is between equal leaders is equal to them
 le_chain_of : (o p q : Ordering) → (is_gt o ≡ false → is_gt p ≡ false → is_gt q ≡ false) → is_le o ≡ true → is_le p ≡ true → is_le q ≡ true
@@ -151,7 +171,7 @@ module _ {C : Type 0} (cmp : C → C → Ordering) (eq : C → C → Bool) (tota
       let step = both (nat_lt x.index y.index) (is_le (cmp x.leader_id y.leader_id)) b.0 in
       let z = (last_or y ids).leader_id in
       between x.leader_id y ids step.1 (turned_of (cmp x.leader_id z) (cmp z x.leader_id) (total.antisymm z x.leader_id)
-              (sym (law x.leader_id z) ∙ e)) b.1
+      (sym (law x.leader_id z) ∙ e)) b.1
 
 -- the ends of log ids, by place
 pub last_of_some : {C : Type 0} (x : LogIdOf C) (ids : List (LogIdOf C)) → last_id (x ∷ ids) ≡ Some (last_or x ids)

@@ -1,6 +1,33 @@
 -- Two key lists are equal exactly where their full logs are, and have at most one key more than leaders.
-use Rattle.std.proofs.Common.{◌≡◌, ℕ, zero, suc, ◌+◌, ◌-◌, ◌<◌, ◌≤◌, Bool, true, false, List, [], ◌∷◌, ◌++◌, if◌then◌else◌, IsTrue, refl,
-        sym, arith, length, ap, subst, append_assoc, ◌∙◌, inl, inr}
+use Rattle.std.proofs.Common.{
+  ◌≡◌,
+  ℕ,
+  zero,
+  suc,
+  ◌+◌,
+  ◌-◌,
+  ◌<◌,
+  ◌≤◌,
+  Bool,
+  true,
+  false,
+  List,
+  [],
+  ◌∷◌,
+  ◌++◌,
+  if◌then◌else◌,
+  IsTrue,
+  refl,
+  sym,
+  arith,
+  length,
+  ap,
+  subst,
+  append_assoc,
+  ◌∙◌,
+  inl,
+  inr,
+}
 use Rattle.std.specs.declared.cmp.Ordering.{Ordering}
 use Rattle.std.specs.Ordering.{is_lt}
 use Rattle.std.proofs.lemmas.Bool.{cases_lt}
@@ -54,9 +81,9 @@ module _ {C : Type 0} (eq : C → C → Bool) (same : (c : C) → eq c c ≡ tru
       let i0 = h.1 in
       let i1 = h.2.1 in
       let ids : SameLog eq (ids_of k.leader_id k.index (m.index - k.index)) (ids_of l.leader_id l.index (n.index - l.index)) =
-          rw (i0, i1) (same_ids eq same k.leader_id l.leader_id l.index (n.index - l.index) h.0) in
+      rw (i0, i1) (same_ids eq same k.leader_id l.leader_id l.index (n.index - l.index) h.0) in
       same_append eq same (ids_of k.leader_id k.index (m.index - k.index)) (ids_of l.leader_id l.index (n.index - l.index))
-          (full_log (m ∷ ks)) (full_log (n ∷ ls)) ids (full_same (m ∷ ks) (n ∷ ls) h.2)
+      (full_log (m ∷ ks)) (full_log (n ∷ ls)) ids (full_same (m ∷ ks) (n ∷ ls) h.2)
 
   none_same : (xs : List (LogIdOf C)) (y : LogIdOf C) (ys : List (LogIdOf C)) → SameLog eq [] (xs ++ y ∷ ys) → ⊥
   none_same [] y ys h = h
@@ -70,27 +97,27 @@ module _ {C : Type 0} (eq : C → C → Bool) (same : (c : C) → eq c c ≡ tru
       let n : b.index - l.index ≡ (a.index - k.index) + suc (b.index - (a.index + 1)) = omega arith in
       let at : k.index + (a.index - k.index) ≡ a.index = omega arith in
       let split : full_log (l ∷ b ∷ ls) ≡ ids_of l.leader_id k.index (a.index - k.index)
-          ++ (ids_of l.leader_id a.index (suc (b.index - (a.index + 1))) ++ full_log (b ∷ ls)) =
+      ++ (ids_of l.leader_id a.index (suc (b.index - (a.index + 1))) ++ full_log (b ∷ ls)) =
       rw (← i, rw (← i) at n, ids_split l.leader_id k.index (a.index - k.index) (suc (b.index - (a.index + 1))), at)
-          (append_assoc (ids_of l.leader_id k.index (a.index - k.index)) (ids_of l.leader_id a.index (suc (b.index - (a.index + 1))))
-              (full_log (b ∷ ls))) in
+      (append_assoc (ids_of l.leader_id k.index (a.index - k.index)) (ids_of l.leader_id a.index (suc (b.index - (a.index + 1))))
+      (full_log (b ∷ ls))) in
       let h2 : SameLog eq (full_log (a ∷ ks)) (ids_of l.leader_id a.index (suc (b.index - (a.index + 1))) ++ full_log (b ∷ ls)) =
       after_ids k.leader_id l.leader_id k.index (a.index - k.index) (full_log (a ∷ ks))
-          (ids_of l.leader_id a.index (suc (b.index - (a.index + 1))) ++ full_log (b ∷ ls)) (rw split at h) in
+      (ids_of l.leader_id a.index (suc (b.index - (a.index + 1))) ++ full_log (b ∷ ls)) (rw split at h) in
       let begins = full_begins cmp a ks (tail_keys cmp k a ks s) in
       let ends = full_begins cmp b ls (tail_keys cmp l b ls r) in
       by_rest ks s (subst (λ (x : List (LogIdOf C)). SameLog eq x
-              (ids_of l.leader_id a.index (suc (b.index - (a.index + 1))) ++ full_log (b ∷ ls))) begins.1 h2).0 ends h2
+      (ids_of l.leader_id a.index (suc (b.index - (a.index + 1))) ++ full_log (b ∷ ls))) begins.1 h2).0 ends h2
     where
       by_rest : (ks : List (LogIdOf C)) → IsKeyList cmp (k ∷ a ∷ ks) → eq a.leader_id l.leader_id ≡ true
           → ((ys : List (LogIdOf C)) × (full_log (b ∷ ls) ≡ b ∷ ys))
           → SameLog eq (full_log (a ∷ ks)) (ids_of l.leader_id a.index (suc (b.index - (a.index + 1))) ++ full_log (b ∷ ls)) → ⊥
       by_rest [] s same_leader ends h2 =
           let h3 = subst (λ (x : List (LogIdOf C)). SameLog eq x
-                  (ids_of l.leader_id a.index (suc (b.index - (a.index + 1))) ++ full_log (b ∷ ls))) (one_key a) h2 in
+          (ids_of l.leader_id a.index (suc (b.index - (a.index + 1))) ++ full_log (b ∷ ls))) (one_key a) h2 in
           none_same (ids_of l.leader_id (a.index + 1) (b.index - (a.index + 1))) b ends.0
-              (subst (λ (x : List (LogIdOf C)). SameLog eq [] (ids_of l.leader_id (a.index + 1) (b.index - (a.index + 1)) ++ x)) ends.1
-                  h3.2)
+          (subst (λ (x : List (LogIdOf C)). SameLog eq [] (ids_of l.leader_id (a.index + 1) (b.index - (a.index + 1)) ++ x)) ends.1
+          h3.2)
       by_rest (m ∷ ks) s same_leader ends h2 =
           apart k.leader_id a.leader_id s.1 (trans k.leader_id l.leader_id a.leader_id e (turn a.leader_id l.leader_id same_leader))
 
@@ -102,11 +129,11 @@ module _ {C : Type 0} (eq : C → C → Bool) (same : (c : C) → eq c c ≡ tru
       let n : b.index - l.index ≡ suc (b.index - (l.index + 1)) = omega arith in
       let ends = full_begins cmp b ls (tail_keys cmp l b ls r) in
       let h2 : SameLog eq (full_log (k ∷ [])) (ids_of l.leader_id l.index (suc (b.index - (l.index + 1))) ++ full_log (b ∷ ls)) =
-          subst (λ (x : ℕ). SameLog eq (full_log (k ∷ [])) (ids_of l.leader_id l.index x ++ full_log (b ∷ ls))) n h in
+      subst (λ (x : ℕ). SameLog eq (full_log (k ∷ [])) (ids_of l.leader_id l.index x ++ full_log (b ∷ ls))) n h in
       let h3 = subst (λ (x : List (LogIdOf C)). SameLog eq x
-              (ids_of l.leader_id l.index (suc (b.index - (l.index + 1))) ++ full_log (b ∷ ls))) (one_key k) h2 in
+      (ids_of l.leader_id l.index (suc (b.index - (l.index + 1))) ++ full_log (b ∷ ls))) (one_key k) h2 in
       none_same (ids_of l.leader_id (l.index + 1) (b.index - (l.index + 1))) b ends.0
-          (subst (λ (x : List (LogIdOf C)). SameLog eq [] (ids_of l.leader_id (l.index + 1) (b.index - (l.index + 1)) ++ x)) ends.1 h3.2)
+      (subst (λ (x : List (LogIdOf C)). SameLog eq [] (ids_of l.leader_id (l.index + 1) (b.index - (l.index + 1)) ++ x)) ends.1 h3.2)
 
   heads_same : (k l : LogIdOf C) (ks ls : List (LogIdOf C)) → IsKeyList cmp (k ∷ ks) → IsKeyList cmp (l ∷ ls)
       → SameLog eq (full_log (k ∷ ks)) (full_log (l ∷ ls)) → (eq k.leader_id l.leader_id ≡ true) × (k.index ≡ l.index)
@@ -133,16 +160,19 @@ module _ {C : Type 0} (eq : C → C → Bool) (same : (c : C) → eq c c ≡ tru
         | inl less ↦ absurd (earlier k l a b ks ls s r g.1 g.0 h less)
         | inr most ↦ elim (cases_lt b.index a.index) [
           | inl less ↦ absurd (earlier l k b a ls ks r s (sym g.1) (turn k.leader_id l.leader_id g.0)
-                  (same_turn (full_log (k ∷ a ∷ ks)) (full_log (l ∷ b ∷ ls)) h) less)
+              (same_turn (full_log (k ∷ a ∷ ks)) (full_log (l ∷ b ∷ ls)) h) less)
           | inr least ↦ (let e : a.index ≡ b.index = omega arith in
               let i = g.1 in
               let n : b.index - l.index ≡ a.index - k.index = omega arith in
               let h2 : SameLog eq (ids_of k.leader_id k.index (a.index - k.index) ++ full_log (a ∷ ks))
-                  (ids_of l.leader_id k.index (a.index - k.index) ++ full_log (b ∷ ls)) =
+              (ids_of l.leader_id k.index (a.index - k.index) ++ full_log (b ∷ ls)) =
               subst (λ (x : ℕ). SameLog eq (full_log (k ∷ a ∷ ks)) (ids_of l.leader_id x (a.index - k.index) ++ full_log (b ∷ ls))) (sym i)
-                  (subst (λ (x : ℕ). SameLog eq (full_log (k ∷ a ∷ ks)) (ids_of l.leader_id l.index x ++ full_log (b ∷ ls))) n h) in
-              (g.0, i, keys_same (a ∷ ks) (b ∷ ls) (tail_keys cmp k a ks s) (tail_keys cmp l b ls r)
-                      (after_ids k.leader_id l.leader_id k.index (a.index - k.index) (full_log (a ∷ ks)) (full_log (b ∷ ls)) h2)))
+              (subst (λ (x : ℕ). SameLog eq (full_log (k ∷ a ∷ ks)) (ids_of l.leader_id l.index x ++ full_log (b ∷ ls))) n h) in (
+                g.0,
+                i,
+                keys_same (a ∷ ks) (b ∷ ls) (tail_keys cmp k a ks s) (tail_keys cmp l b ls r)
+                    (after_ids k.leader_id l.leader_id k.index (a.index - k.index) (full_log (a ∷ ks)) (full_log (b ∷ ls)) h2),
+              ))
         ]
       ]
 
@@ -159,7 +189,7 @@ module _ {C : Type 0} (eq : C → C → Bool) (same : (c : C) → eq c c ≡ tru
       let n : l.index - k.index ≡ suc (l.index - (k.index + 1)) = omega arith in
       let b = full_begins cmp l ks (tail_keys cmp k l ks s) in
       let now : full_log (k ∷ l ∷ ks) ≡ k ∷ (ids_of k.leader_id (k.index + 1) (l.index - (k.index + 1)) ++ l ∷ b.0) =
-          rw n (ap (λ (x : List (LogIdOf C)). k ∷ (ids_of k.leader_id (k.index + 1) (l.index - (k.index + 1)) ++ x)) b.1) in
+      rw n (ap (λ (x : List (LogIdOf C)). k ∷ (ids_of k.leader_id (k.index + 1) (l.index - (k.index + 1)) ++ x)) b.1) in
       rw (now, b.1, changes_ids k.leader_id (k.index + 1) (l.index - (k.index + 1)) (l ∷ b.0)) (omega arith)
 
   -- at most one key more than leaders

@@ -1,6 +1,32 @@
 -- What appending several ids does to the full log.
-use Rattle.std.proofs.Common.{◌≡◌, ℕ, zero, suc, ◌+◌, ◌-◌, ◌≤◌, Bool, true, false, List, [], ◌∷◌, ◌++◌, if◌then◌else◌, IsTrue, nat_lt, refl,
-        arith, length, drop, subst, ◌∙◌, Option, Some, None}
+use Rattle.std.proofs.Common.{
+  ◌≡◌,
+  ℕ,
+  zero,
+  suc,
+  ◌+◌,
+  ◌-◌,
+  ◌≤◌,
+  Bool,
+  true,
+  false,
+  List,
+  [],
+  ◌∷◌,
+  ◌++◌,
+  if◌then◌else◌,
+  IsTrue,
+  nat_lt,
+  refl,
+  arith,
+  length,
+  drop,
+  subst,
+  ◌∙◌,
+  Option,
+  Some,
+  None,
+}
 use Rattle.std.specs.declared.cmp.Ordering.{Ordering}
 use Rattle.std.specs.Ordering.{is_le, is_lt}
 use Rattle.std.specs.Option.{option_or}
@@ -39,7 +65,7 @@ is_key_list cmp (k ∷ l ∷ []) h =
 is_key_list cmp (k ∷ l ∷ m ∷ ks) h =
     let b = both (key_follows cmp k l false) (may_be_keys cmp (l ∷ m ∷ ks)) h in
     let f = both (nat_lt k.index l.index) (is_lt (cmp k.leader_id l.leader_id)) b.0 in let f0 = f.0 in
-        (grind (arith, nat_tests), f.1, is_key_list cmp (l ∷ m ∷ ks) b.1)
+    (grind (arith, nat_tests), f.1, is_key_list cmp (l ∷ m ∷ ks) b.1)
 
 -- and when it is true
 pub are_keys : {C : Type 0} (cmp : C → C → Ordering) (ks : List (LogIdOf C)) → IsKeyList cmp ks → IsTrue (may_be_keys cmp ks)
@@ -53,7 +79,7 @@ are_keys cmp (k ∷ l ∷ m ∷ ks) s =
     let s0 = s.0 in
     let t : nat_lt k.index l.index ≡ true = grind (arith, nat_tests) in
     both_true (key_follows cmp k l false) (may_be_keys cmp (l ∷ m ∷ ks))
-        (both_true (nat_lt k.index l.index) (is_lt (cmp k.leader_id l.leader_id)) t s.1) (are_keys cmp (l ∷ m ∷ ks) s.2)
+    (both_true (nat_lt k.index l.index) (is_lt (cmp k.leader_id l.leader_id)) t s.1) (are_keys cmp (l ∷ m ∷ ks) s.2)
 
 -- the last key after an append is the id
 if_last : {C : Type 0} (t : Bool) (l id : LogIdOf C) → last_id (if t then id ∷ [] else l ∷ id ∷ []) ≡ Some id
@@ -124,7 +150,7 @@ module _ {C : Type 0} (eq : C → C → Bool) (same : (c : C) → eq c c ≡ tru
     all_stay ks (id ∷ ids) s h =
         let b = both (follows cmp (last_id ks) id) (all_follow cmp (Some id) ids) h in
         all_stay (keys_after_append eq ks id) ids (stays_key_list eq same cmp less upto ks id s (can_append cmp ks id b.0))
-            (rw (last_added eq ks id) b.1)
+        (rw (last_added eq ks id) b.1)
 
     pub full_after_all : (ks ids : List (LogIdOf C)) → IsKeyList cmp ks → IsTrue (all_follow cmp (last_id ks) ids)
         → SameLog eq (full_log (keys_after_extend eq ks ids)) (log_after_extend (full_log ks) ids)
@@ -133,7 +159,7 @@ module _ {C : Type 0} (eq : C → C → Bool) (same : (c : C) → eq c c ≡ tru
         let b = both (follows cmp (last_id ks) id) (all_follow cmp (Some id) ids) h in
         let can = can_append cmp ks id b.0 in
         same_trans (full_log (keys_after_extend eq (keys_after_append eq ks id) ids))
-            (log_after_extend (full_log (keys_after_append eq ks id)) ids) (log_after_extend (log_after_append (full_log ks) id) ids)
+        (log_after_extend (full_log (keys_after_append eq ks id)) ids) (log_after_extend (log_after_append (full_log ks) id) ids)
         (full_after_all (keys_after_append eq ks id) ids (stays_key_list eq same cmp less upto ks id s can) (rw (last_added eq ks id) b.1))
         (same_extended (full_log (keys_after_append eq ks id)) (log_after_append (full_log ks) id) ids (full_after eq same cmp ks id s can))
 

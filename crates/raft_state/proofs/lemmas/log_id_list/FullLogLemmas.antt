@@ -1,6 +1,37 @@
 -- Look-ups in a full log.
-use Rattle.std.proofs.Common.{◌≡◌, ℕ, zero, suc, ◌+◌, ◌-◌, ◌<◌, ◌≤◌, ◌==◌, ◌&&◌, Bool, true, false, cond, List, [], ◌∷◌, Option, Some, None,
-        find, if◌then◌else◌, nat_lt, nat_le, refl, subst, sym, ◌∙◌, arith, length, get_or}
+use Rattle.std.proofs.Common.{
+  ◌≡◌,
+  ℕ,
+  zero,
+  suc,
+  ◌+◌,
+  ◌-◌,
+  ◌<◌,
+  ◌≤◌,
+  ◌==◌,
+  ◌&&◌,
+  Bool,
+  true,
+  false,
+  cond,
+  List,
+  [],
+  ◌∷◌,
+  Option,
+  Some,
+  None,
+  find,
+  if◌then◌else◌,
+  nat_lt,
+  nat_le,
+  refl,
+  subst,
+  sym,
+  ◌∙◌,
+  arith,
+  length,
+  get_or,
+}
 use Rattle.std.proofs.lemmas.Bool.{cases_lt}
 use Rattle.std.proofs.Common.{◌⊎◌, inl, inr}
 use Rattle.std.specs.Option.{is_some, option_or, option_map}
@@ -64,7 +95,7 @@ past_first (l ∷ ls) j e k h = inr (let o = or_some (covering ls j) l k in grin
 -- the id at an index is that of the last key that is not past it
 pub at_filled : {C : Type 0} (b : ℕ) (ks : List (LogIdOf C)) (e j : ℕ) → Rises b ks e
     → id_at (ids_of_keys ks e) j ≡ (if nat_lt j e then option_map
-        (λ (k : LogIdOf C). let id : LogIdOf C = record { leader_id = k.leader_id; index = j } in id) (covering ks j) else None)
+    (λ (k : LogIdOf C). let id : LogIdOf C = record { leader_id = k.leader_id; index = j } in id) (covering ks j) else None)
 at_filled {C} b [] e j r = grind (arith, nat_tests)
 at_filled {C} b (k ∷ ks) e j r =
     let f = rises_first (k.index + 1) ks e r.1 in
@@ -74,14 +105,14 @@ at_filled {C} b (k ∷ ks) e j r =
     rw (find-append (λ (id : LogIdOf C). id.index == j) (ids_of k.leader_id k.index n) (ids_of_keys ks e))
     (elim (cases_lt j k.index) [
       | inl below ↦ (let none : find (λ (id : LogIdOf C). id.index == j) (ids_of k.leader_id k.index n) ≡ None =
-              ids_below k.leader_id k.index n j below in
+          ids_below k.leader_id k.index n j below in
           let gone : covering ks j ≡ None = covering_below ks j e (omega arith) in grind (arith, nat_tests))
       | inr reached ↦ elim (cases_lt j (first_index_or ks e)) [
         | inl within ↦ (let some : find (λ (id : LogIdOf C). id.index == j) (ids_of k.leader_id k.index n)
-                ≡ Some (record { leader_id = k.leader_id; index = j }) = ids_within k.leader_id k.index n j reached (omega arith) in
+            ≡ Some (record { leader_id = k.leader_id; index = j }) = ids_within k.leader_id k.index n j reached (omega arith) in
             let gone : covering ks j ≡ None = covering_below ks j e within in grind (arith, nat_tests))
         | inr past ↦ (let none : find (λ (id : LogIdOf C). id.index == j) (ids_of k.leader_id k.index n) ≡ None =
-                ids_above k.leader_id k.index n j (omega arith) in
+            ids_above k.leader_id k.index n j (omega arith) in
             let same = past_first ks j e k past in grind (arith, nat_tests))
       ]
     ])
@@ -154,7 +185,7 @@ key_list_rises_zero cmp (k ∷ ks) s = (omega arith, key_list_rises cmp k ks s)
 -- the id of the full log at an index below its end, and none past it
 pub at_full : {C : Type 0} (cmp : C → C → Ordering) (ks : List (LogIdOf C)) (j : ℕ) → IsKeyList cmp ks
     → id_at (full_log ks) j ≡ (if nat_lt j (end_index ks) then option_map
-        (λ (k : LogIdOf C). let id : LogIdOf C = record { leader_id = k.leader_id; index = j } in id) (covering ks j) else None)
+    (λ (k : LogIdOf C). let id : LogIdOf C = record { leader_id = k.leader_id; index = j } in id) (covering ks j) else None)
 at_full cmp ks j s = at_filled 0 ks (end_index ks) j (key_list_rises_zero cmp ks s)
 
 cond_same : {A : Type 0} (b : Bool) (x : A) → cond b x x ≡ x
@@ -221,7 +252,7 @@ there_within cmp [] j s = grind (arith, nat_tests)
 there_within {C} cmp (k ∷ ks) j s = elim (cases_lt j k.index) [
   | inl below ↦ (let t : nat_le k.index j ≡ false = grind (arith, nat_tests) in
       rw (at_full cmp (k ∷ ks) j s, covers_none k ks j below, cond_same {A = Option (LogIdOf C)} (nat_lt j (end_index (k ∷ ks))) None, t)
-          refl)
+      refl)
   | inr past ↦ (let t : nat_le k.index j ≡ true = grind (arith, nat_tests) in
       let c = covers k ks j past in
       let id : LogIdOf C = record { leader_id = c.0.leader_id; index = j } in

@@ -1,6 +1,42 @@
 -- What an edit of a log keeps: the log id at each index, the last one and the end.
-use Rattle.std.proofs.Common.{◌≡◌, ℕ, zero, suc, ◌+◌, ◌-◌, ◌<◌, ◌≤◌, ◌==◌, min, max, Bool, true, false, ◌&&◌, List, [], ◌∷◌, ◌++◌, Option,
-        Some, None, if◌then◌else◌, IfSome, IsTrue, length, nat_lt, nat_le, refl, sym, ap, subst, arith, inl, inr, ◌∙◌}
+use Rattle.std.proofs.Common.{
+  ◌≡◌,
+  ℕ,
+  zero,
+  suc,
+  ◌+◌,
+  ◌-◌,
+  ◌<◌,
+  ◌≤◌,
+  ◌==◌,
+  min,
+  max,
+  Bool,
+  true,
+  false,
+  ◌&&◌,
+  List,
+  [],
+  ◌∷◌,
+  ◌++◌,
+  Option,
+  Some,
+  None,
+  if◌then◌else◌,
+  IfSome,
+  IsTrue,
+  length,
+  nat_lt,
+  nat_le,
+  refl,
+  sym,
+  ap,
+  subst,
+  arith,
+  inl,
+  inr,
+  ◌∙◌,
+}
 use Rattle.std.specs.Prelude.{slice_get}
 use Rattle.std.specs.Option.{option_or}
 use Rattle.std.specs.Ordering.{is_le}
@@ -78,8 +114,12 @@ module _ {C : Type 0} (log : List (LogIdOf C)) (id : LogIdOf C) (past : end_inde
   appended_own ends =
       let t : (id.index == id.index) ≡ true = grind (arith, nat_tests) in
       reads_parts (log ++ missing_ids log id.index) (id ∷ []) id.index
-      ∙ rw (reads_parts log (missing_ids log id.index) id.index, ends id.index past, missing_past log id.index id.index past (omega arith),
-              t) refl
+      ∙ rw (
+        reads_parts log (missing_ids log id.index) id.index,
+        ends id.index past,
+        missing_past log id.index id.index past (omega arith),
+        t,
+      ) refl
 
   appended_ends : EndsThere log → EndsThere (log_after_append log id)
   appended_ends ends i end =
@@ -98,7 +138,7 @@ module _ {C : Type 0} (cmp : C → C → Ordering) where
       let past = follows_past cmp (last_id log) id b.0 in
       let e = appended_end log id past in
       extended_reads (log_after_append log id) ids i (rw (last_of_parts (log ++ missing_ids log id.index) id) b.1) (omega arith)
-          ∙ appended_reads log id past i lt
+      ∙ appended_reads log id past i lt
 
   pub extended_own : (log ids : List (LogIdOf C)) (n : ℕ) (own : LogIdOf C) → all_follow cmp (last_id log) ids ≡ true → EndsThere log
       → slice_get ids n ≡ Some own
@@ -111,12 +151,12 @@ module _ {C : Type 0} (cmp : C → C → Ordering) where
       let same : id ≡ own = cc in
       subst (λ (x : LogIdOf C). id_at (log_after_extend (log_after_append log id) ids) x.index ≡ Some x) same
       (extended_reads (log_after_append log id) ids id.index (rw (last_of_parts (log ++ missing_ids log id.index) id) b.1) (omega arith)
-              ∙ appended_own log id past ends)
+      ∙ appended_own log id past ends)
   extended_own log (id ∷ ids) (suc n) own follow ends is =
       let b = both (follows cmp (last_id log) id) (all_follow cmp (Some id) ids) follow in
       let past = follows_past cmp (last_id log) id b.0 in
       extended_own (log_after_append log id) ids n own (rw (last_of_parts (log ++ missing_ids log id.index) id) b.1)
-          (appended_ends log id past ends) is
+      (appended_ends log id past ends) is
 
   -- up to the leaders' own equality
   pub extend_keeps_ids : (eq : C → C → Bool) (log new ids : List (LogIdOf C)) → IsTrue (same_log eq new (log_after_extend log ids))
@@ -165,7 +205,7 @@ front_reads [] a i lt = refl
 front_reads (x ∷ xs) a i lt = elim (cases_lt x.index a) [
   | inl below ↦ (let t : nat_lt x.index a ≡ true = grind (arith, nat_tests) in rw t (same (x.index == i) (front_reads xs a i lt)))
   | inr past ↦ (let t : nat_lt x.index a ≡ false = grind (arith, nat_tests) in let u : (x.index == i) ≡ false = grind (arith, nat_tests) in
-          rw (t, u) (front_reads xs a i lt))
+      rw (t, u) (front_reads xs a i lt))
 ]
   where
     same : (t : Bool) → id_at (front xs a) i ≡ id_at xs i
@@ -177,7 +217,7 @@ rest_reads : {C : Type 0} (xs : List (LogIdOf C)) (a i : ℕ) → a ≤ i → id
 rest_reads [] a i le = refl
 rest_reads (x ∷ xs) a i le = elim (cases_lt x.index a) [
   | inl below ↦ (let t : nat_le a x.index ≡ false = grind (arith, nat_tests) in let u : (x.index == i) ≡ false = grind (arith, nat_tests) in
-          rw (t, u) (rest_reads xs a i le))
+      rw (t, u) (rest_reads xs a i le))
   | inr past ↦ (let t : nat_le a x.index ≡ true = grind (arith, nat_tests) in rw t (same (x.index == i) (rest_reads xs a i le)))
 ]
   where
@@ -196,7 +236,7 @@ front_ends {C} b (x ∷ xs) (suc j) h =
     elim (cases_lt j (end_index (x ∷ xs))) [
       | inl within ↦ (let m : min (suc j) (end_index (x ∷ xs)) ≡ suc j = omega arith in rw m (front_last b j (x ∷ xs) h (omega arith)))
       | inr past ↦ (let m : min (suc j) (end_index (x ∷ xs)) ≡ end_index (x ∷ xs) = omega arith in
-              rw (m, front_all b (suc j) (x ∷ xs) h (omega arith)) (whole (last_at b x xs h)))
+          rw (m, front_all b (suc j) (x ∷ xs) h (omega arith)) (whole (last_at b x xs h)))
     ]
   where
     whole : (y : LogIdOf C) × (last_id (x ∷ xs) ≡ Some y) × (y.index + 1 ≡ b + length (x ∷ xs))
@@ -214,7 +254,7 @@ there_at {C} b (x ∷ xs) i h le lt =
     let h0 = h.0 in let n : length (x ∷ xs) ≡ suc (length xs) = refl in
     elim (cases_lt x.index i) [
       | inl later ↦ (let t : (x.index == i) ≡ false = grind (arith, nat_tests) in let r =
-              there_at (b + 1) xs i h.1 (omega arith) (omega arith) in (r.0, rw t r.1))
+          there_at (b + 1) xs i h.1 (omega arith) (omega arith) in (r.0, rw t r.1))
       | inr here ↦ (let t : (x.index == i) ≡ true = grind (arith, nat_tests) in (x, rw t refl))
     ]
 
@@ -239,7 +279,7 @@ front_end {C} (x ∷ xs) a h = elim (cases_lt x.index a) [
       let last = ap next_index (front_ends x.index (x ∷ xs) a h) in
       last ∙ rw (t, s) (next_of (x ∷ xs) (min a (end_index (x ∷ xs)) - 1) z.0 z.1))
   | inr past ↦ (let t : nat_lt x.index a ≡ false = grind (arith, nat_tests) in
-          ap end_index (front_none x.index a (x ∷ xs) h past) ∙ rw t refl)
+      ap end_index (front_none x.index a (x ∷ xs) h past) ∙ rw t refl)
 ]
 
 module _ {C : Type 0} (log : List (LogIdOf C)) (upto : LogIdOf C) (row : From (first_index log) log) where

@@ -1,6 +1,29 @@
 -- Whether the last two log ids share a leader: of keys as of their full log, and after an append.
-use Rattle.std.proofs.Common.{◌≡◌, ℕ, zero, suc, ◌+◌, ◌-◌, ◌≤◌, Bool, true, false, nat_eq, List, [], ◌∷◌, ◌++◌, if◌then◌else◌, IfSome, refl,
-        sym, arith, length, length-append, ◌∙◌}
+use Rattle.std.proofs.Common.{
+  ◌≡◌,
+  ℕ,
+  zero,
+  suc,
+  ◌+◌,
+  ◌-◌,
+  ◌≤◌,
+  Bool,
+  true,
+  false,
+  nat_eq,
+  List,
+  [],
+  ◌∷◌,
+  ◌++◌,
+  if◌then◌else◌,
+  IfSome,
+  refl,
+  sym,
+  arith,
+  length,
+  length-append,
+  ◌∙◌,
+}
 use Rattle.std.specs.declared.cmp.Ordering.{Ordering}
 use Rattle.raft_base.specs.declared.log_id.LogIdOf.{LogIdOf}
 use Rattle.raft_state.specs.FullLog.{full_log, ids_of}
@@ -27,7 +50,7 @@ module _ {C : Type 0} (eq : C → C → Bool) where
   two_after_ids c i zero l = refl
   two_after_ids c i (suc n) l =
       two_after_one (record { leader_id = c; index = i }) (ids_of c (i + 1) (suc n) ++ l ∷ [])
-          (omega (arith, length-append (ids_of c (i + 1) (suc n)) (l ∷ []))) ∙ two_after_ids c (i + 1) n l
+      (omega (arith, length-append (ids_of c (i + 1) (suc n)) (l ∷ []))) ∙ two_after_ids c (i + 1) n l
 
   -- of the keys as of the full log
   pub two_full : (cmp : C → C → Ordering) (ks : List (LogIdOf C)) → IsKeyList cmp ks
@@ -44,7 +67,7 @@ module _ {C : Type 0} (eq : C → C → Bool) where
       let n : m.index - l.index ≡ suc (m.index - (l.index + 1)) = omega arith in
       let b = full_begins cmp m ks (tail_keys cmp l m ks t) in
       let more : 2 ≤ length (full_log (l ∷ m ∷ ks)) =
-          rw (n, b.1) (omega (arith, length-append (ids_of l.leader_id (l.index + 1) (m.index - (l.index + 1))) (m ∷ b.0))) in
+      rw (n, b.1) (omega (arith, length-append (ids_of l.leader_id (l.index + 1) (m.index - (l.index + 1))) (m ∷ b.0))) in
       two_after (ids_of k.leader_id k.index (l.index - k.index)) (full_log (l ∷ m ∷ ks)) more ∙ two_full cmp (l ∷ m ∷ ks) t
 
   -- the keys of the last leader are two
@@ -79,4 +102,4 @@ module _ {C : Type 0} (eq : C → C → Bool) where
     two_added k (l ∷ []) id = after_one (eq k.leader_id l.leader_id) k l id refl
     two_added k (l ∷ m ∷ ks) id =
         rw (two_after_one k (l ∷ rest_after_append eq l (m ∷ ks) id) (omega (arith, some_after eq same l (m ∷ ks) id)))
-            (two_added l (m ∷ ks) id)
+        (two_added l (m ∷ ks) id)

@@ -1,6 +1,28 @@
 -- What the calls of a list do, from the laws of leaders.
-use Rattle.std.proofs.Common.{◌≡◌, ℕ, suc, ◌+◌, ◌-◌, ◌<◌, ◌≤◌, max, Bool, true, List, [], ◌∷◌, Some, IfSome, IsTrue, length, map, ap, sym,
-        arith, ◌∙◌}
+use Rattle.std.proofs.Common.{
+  ◌≡◌,
+  ℕ,
+  suc,
+  ◌+◌,
+  ◌-◌,
+  ◌<◌,
+  ◌≤◌,
+  max,
+  Bool,
+  true,
+  List,
+  [],
+  ◌∷◌,
+  Some,
+  IfSome,
+  IsTrue,
+  length,
+  map,
+  ap,
+  sym,
+  arith,
+  ◌∙◌,
+}
 use Rattle.std.specs.Prelude.{slice_get}
 use Rattle.std.specs.Option.{option_map, option_or}
 use Rattle.std.specs.declared.cmp.Ordering.{Ordering}
@@ -17,8 +39,15 @@ use Rattle.raft_state.specs.Keys.{may_be_keys}
 use Rattle.raft_state.proofs.lemmas.log_id_list.SameLogLemmas.{both, is_same}
 use Rattle.raft_state.proofs.lemmas.log_id_list.AppendLemmas.{apart, full_after, itself, stays_key_list, strictly_less, upto_equal}
 use Rattle.raft_state.proofs.lemmas.log_id_list.CutLemmas.{cut_stays, first_full, full_purged, last_full, purge_stays, purged_first}
-use Rattle.raft_state.proofs.lemmas.log_id_list.ExtendLemmas.{all_stay, are_keys, can_append, full_after_all, is_key_list, last_added,
-        last_added_all}
+use Rattle.raft_state.proofs.lemmas.log_id_list.ExtendLemmas.{
+  all_stay,
+  are_keys,
+  can_append,
+  full_after_all,
+  is_key_list,
+  last_added,
+  last_added_all,
+}
 use Rattle.raft_state.proofs.lemmas.log_id_list.EndsLemmas.{added_by_ends, last_of_map, last_of_some, last_or, one_leader, same_some}
 use Rattle.raft_state.proofs.lemmas.log_id_list.LastTwoLemmas.{two_added, two_full}
 use Rattle.raft_state.proofs.lemmas.log_id_list.EqualLemmas as Equal
@@ -36,15 +65,15 @@ module _ {C : Type 0} (cmp : C → C → Ordering) (eq : C → C → Bool) (tota
       → IsTrue (may_be_keys cmp (keys_after_append eq ks id))
   append_keeps ks id s h =
       are_keys cmp (keys_after_append eq ks id)
-          (stays_key_list eq eqs.refl cmp (strictly_less cmp eq total law) (upto_equal cmp eq total law) ks id s
-              (can_append cmp ks id (rw (last_full cmp ks s) at h)))
+      (stays_key_list eq eqs.refl cmp (strictly_less cmp eq total law) (upto_equal cmp eq total law) ks id s
+      (can_append cmp ks id (rw (last_full cmp ks s) at h)))
 
   -- and the full log with the log id
   pub append_fills : (ks : List (LogIdOf C)) (id : LogIdOf C) → IsKeyList cmp ks → IsTrue (follows cmp (last_id (full_log ks)) id)
       → IsTrue (same_log eq (full_log (keys_after_append eq ks id)) (log_after_append (full_log ks) id))
   append_fills ks id s h =
       is_same eq (full_log (keys_after_append eq ks id)) (log_after_append (full_log ks) id)
-          (full_after eq eqs.refl cmp ks id s (can_append cmp ks id (rw (last_full cmp ks s) at h)))
+      (full_after eq eqs.refl cmp ks id s (can_append cmp ks id (rw (last_full cmp ks s) at h)))
 
   -- which is the last one then
   pub append_ends : (ks : List (LogIdOf C)) (id : LogIdOf C) → IsKeyList cmp ks → IsTrue (follows cmp (last_id (full_log ks)) id)
@@ -55,18 +84,21 @@ module _ {C : Type 0} (cmp : C → C → Ordering) (eq : C → C → Bool) (tota
   -- and shares its leader with the one before it exactly where it shares that of the last one before the append
   pub append_shares : (ks : List (LogIdOf C)) (id : LogIdOf C) → IsKeyList cmp ks → IsTrue (follows cmp (last_id (full_log ks)) id)
       → IfSome (last_id (full_log ks)) (λ last. last_two_share_leader eq (full_log (keys_after_append eq ks id))
-          ≡ eq last.leader_id id.leader_id)
+      ≡ eq last.leader_id id.leader_id)
   append_shares [] id s h = tt
-  append_shares (k ∷ ks) id s h = rw (last_full cmp (k ∷ ks) s, two_full eq cmp (keys_after_append eq (k ∷ ks) id)
-          (is_key_list cmp (keys_after_append eq (k ∷ ks) id) (append_keeps (k ∷ ks) id s h))) (two_added eq eqs.refl eqs.congr k ks id)
+  append_shares (k ∷ ks) id s h = rw (
+    last_full cmp (k ∷ ks) s,
+    two_full eq cmp (keys_after_append eq (k ∷ ks) id)
+        (is_key_list cmp (keys_after_append eq (k ∷ ks) id) (append_keeps (k ∷ ks) id s h)),
+  ) (two_added eq eqs.refl eqs.congr k ks id)
 
   -- several appends leave keys
   pub extend_keeps : (ks ids : List (LogIdOf C)) → IsKeyList cmp ks → IsTrue (all_follow cmp (last_id (full_log ks)) ids)
       → IsTrue (may_be_keys cmp (keys_after_extend eq ks ids))
   extend_keeps ks ids s h =
       are_keys cmp (keys_after_extend eq ks ids)
-          (all_stay eq eqs.refl trans cmp (strictly_less cmp eq total law) (upto_equal cmp eq total law) ks ids s
-              (rw (last_full cmp ks s) at h))
+      (all_stay eq eqs.refl trans cmp (strictly_less cmp eq total law) (upto_equal cmp eq total law) ks ids s
+      (rw (last_full cmp ks s) at h))
 
   -- and the full log with the log ids
   pub extend_fills : (ks ids : List (LogIdOf C)) → IsKeyList cmp ks → IsTrue (all_follow cmp (last_id (full_log ks)) ids)
@@ -74,7 +106,7 @@ module _ {C : Type 0} (cmp : C → C → Ordering) (eq : C → C → Bool) (tota
   extend_fills ks ids s h =
       is_same eq (full_log (keys_after_extend eq ks ids)) (log_after_extend (full_log ks) ids)
       (full_after_all eq eqs.refl trans cmp (strictly_less cmp eq total law) (upto_equal cmp eq total law) ks ids s
-              (rw (last_full cmp ks s) at h))
+      (rw (last_full cmp ks s) at h))
 
   -- of which the last one is the last one then, if there are any
   pub extend_ends : (ks ids : List (LogIdOf C)) → IsKeyList cmp ks → IsTrue (all_follow cmp (last_id (full_log ks)) ids)
@@ -122,9 +154,9 @@ module _ {C : Type 0} (cmp : C → C → Ordering) (eq : C → C → Bool) (tota
       let is_first : id_of f ≡ id_of x = ap id_of (same_some f x first) in
       let ends : Some l ≡ slice_get (y ∷ ls) (length ls) = rw n at last in
       let is_last : id_of l ≡ last_or (id_of y) (map id_of ls) =
-          same_some (id_of l) (last_or (id_of y) (map id_of ls)) (ap (option_map id_of) ends ∙ sym (last_of_map id_of y ls)) in
+      same_some (id_of l) (last_or (id_of y) (map id_of ls)) (ap (option_map id_of) ends ∙ sym (last_of_map id_of y ls)) in
       let shared : eq (id_of x).leader_id (last_or (id_of y) (map id_of ls)).leader_id ≡ true =
-          rw (last_of_some (id_of x) (id_of y ∷ map id_of ls)) at e in
+      rw (last_of_some (id_of x) (id_of y ∷ map id_of ls)) at e in
       let b = both (follows cmp (last_id ks) (id_of x)) (all_follow cmp (Some (id_of x)) (id_of y ∷ map id_of ls)) h in
       rw (is_first, is_last) (sym (added_by_ends eq eqs.refl trans turn ks (id_of x) (id_of y) (map id_of ls)
-              (one_leader cmp eq total law (id_of x) (id_of y) (map id_of ls) b.1 shared)))
+      (one_leader cmp eq total law (id_of x) (id_of y) (map id_of ls) b.1 shared)))

@@ -1,6 +1,34 @@
 -- The keys of a log with the purge point in it show a log that has all its log ids from there on.
-use Rattle.std.proofs.Common.{◌≡◌, ℕ, suc, ◌+◌, ◌<◌, ◌≤◌, Bool, true, false, nat_lt, nat_le, ◌==◌, if◌then◌else◌, List, [], ◌∷◌, Option,
-        Some, None, IsTrue, refl, sym, ap, subst, arith, inl, inr, ◌∙◌}
+use Rattle.std.proofs.Common.{
+  ◌≡◌,
+  ℕ,
+  suc,
+  ◌+◌,
+  ◌<◌,
+  ◌≤◌,
+  Bool,
+  true,
+  false,
+  nat_lt,
+  nat_le,
+  ◌==◌,
+  if◌then◌else◌,
+  List,
+  [],
+  ◌∷◌,
+  Option,
+  Some,
+  None,
+  IsTrue,
+  refl,
+  sym,
+  ap,
+  subst,
+  arith,
+  inl,
+  inr,
+  ◌∙◌,
+}
 use Rattle.std.specs.Option.{is_some, option_or}
 use Rattle.std.specs.declared.cmp.Ordering.{Ordering}
 use Rattle.std.specs.declared.cmp.Ordering.TheVariants.{Less, Equal, Greater}
@@ -88,7 +116,7 @@ module _ {C : Type 0} (cmp : C → C → Ordering) (total : IsTotalOrder cmp) wh
   rising_le (k ∷ []) i j a b s p q lt = elim (cases_lt i k.index) [
     | inl below ↦ (let n = covers_none k [] i below in cc)
     | inr past ↦ (let f : k ≡ a = (let w = whole k [] i past in cc) in let g : k ≡ b = (let w = whole k [] j (omega arith) in cc) in
-            rw (← f, ← g) (AtMost-refl total k.leader_id))
+        rw (← f, ← g) (AtMost-refl total k.leader_id))
   ]
   rising_le (k ∷ l ∷ ks) i j a b s p q lt = elim (cases_lt i k.index) [
     | inl early ↦ (let n = covers_none k (l ∷ ks) i early in cc)
@@ -99,7 +127,7 @@ module _ {C : Type 0} (cmp : C → C → Ordering) (total : IsTotalOrder cmp) wh
               let f : k ≡ a = some_inside k a (rw n at (sym wi ∙ p)) in
               elim (cases_lt j l.index) [
                 | inl also ↦ (let m = covers_none l ks j also in let g : k ≡ b = some_inside k b (rw m at (sym wj ∙ q)) in
-                        rw (← f, ← g) (AtMost-refl total k.leader_id))
+                    rw (← f, ← g) (AtMost-refl total k.leader_id))
                 | inr past ↦ (let d = covers l ks j past in let g : d.0 ≡ b = some_inside d.0 b (rw d.1 at (sym wj ∙ q)) in
                     rw (← f) (first_le k (l ∷ ks) j b s (d.1 ∙ ap Some g)))
               ])
@@ -117,8 +145,11 @@ module _ {C : Type 0} (cmp : C → C → Ordering) (total : IsTotalOrder cmp) wh
       let q = last_covers l ks (tail_keys cmp k l ks s) in
       let up = (step_keys cmp k l ks s).0 in
       let reached : l.index ≤ q.0.index =
-          elim (cases_lt q.0.index l.index) [ inl below ↦
-              (let n = covers_none l ks q.0.index below in let e = q.2 in absurd (none_some q.0 (sym n ∙ e))) | inr past ↦ past ] in
+      elim (cases_lt q.0.index l.index) [
+        | inl below ↦
+            (let n = covers_none l ks q.0.index below in let e = q.2 in absurd (none_some q.0 (sym n ∙ e)))
+        | inr past ↦ past
+      ] in
       (q.0, q.1, whole k (l ∷ ks) q.0.index (omega arith) ∙ ap (λ (o : Option (LogIdOf C)). option_or o (Some k)) q.2)
 
   id_here : (ks : List (LogIdOf C)) (j : ℕ) (c : LogIdOf C) → IsKeyList cmp ks → j < end_index ks → covering ks j ≡ Some c
@@ -131,7 +162,7 @@ module _ {C : Type 0} (cmp : C → C → Ordering) (total : IsTotalOrder cmp) wh
       let f = first_full cmp (k ∷ ks) 0 s in let z : k.index ≡ 0 = sym f ∙ h in (omega arith, omega arith, λ i le. omega arith)
   purge_low k ks (Some u) s h = elim (cases_lt u.index k.index) [
     | inl below ↦ absurd (none_true (id_at (full_log (k ∷ ks)) u.index)
-            (at_full cmp (k ∷ ks) u.index s ∙ rw (covers_none k ks u.index below) (either_none (nat_lt u.index (end_index (k ∷ ks))))) h)
+        (at_full cmp (k ∷ ks) u.index s ∙ rw (covers_none k ks u.index below) (either_none (nat_lt u.index (end_index (k ∷ ks))))) h)
     | inr past ↦ elim (cases_lt u.index (end_index (k ∷ ks))) [
       | inl within ↦ (omega arith, omega arith, λ i le. omega arith)
       | inr out ↦ (let t : nat_lt u.index (end_index (k ∷ ks)) ≡ false = grind (arith, nat_tests) in
@@ -143,8 +174,12 @@ module _ {C : Type 0} (cmp : C → C → Ordering) (total : IsTotalOrder cmp) wh
 pub logged_keys : {C : Type 0} (cmp : C → C → Ordering) (total : IsTotalOrder cmp) (ks : List (LogIdOf C)) (purge : Option (LogIdOf C))
     (rest : LogView C) → IsKeyList cmp ks → PurgeIn ks purge → Logged cmp (log_of_keys ks purge rest)
 logged_keys cmp total [] None rest s inside =
-    record { purged = omega arith; there = λ i low high. absurd (omega arith); rises = λ i j low lt high. absurd (omega arith);
-        at_end = refl }
+    record {
+      purged = omega arith;
+      there = λ i low high. absurd (omega arith);
+      rises = λ i j low lt high. absurd (omega arith);
+      at_end = refl;
+    }
 logged_keys cmp total [] (Some u) rest s inside = cc
 logged_keys {C} cmp total (k ∷ ks) purge rest s inside =
     let low = purge_low cmp total k ks purge s inside in
@@ -157,7 +192,7 @@ logged_keys {C} cmp total (k ∷ ks) purge rest s inside =
     record {
       purged = omega arith;
       there = λ i from high. (let c = covers k ks i (low.2 i from) in
-              (record { leader_id = c.0.leader_id; index = i }, id_here cmp total (k ∷ ks) i c.0 s (omega arith) c.1, refl));
+          (record { leader_id = c.0.leader_id; index = i }, id_here cmp total (k ∷ ks) i c.0 s (omega arith) c.1, refl));
       rises = λ i j from lt high.
           (let c = covers k ks i (low.2 i from) in let d = covers k ks j (low.2 j (omega arith)) in
           rw (id_here cmp total (k ∷ ks) i c.0 s (omega arith) c.1, id_here cmp total (k ∷ ks) j d.0 s (omega arith) d.1)

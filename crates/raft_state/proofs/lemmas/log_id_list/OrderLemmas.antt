@@ -1,6 +1,31 @@
 -- The indexes of a full log are consecutive, and its leaders never fall.
-use Rattle.std.proofs.Common.{◌≡◌, ℕ, zero, suc, ◌+◌, ◌-◌, ◌<◌, ◌≤◌, ◌==◌, Bool, true, false, List, [], ◌∷◌, ◌++◌, Option, Some, None,
-        if◌then◌else◌, IsTrue, refl, arith, ap, subst}
+use Rattle.std.proofs.Common.{
+  ◌≡◌,
+  ℕ,
+  zero,
+  suc,
+  ◌+◌,
+  ◌-◌,
+  ◌<◌,
+  ◌≤◌,
+  ◌==◌,
+  Bool,
+  true,
+  false,
+  List,
+  [],
+  ◌∷◌,
+  ◌++◌,
+  Option,
+  Some,
+  None,
+  if◌then◌else◌,
+  IsTrue,
+  refl,
+  arith,
+  ap,
+  subst,
+}
 use Rattle.std.proofs.lemmas.Bool.Decides.{nat_tests}
 use Rattle.std.specs.Prelude.{slice_get}
 use Rattle.std.specs.declared.cmp.Ordering.{Ordering}
@@ -123,7 +148,7 @@ module _ {C : Type 0} (cmp : C → C → Ordering) (total : IsTotalOrder cmp) wh
   never_fall_by_index [] s i j a b lt e f = cc
   never_fall_by_index (k ∷ ks) s i j a b lt e f =
       never_falls_at k.leader_id k.index (full_log (k ∷ ks)) i j a b (above_full k.leader_id k ks s (AtMost-refl total k.leader_id))
-          (from_full cmp k ks s) lt e f
+      (from_full cmp k ks s) lt e f
 
   -- the last log id of a log is at least each of it
   last_above : (c : C) (b i : ℕ) (x : LogIdOf C) (xs : List (LogIdOf C)) → Above c (x ∷ xs) → From b (x ∷ xs) → i ≤ b

@@ -1,6 +1,28 @@
 -- Logs that are the same stay so under each edit, and show equal log ids.
-use Rattle.std.proofs.Common.{◌≡◌, ℕ, ◌+◌, ◌==◌, Bool, true, false, ◌&&◌, List, [], ◌∷◌, filter, if◌then◌else◌, IsTrue, Some, nat_eq,
-        nat_lt, nat_le, refl, ap, arith, ◌∙◌}
+use Rattle.std.proofs.Common.{
+  ◌≡◌,
+  ℕ,
+  ◌+◌,
+  ◌==◌,
+  Bool,
+  true,
+  false,
+  ◌&&◌,
+  List,
+  [],
+  ◌∷◌,
+  filter,
+  if◌then◌else◌,
+  IsTrue,
+  Some,
+  nat_eq,
+  nat_lt,
+  nat_le,
+  refl,
+  ap,
+  arith,
+  ◌∙◌,
+}
 use Rattle.std.proofs.lemmas.Bool.Decides.{nat_tests}
 use Rattle.std.specs.Cmp.{IsEquivalence}
 use Rattle.raft_base.specs.LogId.{same_ids}
@@ -60,7 +82,7 @@ module _ {C : Type 0} (eq : C → C → Bool) where
   same_purged same xs ys upto h =
       rw (same_end_index xs ys h, same_first_index xs ys 0 h)
       (same_tests same (nat_le (end_index ys) upto.index) (nat_lt upto.index (first_index ys)) upto xs ys (rest xs upto.index)
-              (rest ys upto.index) h (same_filter (nat_le upto.index) xs ys h))
+      (rest ys upto.index) h (same_filter (nat_le upto.index) xs ys h))
 
   -- what is read
   found : (t : Bool) (x y : LogIdOf C) (i : ℕ) (us vs : List (LogIdOf C)) → IsTrue (eq x.leader_id y.leader_id) → x.index ≡ y.index

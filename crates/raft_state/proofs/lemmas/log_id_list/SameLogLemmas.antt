@@ -41,4 +41,4 @@ is_same eq (k ∷ ks) (l ∷ ls) h =
     let h1 = h.1 in
     let t : nat_eq k.index l.index ≡ true = grind (arith, nat_tests) in
     both_true (eq k.leader_id l.leader_id && nat_eq k.index l.index) (same_log eq ks ls)
-        (both_true (eq k.leader_id l.leader_id) (nat_eq k.index l.index) h.0 t) (is_same eq ks ls h.2)
+    (both_true (eq k.leader_id l.leader_id) (nat_eq k.index l.index) h.0 t) (is_same eq ks ls h.2)

@@ -40,7 +40,7 @@ module _ {C : Type 0} {cmp : C → C → Ordering} (total : IsTotalOrder cmp) wh
   memberships_stay id m h = by (commits cmp id m)
     where
       by : (t : Bool) → first_false (membership_relations cmp
-              (if t then record { committed = m.effective; effective = m.effective } else m)) ≡ None
+          (if t then record { committed = m.effective; effective = m.effective } else m)) ≡ None
       by true = hold_all _ _ _ (AtMost-refl (optional-log_id_cmp-total total) (log_id_of m.effective))
           (hold_all _ _ _ (AtMost-refl (options_total nat_cmp_total) (index_at m.effective)) refl)
       by false = h

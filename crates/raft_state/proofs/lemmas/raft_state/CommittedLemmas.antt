@@ -1,6 +1,31 @@
 -- A log that is cut off past one of its log ids ends at no lesser one.
-use Rattle.std.proofs.Common.{◌≡◌, ℕ, suc, ◌+◌, ◌-◌, ◌<◌, ◌≤◌, min, Bool, true, List, [], ◌∷◌, Option, Some, None, length, refl, sym, ap,
-        subst, arith, inl, inr, ◌∙◌}
+use Rattle.std.proofs.Common.{
+  ◌≡◌,
+  ℕ,
+  suc,
+  ◌+◌,
+  ◌-◌,
+  ◌<◌,
+  ◌≤◌,
+  min,
+  Bool,
+  true,
+  List,
+  [],
+  ◌∷◌,
+  Option,
+  Some,
+  None,
+  length,
+  refl,
+  sym,
+  ap,
+  subst,
+  arith,
+  inl,
+  inr,
+  ◌∙◌,
+}
 use Rattle.std.proofs.lemmas.Bool.{cases_lt}
 use Rattle.std.proofs.lemmas.Bool.Decides.{nat_tests}
 use Rattle.std.specs.declared.cmp.Ordering.{Ordering}
@@ -33,7 +58,7 @@ module _ {C : Type 0} (cmp : C → C → Ordering) (eq : C → C → Bool) (tota
   not_lesser c b log i j y z above row le e f = elim (cases_lt i j) [
     | inl before ↦ never_falls_at cmp total c b log i j y z above row before e f
     | inr same ↦ (let index : i ≡ j = omega arith in let g = rw index at e in let is : y ≡ z = cc in
-            subst (λ (w : LogIdOf C). is_le (cmp y.leader_id w.leader_id) ≡ true) is (AtMost-refl total y.leader_id))
+        subst (λ (w : LogIdOf C). is_le (cmp y.leader_id w.leader_id) ≡ true) is (AtMost-refl total y.leader_id))
   ]
 
   cut_past : (c : C) (b : ℕ) (log : List (LogIdOf C)) (x : LogIdOf C) (since : ℕ) → Above cmp total c log → From b log
@@ -64,5 +89,5 @@ module _ {C : Type 0} (cmp : C → C → Ordering) (eq : C → C → Bool) (tota
       by (Some x) [] are logged past = cc
       by (Some x) (k ∷ ks) are logged past =
           cut_past k.leader_id (first_index (full_log (k ∷ ks))) (full_log (k ∷ ks)) x since
-              (above_full cmp total k.leader_id k ks are (AtMost-refl total k.leader_id)) (from_first cmp (k ∷ ks) are) logged
-              (grind (arith, nat_tests))
+          (above_full cmp total k.leader_id k ks are (AtMost-refl total k.leader_id)) (from_first cmp (k ∷ ks) are) logged
+          (grind (arith, nat_tests))

@@ -1,6 +1,30 @@
 -- A walk along a list up to the first value that a test denies.
-use Rattle.std.proofs.Common.{◌≡◌, ℕ, suc, ◌+◌, ◌<◌, ◌≤◌, Bool, true, false, List, [], ◌∷◌, IfSome, IsTrue, if◌then◌else◌, length, drop,
-        take, get_or, refl, sym, ap, ◌∙◌, arith}
+use Rattle.std.proofs.Common.{
+  ◌≡◌,
+  ℕ,
+  suc,
+  ◌+◌,
+  ◌<◌,
+  ◌≤◌,
+  Bool,
+  true,
+  false,
+  List,
+  [],
+  ◌∷◌,
+  IfSome,
+  IsTrue,
+  if◌then◌else◌,
+  length,
+  drop,
+  take,
+  get_or,
+  refl,
+  sym,
+  ap,
+  ◌∙◌,
+  arith,
+}
 use Rattle.std.specs.Prelude.{slice_get}
 use Rattle.std.specs.List.{list_all}
 use Rattle.std.proofs.lemmas.List.{drop_all, drop_more}
@@ -18,7 +42,7 @@ module _ {A : Type 0} (test : A → Bool) (xs : List A) (i : ℕ) (x : A) (insid
   pub denied_later : test x ≡ true → first_denied test xs ≡ i + first_denied test (drop i xs)
       → first_denied test xs ≡ (i + 1) + first_denied test (drop (i + 1) xs)
   denied_later passed before = (let here : first_denied test (drop i xs) ≡ first_denied test (drop (i + 1) xs) + 1 =
-          rw rest (rw passed (omega arith)) in omega arith)
+      rw rest (rw passed (omega arith)) in omega arith)
 
 module _ {A : Type 0} (test : A → Bool) where
   -- the place is within the list or at its end

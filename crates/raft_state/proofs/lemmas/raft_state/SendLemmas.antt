@@ -1,6 +1,30 @@
 -- What is sent over a log that has all its log ids from the purge point on.
-use Rattle.std.proofs.Common.{◌≡◌, ℕ, ◌+◌, ◌^◌, ◌<◌, ◌≤◌, Bool, true, false, ◌&&◌, nat_lt, nat_le, ◌==◌, Result, Ok, Err, IsTrue, refl, sym,
-        subst, arith, inl, inr, ◌∙◌}
+use Rattle.std.proofs.Common.{
+  ◌≡◌,
+  ℕ,
+  ◌+◌,
+  ◌^◌,
+  ◌<◌,
+  ◌≤◌,
+  Bool,
+  true,
+  false,
+  ◌&&◌,
+  nat_lt,
+  nat_le,
+  ◌==◌,
+  Result,
+  Ok,
+  Err,
+  IsTrue,
+  refl,
+  sym,
+  subst,
+  arith,
+  inl,
+  inr,
+  ◌∙◌,
+}
 use Rattle.std.proofs.lemmas.Bool.{cases_lt}
 use Rattle.std.proofs.lemmas.Bool.Decides.{nat_tests}
 use Rattle.std.specs.declared.cmp.Ordering.{Ordering}
@@ -54,17 +78,19 @@ module _ {C : Type 0} (cmp : C → C → Ordering) (log : LogView C) (logged : L
 
     -- the entry once the snapshot is sent
     abbrev with_snapshot : ProgressEntryOf C → ProgressEntryOf C
-    with_snapshot entry = record entry { curr_inflight_id = entry.curr_inflight_id + 1;
-            inflight = Snapshot (entry.curr_inflight_id + 1) log.snapshot }
+    with_snapshot entry = record entry {
+      curr_inflight_id = entry.curr_inflight_id + 1;
+      inflight = Snapshot (entry.curr_inflight_id + 1) log.snapshot;
+    }
 
     sent_logs : (entry : ProgressEntryOf C) → is_idle entry.inflight ≡ true → next_index log.purge_upto ≤ entry.searching_end
         → start_of entry log < end_of entry log n → send_table cmp entry log n ≡ Ok (with_logs entry)
     sent_logs entry idle long lt =
         let t : nat_lt entry.searching_end (next_index log.purge_upto) ≡ false =
-            lt_false entry.searching_end (next_index log.purge_upto) long in
+        lt_false entry.searching_end (next_index log.purge_upto) long in
         let u : (start_of entry log == end_of entry log n) ≡ false = eq_false (start_of entry log) (end_of entry log n) lt in
         let v : id_lt cmp (prev_id log.id_at (start_of entry log)) (prev_id log.id_at (end_of entry log n)) ≡ true =
-            prev_rises cmp log logged (start_of entry log) (end_of entry log n) (omega arith) lt (omega arith) in
+        prev_rises cmp log logged (start_of entry log) (end_of entry log n) (omega arith) lt (omega arith) in
         rw (idle, t, u, v) refl
 
     -- what is sent is from the log
@@ -72,32 +98,36 @@ module _ {C : Type 0} (cmp : C → C → Ordering) (log : LogView C) (logged : L
         → send_table cmp entry log n ≡ Ok new → FromLog log n entry new.inflight
     sends_from_log entry new idle can ok =
         let two = first_and_third (nat_le (next_index entry.matching) entry.searching_end) (nat_lt (next_index log.last) (2 ^ 64))
-            (nat_le entry.searching_end (next_index log.last)) (nat_lt (next_index log.purge_upto) (2 ^ 64))
-            (nat_lt (entry.curr_inflight_id + 1) (2 ^ 64)) (rw idle at can) in
+        (nat_le entry.searching_end (next_index log.last)) (nat_lt (next_index log.purge_upto) (2 ^ 64))
+        (nat_lt (entry.curr_inflight_id + 1) (2 ^ 64)) (rw idle at can) in
         let me : next_index entry.matching ≤ entry.searching_end = true_le (next_index entry.matching) entry.searching_end two.0 in
         let el : entry.searching_end ≤ next_index log.last = true_le entry.searching_end (next_index log.last) two.1 in
         let pl = logged.purged in
         elim (cases_lt entry.searching_end (next_index log.purge_upto)) [
           | inl short ↦ (let t : nat_lt entry.searching_end (next_index log.purge_upto) ≡ true =
-                  lt_true entry.searching_end (next_index log.purge_upto) short in
+              lt_true entry.searching_end (next_index log.purge_upto) short in
               let s : send_table cmp entry log n ≡ Ok (with_snapshot entry) = rw (idle, t) refl in
               subst (λ (x : ProgressEntryOf C). FromLog log n entry x.inflight) (ok_inside _ _ (sym s ∙ ok)) refl)
           | inr long ↦ elim (cases_lt (start_of entry log) (end_of entry log n)) [
             | inl lt ↦ subst (λ (x : ProgressEntryOf C). FromLog log n entry x.inflight)
-                (ok_inside _ _ (sym (sent_logs entry idle long lt) ∙ ok))
-                (refl, prev_at cmp log logged (start_of entry log) (omega arith) (omega arith), refl, prev_at cmp log logged
-                    (end_of entry log n) (omega arith) (omega arith))
+                (ok_inside _ _ (sym (sent_logs entry idle long lt) ∙ ok)) (
+                  refl,
+                  prev_at cmp log logged (start_of entry log) (omega arith) (omega arith),
+                  refl,
+                  prev_at cmp log logged
+                      (end_of entry log n) (omega arith) (omega arith),
+                )
             | inr past ↦ (let t : nat_lt entry.searching_end (next_index log.purge_upto) ≡ false =
-                    lt_false entry.searching_end (next_index log.purge_upto) long in
+                lt_false entry.searching_end (next_index log.purge_upto) long in
                 let u : (start_of entry log == end_of entry log n) ≡ true =
-                    eq_true (start_of entry log) (end_of entry log n) (omega arith) in
+                eq_true (start_of entry log) (end_of entry log n) (omega arith) in
                 elim (cases_lt (next_index entry.matching) entry.searching_end) [
                   | inl wide ↦ (let v : nat_lt (next_index entry.matching) entry.searching_end ≡ true =
-                          lt_true (next_index entry.matching) entry.searching_end wide in
+                      lt_true (next_index entry.matching) entry.searching_end wide in
                       let s : send_table cmp entry log n ≡ Ok (with_snapshot entry) = rw (idle, t, u, v) refl in
                       subst (λ (x : ProgressEntryOf C). FromLog log n entry x.inflight) (ok_inside _ _ (sym s ∙ ok)) refl)
                   | inr shut ↦ (let v : nat_lt (next_index entry.matching) entry.searching_end ≡ false =
-                          lt_false (next_index entry.matching) entry.searching_end shut in
+                      lt_false (next_index entry.matching) entry.searching_end shut in
                       let s : send_table cmp entry log n ≡ Err entry = rw (idle, t, u, v) refl in absurd (not_both entry new (sym s ∙ ok)))
                 ])
           ]

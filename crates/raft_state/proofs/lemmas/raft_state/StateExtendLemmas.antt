@@ -1,6 +1,27 @@
 -- A state whose log is extended stays valid.
-use Rattle.std.proofs.Common.{◌≡◌, ℕ, ◌==◌, Bool, true, false, ◌&&◌, List, [], ◌∷◌, Option, Some, None, if◌then◌else◌, IsTrue, nat_eq, refl,
-        sym, ap, arith, ◌∙◌}
+use Rattle.std.proofs.Common.{
+  ◌≡◌,
+  ℕ,
+  ◌==◌,
+  Bool,
+  true,
+  false,
+  ◌&&◌,
+  List,
+  [],
+  ◌∷◌,
+  Option,
+  Some,
+  None,
+  if◌then◌else◌,
+  IsTrue,
+  nat_eq,
+  refl,
+  sym,
+  ap,
+  arith,
+  ◌∙◌,
+}
 use Rattle.std.proofs.lemmas.Bool.Decides.{nat_tests}
 use Rattle.std.specs.declared.cmp.Ordering.{Ordering}
 use Rattle.std.specs.Cmp.{IsTotalOrder}
@@ -107,11 +128,11 @@ module _ {C : Type 0} (cmp : C → C → Ordering) (eq : C → C → Bool) (tota
       let first : same_ids eq (first_id (full_log keys)) (option_or (first_id log) (first_id ids)) ≡ true =
       rw (first_extended log ids) at (first_id_finds eq (full_log keys) (log_after_extend log ids) same) in
       let begins : fits_purged_next s.purged_next (first_id (full_log keys)) ≡ true =
-          begins_so s.purged_next log ids (first_id (full_log keys)) first zero fits.0 in
+      begins_so s.purged_next log ids (first_id (full_log keys)) first zero fits.0 in
       let purged : id_le cmp (if s.purged_next == 0 then None else first_id (full_log keys)) s.purge_upto ≡ true =
       purged_so s.purged_next log ids (first_id (full_log keys)) s.purge_upto first fits.0 purge_point.0 in
       let ends : id_le cmp s.committed (last_id (full_log keys)) ≡ true =
       rw last (AtMost-trans (optional-log_id_cmp-total total) s.committed (last_id log) (option_or (last_id ids) (last_id log)) committed.0
-              (extend_raises total (last_id log) ids follow)) in
+      (extend_raises total (last_id log) ids follow)) in
       hold_all _ _ _ begins (hold_all _ _ _ purged
-              (hold_all _ _ _ upto.0 (hold_all _ _ _ snapshot.0 (hold_all _ _ _ ends (members committed.1)))))
+      (hold_all _ _ _ upto.0 (hold_all _ _ _ snapshot.0 (hold_all _ _ _ ends (members committed.1)))))

@@ -1,6 +1,33 @@
 -- A state whose log is purged stays valid.
-use Rattle.std.proofs.Common.{◌≡◌, ℕ, ◌+◌, ◌==◌, ◌≤◌, ◌<◌, Bool, true, false, ◌&&◌, ◌||◌, List, [], ◌∷◌, Option, Some, None, if◌then◌else◌,
-        IfSome, length, nat_lt, nat_le, refl, sym, ap, arith, ◌∙◌}
+use Rattle.std.proofs.Common.{
+  ◌≡◌,
+  ℕ,
+  ◌+◌,
+  ◌==◌,
+  ◌≤◌,
+  ◌<◌,
+  Bool,
+  true,
+  false,
+  ◌&&◌,
+  ◌||◌,
+  List,
+  [],
+  ◌∷◌,
+  Option,
+  Some,
+  None,
+  if◌then◌else◌,
+  IfSome,
+  length,
+  nat_lt,
+  nat_le,
+  refl,
+  sym,
+  ap,
+  arith,
+  ◌∙◌,
+}
 use Rattle.std.proofs.lemmas.Bool.Decides.{nat_tests}
 use Rattle.std.specs.declared.cmp.Ordering.{Ordering}
 use Rattle.std.specs.Cmp.{IsTotalOrder}
@@ -96,12 +123,12 @@ module _ {C : Type 0} {cmp : C → C → Ordering} (total : IsTotalOrder cmp) wh
       let first : first_id (full_log keys) ≡ first_after_purge log upto = ap first_id is ∙ first_so log upto row can.1 in
       let t : ((upto.index + 1) == 0) ≡ false = grind (arith, nat_tests) in
       let begins : fits_purged_next (upto.index + 1) (first_id (full_log keys)) ≡ true =
-          rw first (fits_so upto.index (first_after_purge log upto) (begins_at log upto)) in
+      rw first (fits_so upto.index (first_after_purge log upto) (begins_at log upto)) in
       let purged : id_le cmp (if (upto.index + 1) == 0 then None else first_id (full_log keys)) s.purge_upto ≡ true = rw (first, t) low in
       let ends : id_le cmp s.committed (last_id (full_log keys)) ≡ true =
-          rw (is, purged_ends log upto row) (last_so (nat_le (end_index log) upto.index) refl committed.0 can.0) in
+      rw (is, purged_ends log upto row) (last_so (nat_le (end_index log) upto.index) refl committed.0 can.0) in
       hold_all _ _ _ begins (hold_all _ _ _ purged
-              (hold_all _ _ _ relation.0 (hold_all _ _ _ snapshot.0 (hold_all _ _ _ ends committed.1))))
+      (hold_all _ _ _ relation.0 (hold_all _ _ _ snapshot.0 (hold_all _ _ _ ends committed.1))))
     where
       last_so : (t : Bool) → nat_le (end_index (full_log s.log_ids)) upto.index ≡ t
           → id_le cmp s.committed (last_id (full_log s.log_ids)) ≡ true

@@ -11,7 +11,7 @@ use Rattle.raft_members.proofs.membership.Membership.learner_ids.Goals as goal
 pub returns-clause-ascending : goal.returns-clause-ascending
 returns-clause-ascending g c =
     IsStrictlySortedBy-filter g.NID.Ord.cmp (λ id. not (is_voter_of g.NID.PartialEq.eq (map (λ s. s.keys) c.deref.result.now) id))
-        c.keys.result
+    c.keys.result
     (subst (λ (ks : List g.row.NID.Denot). IsStrictlySortedBy g.NID.Ord.cmp ks) (sym c.keys.ensures.rest) c.keys.ensures.ordered)
 
 pub returns-clause-learners : goal.returns-clause-learners

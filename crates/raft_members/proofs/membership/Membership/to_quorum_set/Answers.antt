@@ -6,10 +6,10 @@ pub returns-clause-quorums : goal.returns-clause-quorums
 returns-clause-quorums g c =
     quorums_of_lists (λ v. v.items) g.NID.PartialEq.eq c.new.result.items c.args.self.now.configs
     (ap (λ v. map (λ l. l.items) v.items) c.new.ensures ∙ c.in_ok-lists.ensures ∙ ap (λ xs. map (λ s. s.keys) xs) c.deref.ensures.value
-            ∙ ap (λ m. m.configs) c.self.view_is)
+    ∙ ap (λ m. m.configs) c.self.view_is)
 
 pub returns-clause-voters : goal.returns-clause-voters
 returns-clause-voters g c =
     voters_of_lists (λ v. v.items) g.NID.PartialEq.eq c.new.result.items c.args.self.now.configs
     (ap (λ v. map (λ l. l.items) v.items) c.new.ensures ∙ c.in_ok-lists.ensures ∙ ap (λ xs. map (λ s. s.keys) xs) c.deref.ensures.value
-            ∙ ap (λ m. m.configs) c.self.view_is)
+    ∙ ap (λ m. m.configs) c.self.view_is)

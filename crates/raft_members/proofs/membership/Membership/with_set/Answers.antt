@@ -8,9 +8,9 @@ use Rattle.raft_members.proofs.membership.Membership.with_set.Goals as goal
 pub returns : goal.returns
 returns g c =
     if_says g.met.N.Eq.laws g.NID.Ord.cmp (members_of g.NID.Ord.cmp c.args.self.now) (get g.NID.Ord.cmp c.in_ok-added.field-0)
-        (λ id. option_or (get g.NID.Ord.cmp c.args.more id) (node_at g.NID.Ord.cmp c.args.self.now.nodes id)) c.with_only.result
+    (λ id. option_or (get g.NID.Ord.cmp c.args.more id) (node_at g.NID.Ord.cmp c.args.self.now.nodes id)) c.with_only.result
     (λ id. subst (λ (es : List (g.row.NID.Denot × g.row.N.Denot)). IsTrue
-            (option_eq g.N.PartialEq.eq (get g.NID.Ord.cmp c.in_ok-added.field-0 id)
-            (option_or (get g.NID.Ord.cmp c.args.more id) (node_at g.NID.Ord.cmp es id)))) (ap (λ m. m.nodes) c.self.view_is)
-            (c.in_ok-added.ensures.nodes id))
+    (option_eq g.N.PartialEq.eq (get g.NID.Ord.cmp c.in_ok-added.field-0 id)
+    (option_or (get g.NID.Ord.cmp c.args.more id) (node_at g.NID.Ord.cmp es id)))) (ap (λ m. m.nodes) c.self.view_is)
+    (c.in_ok-added.ensures.nodes id))
     c.with_only.ensures

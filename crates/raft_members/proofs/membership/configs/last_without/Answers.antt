@@ -6,7 +6,7 @@ use Rattle.raft_members.proofs.membership.configs.last_without.Goals as goal
 pub returns-in-None : goal.returns-in-None
 returns-in-None g c =
     c.new.ensures.empty ∙ ap (λ l. without g.ID.PartialEq.eq l c.args.ids.now.keys)
-        (sym (last_config-none (λ s. s.keys) c.args.configs.now c.in-None.ensures.value))
+    (sym (last_config-none (λ s. s.keys) c.args.configs.now c.in-None.ensures.value))
 
 pub returns-in-Some : goal.returns-in-Some
 returns-in-Some g c = rw (last_config-some (λ s. s.keys) c.args.configs.now c.in-Some.last.now c.in-Some.ensures.value) c.difference.ensures

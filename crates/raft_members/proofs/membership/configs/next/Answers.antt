@@ -9,8 +9,8 @@ pub returns-in_ok-vec-in-Some : goal.returns-in_ok-vec-in-Some
 returns-in_ok-vec-in-Some g c =
     let has = list_any-map (λ s. s.keys) (λ d. pointwise g.ID.PartialEq.eq d c.args.goal.keys) c.args.configs.now in
     rw c.in_ok-vec-in-Some.ensures.items (ap (λ k. k ∷ c.args.goal.keys ∷ []) c.in_ok-last-in-Some.ensures
-            ∙ sym (next_if_lacks (pointwise g.ID.PartialEq.eq) _ _ _ (has ∙ sym c.if-not-has_config.ensures)
-            (last-map (λ s. s.keys) c.args.configs.now c.in-Some.last.now c.in-Some.ensures.value)))
+    ∙ sym (next_if_lacks (pointwise g.ID.PartialEq.eq) _ _ _ (has ∙ sym c.if-not-has_config.ensures)
+    (last-map (λ s. s.keys) c.args.configs.now c.in-Some.last.now c.in-Some.ensures.value)))
 
 pub returns-in_ok-vec-in_default : goal.returns-in_ok-vec-in_default
 returns-in_ok-vec-in_default g c =

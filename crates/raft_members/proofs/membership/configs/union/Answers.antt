@@ -14,6 +14,6 @@ loop-id-init g c = rw c.new-set.ensures.empty (sym (c.into_iter-id-iterator.ensu
 pub loop-id-preserved : goal.loop-id-preserved
 loop-id-preserved g c =
     rw c.in_ok-insert.ensures.keys (insert_ahead g.met.ID.Ord.total (union_of g.ID.Ord.cmp c.args.these.now.keys c.args.others.now.keys)
-            c.loop-id.set.keys c.loop-id.id-iterator c.next.new.self c.in-Some.id.now
+    c.loop-id.set.keys c.loop-id.id-iterator c.next.new.self c.in-Some.id.now
     (subst (IsStrictlySortedBy g.ID.Ord.cmp) c.union-id-items.ensures.rest c.union-id-items.ensures.ordered) c.loop-id.invariant
-        c.in-Some.ensures.steps)
+    c.in-Some.ensures.steps)

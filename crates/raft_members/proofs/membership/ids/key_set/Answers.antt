@@ -12,4 +12,4 @@ loop-id-init g c = rw c.new-set.ensures.empty (sym (c.into_iter-id-iterator.ensu
 pub loop-id-preserved : goal.loop-id-preserved
 loop-id-preserved g c =
     rw c.in_ok-insert.ensures.keys (insert_ahead g.met.ID.Ord.total (keys c.args.nodes.now) c.loop-id.set.keys c.loop-id.id-iterator
-            c.next.new.self c.in-Some.id.now c.keys-id-items.ensures.ordered c.loop-id.invariant c.in-Some.ensures.steps)
+    c.next.new.self c.in-Some.id.now c.keys-id-items.ensures.ordered c.loop-id.invariant c.in-Some.ensures.steps)

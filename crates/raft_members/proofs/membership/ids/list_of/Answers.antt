@@ -11,4 +11,4 @@ loop-id-init g c = rw c.in_ok-list.ensures.items (sym (c.into_iter-id-iterator.e
 pub loop-id-preserved : goal.loop-id-preserved
 loop-id-preserved g c =
     rw c.in_ok-push.ensures.items (push_ahead c.args.ids.now.keys c.loop-id.list.items c.loop-id.id-iterator c.next.new.self
-            c.in-Some.id.now c.loop-id.invariant c.in-Some.ensures.steps)
+    c.in-Some.id.now c.loop-id.invariant c.in-Some.ensures.steps)

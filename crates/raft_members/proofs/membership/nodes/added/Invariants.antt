@@ -8,7 +8,7 @@ use Rattle.raft_members.proofs.membership.nodes.added.Given as goal
 abbrev pub invariant-loop-id : goal.invariant-loop-id
 invariant-loop-id g l = record {
   nodes : (q : g.row.NID.Denot) → IsTrue (option_eq g.N.PartialEq.eq
-          (option_or (get g.NID.Ord.cmp l.added q) (lookup (is_at (g.NID.Ord.cmp q)) l.id-iterator))
-          (option_or (get g.NID.Ord.cmp l.fn.nodes q) (get g.NID.Ord.cmp l.more q)));
+      (option_or (get g.NID.Ord.cmp l.added q) (lookup (is_at (g.NID.Ord.cmp q)) l.id-iterator))
+      (option_or (get g.NID.Ord.cmp l.fn.nodes q) (get g.NID.Ord.cmp l.more q)));
   kept : (q : g.row.NID.Denot) → IsTrue (is_some (get g.NID.Ord.cmp l.fn.nodes q)) → IsTrue (is_some (get g.NID.Ord.cmp l.added q));
 }

@@ -17,11 +17,14 @@ loop-id-preserved g c =
     let x : g.row.NID.Denot × g.row.N.Denot = (c.in-Some.id.now, c.in-Some.node.now) in
     let ahead : List (g.row.NID.Denot × g.row.N.Denot) = rev_source c.next.new.self in
     let front : c.args.nodes.now.entries ≡ ahead ++ x ∷ i.0 =
-        i.1 ∙ ap (λ l. l ++ i.0) c.in-Some.ensures.steps ∙ append_assoc ahead (x ∷ []) i.0 in
+    i.1 ∙ ap (λ l. l ++ i.0) c.in-Some.ensures.steps ∙ append_assoc ahead (x ∷ []) i.0 in
     let P : List (g.row.NID.Denot × g.row.N.Denot) → Type 0 = λ es. IsStrictlySortedBy g.NID.Ord.cmp (keys_of es) in
-    let w = c.in_ok-put_copy.ensures in
-    (x ∷ i.0, front, rw w.entries (same_first g.N.PartialEq.eq g.NID.Ord.cmp ahead c.loop-id.copies.entries i.0 x.0 w.copy x.1
-            (subst P front c.iter.ensures.ordered) i.2 (g.met.N.PartialEq.laws.symm w.copy x.1 ∙ w.equal)))
+    let w = c.in_ok-put_copy.ensures in (
+      x ∷ i.0,
+      front,
+      rw w.entries (same_first g.N.PartialEq.eq g.NID.Ord.cmp ahead c.loop-id.copies.entries i.0 x.0 w.copy x.1
+          (subst P front c.iter.ensures.ordered) i.2 (g.met.N.PartialEq.laws.symm w.copy x.1 ∙ w.equal)),
+    )
 
 pub returns-clause-nodes : goal.returns-clause-nodes
 returns-clause-nodes g c q =

@@ -11,5 +11,5 @@ pub returns : goal.returns
 returns g c q =
     c.in_ok-append.ensures.inserts_all.0 q
     ∙ update_all_distinct (eq_by_cmp_equiv g.met.NID.Ord.total) (eq_by_cmp g.NID.Ord.cmp) (λ x y. refl) (get g.NID.Ord.cmp c.args.second)
-        c.args.first.entries q
+    c.args.first.entries q
     (IsDistinct-from_sorted g.NID.Ord.cmp (keys_of c.args.first.entries) c.append.ensures.other_was_ordered)

@@ -9,7 +9,7 @@ loop-child-preserved g c x =
     c.in_ok-append_ids.ensures x
     ∙ ap (λ b. b || g.QS.QuorumSet.is_voter c.child-item.result x) (c.loop-child.invariant x)
     ∙ sym (any_more (λ q. g.QS.QuorumSet.is_voter q x) c.args.children.now c.loop-child.child-index c.child-item.result
-            c.loop-child-test.true (sym c.child-item.is))
+    c.loop-child-test.true (sym c.child-item.is))
 
 pub returns-clause-voters : goal.returns-clause-voters
 returns-clause-voters g c x =

@@ -9,9 +9,9 @@ pub returns-then-chunk_has : goal.returns-then-chunk_has
 returns-then-chunk_has g c =
     let p : g.row.ID.Denot → Bool = λ y. g.ID.PartialEq.eq y c.args.id in
     list_any-from_chunks p 8 (length c.args.voters.now / 8) c.args.voters.now c.as_chunks.result.0.now c.as_chunks.result.1.now true
-        c.as_chunks.ensures.front c.as_chunks.ensures.back
+    c.as_chunks.ensures.front c.as_chunks.ensures.back
     (list_any_at (list_any p) c.as_chunks.result.0.now c.loop-chunk.chunk-index c.chunk-item.result c.loop-chunk-test.true
-            (ap (list_any p) (sym c.chunk-item.is) ∙ sym c.chunk_has.ensures ∙ c.if-chunk_has.true))
+    (ap (list_any p) (sym c.chunk-item.is) ∙ sym c.chunk_has.ensures ∙ c.if-chunk_has.true))
 
 pub loop-chunk-preserved : goal.loop-chunk-preserved
 loop-chunk-preserved g c =
@@ -25,6 +25,6 @@ returns g c =
     let p : g.row.ID.Denot → Bool = λ y. g.ID.PartialEq.eq y c.args.id in
     c.has_singly-2.ensures
     ∙ list_any-from_chunks p 8 (length c.args.voters.now / 8) c.args.voters.now c.as_chunks.result.0.now c.as_chunks.result.1.now false
-        c.as_chunks.ensures.front c.as_chunks.ensures.back
+    c.as_chunks.ensures.front c.as_chunks.ensures.back
     (ap (list_any (list_any p)) (sym (take_all c.loop-chunk.chunk-index c.as_chunks.result.0.now c.loop-chunk-test.false))
-            ∙ c.loop-chunk.invariant)
+    ∙ c.loop-chunk.invariant)

@@ -12,10 +12,10 @@ returns-else-any g c =
     let p : g.row.ID.Denot → Bool = λ y. g.ID.PartialEq.eq y c.args.id in
     let front : c.any.result ≡ list_any p c.args.first.now =
     any_from_yields_List p _ _ c.any.result c.any.ensures.ran (YieldsList-from_slice c.args.first.now c.iter.ensures.rest)
-        (λ x b q k. search (rules, tests)) in
+    (λ x b q k. search (rules, tests)) in
     let back : c.any-else-any.result ≡ list_any p (reverse c.args.last.now) =
     any_from_yields_List p _ _ c.any-else-any.result c.any-else-any.ensures.ran
-        (YieldsList-from_rev_slice c.args.last.now (ap iter_rest c.rev.ensures.source ∙ c.iter-else-any.ensures.rest))
-        (λ x b q k. search (rules, tests)) in
+    (YieldsList-from_rev_slice c.args.last.now (ap iter_rest c.rev.ensures.source ∙ c.iter-else-any.ensures.rest))
+    (λ x b q k. search (rules, tests)) in
     back ∙ sym (list_any-IsPermutation p _ _ (IsPermutation-reverse c.args.last.now))
-        ∙ ap (λ b. b || list_any p c.args.last.now) (sym c.if-any.false ∙ front)
+    ∙ ap (λ b. b || list_any p c.args.last.now) (sym c.if-any.false ∙ front)

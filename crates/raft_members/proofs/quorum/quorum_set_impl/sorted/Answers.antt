@@ -10,7 +10,7 @@ use Rattle.raft_members.proofs.quorum.quorum_set_impl.sorted.Goals as goal
 pub returns-clause-ascending : goal.returns-clause-ascending
 returns-clause-ascending g c =
     subst (IsStrictlySortedBy g.ID.Ord.cmp) (sym (dedup_is _ _ _ c.dedup.ensures.filtered))
-        (IsStrictlySortedBy-dedup g.met.ID.Ord.total g.met.ID.Ord.matches_eq _ c.sort_unstable.ensures.sorted)
+    (IsStrictlySortedBy-dedup g.met.ID.Ord.total g.met.ID.Ord.matches_eq _ c.sort_unstable.ensures.sorted)
 
 pub returns-clause-members : goal.returns-clause-members
 returns-clause-members g c = λ x.

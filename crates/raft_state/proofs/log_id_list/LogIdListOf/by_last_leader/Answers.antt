@@ -6,6 +6,6 @@ use Rattle.raft_state.proofs.log_id_list.LogIdListOf.by_last_leader.Goals as goa
 pub returns-clause-two_keys : goal.returns-clause-two_keys
 returns-clause-two_keys g c =
     rw (c.by_last_leader.ensures, c.deref.ensures.value, ← c.self.view_is)
-        (two_of_last g.C.PartialEq.eq c.self.inside.key_log_ids.items
-            ∙ sym (two_full g.C.PartialEq.eq g.C.Ord.cmp c.self.inside.key_log_ids.items
-            (is_key_list g.C.Ord.cmp c.self.inside.key_log_ids.items c.self.invariant)))
+    (two_of_last g.C.PartialEq.eq c.self.inside.key_log_ids.items
+    ∙ sym (two_full g.C.PartialEq.eq g.C.Ord.cmp c.self.inside.key_log_ids.items
+    (is_key_list g.C.Ord.cmp c.self.inside.key_log_ids.items c.self.invariant)))

@@ -12,22 +12,22 @@ pub invariant_of-self-2 : goal.invariant_of-self-2
 invariant_of-self-2 g c =
     let can = rw (← c.self.view_is) at c.requires in
     rw c.in_ok-extend.ensures.ok (extend_keeps g.C.Ord.cmp g.C.PartialEq.eq g.met.C.Ord.total g.met.C.Ord.matches_eq g.met.C.Eq.laws
-            c.self.inside.key_log_ids.items (map g.LID.RaftLogId.id_of c.args.new_ids.now)
-            (is_key_list g.C.Ord.cmp c.self.inside.key_log_ids.items c.self.invariant) can)
+    c.self.inside.key_log_ids.items (map g.LID.RaftLogId.id_of c.args.new_ids.now)
+    (is_key_list g.C.Ord.cmp c.self.inside.key_log_ids.items c.self.invariant) can)
 
 pub returns-clause-ok : goal.returns-clause-ok
 returns-clause-ok g c =
     let can = rw (← c.self.view_is) at c.requires in
     rw (c.in_ok-extend.ensures.ok, ← c.self.view_is)
-        (extend_fills g.C.Ord.cmp g.C.PartialEq.eq g.met.C.Ord.total g.met.C.Ord.matches_eq g.met.C.Eq.laws c.self.inside.key_log_ids.items
-            (map g.LID.RaftLogId.id_of c.args.new_ids.now) (is_key_list g.C.Ord.cmp c.self.inside.key_log_ids.items c.self.invariant) can)
+    (extend_fills g.C.Ord.cmp g.C.PartialEq.eq g.met.C.Ord.total g.met.C.Ord.matches_eq g.met.C.Eq.laws c.self.inside.key_log_ids.items
+    (map g.LID.RaftLogId.id_of c.args.new_ids.now) (is_key_list g.C.Ord.cmp c.self.inside.key_log_ids.items c.self.invariant) can)
 
 pub returns-clause-last : goal.returns-clause-last
 returns-clause-last g c =
     let can = rw (← c.self.view_is) at c.requires in
     rw (c.in_ok-extend.ensures.ok, ← c.self.view_is)
-        (extend_ends g.C.Ord.cmp g.C.PartialEq.eq g.met.C.Ord.total g.met.C.Ord.matches_eq g.met.C.Eq.laws c.self.inside.key_log_ids.items
-            (map g.LID.RaftLogId.id_of c.args.new_ids.now) (is_key_list g.C.Ord.cmp c.self.inside.key_log_ids.items c.self.invariant) can)
+    (extend_ends g.C.Ord.cmp g.C.PartialEq.eq g.met.C.Ord.total g.met.C.Ord.matches_eq g.met.C.Eq.laws c.self.inside.key_log_ids.items
+    (map g.LID.RaftLogId.id_of c.args.new_ids.now) (is_key_list g.C.Ord.cmp c.self.inside.key_log_ids.items c.self.invariant) can)
 
 pub returns-clause-not_lowered : goal.returns-clause-not_lowered
 returns-clause-not_lowered g c =
@@ -35,8 +35,12 @@ returns-clause-not_lowered g c =
     let ids = (map g.LID.RaftLogId.id_of c.args.new_ids.now) in
     let are = is_key_list g.C.Ord.cmp keys c.self.invariant in
     let follow = rw (← c.self.view_is) at c.requires in
-    rw (c.in_ok-extend.ensures.ok, ← c.self.view_is, extend_ends g.C.Ord.cmp g.C.PartialEq.eq g.met.C.Ord.total g.met.C.Ord.matches_eq
-            g.met.C.Eq.laws keys ids are follow) (extend_raises g.met.C.Ord.total (last_id (full_log keys)) ids follow)
+    rw (
+      c.in_ok-extend.ensures.ok,
+      ← c.self.view_is,
+      extend_ends g.C.Ord.cmp g.C.PartialEq.eq g.met.C.Ord.total g.met.C.Ord.matches_eq
+          g.met.C.Eq.laws keys ids are follow,
+    ) (extend_raises g.met.C.Ord.total (last_id (full_log keys)) ids follow)
 
 pub returns-clause-kept : goal.returns-clause-kept
 returns-clause-kept g c =
@@ -46,8 +50,8 @@ returns-clause-kept g c =
     let follow = rw (← c.self.view_is) at c.requires in
     let new = extend_fills g.C.Ord.cmp g.C.PartialEq.eq g.met.C.Ord.total g.met.C.Ord.matches_eq g.met.C.Eq.laws keys ids are follow in
     rw (c.in_ok-extend.ensures.ok, ← c.self.view_is)
-        (extend_keeps_ids g.C.Ord.cmp g.C.PartialEq.eq (full_log keys) (full_log (keys_after_extend g.C.PartialEq.eq keys ids)) ids new
-            follow)
+    (extend_keeps_ids g.C.Ord.cmp g.C.PartialEq.eq (full_log keys) (full_log (keys_after_extend g.C.PartialEq.eq keys ids)) ids new
+    follow)
 
 pub returns-clause-own : goal.returns-clause-own
 returns-clause-own g c =
@@ -58,4 +62,4 @@ returns-clause-own g c =
     let new = extend_fills g.C.Ord.cmp g.C.PartialEq.eq g.met.C.Ord.total g.met.C.Ord.matches_eq g.met.C.Eq.laws keys ids are follow in
     let ends = ends_there (first_index (full_log keys)) (full_log keys) (from_first g.C.Ord.cmp keys are) in
     rw c.in_ok-extend.ensures.ok (extend_has_ids g.C.Ord.cmp g.C.PartialEq.eq (full_log keys)
-            (full_log (keys_after_extend g.C.PartialEq.eq keys ids)) ids new follow ends)
+    (full_log (keys_after_extend g.C.PartialEq.eq keys ids)) ids new follow ends)

@@ -16,9 +16,9 @@ extend_by_ends-requires-clause-follow g c =
     let ids = (map g.LID.RaftLogId.id_of c.args.new_ids.now) in
     let can = rw (← c.self.view_is) at c.requires in
     let follow = (both (all_follow g.C.Ord.cmp (last_id (full_log c.self.inside.key_log_ids.items)) ids)
-            (ends_share_leader g.C.PartialEq.eq ids) can).0 in
+    (ends_share_leader g.C.PartialEq.eq ids) can).0 in
     rw (last_full g.C.Ord.cmp c.self.inside.key_log_ids.items (is_key_list g.C.Ord.cmp c.self.inside.key_log_ids.items c.self.invariant)) at
-        follow
+    follow
 
 pub extend_by_ends-requires-clause-one_leader : goal.extend_by_ends-requires-clause-one_leader
 extend_by_ends-requires-clause-one_leader g c =
@@ -30,29 +30,29 @@ invariant_of-self-2 g c =
     let ids = (map g.LID.RaftLogId.id_of c.args.new_ids.now) in
     let can = rw (← c.self.view_is) at c.requires in
     let follow = (both (all_follow g.C.Ord.cmp (last_id (full_log c.self.inside.key_log_ids.items)) ids)
-            (ends_share_leader g.C.PartialEq.eq ids) can).0 in
+    (ends_share_leader g.C.PartialEq.eq ids) can).0 in
     rw c.in_ok-extend_by_ends.ensures.ok (extend_keeps g.C.Ord.cmp g.C.PartialEq.eq g.met.C.Ord.total g.met.C.Ord.matches_eq g.met.C.Eq.laws
-            c.self.inside.key_log_ids.items ids (is_key_list g.C.Ord.cmp c.self.inside.key_log_ids.items c.self.invariant) follow)
+    c.self.inside.key_log_ids.items ids (is_key_list g.C.Ord.cmp c.self.inside.key_log_ids.items c.self.invariant) follow)
 
 pub returns-clause-ok : goal.returns-clause-ok
 returns-clause-ok g c =
     let ids = (map g.LID.RaftLogId.id_of c.args.new_ids.now) in
     let can = rw (← c.self.view_is) at c.requires in
     let follow = (both (all_follow g.C.Ord.cmp (last_id (full_log c.self.inside.key_log_ids.items)) ids)
-            (ends_share_leader g.C.PartialEq.eq ids) can).0 in
+    (ends_share_leader g.C.PartialEq.eq ids) can).0 in
     rw (c.in_ok-extend_by_ends.ensures.ok, ← c.self.view_is)
-        (extend_fills g.C.Ord.cmp g.C.PartialEq.eq g.met.C.Ord.total g.met.C.Ord.matches_eq g.met.C.Eq.laws c.self.inside.key_log_ids.items
-            ids (is_key_list g.C.Ord.cmp c.self.inside.key_log_ids.items c.self.invariant) follow)
+    (extend_fills g.C.Ord.cmp g.C.PartialEq.eq g.met.C.Ord.total g.met.C.Ord.matches_eq g.met.C.Eq.laws c.self.inside.key_log_ids.items
+    ids (is_key_list g.C.Ord.cmp c.self.inside.key_log_ids.items c.self.invariant) follow)
 
 pub returns-clause-last : goal.returns-clause-last
 returns-clause-last g c =
     let ids = (map g.LID.RaftLogId.id_of c.args.new_ids.now) in
     let can = rw (← c.self.view_is) at c.requires in
     let follow = (both (all_follow g.C.Ord.cmp (last_id (full_log c.self.inside.key_log_ids.items)) ids)
-            (ends_share_leader g.C.PartialEq.eq ids) can).0 in
+    (ends_share_leader g.C.PartialEq.eq ids) can).0 in
     rw (c.in_ok-extend_by_ends.ensures.ok, ← c.self.view_is)
-        (extend_ends g.C.Ord.cmp g.C.PartialEq.eq g.met.C.Ord.total g.met.C.Ord.matches_eq g.met.C.Eq.laws c.self.inside.key_log_ids.items
-            ids (is_key_list g.C.Ord.cmp c.self.inside.key_log_ids.items c.self.invariant) follow)
+    (extend_ends g.C.Ord.cmp g.C.PartialEq.eq g.met.C.Ord.total g.met.C.Ord.matches_eq g.met.C.Eq.laws c.self.inside.key_log_ids.items
+    ids (is_key_list g.C.Ord.cmp c.self.inside.key_log_ids.items c.self.invariant) follow)
 
 pub returns-clause-not_lowered : goal.returns-clause-not_lowered
 returns-clause-not_lowered g c =
@@ -61,9 +61,13 @@ returns-clause-not_lowered g c =
     let are = is_key_list g.C.Ord.cmp keys c.self.invariant in
     let can = rw (← c.self.view_is) at c.requires in
     let follow = (both (all_follow g.C.Ord.cmp (last_id (full_log keys)) ids) (ends_share_leader g.C.PartialEq.eq ids) can).0 in
-    rw (c.in_ok-extend_by_ends.ensures.ok, ← c.self.view_is, extend_ends g.C.Ord.cmp g.C.PartialEq.eq g.met.C.Ord.total
-            g.met.C.Ord.matches_eq g.met.C.Eq.laws keys ids are follow)
-        (extend_raises g.met.C.Ord.total (last_id (full_log keys)) ids follow)
+    rw (
+      c.in_ok-extend_by_ends.ensures.ok,
+      ← c.self.view_is,
+      extend_ends g.C.Ord.cmp g.C.PartialEq.eq g.met.C.Ord.total
+          g.met.C.Ord.matches_eq g.met.C.Eq.laws keys ids are follow,
+    )
+    (extend_raises g.met.C.Ord.total (last_id (full_log keys)) ids follow)
 
 pub returns-clause-kept : goal.returns-clause-kept
 returns-clause-kept g c =
@@ -74,8 +78,8 @@ returns-clause-kept g c =
     let follow = (both (all_follow g.C.Ord.cmp (last_id (full_log keys)) ids) (ends_share_leader g.C.PartialEq.eq ids) can).0 in
     let new = extend_fills g.C.Ord.cmp g.C.PartialEq.eq g.met.C.Ord.total g.met.C.Ord.matches_eq g.met.C.Eq.laws keys ids are follow in
     rw (c.in_ok-extend_by_ends.ensures.ok, ← c.self.view_is)
-        (extend_keeps_ids g.C.Ord.cmp g.C.PartialEq.eq (full_log keys) (full_log (keys_after_extend g.C.PartialEq.eq keys ids)) ids new
-            follow)
+    (extend_keeps_ids g.C.Ord.cmp g.C.PartialEq.eq (full_log keys) (full_log (keys_after_extend g.C.PartialEq.eq keys ids)) ids new
+    follow)
 
 pub returns-clause-own : goal.returns-clause-own
 returns-clause-own g c =
@@ -87,4 +91,4 @@ returns-clause-own g c =
     let new = extend_fills g.C.Ord.cmp g.C.PartialEq.eq g.met.C.Ord.total g.met.C.Ord.matches_eq g.met.C.Eq.laws keys ids are follow in
     let ends = ends_there (first_index (full_log keys)) (full_log keys) (from_first g.C.Ord.cmp keys are) in
     rw c.in_ok-extend_by_ends.ensures.ok (extend_has_ids g.C.Ord.cmp g.C.PartialEq.eq (full_log keys)
-            (full_log (keys_after_extend g.C.PartialEq.eq keys ids)) ids new follow ends)
+    (full_log (keys_after_extend g.C.PartialEq.eq keys ids)) ids new follow ends)

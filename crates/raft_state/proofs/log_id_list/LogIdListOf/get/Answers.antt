@@ -7,7 +7,13 @@ use Rattle.raft_state.proofs.log_id_list.LogIdListOf.get.Goals as goal
 pub returns-clause-found : goal.returns-clause-found
 returns-clause-found g c =
     let keys = c.self.inside.key_log_ids.items in
-    rw (c.get.ensures, c.deref.ensures.value, ← c.self.view_is, first_full g.C.Ord.cmp keys 0
-            (is_key_list g.C.Ord.cmp c.self.inside.key_log_ids.items c.self.invariant), next_of_last (full_log keys) keys
-            (last_full g.C.Ord.cmp keys (is_key_list g.C.Ord.cmp c.self.inside.key_log_ids.items c.self.invariant)))
+    rw (
+      c.get.ensures,
+      c.deref.ensures.value,
+      ← c.self.view_is,
+      first_full g.C.Ord.cmp keys 0
+          (is_key_list g.C.Ord.cmp c.self.inside.key_log_ids.items c.self.invariant),
+      next_of_last (full_log keys) keys
+          (last_full g.C.Ord.cmp keys (is_key_list g.C.Ord.cmp c.self.inside.key_log_ids.items c.self.invariant)),
+    )
     (there_within g.C.Ord.cmp keys c.args.index (is_key_list g.C.Ord.cmp c.self.inside.key_log_ids.items c.self.invariant))

@@ -12,7 +12,7 @@ returns-then-eq-clause-ok g c =
     let y = c.index-then-count-ge2.result.now in
     ap (λ at. set c.args.keys.now.items at c.args.id) place
     ∙ gives_way g.C.PartialEq.eq g.met.C.Eq.laws.refl c.args.keys.now.items n c.args.id c.index.result.now y len c.index.ensures
-        (rw place at c.index-then-count-ge2.ensures) (sym c.eq.ensures ∙ c.if-eq.true)
+    (rw place at c.index-then-count-ge2.ensures) (sym c.eq.ensures ∙ c.if-eq.true)
 
 pub returns-in_ok-push-clause-ok : goal.returns-in_ok-push-clause-ok
 returns-in_ok-push-clause-ok g c =
@@ -21,7 +21,7 @@ returns-in_ok-push-clause-ok g c =
       | else-count-ge2-via-then-count-ge2+else-eq w ↦
           (let at1 : w.index-then-count-ge2.result.now ≡ get_or c.args.keys.now.items (suc n) w.index-then-count-ge2.result.now =
           (let p : c.len-count.result - 1 ≡ suc n = omega (arith, c.len-count.ensures, c.args.keys.now.ok.0) in
-                  rw p at w.index-then-count-ge2.ensures) in
+          rw p at w.index-then-count-ge2.ensures) in
           let at2 : w.index.result.now ≡ get_or c.args.keys.now.items n w.index.result.now =
           (let p : c.len-count.result - 2 ≡ n = omega (arith, c.len-count.ensures, c.args.keys.now.ok.0) in rw p at w.index.ensures) in
           (w.index.result.now, w.index-then-count-ge2.result.now, at2, at1, sym w.eq.ensures ∙ w.if-eq.false))
@@ -35,7 +35,7 @@ returns-in_err-push-clause-no_memory g c shared =
       | else-count-ge2-via-then-count-ge2+else-eq w ↦
           (let at1 : w.index-then-count-ge2.result.now ≡ get_or c.args.keys.now.items (suc n) w.index-then-count-ge2.result.now =
           (let p : c.len-count.result - 1 ≡ suc n = omega (arith, c.len-count.ensures, c.args.keys.now.ok.0) in
-                  rw p at w.index-then-count-ge2.ensures) in
+          rw p at w.index-then-count-ge2.ensures) in
           let at2 : w.index.result.now ≡ get_or c.args.keys.now.items n w.index.result.now =
           (let p : c.len-count.result - 2 ≡ n = omega (arith, c.len-count.ensures, c.args.keys.now.ok.0) in rw p at w.index.ensures) in
           (w.index.result.now, w.index-then-count-ge2.result.now, at2, at1, sym w.eq.ensures ∙ w.if-eq.false))

@@ -12,7 +12,7 @@ returns-then-eq g c =
     let n : length ks ≡ suc (suc (length ks - 2)) = omega arith in
     let one : length ks - 1 ≡ suc (length ks - 2) = omega arith in
     take_rest ks (length ks - 2) ∙ sym (last_two g.C.PartialEq.eq ks (length ks - 2) c.index-keys-count.result c.index-keys-count-2.result
-            true n (rw one at (sym c.eq.ensures ∙ c.if-eq.true)))
+    true n (rw one at (sym c.eq.ensures ∙ c.if-eq.true)))
 
 pub returns : goal.returns
 returns g c =
@@ -20,5 +20,5 @@ returns g c =
     let n : length ks ≡ suc (suc (length ks - 2)) = omega arith in
     let one : length ks - 1 ≡ suc (length ks - 2) = omega arith in
     take_rest ks (length ks - 1) ∙ rw one
-        (sym (last_two g.C.PartialEq.eq ks (length ks - 2) c.index-keys-count.result c.index-keys-count-2.result false n
-            (rw one at (sym c.eq.ensures ∙ c.if-eq.false))))
+    (sym (last_two g.C.PartialEq.eq ks (length ks - 2) c.index-keys-count.result c.index-keys-count-2.result false n
+    (rw one at (sym c.eq.ensures ∙ c.if-eq.false))))

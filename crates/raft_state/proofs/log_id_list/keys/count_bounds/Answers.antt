@@ -21,6 +21,6 @@ halved least size n l one s at_least at_most within e = elim (cases_lt (least + 
 pub loop-size-preserved : goal.loop-size-preserved
 loop-size-preserved g c =
     let place = counted_by_place 0 c.args.keys.now _ c.args.index (c.loop-size.least + c.loop-size.size / 2) c.index-keys-least.result
-        c.requires (omega arith) in
+    c.requires (omega arith) in
     halved _ _ (keys_to c.args.keys.now c.args.index) (length c.args.keys.now) _ c.loop-size-test.true c.loop-size.invariant.0
-        c.loop-size.invariant.1 c.loop-size.invariant.2 (rw (← place) c.one_if_at_most.ensures)
+    c.loop-size.invariant.1 c.loop-size.invariant.2 (rw (← place) c.one_if_at_most.ensures)

@@ -25,11 +25,11 @@ loop-key-preserved g c =
     let within = c.loop-key-test.true in
     let so_far : c.loop-key.count ≡ _ = c.loop-key.invariant in
     let is : key ≡ get_or keys (least + i) key =
-        c.key-item.is ∙ get_or-take count (drop least keys) i key (omega (arith, len)) ∙ get_or-drop least keys i key in
+    c.key-item.is ∙ get_or-take count (drop least keys) i key (omega (arith, len)) ∙ get_or-drop least keys i key in
     let place = rw (← is) at (counted_by_place 0 keys _ c.args.index (least + i) key c.requires (omega (arith, len, rest))) in
     elim c.if-key-index.branch [
       | then-key-index w ↦ (let below = below_count _ _ _ _ place w.if-key-index.true in let new = w.count-is in
-              omega (arith, so_far, new, below))
+          omega (arith, so_far, new, below))
       | else-key-index w ↦ (let past = past_count _ _ _ _ place w.if-key-index.false in let new = w.count-is in
-              omega (arith, so_far, new, past))
+          omega (arith, so_far, new, past))
     ]

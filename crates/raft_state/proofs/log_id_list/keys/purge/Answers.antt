@@ -8,7 +8,7 @@ pub returns-then-index-upto-clause-ok : goal.returns-then-index-upto-clause-ok
 returns-then-index-upto-clause-ok g c =
     let len : length c.args.keys.now.items ≡ c.len-count.result = omega (arith, c.len-count.ensures, c.args.keys.now.ok.0) in
     rw c.truncate.ensures.items (purged_past c.args.keys.now.items c.args.upto c.index.result.now (omega (arith, len, c.if-count-eq0.false))
-            (rw (← len) at c.index.ensures) c.if-index-upto.true)
+    (rw (← len) at c.index.ensures) c.if-index-upto.true)
 
 pub count_to-covered-requires : goal.count_to-covered-requires
 count_to-covered-requires g c = rw c.deref.ensures.value
@@ -19,7 +19,7 @@ returns-then-covered-eq0-clause-ok g c =
     let len : length c.args.keys.now.items ≡ c.len-count.result = omega (arith, c.len-count.ensures, c.args.keys.now.ok.0) in
     let count = rw c.deref.ensures.value at c.count_to-covered.ensures.count in
     purged_none c.args.keys.now.items c.args.upto c.index.result.now c.count_to-covered.result (omega (arith, len, c.if-count-eq0.false))
-        (rw (← len) at c.index.ensures) c.if-index-upto.false count c.if-covered-eq0.true
+    (rw (← len) at c.index.ensures) c.if-index-upto.false count c.if-covered-eq0.true
 
 pub returns-clause-ok : goal.returns-clause-ok
 returns-clause-ok g c =
@@ -27,6 +27,6 @@ returns-clause-ok g c =
     let count = rw c.deref.ensures.value at c.count_to-covered.ensures.count in
     let bound = rw c.deref.ensures.value at c.count_to-covered.ensures.bound in
     rw (c.truncate-2.ensures.items, c.rotate_left.ensures.items, c.new.ensures, ← len)
-        (purged_moved c.args.keys.now.items c.args.upto c.index.result.now c.index-2.result.now c.count_to-covered.result
-            (omega (arith, len, c.if-count-eq0.false)) (rw (← len) at c.index.ensures) c.if-index-upto.false count c.if-covered-eq0.false
-            bound c.index-2.ensures)
+    (purged_moved c.args.keys.now.items c.args.upto c.index.result.now c.index-2.result.now c.count_to-covered.result
+    (omega (arith, len, c.if-count-eq0.false)) (rw (← len) at c.index.ensures) c.if-index-upto.false count c.if-covered-eq0.false
+    bound c.index-2.ensures)

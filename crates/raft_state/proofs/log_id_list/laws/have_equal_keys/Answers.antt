@@ -8,5 +8,5 @@ returns-clause-logs g c =
     let first = is_key_list g.C.Ord.cmp c.args.a.now (rw c.key_log_ids.ensures.keys at c.key_log_ids.ensures.canonical) in
     let second = is_key_list g.C.Ord.cmp c.args.b.now (rw c.key_log_ids-2.ensures.keys at c.key_log_ids-2.ensures.canonical) in
     c.eq.ensures ∙ rw (c.key_log_ids.ensures.keys, c.key_log_ids-2.ensures.keys)
-        (keys_decide g.C.Ord.cmp g.C.PartialEq.eq g.met.C.Ord.total g.met.C.Ord.matches_eq g.met.C.Eq.laws c.args.a.now c.args.b.now first
-            second)
+    (keys_decide g.C.Ord.cmp g.C.PartialEq.eq g.met.C.Ord.total g.met.C.Ord.matches_eq g.met.C.Eq.laws c.args.a.now c.args.b.now first
+    second)

@@ -6,4 +6,4 @@ pub returns : goal.returns
 returns g c =
     let keys = is_key_list g.C.Ord.cmp c.args.list.now (rw c.key_log_ids-keys.ensures.keys at c.key_log_ids-keys.ensures.canonical) in
     purged_log_begins g.C.Ord.cmp g.C.PartialEq.eq g.met.C.Ord.total g.met.C.Ord.matches_eq g.met.C.Eq.laws c.args.list.now c.args.upto.now
-        keys
+    keys

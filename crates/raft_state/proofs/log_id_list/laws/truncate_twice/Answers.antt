@@ -6,4 +6,4 @@ use Rattle.raft_state.proofs.log_id_list.laws.truncate_twice.Goals as goal
 
 pub returns : goal.returns
 returns g c = c.truncate-2.ensures.log ∙ (ap (λ log. front log c.args.at) c.truncate.ensures.log
-        ∙ front_twice (full_log c.args.list.now) c.args.at)
+    ∙ front_twice (full_log c.args.list.now) c.args.at)

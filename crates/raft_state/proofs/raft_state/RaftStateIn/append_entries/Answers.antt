@@ -11,8 +11,8 @@ returns-clause-valid g c valid =
     let may = both _ _ c.requires.may in
     let ids = both _ _ may.0 in
     extended_stays_valid g.C.Ord.cmp g.C.PartialEq.eq g.met.C.Ord.total g.met.C.Ord.matches_eq s (map g.Ent.RaftLogId.id_of es)
-        c.extend.new.self c.in_ok-membership_state.membership_state
+    c.extend.new.self c.in_ok-membership_state.membership_state
     c.in_ok-extend.ensures.ok c.in_ok-extend.ensures.last ids.0 ids.1
     (λ old. appended_stay g.C.Ord.cmp g.NID.PartialEq.eq g.N.PartialEq.eq g.Ent.RaftLogId.id_of g.Ent.RaftPayload.membership es
-            s.membership_state c.in_ok-membership_state.membership_state
+    s.membership_state c.in_ok-membership_state.membership_state
     may.1 c.in_ok-membership_state.ensures old) valid

@@ -10,4 +10,4 @@ catch_up_entry-requires-clause-logged g c =
 
 pub catch_up_entry-requires-clause-can : goal.catch_up_entry-requires-clause-can
 catch_up_entry-requires-clause-can g c = (tested g.C.PartialEq.eq g.C.Ord.cmp c.args.self.now c.args.entry.now c.args.agree
-        c.args.max_entries c.requires).2
+    c.args.max_entries c.requires).2

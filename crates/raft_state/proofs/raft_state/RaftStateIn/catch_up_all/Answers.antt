@@ -22,15 +22,18 @@ loop-follower-preserved g c =
     drop_more pairs c.loop-follower.follower-index pair c.loop-follower-test.true ∙ ap (λ p. p ∷ left) (sym c.follower-item.is) in
     let here = rw more at c.loop-follower.invariant.along in
     record {
-      small = elim c.if-visit.branch [ then-visit w ↦ (let n = w.count-is in omega arith) | else-visit w ↦
-              (let n = w.count-is in omega arith) ];
+      small = elim c.if-visit.branch [
+        | then-visit w ↦ (let n = w.count-is in omega arith)
+        | else-visit w ↦
+            (let n = w.count-is in omega arith)
+      ];
       ordered = c.visit.ensures.ordered;
       along = elim c.if-visit.branch [
         | then-visit w ↦ rw w.count-is (along_ran g.met.NID.Eq.laws g.C.Ord.cmp g.QS.QuorumSet.has_quorum log c.args.max_entries can
-                g.C.PartialEq.eq old pairs
+            g.C.PartialEq.eq old pairs
             c.loop-follower.count now pair left next here w.if-visit.ensures.visited (w.if-visit.ensures.caught_up refl))
         | else-visit w ↦ rw w.count-is (along_over g.met.NID.Eq.laws g.C.Ord.cmp g.QS.QuorumSet.has_quorum log c.args.max_entries can
-                g.C.PartialEq.eq old pairs
+            g.C.PartialEq.eq old pairs
             c.loop-follower.count now pair left next here w.if-visit.ensures.visited)
       ];
     }
@@ -44,7 +47,7 @@ returns-clause-round g c =
     let pairs = c.args.followers.now in
     let end = rw (drop_all c.loop-follower.follower-index pairs c.loop-follower-test.false) at c.loop-follower.invariant.along in
     let round = round_of g.met.NID.Eq.laws g.C.Ord.cmp g.QS.QuorumSet.has_quorum log c.args.max_entries can g.C.PartialEq.eq old pairs
-        c.loop-follower.count now end in (
+    c.loop-follower.count now end in (
       end.ran,
       round_end g.met.NID.Eq.laws g.C.Ord.cmp g.met.C.Ord.total g.met.C.Eq.laws.refl g.met.C.Ord.matches_eq log c.args.max_entries can
           g.QS.QuorumSet.has_quorum g.met.QS.QuorumSet.superset

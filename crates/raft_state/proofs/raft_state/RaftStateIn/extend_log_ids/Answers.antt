@@ -6,5 +6,5 @@ pub returns-clause-valid : goal.returns-clause-valid
 returns-clause-valid g c valid zero =
     let s = c.args.self.now in
     extended_stays_valid g.C.Ord.cmp g.C.PartialEq.eq g.met.C.Ord.total g.met.C.Ord.matches_eq s
-        (map g.LID.RaftLogId.id_of c.args.new_log_ids.now) c.extend.new.self s.membership_state
+    (map g.LID.RaftLogId.id_of c.args.new_log_ids.now) c.extend.new.self s.membership_state
     c.in_ok-extend.ensures.ok c.in_ok-extend.ensures.last c.requires zero (λ members. members) valid

@@ -7,6 +7,6 @@ pub returns-clause-valid : goal.returns-clause-valid
 returns-clause-valid g c valid zero =
     let s = c.args.self.now in
     extended_stays_valid g.C.Ord.cmp g.C.PartialEq.eq g.met.C.Ord.total g.met.C.Ord.matches_eq s
-        (map g.LID.RaftLogId.id_of c.args.new_log_ids.now) c.extend_from_same_leader.new.self s.membership_state
+    (map g.LID.RaftLogId.id_of c.args.new_log_ids.now) c.extend_from_same_leader.new.self s.membership_state
     c.in_ok-extend_from_same_leader.ensures.ok c.in_ok-extend_from_same_leader.ensures.last (both _ _ c.requires).0 zero
-        (λ members. members) valid
+    (λ members. members) valid

@@ -11,7 +11,7 @@ log_ids_from-requires-clause-may_purge g c lifetimes outlive =
     let keys = is_key_list g.C.Ord.cmp s.log_ids canonical in
     let may = rw c.in-Some.is at c.requires.may in
     purge_fits g.C.Ord.cmp g.C.PartialEq.eq g.met.C.Ord.total g.met.C.Ord.matches_eq (λ x y same. sym (g.met.C.Eq.laws.symm x y) ∙ same) s
-        c.in-Some.upto c.args.meta.last_membership keys (both _ _ may).1
+    c.in-Some.upto c.args.meta.last_membership keys (both _ _ may).1
 
 pub update_accepted-requires-clause-committed : goal.update_accepted-requires-clause-committed
 update_accepted-requires-clause-committed g c lifetimes outlive =
@@ -32,7 +32,7 @@ returns-clause-valid g c valid =
     let first = both _ _ (both _ _ (both _ _ may).0).0 in
     let copied = c.in_ok-snapshot_meta.ensures.last_log_id ∙ c.in-Some.is in
     install_stays_valid g.C.Ord.cmp g.C.PartialEq.eq g.met.C.Ord.total g.met.C.Ord.matches_eq
-        (λ x y same. sym (g.met.C.Eq.laws.symm x y) ∙ same) s c.in-Some.upto c.args.meta.last_membership
+    (λ x y same. sym (g.met.C.Eq.laws.symm x y) ∙ same) s c.in-Some.upto c.args.meta.last_membership
     c.in_ok-log_ids.log_ids c.in_ok-membership_state.membership_state c.update_accepted.new.self.accepted
-        c.in_ok-snapshot_meta.snapshot_meta keys c.in_ok-log_ids.ensures (rw c.membership_of.ensures at c.in_ok-membership_state.ensures)
-        copied first.0 first.1 (both _ _ may).1 valid
+    c.in_ok-snapshot_meta.snapshot_meta keys c.in_ok-log_ids.ensures (rw c.membership_of.ensures at c.in_ok-membership_state.ensures)
+    copied first.0 first.1 (both _ _ may).1 valid

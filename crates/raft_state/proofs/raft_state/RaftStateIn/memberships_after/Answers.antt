@@ -20,7 +20,7 @@ append-requires-after_bounds g c lifetimes outlive =
     drop_more es c.loop-entry.entry-index entry c.loop-entry-test.true ∙ ap (λ e. e ∷ left) (sym c.entry-item.is) in
     let stores = sym (rw c.in-Some.is at c.get_membership.ensures) in
     let follow = one_follows g.C.Ord.cmp g.Ent.RaftLogId.id_of g.Ent.RaftPayload.membership (log_id_of c.loop-entry.memberships.effective)
-        entry left c.in-Some.membership.now stores (rw more at c.loop-entry.invariant.follow) in
+    entry left c.in-Some.membership.now stores (rw more at c.loop-entry.invariant.follow) in
     rw (c.in_ok-effective.ensures.log_id, c.get_log_id.ensures) follow.0
 
 pub loop-entry-preserved : goal.loop-entry-preserved
@@ -34,24 +34,24 @@ loop-entry-preserved g c =
       | in-Some+in_ok-try_clone+in_ok-effective w ↦ (
           let stores = sym (rw w.in-Some.is at c.get_membership.ensures) in
           let follow = one_follows g.C.Ord.cmp g.Ent.RaftLogId.id_of g.Ent.RaftPayload.membership
-              (log_id_of c.loop-entry.memberships.effective) entry left w.in-Some.membership.now stores
-              (rw more at c.loop-entry.invariant.follow) in
+          (log_id_of c.loop-entry.memberships.effective) entry left w.in-Some.membership.now stores
+          (rw more at c.loop-entry.invariant.follow) in
           let id = w.in_ok-effective.ensures.log_id ∙ ap Some w.get_log_id.ensures in
           let equal : IsTrue (same_members g.NID.PartialEq.eq g.N.PartialEq.eq w.in-Some.membership.now
-                  (membership_of w.in_ok-effective.effective.value)) =
+          (membership_of w.in_ok-effective.effective.value)) =
           rw w.in_ok-effective.ensures.membership w.in_ok-try_clone.ensures.equal in
           record {
             follow = rw (w.memberships-is, w.append.ensures, id) follow.1;
             appended = λ new rest. c.loop-entry.invariant.appended new
                 (rw more (one_appended g.NID.PartialEq.eq g.N.PartialEq.eq g.Ent.RaftLogId.id_of g.Ent.RaftPayload.membership entry left
                 w.in-Some.membership.now w.in_ok-effective.effective.value c.loop-entry.memberships new stores (id, equal)
-                    (rw (w.memberships-is, w.append.ensures) at rest)));
+                (rw (w.memberships-is, w.append.ensures) at rest)));
           })
       | in_default w ↦ (
           let stores = sym (rw w.in_default.is at c.get_membership.ensures) in
           record {
             follow = rw w.memberships-is (none_follows g.C.Ord.cmp g.Ent.RaftLogId.id_of g.Ent.RaftPayload.membership
-                    (log_id_of c.loop-entry.memberships.effective) entry left stores (rw more at c.loop-entry.invariant.follow));
+                (log_id_of c.loop-entry.memberships.effective) entry left stores (rw more at c.loop-entry.invariant.follow));
             appended = λ new rest. c.loop-entry.invariant.appended new
                 (rw more (none_appended g.NID.PartialEq.eq g.N.PartialEq.eq g.Ent.RaftLogId.id_of g.Ent.RaftPayload.membership entry left
                 c.loop-entry.memberships new stores (rw w.memberships-is at rest)));

@@ -7,10 +7,10 @@ use Rattle.raft_state.proofs.raft_state.RaftStateIn.memberships_after.Given as g
 abbrev pub invariant-loop-entry : goal.invariant-loop-entry
 invariant-loop-entry g l = record {
   follow : IsTrue (memberships_follow g.C.Ord.cmp g.Ent.RaftLogId.id_of (λ e. is_some (g.Ent.RaftPayload.membership e))
-          (log_id_of l.memberships.effective) (drop l.entry-index l.entries));
+      (log_id_of l.memberships.effective) (drop l.entry-index l.entries));
   appended : (new : Memberships g.row.C.Denot g.row.NID.Denot g.row.N.Denot)
       → AppendsMemberships g.NID.PartialEq.eq g.N.PartialEq.eq g.Ent.RaftLogId.id_of g.Ent.RaftPayload.membership
-          (drop l.entry-index l.entries) l.memberships new
+      (drop l.entry-index l.entries) l.memberships new
       → AppendsMemberships g.NID.PartialEq.eq g.N.PartialEq.eq g.Ent.RaftLogId.id_of g.Ent.RaftPayload.membership l.entries
-          l.fn.self.membership_state new;
+      l.fn.self.membership_state new;
 }

@@ -10,4 +10,4 @@ returns-clause-valid g c valid =
     let canonical = rw c.key_log_ids-keys.ensures.keys at c.key_log_ids-keys.ensures.canonical in
     let row = from_first g.C.Ord.cmp s.log_ids (is_key_list g.C.Ord.cmp s.log_ids canonical) in
     cut_stays_valid g.met.C.Ord.total s c.args.since (first_index (full_log s.log_ids)) c.truncate.new.self c.revert.new.self row
-        c.truncate.ensures.log c.in_ok-reverted.ensures.ok c.requires valid
+    c.truncate.ensures.log c.in_ok-reverted.ensures.ok c.requires valid

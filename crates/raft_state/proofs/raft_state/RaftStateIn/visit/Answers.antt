@@ -27,7 +27,7 @@ returns-else-not-can_catch_up-clause-visited g c =
 pub returns-else-not-can_catch_up-clause-caught_up : goal.returns-else-not-can_catch_up-clause-caught_up
 returns-else-not-can_catch_up-clause-caught_up g c = λ _.
     let known : (state g.NID.PartialEq.eq (shown c.args.progress.now)).value c.args.id.now ≡ Some c.in-Some.found =
-        sym c.try_get.ensures ∙ sym c.copied.ensures ∙ c.in-Some.is in
+    sym c.try_get.ensures ∙ sym c.copied.ensures ∙ c.in-Some.is in
     let written = writes g.NID.PartialEq.eq _ _ (shown c.args.progress.now) (shown c.update.follows.lender-at-none) c.args.id.now
-        c.in-Some.found c.catch_up.new.entry c.update.follows.holds-at-none.updated known in
+    c.in-Some.found c.catch_up.new.entry c.update.follows.holds-at-none.updated known in
     (c.catch_up.new.entry, written.value c.args.id.now ∙ rw (g.met.NID.Eq.laws.refl c.args.id.now) refl, c.catch_up.ensures.caught_up)

@@ -7,7 +7,7 @@ use Rattle.raft_members.proofs.membership.effective.EffectiveMembershipOf.of_sto
 pub invariant_of-result : goal.invariant_of-result
 invariant_of-result g c =
     let stored_is : c.membership-membership.result.now ≡ membership_of c.args.stored.value =
-        c.membership-membership.ensures ∙ ap membership_of c.deref.ensures in
+    c.membership-membership.ensures ∙ ap membership_of c.deref.ensures in
     record {
       configs = c.in_ok-quorum_set.ensures.configs ∙ ap (λ m. m.configs) stored_is;
       ascending = c.in_ok-voter_ids-2.ensures.ascending;

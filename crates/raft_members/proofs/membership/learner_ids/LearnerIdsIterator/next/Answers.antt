@@ -11,10 +11,10 @@ pub loop-id-preserved : goal.loop-id-preserved
 loop-id-preserved g c = (
   c.loop-id.invariant.0,
   sym (left_out (λ k. not (is_voter_of g.NID.PartialEq.eq (map (λ s. s.keys) c.args.self.now.configs.now) k)) c.in-Some.id.now
-          c.next.new.self
+      c.next.new.self
       (ap not (ap (λ q. is_voter_of g.NID.PartialEq.eq (map (λ s. s.keys) q.now) c.in-Some.id.now) (sym c.loop-id.invariant.0)
-              ∙ sym c.has_id.ensures ∙ c.if-not-has_id.false)))
+      ∙ sym c.has_id.ensures ∙ c.if-not-has_id.false)))
       ∙ ap (filter (λ k. not (is_voter_of g.NID.PartialEq.eq (map (λ s. s.keys) c.args.self.now.configs.now) k)))
-          (sym c.in-Some.ensures.steps)
+      (sym c.in-Some.ensures.steps)
       ∙ c.loop-id.invariant.1,
 )
