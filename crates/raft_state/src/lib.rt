@@ -9,11 +9,14 @@ pub mod entry;
 pub mod install;
 pub mod io_state;
 pub mod laws;
+pub mod leads;
+pub mod log;
 pub mod log_id_list;
 pub mod membership_state;
 pub mod raft_state;
 pub mod snapshot_meta;
 pub mod truncate;
+pub mod validate;
 pub mod vote_state_reader;
 
 pub use accepted::{Accepted, AcceptedIn, AcceptedOf};

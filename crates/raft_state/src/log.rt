@@ -1,0 +1,210 @@
+//! The edits and the look-ups of a state's log: appending log ids, committing, finding conflicts, and
+//! purging.
+ghost use Rattle.std.specs.Prelude.{◌≡◌, ◌+◌, ◌≤◌, true, false, IsTrue, IfOk, IfSome, IsOk, OnOk, OnErr, None, Some, [], map, length, take, slice_get};
+ghost use Rattle.std.specs.List.{list_all};
+ghost use Rattle.std.specs.Option.{option_or};
+ghost use Rattle.raft_base.specs.LogId.{id_le};
+ghost use Rattle.raft_base.specs.LogView.{has_id, may_ask};
+ghost use Rattle.raft_state.specs.Appended.{begins_at_zero};
+ghost use Rattle.raft_state.specs.Commit.{state_after_commit, committed_before, state_commits, state_may_commit};
+ghost use Rattle.raft_state.specs.FirstDenied.{first_denied};
+ghost use Rattle.raft_state.specs.FullLog.{full_log, same_log};
+ghost use Rattle.raft_state.specs.LogConditions.{all_follow, all_follow_of_one_leader};
+ghost use Rattle.raft_state.specs.LogEdits.{log_after_extend, log_after_purge};
+ghost use Rattle.raft_state.specs.LogReads.{last_id};
+ghost use Rattle.raft_state.specs.Purge.{first_after_purge, may_purge};
+ghost use Rattle.raft_state.specs.StateView.{view_of};
+ghost use Rattle.raft_state.specs.Valid.{broken_relation};
+
+use crate::raft_state::RaftStateIn;
+use raft_base::order::log_id_below;
+use raft_base::{Instant, LeaderIdentity, LogIdOf, LogStateReader, Node, NodeId, RaftLogId};
+use std::alloc::AllocError;
+
+impl<
+    NID: NodeId,
+    N: Node,
+    I: Instant,
+    C: Ord + Copy + Default + Drop + 'static,
+    L: LeaderIdentity<Id = NID, Committed = C> + Drop,
+> RaftStateIn<NID, N, I, L, C> {
+    /// Appends log ids of one leader to the log, as `LogIdListOf::extend_from_same_leader`;
+    /// `log_ids.can_extend_from_same_leader` tests them.
+    ///
+    /// A valid state stays valid, but an empty log has to begin at index 0. Memberships stay as they
+    /// are: whoever appends entries that store memberships makes these effective too, as
+    /// `append_entries` does; else the state is valid, and counts by old quorums.
+    pub fn extend_log_ids_from_same_leader<LID: RaftLogId<C>>(
+        &mut self,
+        new_log_ids: &[LID],
+    ) -> Result<(), AllocError>
+        requires { IsTrue (all_follow_of_one_leader C.cmp C.eq
+            (last_id (full_log self.old.log_ids)) (map LID.id_of new_log_ids.now)) }
+        ensures log { OnOk result (IsTrue (same_log C.eq (full_log self.new.log_ids)
+            (log_after_extend (full_log self.old.log_ids) (map LID.id_of new_log_ids.now)))) }
+        ensures last { OnOk result (last_id (full_log self.new.log_ids)
+            ≡ option_or (last_id (map LID.id_of new_log_ids.now))
+            (last_id (full_log self.old.log_ids))) }
+        ensures rest { self.new ≡ record self.old { log_ids = self.new.log_ids } }
+        ensures err { OnErr result (self.new ≡ self.old) }
+        ensures valid { broken_relation C.cmp self.old ≡ None → IsTrue
+            (begins_at_zero (full_log self.old.log_ids) (map LID.id_of new_log_ids.now)) →
+            broken_relation C.cmp self.new ≡ None }
+        ensures no_memory { new_log_ids.now ≡ [] → IsOk result }
+    {
+        self.log_ids.extend_from_same_leader(new_log_ids)?;
+        Ok(())
+    }
+
+    /// Appends log ids to the log, as `LogIdListOf::extend`; `log_ids.can_extend` tests them.
+    ///
+    /// Memberships stay as they are, and a valid state valid, as with
+    /// `extend_log_ids_from_same_leader`.
+    pub fn extend_log_ids<LID: RaftLogId<C>>(
+        &mut self,
+        new_log_ids: &[LID],
+    ) -> Result<(), AllocError>
+        requires { IsTrue (all_follow C.cmp (last_id (full_log self.old.log_ids))
+            (map LID.id_of new_log_ids.now)) }
+        ensures log { OnOk result (IsTrue (same_log C.eq (full_log self.new.log_ids)
+            (log_after_extend (full_log self.old.log_ids) (map LID.id_of new_log_ids.now)))) }
+        ensures last { OnOk result (last_id (full_log self.new.log_ids)
+            ≡ option_or (last_id (map LID.id_of new_log_ids.now))
+            (last_id (full_log self.old.log_ids))) }
+        ensures rest { self.new ≡ record self.old { log_ids = self.new.log_ids } }
+        ensures err { OnErr result (self.new ≡ self.old) }
+        ensures valid { broken_relation C.cmp self.old ≡ None → IsTrue
+            (begins_at_zero (full_log self.old.log_ids) (map LID.id_of new_log_ids.now)) →
+            broken_relation C.cmp self.new ≡ None }
+        ensures no_memory { new_log_ids.now ≡ [] → IsOk result }
+    {
+        self.log_ids.extend(new_log_ids)?;
+        Ok(())
+    }
+
+    /// Whether `update_committed` may be called with a log id: it is not greater than the committed
+    /// one, or the memberships allow it.
+    pub fn can_commit(&self, log_id: &Option<LogIdOf<C>>) -> bool
+        ensures { result ≡ state_may_commit C.cmp log_id.now self.now }
+    {
+        if log_id_below(self.committed, *log_id) {
+            self.membership_state.can_commit(log_id)
+        } else {
+            true
+        }
+    }
+
+    /// Takes a greater committed log id, commits the effective membership if it is not past it, and
+    /// answers the log id of before. Another log id changes nothing, and nothing is answered. Only
+    /// where a membership is committed can the answer be want of memory, though sharing takes none.
+    /// Where the log id is not past the log, a valid state stays valid. It may be called where
+    /// `can_commit` is true.
+    ///
+    /// After an error nothing has changed.
+    pub fn update_committed(
+        &mut self,
+        committed: &Option<LogIdOf<C>>,
+    ) -> Result<Option<Option<LogIdOf<C>>>, AllocError>
+        requires { IsTrue (state_may_commit C.cmp committed.now self.old) }
+        ensures answer { IfOk result (λ before.
+            before ≡ committed_before C.cmp committed.now self.old) }
+        ensures ok { OnOk result (self.new ≡ state_after_commit C.cmp committed.now self.old) }
+        ensures err { OnErr result (self.new ≡ self.old) }
+        ensures valid { broken_relation C.cmp self.old ≡ None →
+            IsTrue (id_le C.cmp committed.now (last_id (full_log self.old.log_ids))) →
+            broken_relation C.cmp self.new ≡ None }
+        ensures no_memory { state_commits C.cmp committed.now self.old ≡ false → IsOk result }
+    {
+        if log_id_below(self.committed, *committed) {
+            let before = self.committed;
+            self.membership_state.commit(committed)?;
+            self.committed = *committed;
+            Ok(Some(before))
+        } else {
+            Ok(None)
+        }
+    }
+
+    /// Whether `first_conflicting_index` may be called with entries: `can_ask` is true of the log
+    /// id of each.
+    pub fn can_ask_all<Ent: RaftLogId<C>>(&self, entries: &[Ent]) -> bool
+        ensures { result ≡ list_all (λ e. may_ask C.cmp (view_of self.now) (Ent.id_of e))
+            entries.now }
+    {
+        for entry in entries {
+            if !self.can_ask(entry.get_log_id()) {
+                return false;
+            }
+        }
+        true
+    }
+
+    /// The place of the first entry that the log does not have, and how many entries there are
+    /// where it has them all; where `can_ask_all` is true. What is committed each log has.
+    pub fn first_conflicting_index<Ent: RaftLogId<C>>(&self, entries: &[Ent]) -> usize
+        requires { IsTrue (list_all (λ e. may_ask C.cmp (view_of self.now) (Ent.id_of e))
+            entries.now) }
+        ensures place { result ≡ first_denied (λ e. has_id C.eq (view_of self.now) (Ent.id_of e))
+            entries.now }
+        ensures within { result ≤ length entries.now }
+        ensures before { IsTrue (list_all (λ e. has_id C.eq (view_of self.now) (Ent.id_of e))
+            (take result entries.now)) }
+        ensures at { IfSome (slice_get entries.now result)
+            (λ e. has_id C.eq (view_of self.now) (Ent.id_of e) ≡ false) }
+    {
+        for (place, entry) in entries.iter().enumerate() {
+            if !self.has_entry(entry) {
+                return place;
+            }
+        }
+        entries.len()
+    }
+
+    // Whether the log has the id of an entry.
+    fn has_entry<Ent: RaftLogId<C>>(&self, entry: &Ent) -> bool
+        requires { IsTrue (may_ask C.cmp (view_of self.now) (Ent.id_of entry.now)) }
+        ensures { result ≡ has_id C.eq (view_of self.now) (Ent.id_of entry.now) }
+    {
+        self.has_log_id(entry.get_log_id())
+    }
+
+    /// Whether `purge_log` may be called with a log id: the list may be purged to it, its index is
+    /// not below the first one, and there is an index after it.
+    pub fn can_purge_log(&self, upto: &LogIdOf<C>) -> bool
+        ensures { result ≡ may_purge C.cmp (full_log self.now.log_ids) upto.now }
+    {
+        if !self.log_ids.can_purge(upto) || upto.index == u64::MAX {
+            return false;
+        }
+        match self.log_ids.first() {
+            None => true,
+            Some(first) => first.index <= upto.index,
+        }
+    }
+
+    /// Takes the log as purged up to a log id, where `can_purge_log` is true. Only an empty log
+    /// wants memory. Where the log id at that index is at most the purge point, a valid state stays
+    /// valid.
+    ///
+    /// After an error nothing has changed.
+    pub fn purge_log(&mut self, upto: &LogIdOf<C>) -> Result<(), AllocError>
+        requires { IsTrue (may_purge C.cmp (full_log self.old.log_ids) upto.now) }
+        ensures log { OnOk result
+            (full_log self.new.log_ids ≡ log_after_purge (full_log self.old.log_ids) upto.now) }
+        ensures rest { OnOk result (self.new ≡ record self.old {
+          purged_next = upto.now.index + 1;
+          log_ids = self.new.log_ids;
+        }) }
+        ensures was_empty { OnErr result (full_log self.old.log_ids ≡ []) }
+        ensures err { OnErr result (self.new ≡ self.old) }
+        ensures valid { broken_relation C.cmp self.old ≡ None → IsTrue (id_le C.cmp
+            (first_after_purge (full_log self.old.log_ids) upto.now) self.old.purge_upto) →
+            broken_relation C.cmp self.new ≡ None }
+    {
+        // Its contract says that indexes are consecutive.
+        let _keys = self.log_ids.key_log_ids();
+        self.log_ids.purge(upto)?;
+        self.purged_next = upto.index + 1;
+        Ok(())
+    }
+}

@@ -1,0 +1,124 @@
+//! When a state is valid, and what a valid one has in its log.
+ghost use Rattle.std.specs.Prelude.{◌≡◌, ℕ, true, IsTrue, None, Some};
+ghost use Rattle.raft_base.specs.Logged.{Logged};
+ghost use Rattle.raft_base.specs.LogId.{id_le, index_of};
+ghost use Rattle.raft_base.specs.LogIndex.{index_lt};
+ghost use Rattle.raft_state.specs.FullLog.{full_log};
+ghost use Rattle.raft_state.specs.LogEdits.{front};
+ghost use Rattle.raft_state.specs.LogReads.{last_id};
+ghost use Rattle.raft_state.specs.StateView.{view_of};
+ghost use Rattle.raft_state.specs.Valid.{broken_relation, fits_purged_next, none_or_logged, upto_relation};
+
+use crate::raft_state::RaftStateIn;
+use raft_base::order::{log_id_at_most, same_optional_log_ids};
+use raft_base::{
+    Instant, Invalid, LeaderIdentity, LogIdOf, LogStateReader, Node, NodeId, Validate,
+};
+
+/// The relations between the log ids of a state in turn, and then those of its memberships.
+impl<NID: NodeId, N: Node, I: Instant, L: Drop, C: Ord + Copy + Drop> Validate
+    for RaftStateIn<NID, N, I, L, C> {
+    ghost broken = { broken_relation C.cmp };
+
+    fn validate(&self) -> Result<(), Invalid> {
+        if !fits_purged_next(self.purged_next, self.log_ids.first().copied()) {
+            return Err(Invalid::PurgedNext);
+        }
+        if !log_id_at_most(self.last_purged_log_id().copied(), self.purge_upto) {
+            return Err(Invalid::LastPurgedPastUpto);
+        }
+        let snapshot = self.snapshot_meta.last_log_id;
+        let (holds, case) = upto_relation(self.purge_upto, self.committed, snapshot);
+        if !holds {
+            return Err(case);
+        }
+        if !log_id_at_most(snapshot, self.committed) {
+            return Err(Invalid::SnapshotPastCommitted);
+        }
+        if !log_id_at_most(self.committed, self.log_ids.last().copied()) {
+            return Err(Invalid::CommittedPastLast);
+        }
+        self.membership_state.validate()
+    }
+}
+
+impl<
+    NID: NodeId,
+    N: Node,
+    I: Instant,
+    C: Ord + Copy + Default + Drop + 'static,
+    L: LeaderIdentity<Id = NID, Committed = C> + Drop,
+> RaftStateIn<NID, N, I, L, C> {
+    /// Whether the purge point is absent or the log id at its index. In a valid state the log then
+    /// has each log id from there on.
+    ///
+    /// A valid state may have a purge point that is not in its log: its relations compare log ids
+    /// by their leaders first.
+    pub fn purge_upto_is_logged(&self) -> bool
+        ensures exact { result ≡ none_or_logged C.eq (view_of self.now) self.now.purge_upto }
+        ensures logged { broken_relation C.cmp self.now ≡ None → IsTrue result →
+            Logged C.cmp (view_of self.now) }
+    {
+        let _keys = self.log_ids.key_log_ids();
+        self.is_none_or_logged(self.purge_upto)
+    }
+
+    /// Whether the committed log id is absent or the log id at its index, as the last purged one is.
+    /// The log may then be cut off anywhere past it.
+    ///
+    /// A valid state may have committed a log id that is not in its log: its relations compare log
+    /// ids by their leaders first.
+    pub fn committed_is_logged(&self) -> bool
+        ensures exact { result ≡ none_or_logged C.eq (view_of self.now) self.now.committed }
+        ensures cut { IsTrue result → (since : ℕ) →
+            IsTrue (index_lt (index_of self.now.committed) (Some since)) → IsTrue (id_le C.cmp
+            self.now.committed (last_id (front (full_log self.now.log_ids) since))) }
+    {
+        // Its contract says that indexes are consecutive.
+        let _keys = self.log_ids.key_log_ids();
+        self.is_none_or_logged(self.committed)
+    }
+
+    // Whether a log id is absent or the one at its index.
+    fn is_none_or_logged(&self, log_id: Option<LogIdOf<C>>) -> bool
+        ensures { result ≡ none_or_logged C.eq (view_of self.now) log_id }
+    {
+        match log_id {
+            None => true,
+            Some(id) => same_optional_log_ids(self.log_ids.get(id.index), Some(id)),
+        }
+    }
+}
+
+// Whether the log begins at the last purged index.
+fn fits_purged_next<C: Copy>(next: u64, first: Option<LogIdOf<C>>) -> bool
+    ensures { result ≡ fits_purged_next next first }
+{
+    match first {
+        None => next == 0,
+        Some(first) => {
+            if next == 0 {
+                first.index == 0
+            } else {
+                first.index == next - 1
+            }
+        }
+    }
+}
+
+// Whether the purge point is where it may be, and the case of its breach.
+fn upto_relation<C: Ord + Copy>(
+    upto: Option<LogIdOf<C>>,
+    committed: Option<LogIdOf<C>>,
+    snapshot: Option<LogIdOf<C>>,
+) -> (bool, Invalid)
+    ensures { result ≡ upto_relation C.cmp upto committed snapshot }
+{
+    match snapshot {
+        None => (log_id_at_most(upto, committed), Invalid::UptoPastCommitted),
+        Some(snapshot) => (
+            log_id_at_most(upto, Some(snapshot)),
+            Invalid::UptoPastSnapshot,
+        ),
+    }
+}
