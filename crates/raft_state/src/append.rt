@@ -69,7 +69,7 @@ impl<
         Ok(())
     }
 
-    // Whether entries begin at index 0, if the log is empty.
+    /// Whether entries begin at index 0, if the log is empty.
     fn may_begin<Ent: RaftEntry<C, Membership<NID, N>>>(&self, entries: &[Ent]) -> bool
         ensures { result
             ≡ begins_at_zero (full_log self.now.log_ids) (map Ent.id_of entries.now) }
@@ -80,7 +80,7 @@ impl<
         }
     }
 
-    // The memberships once those of entries are effective.
+    /// The memberships once those of entries are effective.
     fn memberships_after<Ent: RaftEntry<C, Membership<NID, N>>>(
         &self,
         entries: &[Ent],
@@ -104,7 +104,8 @@ impl<
     }
 }
 
-// Whether each entry with a membership comes after the one before it, the first one after a log id.
+/// Whether each entry with a membership comes after the one before it, the first one after a log
+/// id.
 fn can_follow<C: Ord + Copy, NID: NodeId, N: Node, Ent: RaftEntry<C, Membership<NID, N>>>(
     effective: Option<LogIdOf<C>>,
     entries: &[Ent],

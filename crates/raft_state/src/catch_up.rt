@@ -55,7 +55,7 @@ impl<
             next_index (view_of self.now).last - next_index entry.old.matching in
             result.1 * max_entries < left + max_entries }
     {
-        // Its contract says that the log has all that is sent.
+        // Read for the proof alone: by its contract the log has all that is sent.
         let _is_logged = self.purge_upto_is_logged();
         catch_up_entry(self, entry, agree, max_entries)
     }
@@ -111,7 +111,10 @@ impl<
                     return false;
                 }
                 let mut entry = found;
+                // A round counts followers, so how many conflicts and acks came is of no use here.
                 let _ = self.catch_up(&mut entry, agree, max_entries);
+                // The id was found above, so this is no `Err`; what is granted the caller reads of the
+                // progress, once the round is over.
                 let _ = progress.update(id, entry);
                 true
             }

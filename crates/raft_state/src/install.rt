@@ -85,7 +85,7 @@ impl<
         let Some(upto) = last_log_id else {
             return Ok(());
         };
-        // Its contract says that indexes are consecutive.
+        // Read for the proof alone: by its contract the keys are in order.
         let _keys = self.log_ids.key_log_ids();
         let snapshot_meta = meta.try_clone()?;
         let log_ids = self.log_ids_from(upto)?;
@@ -100,7 +100,7 @@ impl<
         Ok(())
     }
 
-    // Whether a log id is past what is committed, and has an index after it.
+    /// Whether a log id is past what is committed, and has an index after it.
     fn is_past_committed(&self, upto: LogIdOf<C>) -> bool
         ensures { result ≡ is_past_committed C.cmp upto self.now }
     {
@@ -109,7 +109,7 @@ impl<
             && upto.index != u64::MAX
     }
 
-    // Whether the log may stay past a log id where it has it, and else be cut to what is committed.
+    /// Whether the log may stay past a log id where it has it, and else be cut to what is committed.
     fn can_go_over(&self, upto: LogIdOf<C>, stored: &StoredMembershipOf<C, NID, N>) -> bool
         requires { IsTrue (is_past_committed C.cmp upto self.now) }
         ensures { result ≡ may_go_over C.cmp C.eq upto stored.now self.now }
@@ -123,14 +123,14 @@ impl<
         self.can_truncate_log(since) && log_id_at_most(last_below(&self.log_ids, since), Some(upto))
     }
 
-    // Whether the log has a log id.
+    /// Whether the log has a log id.
     fn is_logged(&self, log_id: LogIdOf<C>) -> bool
         ensures { result ≡ is_logged C.eq log_id self.now }
     {
         same_optional_log_ids(self.log_ids.get(log_id.index), Some(log_id))
     }
 
-    // The log ids from the last one of a snapshot on.
+    /// The log ids from the last one of a snapshot on.
     fn log_ids_from(&self, upto: LogIdOf<C>) -> Result<LogIdListOf<C>, AllocError>
         requires past { IsTrue (is_past_committed C.cmp upto self.now) }
         requires may_purge { IsTrue
@@ -143,7 +143,7 @@ impl<
         Ok(log_ids)
     }
 
-    // The log ids that stay for a snapshot.
+    /// The log ids that stay for a snapshot.
     fn log_to_keep(&self, upto: LogIdOf<C>) -> Result<LogIdListOf<C>, AllocError>
         requires { IsTrue (is_past_committed C.cmp upto self.now) }
         ensures { IfOk result (λ log_ids. full_log log_ids ≡ log_to_keep C.eq upto self.now) }
@@ -156,7 +156,7 @@ impl<
         Ok(log_ids)
     }
 
-    // The memberships once the one of a snapshot is committed.
+    /// The memberships once the one of a snapshot is committed.
     fn memberships_with(
         &self,
         upto: LogIdOf<C>,
@@ -175,7 +175,7 @@ impl<
         Ok(memberships)
     }
 
-    // The memberships of the log that stays for a snapshot.
+    /// The memberships of the log that stays for a snapshot.
     fn memberships_to_keep(
         &self,
         upto: LogIdOf<C>,
@@ -193,7 +193,7 @@ impl<
     }
 }
 
-// The membership of a snapshot.
+/// The membership of a snapshot.
 fn membership_of<C: Copy + Drop, NID: NodeId, N: Node>(
     meta: SnapshotMetaOf<C, NID, N>,
 ) -> StoredMembershipOf<C, NID, N>
@@ -202,7 +202,7 @@ fn membership_of<C: Copy + Drop, NID: NodeId, N: Node>(
     meta.last_membership
 }
 
-// Whether a membership is not past a log id, by log id and by index.
+/// Whether a membership is not past a log id, by log id and by index.
 fn is_not_past<C: Ord + Copy, NID: NodeId, N: Node>(
     stored: &StoredMembershipOf<C, NID, N>,
     upto: LogIdOf<C>,

@@ -1,5 +1,5 @@
-//! The edits and the look-ups of a state's log: appending log ids, committing, finding conflicts, and
-//! purging.
+//! The edits and the look-ups of a state's log: what is appended, committed and purged, and where
+//! entries conflict.
 ghost use Rattle.std.specs.Prelude.{◌≡◌, ◌+◌, ◌≤◌, true, false, IsTrue, IfOk, IfSome, IsOk, OnOk, OnErr, None, Some, [], map, length, take, slice_get};
 ghost use Rattle.std.specs.List.{list_all};
 ghost use Rattle.std.specs.Option.{option_or};
@@ -160,7 +160,7 @@ impl<
         entries.len()
     }
 
-    // Whether the log has the id of an entry.
+    /// Whether the log has the id of an entry.
     fn has_entry<Ent: RaftLogId<C>>(&self, entry: &Ent) -> bool
         requires { IsTrue (may_ask C.cmp (view_of self.now) (Ent.id_of entry.now)) }
         ensures { result ≡ has_id C.eq (view_of self.now) (Ent.id_of entry.now) }
@@ -201,7 +201,7 @@ impl<
             (first_after_purge (full_log self.old.log_ids) upto.now) self.old.purge_upto) →
             broken_relation C.cmp self.new ≡ None }
     {
-        // Its contract says that indexes are consecutive.
+        // Read for the proof alone: by its contract the keys are in order.
         let _keys = self.log_ids.key_log_ids();
         self.log_ids.purge(upto)?;
         self.purged_next = upto.index + 1;

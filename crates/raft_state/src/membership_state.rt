@@ -203,7 +203,8 @@ impl<C: Ord + Copy + Drop, NID: NodeId, N: Node> MembershipStateOf<C, NID, N> {
         }
     }
 
-    // True where another membership is effective than before.
+    /// Takes over the membership of a snapshot up to an index, as `update_committed` does. True
+    /// where another membership is effective than before.
     pub(crate) fn take_over(
         &mut self,
         membership: Rc<EffectiveMembershipOf<C, NID, N>>,
@@ -235,7 +236,7 @@ impl<C: Ord + Copy + Drop, NID: NodeId, N: Node> MembershipStateOf<C, NID, N> {
         Ok(changed)
     }
 
-    // The membership takes the place of both.
+    /// Puts a membership in the place of both.
     fn replace_both(
         &mut self,
         membership: Rc<EffectiveMembershipOf<C, NID, N>>,
@@ -302,7 +303,8 @@ impl<C: Ord + Copy + Drop, NID: NodeId, N: Node> MembershipStateOf<C, NID, N> {
         }
     }
 
-    // True where the committed membership is effective again.
+    /// Takes the log as cut off from an index on, as `truncate` does. True where the committed
+    /// membership is effective again.
     pub(crate) fn revert(&mut self, since: u64) -> Result<bool, AllocError>
         ensures ok { OnOk result (self.new ≡ after_truncate since self.old) }
         ensures reverted { IfOk result (λ reverted. reverted ≡ is_cut since self.old) }

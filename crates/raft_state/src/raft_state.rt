@@ -129,7 +129,7 @@ impl<NID: NodeId, N: Node, I: Instant, L: Drop, C: Ord + Copy> VoteStateReader<L
     }
 }
 
-// Whether a leader is at least another one.
+/// Whether a leader is at least another one.
 fn is_no_lesser<L: LeaderIdentity>(leader: &L, than: &L) -> bool
     ensures { result ≡ partial_ge L.order leader.now than.now }
 {
@@ -303,7 +303,7 @@ impl<NID: NodeId, N: Node, I: Instant, L: Copy, C: Ord + Copy + Drop> RaftStateI
     }
 }
 
-// The same vote, with its moment.
+/// The same vote, with its moment.
 fn same_vote<L: Copy, I: Instant>(vote: &UTime<VoteIn<L>, I>) -> UTime<VoteIn<L>, I>
     ensures { result ≡ vote.now }
 {

@@ -54,7 +54,7 @@ impl<
             broken_relation C.cmp self.new ≡ None }
         ensures no_memory { is_cut since self.old.membership_state ≡ false → IsOk result }
     {
-        // Its contract says that indexes are consecutive.
+        // Read for the proof alone: by its contract the keys are in order.
         let _keys = self.log_ids.key_log_ids();
         let reverted = self.membership_state.revert(since)?;
         self.log_ids.truncate(since);
@@ -66,7 +66,7 @@ impl<
 pub(crate) fn last_below<C: Ord + Copy>(log_ids: &LogIdListOf<C>, index: u64) -> Option<LogIdOf<C>>
     ensures { result ≡ last_id (front (full_log log_ids.now) index) }
 {
-    // Its contract says that indexes are consecutive.
+    // Read for the proof alone: by its contract the keys are in order.
     let _keys = log_ids.key_log_ids();
     let last = log_ids.last().copied();
     if index_below(last.index(), Some(index)) {

@@ -59,6 +59,7 @@ impl<
         ensures logged { broken_relation C.cmp self.now ≡ None → IsTrue result →
             Logged C.cmp (view_of self.now) }
     {
+        // Read for the proof alone: by its contract the keys are in order.
         let _keys = self.log_ids.key_log_ids();
         self.is_none_or_logged(self.purge_upto)
     }
@@ -74,12 +75,12 @@ impl<
             IsTrue (index_lt (index_of self.now.committed) (Some since)) → IsTrue (id_le C.cmp
             self.now.committed (last_id (front (full_log self.now.log_ids) since))) }
     {
-        // Its contract says that indexes are consecutive.
+        // Read for the proof alone: by its contract the keys are in order.
         let _keys = self.log_ids.key_log_ids();
         self.is_none_or_logged(self.committed)
     }
 
-    // Whether a log id is absent or the one at its index.
+    /// Whether a log id is absent or the one at its index.
     fn is_none_or_logged(&self, log_id: Option<LogIdOf<C>>) -> bool
         ensures { result ≡ none_or_logged C.eq (view_of self.now) log_id }
     {
@@ -90,7 +91,7 @@ impl<
     }
 }
 
-// Whether the log begins at the last purged index.
+/// Whether the log begins at the last purged index.
 fn fits_purged_next<C: Copy>(next: u64, first: Option<LogIdOf<C>>) -> bool
     ensures { result ≡ fits_purged_next next first }
 {
@@ -106,7 +107,7 @@ fn fits_purged_next<C: Copy>(next: u64, first: Option<LogIdOf<C>>) -> bool
     }
 }
 
-// Whether the purge point is where it may be, and the case of its breach.
+/// Whether the purge point is where it may be, and the case of its breach.
 fn upto_relation<C: Ord + Copy>(
     upto: Option<LogIdOf<C>>,
     committed: Option<LogIdOf<C>>,

@@ -24,6 +24,7 @@ pub fn is_key_list<C: Ord + Copy>(keys: &[LogIdOf<C>]) -> bool
     true
 }
 
+/// Whether a key may come next after another one, at the end or before it.
 fn key_may_follow<C: Ord + Copy>(key: LogIdOf<C>, next: LogIdOf<C>, at_end: bool) -> bool
     ensures { result ≡ key_follows C.cmp key next at_end }
 {

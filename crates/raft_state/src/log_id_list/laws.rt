@@ -37,6 +37,7 @@ pub fn log_is_in_order<C: Ord + Copy>(list: &LogIdListOf<C>)
     ensures leaders_by_index { LeadersNeverFallByIndex C.cmp (full_log list.now) }
     ensures last { NoneAboveLast C.cmp (full_log list.now) }
 {
+    // Read for the proof alone: by its contract the keys are in order.
     let _keys = list.key_log_ids();
 }
 
@@ -45,6 +46,8 @@ pub fn purged_log_begins<C: Ord + Copy>(list: &LogIdListOf<C>, upto: &LogIdOf<C>
     ensures { first_index (log_after_purge (full_log list.now) upto.now)
         ≡ max (first_index (full_log list.now)) upto.now.index }
 {
+    // Read for the proof alone: by the contract of the first the keys are in order; of the second
+    // the clause speaks.
     let _keys = list.key_log_ids();
     let _upto = *upto;
 }

@@ -85,7 +85,7 @@ impl<'m, C: Ord + Copy + Default + Debug + Drop, NID: NodeId, N: Node> ChangeHan
     }
 }
 
-// The refusal of a change of a membership alone, which is never in progress.
+/// The refusal of a change of a membership alone, which is never in progress.
 fn refusal_of<C: Ord + Copy + Default + Debug, NID: NodeId>(
     refused: ChangeMembershipError<NID>,
 ) -> ChangeMembershipErrorOf<C, NID>

@@ -344,7 +344,7 @@ purged_first {C} cmp (k ∷ ks) upto s = elim (cases_lt upto.index (end_index (k
       rw t (elim (cases_lt upto.index k.index) [
         | inl below ↦ (let u : nat_le k.index upto.index ≡ false = grind (arith, nat_tests) in rw u (omega arith))
         | inr from ↦ (let u : nat_le k.index upto.index ≡ true = grind (arith, nat_tests) in
-                rw (u, kept_first k ks upto.index) (omega arith))
+            rw (u, kept_first k ks upto.index) (omega arith))
       ]))
 ]
 
