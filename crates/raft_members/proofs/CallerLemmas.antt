@@ -1,6 +1,6 @@
 -- Lemmas for callers, in one place.
 pub use Rattle.raft_members.proofs.lemmas.quorum.MeetingLemmas.{majorities_meet, majority_member, quorums_meet, coherent_meet}
-pub use Rattle.raft_members.proofs.lemmas.membership.NextLemmas.{next_shares, next_has_goal}
+pub use Rattle.raft_members.proofs.lemmas.quorum.NextLemmas.{next_shares, next_has_goal}
 pub use Rattle.raft_members.proofs.lemmas.membership.ReachedLemmas.{self_coherent, quorum_reaches}
 pub use Rattle.raft_members.proofs.lemmas.membership.SaysLemmas.{changed_coherent, change_keeps_reached}
 pub use Rattle.raft_members.proofs.lemmas.membership.KeptLemmas.{voter_alike}

@@ -36,11 +36,11 @@ abbrev pub OnlyMemory : {C K N : Type 0} → (K → K → Bool) → Members K N 
 OnlyMemory eq m change e = IfSome (goal_of change) (λ goal. CanReplace eq m goal → e ≡ OutOfMemory)
 
 -- a change to the goal made next of m: the goal is its last config, with at most the last one of m
--- before it, and the same change again makes the goal the only config
+-- before it, and the same change made a second time makes the goal the only config
 pub record LeadsToGoal {K N : Type 0} (eq : K → K → Bool) (cmp : K → K → Ordering) (m : Members K N)
     (change : ChangeMembers K N) (goal : List K) (next : MemberList K N) : Type 0 where
   pub configs : (next.configs ≡ goal ∷ []) ⊎ (next.configs ≡ last_config m.configs ∷ goal ∷ [])
-  pub again : (retain : Bool)
+  pub second_change : (retain : Bool)
       → (changed eq cmp (members_of cmp next) change retain).configs ≡ goal ∷ []
 
 -- the voters that a change of voters leads to from these members

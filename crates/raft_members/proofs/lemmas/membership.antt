@@ -5,7 +5,6 @@ pub mod KeptLemmas
 pub mod LearnerLemmas
 pub mod MappedLemmas
 pub mod MissingLemmas
-pub mod NextLemmas
 pub mod ReachedLemmas
 pub mod ReplaceLemmas
 pub mod SaysLemmas

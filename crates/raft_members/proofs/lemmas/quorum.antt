@@ -3,3 +3,4 @@ pub mod ChunkLemmas
 pub mod LeastLemmas
 pub mod MajorityLemmas
 pub mod MeetingLemmas
+pub mod NextLemmas

@@ -1,4 +1,5 @@
 -- The first voter without a node: of one config in order, and of two sets together.
+use Rattle.std.proofs.lemmas.Bool.{or_left, or_right}
 use Rattle.std.specs.Prelude.{◌≡◌, ℕ, Bool, true, false, cond, not, ◌||◌, Option, Some, None, List, [], ◌∷◌, refl}
 use Rattle.std.specs.Prelude.{◌+◌, ◌<◌, length, map, take}
 use Rattle.std.proofs.Common.{sym, ◌∙◌, ap, subst, get_or}
@@ -6,7 +7,6 @@ use Rattle.raft_members.specs.Majority.{is_voter_of}
 use Rattle.raft_members.proofs.lemmas.membership.MappedLemmas.{list_any-map, any_more}
 use Rattle.raft_members.specs.Inner.Nodes.{lesser}
 use Rattle.raft_members.specs.Valid.{FirstUnknown, IsFirstUnknown}
-use Rattle.raft_members.proofs.lemmas.membership.NextLemmas.{left_true, right_true}
 use Rattle.raft_members.proofs.lemmas.membership.AddedLemmas.{is_equal}
 use Rattle.std.specs.declared.cmp.Ordering.{Ordering}
 use Rattle.std.specs.declared.cmp.Ordering.TheVariants.{Less, Equal, Greater}
@@ -57,7 +57,7 @@ module _ {K : Type 0} {eq : K → K → Bool} {cmp : K → K → Ordering} (laws
         → FirstUnknown cmp (is_member eq (x ∷ xs)) known f
     later x xs h None n = λ k m. none_step x k xs (eq k x) refl h (n k) m
     later x xs h (Some id) n = record {
-      is_voter = right_true _ _ n.is_voter;
+      is_voter = or_right _ _ n.is_voter;
       is_unknown = n.is_unknown;
       is_least = λ k m u. least_later x k id xs (eq k x) refl h u (λ m'. n.is_least k m' u) m;
     }
@@ -67,7 +67,7 @@ module _ {K : Type 0} {eq : K → K → Bool} {cmp : K → K → Ordering} (laws
         → FirstUnknown cmp (is_member eq (x ∷ xs)) known (cond (not b) (Some x) (find (λ q. not (known q)) xs))
     find_step x xs true h a n = later x xs h _ n
     find_step x xs false h a n = record {
-      is_voter = left_true _ _ (laws.refl x);
+      is_voter = or_left _ _ (laws.refl x);
       is_unknown = h;
       is_least = λ k m u. least_here x k xs (eq k x) refl a m;
     }
@@ -110,12 +110,12 @@ module _ {K : Type 0} {cmp : K → K → Ordering} (o : IsTotalOrder cmp) (v w k
   pick : (x y : K) (b : Bool) → is_lt (cmp y x) ≡ b → IsFirstUnknown cmp v known x → IsFirstUnknown cmp w known y
       → FirstUnknown cmp (λ k. v k || w k) known (cond b (Some y) (Some x))
   pick x y true h f g = record {
-    is_voter = right_true _ _ g.is_voter;
+    is_voter = or_right _ _ g.is_voter;
     is_unknown = g.is_unknown;
     is_least = λ k m u. either _ (v k) (w k) (λ e. not_below_lower k x y (cmp k y) refl h (f.is_least k e u)) (λ e. g.is_least k e u) m;
   }
   pick x y false h f g = record {
-    is_voter = left_true _ _ f.is_voter;
+    is_voter = or_left _ _ f.is_voter;
     is_unknown = f.is_unknown;
     is_least = λ k m u. either _ (v k) (w k) (λ e. f.is_least k e u)
         (λ e. not_below_higher k x y (cmp k y) (cmp k x) refl refl h (g.is_least k e u)) m;
@@ -125,12 +125,12 @@ module _ {K : Type 0} {cmp : K → K → Ordering} (o : IsTotalOrder cmp) (v w k
       → FirstUnknown cmp (λ k. v k || w k) known (lesser cmp a b)
   lesser_first None None f g = λ k m. either _ (v k) (w k) (f k) (g k) m
   lesser_first None (Some y) f g = record {
-    is_voter = right_true _ _ g.is_voter;
+    is_voter = or_right _ _ g.is_voter;
     is_unknown = g.is_unknown;
     is_least = λ k m u. either _ (v k) (w k) (λ e. let c = f k e in cc) (λ e. g.is_least k e u) m;
   }
   lesser_first (Some x) None f g = record {
-    is_voter = left_true _ _ f.is_voter;
+    is_voter = or_left _ _ f.is_voter;
     is_unknown = f.is_unknown;
     is_least = λ k m u. either _ (v k) (w k) (λ e. f.is_least k e u) (λ e. let c = g k e in cc) m;
   }

@@ -1,18 +1,18 @@
 -- What a quorum has reached, each quorum of coherent configs knows of.
+use Rattle.std.proofs.lemmas.Bool.{or_left}
 use Rattle.std.specs.Prelude.{◌≡◌, ◌<◌, Bool, true, ◌&&◌, List, [], ◌∷◌, length}
 use Rattle.std.proofs.Common.{arith, inl, inr}
 use Rattle.std.specs.Cmp.{IsEquivalence, first_so, second_so}
 use Rattle.std.specs.Cmp.Lexicographic.{lists_equiv}
 use Rattle.raft_members.specs.Coherence.{is_coherent}
 use Rattle.raft_members.specs.Reached.{VotersReached, IsGranted, EachQuorumKnows}
-use Rattle.raft_members.proofs.lemmas.membership.NextLemmas.{left_true}
 use Rattle.raft_members.proofs.lemmas.quorum.MeetingLemmas.{coherent_meet, shared_majority, majority_member, voter_there}
 
 module _ {K : Type 0} {e : K → K → Bool} (laws : IsEquivalence e) where
   -- configs share each of their own
   pub self_coherent : (cs : List (List K)) → 0 < length cs → is_coherent e cs cs ≡ true
   self_coherent [] h = absurd (omega arith)
-  self_coherent (c ∷ cs) h = left_true _ _ (left_true _ _ ((lists_equiv laws).refl c))
+  self_coherent (c ∷ cs) h = or_left _ _ (or_left _ _ ((lists_equiv laws).refl c))
 
   module _ (cs ds : List (List K)) (voter reached : K → Bool) (granted : IsGranted e cs voter reached)
       (co : is_coherent e cs ds ≡ true) where

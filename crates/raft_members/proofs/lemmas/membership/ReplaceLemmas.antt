@@ -33,7 +33,7 @@ use Rattle.std.proofs.lemmas.Map.Keys.{any_passes_from_place}
 use Rattle.raft_members.specs.Coherence.{has_config, next_configs}
 use Rattle.raft_members.specs.Majority.{is_voter_of}
 use Rattle.raft_members.proofs.lemmas.membership.UnionLemmas.{union_again}
-use Rattle.raft_members.proofs.lemmas.membership.NextLemmas.{has_last, next_if_has, next_if_lacks, next_if_none, next_has_goal}
+use Rattle.raft_members.proofs.lemmas.quorum.NextLemmas.{has_last, next_if_has, next_if_lacks, next_if_none, next_has_goal}
 use Rattle.raft_members.specs.Members.{Members, MemberList, Says, members_of}
 use Rattle.raft_members.specs.Change.{next_members, last_config, changed, union_of, without}
 use Rattle.raft_members.specs.Valid.{has_empty_config, is_empty_config}
@@ -145,7 +145,7 @@ module _ {K N : Type 0} {e : K → K → Bool} (laws : IsEquivalence e) (cmp : K
   -- a change whose goal is a function of the last config, and fixed by it, leads there in two
   leads_to : (c : ChangeMembers K N) (n : MemberList K N) (aim : List K → List K)
       → aim (aim (last_config m.configs)) ≡ aim (last_config m.configs) → n.configs ≡ next_configs e m.configs (aim (last_config m.configs))
-      → ((again : Bool) → (changed e cmp (members_of cmp n) c again).configs ≡ next_configs e n.configs (aim (last_config n.configs)))
+      → ((retain : Bool) → (changed e cmp (members_of cmp n) c retain).configs ≡ next_configs e n.configs (aim (last_config n.configs)))
       → LeadsToGoal e cmp m c (aim (last_config m.configs)) n
   leads_to c n aim fixed is next =
       let goal = aim (last_config m.configs) in
@@ -154,8 +154,8 @@ module _ {K N : Type 0} {e : K → K → Bool} (laws : IsEquivalence e) (cmp : K
       (next_either e m.configs goal) in
       record {
         configs = either;
-        again = λ again.
-            next again
+        second_change = λ retain.
+            next retain
             ∙ ap (λ last. next_configs e n.configs (aim last)) (last_is n.configs (last_config m.configs) goal either)
             ∙ ap (next_configs e n.configs) fixed
             ∙ next_if_has (pointwise e) n.configs goal
@@ -166,12 +166,12 @@ module _ {K N : Type 0} {e : K → K → Bool} (laws : IsEquivalence e) (cmp : K
       → Says same cmp n (changed e cmp m c retain) → TwoChanges e cmp m c n
   two_changes ties same (AddVoterIds ids) n s =
       leads_to (AddVoterIds ids) n (λ last. union_of cmp last ids.keys) (union_again cmp ties (last_config m.configs) ids.keys) s.0
-      (λ again. refl)
+      (λ retain. refl)
   two_changes ties same (AddVoters nodes) n s =
       leads_to (AddVoters nodes) n (λ last. union_of cmp last (keys nodes)) (union_again cmp ties (last_config m.configs) (keys nodes)) s.0
-      (λ again. refl)
+      (λ retain. refl)
   two_changes ties same (RemoveVoters ids) n s =
       leads_to (RemoveVoters ids) n (λ last. without e last ids.keys)
-      (filter_again (λ id. not (is_member e ids.keys id)) (last_config m.configs)) s.0 (λ again. refl)
-  two_changes ties same (ReplaceAllVoters g) n s = leads_to (ReplaceAllVoters g) n (λ last. g.keys) refl s.0 (λ again. refl)
+      (filter_again (λ id. not (is_member e ids.keys id)) (last_config m.configs)) s.0 (λ retain. refl)
+  two_changes ties same (ReplaceAllVoters g) n s = leads_to (ReplaceAllVoters g) n (λ last. g.keys) refl s.0 (λ retain. refl)
   two_changes ties same _ n s = tt

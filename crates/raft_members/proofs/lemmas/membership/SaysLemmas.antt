@@ -1,4 +1,5 @@
 -- What holds of a membership holds of what it says.
+use Rattle.std.proofs.lemmas.Bool.{or_right}
 use Rattle.std.specs.Prelude.{
   ◌≡◌,
   Bool,
@@ -32,7 +33,7 @@ use Rattle.std.specs.Set.{is_member}
 use Rattle.std.proofs.lemmas.Map.Made.{is_some-lookup}
 use Rattle.raft_members.specs.Coherence.{is_coherent, next_configs}
 use Rattle.raft_members.specs.Majority.{is_voter_of}
-use Rattle.raft_members.proofs.lemmas.membership.NextLemmas.{next_shares, next_has_goal, right_true}
+use Rattle.raft_members.proofs.lemmas.quorum.NextLemmas.{next_shares, next_has_goal}
 use Rattle.raft_members.proofs.lemmas.quorum.MajorityLemmas.{in_set}
 use Rattle.raft_members.proofs.lemmas.quorum.MeetingLemmas.{voter_there}
 use Rattle.raft_members.proofs.lemmas.membership.UnionLemmas.{is_member-union_of}
@@ -65,8 +66,8 @@ some_alike same (Some x) (Some y) h = refl
 
 module _ {K N : Type 0} (same : N → N → Bool) (eq : K → K → Bool) (cmp : K → K → Ordering) (m : MemberList K N) (w : Members K N)
     (s : Says same cmp m w) where
-  pub same_first : (o : Option K) → FirstWithoutNode eq cmp (members_of cmp m) o → FirstWithoutNode eq cmp w o
-  same_first o h =
+  pub same_first_missing : (o : Option K) → FirstWithoutNode eq cmp (members_of cmp m) o → FirstWithoutNode eq cmp w o
+  same_first_missing o h =
       let known : K → Bool = λ k. is_some (w.node k) in
       subst (λ (v : K → Bool). FirstUnknown cmp v known o) (λ i. is_voter_of eq (s.0 i))
       (subst (λ (f : K → Bool). FirstUnknown cmp (is_voter_of eq m.configs) f o)
@@ -78,7 +79,7 @@ module _ {K N : Type 0} (same : N → N → Bool) (eq : K → K → Bool) (cmp :
   pub same_refusal : {C : Type 0} (e : ChangeMembershipErrorOf C K) → IsRefusal eq cmp (members_of cmp m) e → IsRefusal eq cmp w e
   same_refusal (InProgress _) h = h
   same_refusal (EmptyMembership _) h = sym same_empty ∙ h
-  same_refusal (LearnerNotFound e) h = (sym same_empty ∙ h.0, same_first (Some e.node_id) h.1)
+  same_refusal (LearnerNotFound e) h = (sym same_empty ∙ h.0, same_first_missing (Some e.node_id) h.1)
   same_refusal OutOfMemory h = tt
 
 module _ {K N : Type 0} {eq : K → K → Bool} (laws : IsEquivalence eq) (cmp : K → K → Ordering) where
@@ -121,7 +122,7 @@ more_by alike n v (Some f) true k h = option_or_alike alike n v (Some f) h
 more_by alike n v (Some f) false k h = let e = k refl in cc
 
 or_true : (a b : Bool) → (a || (b || true)) ≡ true
-or_true a b = right_true _ _ (right_true _ _ refl)
+or_true a b = or_right _ _ (or_right _ _ refl)
 
 module _ {K N : Type 0} {eq : K → K → Bool} (laws : IsEquivalence eq) (cmp : K → K → Ordering)
     (ties : (x y : K) → eq x y ≡ eq_by_cmp cmp x y) {same : N → N → Bool} (alike : IsEquivalence same) (m : Members K N)

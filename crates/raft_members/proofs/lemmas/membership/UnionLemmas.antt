@@ -1,4 +1,5 @@
 -- What a union of sorted lists has, and that it adds nothing twice.
+use Rattle.std.proofs.lemmas.Bool.{or_left, or_right}
 use Rattle.std.specs.Prelude.{◌≡◌, Bool, true, false, ◌||◌, List, [], ◌∷◌, refl}
 use Rattle.std.proofs.Common.{◌∙◌, ap}
 use Rattle.std.specs.declared.cmp.Ordering.{Ordering}
@@ -7,25 +8,25 @@ use Rattle.std.specs.Cmp.{IsEquivalence}
 use Rattle.std.specs.Ordering.{eq_by_cmp, is_eq, match_ordering}
 use Rattle.std.specs.Set.{is_member, merge_step}
 use Rattle.raft_members.specs.Change.{union_of}
-use Rattle.raft_members.proofs.lemmas.membership.NextLemmas.{left_true, right_true, equal_right}
+use Rattle.raft_members.proofs.lemmas.quorum.NextLemmas.{equal_right}
 
 module _ {K : Type 0} {eq : K → K → Bool} (laws : IsEquivalence eq) (cmp : K → K → Ordering) (ties : (x y : K) → eq x y ≡ eq_by_cmp cmp x y)
     (q x : K) (xs : List K) (on : List K → List K) (has : (ys : List K) → is_member eq ys q ≡ true → is_member eq (on ys) q ≡ true) where
   first_by : (y : K) (ys : List K) (b : Bool) → eq q y ≡ b → eq x y ≡ true → (b || is_member eq ys q) ≡ true
       → is_member eq (x ∷ on ys) q ≡ true
-  first_by y ys true h e m = left_true _ _ (equal_right laws q x y e ∙ h)
-  first_by y ys false h e m = right_true _ _ (has ys m)
+  first_by y ys true h e m = or_left _ _ (equal_right laws q x y e ∙ h)
+  first_by y ys false h e m = or_right _ _ (has ys m)
 
   next_by : (y : K) (ys : List K) (b : Bool) → eq q y ≡ b
       → (is_member eq ys q ≡ true → is_member eq (merge_step cmp true x xs on ys) q ≡ true) → (b || is_member eq ys q) ≡ true
       → is_member eq (y ∷ merge_step cmp true x xs on ys) q ≡ true
-  next_by y ys true h later m = left_true _ _ h
-  next_by y ys false h later m = right_true _ _ (later m)
+  next_by y ys true h later m = or_left _ _ h
+  next_by y ys false h later m = or_right _ _ (later m)
 
   step_by : (y : K) (ys : List K) (o : Ordering) → cmp x y ≡ o
       → (is_member eq ys q ≡ true → is_member eq (merge_step cmp true x xs on ys) q ≡ true) → is_member eq (y ∷ ys) q ≡ true
       → is_member eq (match_ordering o (x ∷ on (y ∷ ys)) (x ∷ on ys) (y ∷ merge_step cmp true x xs on ys)) q ≡ true
-  step_by y ys Less e later m = right_true _ _ (has (y ∷ ys) m)
+  step_by y ys Less e later m = or_right _ _ (has (y ∷ ys) m)
   step_by y ys Equal e later m = first_by y ys (eq q y) (λ i. eq q y) (ties x y ∙ ap is_eq e) m
   step_by y ys Greater e later m = next_by y ys (eq q y) (λ i. eq q y) later m
 

@@ -1,4 +1,5 @@
 -- Quorums that meet share a voter.
+use Rattle.std.proofs.lemmas.Bool.{or_left, or_right}
 use Rattle.std.specs.Prelude.{
   ◌≡◌,
   ℕ,
@@ -31,7 +32,7 @@ use Rattle.raft_members.specs.Majority.{is_majority, is_joint_majority, is_voter
 use Rattle.raft_members.specs.Coherence.{has_config, is_coherent}
 use Rattle.raft_members.specs.Meeting.{ShareMember, MajorityHasVoter, QuorumsMeet, CoherentQuorumsMeet, EqualConfigsHaveSameQuorums}
 use Rattle.raft_members.proofs.lemmas.quorum.MajorityLemmas.{is_member-alike, is_member-unique_keys}
-use Rattle.raft_members.proofs.lemmas.membership.NextLemmas.{left_true, right_true, equal_right}
+use Rattle.raft_members.proofs.lemmas.quorum.NextLemmas.{equal_right}
 
 share : (n a b m : ℕ) → n < 2 * a → n < 2 * b → m ≤ n → m < a + b
 share n a b m h k l = omega arith
@@ -40,13 +41,13 @@ module _ {K : Type 0} {e : K → K → Bool} (laws : IsEquivalence e) where
   -- ---- two majorities of one config
 
   later : (x : K) (xs : List K) (s t : K → Bool) → ShareMember e xs s t → ShareMember e (x ∷ xs) s t
-  later x xs s t m = (m.0, right_true _ _ m.1, m.2, m.3)
+  later x xs s t m = (m.0, or_right _ _ m.1, m.2, m.3)
 
   share_step : (s t : K → Bool) (x : K) (xs : List K) (a b : Bool) → s x ≡ a → t x ≡ b
       → (length xs < length (filter s xs) + length (filter t xs) → ShareMember e xs s t)
       → length xs + 1 < length (cond a (x ∷ filter s xs) (filter s xs)) + length (cond b (x ∷ filter t xs) (filter t xs))
       → ShareMember e (x ∷ xs) s t
-  share_step s t x xs true true ea eb next h = (x, left_true _ _ (laws.refl x), ea, eb)
+  share_step s t x xs true true ea eb next h = (x, or_left _ _ (laws.refl x), ea, eb)
   share_step s t x xs true false ea eb next h = later x xs s t (next (omega arith))
   share_step s t x xs false true ea eb next h = later x xs s t (next (omega arith))
   share_step s t x xs false false ea eb next h = later x xs s t (next (omega arith))
@@ -122,8 +123,8 @@ module _ {K : Type 0} {e : K → K → Bool} (laws : IsEquivalence e) where
   voter_step : (c : List K) (cs : List (List K)) (d : List K) (k : K) (b : Bool) → pointwise e c d ≡ b
       → (has_config e cs d ≡ true → is_voter_of e cs k ≡ true) → (b || has_config e cs d) ≡ true → is_member e d k ≡ true
       → (is_member e c k || is_voter_of e cs k) ≡ true
-  voter_step c cs d k true p next h m = left_true _ _ (same_members c d k p ∙ m)
-  voter_step c cs d k false p next h m = right_true _ _ (next h)
+  voter_step c cs d k true p next h m = or_left _ _ (same_members c d k p ∙ m)
+  voter_step c cs d k false p next h m = or_right _ _ (next h)
 
   -- a member of a config that equals one of cs is a voter
   pub voter_there : (cs : List (List K)) (d : List K) (k : K) → has_config e cs d ≡ true → is_member e d k ≡ true
@@ -139,8 +140,8 @@ module _ {K : Type 0} {e : K → K → Bool} (laws : IsEquivalence e) where
   shared_step : (cs : List (List K)) (d : List K) (ds : List (List K)) (t : K → Bool) (b : Bool) → has_config e cs d ≡ b
       → (is_coherent e cs ds ≡ true → is_joint_majority e ds t ≡ true → SharedMajority cs ds t) → (b || is_coherent e cs ds) ≡ true
       → (is_majority e d t && is_joint_majority e ds t) ≡ true → SharedMajority cs (d ∷ ds) t
-  shared_step cs d ds t true p next h q = (d, p, first_so _ _ q, λ x m. left_true _ _ m)
-  shared_step cs d ds t false p next h q = let n = next h (second_so _ _ q) in (n.0, n.1, n.2, λ x m. right_true _ _ (n.3 x m))
+  shared_step cs d ds t true p next h q = (d, p, first_so _ _ q, λ x m. or_left _ _ m)
+  shared_step cs d ds t false p next h q = let n = next h (second_so _ _ q) in (n.0, n.1, n.2, λ x m. or_right _ _ (n.3 x m))
 
   -- a quorum of coherent configs has a majority of a shared one
   pub shared_majority : (cs ds : List (List K)) (t : K → Bool) → is_coherent e cs ds ≡ true → is_joint_majority e ds t ≡ true
@@ -178,4 +179,4 @@ module _ {K : Type 0} {e : K → K → Bool} (laws : IsEquivalence e) where
   quorums_meet [] s t n hs ht = absurd (omega arith)
   quorums_meet (c ∷ cs) s t n hs ht =
       let m = majorities_meet c s t (first_so _ _ hs) (first_so _ _ ht) in
-      (m.0, left_true _ _ m.1, m.2, m.3)
+      (m.0, or_left _ _ m.1, m.2, m.3)

@@ -1,7 +1,7 @@
 use Rattle.std.proofs.Common.{[], ◌∷◌, sym, ◌∙◌, ap}
 use Rattle.std.specs.Cmp.Lexicographic.{pointwise}
 use Rattle.raft_members.proofs.lemmas.membership.MappedLemmas.{list_any-map, last-map, last_none-map}
-use Rattle.raft_members.proofs.lemmas.membership.NextLemmas.{next_if_has, next_if_lacks, next_if_none}
+use Rattle.raft_members.proofs.lemmas.quorum.NextLemmas.{next_if_has, next_if_lacks, next_if_none}
 use Rattle.raft_members.proofs.membership.configs.next.Goals.{in_default-via-in-Some+else-not-has_config, in_default-via-in_default}
 use Rattle.raft_members.proofs.membership.configs.next.Goals as goal
 

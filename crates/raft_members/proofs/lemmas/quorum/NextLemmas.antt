@@ -1,4 +1,5 @@
 -- The children that stand next on the way to a goal.
+use Rattle.std.proofs.lemmas.Bool.{or_left, or_right}
 use Rattle.std.specs.Prelude.{◌≡◌, ◌<◌, ◌-◌, Bool, true, false, cond, ◌||◌, Option, Some, None, List, [], ◌∷◌, length, refl}
 use Rattle.std.proofs.Common.{◌∙◌, arith, get_or}
 use Rattle.std.specs.Cmp.{IsEquivalence}
@@ -6,13 +7,6 @@ use Rattle.std.specs.List.{slice_get}
 use Rattle.std.proofs.lemmas.Map.Keys.{any_passes_from_place}
 use Rattle.std.proofs.lemmas.Option.{slice_get-get_or}
 use Rattle.raft_members.specs.Coherence.{has_child, share_child, next_children}
-
-pub left_true : (a b : Bool) → a ≡ true → (a || b) ≡ true
-left_true a b h = rw h refl
-
-pub right_true : (a b : Bool) → b ≡ true → (a || b) ≡ true
-right_true true b h = refl
-right_true false b h = h
 
 -- a list with an item has a last one
 pub has_last : {Q : Type 0} (d : Q) (cs : List Q) → 0 < length cs → slice_get cs (length cs - 1) ≡ None → ⊥
@@ -41,9 +35,9 @@ module _ {Q : Type 0} {eq : Q → Q → Bool} (laws : IsEquivalence eq) where
   module _ (cs : List Q) (goal : Q) where
     has_goal_by : (b : Bool) (k : Option Q) → has_child eq cs goal ≡ b → slice_get cs (length cs - 1) ≡ k
         → has_child eq (next_children eq cs goal) goal ≡ true
-    has_goal_by true k h l = rw (next_if_has eq cs goal h) (left_true _ _ (laws.refl goal))
-    has_goal_by false None h l = rw (next_if_none eq cs goal l) (left_true _ _ (laws.refl goal))
-    has_goal_by false (Some c) h l = rw (next_if_lacks eq cs goal c h l) (right_true _ _ (left_true _ _ (laws.refl goal)))
+    has_goal_by true k h l = rw (next_if_has eq cs goal h) (or_left _ _ (laws.refl goal))
+    has_goal_by false None h l = rw (next_if_none eq cs goal l) (or_left _ _ (laws.refl goal))
+    has_goal_by false (Some c) h l = rw (next_if_lacks eq cs goal c h l) (or_right _ _ (or_left _ _ (laws.refl goal)))
 
     -- the goal is among the next children
     pub next_has_goal : has_child eq (next_children eq cs goal) goal ≡ true
@@ -51,10 +45,10 @@ module _ {Q : Type 0} {eq : Q → Q → Bool} (laws : IsEquivalence eq) where
 
     shares_by : (b : Bool) (k : Option Q) → has_child eq cs goal ≡ b → slice_get cs (length cs - 1) ≡ k → 0 < length cs
         → share_child eq (next_children eq cs goal) cs ≡ true
-    shares_by true k h l n = rw (next_if_has eq cs goal h) (left_true _ _ h)
+    shares_by true k h l n = rw (next_if_has eq cs goal h) (or_left _ _ h)
     shares_by false None h l n = absurd (has_last goal cs n l)
     shares_by false (Some c) h l n = rw (next_if_lacks eq cs goal c h l)
-        (left_true _ _ (any_passes_from_place (λ d. eq d c) cs (length cs - 1) c l (laws.refl c)))
+        (or_left _ _ (any_passes_from_place (λ d. eq d c) cs (length cs - 1) c l (laws.refl c)))
 
     -- the next children share one with the present ones
     pub next_shares : 0 < length cs → share_child eq (next_children eq cs goal) cs ≡ true
