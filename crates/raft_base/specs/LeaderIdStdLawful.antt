@@ -19,10 +19,10 @@ never_less : (b : Bool) {G : Type 0} → cond b (Some Equal) None ≡ Some Less 
 never_less true h = cc
 never_less false h = cc
 
-turned : (b : Bool) → cond b (Some Equal) None
+tie_reversed : (b : Bool) → cond b (Some Equal) None
     ≡ option_map ordering_reverse (cond b (Some Equal) None)
-turned true = refl
-turned false = refl
+tie_reversed true = refl
+tie_reversed false = refl
 
 module _ {N : Type 0} {same : N → N → Bool} (e : IsEquivalence same) where
   reversed : (x y : Option N) → voted_cmp same x y
@@ -31,7 +31,7 @@ module _ {N : Type 0} {same : N → N → Bool} (e : IsEquivalence same) where
   reversed None (Some n) = refl
   reversed (Some m) None = refl
   reversed (Some m) (Some n) =
-      turned (same m n)
+      tie_reversed (same m n)
       ∙ ap (λ b. option_map ordering_reverse (cond b (Some Equal) None)) (e.symm m n)
 
   chain : (x y z : Option N) → voted_cmp same x y ≡ Some Less → voted_cmp same y z ≡ Some Less
