@@ -13,7 +13,7 @@ HasIdAt {C} log i = (id : LogIdOf C) × (log.id_at i ≡ Some id) × (id.index �
 -- they rise, and the one at the end is the last one
 pub record Logged {C : Type 0} (cmp : C → C → Ordering) (log : LogView C) : Type 0 where
   pub purged : next_index log.purge_upto ≤ next_index log.last
-  pub there : (i : ℕ) → next_index log.purge_upto ≤ i + 1 → i < next_index log.last → HasIdAt log i
+  pub has_each : (i : ℕ) → next_index log.purge_upto ≤ i + 1 → i < next_index log.last → HasIdAt log i
   pub rises : (i j : ℕ) → next_index log.purge_upto ≤ i + 1 → i < j → j < next_index log.last
       → IsTrue (id_lt cmp (log.id_at i) (log.id_at j))
   pub at_end : prev_id log.id_at (next_index log.last) ≡ log.last

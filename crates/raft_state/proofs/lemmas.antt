@@ -1,5 +1,9 @@
 pub mod log_id_list
-pub mod raft_state
-pub mod follower
-pub mod catch_up
 pub mod membership_state
+pub mod validate
+pub mod log
+pub mod catch_up
+pub mod AppendedLemmas
+pub mod InstallLemmas
+pub mod SendLemmas
+pub mod TruncateLemmas

@@ -3,7 +3,6 @@ pub mod Appended
 pub mod Apply
 pub mod CatchUp
 pub mod Commit
-pub mod FirstDenied
 pub mod FullLog
 pub mod FullLogLawful
 pub mod Install

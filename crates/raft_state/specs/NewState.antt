@@ -24,10 +24,10 @@ pub record IsNewState {K N I L C : Type 0} (s : RaftStateIn K N I L C) : Type 0 
 
 -- its votes are for the leader that is the default, and not committed; nothing is accepted of that
 -- leader, and storage has done nothing
-pub record HasNewVote {K N I L C : Type 0} (leader : L) (granted : C) (s : RaftStateIn K N I L C)
+pub record HasNewVote {K N I L C : Type 0} (leader : L) (elected : C) (s : RaftStateIn K N I L C)
     : Type 0 where
   pub vote : vote_of s ≡ record { leader_id = leader; committed = false }
   pub accepted : s.accepted ≡ accepted_from leader None
   pub io_state : s.io_state
       ≡ io_state false (record { leader_id = leader; committed = false })
-      (record { committed_leader_id = granted; log_id = None }) None None None
+      (record { committed_leader_id = elected; log_id = None }) None None None

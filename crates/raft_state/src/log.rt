@@ -1,13 +1,12 @@
 //! The edits and the look-ups of a state's log: what is appended, committed and purged, and where
 //! entries conflict.
 ghost use Rattle.std.specs.Prelude.{◌≡◌, ◌+◌, ◌≤◌, true, false, IsTrue, IfOk, IfSome, IsOk, OnOk, OnErr, None, Some, [], map, length, take, slice_get};
-ghost use Rattle.std.specs.List.{list_all};
+ghost use Rattle.std.specs.List.{list_all, prefix_len};
 ghost use Rattle.std.specs.Option.{option_or};
 ghost use Rattle.raft_base.specs.LogId.{id_le};
 ghost use Rattle.raft_base.specs.LogView.{has_id, may_ask};
 ghost use Rattle.raft_state.specs.Appended.{begins_at_zero};
 ghost use Rattle.raft_state.specs.Commit.{state_after_commit, committed_before, state_commits, state_may_commit};
-ghost use Rattle.raft_state.specs.FirstDenied.{first_denied};
 ghost use Rattle.raft_state.specs.FullLog.{full_log, same_log};
 ghost use Rattle.raft_state.specs.LogConditions.{all_follow, all_follow_of_one_leader};
 ghost use Rattle.raft_state.specs.LogEdits.{log_after_extend, log_after_purge};
@@ -144,7 +143,7 @@ impl<
     pub fn first_conflicting_index<Ent: RaftLogId<C>>(&self, entries: &[Ent]) -> usize
         requires { IsTrue (list_all (λ e. may_ask C.cmp (view_of self.now) (Ent.id_of e))
             entries.now) }
-        ensures place { result ≡ first_denied (λ e. has_id C.eq (view_of self.now) (Ent.id_of e))
+        ensures place { result ≡ prefix_len (λ e. has_id C.eq (view_of self.now) (Ent.id_of e))
             entries.now }
         ensures within { result ≤ length entries.now }
         ensures before { IsTrue (list_all (λ e. has_id C.eq (view_of self.now) (Ent.id_of e))

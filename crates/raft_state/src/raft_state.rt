@@ -154,9 +154,9 @@ impl<
     /// 0, before each term in which a node votes.
     pub fn try_default(alloc: Global) -> Result<Self, AllocError>
         ensures new { IfOk result IsNewState }
-        ensures new_vote { IfOk result (λ s. (leader : L) × (granted : C)
-            × L.Default.is_default leader × C.Default.is_default granted
-            × HasNewVote leader granted s) }
+        ensures new_vote { IfOk result (λ s. (leader : L) × (elected : C)
+            × L.Default.is_default leader × C.Default.is_default elected
+            × HasNewVote leader elected s) }
         ensures first_term { IfOk result (λ s. L.term_of (vote_of s).leader_id ≡ 0) }
         ensures valid { IfOk result (λ s. broken_relation C.cmp s ≡ None) }
     {

@@ -5,11 +5,11 @@ pub mod EqualLemmas
 pub mod ExtendLemmas
 pub mod FrontLemmas
 pub mod FullLogLemmas
+pub mod IdOrderLemmas
 pub mod KeptLemmas
 pub mod KeyListLemmas
 pub mod LastTwoLemmas
 pub mod ListLemmas
-pub mod LoggedLemmas
 pub mod OrderLemmas
 pub mod SameEditsLemmas
 pub mod SameLogLemmas

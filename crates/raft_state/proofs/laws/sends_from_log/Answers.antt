@@ -1,4 +1,4 @@
-use Rattle.raft_state.proofs.lemmas.raft_state.SendLemmas.{sends_from_log}
+use Rattle.raft_state.proofs.lemmas.SendLemmas.{sends_from_log}
 use Rattle.raft_state.proofs.laws.sends_from_log.Goals as goal
 
 pub returns : goal.returns

@@ -27,8 +27,11 @@ use Rattle.std.proofs.Common.{
   arith,
   if◌then◌else◌,
 }
+use Rattle.std.proofs.lemmas.Bool.{or_right}
 use Rattle.std.proofs.lemmas.List.{append_assoc, append-nil}
 use Rattle.std.proofs.lemmas.Cmp.{tied_itself}
+use Rattle.std.specs.Cmp.Derive.{both_true}
+use Rattle.std.proofs.lemmas.Option.{same_Some}
 use Rattle.std.specs.Cmp.{IsEquivalence, IsTotalOrder, first_so, second_so}
 use Rattle.std.specs.Map.{keys_of}
 use Rattle.std.specs.Option.{option_cmp}
@@ -59,17 +62,6 @@ writes eq cmp part old new id v end up known = let k = up.known v known in subst
 length_more : {A : Type 0} (xs : List A) (x : A) → length (xs ++ x ∷ []) ≡ length xs + 1
 length_more [] x = refl
 length_more (y ∷ xs) x = let more = length_more xs x in omega arith
-
-or_right : (a b : Bool) → b ≡ true → (a || b) ≡ true
-or_right true b h = refl
-or_right false b h = h
-
-both : (a b : Bool) → a ≡ true → b ≡ true → (a && b) ≡ true
-both true b h k = k
-both false b h k = cc
-
-some_inside : {A : Type 0} (x y : A) → Some x ≡ Some y → x ≡ y
-some_inside x y h = cc
 
 module _ {ID C QS : Type 0} {eq : ID → ID → Bool} (e : IsEquivalence eq) (cmp : C → C → Ordering) (has_quorum : QS → (ID → Bool) → Bool)
     (log : LogView C) (n : ℕ) (can : ProgressEntryOf C → ℕ → ℕ → Bool) where
@@ -309,7 +301,7 @@ module _ {ID C QS : Type 0} {same_leader : C → C → Bool} {eq : ID → ID →
       let reaches : (y : ID) → ((state eq old).is_voter y && is_member eq ran y) ≡ true
       → reached (option_cmp (log_id_cmp cmp)) (λ (w : ProgressEntryOf C). w.matching) (state eq new) s y ≡ true =
       λ y h. (let theirs = caught y (second_so ((state eq old).is_voter y) (is_member eq ran y) h) in
-      both ((state eq new).is_voter y) _ (stays.is_voter y ∙ first_so ((state eq old).is_voter y) (is_member eq ran y) h)
+      both_true (stays.is_voter y ∙ first_so ((state eq old).is_voter y) (is_member eq ran y) h)
       (rw (theirs.1, alike s theirs.0.matching mine.2.last, alike_right theirs.0.matching log.last theirs.2.last) (le_last))) in
       let full : IsReached (option_cmp (log_id_cmp cmp)) (λ (w : ProgressEntryOf C). w.matching) has_quorum (state eq new) x v = record {
         voter = stays.is_voter x ∙ q.0.1;
@@ -327,7 +319,7 @@ module _ {ID C QS : Type 0} {same_leader : C → C → Bool} {eq : ID → ID →
           → id_le cmp v.matching log.last ≡ true
       under x v voter is = elim (kept_or_ran e cmp has_quorum log n can old pairs ran new round x) [
         | inl same ↦ below x v (sym (stays.is_voter x) ∙ voter) (sym same ∙ is)
-        | inr did ↦ (let mine = caught x did in let f : mine.0 ≡ v = some_inside mine.0 v (sym mine.1 ∙ is) in
+        | inr did ↦ (let mine = caught x did in let f : mine.0 ≡ v = same_Some mine.0 v (sym mine.1 ∙ is) in
             le_of_eq (option_cmp (log_id_cmp cmp) v.matching log.last)
             (tied same_leader cmp total reflexive ties v.matching log.last (rw (← f) mine.2.last)))
       ]

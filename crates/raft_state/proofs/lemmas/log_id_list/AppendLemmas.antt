@@ -55,41 +55,6 @@ ids_split c i (suc a) b = let e : suc a + b ≡ suc (a + b) = omega arith in let
 pub one_id : {C : Type 0} (k : LogIdOf C) → ids_of k.leader_id k.index (k.index + 1 - k.index) ≡ k ∷ []
 one_id k = let e : k.index + 1 - k.index ≡ suc zero = omega arith in rw e refl
 
-less_of : (o : Ordering) (t : Bool) → t ≡ is_eq o → is_le o ≡ true → t ≡ false → is_lt o ≡ true
-less_of Less t e h f = refl
-less_of Equal t e h f = cc
-less_of Greater t e h f = cc
-
-equal_of : (o : Ordering) → is_eq o ≡ true → o ≡ Equal
-equal_of Less h = cc
-equal_of Equal h = refl
-equal_of Greater h = cc
-
--- of log ids the leaders decide, and under one leader the indexes
-pub then_below : (o : Ordering) (i j : ℕ) → is_le o ≡ true → i ≤ j → is_le (ordering_then o (nat_cmp i j)) ≡ true
-then_below Less i j h le = refl
-then_below Equal i j h le = grind (arith, nat_tests)
-then_below Greater i j h le = cc
-
-lt_not_eq : (o : Ordering) (t : Bool) → t ≡ is_eq o → is_lt o ≡ true → t ≡ true → ⊥
-lt_not_eq Less t e h f = cc
-lt_not_eq Equal t e h f = cc
-lt_not_eq Greater t e h f = cc
-
-module _ {C : Type 0} (cmp : C → C → Ordering) (eq : C → C → Bool) (total : IsTotalOrder cmp)
-    (law : (x y : C) → eq x y ≡ is_eq (cmp x y)) where
-  pub strictly_less : (a b : C) → IsTrue (is_le (cmp a b)) → eq a b ≡ false → IsTrue (is_lt (cmp a b))
-  strictly_less a b h f = less_of (cmp a b) (eq a b) (law a b) h f
-
-  pub apart : (a b : C) → IsTrue (is_lt (cmp a b)) → eq a b ≡ true → ⊥
-  apart a b h e = lt_not_eq (cmp a b) (eq a b) (law a b) h e
-
-  pub itself : (a : C) → IsTrue (is_le (cmp a a))
-  itself a = rw (tied_itself total a) refl
-
-  pub upto_equal : (a b c : C) → eq a b ≡ true → IsTrue (is_le (cmp b c)) → IsTrue (is_le (cmp a c))
-  upto_equal a b c e h = let o = equal_of (cmp a b) (sym (law a b) ∙ e) in rw (total.congr a b c o) h
-
 module _ {C : Type 0} (eq : C → C → Bool) (same : (c : C) → eq c c ≡ true) where
   pub same_refl : (xs : List (LogIdOf C)) → SameLog eq xs xs
   same_refl [] = tt

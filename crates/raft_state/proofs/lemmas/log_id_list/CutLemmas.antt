@@ -39,7 +39,6 @@ use Rattle.std.proofs.Common.{
 }
 use Rattle.std.specs.declared.cmp.Ordering.{Ordering}
 use Rattle.std.specs.Ordering.{is_le, is_lt}
-use Rattle.std.specs.declared.cmp.Ordering.TheVariants.{Less, Equal, Greater}
 use Rattle.std.proofs.lemmas.Bool.{cases_lt}
 use Rattle.std.proofs.lemmas.Bool.Decides.{nat_tests}
 use Rattle.std.proofs.lemmas.List.Elements.{filter-append}
@@ -47,10 +46,11 @@ use Rattle.std.proofs.lemmas.List.{append-nil, take_more_set, take_at}
 use Rattle.std.specs.Prelude.{slice_get}
 use Rattle.raft_base.specs.LogId.{next_index}
 use Rattle.raft_base.specs.declared.log_id.LogIdOf.{LogIdOf}
+use Rattle.raft_progress.proofs.lemmas.progress.recount.RecountLemmas.{AtMost-from_lt}
 use Rattle.raft_state.specs.FullLog.{end_index, ids_of_keys, first_index, first_index_or, full_log, ids_of}
 use Rattle.raft_state.specs.Inner.KeyEdits.{keys_below, rest_up_to, keys_up_to, end_at, rest_from, keys_from, keys_after_purge}
 use Rattle.raft_state.specs.Inner.KeyList.{Rises, keys_to}
-use Rattle.raft_state.proofs.lemmas.log_id_list.KeyListLemmas.{IsKeyList}
+use Rattle.raft_state.proofs.lemmas.log_id_list.KeyListLemmas.{IsKeyList, tail_keys}
 use Rattle.raft_state.specs.Keys.{by_last_leader}
 use Rattle.raft_state.specs.LogEdits.{front, log_after_purge, rest}
 use Rattle.raft_state.specs.LogReads.{first_id, last_id}
@@ -168,14 +168,9 @@ full_cut cmp (k ∷ ks) (suc j) s =
           rw t (full_cut_after k ks (end_index (k ∷ ks)) j r refl past))
     ]
 
-lt_is_le : (o : Ordering) → IsTrue (is_lt o) → IsTrue (is_le o)
-lt_is_le Less h = refl
-lt_is_le Equal h = cc
-lt_is_le Greater h = cc
-
 cons_key : {C : Type 0} (cmp : C → C → Ordering) (k l : LogIdOf C) (xs : List (LogIdOf C)) → k.index < l.index
     → IsTrue (is_lt (cmp k.leader_id l.leader_id)) → IsKeyList cmp (l ∷ xs) → IsKeyList cmp (k ∷ l ∷ xs)
-cons_key cmp k l [] i o s = (i, lt_is_le (cmp k.leader_id l.leader_id) o)
+cons_key cmp k l [] i o s = (i, AtMost-from_lt cmp k.leader_id l.leader_id o)
 cons_key cmp k l (x ∷ xs) i o s = (i, o, s)
 
 module _ {C : Type 0} (cmp : C → C → Ordering) (same : (c : C) → IsTrue (is_le (cmp c c))) where
@@ -284,25 +279,20 @@ last_full cmp (k ∷ l ∷ ks) s =
     let b = full_begins cmp l ks t in
     let e = last_full cmp (l ∷ ks) t in
     rw b.1 (last_after (ids_of k.leader_id k.index (l.index - k.index)) l b.0 ∙ (rw b.1 at e))
-  where
-    tail_keys : {C : Type 0} (cmp : C → C → Ordering) (k l : LogIdOf C) (ks : List (LogIdOf C)) → IsKeyList cmp (k ∷ l ∷ ks)
-        → IsKeyList cmp (l ∷ ks)
-    tail_keys cmp k l [] s = tt
-    tail_keys cmp k l (m ∷ ks) s = s.2
 
 pub next_of_last : {C : Type 0} (ks ls : List (LogIdOf C)) → last_id ks ≡ last_id ls → end_index ks ≡ end_index ls
 next_of_last ks ls h = ap next_index h
 
-pub first_full : {C : Type 0} (cmp : C → C → Ordering) (ks : List (LogIdOf C)) (e : ℕ) → IsKeyList cmp ks
-    → first_index_or (full_log ks) e ≡ first_index_or ks e
-first_full cmp [] e s = refl
-first_full cmp (k ∷ ks) e s = let b = full_begins cmp k ks s in rw b.1 refl
+pub first_full : {C : Type 0} (cmp : C → C → Ordering) (ks : List (LogIdOf C)) → IsKeyList cmp ks
+    → first_index (full_log ks) ≡ first_index ks
+first_full cmp [] s = refl
+first_full cmp (k ∷ ks) s = let b = full_begins cmp k ks s in rw b.1 refl
 
 pub full_purged : {C : Type 0} (cmp : C → C → Ordering) (ks : List (LogIdOf C)) (upto : LogIdOf C) → IsKeyList cmp ks
     → full_log (keys_after_purge ks upto) ≡ log_after_purge (full_log ks) upto
 full_purged cmp ks upto s =
     let n = next_of_last (full_log ks) ks (last_full cmp ks s) in
-    let f = first_full cmp ks 0 s in
+    let f = first_full cmp ks s in
     rw (n, f) (by_test ks s (nat_le (end_index ks) upto.index) refl)
   where
     by_place : (k : LogIdOf _) (ks : List (LogIdOf _)) → IsKeyList cmp (k ∷ ks) → upto.index < end_index (k ∷ ks)
@@ -459,31 +449,32 @@ last_two eq (k ∷ l ∷ m ∷ ks) zero x y t len e = absurd (omega arith)
 last_two eq (k ∷ l ∷ m ∷ ks) (suc n) x y t len e = last_two eq (l ∷ m ∷ ks) n x y t (omega arith) e
 
 -- the calls' edits: n keys are not past the last index that stays
-from_end : {C : Type 0} (ks : List (LogIdOf C)) (a : ℕ) → (a ≡ 0 → ⊥) → keys_below ks a ≡ keys_up_to ks (a - 1)
-from_end ks zero some = absurd (some refl)
-from_end ks (suc j) some = let e : suc j - 1 ≡ j = omega arith in rw e refl
+below_by_last : {C : Type 0} (ks : List (LogIdOf C)) (a : ℕ) → (a ≡ 0 → ⊥) → keys_below ks a ≡ keys_up_to ks (a - 1)
+below_by_last ks zero some = absurd (some refl)
+below_by_last ks (suc j) some = let e : suc j - 1 ≡ j = omega arith in rw e refl
 
 before : (n : ℕ) → (n ≡ 0 → ⊥) → (m : ℕ) × (n ≡ suc m)
 before zero some = absurd (some refl)
 before (suc m) some = (m, refl)
 
-pub all_stay : {C : Type 0} (ks : List (LogIdOf C)) (a n : ℕ) → (a ≡ 0 → ⊥) → n ≡ keys_to ks (a - 1) → n ≡ length ks → ks ≡ keys_below ks a
-all_stay ks a n some count len = sym (from_end ks a some ∙ cut_all ks (a - 1) (sym count ∙ len))
+pub all_keys_stay : {C : Type 0} (ks : List (LogIdOf C)) (a n : ℕ) → (a ≡ 0 → ⊥) → n ≡ keys_to ks (a - 1) → n ≡ length ks
+    → ks ≡ keys_below ks a
+all_keys_stay ks a n some count len = sym (below_by_last ks a some ∙ cut_all ks (a - 1) (sym count ∙ len))
 
-some_stay : {C : Type 0} (ks : List (LogIdOf C)) (a n : ℕ) (key : LogIdOf C) → (a ≡ 0 → ⊥) → n ≡ keys_to ks (a - 1) → (n ≡ 0 → ⊥)
+some_keys_stay : {C : Type 0} (ks : List (LogIdOf C)) (a n : ℕ) (key : LogIdOf C) → (a ≡ 0 → ⊥) → n ≡ keys_to ks (a - 1) → (n ≡ 0 → ⊥)
     → n < length ks → key ≡ get_or ks (n - 1) key → keys_below ks a ≡ take n ks ++ end_at key (a - 1)
-some_stay {C} ks a n key some count kept lt place =
+some_keys_stay {C} ks a n key some count kept lt place =
     let b = before n kept in
     let one : n - 1 ≡ b.0 = let e = b.1 in omega arith in
     let here : key ≡ get_or ks b.0 key = subst (λ (q : ℕ). key ≡ get_or ks q key) one place in
     let at = cut_at ks (a - 1) b.0 key (sym count ∙ b.1) (let e = b.1 in omega arith) in
-    from_end ks a some ∙ subst (λ (x : LogIdOf C). keys_up_to ks (a - 1) ≡ take n ks ++ end_at x (a - 1)) (sym here) (rw (← b.1) at at)
+    below_by_last ks a some ∙ subst (λ (x : LogIdOf C). keys_up_to ks (a - 1) ≡ take n ks ++ end_at x (a - 1)) (sym here) (rw (← b.1) at at)
 
 pub cut_short : {C : Type 0} (ks : List (LogIdOf C)) (a n : ℕ) (key : LogIdOf C) → (a ≡ 0 → ⊥) → n ≡ keys_to ks (a - 1) → (n ≡ 0 → ⊥)
     → n < length ks → key ≡ get_or ks (n - 1) key → a - 1 ≤ key.index → take n ks ≡ keys_below ks a
 cut_short ks a n key some count kept lt place le =
     let t : nat_lt key.index (a - 1) ≡ false = grind (arith, nat_tests) in
-    sym (some_stay ks a n key some count kept lt place ∙ rw t (append-nil (take n ks)))
+    sym (some_keys_stay ks a n key some count kept lt place ∙ rw t (append-nil (take n ks)))
 
 pub cut_moved : {C : Type 0} (ks : List (LogIdOf C)) (a n : ℕ) (key : LogIdOf C) → (a ≡ 0 → ⊥) → n ≡ keys_to ks (a - 1) → (n ≡ 0 → ⊥)
     → n < length ks → key ≡ get_or ks (n - 1) key → key.index < a - 1
@@ -491,7 +482,7 @@ pub cut_moved : {C : Type 0} (ks : List (LogIdOf C)) (a n : ℕ) (key : LogIdOf 
 cut_moved {C} ks a n key some count kept lt place less =
     let t : nat_lt key.index (a - 1) ≡ true = grind (arith, nat_tests) in
     take_more_set ks n (record { leader_id = key.leader_id; index = a - 1 }) lt
-    ∙ sym (some_stay ks a n key some count kept lt place ∙ rw t refl)
+    ∙ sym (some_keys_stay ks a n key some count kept lt place ∙ rw t refl)
 
 pub next_at : {C : Type 0} (ks : List (LogIdOf C)) (key : LogIdOf C) → 0 < length ks → key ≡ get_or ks (length ks - 1) key
     → end_index ks ≡ key.index + 1

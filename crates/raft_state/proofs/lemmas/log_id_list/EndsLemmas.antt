@@ -21,18 +21,21 @@ use Rattle.std.proofs.Common.{
   length,
   map,
 }
+use Rattle.std.proofs.lemmas.Bool.{and_parts}
 use Rattle.std.specs.Prelude.{slice_get, unwrap_or}
 use Rattle.std.specs.Option.{option_map}
 use Rattle.std.specs.declared.cmp.Ordering.{Ordering}
 use Rattle.std.specs.declared.cmp.Ordering.TheVariants.{Less, Equal, Greater}
-use Rattle.std.specs.Ordering.{is_le, is_eq, is_gt, ordering_reverse}
-use Rattle.std.specs.Cmp.{IsTotalOrder, upto}
+use Rattle.std.specs.Ordering.{is_le, is_eq, ordering_reverse}
+use Rattle.std.specs.Cmp.{IsEquivalence, IsTotalOrder}
+use Rattle.std.proofs.lemmas.Cmp.{tied_back}
 use Rattle.raft_base.specs.declared.log_id.LogIdOf.{LogIdOf}
+use Rattle.raft_progress.proofs.lemmas.progress.recount.RecountLemmas.{AtMost-refl, AtMost-trans}
 use Rattle.raft_state.specs.Inner.KeyEdits.{keys_after_append, rest_after_append, keys_after_extend}
 use Rattle.raft_state.specs.LogConditions.{all_follow, ends_share_leader, follows}
 use Rattle.raft_state.specs.LogReads.{first_id, last_id}
-use Rattle.raft_state.proofs.lemmas.log_id_list.AppendLemmas.{itself, some_after}
-use Rattle.raft_state.proofs.lemmas.log_id_list.SameLogLemmas.{both}
+use Rattle.raft_state.proofs.lemmas.log_id_list.AppendLemmas.{some_after}
+use Rattle.raft_state.proofs.lemmas.log_id_list.IdOrderLemmas.{equal_of, leaders_trans}
 
 -- the last of these log ids, or x where there is none
 abbrev pub last_or : {C : Type 0} → LogIdOf C → List (LogIdOf C) → LogIdOf C
@@ -50,12 +53,11 @@ EndsWith eq [] y = ⊥
 EndsWith eq (k ∷ []) y = IsTrue (eq k.leader_id y.leader_id)
 EndsWith eq (k ∷ l ∷ ks) y = EndsWith eq (l ∷ ks) y
 
-module _ {C : Type 0} (eq : C → C → Bool) (same : (c : C) → eq c c ≡ true)
-    (trans : (a b c : C) → eq a b ≡ true → eq b c ≡ true → eq a c ≡ true) (turn : (a b : C) → eq a b ≡ true → eq b a ≡ true) where
-  past_first : (k l : LogIdOf C) (xs : List (LogIdOf C)) (z : LogIdOf C) → 1 ≤ length xs
+module _ {C : Type 0} (eq : C → C → Bool) (eqs : IsEquivalence eq) where
+  after_first_key : (k l : LogIdOf C) (xs : List (LogIdOf C)) (z : LogIdOf C) → 1 ≤ length xs
       → rest_after_append eq k (l ∷ xs) z ≡ l ∷ rest_after_append eq l xs z
-  past_first k l [] z some = absurd (omega arith)
-  past_first k l (x ∷ xs) z some = refl
+  after_first_key k l [] z some = absurd (omega arith)
+  after_first_key k l (x ∷ xs) z some = refl
 
   -- an append by the last key's leader gives way to the next one by that leader
   merged_after : (k : LogIdOf C) (ks : List (LogIdOf C)) (y z : LogIdOf C) → EndsWith eq (k ∷ ks) y
@@ -65,10 +67,11 @@ module _ {C : Type 0} (eq : C → C → Bool) (same : (c : C) → eq c c ≡ tru
     where
       by_last : (t : Bool) → t ≡ eq k.leader_id l.leader_id
           → rest_after_append eq k (if t then y ∷ [] else l ∷ y ∷ []) z ≡ (if t then z ∷ [] else l ∷ z ∷ [])
-      by_last true e = let near : eq k.leader_id y.leader_id ≡ true = trans k.leader_id l.leader_id y.leader_id (sym e) h in rw near refl
+      by_last true e = let near : eq k.leader_id y.leader_id ≡ true = leaders_trans eqs k.leader_id l.leader_id y.leader_id (sym e) h in
+          rw near refl
       by_last false e = rw h refl
   merged_after k (l ∷ m ∷ ks) y z h =
-      past_first k l (rest_after_append eq l (m ∷ ks) y) z (some_after eq same l (m ∷ ks) y)
+      after_first_key k l (rest_after_append eq l (m ∷ ks) y) z (some_after eq eqs.refl l (m ∷ ks) y)
       ∙ ap (λ (r : List (LogIdOf C)). l ∷ r) (merged_after l (m ∷ ks) y z h)
 
   merged : (ks : List (LogIdOf C)) (y z : LogIdOf C) → EndsWith eq ks y
@@ -104,24 +107,6 @@ module _ {C : Type 0} (eq : C → C → Bool) (same : (c : C) → eq c c ≡ tru
       ap (λ (r : List (LogIdOf C)). keys_after_extend eq r ids) (merged (keys_after_append eq ks x) y z (ends_added ks x y h.0))
       ∙ added_by_ends ks x z ids h.1
 
--- what is between equal leaders is equal to them
-le_chain_of : (o p q : Ordering) → (is_gt o ≡ false → is_gt p ≡ false → is_gt q ≡ false) → is_le o ≡ true → is_le p ≡ true → is_le q ≡ true
-le_chain_of Greater p q f h g = cc
-le_chain_of Less Greater q f h g = cc
-le_chain_of Equal Greater q f h g = cc
-le_chain_of Less Less Less f h g = refl
-le_chain_of Less Less Equal f h g = refl
-le_chain_of Less Less Greater f h g = let e : true ≡ false = f refl refl in cc
-le_chain_of Less Equal Less f h g = refl
-le_chain_of Less Equal Equal f h g = refl
-le_chain_of Less Equal Greater f h g = let e : true ≡ false = f refl refl in cc
-le_chain_of Equal Less Less f h g = refl
-le_chain_of Equal Less Equal f h g = refl
-le_chain_of Equal Less Greater f h g = let e : true ≡ false = f refl refl in cc
-le_chain_of Equal Equal Less f h g = refl
-le_chain_of Equal Equal Equal f h g = refl
-le_chain_of Equal Equal Greater f h g = let e : true ≡ false = f refl refl in cc
-
 tied_of : (o p : Ordering) → o ≡ ordering_reverse p → is_le o ≡ true → is_le p ≡ true → is_eq o ≡ true
 tied_of Less Less e h g = cc
 tied_of Less Equal e h g = cc
@@ -129,26 +114,16 @@ tied_of Less Greater e h g = cc
 tied_of Equal p e h g = refl
 tied_of Greater p e h g = cc
 
-turned_of : (o p : Ordering) → p ≡ ordering_reverse o → is_eq o ≡ true → is_le p ≡ true
-turned_of Less p e h = cc
-turned_of Greater p e h = cc
-turned_of Equal Less e h = refl
-turned_of Equal Equal e h = refl
-turned_of Equal Greater e h = cc
-
 module _ {C : Type 0} (cmp : C → C → Ordering) (eq : C → C → Bool) (total : IsTotalOrder cmp)
     (law : (x y : C) → eq x y ≡ is_eq (cmp x y)) where
-  chain : (a b c : C) → is_le (cmp a b) ≡ true → is_le (cmp b c) ≡ true → is_le (cmp a c) ≡ true
-  chain a b c h g = le_chain_of (cmp a b) (cmp b c) (cmp a c) (upto total a b c) h g
-
   -- leaders that follow one another do not fall
   none_falls : (x : LogIdOf C) (ids : List (LogIdOf C)) → IsTrue (all_follow cmp (Some x) ids)
       → is_le (cmp x.leader_id (last_or x ids).leader_id) ≡ true
-  none_falls x [] h = itself cmp eq total law x.leader_id
+  none_falls x [] h = AtMost-refl total x.leader_id
   none_falls x (y ∷ ids) h =
-      let b = both (follows cmp (Some x) y) (all_follow cmp (Some y) ids) h in
-      let step = both (nat_lt x.index y.index) (is_le (cmp x.leader_id y.leader_id)) b.0 in
-      chain x.leader_id y.leader_id (last_or y ids).leader_id step.1 (none_falls y ids b.1)
+      let b = and_parts (follows cmp (Some x) y) (all_follow cmp (Some y) ids) h in
+      let step = and_parts (nat_lt x.index y.index) (is_le (cmp x.leader_id y.leader_id)) b.0 in
+      AtMost-trans total x.leader_id y.leader_id (last_or y ids).leader_id step.1 (none_falls y ids b.1)
 
   tied : (a b : C) → is_le (cmp a b) ≡ true → is_le (cmp b a) ≡ true → eq a b ≡ true
   tied a b h g = law a b ∙ tied_of (cmp a b) (cmp b a) (total.antisymm a b) h g
@@ -158,20 +133,20 @@ module _ {C : Type 0} (cmp : C → C → Ordering) (eq : C → C → Bool) (tota
       → is_le (cmp (last_or x ids).leader_id c) ≡ true → IsTrue (all_follow cmp (Some x) ids) → OfLeader eq c (x ∷ ids)
   between c x [] up down h = (tied c x.leader_id up down, tt)
   between c x (y ∷ ids) up down h =
-      let b = both (follows cmp (Some x) y) (all_follow cmp (Some y) ids) h in
-      let step = both (nat_lt x.index y.index) (is_le (cmp x.leader_id y.leader_id)) b.0 in
-      let back = chain x.leader_id (last_or y ids).leader_id c (none_falls x (y ∷ ids) h) down in
-      (tied c x.leader_id up back, between c y ids (chain c x.leader_id y.leader_id up step.1) down b.1)
+      let b = and_parts (follows cmp (Some x) y) (all_follow cmp (Some y) ids) h in
+      let step = and_parts (nat_lt x.index y.index) (is_le (cmp x.leader_id y.leader_id)) b.0 in
+      let back = AtMost-trans total x.leader_id (last_or y ids).leader_id c (none_falls x (y ∷ ids) h) down in
+      (tied c x.leader_id up back, between c y ids (AtMost-trans total c x.leader_id y.leader_id up step.1) down b.1)
 
   -- log ids that follow one another and end under the leader of the first are all of that leader
   pub one_leader : (x y : LogIdOf C) (ids : List (LogIdOf C)) → IsTrue (all_follow cmp (Some x) (y ∷ ids))
       → eq x.leader_id (last_or y ids).leader_id ≡ true → OfLeader eq x.leader_id (y ∷ ids)
   one_leader x y ids h e =
-      let b = both (follows cmp (Some x) y) (all_follow cmp (Some y) ids) h in
-      let step = both (nat_lt x.index y.index) (is_le (cmp x.leader_id y.leader_id)) b.0 in
+      let b = and_parts (follows cmp (Some x) y) (all_follow cmp (Some y) ids) h in
+      let step = and_parts (nat_lt x.index y.index) (is_le (cmp x.leader_id y.leader_id)) b.0 in
       let z = (last_or y ids).leader_id in
-      between x.leader_id y ids step.1 (turned_of (cmp x.leader_id z) (cmp z x.leader_id) (total.antisymm z x.leader_id)
-      (sym (law x.leader_id z) ∙ e)) b.1
+      between x.leader_id y ids step.1 (ap is_le (tied_back total x.leader_id z
+      (equal_of (cmp x.leader_id z) (sym (law x.leader_id z) ∙ e)))) b.1
 
 -- the ends of log ids, by place
 pub last_of_some : {C : Type 0} (x : LogIdOf C) (ids : List (LogIdOf C)) → last_id (x ∷ ids) ≡ Some (last_or x ids)
@@ -198,6 +173,3 @@ last_mapped id_of (l ∷ ls) =
 pub ends_by_place : {C L : Type 0} (eq : C → C → Bool) (id_of : L → LogIdOf C) (ls : List L) (f l : L) → Some f ≡ slice_get ls 0
     → Some l ≡ slice_get ls (length ls - 1) → eq (id_of f).leader_id (id_of l).leader_id ≡ ends_share_leader eq (map id_of ls)
 ends_by_place eq id_of ls f l first last = rw (first_mapped id_of ls, last_mapped id_of ls, ← first, ← last) refl
-
-pub same_some : {A : Type 0} (a b : A) → Some a ≡ Some b → a ≡ b
-same_some a b e = ap (λ o. unwrap_or o a) e

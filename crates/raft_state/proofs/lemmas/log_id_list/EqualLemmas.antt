@@ -30,39 +30,24 @@ use Rattle.std.proofs.Common.{
 }
 use Rattle.std.specs.declared.cmp.Ordering.{Ordering}
 use Rattle.std.specs.Ordering.{is_lt}
-use Rattle.std.proofs.lemmas.Bool.{cases_lt}
+use Rattle.std.proofs.lemmas.Bool.{cases_lt, false_from_ne_true}
 use Rattle.raft_base.specs.declared.log_id.LogIdOf.{LogIdOf}
 use Rattle.raft_state.specs.FullLog.{full_log, ids_of, same_log}
-use Rattle.raft_state.proofs.lemmas.log_id_list.KeyListLemmas.{IsKeyList}
+use Rattle.raft_state.proofs.lemmas.log_id_list.KeyListLemmas.{IsKeyList, step_keys, tail_keys}
 use Rattle.raft_state.specs.LogReads.{leader_changes, leader_count}
-use Rattle.raft_state.proofs.lemmas.log_id_list.AppendLemmas.{same_append, same_ids}
 use Rattle.raft_state.proofs.lemmas.log_id_list.SameLogLemmas.{SameLog, is_same, says_same}
-use Rattle.raft_state.proofs.lemmas.log_id_list.AppendLemmas.{ids_split, one_id}
-use Rattle.std.specs.Cmp.{both_ways}
+use Rattle.raft_state.proofs.lemmas.log_id_list.AppendLemmas.{ids_split, one_id, same_append, same_ids}
+use Rattle.raft_state.proofs.lemmas.log_id_list.IdOrderLemmas.{leaders_symm, leaders_trans}
+use Rattle.std.specs.Cmp.{IsEquivalence, both_ways}
 use Rattle.raft_state.proofs.lemmas.log_id_list.CutLemmas.{full_begins, one_key}
 
-pub tail_keys : {C : Type 0} (cmp : C → C → Ordering) (k l : LogIdOf C) (ks : List (LogIdOf C)) → IsKeyList cmp (k ∷ l ∷ ks)
-    → IsKeyList cmp (l ∷ ks)
-tail_keys cmp k l [] s = tt
-tail_keys cmp k l (m ∷ ks) s = s.2
-
-pub rises_once : {C : Type 0} (cmp : C → C → Ordering) (k l : LogIdOf C) (ks : List (LogIdOf C)) → IsKeyList cmp (k ∷ l ∷ ks)
-    → k.index < l.index
-rises_once cmp k l [] s = s.0
-rises_once cmp k l (m ∷ ks) s = s.0
-
-not_true : (t : Bool) → (t ≡ true → ⊥) → t ≡ false
-not_true true h = absurd (h refl)
-not_true false h = refl
-
-module _ {C : Type 0} (eq : C → C → Bool) (same : (c : C) → eq c c ≡ true)
-    (trans : (a b c : C) → eq a b ≡ true → eq b c ≡ true → eq a c ≡ true) (turn : (a b : C) → eq a b ≡ true → eq b a ≡ true)
+module _ {C : Type 0} (eq : C → C → Bool) (eqs : IsEquivalence eq)
     (cmp : C → C → Ordering) (apart : (a b : C) → IsTrue (is_lt (cmp a b)) → eq a b ≡ true → ⊥) where
-  same_turn : (xs ys : List (LogIdOf C)) → SameLog eq xs ys → SameLog eq ys xs
-  same_turn [] [] h = tt
-  same_turn [] (y ∷ ys) h = absurd h
-  same_turn (x ∷ xs) [] h = absurd h
-  same_turn (x ∷ xs) (y ∷ ys) h = (turn x.leader_id y.leader_id h.0, sym h.1, same_turn xs ys h.2)
+  same_symm : (xs ys : List (LogIdOf C)) → SameLog eq xs ys → SameLog eq ys xs
+  same_symm [] [] h = tt
+  same_symm [] (y ∷ ys) h = absurd h
+  same_symm (x ∷ xs) [] h = absurd h
+  same_symm (x ∷ xs) (y ∷ ys) h = (leaders_symm eqs x.leader_id y.leader_id h.0, sym h.1, same_symm xs ys h.2)
 
   -- after as many ids of two leaders
   after_ids : (c d : C) (i n : ℕ) (us vs : List (LogIdOf C)) → SameLog eq (ids_of c i n ++ us) (ids_of d i n ++ vs) → SameLog eq us vs
@@ -81,8 +66,8 @@ module _ {C : Type 0} (eq : C → C → Bool) (same : (c : C) → eq c c ≡ tru
       let i0 = h.1 in
       let i1 = h.2.1 in
       let ids : SameLog eq (ids_of k.leader_id k.index (m.index - k.index)) (ids_of l.leader_id l.index (n.index - l.index)) =
-      rw (i0, i1) (same_ids eq same k.leader_id l.leader_id l.index (n.index - l.index) h.0) in
-      same_append eq same (ids_of k.leader_id k.index (m.index - k.index)) (ids_of l.leader_id l.index (n.index - l.index))
+      rw (i0, i1) (same_ids eq eqs.refl k.leader_id l.leader_id l.index (n.index - l.index) h.0) in
+      same_append eq eqs.refl (ids_of k.leader_id k.index (m.index - k.index)) (ids_of l.leader_id l.index (n.index - l.index))
       (full_log (m ∷ ks)) (full_log (n ∷ ls)) ids (full_same (m ∷ ks) (n ∷ ls) h.2)
 
   none_same : (xs : List (LogIdOf C)) (y : LogIdOf C) (ys : List (LogIdOf C)) → SameLog eq [] (xs ++ y ∷ ys) → ⊥
@@ -93,7 +78,7 @@ module _ {C : Type 0} (eq : C → C → Bool) (same : (c : C) → eq c c ≡ tru
   earlier : (k l a b : LogIdOf C) (ks ls : List (LogIdOf C)) → IsKeyList cmp (k ∷ a ∷ ks) → IsKeyList cmp (l ∷ b ∷ ls) → k.index ≡ l.index
       → eq k.leader_id l.leader_id ≡ true → SameLog eq (full_log (k ∷ a ∷ ks)) (full_log (l ∷ b ∷ ls)) → a.index < b.index → ⊥
   earlier k l a b ks ls s r i e h lt =
-      let up = rises_once cmp k a ks s in
+      let up = (step_keys cmp k a ks s).0 in
       let n : b.index - l.index ≡ (a.index - k.index) + suc (b.index - (a.index + 1)) = omega arith in
       let at : k.index + (a.index - k.index) ≡ a.index = omega arith in
       let split : full_log (l ∷ b ∷ ls) ≡ ids_of l.leader_id k.index (a.index - k.index)
@@ -119,13 +104,14 @@ module _ {C : Type 0} (eq : C → C → Bool) (same : (c : C) → eq c c ≡ tru
           (subst (λ (x : List (LogIdOf C)). SameLog eq [] (ids_of l.leader_id (a.index + 1) (b.index - (a.index + 1)) ++ x)) ends.1
           h3.2)
       by_rest (m ∷ ks) s same_leader ends h2 =
-          apart k.leader_id a.leader_id s.1 (trans k.leader_id l.leader_id a.leader_id e (turn a.leader_id l.leader_id same_leader))
+          apart k.leader_id a.leader_id s.1
+          (leaders_trans eqs k.leader_id l.leader_id a.leader_id e (leaders_symm eqs a.leader_id l.leader_id same_leader))
 
   -- one key has one id, two have more
   longer : (k l b : LogIdOf C) (ls : List (LogIdOf C)) → IsKeyList cmp (l ∷ b ∷ ls) → SameLog eq (full_log (k ∷ [])) (full_log (l ∷ b ∷ ls))
       → ⊥
   longer k l b ls r h =
-      let up = rises_once cmp l b ls r in
+      let up = (step_keys cmp l b ls r).0 in
       let n : b.index - l.index ≡ suc (b.index - (l.index + 1)) = omega arith in
       let ends = full_begins cmp b ls (tail_keys cmp l b ls r) in
       let h2 : SameLog eq (full_log (k ∷ [])) (ids_of l.leader_id l.index (suc (b.index - (l.index + 1))) ++ full_log (b ∷ ls)) =
@@ -150,17 +136,17 @@ module _ {C : Type 0} (eq : C → C → Bool) (same : (c : C) → eq c c ≡ tru
   keys_same [] (l ∷ ls) s r h = let b = full_begins cmp l ls r in
       absurd (none_same [] l b.0 (subst (λ (x : List (LogIdOf C)). SameLog eq [] x) b.1 h))
   keys_same (k ∷ ks) [] s r h = let b = full_begins cmp k ks s in
-      absurd (none_same [] k b.0 (subst (λ (x : List (LogIdOf C)). SameLog eq [] x) b.1 (same_turn (full_log (k ∷ ks)) [] h)))
+      absurd (none_same [] k b.0 (subst (λ (x : List (LogIdOf C)). SameLog eq [] x) b.1 (same_symm (full_log (k ∷ ks)) [] h)))
   keys_same (k ∷ []) (l ∷ []) s r h = let g = heads_same k l [] [] s r h in (g.0, g.1, tt)
   keys_same (k ∷ []) (l ∷ b ∷ ls) s r h = absurd (longer k l b ls r h)
-  keys_same (k ∷ a ∷ ks) (l ∷ []) s r h = absurd (longer l k a ks s (same_turn (full_log (k ∷ a ∷ ks)) (full_log (l ∷ [])) h))
+  keys_same (k ∷ a ∷ ks) (l ∷ []) s r h = absurd (longer l k a ks s (same_symm (full_log (k ∷ a ∷ ks)) (full_log (l ∷ [])) h))
   keys_same (k ∷ a ∷ ks) (l ∷ b ∷ ls) s r h =
       let g = heads_same k l (a ∷ ks) (b ∷ ls) s r h in
       elim (cases_lt a.index b.index) [
         | inl less ↦ absurd (earlier k l a b ks ls s r g.1 g.0 h less)
         | inr most ↦ elim (cases_lt b.index a.index) [
-          | inl less ↦ absurd (earlier l k b a ls ks r s (sym g.1) (turn k.leader_id l.leader_id g.0)
-              (same_turn (full_log (k ∷ a ∷ ks)) (full_log (l ∷ b ∷ ls)) h) less)
+          | inl less ↦ absurd (earlier l k b a ls ks r s (sym g.1) (leaders_symm eqs k.leader_id l.leader_id g.0)
+              (same_symm (full_log (k ∷ a ∷ ks)) (full_log (l ∷ b ∷ ls)) h) less)
           | inr least ↦ (let e : a.index ≡ b.index = omega arith in
               let i = g.1 in
               let n : b.index - l.index ≡ a.index - k.index = omega arith in
@@ -180,12 +166,12 @@ module _ {C : Type 0} (eq : C → C → Bool) (same : (c : C) → eq c c ≡ tru
   changes_ids : (c : C) (i n : ℕ) (xs : List (LogIdOf C)) → leader_changes eq c (ids_of c i n ++ xs) ≡ leader_changes eq c xs
   changes_ids c i zero xs = refl
   changes_ids c i (suc n) xs = let z : 0 + leader_changes eq c (ids_of c (i + 1) n ++ xs) ≡ leader_changes eq c (ids_of c (i + 1) n ++ xs) =
-      omega arith in rw (same c) (z ∙ changes_ids c (i + 1) n xs)
+      omega arith in rw (eqs.refl c) (z ∙ changes_ids c (i + 1) n xs)
 
   more_leaders : (k l : LogIdOf C) (ks : List (LogIdOf C)) → IsKeyList cmp (k ∷ l ∷ ks)
       → leader_count eq (full_log (k ∷ l ∷ ks)) ≡ (if eq k.leader_id l.leader_id then 0 else 1) + leader_count eq (full_log (l ∷ ks))
   more_leaders k l ks s =
-      let up = rises_once cmp k l ks s in
+      let up = (step_keys cmp k l ks s).0 in
       let n : l.index - k.index ≡ suc (l.index - (k.index + 1)) = omega arith in
       let b = full_begins cmp l ks (tail_keys cmp k l ks s) in
       let now : full_log (k ∷ l ∷ ks) ≡ k ∷ (ids_of k.leader_id (k.index + 1) (l.index - (k.index + 1)) ++ l ∷ b.0) =
@@ -200,7 +186,8 @@ module _ {C : Type 0} (eq : C → C → Bool) (same : (c : C) → eq c c ≡ tru
       omega arith
   few_keys (k ∷ l ∷ m ∷ ks) s =
       let more = more_leaders k l (m ∷ ks) s in
-      let differs : eq k.leader_id l.leader_id ≡ false = not_true (eq k.leader_id l.leader_id) (apart k.leader_id l.leader_id s.1) in
+      let differs : eq k.leader_id l.leader_id ≡ false =
+      false_from_ne_true (eq k.leader_id l.leader_id) (apart k.leader_id l.leader_id s.1) in
       let now : leader_count eq (full_log (k ∷ l ∷ m ∷ ks)) ≡ 1 + leader_count eq (full_log (l ∷ m ∷ ks)) = more ∙ rw differs refl in
       let before = few_keys (l ∷ m ∷ ks) s.2 in omega arith
 

@@ -49,7 +49,7 @@ use Rattle.raft_state.proofs.lemmas.log_id_list.OrderLemmas.{From, from_full}
 pub from_first : {C : Type 0} (cmp : C → C → Ordering) (ks : List (LogIdOf C)) → IsKeyList cmp ks
     → From (first_index (full_log ks)) (full_log ks)
 from_first cmp [] s = tt
-from_first cmp (k ∷ ks) s = rw (first_full cmp (k ∷ ks) 0 s) (from_full cmp k ks s)
+from_first cmp (k ∷ ks) s = rw (first_full cmp (k ∷ ks) s) (from_full cmp k ks s)
 
 -- below the first index there is nothing
 pub front_none : {C : Type 0} (b a : ℕ) (xs : List (LogIdOf C)) → From b xs → a ≤ b → front xs a ≡ []

@@ -241,20 +241,20 @@ covers {C} k ks j le = let t : nat_le k.index j ≡ true = grind (arith, nat_tes
 pub covers_none : {C : Type 0} (k : LogIdOf C) (ks : List (LogIdOf C)) (j : ℕ) → j < k.index → covering (k ∷ ks) j ≡ None
 covers_none k ks j lt = let t : nat_le k.index j ≡ false = grind (arith, nat_tests) in rw t refl
 
-there_if : {A : Type 0} (t : Bool) (x : A) → is_some (if t then Some x else None) ≡ t
-there_if true x = refl
-there_if false x = refl
+found_if : {A : Type 0} (t : Bool) (x : A) → is_some (if t then Some x else None) ≡ t
+found_if true x = refl
+found_if false x = refl
 
 -- an index has a log id exactly from the first key's index to the last key's
-pub there_within : {C : Type 0} (cmp : C → C → Ordering) (ks : List (LogIdOf C)) (j : ℕ) → IsKeyList cmp ks
+pub found_within : {C : Type 0} (cmp : C → C → Ordering) (ks : List (LogIdOf C)) (j : ℕ) → IsKeyList cmp ks
     → is_some (id_at (full_log ks) j) ≡ (nat_le (first_index ks) j && nat_lt j (end_index ks))
-there_within cmp [] j s = grind (arith, nat_tests)
-there_within {C} cmp (k ∷ ks) j s = elim (cases_lt j k.index) [
+found_within cmp [] j s = grind (arith, nat_tests)
+found_within {C} cmp (k ∷ ks) j s = elim (cases_lt j k.index) [
   | inl below ↦ (let t : nat_le k.index j ≡ false = grind (arith, nat_tests) in
       rw (at_full cmp (k ∷ ks) j s, covers_none k ks j below, cond_same {A = Option (LogIdOf C)} (nat_lt j (end_index (k ∷ ks))) None, t)
       refl)
   | inr past ↦ (let t : nat_le k.index j ≡ true = grind (arith, nat_tests) in
       let c = covers k ks j past in
       let id : LogIdOf C = record { leader_id = c.0.leader_id; index = j } in
-      rw (at_full cmp (k ∷ ks) j s, c.1, t) (there_if (nat_lt j (end_index (k ∷ ks))) id))
+      rw (at_full cmp (k ∷ ks) j s, c.1, t) (found_if (nat_lt j (end_index (k ∷ ks))) id))
 ]

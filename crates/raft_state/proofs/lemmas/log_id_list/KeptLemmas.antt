@@ -41,7 +41,7 @@ use Rattle.std.specs.Prelude.{slice_get}
 use Rattle.std.specs.Option.{option_or}
 use Rattle.std.specs.Ordering.{is_le}
 use Rattle.std.specs.declared.cmp.Ordering.{Ordering}
-use Rattle.std.proofs.lemmas.Bool.{cases_lt}
+use Rattle.std.proofs.lemmas.Bool.{and_parts, cases_lt}
 use Rattle.std.proofs.lemmas.Bool.Decides.{nat_tests}
 use Rattle.raft_base.specs.LogId.{next_index, same_ids}
 use Rattle.raft_base.specs.LogView.{prev_id}
@@ -56,7 +56,6 @@ use Rattle.raft_state.proofs.lemmas.log_id_list.FrontLemmas.{front_all, front_la
 use Rattle.raft_state.proofs.lemmas.log_id_list.FullLogLemmas.{ids_above, ids_below}
 use Rattle.raft_state.proofs.lemmas.log_id_list.OrderLemmas.{From}
 use Rattle.raft_state.proofs.lemmas.log_id_list.SameEditsLemmas.{id_at_finds}
-use Rattle.raft_state.proofs.lemmas.log_id_list.SameLogLemmas.{both}
 
 or_none : {A : Type 0} (o : Option A) → option_or (option_or o None) None ≡ o
 or_none None = refl
@@ -96,7 +95,7 @@ EndsThere log = (i : ℕ) → end_index log ≤ i → id_at log i ≡ None
 follows_past : {C : Type 0} (cmp : C → C → Ordering) (last : Option (LogIdOf C)) (id : LogIdOf C) → follows cmp last id ≡ true
     → next_index last ≤ id.index
 follows_past cmp None id h = omega arith
-follows_past cmp (Some l) id h = let b = both (nat_lt l.index id.index) (is_le (cmp l.leader_id id.leader_id)) h in let lt = b.0 in
+follows_past cmp (Some l) id h = let b = and_parts (nat_lt l.index id.index) (is_le (cmp l.leader_id id.leader_id)) h in let lt = b.0 in
     grind (arith, nat_tests)
 
 -- an append keeps what was there, has its own log id, and nothing past it
@@ -134,7 +133,7 @@ module _ {C : Type 0} (cmp : C → C → Ordering) where
       → id_at (log_after_extend log ids) i ≡ id_at log i
   extended_reads log [] i follow lt = refl
   extended_reads log (id ∷ ids) i follow lt =
-      let b = both (follows cmp (last_id log) id) (all_follow cmp (Some id) ids) follow in
+      let b = and_parts (follows cmp (last_id log) id) (all_follow cmp (Some id) ids) follow in
       let past = follows_past cmp (last_id log) id b.0 in
       let e = appended_end log id past in
       extended_reads (log_after_append log id) ids i (rw (last_of_parts (log ++ missing_ids log id.index) id) b.1) (omega arith)
@@ -145,7 +144,7 @@ module _ {C : Type 0} (cmp : C → C → Ordering) where
       → id_at (log_after_extend log ids) own.index ≡ Some own
   extended_own log [] n own follow ends is = cc
   extended_own log (id ∷ ids) zero own follow ends is =
-      let b = both (follows cmp (last_id log) id) (all_follow cmp (Some id) ids) follow in
+      let b = and_parts (follows cmp (last_id log) id) (all_follow cmp (Some id) ids) follow in
       let past = follows_past cmp (last_id log) id b.0 in
       let e = appended_end log id past in
       let same : id ≡ own = cc in
@@ -153,7 +152,7 @@ module _ {C : Type 0} (cmp : C → C → Ordering) where
       (extended_reads (log_after_append log id) ids id.index (rw (last_of_parts (log ++ missing_ids log id.index) id) b.1) (omega arith)
       ∙ appended_own log id past ends)
   extended_own log (id ∷ ids) (suc n) own follow ends is =
-      let b = both (follows cmp (last_id log) id) (all_follow cmp (Some id) ids) follow in
+      let b = and_parts (follows cmp (last_id log) id) (all_follow cmp (Some id) ids) follow in
       let past = follows_past cmp (last_id log) id b.0 in
       extended_own (log_after_append log id) ids n own (rw (last_of_parts (log ++ missing_ids log id.index) id) b.1)
       (appended_ends log id past ends) is
@@ -247,14 +246,14 @@ front_ends {C} b (x ∷ xs) (suc j) h =
         rw (n, s) (is ∙ sym (last_found b (x ∷ xs) y h is))
 
 -- each index within has a log id
-pub there_at : {C : Type 0} (b : ℕ) (xs : List (LogIdOf C)) (i : ℕ) → From b xs → b ≤ i → i < b + length xs
+pub has_id_at : {C : Type 0} (b : ℕ) (xs : List (LogIdOf C)) (i : ℕ) → From b xs → b ≤ i → i < b + length xs
     → (x : LogIdOf C) × (id_at xs i ≡ Some x)
-there_at b [] i h le lt = absurd (omega arith)
-there_at {C} b (x ∷ xs) i h le lt =
+has_id_at b [] i h le lt = absurd (omega arith)
+has_id_at {C} b (x ∷ xs) i h le lt =
     let h0 = h.0 in let n : length (x ∷ xs) ≡ suc (length xs) = refl in
     elim (cases_lt x.index i) [
       | inl later ↦ (let t : (x.index == i) ≡ false = grind (arith, nat_tests) in let r =
-          there_at (b + 1) xs i h.1 (omega arith) (omega arith) in (r.0, rw t r.1))
+          has_id_at (b + 1) xs i h.1 (omega arith) (omega arith) in (r.0, rw t r.1))
       | inr here ↦ (let t : (x.index == i) ≡ true = grind (arith, nat_tests) in (x, rw t refl))
     ]
 
@@ -275,7 +274,7 @@ front_end {C} (x ∷ xs) a h = elim (cases_lt x.index a) [
       let e = from_end x.index x xs h in
       let n : length (x ∷ xs) ≡ suc (length xs) = refl in
       let s : min a (end_index (x ∷ xs)) ≡ suc (min a (end_index (x ∷ xs)) - 1) = omega arith in
-      let z = there_at x.index (x ∷ xs) (min a (end_index (x ∷ xs)) - 1) h (omega arith) (omega arith) in
+      let z = has_id_at x.index (x ∷ xs) (min a (end_index (x ∷ xs)) - 1) h (omega arith) (omega arith) in
       let last = ap next_index (front_ends x.index (x ∷ xs) a h) in
       last ∙ rw (t, s) (next_of (x ∷ xs) (min a (end_index (x ∷ xs)) - 1) z.0 z.1))
   | inr past ↦ (let t : nat_lt x.index a ≡ false = grind (arith, nat_tests) in

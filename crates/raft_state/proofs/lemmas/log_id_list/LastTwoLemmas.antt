@@ -28,12 +28,11 @@ use Rattle.std.specs.declared.cmp.Ordering.{Ordering}
 use Rattle.raft_base.specs.declared.log_id.LogIdOf.{LogIdOf}
 use Rattle.raft_state.specs.FullLog.{full_log, ids_of}
 use Rattle.raft_state.specs.Inner.KeyEdits.{rest_after_append}
-use Rattle.raft_state.proofs.lemmas.log_id_list.KeyListLemmas.{IsKeyList}
+use Rattle.raft_state.proofs.lemmas.log_id_list.KeyListLemmas.{IsKeyList, step_keys, tail_keys}
 use Rattle.raft_state.specs.Keys.{by_last_leader}
 use Rattle.raft_state.specs.LogReads.{last_id, last_two_share_leader}
 use Rattle.raft_state.proofs.lemmas.log_id_list.AppendLemmas.{Differ, some_after}
 use Rattle.raft_state.proofs.lemmas.log_id_list.CutLemmas.{full_begins, one_key}
-use Rattle.raft_state.proofs.lemmas.log_id_list.EqualLemmas.{rises_once, tail_keys}
 
 module _ {C : Type 0} (eq : C → C → Bool) where
   two_after_one : (x : LogIdOf C) (ys : List (LogIdOf C)) → 2 ≤ length ys → last_two_share_leader eq (x ∷ ys) ≡ last_two_share_leader eq ys
@@ -53,41 +52,41 @@ module _ {C : Type 0} (eq : C → C → Bool) where
       (omega (arith, length-append (ids_of c (i + 1) (suc n)) (l ∷ []))) ∙ two_after_ids c (i + 1) n l
 
   -- of the keys as of the full log
-  pub two_full : (cmp : C → C → Ordering) (ks : List (LogIdOf C)) → IsKeyList cmp ks
+  pub last_two_of_full : (cmp : C → C → Ordering) (ks : List (LogIdOf C)) → IsKeyList cmp ks
       → last_two_share_leader eq (full_log ks) ≡ last_two_share_leader eq ks
-  two_full cmp [] s = refl
-  two_full cmp (k ∷ []) s = rw (one_key k) refl
-  two_full cmp (k ∷ l ∷ []) s =
-      let up = rises_once cmp k l [] s in
+  last_two_of_full cmp [] s = refl
+  last_two_of_full cmp (k ∷ []) s = rw (one_key k) refl
+  last_two_of_full cmp (k ∷ l ∷ []) s =
+      let up = (step_keys cmp k l [] s).0 in
       let n : l.index - k.index ≡ suc (l.index - (k.index + 1)) = omega arith in
       rw (one_key l, n) (two_after_ids k.leader_id k.index (l.index - (k.index + 1)) l)
-  two_full cmp (k ∷ l ∷ m ∷ ks) s =
+  last_two_of_full cmp (k ∷ l ∷ m ∷ ks) s =
       let t = tail_keys cmp k l (m ∷ ks) s in
-      let up = rises_once cmp l m ks t in
+      let up = (step_keys cmp l m ks t).0 in
       let n : m.index - l.index ≡ suc (m.index - (l.index + 1)) = omega arith in
       let b = full_begins cmp m ks (tail_keys cmp l m ks t) in
       let more : 2 ≤ length (full_log (l ∷ m ∷ ks)) =
       rw (n, b.1) (omega (arith, length-append (ids_of l.leader_id (l.index + 1) (m.index - (l.index + 1))) (m ∷ b.0))) in
-      two_after (ids_of k.leader_id k.index (l.index - k.index)) (full_log (l ∷ m ∷ ks)) more ∙ two_full cmp (l ∷ m ∷ ks) t
+      two_after (ids_of k.leader_id k.index (l.index - k.index)) (full_log (l ∷ m ∷ ks)) more ∙ last_two_of_full cmp (l ∷ m ∷ ks) t
 
   -- the keys of the last leader are two
   two_of_test : (t : Bool) (k l : LogIdOf C) → nat_eq (length (if t then k ∷ l ∷ [] else l ∷ [])) 2 ≡ t
   two_of_test true k l = refl
   two_of_test false k l = refl
 
-  pub two_of_last : (ks : List (LogIdOf C)) → nat_eq (length (by_last_leader eq ks)) 2 ≡ last_two_share_leader eq ks
-  two_of_last [] = refl
-  two_of_last (k ∷ []) = refl
-  two_of_last (k ∷ l ∷ []) = two_of_test (eq k.leader_id l.leader_id) k l
-  two_of_last (k ∷ l ∷ m ∷ ks) = two_of_last (l ∷ m ∷ ks)
+  pub two_keys_of_last : (ks : List (LogIdOf C)) → nat_eq (length (by_last_leader eq ks)) 2 ≡ last_two_share_leader eq ks
+  two_keys_of_last [] = refl
+  two_keys_of_last (k ∷ []) = refl
+  two_keys_of_last (k ∷ l ∷ []) = two_of_test (eq k.leader_id l.leader_id) k l
+  two_keys_of_last (k ∷ l ∷ m ∷ ks) = two_keys_of_last (l ∷ m ∷ ks)
 
   -- by place
-  pub two_differ : (same : (c : C) → eq c c ≡ true) (ks : List (LogIdOf C)) → ((n : ℕ) → length ks ≡ suc (suc n) → Differ eq same ks n)
+  pub last_two_differ : (same : (c : C) → eq c c ≡ true) (ks : List (LogIdOf C)) → ((n : ℕ) → length ks ≡ suc (suc n) → Differ eq same ks n)
       → last_two_share_leader eq ks ≡ false
-  two_differ same [] d = refl
-  two_differ same (k ∷ []) d = refl
-  two_differ same (k ∷ l ∷ []) d = let (x, y, p, q, e) = d zero refl in rw (← p, ← q) e
-  two_differ same (k ∷ l ∷ m ∷ ks) d = two_differ same (l ∷ m ∷ ks) (λ n len. d (suc n) (omega arith))
+  last_two_differ same [] d = refl
+  last_two_differ same (k ∷ []) d = refl
+  last_two_differ same (k ∷ l ∷ []) d = let (x, y, p, q, e) = d zero refl in rw (← p, ← q) e
+  last_two_differ same (k ∷ l ∷ m ∷ ks) d = last_two_differ same (l ∷ m ∷ ks) (λ n len. d (suc n) (omega arith))
 
   -- after an append: the last one before it and the new one
   module _ (same : (c : C) → eq c c ≡ true) (congr : (a b c : C) → eq a b ≡ true → eq a c ≡ eq b c) where
@@ -96,10 +95,10 @@ module _ {C : Type 0} (eq : C → C → Bool) where
     after_one true k l id e = congr k.leader_id l.leader_id id.leader_id (sym e)
     after_one false k l id e = refl
 
-    pub two_added : (k : LogIdOf C) (ks : List (LogIdOf C)) (id : LogIdOf C)
+    pub last_two_after_append : (k : LogIdOf C) (ks : List (LogIdOf C)) (id : LogIdOf C)
         → IfSome (last_id (k ∷ ks)) (λ last. last_two_share_leader eq (k ∷ rest_after_append eq k ks id) ≡ eq last.leader_id id.leader_id)
-    two_added k [] id = refl
-    two_added k (l ∷ []) id = after_one (eq k.leader_id l.leader_id) k l id refl
-    two_added k (l ∷ m ∷ ks) id =
+    last_two_after_append k [] id = refl
+    last_two_after_append k (l ∷ []) id = after_one (eq k.leader_id l.leader_id) k l id refl
+    last_two_after_append k (l ∷ m ∷ ks) id =
         rw (two_after_one k (l ∷ rest_after_append eq l (m ∷ ks) id) (omega (arith, some_after eq same l (m ∷ ks) id)))
-        (two_added l (m ∷ ks) id)
+        (last_two_after_append l (m ∷ ks) id)

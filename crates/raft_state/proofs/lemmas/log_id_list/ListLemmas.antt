@@ -23,12 +23,15 @@ use Rattle.std.proofs.Common.{
   arith,
   ◌∙◌,
 }
+use Rattle.std.proofs.lemmas.Bool.{and_parts}
 use Rattle.std.specs.Prelude.{slice_get}
 use Rattle.std.specs.Option.{option_map, option_or}
 use Rattle.std.specs.declared.cmp.Ordering.{Ordering}
 use Rattle.std.specs.Ordering.{is_eq}
+use Rattle.std.proofs.lemmas.Option.{same_Some}
 use Rattle.std.specs.Cmp.{IsTotalOrder, IsEquivalence}
 use Rattle.raft_base.specs.declared.log_id.LogIdOf.{LogIdOf}
+use Rattle.raft_progress.proofs.lemmas.progress.recount.RecountLemmas.{AtMost-refl}
 use Rattle.raft_state.specs.FullLog.{first_index, full_log, same_log}
 use Rattle.raft_state.specs.LogReads.{last_id, last_two_share_leader, leader_count}
 use Rattle.raft_state.specs.LogEdits.{log_after_append, log_after_extend, log_after_purge}
@@ -36,8 +39,9 @@ use Rattle.raft_state.specs.LogConditions.{follows, all_follow, ends_share_leade
 use Rattle.raft_state.proofs.lemmas.log_id_list.KeyListLemmas.{IsKeyList}
 use Rattle.raft_state.specs.Inner.KeyEdits.{keys_after_append, keys_after_extend, keys_below, keys_after_purge}
 use Rattle.raft_state.specs.Keys.{may_be_keys}
-use Rattle.raft_state.proofs.lemmas.log_id_list.SameLogLemmas.{both, is_same}
-use Rattle.raft_state.proofs.lemmas.log_id_list.AppendLemmas.{apart, full_after, itself, stays_key_list, strictly_less, upto_equal}
+use Rattle.raft_state.proofs.lemmas.log_id_list.SameLogLemmas.{is_same}
+use Rattle.raft_state.proofs.lemmas.log_id_list.AppendLemmas.{full_after, stays_key_list}
+use Rattle.raft_state.proofs.lemmas.log_id_list.IdOrderLemmas.{apart, strictly_less, upto_equal}
 use Rattle.raft_state.proofs.lemmas.log_id_list.CutLemmas.{cut_stays, first_full, full_purged, last_full, purge_stays, purged_first}
 use Rattle.raft_state.proofs.lemmas.log_id_list.ExtendLemmas.{
   all_stay,
@@ -48,18 +52,12 @@ use Rattle.raft_state.proofs.lemmas.log_id_list.ExtendLemmas.{
   last_added,
   last_added_all,
 }
-use Rattle.raft_state.proofs.lemmas.log_id_list.EndsLemmas.{added_by_ends, last_of_map, last_of_some, last_or, one_leader, same_some}
-use Rattle.raft_state.proofs.lemmas.log_id_list.LastTwoLemmas.{two_added, two_full}
+use Rattle.raft_state.proofs.lemmas.log_id_list.EndsLemmas.{added_by_ends, last_of_map, last_of_some, last_or, one_leader}
+use Rattle.raft_state.proofs.lemmas.log_id_list.LastTwoLemmas.{last_two_after_append, last_two_of_full}
 use Rattle.raft_state.proofs.lemmas.log_id_list.EqualLemmas as Equal
 
 module _ {C : Type 0} (cmp : C → C → Ordering) (eq : C → C → Bool) (total : IsTotalOrder cmp) (law : (x y : C) → eq x y ≡ is_eq (cmp x y))
     (eqs : IsEquivalence eq) where
-  pub trans : (a b c : C) → eq a b ≡ true → eq b c ≡ true → eq a c ≡ true
-  trans a b c h g = eqs.congr a b c h ∙ g
-
-  pub turn : (a b : C) → eq a b ≡ true → eq b a ≡ true
-  turn a b h = eqs.symm b a ∙ h
-
   -- an append leaves keys
   pub append_keeps : (ks : List (LogIdOf C)) (id : LogIdOf C) → IsKeyList cmp ks → IsTrue (follows cmp (last_id (full_log ks)) id)
       → IsTrue (may_be_keys cmp (keys_after_append eq ks id))
@@ -88,16 +86,16 @@ module _ {C : Type 0} (cmp : C → C → Ordering) (eq : C → C → Bool) (tota
   append_shares [] id s h = tt
   append_shares (k ∷ ks) id s h = rw (
     last_full cmp (k ∷ ks) s,
-    two_full eq cmp (keys_after_append eq (k ∷ ks) id)
+    last_two_of_full eq cmp (keys_after_append eq (k ∷ ks) id)
         (is_key_list cmp (keys_after_append eq (k ∷ ks) id) (append_keeps (k ∷ ks) id s h)),
-  ) (two_added eq eqs.refl eqs.congr k ks id)
+  ) (last_two_after_append eq eqs.refl eqs.congr k ks id)
 
   -- several appends leave keys
   pub extend_keeps : (ks ids : List (LogIdOf C)) → IsKeyList cmp ks → IsTrue (all_follow cmp (last_id (full_log ks)) ids)
       → IsTrue (may_be_keys cmp (keys_after_extend eq ks ids))
   extend_keeps ks ids s h =
       are_keys cmp (keys_after_extend eq ks ids)
-      (all_stay eq eqs.refl trans cmp (strictly_less cmp eq total law) (upto_equal cmp eq total law) ks ids s
+      (all_stay eq eqs cmp (strictly_less cmp eq total law) (upto_equal cmp eq total law) ks ids s
       (rw (last_full cmp ks s) at h))
 
   -- and the full log with the log ids
@@ -105,7 +103,7 @@ module _ {C : Type 0} (cmp : C → C → Ordering) (eq : C → C → Bool) (tota
       → IsTrue (same_log eq (full_log (keys_after_extend eq ks ids)) (log_after_extend (full_log ks) ids))
   extend_fills ks ids s h =
       is_same eq (full_log (keys_after_extend eq ks ids)) (log_after_extend (full_log ks) ids)
-      (full_after_all eq eqs.refl trans cmp (strictly_less cmp eq total law) (upto_equal cmp eq total law) ks ids s
+      (full_after_all eq eqs cmp (strictly_less cmp eq total law) (upto_equal cmp eq total law) ks ids s
       (rw (last_full cmp ks s) at h))
 
   -- of which the last one is the last one then, if there are any
@@ -117,17 +115,17 @@ module _ {C : Type 0} (cmp : C → C → Ordering) (eq : C → C → Bool) (tota
 
   -- a truncation and a purge leave keys
   pub truncate_keeps : (ks : List (LogIdOf C)) (at : ℕ) → IsKeyList cmp ks → IsTrue (may_be_keys cmp (keys_below ks at))
-  truncate_keeps ks at s = are_keys cmp (keys_below ks at) (cut_stays cmp (itself cmp eq total law) ks at s)
+  truncate_keeps ks at s = are_keys cmp (keys_below ks at) (cut_stays cmp (AtMost-refl total) ks at s)
 
   pub purge_keeps : (ks : List (LogIdOf C)) (upto : LogIdOf C) → IsKeyList cmp ks → IsTrue (may_be_keys cmp (keys_after_purge ks upto))
-  purge_keeps ks upto s = are_keys cmp (keys_after_purge ks upto) (purge_stays cmp (itself cmp eq total law) ks upto s)
+  purge_keeps ks upto s = are_keys cmp (keys_after_purge ks upto) (purge_stays cmp (AtMost-refl total) ks upto s)
 
   -- a purge leaves a log from the greater of the two indexes on
   pub purge_begins : (ks : List (LogIdOf C)) (upto : LogIdOf C) → IsKeyList cmp ks
       → first_index (full_log (keys_after_purge ks upto)) ≡ max (first_index (full_log ks)) upto.index
   purge_begins ks upto s =
-      first_full cmp (keys_after_purge ks upto) 0 (purge_stays cmp (itself cmp eq total law) ks upto s)
-      ∙ purged_first cmp ks upto s ∙ ap (λ i. max i upto.index) (sym (first_full cmp ks 0 s))
+      first_full cmp (keys_after_purge ks upto) (purge_stays cmp (AtMost-refl total) ks upto s)
+      ∙ purged_first cmp ks upto s ∙ ap (λ i. max i upto.index) (sym (first_full cmp ks s))
 
   pub purged_log_begins : (ks : List (LogIdOf C)) (upto : LogIdOf C) → IsKeyList cmp ks
       → first_index (log_after_purge (full_log ks) upto) ≡ max (first_index (full_log ks)) upto.index
@@ -136,11 +134,11 @@ module _ {C : Type 0} (cmp : C → C → Ordering) (eq : C → C → Bool) (tota
   -- two key lists are equal exactly where their full logs are
   pub keys_decide : (ks ls : List (LogIdOf C)) → IsKeyList cmp ks → IsKeyList cmp ls
       → same_log eq ks ls ≡ same_log eq (full_log ks) (full_log ls)
-  keys_decide ks ls s r = Equal.keys_decide eq eqs.refl trans turn cmp (apart cmp eq total law) ks ls s r
+  keys_decide ks ls s r = Equal.keys_decide eq eqs cmp (apart cmp eq total law) ks ls s r
 
   -- at most one key more than leaders
   pub few_keys : (ks : List (LogIdOf C)) → IsKeyList cmp ks → length ks ≤ leader_count eq (full_log ks) + 1
-  few_keys ks s = Equal.few_keys eq eqs.refl trans turn cmp (apart cmp eq total law) ks s
+  few_keys ks s = Equal.few_keys eq eqs cmp (apart cmp eq total law) ks s
 
   -- log ids of one leader: the first one and the last one make the keys of all
   pub ends_make_all : {L : Type 0} (id_of : L → LogIdOf C) (ks : List (LogIdOf C)) (ls : List L) (f l : L) → 1 < length ls
@@ -151,12 +149,12 @@ module _ {C : Type 0} (cmp : C → C → Ordering) (eq : C → C → Bool) (tota
   ends_make_all id_of ks (x ∷ []) f l some first last h e = absurd (omega arith)
   ends_make_all id_of ks (x ∷ y ∷ ls) f l some first last h e =
       let n : length (x ∷ y ∷ ls) - 1 ≡ suc (length ls) = omega arith in
-      let is_first : id_of f ≡ id_of x = ap id_of (same_some f x first) in
+      let is_first : id_of f ≡ id_of x = ap id_of (same_Some f x first) in
       let ends : Some l ≡ slice_get (y ∷ ls) (length ls) = rw n at last in
       let is_last : id_of l ≡ last_or (id_of y) (map id_of ls) =
-      same_some (id_of l) (last_or (id_of y) (map id_of ls)) (ap (option_map id_of) ends ∙ sym (last_of_map id_of y ls)) in
+      same_Some (id_of l) (last_or (id_of y) (map id_of ls)) (ap (option_map id_of) ends ∙ sym (last_of_map id_of y ls)) in
       let shared : eq (id_of x).leader_id (last_or (id_of y) (map id_of ls)).leader_id ≡ true =
       rw (last_of_some (id_of x) (id_of y ∷ map id_of ls)) at e in
-      let b = both (follows cmp (last_id ks) (id_of x)) (all_follow cmp (Some (id_of x)) (id_of y ∷ map id_of ls)) h in
-      rw (is_first, is_last) (sym (added_by_ends eq eqs.refl trans turn ks (id_of x) (id_of y) (map id_of ls)
+      let b = and_parts (follows cmp (last_id ks) (id_of x)) (all_follow cmp (Some (id_of x)) (id_of y ∷ map id_of ls)) h in
+      rw (is_first, is_last) (sym (added_by_ends eq eqs ks (id_of x) (id_of y) (map id_of ls)
       (one_leader cmp eq total law (id_of x) (id_of y) (map id_of ls) b.1 shared)))

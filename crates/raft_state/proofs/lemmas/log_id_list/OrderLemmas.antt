@@ -25,6 +25,7 @@ use Rattle.std.proofs.Common.{
   arith,
   ap,
   subst,
+  length,
 }
 use Rattle.std.proofs.lemmas.Bool.Decides.{nat_tests}
 use Rattle.std.specs.Prelude.{slice_get}
@@ -33,16 +34,14 @@ use Rattle.std.specs.Ordering.{is_le}
 use Rattle.std.specs.Cmp.{IsTotalOrder}
 use Rattle.raft_base.specs.declared.log_id.LogIdOf.{LogIdOf}
 use Rattle.raft_state.specs.FullLog.{first_index, full_log, ids_of}
-use Rattle.raft_state.proofs.lemmas.log_id_list.KeyListLemmas.{IsKeyList}
+use Rattle.raft_state.proofs.lemmas.log_id_list.KeyListLemmas.{IsKeyList, step_keys, tail_keys}
 use Rattle.raft_state.specs.LogOrder.{AreConsecutive, AreFound, LeadersNeverFall, LeadersNeverFallByIndex, NoneAboveLast}
 use Rattle.raft_state.specs.LogReads.{id_at, last_id}
 use Rattle.raft_state.specs.LogReadsLawful.{id_at-indexed}
-use Rattle.raft_state.proofs.lemmas.log_id_list.AppendLemmas.{then_below}
+use Rattle.raft_state.proofs.lemmas.log_id_list.IdOrderLemmas.{none_at_most, then_below}
 use Rattle.raft_base.specs.LogId.{id_le}
 use Rattle.raft_state.proofs.lemmas.log_id_list.CutLemmas.{first_full, one_key}
-use Rattle.raft_state.proofs.lemmas.log_id_list.EqualLemmas.{rises_once, tail_keys}
-use Rattle.raft_state.proofs.lemmas.log_id_list.LoggedLemmas.{step_keys}
-use Rattle.raft_progress.proofs.lemmas.OrderLemmas.{AtMost-refl, AtMost-trans}
+use Rattle.raft_progress.proofs.lemmas.progress.recount.RecountLemmas.{AtMost-refl, AtMost-trans}
 
 -- consecutive indexes from i on
 abbrev pub From : {C : Type 0} → ℕ → List (LogIdOf C) → Type 0
@@ -57,7 +56,7 @@ pub from_full : {C : Type 0} (cmp : C → C → Ordering) (k : LogIdOf C) (ks : 
     → From k.index (full_log (k ∷ ks))
 from_full cmp k [] s = rw (one_key k) (refl, tt)
 from_full cmp k (l ∷ ks) s =
-    let up = rises_once cmp k l ks s in
+    let up = (step_keys cmp k l ks s).0 in
     let e : l.index ≡ k.index + (l.index - k.index) = omega arith in
     let rest = from_full cmp l ks (tail_keys cmp k l ks s) in
     from_ids k.leader_id k.index (l.index - k.index) (full_log (l ∷ ks)) (subst (λ (i : ℕ). From i (full_log (l ∷ ks))) e rest)
@@ -91,13 +90,25 @@ place_found i (x ∷ xs) j id h e = by (x.index == j) refl e (λ k. place_found 
         (omega arith, rw z e)
     by false t e later = let r = later e in let r0 = r.0 in let s : j - i ≡ suc (j - (i + 1)) = omega arith in (omega arith, rw s r.1)
 
-pub found : {C : Type 0} (cmp : C → C → Ordering) (ks : List (LogIdOf C)) → IsKeyList cmp ks → AreFound (full_log ks)
-found cmp [] s n id e = cc
-found cmp (k ∷ ks) s n id e = found_place k.index (full_log (k ∷ ks)) n id (from_full cmp k ks s) e
+-- what is there is not past the last index
+pub index_within : {C : Type 0} (b j : ℕ) (xs : List (LogIdOf C)) (x : LogIdOf C) → From b xs → id_at xs j ≡ Some x
+    → (b ≤ j) × (j < b + length xs)
+index_within b j [] x h e = cc
+index_within b j (y ∷ ys) x h e = let h0 = h.0 in let n : length (y ∷ ys) ≡ suc (length ys) = refl in
+    by (y.index == j) refl e (λ k. index_within (b + 1) j ys x h.1 k)
+  where
+    by : (t : Bool) → t ≡ (y.index == j) → (if t then Some y else id_at ys j) ≡ Some x
+        → (id_at ys j ≡ Some x → (b + 1 ≤ j) × (j < b + 1 + length ys)) → (b ≤ j) × (j < b + length (y ∷ ys))
+    by true t e later = let s : y.index ≡ j = grind (arith, nat_tests) in (omega arith, omega arith)
+    by false t e later = let r = later e in let r0 = r.0 in let r1 = r.1 in (omega arith, omega arith)
+
+pub are_found : {C : Type 0} (cmp : C → C → Ordering) (ks : List (LogIdOf C)) → IsKeyList cmp ks → AreFound (full_log ks)
+are_found cmp [] s n id e = cc
+are_found cmp (k ∷ ks) s n id e = found_place k.index (full_log (k ∷ ks)) n id (from_full cmp k ks s) e
 
 pub consecutive : {C : Type 0} (cmp : C → C → Ordering) (ks : List (LogIdOf C)) → IsKeyList cmp ks → AreConsecutive (full_log ks)
 consecutive cmp [] s n id e = cc
-consecutive cmp (k ∷ ks) s n id e = rw (first_full cmp (k ∷ ks) 0 s) (from_place k.index (full_log (k ∷ ks)) n id (from_full cmp k ks s) e)
+consecutive cmp (k ∷ ks) s n id e = rw (first_full cmp (k ∷ ks) s) (from_place k.index (full_log (k ∷ ks)) n id (from_full cmp k ks s) e)
 
 module _ {C : Type 0} (cmp : C → C → Ordering) (total : IsTotalOrder cmp) where
   -- leaders from c on, none below the one before it
@@ -187,11 +198,7 @@ module _ {C : Type 0} (cmp : C → C → Ordering) (total : IsTotalOrder cmp) wh
   none_above c b xs a h i = by (id_at xs i) refl
     where
       by : (o : Option (LogIdOf C)) → id_at xs i ≡ o → IsTrue (id_le cmp o (last_id xs))
-      by None e = below_all (last_id xs)
-        where
-          below_all : (o : Option (LogIdOf C)) → IsTrue (id_le cmp None o)
-          below_all None = refl
-          below_all (Some x) = refl
+      by None e = none_at_most cmp (last_id xs)
       by (Some x) e =
           let at : x.index ≡ i = rw e at (id_at-indexed xs i) in
           let z = last_at_least c b i xs x a h e in let z3 = z.3 in

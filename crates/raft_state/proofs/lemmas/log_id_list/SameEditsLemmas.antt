@@ -25,26 +25,27 @@ use Rattle.std.proofs.Common.{
 }
 use Rattle.std.proofs.lemmas.Bool.Decides.{nat_tests}
 use Rattle.std.specs.Cmp.{IsEquivalence}
+use Rattle.std.specs.Cmp.Derive.{both_true}
 use Rattle.raft_base.specs.LogId.{same_ids}
 use Rattle.raft_base.specs.declared.log_id.LogIdOf.{LogIdOf}
-use Rattle.raft_state.specs.FullLog.{end_index, first_index, first_index_or}
+use Rattle.raft_state.specs.FullLog.{end_index, first_index}
 use Rattle.raft_state.specs.LogEdits.{log_after_append, log_after_extend, front, log_after_purge, rest}
 use Rattle.raft_state.specs.LogReads.{first_id, id_at, last_id}
 use Rattle.raft_state.specs.SameLog.{FindsSame, KeepsSame}
 use Rattle.raft_state.proofs.lemmas.log_id_list.ExtendLemmas.{same_appended, same_extended}
-use Rattle.raft_state.proofs.lemmas.log_id_list.SameLogLemmas.{SameLog, both_true, is_same, says_same}
+use Rattle.raft_state.proofs.lemmas.log_id_list.SameLogLemmas.{SameLog, is_same, says_same}
 
 module _ {C : Type 0} (eq : C → C → Bool) where
   same_some : (x y : LogIdOf C) → IsTrue (eq x.leader_id y.leader_id) → x.index ≡ y.index
       → IsTrue (eq x.leader_id y.leader_id && nat_eq x.index y.index)
   same_some x y e i = let t : nat_eq x.index y.index ≡ true = grind (arith, nat_tests) in
-      both_true (eq x.leader_id y.leader_id) (nat_eq x.index y.index) e t
+      both_true e t
 
   -- those whose index passes a test
-  kept : (t : Bool) (x y : LogIdOf C) (us vs : List (LogIdOf C)) → SameLog eq (x ∷ []) (y ∷ []) → SameLog eq us vs
+  same_kept : (t : Bool) (x y : LogIdOf C) (us vs : List (LogIdOf C)) → SameLog eq (x ∷ []) (y ∷ []) → SameLog eq us vs
       → SameLog eq (if t then x ∷ us else us) (if t then y ∷ vs else vs)
-  kept true x y us vs h g = (h.0, h.1, g)
-  kept false x y us vs h g = g
+  same_kept true x y us vs h g = (h.0, h.1, g)
+  same_kept false x y us vs h g = g
 
   same_filter : (p : ℕ → Bool) (xs ys : List (LogIdOf C)) → SameLog eq xs ys
       → SameLog eq (filter (λ id. p id.index) xs) (filter (λ id. p id.index) ys)
@@ -53,13 +54,14 @@ module _ {C : Type 0} (eq : C → C → Bool) where
   same_filter p (x ∷ xs) [] h = absurd h
   same_filter p (x ∷ xs) (y ∷ ys) h =
       let t : p x.index ≡ p y.index = ap p h.1 in
-      rw t (kept (p y.index) x y (filter (λ id. p id.index) xs) (filter (λ id. p id.index) ys) (h.0, h.1, tt) (same_filter p xs ys h.2))
+      rw t (same_kept (p y.index) x y (filter (λ id. p id.index) xs) (filter (λ id. p id.index) ys) (h.0, h.1, tt)
+      (same_filter p xs ys h.2))
 
-  same_first_index : (xs ys : List (LogIdOf C)) (e : ℕ) → SameLog eq xs ys → first_index_or xs e ≡ first_index_or ys e
-  same_first_index [] [] e h = refl
-  same_first_index [] (y ∷ ys) e h = absurd h
-  same_first_index (x ∷ xs) [] e h = absurd h
-  same_first_index (x ∷ xs) (y ∷ ys) e h = h.1
+  same_first_index : (xs ys : List (LogIdOf C)) → SameLog eq xs ys → first_index xs ≡ first_index ys
+  same_first_index [] [] h = refl
+  same_first_index [] (y ∷ ys) h = absurd h
+  same_first_index (x ∷ xs) [] h = absurd h
+  same_first_index (x ∷ xs) (y ∷ ys) h = h.1
 
   same_end_index : (xs ys : List (LogIdOf C)) → SameLog eq xs ys → end_index xs ≡ end_index ys
   same_end_index [] [] h = refl
@@ -80,16 +82,16 @@ module _ {C : Type 0} (eq : C → C → Bool) where
   same_purged : (same : (c : C) → eq c c ≡ true) (xs ys : List (LogIdOf C)) (upto : LogIdOf C) → SameLog eq xs ys
       → SameLog eq (log_after_purge xs upto) (log_after_purge ys upto)
   same_purged same xs ys upto h =
-      rw (same_end_index xs ys h, same_first_index xs ys 0 h)
+      rw (same_end_index xs ys h, same_first_index xs ys h)
       (same_tests same (nat_le (end_index ys) upto.index) (nat_lt upto.index (first_index ys)) upto xs ys (rest xs upto.index)
       (rest ys upto.index) h (same_filter (nat_le upto.index) xs ys h))
 
   -- what is read
-  found : (t : Bool) (x y : LogIdOf C) (i : ℕ) (us vs : List (LogIdOf C)) → IsTrue (eq x.leader_id y.leader_id) → x.index ≡ y.index
+  same_where : (t : Bool) (x y : LogIdOf C) (i : ℕ) (us vs : List (LogIdOf C)) → IsTrue (eq x.leader_id y.leader_id) → x.index ≡ y.index
       → IsTrue (same_ids eq (id_at us i) (id_at vs i))
       → IsTrue (same_ids eq (if t then Some x else id_at us i) (if t then Some y else id_at vs i))
-  found true x y i us vs e j g = same_some x y e j
-  found false x y i us vs e j g = g
+  same_where true x y i us vs e j g = same_some x y e j
+  same_where false x y i us vs e j g = g
 
   same_at : (i : ℕ) (xs ys : List (LogIdOf C)) → SameLog eq xs ys → IsTrue (same_ids eq (id_at xs i) (id_at ys i))
   same_at i [] [] h = refl
@@ -97,7 +99,7 @@ module _ {C : Type 0} (eq : C → C → Bool) where
   same_at i (x ∷ xs) [] h = absurd h
   same_at i (x ∷ xs) (y ∷ ys) h =
       let t : (x.index == i) ≡ (y.index == i) = ap (λ (j : ℕ). j == i) h.1 in
-      rw t (found (y.index == i) x y i xs ys h.0 h.1 (same_at i xs ys h.2))
+      rw t (same_where (y.index == i) x y i xs ys h.0 h.1 (same_at i xs ys h.2))
 
   same_first : (xs ys : List (LogIdOf C)) → SameLog eq xs ys → IsTrue (same_ids eq (first_id xs) (first_id ys))
   same_first [] [] h = refl
@@ -128,16 +130,13 @@ module _ {C : Type 0} (eq : C → C → Bool) where
   last_id_finds a b h = same_last a b (says_same eq a b h)
 
 module _ {C : Type 0} (eq : C → C → Bool) (eqs : IsEquivalence eq) where
-  trans : (a b c : C) → eq a b ≡ true → eq b c ≡ true → eq a c ≡ true
-  trans a b c h g = eqs.congr a b c h ∙ g
-
   pub appended_keeps : (id : LogIdOf C) → KeepsSame eq (λ log. log_after_append log id)
   appended_keeps id a b h = is_same eq (log_after_append a id) (log_after_append b id)
-      (same_appended eq eqs.refl trans a b id (says_same eq a b h))
+      (same_appended eq eqs a b id (says_same eq a b h))
 
   pub extended_keeps : (ids : List (LogIdOf C)) → KeepsSame eq (λ log. log_after_extend log ids)
   extended_keeps ids a b h = is_same eq (log_after_extend a ids) (log_after_extend b ids)
-      (same_extended eq eqs.refl trans a b ids (says_same eq a b h))
+      (same_extended eq eqs a b ids (says_same eq a b h))
 
   pub purged_keeps : (upto : LogIdOf C) → KeepsSame eq (λ log. log_after_purge log upto)
   purged_keeps upto a b h = is_same eq (log_after_purge a upto) (log_after_purge b upto)

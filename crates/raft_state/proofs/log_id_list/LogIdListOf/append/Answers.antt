@@ -1,5 +1,5 @@
 use Rattle.std.proofs.Common.{sym, ◌∙◌}
-use Rattle.raft_state.proofs.lemmas.log_id_list.LastTwoLemmas.{two_full}
+use Rattle.raft_state.proofs.lemmas.log_id_list.LastTwoLemmas.{last_two_of_full}
 use Rattle.raft_state.proofs.lemmas.log_id_list.ListLemmas.{append_ends, append_fills, append_keeps, append_shares}
 use Rattle.raft_state.proofs.lemmas.log_id_list.ExtendLemmas.{is_key_list}
 use Rattle.raft_state.proofs.lemmas.log_id_list.FrontLemmas.{from_first}
@@ -63,5 +63,5 @@ pub returns-in_err-append-clause-no_memory : goal.returns-in_err-append-clause-n
 returns-in_err-append-clause-no_memory g c shared =
     let two = rw (← c.self.view_is) at shared in
     let none = c.in_err-append.ensures.no_memory
-    (sym (two_full g.C.PartialEq.eq g.C.Ord.cmp c.self.inside.key_log_ids.items
+    (sym (last_two_of_full g.C.PartialEq.eq g.C.Ord.cmp c.self.inside.key_log_ids.items
     (is_key_list g.C.Ord.cmp c.self.inside.key_log_ids.items c.self.invariant)) ∙ two) in cc

@@ -1,6 +1,6 @@
 use Rattle.std.proofs.Common.{◌≡◌, ◌-◌, suc, sym, ap, arith, ◌∙◌, length, get_or, set}
 use Rattle.raft_state.proofs.lemmas.log_id_list.AppendLemmas.{gives_way, comes_after}
-use Rattle.raft_state.proofs.lemmas.log_id_list.LastTwoLemmas.{two_differ}
+use Rattle.raft_state.proofs.lemmas.log_id_list.LastTwoLemmas.{last_two_differ}
 use Rattle.raft_state.proofs.log_id_list.keys.append.Goals as goal
 use Rattle.raft_state.proofs.log_id_list.keys.append.Goals.{else-count-ge2-via-then-count-ge2+else-eq, else-count-ge2-via-else-count-ge2}
 
@@ -30,7 +30,7 @@ returns-in_ok-push-clause-ok g c =
 
 pub returns-in_err-push-clause-no_memory : goal.returns-in_err-push-clause-no_memory
 returns-in_err-push-clause-no_memory g c shared =
-    let none = two_differ g.C.PartialEq.eq g.met.C.Eq.laws.refl c.args.keys.now.items
+    let none = last_two_differ g.C.PartialEq.eq g.met.C.Eq.laws.refl c.args.keys.now.items
     (λ n len. elim c.else-count-ge2.branch [
       | else-count-ge2-via-then-count-ge2+else-eq w ↦
           (let at1 : w.index-then-count-ge2.result.now ≡ get_or c.args.keys.now.items (suc n) w.index-then-count-ge2.result.now =

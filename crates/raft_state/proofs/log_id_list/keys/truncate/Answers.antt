@@ -1,6 +1,6 @@
 use Rattle.std.proofs.Common.{arith}
 use Rattle.raft_state.proofs.lemmas.log_id_list.FullLogLemmas.{key_list_rises_zero}
-use Rattle.raft_state.proofs.lemmas.log_id_list.CutLemmas.{all_stay, cut_short, cut_moved}
+use Rattle.raft_state.proofs.lemmas.log_id_list.CutLemmas.{all_keys_stay, cut_short, cut_moved}
 use Rattle.raft_state.proofs.lemmas.log_id_list.ExtendLemmas.{is_key_list}
 use Rattle.raft_state.proofs.log_id_list.keys.truncate.Goals as goal
 
@@ -11,7 +11,7 @@ count_to-kept-requires g c = rw c.deref.ensures.value
 pub returns-then-kept-len : goal.returns-then-kept-len
 returns-then-kept-len g c =
     let count = rw c.deref.ensures.value at c.count_to-kept.ensures.count in
-    all_stay c.args.keys.now.items c.args.at c.count_to-kept.result c.if-at-eq0.false count
+    all_keys_stay c.args.keys.now.items c.args.at c.count_to-kept.result c.if-at-eq0.false count
     (omega (arith, c.if-kept-len.true, c.len.ensures, c.args.keys.now.ok.0))
 
 pub returns-then-last-end : goal.returns-then-last-end

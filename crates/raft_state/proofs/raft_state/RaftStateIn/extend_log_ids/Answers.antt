@@ -1,5 +1,5 @@
 use Rattle.std.proofs.Common.{map}
-use Rattle.raft_state.proofs.lemmas.raft_state.StateExtendLemmas.{extended_stays_valid}
+use Rattle.raft_state.proofs.lemmas.log.StateExtendLemmas.{extended_stays_valid}
 use Rattle.raft_state.proofs.raft_state.RaftStateIn.extend_log_ids.Goals as goal
 
 pub returns-clause-valid : goal.returns-clause-valid

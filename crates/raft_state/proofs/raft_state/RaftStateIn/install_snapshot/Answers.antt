@@ -1,7 +1,7 @@
-use Rattle.std.proofs.Common.{rules, ◌≡◌, ◌∙◌, sym}
+use Rattle.std.proofs.Common.{◌∙◌}
+use Rattle.std.proofs.lemmas.Bool.{and_parts}
 use Rattle.raft_state.proofs.lemmas.log_id_list.ExtendLemmas.{is_key_list}
-use Rattle.raft_state.proofs.lemmas.follower.InstallLemmas.{install_stays_valid, purge_fits}
-use Rattle.raft_state.proofs.lemmas.log_id_list.SameLogLemmas.{both}
+use Rattle.raft_state.proofs.lemmas.InstallLemmas.{install_stays_valid, purge_fits}
 use Rattle.raft_state.proofs.raft_state.RaftStateIn.install_snapshot.Goals as goal
 
 pub log_ids_from-requires-clause-may_purge : goal.log_ids_from-requires-clause-may_purge
@@ -10,18 +10,18 @@ log_ids_from-requires-clause-may_purge g c lifetimes outlive =
     let canonical = rw c.key_log_ids-keys.ensures.keys at c.key_log_ids-keys.ensures.canonical in
     let keys = is_key_list g.C.Ord.cmp s.log_ids canonical in
     let may = rw c.in-Some.is at c.requires.may in
-    purge_fits g.C.Ord.cmp g.C.PartialEq.eq g.met.C.Ord.total g.met.C.Ord.matches_eq (λ x y same. sym (g.met.C.Eq.laws.symm x y) ∙ same) s
-    c.in-Some.upto c.args.meta.last_membership keys (both _ _ may).1
+    purge_fits g.C.Ord.cmp g.C.PartialEq.eq g.met.C.Ord.total g.met.C.Ord.matches_eq g.met.C.Eq.laws s
+    c.in-Some.upto c.args.meta.last_membership keys (and_parts _ _ may).1
 
 pub update_accepted-requires-clause-committed : goal.update_accepted-requires-clause-committed
 update_accepted-requires-clause-committed g c lifetimes outlive =
     let may = rw c.in-Some.is at c.requires.may in
-    (both _ _ (both _ _ (both _ _ may).0).1).0
+    (and_parts _ _ (and_parts _ _ (and_parts _ _ may).0).1).0
 
 pub update_accepted-requires-clause-no_lesser_leader : goal.update_accepted-requires-clause-no_lesser_leader
 update_accepted-requires-clause-no_lesser_leader g c lifetimes outlive =
     let may = rw c.in-Some.is at c.requires.may in
-    (both _ _ (both _ _ (both _ _ may).0).1).1
+    (and_parts _ _ (and_parts _ _ (and_parts _ _ may).0).1).1
 
 pub returns-clause-valid : goal.returns-clause-valid
 returns-clause-valid g c valid =
@@ -29,10 +29,10 @@ returns-clause-valid g c valid =
     let canonical = rw c.key_log_ids-keys.ensures.keys at c.key_log_ids-keys.ensures.canonical in
     let keys = is_key_list g.C.Ord.cmp s.log_ids canonical in
     let may = rw c.in-Some.is at c.requires.may in
-    let first = both _ _ (both _ _ (both _ _ may).0).0 in
+    let first = and_parts _ _ (and_parts _ _ (and_parts _ _ may).0).0 in
     let copied = c.in_ok-snapshot_meta.ensures.last_log_id ∙ c.in-Some.is in
     install_stays_valid g.C.Ord.cmp g.C.PartialEq.eq g.met.C.Ord.total g.met.C.Ord.matches_eq
-    (λ x y same. sym (g.met.C.Eq.laws.symm x y) ∙ same) s c.in-Some.upto c.args.meta.last_membership
+    g.met.C.Eq.laws s c.in-Some.upto c.args.meta.last_membership
     c.in_ok-log_ids.log_ids c.in_ok-membership_state.membership_state c.update_accepted.new.self.accepted
     c.in_ok-snapshot_meta.snapshot_meta keys c.in_ok-log_ids.ensures (rw c.membership_of.ensures at c.in_ok-membership_state.ensures)
-    copied first.0 first.1 (both _ _ may).1 valid
+    copied first.0 first.1 (and_parts _ _ may).1 valid

@@ -1,7 +1,7 @@
 use Rattle.std.proofs.Common.{◌+◌, ◌<◌, ◌^◌, rules}
 use Rattle.raft_state.proofs.lemmas.log_id_list.ExtendLemmas.{is_key_list}
 use Rattle.raft_state.proofs.lemmas.log_id_list.FrontLemmas.{from_first}
-use Rattle.raft_state.proofs.lemmas.raft_state.StatePurgeLemmas.{both_below, purge_stays_valid}
+use Rattle.raft_state.proofs.lemmas.log.StatePurgeLemmas.{both_below, purge_stays_valid}
 use Rattle.raft_state.proofs.raft_state.RaftStateIn.purge_log.Goals as goal
 
 pub overflow_add-self : goal.overflow_add-self

@@ -1,5 +1,5 @@
 use Rattle.std.proofs.Common.{◌∙◌, sym}
-use Rattle.raft_state.proofs.lemmas.raft_state.CommitLemmas.{stays_valid}
+use Rattle.raft_state.proofs.lemmas.log.CommitLemmas.{stays_valid}
 use Rattle.raft_state.proofs.raft_state.RaftStateIn.update_committed.Goals as goal
 
 pub returns-in_ok-commit-clause-valid : goal.returns-in_ok-commit-clause-valid

@@ -28,6 +28,7 @@ use Rattle.std.proofs.Common.{
   arith,
   ◌∙◌,
 }
+use Rattle.std.proofs.lemmas.Bool.{and_parts}
 use Rattle.std.proofs.lemmas.Bool.Decides.{nat_tests}
 use Rattle.std.specs.declared.cmp.Ordering.{Ordering}
 use Rattle.std.specs.Cmp.{IsTotalOrder}
@@ -37,14 +38,12 @@ use Rattle.raft_base.specs.LogId.{id_le, index_of, next_index}
 use Rattle.raft_base.specs.LogIdLawful.{optional-log_id_cmp-total}
 use Rattle.raft_base.specs.LogIndex.{next_index_of}
 use Rattle.raft_base.specs.declared.log_id.LogIdOf.{LogIdOf}
-use Rattle.raft_progress.proofs.lemmas.OrderLemmas.{AtMost-trans}
-use Rattle.raft_state.proofs.lemmas.log_id_list.AppendLemmas.{then_below}
-use Rattle.raft_state.proofs.lemmas.raft_state.CommitLemmas.{hold_all}
+use Rattle.raft_progress.proofs.lemmas.progress.recount.RecountLemmas.{AtMost-trans}
+use Rattle.raft_state.proofs.lemmas.log_id_list.IdOrderLemmas.{then_below}
 use Rattle.raft_state.proofs.lemmas.log_id_list.FrontLemmas.{rest_first}
-use Rattle.raft_state.proofs.lemmas.log_id_list.KeptLemmas.{ends_there, from_end, purged_ends, there_at}
-use Rattle.raft_state.proofs.lemmas.log_id_list.LoggedLemmas.{all_hold}
+use Rattle.raft_state.proofs.lemmas.log_id_list.KeptLemmas.{ends_there, from_end, purged_ends, has_id_at}
+use Rattle.raft_state.proofs.lemmas.validate.RelationLemmas.{all_hold, hold_all}
 use Rattle.raft_state.proofs.lemmas.log_id_list.OrderLemmas.{From}
-use Rattle.raft_state.proofs.lemmas.log_id_list.SameLogLemmas.{both}
 use Rattle.raft_state.specs.FullLog.{end_index, first_index, full_log}
 use Rattle.raft_state.specs.LogConditions.{may_be_purged_to}
 use Rattle.raft_state.specs.LogEdits.{log_after_purge, rest}
@@ -56,13 +55,13 @@ use Rattle.raft_state.specs.declared.raft_state.RaftStateIn.{RaftStateIn}
 
 -- of two tests that hold, what the second one says
 pub both_below : (t : Bool) (i n : ℕ) → t && nat_lt i n ≡ true → i < n
-both_below t i n h = let b = (both t (nat_lt i n) h).1 in grind (arith, nat_tests)
+both_below t i n h = let b = (and_parts t (nat_lt i n) h).1 in grind (arith, nat_tests)
 
 -- a log that is purged up to a log id begins with the one at its index, or with it
-first_so : {C : Type 0} (log : List (LogIdOf C)) (upto : LogIdOf C) → From (first_index log) log
+purged_begins : {C : Type 0} (log : List (LogIdOf C)) (upto : LogIdOf C) → From (first_index log) log
     → nat_le (first_index log) upto.index ≡ true
     → first_id (log_after_purge log upto) ≡ first_after_purge log upto
-first_so {C} log upto row from = by (nat_le (end_index log) upto.index) refl
+purged_begins {C} log upto row from = by (nat_le (end_index log) upto.index) refl
   where
     within : (xs : List (LogIdOf C)) → From (first_index xs) xs → nat_le (first_index xs) upto.index ≡ true
         → nat_le (end_index xs) upto.index ≡ false
@@ -72,7 +71,7 @@ first_so {C} log upto row from = by (nat_le (end_index log) upto.index) refl
         let n = from_end x.index x xs row in
         let low : x.index ≤ upto.index = grind (arith, nat_tests) in
         let high : upto.index < end_index (x ∷ xs) = grind (arith, nat_tests) in
-        let z = there_at x.index (x ∷ xs) upto.index row low (omega arith) in
+        let z = has_id_at x.index (x ∷ xs) upto.index row low (omega arith) in
         rest_first x.index upto.index (x ∷ xs) row low ∙ (rw z.1 refl)
 
     by : (t : Bool) → nat_le (end_index log) upto.index ≡ t
@@ -119,8 +118,8 @@ module _ {C : Type 0} {cmp : C → C → Ordering} (total : IsTotalOrder cmp) wh
       let snapshot = all_hold _ _ _ relation.1 in
       let committed = all_hold _ _ _ snapshot.1 in
       let log = full_log s.log_ids in
-      let can = both _ _ (both _ _ may).0 in
-      let first : first_id (full_log keys) ≡ first_after_purge log upto = ap first_id is ∙ first_so log upto row can.1 in
+      let can = and_parts _ _ (and_parts _ _ may).0 in
+      let first : first_id (full_log keys) ≡ first_after_purge log upto = ap first_id is ∙ purged_begins log upto row can.1 in
       let t : ((upto.index + 1) == 0) ≡ false = grind (arith, nat_tests) in
       let begins : fits_purged_next (upto.index + 1) (first_id (full_log keys)) ≡ true =
       rw first (fits_so upto.index (first_after_purge log upto) (begins_at log upto)) in

@@ -23,7 +23,7 @@ use Rattle.std.proofs.Common.{
   inr,
   ◌∙◌,
 }
-use Rattle.std.proofs.lemmas.Bool.{cases_lt}
+use Rattle.std.proofs.lemmas.Bool.{and_parts, cases_lt}
 use Rattle.std.proofs.lemmas.Bool.Decides.{nat_tests}
 use Rattle.std.specs.declared.cmp.Ordering.{Ordering}
 use Rattle.std.specs.Cmp.{IsTotalOrder, nat_cmp_total}
@@ -34,12 +34,11 @@ use Rattle.raft_base.specs.LogIndex.{index_le}
 use Rattle.raft_base.specs.Validate.{first_false}
 use Rattle.raft_base.specs.declared.log_id.LogIdOf.{LogIdOf}
 use Rattle.raft_members.specs.Stored.{log_id_of}
-use Rattle.raft_progress.proofs.lemmas.OrderLemmas.{AtMost-refl, AtMost-trans}
-use Rattle.raft_state.proofs.lemmas.raft_state.CommitLemmas.{hold_all}
+use Rattle.raft_progress.proofs.lemmas.progress.recount.RecountLemmas.{AtMost-refl, AtMost-trans}
 use Rattle.raft_state.proofs.lemmas.log_id_list.FrontLemmas.{front_none}
-use Rattle.raft_state.proofs.lemmas.log_id_list.LoggedLemmas.{all_hold}
+use Rattle.raft_state.proofs.lemmas.log_id_list.IdOrderLemmas.{none_at_most}
+use Rattle.raft_state.proofs.lemmas.validate.RelationLemmas.{all_hold, hold_all}
 use Rattle.raft_state.proofs.lemmas.log_id_list.OrderLemmas.{From}
-use Rattle.raft_state.proofs.lemmas.log_id_list.SameLogLemmas.{both}
 use Rattle.raft_state.specs.FullLog.{full_log}
 use Rattle.raft_state.specs.LogEdits.{front}
 use Rattle.raft_state.specs.LogReads.{first_id, last_id}
@@ -49,10 +48,6 @@ use Rattle.raft_state.specs.Memberships.{Memberships, index_at}
 use Rattle.raft_state.specs.Truncate.{may_truncate}
 use Rattle.raft_state.specs.Valid.{broken_relation, fits_purged_next, upto_relation}
 use Rattle.raft_state.specs.declared.raft_state.RaftStateIn.{RaftStateIn}
-
-pub none_at_most : {C : Type 0} (cmp : C → C → Ordering) (a : Option (LogIdOf C)) → id_le cmp None a ≡ true
-none_at_most cmp None = refl
-none_at_most cmp (Some a) = refl
 
 -- nothing stays: nothing was purged
 none_purged : {C : Type 0} (cmp : C → C → Ordering) (next : ℕ) (t : Bool) (x : LogIdOf C)
@@ -74,30 +69,30 @@ module _ {C : Type 0} {cmp : C → C → Ordering} (total : IsTotalOrder cmp) wh
   upto_committed upto committed (Some s) h k = AtMost-trans (optional-log_id_cmp-total total) upto (Some s) committed h k
 
   -- the log begins where it did, or nothing was purged
-  begins_so : (next a b : ℕ) (log : List (LogIdOf C)) (committed : Option (LogIdOf C)) → From b log
+  cut_begins : (next a b : ℕ) (log : List (LogIdOf C)) (committed : Option (LogIdOf C)) → From b log
       → fits_purged_next next (first_id log) ≡ true
       → id_le cmp (if next == 0 then None else first_id log) committed ≡ true → id_le cmp committed (last_id (front log a)) ≡ true
       → fits_purged_next next (first_id (front log a)) ≡ true
-  begins_so next a b [] committed row fits low up = fits
-  begins_so next a b (x ∷ xs) committed row fits low up = let x0 = row.0 in elim (cases_lt x.index a) [
+  cut_begins next a b [] committed row fits low up = fits
+  cut_begins next a b (x ∷ xs) committed row fits low up = let x0 = row.0 in elim (cases_lt x.index a) [
     | inl below ↦ (let t : nat_lt x.index a ≡ true = grind (arith, nat_tests) in rw t fits)
     | inr past ↦ (let none = front_none b a (x ∷ xs) row (omega arith) in
         rw none (none_purged cmp next (next == 0) x
         (AtMost-trans (optional-log_id_cmp-total total) (if next == 0 then None else Some x) committed None low (rw none at up))))
   ]
 
-  purged_so : (t : Bool) (a b : ℕ) (log : List (LogIdOf C)) (upto : Option (LogIdOf C)) → From b log
+  cut_purged : (t : Bool) (a b : ℕ) (log : List (LogIdOf C)) (upto : Option (LogIdOf C)) → From b log
       → id_le cmp (if t then None else first_id log) upto ≡ true → id_le cmp (if t then None else first_id (front log a)) upto ≡ true
-  purged_so t a b [] upto row low = low
-  purged_so t a b (x ∷ xs) upto row low = let x0 = row.0 in elim (cases_lt x.index a) [
+  cut_purged t a b [] upto row low = low
+  cut_purged t a b (x ∷ xs) upto row low = let x0 = row.0 in elim (cases_lt x.index a) [
     | inl below ↦ (let u : nat_lt x.index a ≡ true = grind (arith, nat_tests) in rw u low)
     | inr past ↦ rw (front_none b a (x ∷ xs) row (omega arith)) (none_below_all cmp t upto)
   ]
 
   -- valid memberships stay valid
-  pub memberships_stay : {K N : Type 0} (since : ℕ) (m : Memberships C K N) → first_false (membership_relations cmp m) ≡ None
+  pub cut_members_stay : {K N : Type 0} (since : ℕ) (m : Memberships C K N) → first_false (membership_relations cmp m) ≡ None
       → first_false (membership_relations cmp (after_truncate since m)) ≡ None
-  memberships_stay since m h = by (is_cut since m)
+  cut_members_stay since m h = by (is_cut since m)
     where
       by : (t : Bool) → first_false (membership_relations cmp
           (if t then record { committed = m.committed; effective = m.committed } else m)) ≡ None
@@ -116,14 +111,14 @@ module _ {C : Type 0} {cmp : C → C → Ordering} (total : IsTotalOrder cmp) wh
       let snapshot = all_hold _ _ _ upto.1 in
       let committed = all_hold _ _ _ snapshot.1 in
       let log = full_log s.log_ids in
-      let in_log = (both _ _ (both _ _ may).0).1 in
+      let in_log = (and_parts _ _ (and_parts _ _ may).0).1 in
       let low = AtMost-trans (optional-log_id_cmp-total total) (if s.purged_next == 0 then None else first_id log) s.purge_upto s.committed
       purge_point.0
       (upto_committed s.purge_upto s.committed s.snapshot_meta.last_log_id upto.0 snapshot.0) in
       let ends : id_le cmp s.committed (last_id (full_log keys)) ≡ true = rw is in_log in
-      let members : first_false (membership_relations cmp m) ≡ None = rw is_m (memberships_stay since s.membership_state committed.1) in
+      let members : first_false (membership_relations cmp m) ≡ None = rw is_m (cut_members_stay since s.membership_state committed.1) in
       let begins : fits_purged_next s.purged_next (first_id (full_log keys)) ≡ true =
-      rw is (begins_so s.purged_next since b log s.committed row fits.0 low in_log) in
+      rw is (cut_begins s.purged_next since b log s.committed row fits.0 low in_log) in
       let purged : id_le cmp (if s.purged_next == 0 then None else first_id (full_log keys)) s.purge_upto ≡ true =
-      rw is (purged_so (s.purged_next == 0) since b log s.purge_upto row purge_point.0) in
+      rw is (cut_purged (s.purged_next == 0) since b log s.purge_upto row purge_point.0) in
       hold_all _ _ _ begins (hold_all _ _ _ purged (hold_all _ _ _ upto.0 (hold_all _ _ _ snapshot.0 (hold_all _ _ _ ends members))))

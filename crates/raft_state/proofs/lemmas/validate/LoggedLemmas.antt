@@ -33,17 +33,18 @@ use Rattle.std.specs.Option.{is_some, option_or}
 use Rattle.std.specs.declared.cmp.Ordering.{Ordering}
 use Rattle.std.specs.declared.cmp.Ordering.TheVariants.{Less, Equal, Greater}
 use Rattle.std.specs.Ordering.{nat_cmp, is_le, is_lt, ordering_then}
+use Rattle.std.proofs.lemmas.Option.{same_Some}
 use Rattle.std.specs.Cmp.{IsTotalOrder}
 use Rattle.std.proofs.lemmas.Bool.{cases_lt}
 use Rattle.std.proofs.lemmas.Bool.Decides.{nat_tests}
 use Rattle.raft_base.specs.declared.log_id.LogIdOf.{LogIdOf}
 use Rattle.raft_state.specs.FullLog.{full_log, first_index, end_index}
 use Rattle.raft_state.specs.LogReads.{id_at, first_id, last_id}
-use Rattle.raft_state.proofs.lemmas.log_id_list.KeyListLemmas.{IsKeyList}
+use Rattle.raft_state.proofs.lemmas.log_id_list.KeyListLemmas.{IsKeyList, step_keys, tail_keys}
 use Rattle.raft_state.proofs.lemmas.log_id_list.FullLogLemmas.{at_full, covering, covers, covers_none}
 use Rattle.raft_state.proofs.lemmas.log_id_list.CutLemmas.{last_full, first_full}
-use Rattle.raft_state.proofs.lemmas.log_id_list.EqualLemmas.{tail_keys}
-use Rattle.raft_progress.proofs.lemmas.OrderLemmas.{AtMost-refl, AtMost-trans}
+use Rattle.raft_state.proofs.lemmas.log_id_list.IdOrderLemmas.{le_than}
+use Rattle.raft_progress.proofs.lemmas.progress.recount.RecountLemmas.{AtMost-refl, AtMost-trans}
 use Rattle.raft_base.specs.LogId.{next_index, id_le, index_of, same_ids}
 use Rattle.raft_base.specs.LogIndex.{index_le}
 use Rattle.raft_base.specs.LogView.{LogView, prev_id}
@@ -59,22 +60,9 @@ abbrev pub PurgeIn : {C : Type 0} → List (LogIdOf C) → Option (LogIdOf C) �
 PurgeIn keys None = first_index (full_log keys) ≡ 0
 PurgeIn keys (Some upto) = IsTrue (is_some (id_at (full_log keys) upto.index))
 
-pub step_keys : {C : Type 0} (cmp : C → C → Ordering) (k l : LogIdOf C) (ks : List (LogIdOf C)) → IsKeyList cmp (k ∷ l ∷ ks)
-    → (k.index < l.index) × IsTrue (is_le (cmp k.leader_id l.leader_id))
-step_keys cmp k l [] s = s
-step_keys cmp k l (m ∷ ks) s = (s.0, lt_le (cmp k.leader_id l.leader_id) s.1)
-  where
-    lt_le : (o : Ordering) → is_lt o ≡ true → is_le o ≡ true
-    lt_le Less h = refl
-    lt_le Equal h = cc
-    lt_le Greater h = cc
-
 whole : {C : Type 0} (k : LogIdOf C) (ks : List (LogIdOf C)) (j : ℕ) → k.index ≤ j
     → covering (k ∷ ks) j ≡ option_or (covering ks j) (Some k)
 whole k ks j le = let t : nat_le k.index j ≡ true = grind (arith, nat_tests) in rw t refl
-
-some_inside : {A : Type 0} (x y : A) → Some x ≡ Some y → x ≡ y
-some_inside x y h = cc
 
 none_some : {A : Type 0} (x : A) → (let o : Option A = None in o) ≡ Some x → ⊥
 none_some x h = cc
@@ -86,11 +74,6 @@ none_true (Some x) e h = cc
 either_none : {A : Type 0} (t : Bool) → (if t then (let o : Option A = None in o) else None) ≡ None
 either_none true = refl
 either_none false = refl
-
-le_than : (o : Ordering) (i j : ℕ) → is_le o ≡ true → i < j → is_lt (ordering_then o (nat_cmp i j)) ≡ true
-le_than Less i j h lt = refl
-le_than Equal i j h lt = grind (arith, nat_tests)
-le_than Greater i j h lt = cc
 
 module _ {C : Type 0} (cmp : C → C → Ordering) (total : IsTotalOrder cmp) where
   -- a later index has no lesser leader
@@ -124,16 +107,16 @@ module _ {C : Type 0} (cmp : C → C → Ordering) (total : IsTotalOrder cmp) wh
         (let wi = whole k (l ∷ ks) i from in let wj = whole k (l ∷ ks) j (omega arith) in
         elim (cases_lt i l.index) [
           | inl below ↦ (let n = covers_none l ks i below in
-              let f : k ≡ a = some_inside k a (rw n at (sym wi ∙ p)) in
+              let f : k ≡ a = same_Some k a (rw n at (sym wi ∙ p)) in
               elim (cases_lt j l.index) [
-                | inl also ↦ (let m = covers_none l ks j also in let g : k ≡ b = some_inside k b (rw m at (sym wj ∙ q)) in
+                | inl also ↦ (let m = covers_none l ks j also in let g : k ≡ b = same_Some k b (rw m at (sym wj ∙ q)) in
                     rw (← f, ← g) (AtMost-refl total k.leader_id))
-                | inr past ↦ (let d = covers l ks j past in let g : d.0 ≡ b = some_inside d.0 b (rw d.1 at (sym wj ∙ q)) in
+                | inr past ↦ (let d = covers l ks j past in let g : d.0 ≡ b = same_Some d.0 b (rw d.1 at (sym wj ∙ q)) in
                     rw (← f) (first_le k (l ∷ ks) j b s (d.1 ∙ ap Some g)))
               ])
           | inr past ↦ (let d = covers l ks i past in let e = covers l ks j (omega arith) in
-              let f : d.0 ≡ a = some_inside d.0 a (rw d.1 at (sym wi ∙ p)) in
-              let g : e.0 ≡ b = some_inside e.0 b (rw e.1 at (sym wj ∙ q)) in
+              let f : d.0 ≡ a = same_Some d.0 a (rw d.1 at (sym wi ∙ p)) in
+              let g : e.0 ≡ b = same_Some e.0 b (rw e.1 at (sym wj ∙ q)) in
               rising_le (l ∷ ks) i j a b (tail_keys cmp k l ks s) (d.1 ∙ ap Some f) (e.1 ∙ ap Some g) lt)
         ])
   ]
@@ -159,7 +142,7 @@ module _ {C : Type 0} (cmp : C → C → Ordering) (total : IsTotalOrder cmp) wh
   purge_low : (k : LogIdOf C) (ks : List (LogIdOf C)) (purge : Option (LogIdOf C)) → IsKeyList cmp (k ∷ ks) → PurgeIn (k ∷ ks) purge
       → (k.index ≤ next_index purge) × (next_index purge ≤ end_index (k ∷ ks)) × ((i : ℕ) → next_index purge ≤ i + 1 → k.index ≤ i)
   purge_low k ks None s h =
-      let f = first_full cmp (k ∷ ks) 0 s in let z : k.index ≡ 0 = sym f ∙ h in (omega arith, omega arith, λ i le. omega arith)
+      let f = first_full cmp (k ∷ ks) s in let z : k.index ≡ 0 = sym f ∙ h in (omega arith, omega arith, λ i le. omega arith)
   purge_low k ks (Some u) s h = elim (cases_lt u.index k.index) [
     | inl below ↦ absurd (none_true (id_at (full_log (k ∷ ks)) u.index)
         (at_full cmp (k ∷ ks) u.index s ∙ rw (covers_none k ks u.index below) (either_none (nat_lt u.index (end_index (k ∷ ks))))) h)
@@ -176,7 +159,7 @@ pub logged_keys : {C : Type 0} (cmp : C → C → Ordering) (total : IsTotalOrde
 logged_keys cmp total [] None rest s inside =
     record {
       purged = omega arith;
-      there = λ i low high. absurd (omega arith);
+      has_each = λ i low high. absurd (omega arith);
       rises = λ i j low lt high. absurd (omega arith);
       at_end = refl;
     }
@@ -191,7 +174,7 @@ logged_keys {C} cmp total (k ∷ ks) purge rest s inside =
     let n : end_index (k ∷ ks) ≡ suc y.0.index = omega arith in
     record {
       purged = omega arith;
-      there = λ i from high. (let c = covers k ks i (low.2 i from) in
+      has_each = λ i from high. (let c = covers k ks i (low.2 i from) in
           (record { leader_id = c.0.leader_id; index = i }, id_here cmp total (k ∷ ks) i c.0 s (omega arith) c.1, refl));
       rises = λ i j from lt high.
           (let c = covers k ks i (low.2 i from) in let d = covers k ks j (low.2 j (omega arith)) in
@@ -200,11 +183,6 @@ logged_keys {C} cmp total (k ∷ ks) purge rest s inside =
       at_end = subst (λ (x : ℕ). prev_id (id_at (full_log (k ∷ ks))) x ≡ last_id (full_log (k ∷ ks))) (sym (l ∙ n))
           (id_here cmp total (k ∷ ks) y.0.index y.0 s (omega arith) y.2 ∙ sym (last_full cmp (k ∷ ks) s ∙ y.1));
     }
-
--- relations of which none is broken: the first one holds, and so do the others
-pub all_hold : {E : Type 0} (t : Bool) (e : E) (others : Option E) → (if t then others else Some e) ≡ None → (t ≡ true) × (others ≡ None)
-all_hold true e others h = (refl, h)
-all_hold false e others h = cc
 
 at_zero : (i : ℕ) → is_le (nat_cmp i 0) ≡ true → i ≡ 0
 at_zero i h = grind (arith, nat_tests)

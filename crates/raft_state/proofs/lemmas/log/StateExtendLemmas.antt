@@ -22,6 +22,7 @@ use Rattle.std.proofs.Common.{
   arith,
   ◌∙◌,
 }
+use Rattle.std.proofs.lemmas.Bool.{and_parts}
 use Rattle.std.proofs.lemmas.Bool.Decides.{nat_tests}
 use Rattle.std.specs.declared.cmp.Ordering.{Ordering}
 use Rattle.std.specs.Cmp.{IsTotalOrder}
@@ -32,14 +33,11 @@ use Rattle.raft_base.specs.LogIdLawful.{optional-log_id_cmp-total}
 use Rattle.raft_base.specs.LogIndex.{index_le, next_index_of}
 use Rattle.raft_base.specs.Validate.{first_false}
 use Rattle.raft_base.specs.declared.log_id.LogIdOf.{LogIdOf}
-use Rattle.raft_progress.proofs.lemmas.OrderLemmas.{AtMost-trans}
-use Rattle.raft_state.proofs.lemmas.log_id_list.AppendLemmas.{itself, then_below, upto_equal}
-use Rattle.raft_state.proofs.lemmas.raft_state.CommitLemmas.{hold_all}
+use Rattle.raft_progress.proofs.lemmas.progress.recount.RecountLemmas.{AtMost-refl, AtMost-trans}
+use Rattle.raft_state.proofs.lemmas.log_id_list.IdOrderLemmas.{none_at_most, then_below, upto_equal}
 use Rattle.raft_state.proofs.lemmas.log_id_list.ExtendLemmas.{extend_raises, first_extended}
-use Rattle.raft_state.proofs.lemmas.log_id_list.LoggedLemmas.{all_hold}
+use Rattle.raft_state.proofs.lemmas.validate.RelationLemmas.{all_hold, hold_all}
 use Rattle.raft_state.proofs.lemmas.log_id_list.SameEditsLemmas.{first_id_finds}
-use Rattle.raft_state.proofs.lemmas.log_id_list.SameLogLemmas.{both}
-use Rattle.raft_state.proofs.lemmas.follower.TruncateLemmas.{none_at_most}
 use Rattle.raft_state.specs.Appended.{begins_at_zero}
 use Rattle.raft_state.specs.FullLog.{full_log, same_log}
 use Rattle.raft_state.specs.LogConditions.{all_follow}
@@ -56,7 +54,7 @@ same_index eq None None h = refl
 same_index eq None (Some y) h = cc
 same_index eq (Some x) None h = cc
 same_index eq (Some x) (Some y) h =
-    let d1 = (both (eq x.leader_id y.leader_id) (nat_eq x.index y.index) h).1 in
+    let d1 = (and_parts (eq x.leader_id y.leader_id) (nat_eq x.index y.index) h).1 in
     let at : x.index ≡ y.index = grind (arith, nat_tests) in ap Some at
 
 -- whether a log begins at the last purged index depends on its first index alone
@@ -81,31 +79,31 @@ module _ {C : Type 0} (cmp : C → C → Ordering) (eq : C → C → Bool) (tota
   same_below None b c h le = none_at_most cmp c
   same_below (Some x) None c h le = cc
   same_below (Some x) (Some y) c h le =
-      let d = both (eq x.leader_id y.leader_id) (nat_eq x.index y.index) h in let d1 = d.1 in
+      let d = and_parts (eq x.leader_id y.leader_id) (nat_eq x.index y.index) h in let d1 = d.1 in
       let index : x.index ≡ y.index = grind (arith, nat_tests) in
-      let leader = upto_equal cmp eq total law x.leader_id y.leader_id y.leader_id d.0 (itself cmp eq total law y.leader_id) in
+      let leader = upto_equal cmp eq total law x.leader_id y.leader_id y.leader_id d.0 (AtMost-refl total y.leader_id) in
       let below = then_below (cmp x.leader_id y.leader_id) x.index y.index leader (omega arith) in
       AtMost-trans (optional-log_id_cmp-total total) (Some x) (Some y) c below le
 
   -- a log that begins where it did, or an empty one at index 0
-  begins_so : (next : ℕ) (log ids : List (LogIdOf C)) (first : Option (LogIdOf C))
+  extended_begins : (next : ℕ) (log ids : List (LogIdOf C)) (first : Option (LogIdOf C))
       → same_ids eq first (option_or (first_id log) (first_id ids)) ≡ true → begins_at_zero log ids ≡ true
       → fits_purged_next next (first_id log) ≡ true → fits_purged_next next first ≡ true
-  begins_so next [] ids first same zero fits =
+  extended_begins next [] ids first same zero fits =
       fits_same next first (first_id ids) (same_index eq first (first_id ids) same) (fits_first next (first_id ids) fits zero)
-  begins_so next (x ∷ log) ids first same zero fits = fits_same next first (Some x) (same_index eq first (Some x) same) fits
+  extended_begins next (x ∷ log) ids first same zero fits = fits_same next first (Some x) (same_index eq first (Some x) same) fits
 
-  purged_so : (next : ℕ) (log ids : List (LogIdOf C)) (first upto : Option (LogIdOf C))
+  extended_purged : (next : ℕ) (log ids : List (LogIdOf C)) (first upto : Option (LogIdOf C))
       → same_ids eq first (option_or (first_id log) (first_id ids)) ≡ true
       → fits_purged_next next (first_id log) ≡ true → id_le cmp (if next == 0 then None else first_id log) upto ≡ true
       → id_le cmp (if next == 0 then None else first) upto ≡ true
-  purged_so next [] ids first upto same fits low = by (next == 0) refl fits
+  extended_purged next [] ids first upto same fits low = by (next == 0) refl fits
     where
       by : (t : Bool) → t ≡ (next == 0) → (if t then index_le (index_of {C = C} None) (Some 0) else next_index {C = C} None == next) ≡ true
           → id_le cmp (if t then None else first) upto ≡ true
       by true is fits = none_at_most cmp upto
       by false is fits = absurd (grind (arith, nat_tests))
-  purged_so next (x ∷ log) ids first upto same fits low = by (next == 0) low
+  extended_purged next (x ∷ log) ids first upto same fits low = by (next == 0) low
     where
       by : (t : Bool) → id_le cmp (if t then None else Some x) upto ≡ true → id_le cmp (if t then None else first) upto ≡ true
       by true low = low
@@ -128,9 +126,9 @@ module _ {C : Type 0} (cmp : C → C → Ordering) (eq : C → C → Bool) (tota
       let first : same_ids eq (first_id (full_log keys)) (option_or (first_id log) (first_id ids)) ≡ true =
       rw (first_extended log ids) at (first_id_finds eq (full_log keys) (log_after_extend log ids) same) in
       let begins : fits_purged_next s.purged_next (first_id (full_log keys)) ≡ true =
-      begins_so s.purged_next log ids (first_id (full_log keys)) first zero fits.0 in
+      extended_begins s.purged_next log ids (first_id (full_log keys)) first zero fits.0 in
       let purged : id_le cmp (if s.purged_next == 0 then None else first_id (full_log keys)) s.purge_upto ≡ true =
-      purged_so s.purged_next log ids (first_id (full_log keys)) s.purge_upto first fits.0 purge_point.0 in
+      extended_purged s.purged_next log ids (first_id (full_log keys)) s.purge_upto first fits.0 purge_point.0 in
       let ends : id_le cmp s.committed (last_id (full_log keys)) ≡ true =
       rw last (AtMost-trans (optional-log_id_cmp-total total) s.committed (last_id log) (option_or (last_id ids) (last_id log)) committed.0
       (extend_raises total (last_id log) ids follow)) in

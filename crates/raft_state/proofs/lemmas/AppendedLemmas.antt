@@ -1,5 +1,6 @@
 -- Entries whose memberships follow one another, and what they leave.
 use Rattle.std.proofs.Common.{◌≡◌, Bool, true, ◌&&◌, List, [], ◌∷◌, Option, Some, None, is_some, refl, sym}
+use Rattle.std.proofs.lemmas.Bool.{and_parts}
 use Rattle.std.specs.declared.cmp.Ordering.{Ordering}
 use Rattle.std.specs.Option.{option_cmp}
 use Rattle.std.specs.Ordering.{nat_cmp}
@@ -10,9 +11,8 @@ use Rattle.raft_base.specs.declared.log_id.LogIdOf.{LogIdOf}
 use Rattle.raft_members.specs.Members.{MemberList}
 use Rattle.raft_members.specs.Stored.{log_id_of}
 use Rattle.raft_members.specs.declared.membership.stored.StoredMembershipOf.{StoredMembershipOf}
-use Rattle.raft_progress.proofs.lemmas.OrderLemmas.{AtMost-from_lt}
-use Rattle.raft_state.proofs.lemmas.raft_state.CommitLemmas.{hold_all}
-use Rattle.raft_state.proofs.lemmas.log_id_list.SameLogLemmas.{both}
+use Rattle.raft_progress.proofs.lemmas.progress.recount.RecountLemmas.{AtMost-from_lt}
+use Rattle.raft_state.proofs.lemmas.validate.RelationLemmas.{hold_all}
 use Rattle.raft_state.specs.Appended.{AppendsMemberships, IsStoredBy, memberships_follow}
 use Rattle.raft_state.specs.MembershipMoves.{after_append}
 use Rattle.raft_state.specs.MembershipRelations.{membership_relations}
@@ -24,7 +24,7 @@ module _ {C K N E : Type 0} (cmp : C → C → Ordering) (id_of : E → LogIdOf 
       → memberships_follow cmp id_of (λ x. is_some (membership x)) last (e ∷ es) ≡ true
       → (id_lt cmp last (Some (id_of e)) && index_lt (index_of last) (Some (id_of e).index) ≡ true)
       × (memberships_follow cmp id_of (λ x. is_some (membership x)) (Some (id_of e)) es ≡ true)
-  one_follows last e es w stores follow = both _ _ (rw stores at follow)
+  one_follows last e es w stores follow = and_parts _ _ (rw stores at follow)
 
   -- an entry without a membership is passed over
   pub none_follows : (last : Option (LogIdOf C)) (e : E) (es : List E) → membership e ≡ None
@@ -51,7 +51,7 @@ one_stays : {C K N : Type 0} (cmp : C → C → Ordering) (id : LogIdOf C) (stor
     → (id_lt cmp (log_id_of m.effective) (Some id) && index_lt (index_of (log_id_of m.effective)) (Some id.index) ≡ true)
     → first_false (membership_relations cmp (after_append stored m)) ≡ None
 one_stays cmp id stored m is follows =
-    let up = both _ _ follows in
+    let up = and_parts _ _ follows in
     let low : id_le cmp (log_id_of m.effective) (log_id_of stored) ≡ true =
     rw is (AtMost-from_lt (option_cmp (log_id_cmp cmp)) (log_id_of m.effective) (Some id) up.0) in
     let index : index_le (index_at m.effective) (index_at stored) ≡ true =

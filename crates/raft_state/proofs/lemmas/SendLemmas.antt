@@ -25,7 +25,7 @@ use Rattle.std.proofs.Common.{
   inr,
   ◌∙◌,
 }
-use Rattle.std.proofs.lemmas.Bool.{cases_lt}
+use Rattle.std.proofs.lemmas.Bool.{cases_lt, eq-eqb, le-ltb, leb-true, lt-ltb}
 use Rattle.std.proofs.lemmas.Bool.Decides.{nat_tests}
 use Rattle.std.specs.declared.cmp.Ordering.{Ordering}
 use Rattle.raft_base.specs.LogId.{id_lt, next_index}
@@ -38,20 +38,8 @@ use Rattle.raft_progress.specs.declared.entry.ProgressEntryOf.{ProgressEntryOf}
 use Rattle.raft_progress.specs.declared.inflight.InflightOf.TheVariants.{Logs, Snapshot}
 use Rattle.raft_state.specs.Sending.{FromLog}
 
-lt_true : (a b : ℕ) → a < b → nat_lt a b ≡ true
-lt_true a b h = grind (arith, nat_tests)
-
-lt_false : (a b : ℕ) → b ≤ a → nat_lt a b ≡ false
-lt_false a b h = grind (arith, nat_tests)
-
-eq_true : (a b : ℕ) → a ≡ b → (a == b) ≡ true
-eq_true a b h = grind (arith, nat_tests)
-
 eq_false : (a b : ℕ) → a < b → (a == b) ≡ false
 eq_false a b h = grind (arith, nat_tests)
-
-true_le : (a b : ℕ) → nat_le a b ≡ true → a ≤ b
-true_le a b h = grind (arith, nat_tests)
 
 -- of five tests that hold, the first one and the third one
 first_and_third : (a b c d e : Bool) → a && b && c && d && e ≡ true → (a ≡ true) × (c ≡ true)
@@ -87,7 +75,7 @@ module _ {C : Type 0} (cmp : C → C → Ordering) (log : LogView C) (logged : L
         → start_of entry log < end_of entry log n → send_table cmp entry log n ≡ Ok (with_logs entry)
     sent_logs entry idle long lt =
         let t : nat_lt entry.searching_end (next_index log.purge_upto) ≡ false =
-        lt_false entry.searching_end (next_index log.purge_upto) long in
+        le-ltb entry.searching_end (next_index log.purge_upto) long in
         let u : (start_of entry log == end_of entry log n) ≡ false = eq_false (start_of entry log) (end_of entry log n) lt in
         let v : id_lt cmp (prev_id log.id_at (start_of entry log)) (prev_id log.id_at (end_of entry log n)) ≡ true =
         prev_rises cmp log logged (start_of entry log) (end_of entry log n) (omega arith) lt (omega arith) in
@@ -100,12 +88,12 @@ module _ {C : Type 0} (cmp : C → C → Ordering) (log : LogView C) (logged : L
         let two = first_and_third (nat_le (next_index entry.matching) entry.searching_end) (nat_lt (next_index log.last) (2 ^ 64))
         (nat_le entry.searching_end (next_index log.last)) (nat_lt (next_index log.purge_upto) (2 ^ 64))
         (nat_lt (entry.curr_inflight_id + 1) (2 ^ 64)) (rw idle at can) in
-        let me : next_index entry.matching ≤ entry.searching_end = true_le (next_index entry.matching) entry.searching_end two.0 in
-        let el : entry.searching_end ≤ next_index log.last = true_le entry.searching_end (next_index log.last) two.1 in
+        let me : next_index entry.matching ≤ entry.searching_end = leb-true (next_index entry.matching) entry.searching_end two.0 in
+        let el : entry.searching_end ≤ next_index log.last = leb-true entry.searching_end (next_index log.last) two.1 in
         let pl = logged.purged in
         elim (cases_lt entry.searching_end (next_index log.purge_upto)) [
           | inl short ↦ (let t : nat_lt entry.searching_end (next_index log.purge_upto) ≡ true =
-              lt_true entry.searching_end (next_index log.purge_upto) short in
+              lt-ltb entry.searching_end (next_index log.purge_upto) short in
               let s : send_table cmp entry log n ≡ Ok (with_snapshot entry) = rw (idle, t) refl in
               subst (λ (x : ProgressEntryOf C). FromLog log n entry x.inflight) (ok_inside _ _ (sym s ∙ ok)) refl)
           | inr long ↦ elim (cases_lt (start_of entry log) (end_of entry log n)) [
@@ -118,16 +106,16 @@ module _ {C : Type 0} (cmp : C → C → Ordering) (log : LogView C) (logged : L
                       (end_of entry log n) (omega arith) (omega arith),
                 )
             | inr past ↦ (let t : nat_lt entry.searching_end (next_index log.purge_upto) ≡ false =
-                lt_false entry.searching_end (next_index log.purge_upto) long in
+                le-ltb entry.searching_end (next_index log.purge_upto) long in
                 let u : (start_of entry log == end_of entry log n) ≡ true =
-                eq_true (start_of entry log) (end_of entry log n) (omega arith) in
+                eq-eqb (start_of entry log) (end_of entry log n) (omega arith) in
                 elim (cases_lt (next_index entry.matching) entry.searching_end) [
                   | inl wide ↦ (let v : nat_lt (next_index entry.matching) entry.searching_end ≡ true =
-                      lt_true (next_index entry.matching) entry.searching_end wide in
+                      lt-ltb (next_index entry.matching) entry.searching_end wide in
                       let s : send_table cmp entry log n ≡ Ok (with_snapshot entry) = rw (idle, t, u, v) refl in
                       subst (λ (x : ProgressEntryOf C). FromLog log n entry x.inflight) (ok_inside _ _ (sym s ∙ ok)) refl)
                   | inr shut ↦ (let v : nat_lt (next_index entry.matching) entry.searching_end ≡ false =
-                      lt_false (next_index entry.matching) entry.searching_end shut in
+                      le-ltb (next_index entry.matching) entry.searching_end shut in
                       let s : send_table cmp entry log n ≡ Err entry = rw (idle, t, u, v) refl in absurd (not_both entry new (sym s ∙ ok)))
                 ])
           ]

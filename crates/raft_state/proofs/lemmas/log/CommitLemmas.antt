@@ -9,8 +9,8 @@ use Rattle.raft_base.specs.LogIdLawful.{optional-log_id_cmp-total}
 use Rattle.raft_base.specs.Validate.{first_false}
 use Rattle.raft_base.specs.declared.log_id.LogIdOf.{LogIdOf}
 use Rattle.raft_members.specs.Stored.{log_id_of}
-use Rattle.raft_progress.proofs.lemmas.OrderLemmas.{AtMost-from_lt, AtMost-refl, AtMost-trans}
-use Rattle.raft_state.proofs.lemmas.log_id_list.LoggedLemmas.{all_hold}
+use Rattle.raft_progress.proofs.lemmas.progress.recount.RecountLemmas.{AtMost-from_lt, AtMost-refl, AtMost-trans}
+use Rattle.raft_state.proofs.lemmas.validate.RelationLemmas.{all_hold, hold_all}
 use Rattle.raft_state.specs.FullLog.{full_log}
 use Rattle.raft_state.specs.LogReads.{last_id}
 use Rattle.raft_state.specs.MembershipMoves.{after_commit, commits}
@@ -18,10 +18,6 @@ use Rattle.raft_state.specs.MembershipRelations.{membership_relations}
 use Rattle.raft_state.specs.Memberships.{Memberships, index_at}
 use Rattle.raft_state.specs.Valid.{broken_relation, upto_relation}
 use Rattle.raft_state.specs.declared.raft_state.RaftStateIn.{RaftStateIn}
-
--- relations of which the first one holds, and so do the others: none is broken
-pub hold_all : {E : Type 0} (t : Bool) (e : E) (others : Option E) → t ≡ true → others ≡ None → (if t then others else Some e) ≡ None
-hold_all t e others h o = rw h o
 
 module _ {C : Type 0} {cmp : C → C → Ordering} (total : IsTotalOrder cmp) where
   at_most : (a b c : Option (LogIdOf C)) → id_le cmp a b ≡ true → id_lt cmp b c ≡ true → id_le cmp a c ≡ true
@@ -35,9 +31,10 @@ module _ {C : Type 0} {cmp : C → C → Ordering} (total : IsTotalOrder cmp) wh
   upto_stays upto old new (Some snapshot) up h = h
 
   -- valid memberships stay valid
-  memberships_stay : {K N : Type 0} (id : Option (LogIdOf C)) (m : Memberships C K N) → first_false (membership_relations cmp m) ≡ None
+  committed_members_stay : {K N : Type 0} (id : Option (LogIdOf C)) (m : Memberships C K N)
+      → first_false (membership_relations cmp m) ≡ None
       → first_false (membership_relations cmp (after_commit cmp id m)) ≡ None
-  memberships_stay id m h = by (commits cmp id m)
+  committed_members_stay id m h = by (commits cmp id m)
     where
       by : (t : Bool) → first_false (membership_relations cmp
           (if t then record { committed = m.effective; effective = m.effective } else m)) ≡ None
@@ -58,4 +55,4 @@ module _ {C : Type 0} {cmp : C → C → Ordering} (total : IsTotalOrder cmp) wh
       hold_all _ _ _ purged.0 (hold_all _ _ _ purge_point.0
       (hold_all _ _ _ (upto_stays s.purge_upto s.committed id s.snapshot_meta.last_log_id up upto.0)
       (hold_all _ _ _ (at_most s.snapshot_meta.last_log_id s.committed id snapshot.0 up)
-      (hold_all _ _ _ in_log (rw is (memberships_stay id s.membership_state committed.1))))))
+      (hold_all _ _ _ in_log (rw is (committed_members_stay id s.membership_state committed.1))))))

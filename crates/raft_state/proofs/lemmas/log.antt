@@ -1,6 +1,4 @@
 pub mod CommitLemmas
-pub mod CommittedLemmas
-pub mod DeniedLemmas
-pub mod SendLemmas
+pub mod ConflictLemmas
 pub mod StateExtendLemmas
 pub mod StatePurgeLemmas

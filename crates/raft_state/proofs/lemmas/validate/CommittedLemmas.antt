@@ -29,19 +29,18 @@ use Rattle.std.proofs.Common.{
 use Rattle.std.proofs.lemmas.Bool.{cases_lt}
 use Rattle.std.proofs.lemmas.Bool.Decides.{nat_tests}
 use Rattle.std.specs.declared.cmp.Ordering.{Ordering}
-use Rattle.std.specs.Cmp.{IsTotalOrder}
+use Rattle.std.specs.Cmp.{IsEquivalence, IsTotalOrder}
 use Rattle.std.specs.Ordering.{is_eq, is_le}
 use Rattle.raft_base.specs.LogId.{id_le, index_of, same_ids}
 use Rattle.raft_base.specs.LogIndex.{index_lt}
 use Rattle.raft_base.specs.declared.log_id.LogIdOf.{LogIdOf}
-use Rattle.raft_progress.proofs.lemmas.OrderLemmas.{AtMost-refl}
-use Rattle.raft_state.proofs.lemmas.log_id_list.AppendLemmas.{then_below, upto_equal}
+use Rattle.raft_progress.proofs.lemmas.progress.recount.RecountLemmas.{AtMost-refl}
+use Rattle.raft_state.proofs.lemmas.log_id_list.IdOrderLemmas.{leaders_symm, none_at_most, then_below, upto_equal}
 use Rattle.raft_state.proofs.lemmas.log_id_list.FrontLemmas.{from_first}
-use Rattle.raft_state.proofs.lemmas.follower.InstallLemmas.{found, within}
-use Rattle.raft_state.proofs.lemmas.log_id_list.KeptLemmas.{end_at, front_ends, there_at}
+use Rattle.raft_state.proofs.lemmas.log_id_list.SameLogLemmas.{equal_found}
+use Rattle.raft_state.proofs.lemmas.log_id_list.KeptLemmas.{end_at, front_ends, has_id_at}
 use Rattle.raft_state.proofs.lemmas.log_id_list.KeyListLemmas.{IsKeyList}
-use Rattle.raft_state.proofs.lemmas.log_id_list.OrderLemmas.{Above, From, above_full, never_falls_at}
-use Rattle.raft_state.proofs.lemmas.follower.TruncateLemmas.{none_at_most}
+use Rattle.raft_state.proofs.lemmas.log_id_list.OrderLemmas.{Above, From, above_full, index_within, never_falls_at}
 use Rattle.raft_state.specs.FullLog.{end_index, first_index, full_log}
 use Rattle.raft_state.specs.LogEdits.{front}
 use Rattle.raft_state.specs.LogReads.{id_at, last_id}
@@ -51,7 +50,7 @@ use Rattle.raft_state.specs.Valid.{none_or_logged}
 use Rattle.raft_state.specs.declared.raft_state.RaftStateIn.{RaftStateIn}
 
 module _ {C : Type 0} (cmp : C → C → Ordering) (eq : C → C → Bool) (total : IsTotalOrder cmp) (law : (x y : C) → eq x y ≡ is_eq (cmp x y))
-    (turn : (x y : C) → eq x y ≡ true → eq y x ≡ true) where
+    (eqs : IsEquivalence eq) where
   -- the log id at an index has no lesser leader than that at an earlier one
   not_lesser : (c : C) (b : ℕ) (log : List (LogIdOf C)) (i j : ℕ) (y z : LogIdOf C) → Above cmp total c log → From b log → i ≤ j
       → id_at log i ≡ Some y → id_at log j ≡ Some z → is_le (cmp y.leader_id z.leader_id) ≡ true
@@ -65,15 +64,15 @@ module _ {C : Type 0} (cmp : C → C → Ordering) (eq : C → C → Bool) (tota
       → same_ids eq (id_at log x.index) (Some x) ≡ true → x.index < since
       → id_le cmp (Some x) (last_id (front log since)) ≡ true
   cut_past c b log x since above row logged lt =
-      let f = found eq (id_at log x.index) x logged in
-      let w = within b x.index log f.0 row f.1 in let w0 = w.0 in let w1 = w.1 in
+      let f = equal_found eq (id_at log x.index) x logged in
+      let w = index_within b x.index log f.0 row f.1 in let w0 = w.0 in let w1 = w.1 in
       let e = end_at b log row w.1 w.0 in
       let s : min since (end_index log) ≡ suc (min since (end_index log) - 1) = omega arith in
       let j = min since (end_index log) - 1 in
       let low : x.index ≤ min since (end_index log) - 1 = omega arith in
-      let z = there_at b log (min since (end_index log) - 1) row (omega arith) (omega arith) in
+      let z = has_id_at b log (min since (end_index log) - 1) row (omega arith) (omega arith) in
       let index = rw z.1 at (id_at-indexed log (min since (end_index log) - 1)) in
-      let leader = upto_equal cmp eq total law x.leader_id f.0.leader_id z.0.leader_id (turn f.0.leader_id x.leader_id f.2)
+      let leader = upto_equal cmp eq total law x.leader_id f.0.leader_id z.0.leader_id (leaders_symm eqs f.0.leader_id x.leader_id f.2)
       (not_lesser c b log x.index (min since (end_index log) - 1) f.0 z.0 above row low f.1 z.1) in
       rw (front_ends b log since row, s, z.1) (then_below (cmp x.leader_id z.0.leader_id) x.index z.0.index leader (omega arith))
 

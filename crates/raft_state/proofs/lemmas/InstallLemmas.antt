@@ -34,11 +34,11 @@ use Rattle.std.proofs.Common.{
   inr,
   ◌∙◌,
 }
-use Rattle.std.proofs.lemmas.Bool.{cases_lt}
+use Rattle.std.proofs.lemmas.Bool.{and_parts, cases_lt, or_left, or_right}
 use Rattle.std.proofs.lemmas.Bool.Decides.{nat_tests}
 use Rattle.std.specs.declared.cmp.Ordering.{Ordering}
 use Rattle.std.specs.declared.cmp.Ordering.TheVariants.{Less, Equal, Greater}
-use Rattle.std.specs.Cmp.{IsTotalOrder, nat_cmp_total}
+use Rattle.std.specs.Cmp.{IsEquivalence, IsTotalOrder, nat_cmp_total}
 use Rattle.std.specs.Cmp.Lexicographic.{options_total}
 use Rattle.std.specs.Option.{option_cmp}
 use Rattle.std.specs.Ordering.{is_eq, is_le, is_lt, nat_cmp, ordering_then}
@@ -56,14 +56,13 @@ use Rattle.raft_base.specs.declared.log_id.validate.Invalid.TheVariants.{
   SnapshotPastCommitted,
   CommittedPastLast,
 }
-use Rattle.raft_state.proofs.lemmas.log_id_list.AppendLemmas.{itself, then_below, upto_equal}
-use Rattle.raft_state.proofs.lemmas.raft_state.CommitLemmas.{hold_all}
+use Rattle.raft_state.proofs.lemmas.log_id_list.IdOrderLemmas.{leaders_symm, then_below, upto_equal}
 use Rattle.raft_state.proofs.lemmas.log_id_list.FrontLemmas.{front_none, from_first, last_at, rest_first, rest_last}
 use Rattle.raft_state.proofs.lemmas.log_id_list.KeyListLemmas.{IsKeyList}
-use Rattle.raft_state.proofs.lemmas.log_id_list.LoggedLemmas.{all_hold}
-use Rattle.raft_state.proofs.lemmas.log_id_list.OrderLemmas.{From, above_full, last_at_least}
-use Rattle.raft_state.proofs.lemmas.log_id_list.SameLogLemmas.{both}
-use Rattle.raft_state.proofs.lemmas.follower.TruncateLemmas.{memberships_stay}
+use Rattle.raft_state.proofs.lemmas.validate.RelationLemmas.{all_hold, hold_all}
+use Rattle.raft_state.proofs.lemmas.log_id_list.OrderLemmas.{From, above_full, index_within, last_at_least}
+use Rattle.raft_state.proofs.lemmas.log_id_list.SameLogLemmas.{equal_found}
+use Rattle.raft_state.proofs.lemmas.TruncateLemmas.{cut_members_stay}
 use Rattle.raft_state.specs.Accepted.{after_accept}
 use Rattle.raft_state.specs.FullLog.{end_index, first_index, full_log}
 use Rattle.raft_state.specs.Install.{
@@ -87,37 +86,10 @@ use Rattle.raft_state.specs.declared.accepted.AcceptedIn.{AcceptedIn}
 use Rattle.raft_state.specs.declared.raft_state.RaftStateIn.{RaftStateIn}
 use Rattle.raft_state.specs.declared.snapshot_meta.SnapshotMetaOf.{SnapshotMetaOf}
 
--- a log id that equals the one of a list there
-pub found : {C : Type 0} (eq : C → C → Bool) (o : Option (LogIdOf C)) (id : LogIdOf C) → same_ids eq o (Some id) ≡ true
-    → (x : LogIdOf C) × (o ≡ Some x) × (eq x.leader_id id.leader_id ≡ true) × (x.index ≡ id.index)
-found eq None id h = cc
-found eq (Some x) id h = let d = both (eq x.leader_id id.leader_id) (nat_eq x.index id.index) h in let d1 = d.1 in
-    (x, refl, d.0, grind (arith, nat_tests))
-
--- what is there is not past the last index
-pub within : {C : Type 0} (b j : ℕ) (xs : List (LogIdOf C)) (x : LogIdOf C) → From b xs → id_at xs j ≡ Some x
-    → (b ≤ j) × (j < b + length xs)
-within b j [] x h e = cc
-within b j (y ∷ ys) x h e = let h0 = h.0 in let n : length (y ∷ ys) ≡ suc (length ys) = refl in
-    by (y.index == j) refl e (λ k. within (b + 1) j ys x h.1 k)
-  where
-    by : (t : Bool) → t ≡ (y.index == j) → (if t then Some y else id_at ys j) ≡ Some x
-        → (id_at ys j ≡ Some x → (b + 1 ≤ j) × (j < b + 1 + length ys)) → (b ≤ j) × (j < b + length (y ∷ ys))
-    by true t e later = let s : y.index ≡ j = grind (arith, nat_tests) in (omega arith, omega arith)
-    by false t e later = let r = later e in let r0 = r.0 in let r1 = r.1 in (omega arith, omega arith)
-
 leaders_first : (o : Ordering) (i j : ℕ) → is_le (ordering_then o (nat_cmp i j)) ≡ true → is_le o ≡ true
 leaders_first Less i j h = refl
 leaders_first Equal i j h = refl
 leaders_first Greater i j h = cc
-
-either : (a b : Bool) → a ≡ true → a || b ≡ true
-either true b h = refl
-either false b h = cc
-
-or_else : (a b : Bool) → b ≡ true → a || b ≡ true
-or_else true b h = refl
-or_else false b h = h
 
 in_index : (a b : Option ℕ) (i j : ℕ) → index_le a (Some i) ≡ true → index_le b (Some j) ≡ false → i ≤ j → index_le a b ≡ true
 in_index None None i j h g le = refl
@@ -137,11 +109,12 @@ after_first : {C : Type 0} (a : ℕ) (x : LogIdOf C) (zs : List (LogIdOf C)) →
 after_first a x [] lt h = omega arith
 after_first a x (z ∷ zs) lt h = h
 
-front_ends : {C : Type 0} (a : ℕ) (xs : List (LogIdOf C)) → next_index (last_id (front xs a)) ≤ a
-front_ends a [] = omega arith
-front_ends a (x ∷ xs) = elim (cases_lt x.index a) [
-  | inl below ↦ (let t : nat_lt x.index a ≡ true = grind (arith, nat_tests) in rw t (after_first a x (front xs a) below (front_ends a xs)))
-  | inr past ↦ (let t : nat_lt x.index a ≡ false = grind (arith, nat_tests) in rw t (front_ends a xs))
+front_ends_below : {C : Type 0} (a : ℕ) (xs : List (LogIdOf C)) → next_index (last_id (front xs a)) ≤ a
+front_ends_below a [] = omega arith
+front_ends_below a (x ∷ xs) = elim (cases_lt x.index a) [
+  | inl below ↦ (let t : nat_lt x.index a ≡ true = grind (arith, nat_tests) in
+      rw t (after_first a x (front xs a) below (front_ends_below a xs)))
+  | inr past ↦ (let t : nat_lt x.index a ≡ false = grind (arith, nat_tests) in rw t (front_ends_below a xs))
 ]
 
 is_past : {C : Type 0} (committed : Option (LogIdOf C)) (id : LogIdOf C) → index_lt (index_of committed) (Some id.index) ≡ true
@@ -158,7 +131,7 @@ pub record IsFrom {C : Type 0} (cmp : C → C → Ordering) (id : LogIdOf C) (lo
   pub last_at_least : id_le cmp (Some id) (last_id log) ≡ true
 
 module _ {C : Type 0} (cmp : C → C → Ordering) (eq : C → C → Bool) (total : IsTotalOrder cmp) (law : (x y : C) → eq x y ≡ is_eq (cmp x y))
-    (turn : (x y : C) → eq x y ≡ true → eq y x ≡ true) where
+    (eqs : IsEquivalence eq) where
   alone : (id : LogIdOf C) → IsFrom cmp id (id ∷ [])
   alone id = let r = AtMost-refl (optional-log_id_cmp-total total) (Some id) in
       record { first = id; is_first = refl; index = refl; first_at_most = r; last_at_least = r }
@@ -180,9 +153,9 @@ module _ {C : Type 0} (cmp : C → C → Ordering) (eq : C → C → Bool) (tota
           (full_log (k ∷ ks)) id.index))
       by_end true e = alone id
       by_end false e =
-          let f = found eq (id_at (full_log (k ∷ ks)) id.index) id h in
+          let f = equal_found eq (id_at (full_log (k ∷ ks)) id.index) id h in
           let f3 = f.3 in
-          let w = within (first_index (full_log (k ∷ ks))) id.index (full_log (k ∷ ks)) f.0 row f.1 in let w0 = w.0 in
+          let w = index_within (first_index (full_log (k ∷ ks))) id.index (full_log (k ∷ ks)) f.0 row f.1 in let w0 = w.0 in
           let z = last_at_least cmp total k.leader_id (first_index (full_log (k ∷ ks))) id.index (full_log (k ∷ ks)) f.0
           (above_full cmp total k.leader_id k ks s (AtMost-refl total k.leader_id)) row f.1 in
           let t : nat_lt id.index (first_index (full_log (k ∷ ks))) ≡ false = grind (arith, nat_tests) in
@@ -191,18 +164,18 @@ module _ {C : Type 0} (cmp : C → C → Ordering) (eq : C → C → Bool) (tota
             is_first = rest_first (first_index (full_log (k ∷ ks))) id.index (full_log (k ∷ ks)) row w.0 ∙ f.1;
             index = f.3;
             first_at_most = then_below (cmp f.0.leader_id id.leader_id) f.0.index id.index
-                (upto_equal cmp eq total law f.0.leader_id id.leader_id id.leader_id f.2 (itself cmp eq total law id.leader_id))
+                (upto_equal cmp eq total law f.0.leader_id id.leader_id id.leader_id f.2 (AtMost-refl total id.leader_id))
                 (omega arith);
             last_at_least = rw (rest_last (first_index (full_log (k ∷ ks))) id.index (full_log (k ∷ ks)) row w.1, z.1)
                 (then_below (cmp id.leader_id z.0.leader_id) id.index z.0.index
-                (upto_equal cmp eq total law id.leader_id f.0.leader_id z.0.leader_id (turn f.0.leader_id id.leader_id f.2) z.2)
+                (upto_equal cmp eq total law id.leader_id f.0.leader_id z.0.leader_id (leaders_symm eqs f.0.leader_id id.leader_id f.2) z.2)
                 z.3);
           })
 
   -- a log that does not, cut off at or below it
   over_cut : (a : ℕ) (log : List (LogIdOf C)) (id : LogIdOf C) → a ≤ id.index → IsFrom cmp id (log_after_purge (front log a) id)
   over_cut a log id le =
-      let n = front_ends a log in
+      let n = front_ends_below a log in
       let t : nat_le (end_index (front log a)) id.index ≡ true = grind (arith, nat_tests) in
       rw t (alone id)
 
@@ -225,16 +198,16 @@ module _ {C : Type 0} (cmp : C → C → Ordering) (eq : C → C → Bool) (tota
           → may_be_purged_to cmp (last_id (full_log ks)) id ≡ true
       whole [] is h = cc
       whole (k ∷ ks) is h =
-          let f = found eq (id_at (full_log (k ∷ ks)) id.index) id h in
+          let f = equal_found eq (id_at (full_log (k ∷ ks)) id.index) id h in
           let z = last_at_least cmp total k.leader_id (first_index (full_log (k ∷ ks))) id.index (full_log (k ∷ ks)) f.0
           (above_full cmp total k.leader_id k ks is (AtMost-refl total k.leader_id)) (from_first cmp (k ∷ ks) is) f.1 in
           let z3 = z.3 in
           let t : nat_le id.index z.0.index ≡ true = grind (arith, nat_tests) in
-          rw z.1 (either (nat_le id.index z.0.index) (is_le (cmp z.0.leader_id id.leader_id)) t)
+          rw z.1 (or_left (nat_le id.index z.0.index) (is_le (cmp z.0.leader_id id.leader_id)) t)
 
       cut : (last : Option (LogIdOf C)) → id_le cmp last (Some id) ≡ true → may_be_purged_to cmp last id ≡ true
       cut None h = refl
-      cut (Some l) h = or_else (nat_le id.index l.index) (is_le (cmp l.leader_id id.leader_id))
+      cut (Some l) h = or_right (nat_le id.index l.index) (is_le (cmp l.leader_id id.leader_id))
           (leaders_first (cmp l.leader_id id.leader_id) l.index id.index h)
 
       by : (t : Bool) → t ≡ is_logged eq id s
@@ -243,7 +216,7 @@ module _ {C : Type 0} (cmp : C → C → Ordering) (eq : C → C → Bool) (tota
           && id_le cmp (last_id (front (full_log s.log_ids) (next_index s.committed))) (Some id)) ≡ true
           → may_be_purged_to cmp (last_id (if t then full_log s.log_ids else front (full_log s.log_ids) (next_index s.committed))) id ≡ true
       by true e m = whole s.log_ids keys (sym e)
-      by false e m = cut (last_id (front (full_log s.log_ids) (next_index s.committed))) (both _ _ m).1
+      by false e m = cut (last_id (front (full_log s.log_ids) (next_index s.committed))) (and_parts _ _ m).1
 
   -- valid memberships stay valid
   members_stay : {K N : Type 0} (id : LogIdOf C) (stored : StoredMembershipOf C K N) (m : Memberships C K N)
@@ -273,7 +246,7 @@ module _ {C : Type 0} (cmp : C → C → Ordering) (eq : C → C → Bool) (tota
       by true e o = hold_all _ _ _ (AtMost-refl (optional-log_id_cmp-total total) (log_id_of stored))
           (hold_all _ _ _ (AtMost-refl (options_total nat_cmp_total) (index_at stored)) refl)
       by false e o =
-          let in_snapshot = (both _ _ past).1 in
+          let in_snapshot = (and_parts _ _ past).1 in
           let stays : index_le (index_at m.effective) (index_at stored) ≡ false =
           not_in_index (index_at stored) (index_at m.effective) id.index in_snapshot (sym e) in
           rw stays (kept (id_lt cmp (log_id_of m.committed) (log_id_of stored)) o
@@ -315,16 +288,16 @@ module _ {C : Type 0} (cmp : C → C → Ordering) (eq : C → C → Bool) (tota
           s.membership_state) in kept))) ≡ None
       by true m = members_stay id stored s.membership_state valid past m
       by false m =
-          let low = (both _ _ (both _ _ m).0).1 in
+          let low = (and_parts _ _ (and_parts _ _ m).0).1 in
           let cut = after_truncate (next_index s.committed) s.membership_state in
-          members_stay id stored cut (memberships_stay total (next_index s.committed) s.membership_state valid) past
-          (either (is_covered id.index cut) (id_le cmp (log_id_of stored) (log_id_of cut.effective))
+          members_stay id stored cut (cut_members_stay total (next_index s.committed) s.membership_state valid) past
+          (or_left (is_covered id.index cut) (id_le cmp (log_id_of stored) (log_id_of cut.effective))
           (cut_covers (next_index s.committed) id.index s.membership_state low le))
 
-  begins_so : (log : List (LogIdOf C)) (id : LogIdOf C) → IsFrom cmp id log
+  installed_begins : (log : List (LogIdOf C)) (id : LogIdOf C) → IsFrom cmp id log
       → (fits_purged_next (id.index + 1) (first_id log) ≡ true)
       × (id_le cmp (if (id.index + 1) == 0 then None else first_id log) (Some id) ≡ true)
-  begins_so log id f =
+  installed_begins log id f =
       let t : ((id.index + 1) == 0) ≡ false = grind (arith, nat_tests) in
       let at = f.index in
       let u : ((f.first.index + 1) == (id.index + 1)) ≡ true = grind (arith, nat_tests) in
@@ -346,7 +319,7 @@ module _ {C : Type 0} (cmp : C → C → Ordering) (eq : C → C → Bool) (tota
         purge_upto = Some id;
       }) ≡ None
   install_stays_valid s id stored keys m accepted meta are is is_m is_meta past not_past may valid =
-      let le = is_past s.committed id (both _ _ (both _ _ past).0).1 in
+      let le = is_past s.committed id (and_parts _ _ (and_parts _ _ past).0).1 in
       let log = full_log s.log_ids in
       let fits = all_hold (fits_purged_next s.purged_next (first_id log)) PurgedNext _ valid in
       let purge_point = all_hold (id_le cmp (if s.purged_next == 0 then None else first_id log) s.purge_upto) LastPurgedPastUpto _ fits.1 in
@@ -355,7 +328,7 @@ module _ {C : Type 0} (cmp : C → C → Ordering) (eq : C → C → Bool) (tota
       let old_snapshot = all_hold (id_le cmp s.snapshot_meta.last_log_id s.committed) SnapshotPastCommitted _ old_upto.1 in
       let old = all_hold (id_le cmp s.committed (last_id log)) CommittedPastLast _ old_snapshot.1 in
       let from = is_from s id are le in
-      let begins = begins_so (log_after_install eq id s) id from in
+      let begins = installed_begins (log_after_install eq id s) id from in
       let itself = AtMost-refl (optional-log_id_cmp-total total) (Some id) in
       let first : fits_purged_next (id.index + 1) (first_id (full_log keys)) ≡ true = rw is begins.0 in
       let purged : id_le cmp (if (id.index + 1) == 0 then None else first_id (full_log keys)) (Some id) ≡ true = rw is begins.1 in

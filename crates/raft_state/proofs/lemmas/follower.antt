@@ -1,3 +1,0 @@
-pub mod AppendedLemmas
-pub mod InstallLemmas
-pub mod TruncateLemmas

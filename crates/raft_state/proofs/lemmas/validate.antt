@@ -1,0 +1,3 @@
+pub mod CommittedLemmas
+pub mod LoggedLemmas
+pub mod RelationLemmas
