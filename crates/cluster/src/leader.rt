@@ -9,7 +9,7 @@ use anyhow::{Result, bail, ensure};
 use raft_base::{EmptyNode, LeaderKind, LogIdRangeOf};
 use raft_members::{ChangeMembers, ChangeMembershipErrorOf};
 use raft_progress::Progress;
-use raft_state_tests::turn::{Followers, Logs, Reply};
+use raft_state_tests::turn::{Followers, Logs, Response};
 use std::collections::BTreeSet;
 
 /// A change of the members.
@@ -128,9 +128,9 @@ impl<K: LeaderKind<u64>> Server<K> {
     }
 
     /// Takes what a follower made of a request.
-    pub fn take_reply(&mut self, from: u64, reply: &Reply<K>) -> Result<()> {
+    pub fn take_response(&mut self, from: u64, response: &Response<K>) -> Result<()> {
         if let Role::Leader(followers) = &mut self.role {
-            let _taken = followers.take_reply(from, reply);
+            let _taken = followers.take_response(from, response);
         }
         self.commit()
     }

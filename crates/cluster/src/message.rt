@@ -2,7 +2,7 @@
 
 use crate::types::{LogId, Snapshot, Vote};
 use raft_base::LeaderKind;
-use raft_state_tests::turn::{Logs, Reply};
+use raft_state_tests::turn::{Logs, Response};
 use std::rc::Rc;
 
 /// A message.
@@ -16,8 +16,8 @@ pub enum Message<K: LeaderKind<u64>> {
     Append(Option<u64>, Logs<K>),
     /// A leader sends its snapshot.
     Install(u64, Snapshot<K>),
-    /// A follower replies to both.
-    Replied(Reply<K>),
+    /// A follower responds to both.
+    Responded(Response<K>),
 }
 
 /// A message on its way, with its sender's vote.

@@ -7,7 +7,7 @@ use crate::types::{Entry, FollowerProgress, LogId, Members, State, Vote};
 use anyhow::Result;
 use raft_base::{EmptyNode, LeaderKind, LogStateReader, log_id_at_most, log_id_below};
 use raft_progress::{ProgressPart, Tracked};
-use raft_state_tests::turn::{Followers, Outcome, Reply};
+use raft_state_tests::turn::{Followers, Outcome, Response};
 use std::alloc::{AllocError, Global};
 use std::collections::BTreeMap;
 use std::rc::Rc;
@@ -142,7 +142,11 @@ impl<K: LeaderKind<u64>> Server<K> {
                     Outcome::Refused
                 };
                 let request = *request;
-                self.send(from, Message::Replied(Reply { request, outcome }), mail)
+                self.send(
+                    from,
+                    Message::Responded(Response { request, outcome }),
+                    mail,
+                )
             }
             Message::Install(request, snapshot) => {
                 let outcome = if self.promise(now, vote) {
@@ -151,7 +155,11 @@ impl<K: LeaderKind<u64>> Server<K> {
                     Outcome::Refused
                 };
                 let request = Some(*request);
-                self.send(from, Message::Replied(Reply { request, outcome }), mail)
+                self.send(
+                    from,
+                    Message::Responded(Response { request, outcome }),
+                    mail,
+                )
             }
             Message::Voted(is_voted, last) => {
                 if *is_voted && vote == self.vote() {
@@ -161,9 +169,9 @@ impl<K: LeaderKind<u64>> Server<K> {
                 self.yield_to(vote);
                 Ok(())
             }
-            Message::Replied(reply) => {
+            Message::Responded(response) => {
                 if vote == self.vote() {
-                    return self.take_reply(from, reply);
+                    return self.take_response(from, response);
                 }
                 self.yield_to(vote);
                 Ok(())

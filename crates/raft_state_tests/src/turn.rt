@@ -7,5 +7,5 @@ mod types;
 
 pub use follower::take_logs;
 pub use followers::Followers;
-pub use message::{Logs, Outcome, Reply};
+pub use message::{Logs, Outcome, Response};
 pub use types::{Entry, FollowerProgress, Inflight, Leader, LogId, Members, State};

@@ -1,7 +1,7 @@
 //! A leader's turns with its followers, and a follower's with what it is sent.
 
 use super::rows::{Row, id, ids, log_id};
-use super::turn::{Entry, Followers, Inflight, Logs, Members, Outcome, Reply, State, take_logs};
+use super::turn::{Entry, Followers, Inflight, Logs, Members, Outcome, Response, State, take_logs};
 use anyhow::Result;
 use raft_base::{
     EmptyNode, LeaderAdv, LeaderKind, LeaderStd, LogIdRangeOf, LogStateReader, UTime, Validate,
@@ -13,7 +13,7 @@ use std::alloc::{AllocError, Global};
 use std::collections::{BTreeMap, BTreeSet};
 use std::test::Fail;
 
-/// Takes a follower's reply. False where it is refused.
+/// Takes a follower's response. False where it is refused.
 fn take<K: LeaderKind<u64>>(
     known: &mut Followers<K>,
     from: u64,
@@ -22,7 +22,7 @@ fn take<K: LeaderKind<u64>>(
 ) -> bool {
     let request = Some(request);
     known
-        .take_reply(from, &Reply { request, outcome })
+        .take_response(from, &Response { request, outcome })
         .is_some()
 }
 

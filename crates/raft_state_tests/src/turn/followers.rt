@@ -1,10 +1,10 @@
 //! A leader's turn with its followers.
 
-use super::message::{Outcome, Reply};
+use super::message::{Outcome, Response};
 use super::types::{FollowerProgress, Inflight, LogId, Members, State};
 use anyhow::{Result, ensure};
 use raft_base::{EmptyNode, LeaderKind, LogIdOptionExt};
-use raft_progress::{Progress, ProgressPart, Reply as Replied, Tracked};
+use raft_progress::{Progress, ProgressPart, Reply, Tracked};
 use std::alloc::AllocError;
 use std::slice;
 
@@ -39,12 +39,12 @@ impl<K: LeaderKind<u64>> Followers<K> {
         (!sent.is_none()).then_some(sent)
     }
 
-    /// Takes a follower's reply. One to a request that is not in flight is refused.
-    pub fn take_reply(&mut self, from: u64, reply: &Reply<K>) -> Option<()> {
+    /// Takes a follower's response. One to a request that is not in flight is refused.
+    pub fn take_response(&mut self, from: u64, response: &Response<K>) -> Option<()> {
         let mut follower = self.get(from)?;
-        match reply.outcome {
-            Outcome::Matches(upto) => follower.update_matching(reply.request?, upto).ok()?,
-            Outcome::Conflicts(at) => follower.update_conflicting(reply.request, at).ok()?,
+        match response.outcome {
+            Outcome::Matches(upto) => follower.update_matching(response.request?, upto).ok()?,
+            Outcome::Conflicts(at) => follower.update_conflicting(response.request, at).ok()?,
             Outcome::Refused => return None,
         }
         self.set(from, follower);
@@ -81,7 +81,7 @@ impl<K: LeaderKind<u64>> Followers<K> {
     pub fn change_to(&mut self, members: Members, end: u64) -> Result<()> {
         let unknown = FollowerProgress::<K>::empty(end);
         let reply = self.tracked.change_to(members, unknown);
-        ensure!(matches!(&reply, Replied::Granted(_)), "out of memory");
+        ensure!(matches!(&reply, Reply::Granted(_)), "out of memory");
         Ok(())
     }
 

@@ -1,4 +1,4 @@
-//! What a leader sends, and what a follower replies.
+//! What a leader sends, and what a follower responds.
 
 use super::types::{Entry, LogId};
 use raft_base::LeaderKind;
@@ -23,9 +23,9 @@ pub enum Outcome<K: LeaderKind<u64>> {
     Refused,
 }
 
-/// A follower's reply to a request; to a heartbeat, which has no number, too.
+/// A follower's response to a request; to a heartbeat, which has no number, too.
 #[derive(Drop)]
-pub struct Reply<K: LeaderKind<u64>> {
+pub struct Response<K: LeaderKind<u64>> {
     pub request: Option<u64>,
     pub outcome: Outcome<K>,
 }
