@@ -1,26 +1,43 @@
-//! The tests of `raft_base`, through its public calls alone, and what those of the
-//! crates above share: the texts that values print, a node of a caller's own type, and a
-//! log as plain data. It ships nothing.
+//! The tests of `raft_base`, through its public calls alone, and in `support` what they share with
+//! those of the crates above. It ships nothing.
+//!
+//! A file has the tests of the module of `raft_base` that has its name. Those that go over all
+//! modules have the name of what they test: `texts` and `growths` of memory that are refused.
 //!
 //! A test builds its values, one function that borrows them says whether all is right, and the test
 //! asserts that once: an assertion beside values that are owned is dear to prove.
 #![tactic(auto)]
 
-pub mod address;
-#[cfg(test)]
-mod calls;
 #[cfg(test)]
 mod first_caller;
-pub mod growths;
 #[cfg(test)]
-mod logs;
+mod growths;
 #[cfg(test)]
-mod moments;
-pub mod plain_log;
-pub mod printing;
+mod instant;
 #[cfg(test)]
-mod standard;
+mod leader_id;
+#[cfg(test)]
+mod leader_id_std;
+#[cfg(test)]
+mod log_id;
+#[cfg(test)]
+mod log_id_range;
+#[cfg(test)]
+mod log_index_option_ext;
+#[cfg(test)]
+mod log_state_reader;
+#[cfg(test)]
+mod node;
+#[cfg(test)]
+mod order;
+#[cfg(test)]
+mod raft_log_id;
+#[cfg(test)]
+mod server_state;
+pub mod support;
 #[cfg(test)]
 mod texts;
 #[cfg(test)]
-mod values;
+mod utime;
+#[cfg(test)]
+mod vote;

@@ -1,10 +1,9 @@
 //! What leaders, votes, log ids, nodes, stamped values and broken relations print.
 
-use crate::growths::{Call, Growth, is_swept};
-use crate::printing::{debugs, displays, sums_up};
+use crate::support::printing::{debugs, displays, sums_up};
 use raft_base::{
-    BasicNode, DisplayOption, EmptyNode, Invalid, LeaderId, LeaderStd, LogId, LogIdOf,
-    MessageSummary, UTime, Vote, VoteOf, leader_id_std,
+    BasicNode, DisplayOption, EmptyNode, Invalid, LeaderId, LeaderStd, LogId, LogIdOf, UTime, Vote,
+    VoteOf, leader_id_std,
 };
 use std::alloc::{AllocError, Global};
 use std::test::Fail;
@@ -112,45 +111,5 @@ fn texts(rt: HostRuntime) -> Result<(), Fail> {
     assert!(rt; display_standard(rt.alloc())?);
     assert!(rt; debug(rt.alloc())?);
     assert!(rt; invalid_displays(rt.alloc())?);
-    Ok(())
-}
-
-/// The summary of a log id, or of a vote.
-#[derive(Clone, Copy)]
-enum Summary {
-    LogId,
-    Vote,
-}
-
-impl Call for Summary {
-    type Borrowed = ();
-
-    type Taken = ();
-
-    type Answer = String;
-
-    fn borrowed(&self, _alloc: Global) -> Result<(), AllocError> {
-        Ok(())
-    }
-
-    fn taken(&self, _alloc: Global) -> Result<(), AllocError> {
-        Ok(())
-    }
-
-    fn run(&self, growth: Growth, _borrowed: &mut (), _taken: ()) -> Result<String, AllocError> {
-        let id = LogId::new(LeaderId::new(1, 2u64), 3);
-        growth.refuse();
-        match self {
-            Summary::LogId => id.summary(growth.alloc),
-            Summary::Vote => Vote::new(1, 2u64).summary(growth.alloc),
-        }
-    }
-}
-
-#[test]
-fn growths_of_summaries(rt: HostRuntime) -> Result<(), Fail> {
-    let alloc = rt.alloc();
-    assert!(rt; is_swept(&rt, alloc, "LogId::summary", &Summary::LogId)?);
-    assert!(rt; is_swept(&rt, alloc, "Vote::summary", &Summary::Vote)?);
     Ok(())
 }

@@ -3,8 +3,8 @@
 use super::lines::{change, change_is_right};
 use super::words::{configs, ids};
 use raft_base::{CommittedLeaderId, LogId};
-use raft_base_tests::address::Address;
-use raft_base_tests::printing::displays;
+use raft_base_tests::support::address::Address;
+use raft_base_tests::support::printing::displays;
 use raft_members::{
     ChangeMembers, ChangeMembershipError, EmptyMembership, InProgress, LearnerNotFound, Membership,
 };

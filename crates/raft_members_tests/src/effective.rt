@@ -2,7 +2,7 @@
 
 use super::words::members;
 use raft_base::{CommittedLeaderId, LogId};
-use raft_base_tests::printing::debugs;
+use raft_base_tests::support::printing::debugs;
 use raft_members::quorum::QuorumSet;
 use raft_members::{EffectiveMembership, Membership, StoredMembership};
 use std::alloc::{AllocError, Global};

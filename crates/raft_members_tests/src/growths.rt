@@ -4,7 +4,7 @@ use super::lines::change;
 use super::words::{configs, ids, members, nodes};
 use super::{memberships, quorums, texts};
 use raft_base::{CommittedLeaderId, LogId, MessageSummary};
-use raft_base_tests::growths::{Call, Growth, is_free, is_swept, refuse_each};
+use raft_base_tests::support::growths::{Call, Growth, is_free, is_swept, refuse_each};
 use raft_members::quorum::{FindCoherent, Joint, QuorumSet};
 use raft_members::{
     ChangeMembers, ChangeMembershipError, EffectiveMembership, IntoNodes, Membership,

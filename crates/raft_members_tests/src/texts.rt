@@ -2,7 +2,7 @@
 
 use super::words::members;
 use raft_base::{BasicNode, CommittedLeaderId, LeaderStd, LogId, LogIdOf, Vote, leader_id_std};
-use raft_base_tests::printing::{debugs, displays, sums_up};
+use raft_base_tests::support::printing::{debugs, displays, sums_up};
 use raft_members::{
     ChangeMembershipError, EffectiveMembership, EmptyMembership, InProgress, InitializeError,
     LackEntry, LearnerNotFound, Membership, NotAllowed, NotAllowedOf, NotInMembers,

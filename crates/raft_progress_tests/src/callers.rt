@@ -23,7 +23,7 @@ ghost use Rattle.raft_progress.specs.progress.VecProgress.{shown};
 
 use super::steps::{first_ids, made};
 use raft_base::{EmptyNode, LogIdOf, LogStateReader, Node, NodeId};
-use raft_base_tests::plain_log::id;
+use raft_base_tests::support::plain_log::id;
 use raft_members::membership::Membership;
 use raft_members::quorum::QuorumSet;
 use raft_progress::entry::{ProgressEntry, ProgressEntryOf};

@@ -6,7 +6,7 @@ use super::entry::{Answer, Call, answer_of};
 use super::inflight::{logs, snapshot};
 use super::table::{Leader, index, table};
 use raft_base::LogId;
-use raft_base_tests::plain_log::{PlainLog, id, log_below};
+use raft_base_tests::support::plain_log::{PlainLog, id, log_below};
 use raft_progress::entry::ProgressEntry;
 use raft_progress::inflight::{Inflight, InflightError};
 use raft_progress::search::{SearchEvent, search_run};

@@ -2,8 +2,8 @@
 
 use raft_base::leader_id_std::CommittedLeaderId;
 use raft_base::{Invalid, LeaderId, LogIdOf, LogIdRangeOf, Validate};
-use raft_base_tests::plain_log::{Numbered, id};
-use raft_base_tests::printing::{debugs, displays};
+use raft_base_tests::support::plain_log::{Numbered, id};
+use raft_base_tests::support::printing::{debugs, displays};
 use raft_progress::inflight::{Inflight, InflightError, InflightOf, RequestId};
 use std::alloc::{AllocError, Global};
 use std::test::Fail;

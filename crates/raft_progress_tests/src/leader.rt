@@ -5,7 +5,7 @@ use super::inflight::{snapshot, wrong_id};
 use super::steps::updated;
 use super::tracked::{TrackedNumbers, ids, members};
 use raft_base::{EmptyNode, LeaderId};
-use raft_base_tests::plain_log::{PlainLog, id, log_below};
+use raft_base_tests::support::plain_log::{PlainLog, id, log_below};
 use raft_members::membership::Membership;
 use raft_progress::entry::ProgressEntry;
 use raft_progress::progress::{Progress, Reply};

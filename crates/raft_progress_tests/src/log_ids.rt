@@ -13,7 +13,7 @@ use super::steps::made;
 use super::tracked::members;
 use raft_base::leader_id_std::CommittedLeaderId;
 use raft_base::{EmptyNode, LogIdOf};
-use raft_base_tests::plain_log::id;
+use raft_base_tests::support::plain_log::id;
 use raft_members::quorum::QuorumSet;
 use raft_progress::progress::{AnyStep, Reply, VecProgress, replay_any};
 use raft_progress::tracked::{Step, Tracked, replay};

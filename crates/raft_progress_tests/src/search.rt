@@ -6,7 +6,7 @@ use super::entry::at;
 use super::inflight::{logs, snapshot};
 use raft_base::LeaderId;
 use raft_base::leader_id_std::CommittedLeaderId;
-use raft_base_tests::plain_log::{Numbered, PlainLog, id, log_below};
+use raft_base_tests::support::plain_log::{Numbered, PlainLog, id, log_below};
 use raft_progress::catch_up::can_catch_up_entry;
 use raft_progress::entry::ProgressEntryOf;
 use raft_progress::inflight::InflightOf;

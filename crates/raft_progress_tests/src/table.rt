@@ -3,7 +3,7 @@
 use super::entry::{Answer, Call};
 use super::inflight::{logs, snapshot};
 use raft_base::{LeaderId, LogId, LogIdRange};
-use raft_base_tests::plain_log::PlainLog;
+use raft_base_tests::support::plain_log::PlainLog;
 use raft_progress::entry::ProgressEntry;
 use raft_progress::inflight::{Inflight, InflightError};
 

@@ -1,7 +1,7 @@
 //! What a progress prints.
 
 use super::steps::{first_ids, made, updated};
-use raft_base_tests::printing::displays;
+use raft_base_tests::support::printing::displays;
 use raft_progress::progress::VecProgress;
 use std::test::Fail;
 

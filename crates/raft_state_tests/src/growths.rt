@@ -8,7 +8,7 @@ use super::memberships::{self, answers, are_at, commit_leads, cut_leads};
 use super::rows::{Effective, effective, ids, log_id};
 use super::whole::{self, accepts, commits, is_of_its_node, reads, valid_state, writes_io};
 use raft_base::{LeaderAdv, LogId, LogStateReader, MessageSummary, Validate};
-use raft_base_tests::growths::{Call, Growth, is_free, is_swept, refuse_each};
+use raft_base_tests::support::growths::{Call, Growth, is_free, is_swept, refuse_each};
 use raft_members::StoredMembership;
 use raft_members_tests::words::members;
 use raft_state::{

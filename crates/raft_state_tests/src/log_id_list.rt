@@ -9,7 +9,7 @@ use super::laws::{is_up_to_date, logs_are_same, take_both};
 use super::words::{call_is_right, log_ids};
 use raft_base::leader_id_std::LeaderId as StdLeaderId;
 use raft_base::{LeaderId, LogIdOf};
-use raft_base_tests::printing::debugs;
+use raft_base_tests::support::printing::debugs;
 use raft_state::log_id_list::laws::{have_equal_keys, truncate_twice};
 use raft_state::{LogIdList, LogIdListOf, is_key_list};
 use std::alloc::{AllocError, Global};

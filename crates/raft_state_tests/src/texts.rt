@@ -1,7 +1,7 @@
 //! What log entries, the memberships of a node and its written log print.
 
 use raft_base::{CommittedLeaderId, LogId, leader_id_std};
-use raft_base_tests::printing::{debugs, displays, sums_up};
+use raft_base_tests::support::printing::{debugs, displays, sums_up};
 use raft_members::EffectiveMembership;
 use raft_members_tests::words::members;
 use raft_state::{Entry, EntryPayload, LogIOId, LogIOIdOf, MembershipState};

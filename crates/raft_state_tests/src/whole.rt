@@ -7,7 +7,7 @@ use raft_base::{
     Invalid, LeaderAdv, LeaderKind, LeaderStd, LogIdOf, ServerState, UTime, Validate, VoteIn,
     VoteOf, leader_id_std,
 };
-use raft_base_tests::printing::{debugs, displays};
+use raft_base_tests::support::printing::{debugs, displays};
 use raft_state::{
     AcceptedOf, ForwardToLeader, IOStateOf, LogIOIdOf, LogIdListOf, LogStateReader,
     MembershipStateOf, RaftState, RaftStateOf, SnapshotMeta, VoteStateReader, is_key_list,

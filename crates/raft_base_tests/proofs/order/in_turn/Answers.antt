@@ -1,6 +1,6 @@
 use Rattle.std.specs.Cmp.{upto}
 use Rattle.raft_base.specs.LogIdLawful.{optional-log_id_cmp-total}
-use Rattle.raft_base_tests.proofs.calls.in_turn.Goals as goal
+use Rattle.raft_base_tests.proofs.order.in_turn.Goals as goal
 
 pub returns : goal.returns
 returns g c =

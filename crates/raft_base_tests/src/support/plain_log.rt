@@ -1,6 +1,6 @@
 //! A log as plain data, for tests of those who read one.
-ghost use Rattle.std.specs.Prelude.{◌≡◌, Some};
 ghost use Rattle.raft_base.specs.LogId.{index_of};
+ghost use Rattle.std.specs.Prelude.{◌≡◌, Some};
 
 use raft_base::leader_id_std::CommittedLeaderId;
 use raft_base::{LeaderId, LogIdOf, LogStateReader};

@@ -1,0 +1,10 @@
+//! Moments.
+
+use raft_base::Instant;
+use std::test::Fail;
+
+#[test]
+fn moments_pass(rt: HostRuntime) -> Result<(), Fail> {
+    assert!(rt; 5u64.elapsed(9) == 4 && 9u64.elapsed(5) == 0 && 5u64.ticks() == 5);
+    Ok(())
+}

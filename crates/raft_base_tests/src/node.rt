@@ -1,0 +1,102 @@
+//! Node ids of a caller's own, and nodes with their defaults.
+ghost use Rattle.std.specs.Prelude.{◌≡◌, IfOk};
+
+use crate::support::address::Address;
+use crate::support::growths::{is_free, refuse_each};
+use crate::support::printing::displays;
+use raft_base::{BasicNode, EmptyNode, LeaderId, Node, NodeDefault, Vote};
+use std::alloc::{AllocError, Global};
+use std::fmt;
+use std::test::Fail;
+
+/// A node id of two numbers.
+#[derive(Debug, Clone, Copy, Default, PartialEq, Eq, PartialOrd, Ord, Hash)]
+struct Rack {
+    row: u8,
+    place: u8,
+}
+
+impl fmt::Display for Rack {
+    fn fmt<W: fmt::Write>(&self, f: &mut fmt::Formatter<W>) -> fmt::Result {
+        let Rack { row, place } = self;
+        write!(f, "{row}/{place}")
+    }
+}
+
+/// Whether votes and leaders over racks compare and read back.
+fn racks_compare(vote: &Vote<Rack>, near: Rack, far: Rack) -> bool {
+    LeaderId::new(1, near) < LeaderId::new(1, far)
+        && LeaderId::new(2, near) > LeaderId::new(1, far)
+        && Vote::new_committed(1, near) < *vote
+        && vote.leader_id().voted_for() == Some(far)
+}
+
+#[test]
+fn any_node_id_will_do(rt: HostRuntime) -> Result<(), Fail> {
+    let near = Rack { row: 1, place: 9 };
+    let far = Rack { row: 2, place: 0 };
+    let vote = Vote::new(1, far);
+    assert!(rt; racks_compare(&vote, near, far));
+    assert!(rt; displays(rt.alloc(), &vote, "T1-N2/0:uncommitted")?);
+    Ok(())
+}
+
+fn zero(alloc: Global) -> Result<u64, AllocError>
+    ensures { IfOk result (λ n. n ≡ 0) }
+{
+    u64::default_node(alloc)
+}
+
+fn any_default<N: Node>(alloc: Global) -> Result<N, AllocError>
+    ensures { IfOk result N.is_default_node }
+{
+    N::default_node(alloc)
+}
+
+/// Whether nodes of each kind have their defaults, by their own calls.
+fn have_own_defaults(alloc: Global) -> Result<bool, AllocError> {
+    Ok(
+        u64::default_node(alloc)? == 0
+            && <()>::default_node(alloc)? == ()
+            && EmptyNode::default_node(alloc)? == EmptyNode::new()
+            && EmptyNode::default() == EmptyNode {}
+            && BasicNode::default_node(alloc)? == BasicNode::new(alloc, "")?,
+    )
+}
+
+/// Whether nodes of each kind have their defaults, by a bound.
+fn have_defaults(alloc: Global) -> Result<bool, AllocError> {
+    let address = any_default::<Address>(alloc)?;
+    Ok(
+        address.text.is_empty()
+            && zero(alloc)? == 0
+            && any_default::<u64>(alloc)? == 0
+            && any_default::<()>(alloc)? == ()
+            && any_default::<EmptyNode>(alloc)? == EmptyNode {},
+    )
+}
+
+#[test]
+fn nodes_have_defaults(rt: HostRuntime) -> Result<(), Fail> {
+    assert!(rt; have_own_defaults(rt.alloc())? && have_defaults(rt.alloc())?);
+    Ok(())
+}
+
+/// Whether a node equals itself, and not another.
+fn equals_itself_alone(node: &BasicNode, other: &BasicNode) -> bool {
+    *node == *node && *node != *other
+}
+
+#[test]
+fn nodes_are_cloned_and_compared(rt: HostRuntime) -> Result<(), Fail> {
+    let alloc = rt.alloc();
+    let (here, there) = (
+        BasicNode::new(alloc, "here")?,
+        BasicNode::new(alloc, "there")?,
+    );
+    assert!(rt; here.clone()? == here);
+    refuse_each(alloc);
+    let is_right = equals_itself_alone(&here, &there);
+    assert!(rt; is_free(&rt, alloc, "comparison of nodes", is_right)?);
+    Ok(())
+}

@@ -1,0 +1,84 @@
+//! What has a log id, and callers that read and set it.
+ghost use Rattle.std.specs.Prelude.{◌≡◌};
+
+use raft_base::{CommittedLeaderId, LeaderId, LogId, RaftLogId};
+use std::test::Fail;
+
+/// A log entry.
+#[derive(Clone, Copy)]
+struct Entry {
+    log_id: LogId<u64>,
+    payload: u64,
+}
+
+impl RaftLogId<LeaderId<u64>> for Entry {
+    ghost use Rattle.std.specs.Prelude.{refl};
+
+    ghost id_of = { λ e. e.log_id };
+
+    ghost with_id = { λ e id. record e { log_id = id } };
+
+    fn get_log_id(&self) -> &LogId<u64> {
+        &self.log_id
+    }
+
+    fn set_log_id(&mut self, log_id: &LogId<u64>) {
+        self.log_id = *log_id;
+    }
+
+    ghost has_id = { λ e id. refl };
+
+    ghost own_id = { λ e. refl };
+
+    ghost last_id = { λ e id next. refl };
+}
+
+/// The names of the default kind as literals and patterns.
+fn index_and_term(id: LogId<u64>) -> (u64, u64)
+    ensures { result ≡ (id.index, id.leader_id.term) }
+{
+    let LogId { leader_id, index } = id;
+    let LeaderId { term, node_id: _ } = leader_id;
+    (index, term)
+}
+
+/// Gives one value the log id of another.
+fn renumber<C, A: RaftLogId<C>, B: RaftLogId<C>>(to: &mut A, from: &B)
+    ensures { to.new ≡ A.with_id to.old (B.id_of from.now) }
+{
+    to.set_log_id(from.get_log_id());
+}
+
+fn payload_stays(entry: &mut Entry, id: LogId<u64>)
+    ensures { entry.new ≡ record entry.old { log_id = id } }
+{
+    renumber(entry, &id);
+}
+
+/// Whether an entry that has been given a log id has it, and the payload that it had.
+fn is_renumbered() -> bool {
+    let id = LogId::new(LeaderId::new(1, 2u64), 3);
+    let mut entry = Entry {
+        log_id: LogId::default(),
+        payload: 5,
+    };
+    renumber(&mut entry, &id);
+    payload_stays(&mut entry, id);
+    *entry.get_log_id() == id && entry.payload == 5 && index_and_term(id) == (3, 1)
+}
+
+#[test]
+fn an_entry_is_renumbered(rt: HostRuntime) -> Result<(), Fail> {
+    assert!(rt; is_renumbered());
+    Ok(())
+}
+
+#[test]
+fn a_log_id_takes_another(rt: HostRuntime) -> Result<(), Fail> {
+    let mut id = LogId::new(CommittedLeaderId::new(1, 2u64), 3);
+    let next = LogId::new(CommittedLeaderId::new(4, 5u64), 6);
+    assert!(rt; *id.committed_leader_id() == LeaderId::new(1, 2));
+    id.set_log_id(&next);
+    assert!(rt; *id.get_log_id() == next);
+    Ok(())
+}
