@@ -3,7 +3,7 @@
 //! The calls were drawn at random, many of them over several configs, a quarter of the changes
 //! refused; each answer is what the original's own code gave to that call.
 
-use super::lines::{change_is_right, read_is_right, step_is_right, test_is_right};
+use crate::support::lines::{change_is_right, read_is_right, step_is_right, test_is_right};
 use std::test::Fail;
 
 /// Configs, nodes, the change, its ids or nodes, whether nodes are retained; the answer.

@@ -1,16 +1,14 @@
 //! Memberships and quorums, with each growth refused in turn or all of them.
 
-use super::lines::change;
-use super::words::{configs, ids, members, nodes};
-use super::{memberships, quorums, texts};
+use super::{joint, membership, quorum_set, texts};
+use crate::support::lines::change;
+use crate::support::words::{configs, ids, members};
 use raft_base::{CommittedLeaderId, LogId, MessageSummary};
 use raft_base_tests::support::growths::{Call, Growth, is_free, is_swept, refuse_each};
 use raft_members::quorum::{FindCoherent, Joint, QuorumSet};
-use raft_members::{
-    ChangeMembers, ChangeMembershipError, EffectiveMembership, IntoNodes, Membership,
-};
+use raft_members::{ChangeMembers, ChangeMembershipError, EffectiveMembership, Membership};
 use std::alloc::{AllocError, Global};
-use std::collections::{BTreeMap, BTreeSet};
+use std::collections::BTreeSet;
 use std::rc::Rc;
 use std::test::Fail;
 
@@ -291,13 +289,13 @@ fn no_growths_of_quorums(rt: HostRuntime) -> Result<(), Fail> {
     );
     let (list, set) = ([1, 2, 3, 4].to_vec(alloc)?, ids(alloc, "1,2,3,4")?);
     refuse_each(alloc);
-    let is_right = quorums::each_answers(&list, &set, &[1, 2], false)
-        && quorums::each_answers(&list, &set, &[4, 2, 1], true);
+    let is_right = quorum_set::each_answers(&list, &set, &[1, 2], false)
+        && quorum_set::each_answers(&list, &set, &[4, 2, 1], true);
     assert!(rt; is_free(&rt, alloc, "is_quorum of a list and of a set", is_right)?);
-    let shared: Rc<quorums::Sets> = Rc::new(alloc, Joint::from(configs(alloc, "1,2,3/3,4")?))?;
+    let shared: Rc<joint::Sets> = Rc::new(alloc, Joint::from(configs(alloc, "1,2,3/3,4")?))?;
     refuse_each(alloc);
-    let is_right = quorums::joint_answers(&shared, &[1, 2, 3], false)
-        && quorums::joint_answers(&shared, &[1, 3, 4], true);
+    let is_right = joint::joint_answers(&shared, &[1, 2, 3], false)
+        && joint::joint_answers(&shared, &[1, 3, 4], true);
     assert!(rt;
         is_free(
             &rt,
@@ -333,7 +331,7 @@ fn no_growths_of_comparisons(rt: HostRuntime) -> Result<(), Fail> {
 
 /// Whether memberships that lack a node, and that have an empty config, are refused and differ.
 fn are_refused(lacking: &Members, empty: &Members) -> bool {
-    memberships::each_answers(lacking, empty)
+    membership::each_answers(lacking, empty)
         && lacking.ensure_valid().is_err()
         && empty.ensure_valid().is_err()
         && *lacking != *empty
@@ -353,24 +351,5 @@ fn no_growths_of_refusals(rt: HostRuntime) -> Result<(), Fail> {
             is_right
         )?
     );
-    Ok(())
-}
-
-/// Whether each source of nodes gives those that it should.
-fn gives_nodes(alloc: Global) -> Result<bool, AllocError> {
-    let of_set: BTreeMap<u64, u64> = ids(alloc, "3,1")?.into_nodes(alloc)?;
-    let of_some: BTreeMap<u64, u64> = Some(ids(alloc, "2")?).into_nodes(alloc)?;
-    let none: BTreeMap<u64, u64> = ().into_nodes(alloc)?;
-    Ok(
-        of_set == nodes(alloc, "1=0,3=0")?
-            && of_some == nodes(alloc, "2=0")?
-            && none.is_empty()
-            && nodes(alloc, "4=40")?.into_nodes(alloc)? == nodes(alloc, "4=40")?,
-    )
-}
-
-#[test]
-fn sources_give_nodes(rt: HostRuntime) -> Result<(), Fail> {
-    assert!(rt; gives_nodes(rt.alloc())?);
     Ok(())
 }

@@ -1,13 +1,15 @@
-//! Callers of the laws of quorums, each as an engine has the need.
-ghost use Rattle.std.specs.Prelude.{◌≡◌, ◌+◌, ◌<◌, true, false, IfOk, IfSome, IsTrue, length};
-ghost use Rattle.std.specs.List.{IsDistinct};
-ghost use Rattle.std.specs.Set.{ClonesAreEqual, distinct_count, is_member};
+//! Callers of the laws of quorums and of changes, each as an engine has the need.
 ghost use Rattle.raft_members.specs.AtLeast.{ids_of, need_of};
 ghost use Rattle.raft_members.specs.Meeting.{HaveSameQuorums, ShareCommonVoter, ShareMember, ShareVoter};
+ghost use Rattle.raft_members.specs.Reached.{EachQuorumKnows};
 ghost use Rattle.raft_members.specs.Stored.{membership_of};
+ghost use Rattle.std.specs.List.{IsDistinct};
+ghost use Rattle.std.specs.Prelude.{◌+◌, ◌<◌, ◌≡◌, IfOk, IfSome, IsTrue, false, length, true};
+ghost use Rattle.std.specs.Set.{ClonesAreEqual, distinct_count, is_member};
 
-use super::words::{ids, members};
+use crate::support::words::{ids, members};
 use raft_base::{Node, NodeId};
+use raft_members::membership::laws::change_keeps_reached;
 use raft_members::quorum::laws::{
     at_least_quorums_meet, coherent_quorums_meet, empty_config_has_no_quorum,
     equal_configs_have_same_quorums, majority_has_voter, need_past_ids_has_no_quorum,
@@ -134,6 +136,28 @@ fn copy_of<C: Copy, NID: NodeId, N: Node>(
     stored.try_clone()
 }
 
+/// Changes the members, of one config at least, only where a quorum of them holds an entry. Then
+/// every quorum of the new membership contains a node that holds it.
+fn change_once_held<NID: NodeId, N: Node>(
+    from: &Membership<NID, N>,
+    holders: &[NID],
+    change: ChangeMembers<NID, N>,
+    retain: bool,
+) -> Result<Option<Membership<NID, N>>, ChangeMembershipError<NID>>
+    requires { ClonesAreEqual N.eq N.is_clone }
+    ensures { IsDistinct NID.eq holders.now → 0 < length from.now.configs →
+        IfOk result (λ made. IfSome made (λ to.
+        EachQuorumKnows NID.eq to.configs (λ id. true) (is_member NID.eq holders.now))) }
+{
+    let quorums = from.to_quorum_set()?;
+    if !quorums.is_quorum(holders) {
+        return Ok(None);
+    }
+    change_keeps_reached::<NID, N>();
+    let to = from.change(change, retain)?;
+    Ok(Some(to))
+}
+
 #[test]
 fn laws_at_work(rt: HostRuntime) -> Result<(), Fail> {
     let alloc = rt.alloc();
@@ -163,5 +187,24 @@ fn laws_of_stated_sizes_at_work(rt: HostRuntime) -> Result<(), Fail> {
 fn a_copy_has_the_quorums(rt: HostRuntime) -> Result<(), Fail> {
     let stored = StoredMembership::new(None, members(rt.alloc(), "1,2/2,3", "1=1,2=2,3=3")?);
     assert!(rt; copy_of(&stored)? == stored);
+    Ok(())
+}
+
+#[test]
+fn members_change_once_a_quorum_holds_an_entry(rt: HostRuntime) -> Result<(), Fail> {
+    let alloc = rt.alloc();
+    let from = members(alloc, "1,2,3", "1=1,2=2,3=3,4=4")?;
+    let change = ChangeMembers::AddVoterIds(ids(alloc, "4")?);
+    let early = change_once_held(&from, &[1], change.try_clone(alloc)?, true)?;
+    assert!(rt; early.is_none());
+    let late = change_once_held(&from, &[1, 3], change, true)?;
+    assert!(rt; late.is_some_and(|to| to.is_voter(&4)));
+    Ok(())
+}
+
+// The law is generic; here it stands at one id and node type.
+#[test]
+fn the_law_of_changes_holds_of_plain_ids(_rt: HostRuntime) -> Result<(), Fail> {
+    change_keeps_reached::<u64, u64>();
     Ok(())
 }

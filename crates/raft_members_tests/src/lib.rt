@@ -1,27 +1,41 @@
-//! The tests of `raft_members`, through its public calls alone, and the words of ids and
-//! memberships, which those of `raft_state` share. It ships nothing.
+//! The tests of `raft_members`, through its public calls alone, and in `support` what they share; the
+//! words of ids and memberships there those of `raft_state` take too. It ships nothing.
+//!
+//! A file has the tests of the module of `raft_members` that has its name. Those that go over all
+//! modules have the name of what they test: `compared` with the original, `growths` of memory that
+//! are refused, `laws` by their callers, and `texts`.
 #![tactic(auto)]
 
 #[cfg(test)]
-mod callers;
+mod at_least;
 #[cfg(test)]
-mod changes;
+mod change;
+#[cfg(test)]
+mod change_members;
+#[cfg(test)]
+mod coherent;
 #[cfg(test)]
 mod compared;
 #[cfg(test)]
 mod effective;
 #[cfg(test)]
+mod error;
+#[cfg(test)]
 mod first_caller;
 #[cfg(test)]
 mod growths;
 #[cfg(test)]
+mod into_nodes;
+#[cfg(test)]
+mod joint;
+#[cfg(test)]
 mod laws;
 #[cfg(test)]
-mod lines;
+mod membership;
 #[cfg(test)]
-mod memberships;
+mod quorum_set;
 #[cfg(test)]
-mod quorums;
+mod stored;
+pub mod support;
 #[cfg(test)]
 mod texts;
-pub mod words;

@@ -1,6 +1,7 @@
 //! What memberships and errors print.
 
-use super::words::members;
+use crate::support::memberships::{Effective, Stored};
+use crate::support::words::members;
 use raft_base::{BasicNode, CommittedLeaderId, LeaderStd, LogId, LogIdOf, Vote, leader_id_std};
 use raft_base_tests::support::printing::{debugs, displays, sums_up};
 use raft_members::{
@@ -96,6 +97,44 @@ fn memberships_print(rt: HostRuntime) -> Result<(), Fail> {
         );
     }
     assert!(rt; addresses_print(rt.alloc())?);
+    Ok(())
+}
+
+/// The debug form of a membership without configs and nodes.
+const WITHOUT_CONFIGS: &str = "membership: Membership { configs: [], nodes: {} }";
+
+/// Whether a stored membership without configs has its debug form, under a log id of that form.
+fn stored_debugs(alloc: Global, stored: &Stored, id: &str) -> Result<bool, AllocError> {
+    let text = format!(in alloc; "StoredMembership {{ log_id: {id}, {WITHOUT_CONFIGS} }}")?;
+    debugs(alloc, stored, text.as_str())
+}
+
+/// Whether an effective membership without configs has its debug form, under a log id of that form.
+fn effective_debugs(alloc: Global, effective: &Effective, id: &str) -> Result<bool, AllocError> {
+    let text = format!(in alloc;
+        "EffectiveMembership {{ log_id: {id}, {WITHOUT_CONFIGS}, voter_ids: {{}} }}"
+    )?;
+    debugs(alloc, effective, text.as_str())
+}
+
+/// Whether the effective membership of such a stored one has its debug form.
+fn effective_of_stored_debugs(alloc: Global, stored: Stored, id: &str) -> Result<bool, AllocError> {
+    let effective = Effective::new_from_stored_membership(stored)?;
+    effective_debugs(alloc, &effective, id)
+}
+
+/// Whether the stored and the effective membership without configs print so, with a log id or none.
+fn both_print(alloc: Global, log_id: Option<LogId<u64>>, id: &str) -> Result<bool, AllocError> {
+    let stored = Stored::new(log_id, Membership::try_default(alloc)?);
+    let is_stored = stored_debugs(alloc, &stored, id)?;
+    let is_effective = effective_of_stored_debugs(alloc, stored, id)?;
+    Ok(is_stored && is_effective)
+}
+
+#[test]
+fn stored_and_effective_memberships_print(rt: HostRuntime) -> Result<(), Fail> {
+    assert!(rt; both_print(rt.alloc(), None, "None")?);
+    assert!(rt; both_print(rt.alloc(), id(), ID)?);
     Ok(())
 }
 
@@ -236,5 +275,46 @@ fn errors_print(rt: HostRuntime) -> Result<(), Fail> {
     assert!(rt; not_allowed_prints(rt.alloc())?);
     assert!(rt; not_in_members_prints(rt.alloc())?);
     assert!(rt; initialize_errors_are_cloned(rt.alloc())?);
+    Ok(())
+}
+
+type Refusal = ChangeMembershipError<u64>;
+
+/// Whether the refusals for want of a node, of a voter and of memory print as they should.
+fn refusals_display(alloc: Global) -> Result<bool, AllocError> {
+    let missing: Refusal = Refusal::LearnerNotFound(LearnerNotFound { node_id: 4 });
+    let empty: Refusal = Refusal::EmptyMembership(EmptyMembership {});
+    let learner = "Learner 4 not found: add it as learner before adding it as a voter";
+    Ok(
+        displays(alloc, &missing, learner)?
+            && displays(alloc, &empty, "new membership can not be empty")?
+            && displays(alloc, &Refusal::OutOfMemory, "out of memory")?,
+    )
+}
+
+/// Whether a change in progress prints its log ids.
+fn progress_displays(
+    alloc: Global,
+    committed: Option<LogId<u64>>,
+    membership_log_id: Option<LogId<u64>>,
+    texts: (&str, &str),
+) -> Result<bool, AllocError> {
+    let text = format!(in alloc;
+        "the cluster is already undergoing a configuration change at log {}, last committed \
+        membership log id: {}",
+        texts.1, texts.0
+    )?;
+    let progress: Refusal = Refusal::InProgress(InProgress {
+        committed,
+        membership_log_id,
+    });
+    displays(alloc, &progress, text.as_str())
+}
+
+#[test]
+fn refusals_print(rt: HostRuntime) -> Result<(), Fail> {
+    assert!(rt; refusals_display(rt.alloc())?);
+    assert!(rt; progress_displays(rt.alloc(), None, id(), ("None", ID))?);
+    assert!(rt; progress_displays(rt.alloc(), id(), None, (ID, "None"))?);
     Ok(())
 }

@@ -3,7 +3,7 @@ ghost use Rattle.std.specs.Prelude.{◌≡◌};
 
 use raft_base::{CommittedLeaderId, LogId, LogIdOf, RaftLogId, leader_id_std};
 use raft_members::Membership;
-use raft_members_tests::words::members;
+use raft_members_tests::support::words::members;
 use raft_state::{Entry, EntryOf, EntryPayload, FromAppData, RaftEntry, RaftPayload};
 use std::alloc::{AllocError, Global};
 use std::test::Fail;

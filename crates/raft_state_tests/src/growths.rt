@@ -10,7 +10,7 @@ use super::whole::{self, accepts, commits, is_of_its_node, reads, valid_state, w
 use raft_base::{LeaderAdv, LogId, LogStateReader, MessageSummary, Validate};
 use raft_base_tests::support::growths::{Call, Growth, is_free, is_swept, refuse_each};
 use raft_members::StoredMembership;
-use raft_members_tests::words::members;
+use raft_members_tests::support::words::members;
 use raft_state::{
     Entry, EntryPayload, FromAppData, LogIdList, MembershipState, RaftState, SnapshotMeta,
     is_key_list,

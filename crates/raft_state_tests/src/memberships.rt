@@ -3,7 +3,7 @@
 use super::rows::{Effective, Row, effective, id};
 use raft_base::{Invalid, LeaderAdv, LeaderKind, LeaderStd, LogIdOptionExt, Validate};
 use raft_members::{ChangeMembers, ChangeMembershipErrorOf, InProgressOf};
-use raft_members_tests::words::ids;
+use raft_members_tests::support::words::ids;
 use raft_state::MembershipStateOf;
 use std::alloc::{AllocError, Global};
 use std::rc::Rc;

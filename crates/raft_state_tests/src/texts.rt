@@ -3,7 +3,7 @@
 use raft_base::{CommittedLeaderId, LogId, leader_id_std};
 use raft_base_tests::support::printing::{debugs, displays, sums_up};
 use raft_members::EffectiveMembership;
-use raft_members_tests::words::members;
+use raft_members_tests::support::words::members;
 use raft_state::{Entry, EntryPayload, LogIOId, LogIOIdOf, MembershipState};
 use std::alloc::{AllocError, Global};
 use std::test::Fail;

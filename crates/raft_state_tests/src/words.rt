@@ -4,7 +4,7 @@
 //! ids are joined by `,`; none is `-`.
 
 use raft_base::{LeaderIdentity, LogIdOf};
-use raft_members_tests::words::number;
+use raft_members_tests::support::words::number;
 use raft_state::{LogIdListOf, is_key_list};
 use std::alloc::{AllocError, Global};
 

@@ -10,7 +10,7 @@ returns g c same more holders voters elected =
     let commits = c.args.commits.now in
     let elects = c.args.elects.now in
     c.at_least_quorums_meet.ensures (ids_of commits) (need_of commits) (need_of elects) (is_member eq c.args.holders.now)
-        (is_member eq c.args.voters.now) more
+    (is_member eq c.args.voters.now) more
     (sym (c.is_quorum.ensures.quorum holders) ∙ c.if-not-is_quorum.false)
     (ap (λ ids. has_at_least eq ids (need_of elects) (is_member eq c.args.voters.now)) (sym same)
-            ∙ sym (c.is_quorum-is_elected.ensures.quorum voters) ∙ elected)
+    ∙ sym (c.is_quorum-is_elected.ensures.quorum voters) ∙ elected)

@@ -1,10 +1,24 @@
 //! Worked rows and answers as lines of words.
 
-use super::words::{ids, members, nodes, number};
-use raft_members::{ChangeMembers, ChangeMembershipError, Membership};
+use crate::support::words::{ids, members, nodes, number};
+use raft_members::{
+    ChangeMembers, ChangeMembershipError, EmptyMembership, LearnerNotFound, Membership,
+};
 use std::alloc::{AllocError, Global};
 use std::collections::{BTreeMap, BTreeSet};
 use std::str::SplitWhitespace;
+
+/// The kinds of changes, as words.
+pub const KINDS: [&str; 8] = [
+    "add-ids",
+    "add",
+    "remove",
+    "replace",
+    "add-nodes",
+    "set-nodes",
+    "remove-nodes",
+    "replace-nodes",
+];
 
 /// The next word, and an empty one after the last.
 fn next<'a>(words: &mut SplitWhitespace<'a>) -> &'a str {

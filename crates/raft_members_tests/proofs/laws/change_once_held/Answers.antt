@@ -4,7 +4,7 @@ use Rattle.raft_members.specs.Majority.{is_joint_majority}
 use Rattle.raft_members.specs.Members.{members_of}
 use Rattle.raft_members.specs.Reached.{IsGranted}
 use Rattle.raft_members.proofs.CallerLemmas.{is_member-alike}
-use Rattle.raft_members_tests.proofs.callers.change_once_held.Goals as goal
+use Rattle.raft_members_tests.proofs.laws.change_once_held.Goals as goal
 
 pub returns : goal.returns
 returns g c distinct config set q =
@@ -12,7 +12,7 @@ returns g c distinct config set q =
     let held = is_member eq c.args.holders.now in
     let configs = c.args.from.now.configs in
     let h : is_joint_majority eq configs held ≡ true =
-        sym (c.in_ok-quorums.ensures.quorums held) ∙ sym (c.is_quorum.ensures.quorum distinct) ∙ c.if-not-is_quorum.false in
+    sym (c.in_ok-quorums.ensures.quorums held) ∙ sym (c.is_quorum.ensures.quorum distinct) ∙ c.if-not-is_quorum.false in
     let granted : IsGranted eq configs (λ id. true) held = record {
       has_config = config;
       are_voters = λ id v. refl;

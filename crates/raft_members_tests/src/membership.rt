@@ -1,8 +1,7 @@
 //! Memberships: reads, tests, steps, and what they are made of.
 
-use super::lines::{read_is_right, step_is_right, test_is_right};
-use super::words::{configs, ids, members, nodes};
-use raft_members::membership::laws;
+use crate::support::lines::{read_is_right, step_is_right, test_is_right};
+use crate::support::words::{configs, ids, members, nodes};
 use raft_members::{EmptyMembership, IntoNodes, Membership};
 use std::alloc::{AllocError, Global};
 use std::collections::BTreeSet;
@@ -182,12 +181,5 @@ fn old_nodes_win(rt: HostRuntime) -> Result<(), Fail> {
     let new = nodes(rt.alloc(), "1=8,2=9")?;
     let made = Members::extend_nodes(nodes(rt.alloc(), "1=7")?, &new)?;
     assert!(rt; made == nodes(rt.alloc(), "1=7,2=9")?);
-    Ok(())
-}
-
-// The law is generic; here it stands at one id and node type.
-#[test]
-fn the_law_of_changes_holds_of_plain_ids(_rt: HostRuntime) -> Result<(), Fail> {
-    laws::change_keeps_reached::<u64, u64>();
     Ok(())
 }

@@ -1,0 +1,88 @@
+//! Changes of a membership.
+
+use crate::support::lines::{KINDS, change_is_right};
+use crate::support::words::configs;
+use raft_base_tests::support::address::Address;
+use raft_members::{ChangeMembers, Membership};
+use std::alloc::{AllocError, Global};
+use std::collections::BTreeMap;
+use std::test::Fail;
+
+/// Changes of two voters and a learner, with their answers.
+const ROWS: &str = "
+1,2 1=1,2=2,3=3 add-ids 4 retain err LearnerNotFound 4
+1,2 1=1,2=2,3=3 add-ids 4,5 retain err LearnerNotFound 4
+1,2 1=1,2=2,3=3 add-ids 3 retain ok 1,2/1,2,3 1=1,2=2,3=3
+1,2 1=1,2=2,3=3 add 5=5 retain ok 1,2/1,2,5 1=1,2=2,3=3,5=5
+1,2 1=1,2=2,3=3 add 3=30 retain ok 1,2/1,2,3 1=1,2=2,3=3
+1,2 1=1,2=2,3=3 remove 5 retain ok 1,2 1=1,2=2,3=3
+1,2 1=1,2=2,3=3 remove 1 retain ok 1,2/2 1=1,2=2,3=3
+1,2 1=1,2=2,3=3 remove 1 drop ok 1,2/2 1=1,2=2,3=3
+1,2/2 1=1,2=2,3=3 remove 1 drop ok 2 2=2,3=3
+1,2 1=1,2=2,3=3 remove 1,2 retain err EmptyMembership
+1,2 1=1,2=2,3=3 remove-nodes 2 retain err LearnerNotFound 2
+1,2 1=1,2=2,3=3 set-nodes 3=30,4=40 retain ok 1,2 1=1,2=2,3=30,4=40
+1,2 1=1,2=2,3=3 replace 2 drop ok 1,2/2 1=1,2=2,3=3
+1,2 1=1,2=2,3=3 replace 2,3 drop ok 1,2/2,3 1=1,2=2,3=3
+1,2/2,3 1=1,2=2,3=3 replace 1,3 drop ok 2,3/1,3 1=1,2=2,3=3
+2,3/1,3 1=1,2=2,3=3 replace 1,3 drop ok 1,3 1=1,3=3
+1,2 1=1,2=2,3=3 add-nodes 2=20 retain ok 1,2 1=1,2=2,3=3
+1,2 1=1,2=2,3=3 add-nodes 3=30 drop ok 1,2 1=1,2=2,3=3
+1,2 1=1,2=2,3=3 add-nodes 4=4 retain ok 1,2 1=1,2=2,3=3,4=4
+1,2 1=1,2=2,3=3 remove-nodes 3 retain ok 1,2 1=1,2=2
+1,2 1=1,2=2,3=3 remove-nodes 3,4,5,6,7 drop ok 1,2 1=1,2=2
+1,2 1=1,2=2,3=3 replace-nodes 1=1,2=2,4=4 retain ok 1,2 1=1,2=2,4=4
+5,7/4,9/3 3=3,5=5 replace-nodes 3=3 retain err LearnerNotFound 4
+";
+
+#[test]
+fn changes_have_their_worked_answers(rt: HostRuntime) -> Result<(), Fail> {
+    for line in ROWS.trim().lines() {
+        assert!(rt; change_is_right(rt.alloc(), line)?, "at {line}");
+    }
+    Ok(())
+}
+
+/// Whether some row of a kind is accepted.
+fn is_accepted(alloc: Global, kind: &str) -> Result<bool, AllocError> {
+    let words = format!(in alloc; " {kind} ")?;
+    for line in ROWS.trim().lines() {
+        if line.contains(words.as_str()) && line.contains(" ok ") && change_is_right(alloc, line)? {
+            return Ok(true);
+        }
+    }
+    Ok(false)
+}
+
+// A change that always lacks memory fails here: each kind is accepted in ample memory.
+#[test]
+fn each_kind_is_accepted(rt: HostRuntime) -> Result<(), Fail> {
+    for kind in KINDS {
+        assert!(rt; is_accepted(rt.alloc(), kind)?, "of {kind}");
+    }
+    Ok(())
+}
+
+/// A membership of one voter at the default address, and another node at a given one.
+fn with_address(alloc: Global, text: &str) -> Result<Membership<u64, Address>, Fail> {
+    let from = Membership::new(configs(alloc, "1")?, ())?;
+    let text = String::from_str(alloc, text)?;
+    let mut nodes = BTreeMap::new(alloc);
+    nodes.insert(2, Address { text })?;
+    Ok(from.change(ChangeMembers::AddVoters(nodes), true)?)
+}
+
+/// Whether the address of an id is the text.
+fn has_address(members: &Membership<u64, Address>, id: u64, text: &str) -> bool {
+    match members.get_node(&id) {
+        Some(node) => node.text.as_str() == text,
+        None => false,
+    }
+}
+
+#[test]
+fn a_node_may_hold_a_text(rt: HostRuntime) -> Result<(), Fail> {
+    let made = with_address(rt.alloc(), "there")?;
+    assert!(rt; has_address(&made, 1, "") && has_address(&made, 2, "there"));
+    Ok(())
+}

@@ -1,0 +1,93 @@
+//! Joints of quorum sets, also shared and borrowed ones.
+ghost use Rattle.std.specs.Prelude.{IfOk, IsTrue};
+
+use crate::support::quorums::{Configs, has_ids, joint, set_of};
+use raft_members::quorum::{AsJoint, AtLeast, Joint, QuorumSet};
+use std::alloc::{AllocError, Global};
+use std::collections::BTreeSet;
+use std::rc::Rc;
+use std::test::Fail;
+
+/// Some sets as one.
+pub type Sets = Joint<u64, BTreeSet<u64>, Vec<BTreeSet<u64>>>;
+
+/// The same, of sets that are borrowed.
+type BorrowedSets<'a> = Joint<u64, BTreeSet<u64>, &'a [BTreeSet<u64>]>;
+
+/// Whether a joint, shared, itself and borrowed, answers a set of ids as wanted.
+pub fn joint_answers(shared: &Rc<Sets>, ids: &[u64], want: bool) -> bool {
+    let borrowed: BorrowedSets<'_> = shared.children().as_joint();
+    borrowed.is_quorum(ids) == want
+        && (**shared).is_quorum(ids) == want
+        && shared.is_quorum(ids) == want
+}
+
+// A repeated id is counted as often as it comes, in each child.
+#[test]
+fn a_joint_asks_each_child(rt: HostRuntime) -> Result<(), Fail> {
+    let rows: [(&[u64], bool); 6] = [
+        (&[1, 2, 3], false),
+        (&[6, 7], false),
+        (&[1, 2, 3, 6, 7], true),
+        (&[7, 3, 1, 8, 5], true),
+        (&[], false),
+        (&[1, 1, 1, 6, 6], true),
+    ];
+    let mut configs = Vec::new(rt.alloc());
+    configs.push(set_of(rt.alloc(), &[1, 2, 3, 4, 5])?)?;
+    configs.push(set_of(rt.alloc(), &[6, 7, 8])?)?;
+    let shared = Rc::new(rt.alloc(), Joint::from(configs))?;
+    for (ids, want) in rows {
+        assert!(rt; joint_answers(&shared, ids, want), "{ids:?}");
+    }
+    Ok(())
+}
+
+/// Whether a joint, borrowed and shared, has these ids.
+fn joint_has_ids(alloc: Global, shared: &Rc<Configs>, want: &[u64]) -> Result<bool, AllocError> {
+    let borrowed: Joint<u64, Vec<u64>, &[Vec<u64>]> = shared.children().as_joint();
+    let again = borrowed.try_clone()?;
+    let is_cloned = again == borrowed && borrowed.clone()? == borrowed;
+    Ok(is_cloned && has_ids(alloc, &again, want)? && has_ids(alloc, shared, want)?)
+}
+
+#[test]
+fn the_ids_of_a_joint_are_a_sorted_union(rt: HostRuntime) -> Result<(), Fail> {
+    let joint = joint(rt.alloc(), &[&[9, 2, 1], &[3, 2, 3, 4]])?;
+    let shared = Rc::new(rt.alloc(), joint)?;
+    assert!(rt; joint_has_ids(rt.alloc(), &shared, &[1, 2, 3, 4, 9])?);
+    Ok(())
+}
+
+/// Whether every set is a quorum of a joint.
+fn takes_every_set(joint: &Configs) -> bool {
+    let borrowed: Joint<u64, Vec<u64>, &[Vec<u64>]> = joint.children().as_joint();
+    joint.is_quorum(&[]) && joint.is_quorum(&[1]) && borrowed.is_quorum(&[])
+}
+
+#[test]
+fn without_children_every_set_is_a_quorum(rt: HostRuntime) -> Result<(), Fail> {
+    let joint: Configs = Joint::try_default(rt.alloc())?;
+    assert!(rt; takes_every_set(&joint) && joint.ids(rt.alloc())?.is_empty());
+    Ok(())
+}
+
+/// A clone of a joint of quorums of a stated size is equal to it.
+fn joint_copy_is_equal<ID: Copy + Ord>(
+    joint: &Joint<ID, AtLeast<ID>, Vec<AtLeast<ID>>>,
+) -> Result<bool, AllocError>
+    ensures { IfOk result (λ same. IsTrue same) }
+{
+    let copy = joint.try_clone()?;
+    Ok(*joint == copy)
+}
+
+#[test]
+fn a_joint_of_stated_sizes_is_cloned(rt: HostRuntime) -> Result<(), Fail> {
+    let alloc = rt.alloc();
+    let mut children = Vec::new(alloc);
+    children.push(AtLeast::new(alloc, &[1, 2, 3], 2)?)?;
+    children.push(AtLeast::new(alloc, &[], 1)?)?;
+    assert!(rt; joint_copy_is_equal(&Joint::<u64, _, _>::from(children))?);
+    Ok(())
+}
