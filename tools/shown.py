@@ -59,7 +59,7 @@ def lacks(block, text):
         parts[is_clause] += line + "\n"
     lacking = []
     for name in used_in(text) - used_in("\n".join(block)):
-        if name.startswith("super::") or "_tests::" in name:
+        if name.startswith(("super::", "crate::")) or "_tests::" in name:
             continue
         word = re.split(r"::|\.", name)[-1].replace("◌", "")
         part = parts[name.startswith("Rattle.")]

@@ -1,21 +1,14 @@
-//! Worked values of updates and upgrades with quorums of a stated size.
+//! A progress by quorums of a stated size: worked updates and upgrades.
 
-use super::steps::{first_ids, made, replied};
+use crate::support::quorums::{Enough, of_five};
+use crate::support::steps::{made, replied};
 use raft_members::quorum::{AtLeast, Joint, QuorumSet};
 use raft_progress::progress::{AnyStep, Progress, Reply, VecProgress};
 use std::alloc::{AllocError, Global};
 use std::process::Abort;
 use std::test::Fail;
 
-pub type Enough = AtLeast<u64>;
-
 type Both = Joint<u64, Enough, Vec<Enough>>;
-
-/// So many of the ids 0 to 4.
-pub fn of_five(rt: &impl Abort, alloc: Global, need: usize) -> Result<Enough, AllocError> {
-    assert!(rt; need > 0);
-    AtLeast::new(alloc, &first_ids(alloc, 5)?, need)
-}
 
 /// Updates, each with what is granted after it.
 type Updates<'a> = &'a [(u64, u64, u64)];

@@ -1,72 +1,75 @@
-//! Progress entries: worked replies and sends, validity, and entries as values of a progress.
-ghost use Rattle.std.specs.Prelude.{◌≡◌};
+//! Progress entries: worked replies and sends, validity, and callers that take acks and send.
+ghost use Rattle.raft_base.specs.LogId.{id_le, log_id_cmp};
+ghost use Rattle.raft_base.specs.Validate.{first_false};
+ghost use Rattle.raft_progress.specs.declared.entry.ProgressEntryOf.{ProgressEntryOf};
+ghost use Rattle.raft_progress.specs.entry.EntryValid.{entry_relations};
+ghost use Rattle.raft_progress.specs.entry.Send.{send_table};
+ghost use Rattle.raft_progress.specs.progress.InOrder.{IsInOrder};
+ghost use Rattle.raft_progress.specs.progress.Shown.{state};
+ghost use Rattle.raft_progress.specs.progress.VecProgress.{shown};
+ghost use Rattle.std.specs.Option.{option_cmp};
+ghost use Rattle.std.specs.Prelude.{◌≡◌, IfSome, IsTrue, None, Ok, Some, false};
 
-use super::callers::sent_next;
-use super::inflight::{logs, snapshot, wrong_id};
-use super::steps::{made, updated};
+use crate::support::entry_calls::{Answer, Call, answer_of};
+use crate::support::steps::first_ids;
+use crate::support::values::{at, logs, snapshot, wrong_id};
 use raft_base::leader_id_std::CommittedLeaderId;
-use raft_base::{Invalid, LeaderId, LogId, LogIdOf, Validate};
+use raft_base::{Invalid, LeaderId, LogIdOf, LogStateReader, Validate};
 use raft_base_tests::support::plain_log::{Numbered, PlainLog, id, log_below};
-use raft_base_tests::support::printing::{debugs, displays};
 use raft_members::quorum::QuorumSet;
 use raft_progress::entry::{ProgressEntry, ProgressEntryOf};
-use raft_progress::inflight::{InflightError, InflightOf};
-use raft_progress::progress::{Progress, ProgressPart, VecProgress};
+use raft_progress::inflight::{Inflight, InflightError, InflightOf};
+use raft_progress::progress::{Progress, VecProgress};
 use std::alloc::{AllocError, Global};
-use std::process::Abort;
 use std::test::Fail;
 
-/// A call on an entry: a send of so many logs at most, an ack up
-/// to a log id, a conflict at an index.
-#[derive(Clone, Copy)]
-pub enum Call<C> {
-    Send(u64),
-    Ack(u64, Option<LogIdOf<C>>),
-    Conflict(Option<u64>, u64),
-}
-
-/// What a call answers.
-#[derive(Clone, Copy, PartialEq)]
-pub enum Answer<C> {
-    /// A send whose condition does not hold.
-    NotAllowed,
-    Sent(Result<InflightOf<C>, InflightOf<C>>),
-    Taken(Result<(), InflightError>),
-}
-
-/// Makes a call, where it is allowed.
-pub fn answer_of<C: Numbered>(
-    entry: &mut ProgressEntryOf<C>,
-    log: &PlainLog<C>,
-    call: Call<C>,
-) -> Answer<C> {
-    match call {
-        Call::Send(max_entries) => {
-            if !entry.can_send(log) {
-                return Answer::NotAllowed;
+/// Takes a follower's ack of all up to a log id. A match never falls, so neither the update nor the
+/// order of the progress needs a test.
+pub fn take_ack<ID: Copy + Ord, C: Ord + Copy + Drop + 'static, QS: QuorumSet<ID> + Drop>(
+    followers: &mut VecProgress<ID, ProgressEntryOf<C>, Option<LogIdOf<C>>, QS>,
+    id: &ID,
+    request: u64,
+    upto: Option<LogIdOf<C>>,
+) -> bool
+    requires ordered { IsInOrder ID.eq (option_cmp (log_id_cmp C.cmp)) (λ e. e.matching)
+        QS.has_quorum (shown followers.old) }
+    ensures ordered { IsInOrder ID.eq (option_cmp (log_id_cmp C.cmp)) (λ e. e.matching)
+        QS.has_quorum (shown followers.new) }
+    ensures matched { IsTrue result → (entry : ProgressEntryOf C)
+        × ((state ID.eq (shown followers.new)).value id.now ≡ Some entry)
+        × (entry.matching ≡ upto) × (first_false (entry_relations C.cmp entry) ≡ None) }
+    ensures granted { IsTrue (id_le C.cmp (shown followers.old).granted
+        (shown followers.new).granted) }
+    ensures refused { result ≡ false → shown followers.new ≡ shown followers.old }
+{
+    match followers.try_get(id).copied() {
+        None => false,
+        Some(found) => {
+            let mut entry = found;
+            if entry.update_matching(request, upto).is_err() {
+                return false;
             }
-            match entry.next_send(log, max_entries) {
-                Ok(sending) => Answer::Sent(Ok(*sending)),
-                Err(sending) => Answer::Sent(Err(*sending)),
-            }
+            let _ = followers.update(id, entry);
+            true
         }
-        Call::Ack(id, matching) => Answer::Taken(entry.update_matching(id, matching)),
-        Call::Conflict(id, index) => Answer::Taken(entry.update_conflicting(id, index)),
     }
 }
 
-/// An entry by its match, the end of the search, the last request and what is in flight.
-pub fn at<C: Numbered>(
-    matching: Option<LogIdOf<C>>,
-    searching_end: u64,
-    curr_inflight_id: u64,
-    inflight: InflightOf<C>,
-) -> ProgressEntryOf<C> {
-    ProgressEntryOf {
-        matching,
-        curr_inflight_id,
-        inflight,
-        searching_end,
+/// What is sent next to a follower, no more than 64 logs, where a send is allowed.
+pub fn sent_next<C: Ord + Copy, L: LogStateReader<C>>(
+    entry: &mut ProgressEntryOf<C>,
+    log: &L,
+) -> Option<InflightOf<C>>
+    ensures { IfSome result (λ sending.
+        (send_table C.cmp entry.old (L.log_view log.now) 64 ≡ Ok entry.new)
+        × (sending ≡ entry.new.inflight)) }
+{
+    if !entry.can_send(log) {
+        return None;
+    }
+    match entry.next_send(log, 64) {
+        Ok(sending) => Some(*sending),
+        Err(_) => None,
     }
 }
 
@@ -362,66 +365,64 @@ pub fn reads_back<C: Numbered>() -> bool {
         && starts::<C>(&at(id(1, 4), 4, 7, InflightOf::None)) == None
 }
 
-/// Whether entries display as they should.
-fn display(alloc: Global) -> Result<bool, AllocError> {
-    let matched = ProgressEntry::<u64>::new(id(1, 4));
-    let empty = ProgressEntry::<u64>::empty(3).with_inflight(snapshot(2, None));
-    let debug =
-        "ProgressEntry { matching: None, curr_inflight_id: 0, inflight: None, searching_end: 0 }";
-    Ok(
-        displays(alloc, &matched, "{[T1-N0-4, 5), inflight:None}")?
-            && displays(alloc, &empty, "{[None, 3), inflight:Snapshot(id=2):None}")?
-            && debugs(alloc, &ProgressEntry::<u64>::empty(0), debug)?,
-    )
-}
-
 #[test]
 fn entries_read_back_and_are_validated(rt: HostRuntime) -> Result<(), Fail> {
     assert!(rt; is_validated::<LeaderId<u64>>() && reads_back::<LeaderId<u64>>());
     assert!(rt; is_validated::<CommittedLeaderId>() && reads_back::<CommittedLeaderId>());
-    assert!(rt; display(rt.alloc())?);
     Ok(())
 }
 
-/// The progress of a leader's followers.
-type Followers = VecProgress<u64, ProgressEntry<u64>, Option<LogId<u64>>, Vec<u64>>;
-
-/// What is granted once a progress has gone over to another quorum set, without learners.
-fn granted_over<
-    ID: Copy + Ord,
-    V: ProgressPart<P> + Clone + Drop,
-    P: Copy + Ord,
-    QS: QuorumSet<ID> + Drop,
->(
-    rt: &impl Abort,
-    alloc: Global,
-    progress: &mut VecProgress<ID, V, P, QS>,
-    quorum_set: QS,
-    default: V,
-) -> Result<P, AllocError>
-    requires { (v w : V) → V.is_clone v w → V.part_of w ≡ V.part_of v }
-{
-    let ordered = progress.is_in_order();
-    assert!(rt; ordered);
-    let fits = VecProgress::<ID, V, P, QS>::learners_fit(alloc, &quorum_set, &[])?;
-    assert!(rt; fits);
-    let is_allowed = progress.can_upgrade(&quorum_set, &[], &default)?;
-    assert!(rt; is_allowed);
-    let upgraded = progress.upgrade_quorum_set(quorum_set, &[], default)?;
-    Ok(*upgraded.granted())
+/// Whether acks of a snapshot, of which one comes twice and one from nobody, grant as they should.
+fn acks_grant(alloc: Global) -> Result<bool, AllocError> {
+    let sent = ProgressEntry::<u64>::empty(4).with_inflight(Inflight::snapshot(None));
+    let voters = first_ids(alloc, 3)?;
+    if !VecProgress::<u64, ProgressEntry<u64>, _, _>::learners_fit(alloc, &voters, &[])? {
+        return Ok(false);
+    }
+    let mut followers = VecProgress::new(alloc, voters, &[], sent)?;
+    let first = take_ack(&mut followers, &1, 0, id(1, 3));
+    let again = take_ack(&mut followers, &1, 0, id(1, 3));
+    let unknown = take_ack(&mut followers, &7, 0, id(1, 3));
+    let second = take_ack(&mut followers, &2, 0, id(1, 2));
+    Ok(first && !again && !unknown && second && *followers.granted() == id(1, 2))
 }
 
 #[test]
-fn followers_grant_what_a_quorum_matches(rt: HostRuntime) -> Result<(), Fail> {
-    let alloc = rt.alloc();
-    let voters = [1, 2, 3].to_vec(alloc)?;
-    let mut progress: Followers = made(&rt, alloc, voters, &[], ProgressEntry::empty(10))?;
-    for (follower, index, granted) in [(1, 5, None), (2, 3, id(1, 3)), (3, 4, id(1, 4))] {
-        let entry = at(id(1, index), 10, 1, InflightOf::None);
-        assert!(rt; updated(&rt, &mut progress, follower, entry) == Ok(granted));
-    }
-    let kept = [1, 2].to_vec(alloc)?;
-    let granted = granted_over(&rt, alloc, &mut progress, kept, ProgressEntry::empty(10))?;
-    assert!(rt; granted == id(1, 3));
+fn a_caller_takes_acks(rt: HostRuntime) -> Result<(), Fail> {
+    assert!(rt; acks_grant(rt.alloc())?);
+    Ok(())
+}
+
+/// A log from 0 to 20 that is purged up to 20, with a snapshot of all of it.
+fn purged_log(alloc: Global) -> Result<PlainLog<LeaderId<u64>>, AllocError> {
+    let mut log = log_below(alloc, 21, None)?;
+    log.purge_upto = id(1, 20);
+    log.snapshot = id(1, 20);
+    Ok(log)
+}
+
+/// Whether a snapshot that is lost is sent once more, and late replies to the first are refused.
+fn sends_again(log: &PlainLog<LeaderId<u64>>) -> bool {
+    let mut entry = ProgressEntry::<u64>::empty(21);
+    let first = sent_next(&mut entry, log);
+    let stuck = sent_next(&mut entry, log);
+    entry.give_up();
+    let late = entry.update_conflicting(Some(1), 20);
+    let second = sent_next(&mut entry, log);
+    let older = entry.update_matching(1, id(1, 20));
+    let shipped = entry.update_matching(2, id(1, 20));
+    first == Some(snapshot(1, id(1, 20)))
+        && stuck == None
+        && late == wrong_id(None, 1)
+        && second == Some(snapshot(2, id(1, 20)))
+        && older == wrong_id(Some(2), 1)
+        && shipped == Ok(())
+        && entry.matching == id(1, 20)
+}
+
+#[test]
+fn a_lost_snapshot_is_sent_again(rt: HostRuntime) -> Result<(), Fail> {
+    let log = purged_log(rt.alloc())?;
+    assert!(rt; sends_again(&log));
     Ok(())
 }

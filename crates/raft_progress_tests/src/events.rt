@@ -2,9 +2,9 @@
 //! A thousand entries take ten each, and one takes all. The same without acks, as searches.
 ghost use Rattle.std.specs.Prelude.{◌≤◌};
 
-use super::entry::{Answer, Call, answer_of};
-use super::inflight::{logs, snapshot};
-use super::table::{Leader, index, table};
+use crate::support::entry_calls::{Answer, Call, answer_of};
+use crate::support::table::{Leader, index, table};
+use crate::support::values::{logs, snapshot};
 use raft_base::LogId;
 use raft_base_tests::support::plain_log::{PlainLog, id, log_below};
 use raft_progress::entry::ProgressEntry;

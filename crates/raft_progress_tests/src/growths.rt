@@ -1,10 +1,10 @@
 //! Progresses, replays and searches, with each growth refused in turn or all of them.
 
-use super::at_least::of_five;
-use super::calls::{self, Numbers};
-use super::steps::updated;
-use super::tracked::{self, TrackedNumbers, members};
-use super::{entry, inflight, leader, search};
+use super::{catch_up, entry, inflight, search, tracked, vec_progress};
+use crate::support::members::{TrackedNumbers, members};
+use crate::support::quorums::of_five;
+use crate::support::rows::{self, Numbers};
+use crate::support::steps::updated;
 use raft_base::{EmptyNode, LeaderId};
 use raft_base_tests::support::growths::{Call, Growth, is_free, is_swept, refuse_each};
 use raft_base_tests::support::plain_log::{PlainLog, id, log_below};
@@ -177,12 +177,12 @@ fn are_without(replies: &[Reply<u64, u64>], place: usize, others: &[Reply<u64, u
 }
 
 /// Steps of a progress that has moved, with two upgrades.
-const ROWS: [calls::Row; 5] = [
-    calls::Row::Update(3, 4),
-    calls::Row::Upgrade(&[2, 3, 4], &[1], 0),
-    calls::Row::Update(3, 8),
-    calls::Row::Upgrade(&[1, 3], &[], 4),
-    calls::Row::IncreaseTo(3, 9),
+const ROWS: [rows::Row; 5] = [
+    rows::Row::Update(3, 4),
+    rows::Row::Upgrade(&[2, 3, 4], &[1], 0),
+    rows::Row::Update(3, 8),
+    rows::Row::Upgrade(&[1, 3], &[], 4),
+    rows::Row::IncreaseTo(3, 9),
 ];
 
 /// The steps of the rows, but the one at a place.
@@ -193,7 +193,7 @@ fn any_steps(
     let mut steps = Vec::new(alloc);
     for (place, row) in ROWS.iter().enumerate() {
         if Some(place) != without {
-            steps.push(calls::step(alloc, row)?)?;
+            steps.push(rows::step(alloc, row)?)?;
         }
     }
     Ok(steps)
@@ -201,7 +201,7 @@ fn any_steps(
 
 /// Whether there is an upgrade at a place of the rows.
 fn is_upgrade(place: usize) -> bool {
-    matches!(ROWS.get(place), Some(calls::Row::Upgrade(..)))
+    matches!(ROWS.get(place), Some(rows::Row::Upgrade(..)))
 }
 
 /// Replays steps of a progress, which has to be in order.
@@ -475,14 +475,14 @@ fn are_granted(rt: &impl Abort, progress: &mut Numbers) -> bool {
         && updated(rt, progress, 9, 7) == Err(6)
         && increased(progress, 3, 8) == Some(7)
         && written(progress, 2, 9) == Some(8)
-        && calls::writes(progress, 5, 10)
+        && vec_progress::writes(progress, 5, 10)
 }
 
 /// Whether it then reads back, and differs from what it was.
 fn reads_back(progress: &Numbers, before: &Numbers) -> bool {
     let walk = [(2, 9), (3, 8), (1, 7), (5, 10)];
     progress.iter().copied().eq(walk.iter().copied())
-        && calls::has_value(progress, 2, 9)
+        && vec_progress::has_value(progress, 2, 9)
         && progress.is_voter(&5) == Some(false)
         && progress.index(&3) == Some(1)
         && *progress.granted() == 8
@@ -501,9 +501,9 @@ fn goes_on(rt: &impl Abort, progress: &mut Numbers, before: &Numbers) -> bool {
 #[test]
 fn no_growths_of_ballots(rt: HostRuntime) -> Result<(), Fail> {
     let alloc = rt.alloc();
-    let mut ballot = leader::ballot(alloc)?;
+    let mut ballot = tracked::ballot(alloc)?;
     refuse_each(alloc);
-    let is_right = leader::are_counted(&mut ballot);
+    let is_right = tracked::are_counted(&mut ballot);
     assert!(rt; is_free(&rt, alloc, "Tracked::update", is_right)?);
     Ok(())
 }
@@ -566,7 +566,7 @@ fn searches_are_as_worked(log: &PlainLog<Leader>, purged: &PlainLog<Leader>) -> 
         && entry::reads_back::<Leader>()
         && search::halves(log)
         && search::ends_with_a_snapshot(purged, log)
-        && search::can_be_caught_up(log, purged)
+        && catch_up::can_be_caught_up(log, purged)
 }
 
 #[test]

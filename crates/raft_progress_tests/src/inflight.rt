@@ -1,34 +1,11 @@
-//! What is in flight: worked replies, reads and texts.
+//! What is in flight: worked replies and reads.
 
+use crate::support::values::{logs, snapshot, wrong_id};
 use raft_base::leader_id_std::CommittedLeaderId;
-use raft_base::{Invalid, LeaderId, LogIdOf, LogIdRangeOf, Validate};
+use raft_base::{Invalid, LeaderId, LogIdOf, Validate};
 use raft_base_tests::support::plain_log::{Numbered, id};
-use raft_base_tests::support::printing::{debugs, displays};
 use raft_progress::inflight::{Inflight, InflightError, InflightOf, RequestId};
-use std::alloc::{AllocError, Global};
 use std::test::Fail;
-
-/// Logs in flight.
-pub fn logs<C: Numbered>(
-    id: u64,
-    prev: Option<LogIdOf<C>>,
-    last: Option<LogIdOf<C>>,
-) -> InflightOf<C> {
-    InflightOf::Logs {
-        id,
-        log_id_range: LogIdRangeOf { prev, last },
-    }
-}
-
-/// A snapshot in flight.
-pub fn snapshot<C: Numbered>(id: u64, last_log_id: Option<LogIdOf<C>>) -> InflightOf<C> {
-    InflightOf::Snapshot { id, last_log_id }
-}
-
-/// The refusal of a reply to another request.
-pub fn wrong_id(mine: Option<u64>, received: u64) -> Result<(), InflightError> {
-    Err(InflightError::InvalidRequestId { mine, received })
-}
 
 /// Whether an ack is answered as wanted, and what it leaves in flight.
 fn acks<C: Numbered>(
@@ -145,78 +122,5 @@ fn replies_are_answered_case_by_case(rt: HostRuntime) -> Result<(), Fail> {
         conflicts_are_answered::<LeaderId<u64>>() && conflicts_are_answered::<CommittedLeaderId>()
     );
     assert!(rt; logs_read_back() && others_read_back());
-    Ok(())
-}
-
-/// Whether what is in flight displays as it should.
-fn display(alloc: Global) -> Result<bool, AllocError> {
-    let none = Inflight::<u64>::None;
-    let debug = "Snapshot { id: 2, last_log_id: None }";
-    Ok(
-        displays(alloc, &none, "None")?
-            && displays(
-                alloc,
-                &logs::<LeaderId<u64>>(7, None, id(1, 3)),
-                "Logs(id=7):(None, T1-N0-3]",
-            )?
-            && displays(
-                alloc,
-                &snapshot::<LeaderId<u64>>(7, id(1, 3)),
-                "Snapshot(id=7):T1-N0-3",
-            )?
-            && displays(
-                alloc,
-                &snapshot::<CommittedLeaderId>(7, id(1, 3)),
-                "Snapshot(id=7):1-3",
-            )?
-            && displays(
-                alloc,
-                &snapshot::<LeaderId<u64>>(7, None),
-                "Snapshot(id=7):None",
-            )?
-            && debugs(alloc, &snapshot::<LeaderId<u64>>(2, None), debug)?,
-    )
-}
-
-/// Whether refusals display as they should.
-fn refusals_display(alloc: Global) -> Result<bool, AllocError> {
-    let texts = [
-        (InflightError::AckOutOfRange, "ack out of range"),
-        (InflightError::SnapshotAckRegress, "snapshot ack regresses"),
-        (InflightError::MatchingRegress, "matching regresses"),
-        (InflightError::ConflictNotAtPrev, "conflict is not at prev"),
-        (InflightError::ConflictOnSnapshot, "conflict on a snapshot"),
-        (
-            InflightError::ConflictBelowMatching,
-            "conflict below matching",
-        ),
-        (InflightError::IndexTooLarge, "index too large"),
-        (
-            InflightError::InvalidRequestId {
-                mine: Some(1),
-                received: 9,
-            },
-            "got invalid request id, mine=Some(1), received=9",
-        ),
-        (
-            InflightError::InvalidRequestId {
-                mine: None,
-                received: 0,
-            },
-            "got invalid request id, mine=None, received=0",
-        ),
-    ];
-    for (refusal, text) in &texts {
-        if !displays(alloc, refusal, text)? {
-            return Ok(false);
-        }
-    }
-    Ok(true)
-}
-
-#[test]
-fn texts(rt: HostRuntime) -> Result<(), Fail> {
-    assert!(rt; display(rt.alloc())?);
-    assert!(rt; refusals_display(rt.alloc())?);
     Ok(())
 }

@@ -1,41 +1,43 @@
 //! Callers of the laws of progresses, each as an engine has the need.
-ghost use Rattle.std.specs.Ordering.{bool_cmp, nat_cmp};
-ghost use Rattle.std.specs.Prelude.{◌≡◌, ◌↔◌, ◌⊎◌, ◌/◌, ◌<◌, ◌≤◌, ◌^◌, ◌++◌, ◌∷◌, ℕ, Bool, true, false, IfOk, IsTrue, length};
-ghost use Rattle.std.specs.List.{AllByRecursion, list_any};
-ghost use Rattle.std.specs.Set.{ClonesAreEqual};
 ghost use Rattle.raft_base.specs.LogId.{next_index};
 ghost use Rattle.raft_members.specs.Coherence.{is_coherent};
+ghost use Rattle.raft_progress.specs.declared.progress.steps.AnyStep.TheVariants.{IncreaseTo, Update, Upgrade};
+ghost use Rattle.raft_progress.specs.declared.progress.steps.Reply.TheVariants.{Granted};
+ghost use Rattle.raft_progress.specs.declared.progress.steps.Reply.{Reply};
+ghost use Rattle.raft_progress.specs.declared.tracked.step.Step.TheVariants.{Change, Update as TrackedUpdate};
 ghost use Rattle.raft_progress.specs.progress.Comparisons.{comparisons};
 ghost use Rattle.raft_progress.specs.progress.CountedValue.{AtMost};
-ghost use Rattle.raft_progress.specs.progress.NewProgress.{LearnersFit};
-ghost use Rattle.raft_progress.specs.progress.ShownSteps.{IsShownRun, IsShownStep};
-ghost use Rattle.raft_progress.specs.progress.Updated.{IsNotLower, IsNotLowerIfGreater};
-ghost use Rattle.raft_progress.specs.progress.Upgrade.{CanUpgrade};
-ghost use Rattle.raft_progress.specs.declared.progress.steps.AnyStep.TheVariants.{IncreaseTo, Update, Upgrade};
-ghost use Rattle.raft_progress.specs.declared.progress.steps.Reply.{Reply};
-ghost use Rattle.raft_progress.specs.declared.progress.steps.Reply.TheVariants.{Granted};
-ghost use Rattle.raft_progress.specs.declared.tracked.step.Step.TheVariants.{Change, Update as TrackedUpdate};
 ghost use Rattle.raft_progress.specs.progress.InOrder.{IsInOrder};
+ghost use Rattle.raft_progress.specs.progress.NewProgress.{LearnersFit};
 ghost use Rattle.raft_progress.specs.progress.ProgressState.{IsSame};
 ghost use Rattle.raft_progress.specs.progress.Shown.{state};
+ghost use Rattle.raft_progress.specs.progress.ShownSteps.{IsShownRun, IsShownStep};
 ghost use Rattle.raft_progress.specs.progress.Threshold.{QuorumReached, QuorumsHavePart, QuorumsShareVoter};
+ghost use Rattle.raft_progress.specs.progress.Updated.{IsNotLower, IsNotLowerIfGreater};
+ghost use Rattle.raft_progress.specs.progress.Upgrade.{CanUpgrade};
 ghost use Rattle.raft_progress.specs.progress.VecProgress.{shown};
 ghost use Rattle.raft_progress.specs.search.Purged.{IsPurgedWithin};
 ghost use Rattle.raft_progress.specs.search.Search.{CanSearch, stretch};
 ghost use Rattle.raft_progress.specs.tracked.Elected.{NoneVotedPast};
+ghost use Rattle.raft_progress.specs.tracked.Headline.{QuorumsKnowGranted};
 ghost use Rattle.raft_progress.specs.tracked.Known.{QuorumsKnow};
 ghost use Rattle.raft_progress.specs.tracked.Tracked.{tracked};
 ghost use Rattle.raft_progress.specs.tracked.TrackedShownSteps.{IsTrackedShownRun, IsTrackedShownStep, is_change};
+ghost use Rattle.std.specs.List.{AllByRecursion, list_any};
+ghost use Rattle.std.specs.Ordering.{bool_cmp, nat_cmp};
+ghost use Rattle.std.specs.Prelude.{◌++◌, ◌/◌, ◌<◌, ◌^◌, ◌↔◌, ◌∷◌, ◌≡◌, ◌≤◌, ◌⊎◌, Bool, IfOk, IsTrue, Some, false, length, true, ℕ};
+ghost use Rattle.std.specs.Set.{ClonesAreEqual};
 
-use super::steps::{first_ids, made};
+use crate::support::steps::{first_ids, made};
 use raft_base::{EmptyNode, LogStateReader, Node, NodeId};
+use raft_members::membership::Membership;
 use raft_members::quorum::QuorumSet;
-use raft_members::{ChangeMembers, ChangeMembershipError, Membership};
+use raft_members::{ChangeMembers, ChangeMembershipError};
 use raft_progress::entry::ProgressEntryOf;
 use raft_progress::laws::{
     calls_are_runs, change_keeps_granted, clones_keep_order, counted_values_tie,
-    granted_is_threshold, granted_meet, known_stays, meeting_quorums_know_granted,
-    none_purged_past, quorums_know_granted, tracked_calls_are_runs,
+    granted_is_threshold, granted_meet, kept_parts_keep_order, known_stays,
+    meeting_quorums_know_granted, none_purged_past, quorums_know_granted, tracked_calls_are_runs,
 };
 use raft_progress::progress::{AnyStep, Progress, ProgressPart, Reply, VecProgress, replay_any};
 use raft_progress::search::{SearchEvent, search_run};
@@ -385,6 +387,39 @@ fn conflicts_of<C: Ord + Copy, L: LogStateReader<C>>(
     search_run(entry, events)
 }
 
+/// What is granted of a membership and its progress, whether or not a replay has touched them: each
+/// quorum of the membership has a voter with at least that value.
+pub fn granted_now<NID: NodeId, N: Node>(cluster: &Tracked<NID, N, u64, u64>) -> u64
+    ensures quorums { QuorumsKnowGranted NID.eq nat_cmp (λ v. v) (tracked cluster.now) }
+    ensures granted { result ≡ (tracked cluster.now).progress.granted }
+{
+    quorums_know_granted(cluster);
+    *cluster.progress().granted()
+}
+
+/// Writes another value at an id, of the same part where it is a voter, and answers whether the id
+/// is known. The progress stays in order, so that updates may follow.
+pub fn replaced<ID: Copy + Ord, V: ProgressPart<P> + Drop, P: Copy + Ord, QS: QuorumSet<ID> + Drop>(
+    progress: &mut VecProgress<ID, V, P, QS>,
+    id: &ID,
+    value: V,
+) -> bool
+    requires ordered { IsInOrder ID.eq P.cmp V.part_of QS.has_quorum (shown progress.old) }
+    requires same_part { (v : V) → (state ID.eq (shown progress.old)).value id.now ≡ Some v →
+        (state ID.eq (shown progress.old)).is_voter id.now ≡ true →
+        V.part_of value ≡ V.part_of v }
+    ensures { IsInOrder ID.eq P.cmp V.part_of QS.has_quorum (shown progress.new) }
+{
+    kept_parts_keep_order::<ID, V, P, QS>();
+    match progress.get_mut(id) {
+        Some(current) => {
+            *current = value;
+            true
+        }
+        None => false,
+    }
+}
+
 /// Voters 1 to 3 of a cluster, and a fourth node.
 fn cluster<V: ProgressPart<V> + Copy + Ord + Drop>(
     alloc: Global,
@@ -492,5 +527,28 @@ fn a_ballot_begins(rt: HostRuntime) -> Result<(), Fail> {
         Err(_) => false,
     };
     assert!(rt; begins);
+    Ok(())
+}
+
+#[test]
+fn a_caller_grants_before_any_step(rt: HostRuntime) -> Result<(), Fail> {
+    let alloc = rt.alloc();
+    let mut nodes = BTreeMap::new(alloc);
+    nodes.insert(1u64, EmptyNode::new())?;
+    let cluster = Tracked::new(Membership::from_nodes(alloc, nodes)?, 7u64)?;
+    assert_eq!(rt; granted_now(&cluster), 7);
+    Ok(())
+}
+
+#[test]
+fn a_caller_replaces(rt: HostRuntime) -> Result<(), Fail> {
+    let alloc = rt.alloc();
+    let mut progress = made(&rt, alloc, first_ids(alloc, 2)?, &[5], 0u64)?;
+    let same = match progress.try_get(&1) {
+        Some(current) => *current == 0,
+        None => false,
+    };
+    assert!(rt; same);
+    assert!(rt; replaced(&mut progress, &1, 0));
     Ok(())
 }

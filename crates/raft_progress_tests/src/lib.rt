@@ -1,14 +1,16 @@
-//! The tests of `raft_progress`, through its public calls alone. It ships nothing.
+//! The tests of `raft_progress`, through its public calls alone, and in `support` what they share. It
+//! ships nothing.
+//!
+//! A file has the tests of the module of `raft_progress` that has its name. Those that go over several
+//! modules have the name of what they test: `at_least` quorums of a stated size, `events` of any kind
+//! against a table, `growths` of memory that are refused, `laws` by their callers, ids whose order is
+//! `reversed`, `texts`, and `uses` of the theorem.
 #![tactic(auto)]
 
 #[cfg(test)]
 mod at_least;
 #[cfg(test)]
-mod callers;
-#[cfg(test)]
-mod calls;
-#[cfg(test)]
-mod counting;
+mod catch_up;
 #[cfg(test)]
 mod entry;
 #[cfg(test)]
@@ -22,20 +24,24 @@ mod inflight;
 #[cfg(test)]
 mod laws;
 #[cfg(test)]
-mod leader;
+mod membership_progress;
 #[cfg(test)]
-mod log_ids;
+mod part;
+#[cfg(test)]
+mod replay_any_steps;
+#[cfg(test)]
+mod reversed;
 #[cfg(test)]
 mod search;
 #[cfg(test)]
-mod steps;
+mod stat;
 #[cfg(test)]
-mod table;
+mod support;
 #[cfg(test)]
 mod texts;
 #[cfg(test)]
 mod tracked;
 #[cfg(test)]
-mod turned;
-#[cfg(test)]
 mod uses;
+#[cfg(test)]
+mod vec_progress;

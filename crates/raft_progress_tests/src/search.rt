@@ -1,15 +1,12 @@
-//! Searches over whole lists of events, and when a follower can be caught up.
-ghost use Rattle.std.specs.Prelude.{◌<◌, ◌≤◌};
+//! Searches over whole lists of events.
 ghost use Rattle.raft_progress.specs.search.Search.{CanSearch, stretch};
+ghost use Rattle.std.specs.Prelude.{◌<◌, ◌≤◌};
 
-use super::entry::at;
-use super::inflight::{logs, snapshot};
+use crate::support::values::{at, logs, snapshot};
 use raft_base::LeaderId;
 use raft_base::leader_id_std::CommittedLeaderId;
 use raft_base_tests::support::plain_log::{Numbered, PlainLog, id, log_below};
-use raft_progress::catch_up::can_catch_up_entry;
 use raft_progress::entry::ProgressEntryOf;
-use raft_progress::inflight::InflightOf;
 use raft_progress::search::{SearchEvent, search_run};
 use std::alloc::{AllocError, Global};
 use std::test::Fail;
@@ -99,27 +96,6 @@ pub fn ends_with_a_snapshot<C: Numbered>(purged: &PlainLog<C>, whole: &PlainLog<
     accepts(10, &probe, 1, end) && accepts(10, &gone_back, 1, end)
 }
 
-/// Whether followers can be caught up from where they can, over a log from 0 to 99, and over one
-/// from 0 to 20 that is to be purged up to index 4.
-pub fn can_be_caught_up<C: Numbered>(log: &PlainLog<C>, purged: &PlainLog<C>) -> bool {
-    let entry = ProgressEntryOf::empty(100);
-    let done = at(id(1, 99), 100, u64::MAX - 165, InflightOf::None);
-    let late = at(id(1, 99), 100, u64::MAX - 164, InflightOf::None);
-    let sending = at(None, 100, 1, logs(1, id(1, 47), id(1, 57)));
-    let other = at(id(2, 30), 100, 1, InflightOf::None);
-    can_catch_up_entry(log, &entry, 0, 10)
-        && can_catch_up_entry(log, &entry, 100, u64::MAX)
-        && can_catch_up_entry(log, &done, 100, 1)
-        && !can_catch_up_entry(log, &late, 100, 1)
-        && !can_catch_up_entry(log, &entry, 101, 10)
-        && !can_catch_up_entry(log, &entry, 70, 0)
-        && !can_catch_up_entry(log, &sending, 70, 10)
-        && !can_catch_up_entry(log, &other, 70, 10)
-        && !can_catch_up_entry(log, &ProgressEntryOf::empty(101), 70, 10)
-        && can_catch_up_entry(purged, &ProgressEntryOf::empty(10), 5, 10)
-        && !can_catch_up_entry(purged, &ProgressEntryOf::empty(10), 4, 10)
-}
-
 /// Whether all worked searches over a kind of leaders are as they should be.
 fn is_as_worked<C: Numbered>(alloc: Global) -> Result<bool, AllocError> {
     let hundred = log_below::<C>(alloc, 100, None)?;
@@ -127,11 +103,7 @@ fn is_as_worked<C: Numbered>(alloc: Global) -> Result<bool, AllocError> {
     let mut purged = log_below::<C>(alloc, 21, None)?;
     purged.purge_upto = id(1, 4);
     purged.snapshot = id(1, 6);
-    Ok(
-        halves(&hundred)
-            && ends_with_a_snapshot(&purged, &whole)
-            && can_be_caught_up(&hundred, &purged),
-    )
+    Ok(halves(&hundred) && ends_with_a_snapshot(&purged, &whole))
 }
 
 #[test]

@@ -1,40 +1,44 @@
-//! A membership that changes with its progress, and upgrades through a joint. More rows of changes
+//! A membership that changes with its progress: replays and single steps. More rows of changes
 //! stand in the tests of the program.
+ghost use Rattle.raft_progress.specs.progress.Comparisons.{comparisons};
+ghost use Rattle.raft_progress.specs.tracked.Headline.{QuorumsKnowGranted};
+ghost use Rattle.raft_progress.specs.tracked.TrackedState.{TrackedShown, tracked_state};
+ghost use Rattle.raft_progress.specs.tracked.TrackedSteps.{IsTrackedRun};
+ghost use Rattle.std.specs.Ordering.{nat_cmp};
+ghost use Rattle.std.specs.Prelude.{◌≡◌, IfOk, List, Ok, ℕ};
+ghost use Rattle.std.specs.Set.{ClonesAreEqual};
 
-use super::steps::{made, replied, updated};
-use raft_base::EmptyNode;
+use crate::support::members::{TrackedNumbers, ids, members};
+use raft_base::{EmptyNode, Node, NodeId};
 use raft_members::change_members::ChangeMembers;
 use raft_members::membership::Membership;
-use raft_members::quorum::Joint;
-use raft_progress::progress::{AnyStep, Progress, Reply, VecProgress};
+use raft_progress::progress::{Progress, ProgressPart, Reply};
 use raft_progress::tracked::{Step, Tracked, replay};
 use std::alloc::{AllocError, Global};
-use std::collections::BTreeSet;
+use std::collections::BTreeMap;
 use std::test::Fail;
 
-/// A set of ids.
-pub fn ids(alloc: Global, ids: &[u64]) -> Result<BTreeSet<u64>, AllocError> {
-    let mut set = BTreeSet::new(alloc);
-    for id in ids {
-        set.insert(*id)?;
-    }
-    Ok(set)
-}
-
-/// The membership of these configs, with the nodes 1 to 3.
-pub fn members(
+/// What is granted after some steps of a membership and its progress: each quorum of the membership
+/// that they end with has a voter with at least that value.
+pub fn granted_of<NID: NodeId, N: Node>(
     alloc: Global,
-    configs: &[&[u64]],
-) -> Result<Membership<u64, EmptyNode>, AllocError> {
-    let mut sets = Vec::new(alloc);
-    for config in configs {
-        sets.push(ids(alloc, config)?)?;
-    }
-    Membership::new(sets, ids(alloc, &[1, 2, 3])?)
+    membership: Membership<NID, N>,
+    steps: Vec<Step<NID, N, u64>>,
+) -> Result<u64, AllocError>
+    requires { ClonesAreEqual N.eq N.is_clone }
+    ensures { let by = comparisons NID.Ord ⟦<u64 as Ord>⟧ ⟦<u64 as PartialOrd>⟧
+        ⟦<u64 as ProgressPart<u64>>⟧ ⟦<u64 as Clone>⟧ in
+        IfOk result (λ granted.
+        (first last : TrackedShown NID N ℕ ℕ) × (replies : List (Reply NID ℕ))
+        × (first.membership ≡ membership)
+        × IsTrackedRun by N.eq (tracked_state NID.eq first) steps.items replies
+        (tracked_state NID.eq last)
+        × QuorumsKnowGranted NID.eq nat_cmp (λ v. v) last × (granted ≡ last.progress.granted)) }
+{
+    let mut cluster = Tracked::new(membership, 0u64)?;
+    let _replies = replay(alloc, &mut cluster, steps)?;
+    Ok(*cluster.progress().granted())
 }
-
-/// A membership and the progress of its nodes.
-pub type TrackedNumbers = Tracked<u64, EmptyNode, u64, u64>;
 
 /// A step as plain data: an id and its value, or the ids of a change; the last has a default.
 pub enum Row {
@@ -117,59 +121,91 @@ fn a_replay_goes_on_after_each_refusal(rt: HostRuntime) -> Result<(), Fail> {
     Ok(())
 }
 
-type Configs = Joint<u64, Vec<u64>, Vec<Vec<u64>>>;
-
-fn joint(alloc: Global, configs: &[&[u64]]) -> Result<Configs, AllocError> {
-    let mut children = Vec::new(alloc);
-    for config in configs {
-        children.push(config.to_vec(alloc)?)?;
+#[test]
+fn a_caller_of_a_membership_grants(rt: HostRuntime) -> Result<(), Fail> {
+    let alloc = rt.alloc();
+    let mut nodes = BTreeMap::new(alloc);
+    for id in 1..4u64 {
+        nodes.insert(id, EmptyNode::new())?;
     }
-    Ok(Joint::new(children))
+    let membership = Membership::from_nodes(alloc, nodes)?;
+    let steps = vec![in alloc;
+        Step::Update(1, 4),
+        Step::Update(2, 6),
+        Step::IncreaseTo(7, 1),
+    ]?;
+    assert_eq!(rt; granted_of(alloc, membership, steps)?, 4);
+    Ok(())
 }
 
-type UpgradeRow<'a> = (
-    &'a [&'a [u64]],
-    &'a [u64],
-    u64,
-    Reply<u64, u64>,
-    (u64, u64),
-    &'a [(u64, u64, u64)],
-);
+/// A membership, and who has voted.
+pub type Ballot = Tracked<u64, EmptyNode, bool, bool>;
+
+/// Votes over the joint, and what each is answered.
+const VOTES: [(u64, bool, Reply<u64, bool>); 6] = [
+    (1, true, Reply::Granted(false)),
+    (2, true, Reply::Granted(false)),
+    (1, false, Reply::WouldFall),
+    (9, true, Reply::Unknown(false)),
+    (4, true, Reply::Granted(false)),
+    (3, true, Reply::Granted(true)),
+];
+
+/// A joint of {1,2,3} and {3,4,5} of whom none has voted.
+pub fn ballot(alloc: Global) -> Result<Ballot, AllocError> {
+    let configs = vec![in alloc; ids(alloc, &[1, 2, 3])?, ids(alloc, &[3, 4, 5])?]?;
+    Tracked::new(
+        Membership::new(configs, ids(alloc, &[1, 2, 3, 4, 5])?)?,
+        false,
+    )
+}
+
+/// Whether each vote is answered so.
+pub fn are_counted(ballot: &mut Ballot) -> bool {
+    for (id, vote, reply) in &VOTES {
+        if ballot.update(id, *vote) != *reply {
+            return false;
+        }
+    }
+    true
+}
 
 #[test]
-fn upgrades_through_a_joint(rt: HostRuntime) -> Result<(), Fail> {
+fn a_quorum_of_each_config_elects(rt: HostRuntime) -> Result<(), Fail> {
+    let mut ballot = ballot(rt.alloc())?;
+    assert!(rt; are_counted(&mut ballot));
+    Ok(())
+}
+
+/// Memberships that a leader goes over to, each with the default, the reply and what a write of 7
+/// at 3 then grants.
+const CHANGES: [(&[&[u64]], u64, Reply<u64, u64>, u64); 3] = [
+    (&[&[1, 2], &[2, 3]], 0, Reply::Granted(0), 3),
+    (&[&[2, 3]], 4, Reply::BelowDefault(2), 3),
+    (&[&[3]], 0, Reply::Granted(7), 7),
+];
+
+/// Whether a change is answered so, and grants so afterwards.
+fn is_changed(
+    cluster: &mut TrackedNumbers,
+    to: Membership<u64, EmptyNode>,
+    default: u64,
+    reply: &Reply<u64, u64>,
+    granted: u64,
+) -> bool {
+    cluster.change_to(to, default) == *reply && cluster.update(&3, 7) == Reply::Granted(granted)
+}
+
+#[test]
+fn a_leader_changes_its_members(rt: HostRuntime) -> Result<(), Fail> {
     let alloc = rt.alloc();
-    let first = joint(alloc, &[&[0, 1, 2]])?;
-    let mut progress: VecProgress<u64, u64, u64, Configs> = made(&rt, alloc, first, &[5], 0)?;
-    for (id, value, granted) in [(0, 5, 0), (1, 6, 5), (5, 9, 5)] {
-        assert!(rt; updated(&rt, &mut progress, id, value) == Ok(granted));
-    }
-    // Configs, learners and a default, the reply to the upgrade to them, a value afterwards, and
-    // updates.
-    let rows: [UpgradeRow<'_>; 4] = [
-        (&[&[0, 1, 2]], &[5], 1, Reply::BelowDefault(2), (5, 9), &[]),
-        (&[&[0, 1, 2]], &[5, 5], 1, Reply::BadLearners, (5, 9), &[]),
-        (
-            &[&[0, 1, 2], &[3, 4, 5]],
-            &[6],
-            0,
-            Reply::Granted(0),
-            (5, 9),
-            &[(3, 7, 5), (4, 8, 5)],
-        ),
-        (&[&[3, 4, 5]], &[1], 0, Reply::Granted(8), (1, 6), &[]),
-    ];
-    for (configs, learners, default, want, (id, value), updates) in rows {
-        let upgrade = AnyStep::Upgrade {
-            quorum_set: joint(alloc, configs)?,
-            learners: learners.to_vec(alloc)?,
-            default,
-        };
-        let reply = replied(&rt, alloc, &mut progress, upgrade)?;
-        assert!(rt; reply == Some(want) && progress.try_get(&id) == Some(&value));
-        for (id, value, granted) in updates {
-            assert!(rt; updated(&rt, &mut progress, *id, *value) == Ok(*granted));
-        }
+    let mut cluster = Tracked::new(members(alloc, &[&[1, 2]])?, 0)?;
+    assert!(rt;
+        cluster.update(&1, 5) == Reply::Granted(0) && cluster.update(&2, 3) == Reply::Granted(3)
+    );
+    for (configs, default, reply, granted) in &CHANGES {
+        let to = members(alloc, configs)?;
+        assert!(rt; is_changed(&mut cluster, to, *default, reply, *granted));
     }
     Ok(())
 }

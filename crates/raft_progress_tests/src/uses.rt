@@ -1,7 +1,7 @@
 //! One theorem, three uses: what is granted where a value is a match, a vote, or a moment.
-ghost use Rattle.std.specs.Prelude.{◌≡◌, ◌↔◌, ◌<◌, ◌≤◌, ℕ, false, nat_le, IsTrue};
 ghost use Rattle.raft_progress.specs.tracked.Tracked.{tracked};
 ghost use Rattle.raft_progress_tests.specs.Uses.{MajorityOfEach};
+ghost use Rattle.std.specs.Prelude.{◌<◌, ◌↔◌, ◌≡◌, ◌≤◌, IsTrue, false, nat_le, ℕ};
 
 use raft_base::{EmptyNode, Node, NodeId};
 use raft_members::Membership;

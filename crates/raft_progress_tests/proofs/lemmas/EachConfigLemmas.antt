@@ -1,6 +1,31 @@
 -- A quorum of a membership's progress has reached a part exactly where a majority of each config has.
-use Rattle.std.specs.Prelude.{◌≡◌, ◌↔◌, ◌⊎◌, ◌<◌, ◌≤◌, ◌+◌, ◌*◌, ℕ, Bool, true, false, ◌&&◌, ◌||◌, cond, List, [], ◌∷◌, Option, Some, None,
-        length, nat_le, nat_lt, count_by, refl}
+use Rattle.std.specs.Prelude.{
+  ◌≡◌,
+  ◌↔◌,
+  ◌⊎◌,
+  ◌<◌,
+  ◌≤◌,
+  ◌+◌,
+  ◌*◌,
+  ℕ,
+  Bool,
+  true,
+  false,
+  ◌&&◌,
+  ◌||◌,
+  cond,
+  List,
+  [],
+  ◌∷◌,
+  Option,
+  Some,
+  None,
+  length,
+  nat_le,
+  nat_lt,
+  count_by,
+  refl,
+}
 use Rattle.std.specs.declared.cmp.Ordering.{Ordering}
 use Rattle.std.specs.Cmp.{IsEquivalence, first_so, second_so}
 use Rattle.std.specs.Cmp.Derive.{both_true}
@@ -36,8 +61,11 @@ module _ {K : Type 0} {eq : K → K → Bool} (laws : IsEquivalence eq) where
   -- each item is among the items
   own : (xs : List K) → AllByRecursion (λ x. is_member eq xs x ≡ true) xs
   own [] = tt
-  own (x ∷ xs) = (or_left (eq x x) (is_member eq xs x) (laws.refl x), all_weaker (λ y. is_member eq xs y ≡ true)
-          (λ y. (eq y x || is_member eq xs y) ≡ true) (λ y h. or_right (eq y x) (is_member eq xs y) h) xs (own xs))
+  own (x ∷ xs) = (
+    or_left (eq x x) (is_member eq xs x) (laws.refl x),
+    all_weaker (λ y. is_member eq xs y ≡ true)
+        (λ y. (eq y x || is_member eq xs y) ≡ true) (λ y h. or_right (eq y x) (is_member eq xs y) h) xs (own xs),
+  )
 
   module _ (voter has : K → Bool) where
     voted : (x : K) → voter x ≡ true → has x ≡ (voter x && has x)
@@ -48,10 +76,10 @@ module _ {K : Type 0} {eq : K → K → Bool} (laws : IsEquivalence eq) where
         → is_majority eq c (λ x. voter x && has x) ≡ true
     majority_within c within h =
         let alike = all_weaker (λ x. is_member eq (unique_keys eq c) x ≡ true) (λ x. has x ≡ (voter x && has x))
-            (λ x m. voted x (within x (sym (is_member-unique_keys laws c x) ∙ m))) (unique_keys eq c) (own (unique_keys eq c)) in
+        (λ x m. voted x (within x (sym (is_member-unique_keys laws c x) ∙ m))) (unique_keys eq c) (own (unique_keys eq c)) in
         (λ i. nat_lt (length c) (2 * count_alike (λ x. voter x && has x) has (unique_keys eq c)
-                (all_weaker (λ x. has x ≡ (voter x && has x)) (λ x. (voter x && has x) ≡ has x) (λ x e. sym e) (unique_keys eq c) alike) i))
-            ∙ h
+        (all_weaker (λ x. has x ≡ (voter x && has x)) (λ x. (voter x && has x) ≡ has x) (λ x e. sym e) (unique_keys eq c) alike) i))
+        ∙ h
 
     joint_within : (configs : List (List K)) → ((x : K) → is_voter_of eq configs x ≡ true → voter x ≡ true)
         → is_joint_majority eq configs has ≡ true → is_joint_majority eq configs (λ x. voter x && has x) ≡ true
@@ -131,7 +159,7 @@ module _ {K N : Type 0} {eq : K → K → Bool} (laws : IsEquivalence eq) {id_cm
   -- past the default, a number is at most what is granted exactly where a majority of each config has it
   pub number_granted : (t : TrackedShown K N ℕ ℕ) → IsReady eq id_cmp nat_cmp (λ v. v) t → (n : ℕ)
       → AtMost nat_cmp n t.progress.granted ↔ (AtMost nat_cmp n t.progress.default_part
-          ⊎ QuorumReached nat_cmp (λ (v : ℕ). v) (has_quorum eq) (state eq t.progress) n) → t.progress.default_part < n
+      ⊎ QuorumReached nat_cmp (λ (v : ℕ). v) (has_quorum eq) (state eq t.progress) n) → t.progress.default_part < n
       → n ≤ t.progress.granted ↔ MajorityOfEach eq t (λ v. nat_le n v)
   number_granted t r n threshold past =
       let each = each_reached laws (λ v. v) t r n in

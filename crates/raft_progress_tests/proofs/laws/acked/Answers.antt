@@ -15,5 +15,5 @@ returns g c =
     let h = c.update.follows.holds-at-none in
     let value = (state g.ID.PartialEq.eq old).value c.args.id.now in
     let made = c.calls_are_runs.ensures.updates old new c.args.id.now c.args.value c.requires.ordered c.requires.not_lower h.updated
-        h.ordered in
+    h.ordered in
     known_or_not value value refl (λ v e. (Granted new.granted, made.known v e)) (λ e. (Unknown new.granted, made.unknown e))

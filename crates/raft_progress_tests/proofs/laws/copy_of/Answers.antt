@@ -6,5 +6,5 @@ pub returns : goal.returns
 returns g c =
     MatchResult-weaker c.clone.result c.clone.ensures.cases
     (λ copy cloned. c.clones_keep_order.ensures c.requires.values c.requires.quorum_sets (shown c.args.progress.now) (shown copy) cloned
-            c.requires.ordered)
+    c.requires.ordered)
     (λ e _. tt)

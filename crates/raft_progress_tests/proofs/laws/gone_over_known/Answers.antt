@@ -8,5 +8,5 @@ returns g c =
     let new = tracked c.gone_over_to.new.cluster in
     MatchResult-weaker c.gone_over_to.result c.gone_over_to.ensures
     (λ reply step granted is config. c.change_keeps_granted.ensures c.requires.values old new c.quorums_know_granted.ensures.ready
-            step.ready c.args.change c.args.retain c.args.default granted (rw is at step.values) config)
+    step.ready c.args.change c.args.retain c.args.default granted (rw is at step.values) config)
     (λ e _. tt)

@@ -5,5 +5,5 @@ pub returns : goal.returns
 returns g c =
     let is = c.membership.ensures in
     c.tracked_calls_are_runs.ensures.changes (tracked c.args.cluster.now) (tracked c.change_to.new.self) c.args.change c.args.retain
-        c.in_ok-next.next c.args.default c.change_to.result (rw is at c.in_ok-next.ensures.valid) (rw is at c.in_ok-next.ensures.changed)
-        c.change_to.ensures.step c.change_to.ensures.ready
+    c.in_ok-next.next c.args.default c.change_to.result (rw is at c.in_ok-next.ensures.valid) (rw is at c.in_ok-next.ensures.changed)
+    c.change_to.ensures.step c.change_to.ensures.ready

@@ -14,9 +14,9 @@ returns g c =
     let other = shown c.args.other.now in
     let mine = state g.ID.PartialEq.eq one in
     let counted : IsCounted g.P.Ord.cmp g.V.ProgressPart.part_of g.QS.QuorumSet.has_quorum mine other.granted =
-        subst (λ (s : ProgressState g.row.ID.Denot g.row.V.Denot g.row.P.Denot g.row.QS.Denot). IsCounted g.P.Ord.cmp
-            g.V.ProgressPart.part_of g.QS.QuorumSet.has_quorum s other.granted)
-        (same_is_equal mine (state g.ID.PartialEq.eq other) c.requires.same) c.requires.other.counted in
+    subst (λ (s : ProgressState g.row.ID.Denot g.row.V.Denot g.row.P.Denot g.row.QS.Denot). IsCounted g.P.Ord.cmp
+    g.V.ProgressPart.part_of g.QS.QuorumSet.has_quorum s other.granted)
+    (same_is_equal mine (state g.ID.PartialEq.eq other) c.requires.same) c.requires.other.counted in
     let tie : g.P.Ord.cmp one.granted other.granted ≡ Equal =
-        (c.counted_values_tie.ensures mine one.granted other.granted c.requires.one.counted).0 counted in
+    (c.counted_values_tie.ensures mine one.granted other.granted c.requires.one.counted).0 counted in
     c.is_eq.ensures ∙ ap is_eq (c.cmp.ensures ∙ (λ i. g.P.Ord.cmp (c.granted.ensures i) (c.granted-2.ensures i)) ∙ tie)

@@ -8,5 +8,5 @@ pub returns : goal.returns
 returns g c =
     let p = shown c.args.progress.now in
     subst (QuorumsHavePart g.P.Ord.cmp g.V.ProgressPart.part_of g.QS.QuorumSet.has_quorum (state g.ID.PartialEq.eq p))
-        (sym c.granted.ensures)
+    (sym c.granted.ensures)
     (c.meeting_quorums_know_granted.ensures p c.requires.ordered c.requires.share)

@@ -9,6 +9,6 @@ returns g c past =
     let t = tracked c.args.replies.now in
     let ready = c.quorums_know_granted.ensures.ready in
     let held = number_granted g.met.NID.Eq.laws t ready c.args.since (c.granted_is_threshold.ensures t.progress ready.ordered c.args.since)
-        past in
+    past in
     rw (c.granted.ensures ∙ ap (λ p. p.granted) c.progress.ensures)
     ((λ h. held.0 (leb-true c.args.since t.progress.granted h)), (λ m. le-leb c.args.since t.progress.granted (held.1 m)))

@@ -1,0 +1,112 @@
+//! An id type whose order is that of whole numbers reversed: what goes by the order of ids goes by
+//! it.
+ghost use Rattle.std.proofs.Common.{rules};
+ghost use Rattle.std.specs.Cmp.Rules.{comparing};
+ghost use Rattle.std.specs.Cmp.{partial_order_from_own_ties};
+ghost use Rattle.std.specs.Ordering.{as_partial_cmp, flip_args, nat_cmp, on};
+
+use crate::support::rows::FIRST_RUN;
+use crate::support::steps::{made, updated};
+use raft_base::EmptyNode;
+use raft_members::Membership;
+use raft_progress::progress::{Progress as _, VecProgress};
+use std::alloc::{AllocError, Global};
+use std::cmp::Ordering;
+use std::collections::BTreeSet;
+use std::fmt;
+use std::test::Fail;
+
+/// An id of which the greater number comes first.
+#[derive(Debug, Clone, Copy, Default, PartialEq, Eq, Hash)]
+struct Reversed {
+    number: u64,
+}
+
+impl Ord for Reversed {
+    ghost cmp = { flip_args (on (λ id. id.number) nat_cmp) };
+
+    ghost total = { Prim.search (comparing, rules) };
+
+    ghost matches_partial_cmp = { Prim.search (comparing, rules) };
+
+    ghost matches_eq = { Prim.search (comparing, rules) };
+
+    fn cmp(&self, other: &Reversed) -> Ordering {
+        other.number.cmp(&self.number)
+    }
+}
+
+impl PartialOrd for Reversed {
+    ghost partial_cmp = { as_partial_cmp (flip_args (on (λ id. id.number) nat_cmp)) };
+
+    ghost laws = { partial_order_from_own_ties
+        (Prim.search (comparing, rules)) (Prim.search (comparing, rules)) };
+
+    fn partial_cmp(&self, other: &Reversed) -> Option<Ordering> {
+        Some(self.cmp(other))
+    }
+}
+
+impl fmt::Display for Reversed {
+    fn fmt<W: fmt::Write>(&self, f: &mut fmt::Formatter<W>) -> fmt::Result {
+        write!(f, "{}", self.number)
+    }
+}
+
+/// The ids of some numbers.
+fn ids(alloc: Global, numbers: &[u64]) -> Result<Vec<Reversed>, AllocError> {
+    let mut ids = Vec::new(alloc);
+    for number in numbers {
+        ids.push(Reversed { number: *number })?;
+    }
+    Ok(ids)
+}
+
+/// The membership of the voters 1 and 2, of which none has a node.
+fn lacking(alloc: Global) -> Result<Membership<Reversed, EmptyNode>, AllocError> {
+    let mut config = BTreeSet::new(alloc);
+    for id in ids(alloc, &[1, 2])? {
+        config.insert(id)?;
+    }
+    let mut configs = Vec::new(alloc);
+    configs.push(config)?;
+    Membership::new_unchecked(configs, ())
+}
+
+#[test]
+fn the_first_voter_without_a_node_is_the_greatest_number(rt: HostRuntime) -> Result<(), Fail> {
+    let lacking = lacking(rt.alloc())?;
+    assert!(rt; lacking.ensure_voter_nodes() == Err(Reversed { number: 2 }));
+    Ok(())
+}
+
+/// A progress over such ids.
+type Progress = VecProgress<Reversed, u64, u64, Vec<Reversed>>;
+
+/// Whether a progress walks the ids of these numbers, in turn.
+fn walks(progress: &Progress, want: &[u64]) -> bool {
+    progress
+        .iter()
+        .map(|entry| entry.0.number)
+        .eq(want.iter().copied())
+}
+
+#[test]
+fn a_new_progress_walks_the_greatest_number_first(rt: HostRuntime) -> Result<(), Fail> {
+    let alloc = rt.alloc();
+    let progress: Progress = made(&rt, alloc, ids(alloc, &[1, 2])?, &[], 0)?;
+    assert!(rt; walks(&progress, &[2, 1]));
+    Ok(())
+}
+
+#[test]
+fn the_order_of_ids_grants_nothing(rt: HostRuntime) -> Result<(), Fail> {
+    let alloc = rt.alloc();
+    let voters = ids(alloc, &[0, 1, 2, 3, 4])?;
+    let mut progress: Progress = made(&rt, alloc, voters, &[Reversed { number: 6 }], 0)?;
+    for (number, value, want) in FIRST_RUN {
+        let answer = updated(&rt, &mut progress, Reversed { number: *number }, *value);
+        assert!(rt; answer == *want, "at ({number}, {value})");
+    }
+    Ok(())
+}

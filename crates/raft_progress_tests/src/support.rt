@@ -1,0 +1,10 @@
+//! What tests share: steps of a progress, calls of an entry with a table of their answers, values and
+//! worked rows.
+
+pub mod entry_calls;
+pub mod members;
+pub mod quorums;
+pub mod rows;
+pub mod steps;
+pub mod table;
+pub mod values;

@@ -1,0 +1,74 @@
+//! Steps of a progress in order: how one is made, moved and asked.
+ghost use Rattle.raft_progress.specs.progress.InOrder.{IsInOrder};
+ghost use Rattle.raft_progress.specs.progress.VecProgress.{shown};
+ghost use Rattle.std.specs.Prelude.{◌≡◌, IfOk};
+
+use raft_members::quorum::QuorumSet;
+use raft_progress::progress::{AnyStep, Progress, ProgressPart, Reply, VecProgress, replay_any};
+use std::alloc::{AllocError, Global};
+use std::process::Abort;
+
+/// A progress whose learners fit.
+pub fn made<
+    ID: Copy + Ord,
+    V: ProgressPart<P> + Clone + Drop,
+    P: Copy + Ord,
+    QS: QuorumSet<ID> + Drop,
+>(
+    rt: &impl Abort,
+    alloc: Global,
+    quorum_set: QS,
+    learners: &[ID],
+    default: V,
+) -> Result<VecProgress<ID, V, P, QS>, AllocError>
+    requires { (w : V) → V.is_clone default w → V.part_of w ≡ V.part_of default }
+    ensures { IfOk result (λ made. IsInOrder ID.eq P.cmp V.part_of QS.has_quorum (shown made)) }
+{
+    let fits = VecProgress::<ID, V, P, QS>::learners_fit(alloc, &quorum_set, learners)?;
+    assert!(rt; fits);
+    VecProgress::new(alloc, quorum_set, learners, default)
+}
+
+/// An update of a progress in order that doesn't lower the value.
+pub fn updated<ID: Copy + Ord, V: ProgressPart<P> + Drop, P: Copy + Ord, QS: QuorumSet<ID> + Drop>(
+    rt: &impl Abort,
+    progress: &mut VecProgress<ID, V, P, QS>,
+    id: ID,
+    value: V,
+) -> Result<P, P> {
+    let ordered = progress.is_in_order();
+    assert!(rt; ordered);
+    let falls = progress.would_fall(&id, &value);
+    assert!(rt; !falls);
+    match progress.update(&id, value) {
+        Ok(granted) => Ok(*granted),
+        Err(granted) => Err(*granted),
+    }
+}
+
+/// The ids from 0 to n - 1.
+pub fn first_ids(alloc: Global, n: u64) -> Result<Vec<u64>, AllocError> {
+    (0..n).collect(alloc)
+}
+
+/// The reply of a progress in order to one step.
+pub fn replied<
+    ID: Copy + Ord,
+    V: ProgressPart<P> + PartialOrd + Clone + Drop,
+    P: Copy + Ord,
+    QS: QuorumSet<ID> + Drop,
+>(
+    rt: &impl Abort,
+    alloc: Global,
+    progress: &mut VecProgress<ID, V, P, QS>,
+    step: AnyStep<ID, V, QS>,
+) -> Result<Option<Reply<ID, P>>, AllocError>
+    requires { (v w : V) → V.is_clone v w → V.part_of w ≡ V.part_of v }
+{
+    let ordered = progress.is_in_order();
+    assert!(rt; ordered);
+    let mut steps = Vec::new(alloc);
+    steps.push(step)?;
+    let mut replies = replay_any(alloc, progress, steps)?;
+    Ok(replies.pop())
+}
