@@ -1,24 +1,13 @@
 //! Followers that are caught up with a leader's state.
 
-use super::followers::{Followers, caught_up, followers};
-use super::rows::{Row, id, ids as ids_of};
-use super::whole::{State, valid_state};
+use crate::support::followers::{Followers, caught_up, followers};
+use crate::support::rows::{Row, id};
+use crate::support::states::{State, hundred, valid_state};
 use raft_base::{LeaderAdv, LeaderKind, LeaderStd, LogStateReader};
 use raft_progress::{Progress, ProgressEntryOf};
-use raft_state::{LogIdListOf, is_key_list};
 use std::alloc::{AllocError, Global};
 use std::process::Abort;
 use std::test::Fail;
-
-/// A valid state with a log of leader 1 from 0 to 99, of which nothing was purged.
-pub fn hundred<K: LeaderKind<u64>>(alloc: Global) -> Result<State<K>, AllocError> {
-    let mut state = State::<K>::try_default(alloc)?;
-    let keys = ids_of::<K>(alloc, &[(1, 0), (1, 99)])?;
-    if is_key_list(&keys) {
-        state.log_ids = LogIdListOf::new(keys);
-    }
-    Ok(state)
-}
 
 /// Whether a follower of which only the length of the log is known is caught up by so many
 /// conflicts and acks, or cannot be.

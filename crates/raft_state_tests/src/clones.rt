@@ -2,7 +2,7 @@
 ghost use Rattle.std.specs.Prelude.{IfOk, IsTrue};
 ghost use Rattle.std.specs.Set.{ClonesAreEqual};
 
-use super::whole::{State, valid_state};
+use crate::support::states::{State, valid_state};
 use raft_base::{Instant, LeaderAdv, LeaderIdentity, LeaderKind, LeaderStd, Node, NodeId};
 use raft_state::{Entry, EntryOf, EntryPayload, FromAppData, RaftStateIn, SnapshotMetaOf};
 use std::alloc::{AllocError, Global};

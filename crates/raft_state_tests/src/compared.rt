@@ -4,7 +4,7 @@
 //! missing and at the greatest u64, some over leader ids of standard Raft; those outside of a
 //! call's condition were left out. Each answer is what the original's own code gave to that call.
 
-use super::words::call_is_right;
+use crate::support::words::call_is_right;
 use raft_base::LeaderId;
 use raft_base::leader_id_std::LeaderId as StdLeaderId;
 use std::test::Fail;

@@ -1,12 +1,16 @@
 //! The list of log ids, the memberships of a node and its whole state, with each growth refused in
 //! turn or all of them.
 
-use super::catch_up::{catches_up_right, hundred, rounds_right};
-use super::follower_turn::{self, cut, entries, follower, snapshot};
-use super::followers::{Followers, followers};
-use super::memberships::{self, answers, are_at, commit_leads, cut_leads};
-use super::rows::{Effective, effective, ids, log_id};
-use super::whole::{self, accepts, commits, is_of_its_node, reads, valid_state, writes_io};
+use crate::accepted::{accepts, is_of_its_node};
+use crate::catch_up::{catches_up_right, rounds_right};
+use crate::io_state::writes_io;
+use crate::membership_state::{self, answers, are_at, commit_leads, cut_leads};
+use crate::support::followers::{Followers, followers};
+use crate::support::messages::{self, entries, snapshot};
+use crate::support::rows::{Effective, effective, ids, log_id};
+use crate::support::states::{follower, hundred, unlogged, valid_state};
+use crate::truncate::cut;
+use crate::whole_state::{commits, reads};
 use raft_base::{LeaderAdv, LogId, LogStateReader, MessageSummary, Validate};
 use raft_base_tests::support::growths::{Call, Growth, is_free, is_swept, refuse_each};
 use raft_members::StoredMembership;
@@ -242,7 +246,7 @@ struct AppendEntries;
 impl Call for AppendEntries {
     type Borrowed = State;
 
-    type Taken = Vec<follower_turn::Entry<LeaderAdv>>;
+    type Taken = Vec<messages::Entry<LeaderAdv>>;
 
     type Answer = ();
 
@@ -250,7 +254,7 @@ impl Call for AppendEntries {
         follower::<LeaderAdv>(alloc, Some((1, 1)), None, Some((1, 2)))
     }
 
-    fn taken(&self, alloc: Global) -> Result<Vec<follower_turn::Entry<LeaderAdv>>, AllocError> {
+    fn taken(&self, alloc: Global) -> Result<Vec<messages::Entry<LeaderAdv>>, AllocError> {
         entries::<LeaderAdv>(alloc, 4, 5)
     }
 
@@ -258,7 +262,7 @@ impl Call for AppendEntries {
         &self,
         growth: Growth,
         state: &mut State,
-        entries: Vec<follower_turn::Entry<LeaderAdv>>,
+        entries: Vec<messages::Entry<LeaderAdv>>,
     ) -> Result<(), AllocError> {
         growth.refuse();
         if state.can_append_entries(&entries) {
@@ -276,7 +280,7 @@ struct InstallSnapshot(u64, u64);
 impl Call for InstallSnapshot {
     type Borrowed = State;
 
-    type Taken = follower_turn::Snapshot<LeaderAdv>;
+    type Taken = messages::Snapshot<LeaderAdv>;
 
     type Answer = ();
 
@@ -284,7 +288,7 @@ impl Call for InstallSnapshot {
         follower::<LeaderAdv>(alloc, Some((1, 1)), None, Some((3, 4)))
     }
 
-    fn taken(&self, alloc: Global) -> Result<follower_turn::Snapshot<LeaderAdv>, AllocError> {
+    fn taken(&self, alloc: Global) -> Result<messages::Snapshot<LeaderAdv>, AllocError> {
         snapshot::<LeaderAdv>(alloc, Some((self.0, self.1)), Some((1, 2)))
     }
 
@@ -292,7 +296,7 @@ impl Call for InstallSnapshot {
         &self,
         growth: Growth,
         state: &mut State,
-        meta: follower_turn::Snapshot<LeaderAdv>,
+        meta: messages::Snapshot<LeaderAdv>,
     ) -> Result<(), AllocError> {
         growth.refuse();
         if state.can_install_snapshot(&meta) {
@@ -331,7 +335,7 @@ impl Call for Summary {
     type Answer = String;
 
     fn borrowed(&self, alloc: Global) -> Result<Memberships, AllocError> {
-        memberships::state::<LeaderAdv>(alloc)
+        membership_state::state::<LeaderAdv>(alloc)
     }
 
     fn taken(&self, _alloc: Global) -> Result<(), AllocError> {
@@ -491,7 +495,7 @@ fn are_moved(from: &Memberships) -> Result<bool, AllocError> {
 
 /// Whether a membership is appended without memory.
 fn append_is_free(rt: &impl Print, alloc: Global) -> io::Result<bool> {
-    let from = memberships::state::<LeaderAdv>(alloc)?;
+    let from = membership_state::state::<LeaderAdv>(alloc)?;
     let new = effective::<LeaderAdv>(alloc, Some((10, 15)), &[3])?;
     refuse_each(alloc);
     let is_right = is_appended(&from, &new) == Ok(true);
@@ -521,7 +525,7 @@ fn entries_are_free(rt: &impl Print, alloc: Global) -> io::Result<bool> {
 
 /// Whether memberships are committed, cut off and taken over without memory: they are shared.
 fn moves_are_free(rt: &impl Print, alloc: Global) -> io::Result<bool> {
-    let from = memberships::state::<LeaderAdv>(alloc)?;
+    let from = membership_state::state::<LeaderAdv>(alloc)?;
     let new = effective::<LeaderAdv>(alloc, Some((10, 15)), &[3])?;
     refuse_each(alloc);
     let is_right = are_moved(&from) == Ok(true) && is_taken_over(&from, &new) == Ok(true);
@@ -545,7 +549,7 @@ fn no_growths_of_memberships(rt: HostRuntime) -> Result<(), Fail> {
 /// Whether a state is validated, compared and read without memory.
 fn state_reads_are_free(rt: &impl Print, alloc: Global) -> io::Result<bool> {
     let state = valid_state::<LeaderAdv>(alloc)?;
-    let other = whole::unlogged::<LeaderAdv>(alloc)?;
+    let other = unlogged::<LeaderAdv>(alloc)?;
     refuse_each(alloc);
     let is_right = reads::<LeaderAdv>(&state, &other)
         && state.validate() == Ok(())

@@ -1,5 +1,4 @@
 //! Callers of the laws of `raft_state`, each as an engine has the need.
-ghost use Rattle.std.specs.Prelude.{◌≡◌, ℕ, OnOk, IsTrue, Some};
 ghost use Rattle.raft_base.specs.LogId.{id_le, same_ids};
 ghost use Rattle.raft_state.specs.FullLog.{first_index, full_log, same_log};
 ghost use Rattle.raft_state.specs.LogConditions.{follows};
@@ -8,6 +7,7 @@ ghost use Rattle.raft_state.specs.LogReads.{first_id, id_at, last_id};
 ghost use Rattle.raft_state.specs.Purge.{may_purge};
 ghost use Rattle.raft_state.specs.Sending.{FromLog};
 ghost use Rattle.raft_state.specs.StateView.{view_of};
+ghost use Rattle.std.specs.Prelude.{◌≡◌, IsTrue, OnOk, Some, ℕ};
 
 use raft_base::order::log_id_at_most;
 use raft_base::{Instant, LeaderIdentity, LogIdOf, Node, NodeId, Validate};

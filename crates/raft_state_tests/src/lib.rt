@@ -1,8 +1,17 @@
-//! The tests of `raft_state`, through its public calls alone. It ships nothing.
+//! The tests of `raft_state`, through its public calls alone, and in `support` what they share. It
+//! ships nothing.
+//!
+//! A file has the tests of the module of `raft_state` that has its name; those of the module
+//! `raft_state` are in `whole_state`. Those that go over several modules have the name of what they
+//! test: `clones`, `compared` with the original, `growths` of memory that are refused, `imports` of
+//! each public name, `laws` by their callers, a kind of leaders by their `region`, `texts`, and
+//! `turns` of a leader and a follower, which stand in `turn`.
 #![tactic(auto)]
 
 #[cfg(test)]
-mod callers;
+mod accepted;
+#[cfg(test)]
+mod append;
 #[cfg(test)]
 mod catch_up;
 #[cfg(test)]
@@ -10,33 +19,33 @@ mod clones;
 #[cfg(test)]
 mod compared;
 #[cfg(test)]
-mod entries;
+mod entry;
 #[cfg(test)]
 mod first_caller;
-#[cfg(test)]
-mod follower_turn;
-#[cfg(test)]
-mod followers;
 #[cfg(test)]
 mod growths;
 #[cfg(test)]
 mod imports;
 #[cfg(test)]
+mod install;
+#[cfg(test)]
+mod io_state;
+#[cfg(test)]
 mod laws;
 #[cfg(test)]
 mod log_id_list;
 #[cfg(test)]
-mod memberships;
+mod membership_state;
 #[cfg(test)]
 mod region;
 #[cfg(test)]
-mod rows;
+mod support;
 #[cfg(test)]
 mod texts;
+#[cfg(test)]
+mod truncate;
 pub mod turn;
 #[cfg(test)]
 mod turns;
 #[cfg(test)]
-mod whole;
-#[cfg(test)]
-mod words;
+mod whole_state;

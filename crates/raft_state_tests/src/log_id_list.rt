@@ -1,12 +1,10 @@
 //! The list of log ids, and callers whose contracts show how much those of `raft_state` tell them.
-ghost use Rattle.std.specs.Prelude.{◌≡◌, IfOk, OnOk, OnErr, IsTrue, Some, false};
 ghost use Rattle.raft_state.specs.FullLog.{full_log, same_log};
-ghost use Rattle.raft_state.specs.LogReads.{last_id};
-ghost use Rattle.raft_state.specs.LogEdits.{log_after_append, front};
-ghost use Rattle.raft_state.specs.LogConditions.{follows};
+ghost use Rattle.raft_state.specs.LogEdits.{front, log_after_append};
+ghost use Rattle.std.specs.Prelude.{◌≡◌, IfOk, IsTrue, OnErr, false};
 
-use super::laws::{is_up_to_date, logs_are_same, take_both};
-use super::words::{call_is_right, log_ids};
+use crate::laws::{is_up_to_date, logs_are_same, take_both};
+use crate::support::words::{call_is_right, log_ids};
 use raft_base::leader_id_std::LeaderId as StdLeaderId;
 use raft_base::{LeaderId, LogIdOf};
 use raft_base_tests::support::printing::debugs;

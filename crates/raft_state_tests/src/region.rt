@@ -1,13 +1,13 @@
 //! A kind of leader ids of a caller's own: a leader stands in a region.
-ghost use Rattle.std.specs.Prelude.{◌/◌, Some, refl};
-ghost use Rattle.std.specs.Ordering.{nat_cmp};
-ghost use Rattle.std.specs.Cmp.{po};
-ghost use Rattle.std.specs.Cmp.Rules.{comparing};
-ghost use Rattle.std.proofs.Common.{rules};
 ghost use Rattle.raft_base.specs.LeaderIdLawful.{apart, first_decides, never_none};
+ghost use Rattle.std.proofs.Common.{rules};
+ghost use Rattle.std.specs.Cmp.Rules.{comparing};
+ghost use Rattle.std.specs.Cmp.{po};
+ghost use Rattle.std.specs.Ordering.{nat_cmp};
+ghost use Rattle.std.specs.Prelude.{◌/◌, Some, refl};
 
-use super::catch_up::{hundred, is_as_worked};
-use super::whole::State;
+use crate::catch_up::is_as_worked;
+use crate::support::states::{State, hundred};
 use raft_base::{LeaderIdentity, LeaderKind};
 use raft_progress::ProgressEntryOf;
 use raft_progress::search::{SearchEvent, search_run};

@@ -1,10 +1,14 @@
-//! What log entries, the memberships of a node and its written log print.
+//! What log entries, the memberships of a node, its written log, a new state and the error that
+//! forwards print.
 
-use raft_base::{CommittedLeaderId, LogId, leader_id_std};
+use raft_base::{CommittedLeaderId, LogId, Validate, leader_id_std};
 use raft_base_tests::support::printing::{debugs, displays, sums_up};
 use raft_members::EffectiveMembership;
 use raft_members_tests::support::words::members;
-use raft_state::{Entry, EntryPayload, LogIOId, LogIOIdOf, MembershipState};
+use raft_state::{
+    Entry, EntryPayload, ForwardToLeader, LogIOId, LogIOIdOf, MembershipState, RaftState,
+    SnapshotMeta,
+};
 use std::alloc::{AllocError, Global};
 use std::test::Fail;
 
@@ -83,5 +87,57 @@ fn texts(rt: HostRuntime) -> Result<(), Fail> {
     let debug = "membership:Membership { configs: [{1, 2}], nodes: {1: 4, 2: 5, 3: 6} }";
     assert!(rt; entry_prints(alloc, membership, (text, debug))?);
     assert!(rt; memberships_sum_up(alloc)? && written_log_prints(alloc)?);
+    Ok(())
+}
+
+/// What the state of a new node prints.
+const NEW_STATE: &str =
+    "RaftState { vote: UTime { data: Vote { leader_id: LeaderId { term: 0, node_id: 0 }, \
+    committed: false }, utime: None }, \
+    committed: None, purged_next: 0, log_ids: LogIdList { key_log_ids: [] }, \
+    membership_state: MembershipState { \
+    committed: EffectiveMembership { log_id: None, membership: Membership { configs: [], nodes: {} \
+    }, voter_ids: {} }, \
+    effective: EffectiveMembership { log_id: None, membership: Membership { configs: [], nodes: {} \
+    }, voter_ids: {} } }, \
+    snapshot_meta: SnapshotMeta { last_log_id: None, \
+    last_membership: StoredMembership { log_id: None, membership: Membership { configs: [], nodes: \
+    {} } }, \
+    snapshot_id: \"\" }, \
+    server_state: Learner, accepted: Accepted { leader_id: LeaderId { term: 0, node_id: 0 }, \
+    log_id: None }, \
+    io_state: IOState { building_snapshot: false, \
+    vote: Vote { leader_id: LeaderId { term: 0, node_id: 0 }, committed: false }, \
+    flushed: LogIOId { committed_leader_id: LeaderId { term: 0, node_id: 0 }, log_id: None }, \
+    applied: None, snapshot: None, purged: None }, purge_upto: None }";
+
+/// Whether the state of a new node prints so, and is valid.
+fn print(alloc: Global) -> Result<bool, AllocError> {
+    let state = RaftState::<u64, u64, u64>::try_default(alloc)?;
+    Ok(debugs(alloc, &state, NEW_STATE)? && is_new(alloc, &state)?)
+}
+
+/// Whether a state is valid, and its snapshot is none.
+fn is_new(alloc: Global, state: &RaftState<u64, u64, u64>) -> Result<bool, AllocError> {
+    let none = SnapshotMeta::try_default(alloc)?;
+    Ok(state.validate() == Ok(()) && state.snapshot_meta == none)
+}
+
+/// Whether the error that forwards a request says where, and equals its clone.
+fn forwards(alloc: Global) -> Result<bool, AllocError> {
+    let to: ForwardToLeader<u64, u64> = ForwardToLeader::new(3, 6);
+    let to_none: ForwardToLeader<u64, u64> = ForwardToLeader::empty();
+    Ok(
+        displays(alloc, &to, "has to forward request to: Some(3), Some(6)")?
+            && displays(alloc, &to_none, "has to forward request to: None, None")?
+            && to.try_clone()? == to
+            && to_none.try_clone()? == to_none
+            && to.try_clone()? != to_none,
+    )
+}
+
+#[test]
+fn a_new_state_prints(rt: HostRuntime) -> Result<(), Fail> {
+    assert!(rt; print(rt.alloc())? && forwards(rt.alloc())?);
     Ok(())
 }

@@ -1,7 +1,7 @@
 //! A leader's turns with its followers, and a follower's with what it is sent.
 
-use super::rows::{Row, id, ids, log_id};
 use super::turn::{Entry, Followers, Inflight, Logs, Members, Outcome, Response, State, take_logs};
+use crate::support::rows::{Row, id, ids, log_id};
 use anyhow::Result;
 use raft_base::{
     EmptyNode, LeaderAdv, LeaderKind, LeaderStd, LogIdRangeOf, LogStateReader, UTime, Validate,

@@ -19,8 +19,8 @@ equal law {a} is = rw is (law.refl a)
 pub equal_meta : {C K N : Type 0} {leader : C → C → Bool} (eq : K → K → Bool) (same : N → N → Bool) → IsEquivalence leader
     → (meta copy : SnapshotMetaOf C K N) → IsSnapshotCopy eq same meta copy
     → (same_ids leader meta.last_log_id copy.last_log_id
-            && (same_stored leader eq same meta.last_membership copy.last_membership && string_eq meta.snapshot_id copy.snapshot_id)) ≡ true
+    && (same_stored leader eq same meta.last_membership copy.last_membership && string_eq meta.snapshot_id copy.snapshot_id)) ≡ true
 equal_meta eq same law meta copy is =
     let ids = options_equiv (same_id-equiv law) in
     both_true (equal ids is.last_log_id) (both_true (both_true (equal ids is.log_id) is.membership)
-            (equal nat_list_eq_equiv is.snapshot_id))
+    (equal nat_list_eq_equiv is.snapshot_id))

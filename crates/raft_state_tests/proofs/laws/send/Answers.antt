@@ -12,4 +12,4 @@ pub returns : goal.returns
 returns g c ok =
     let sending = of_ok _ _ c.next_send.result (subst IsTrue c.is_ok.ensures.value ok) c.next_send.follows.holds-at-none in
     c.sends_from_log.ensures (view_of c.args.state.now) c.args.follower.now c.next_send.follows.lender-at-none c.args.max_entries
-        (search rules) (search rules) (search rules) sending.1.0
+    (search rules) (search rules) (search rules) sending.1.0

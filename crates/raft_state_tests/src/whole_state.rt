@@ -1,66 +1,86 @@
-//! The whole state of a node.
+//! A whole state (`raft_state.rt`), and callers over any kind of leader ids: one commits what is
+//! granted, one finds what a follower lacks.
+ghost use Rattle.raft_base.specs.LogId.{id_le, id_lt};
+ghost use Rattle.raft_base.specs.LogView.{has_id, may_ask};
+ghost use Rattle.raft_progress.specs.progress.VecProgress.{shown};
+ghost use Rattle.raft_state.specs.Commit.{state_after_commit};
+ghost use Rattle.raft_state.specs.FullLog.{full_log};
+ghost use Rattle.raft_state.specs.LogReads.{last_id};
+ghost use Rattle.raft_state.specs.StateView.{view_of};
+ghost use Rattle.raft_state.specs.Valid.{broken_relation};
+ghost use Rattle.std.specs.List.{list_all};
+ghost use Rattle.std.specs.Prelude.{◌≡◌, IfOk, IfSome, IsTrue, None, OnErr, false, slice_get};
 
-use super::laws::purge_to;
-use super::rows::{Row, effective, id, ids as ids_of, log_id};
-use raft_base::order::log_id_below;
+use crate::laws::{purge_to, send};
+use crate::support::followers::{Followers, caught_up, followers};
+use crate::support::rows::{Row, id, ids as ids_of, log_id};
+use crate::support::states::{Ids, State, state, unlogged, valid_state};
+use raft_base::order::log_id_at_most;
 use raft_base::{
-    Invalid, LeaderAdv, LeaderKind, LeaderStd, LogIdOf, ServerState, UTime, Validate, VoteIn,
-    VoteOf, leader_id_std,
+    Instant, Invalid, LeaderAdv, LeaderIdentity, LeaderKind, LeaderStd, LogIdOf, LogIdRangeOf,
+    LogStateReader, Node, NodeId, RaftLogId, ServerState, UTime, Validate, VoteIn, VoteOf,
+    leader_id_std,
 };
-use raft_base_tests::support::printing::{debugs, displays};
-use raft_state::{
-    AcceptedOf, ForwardToLeader, IOStateOf, LogIOIdOf, LogIdListOf, LogStateReader,
-    MembershipStateOf, RaftState, RaftStateOf, SnapshotMeta, VoteStateReader, is_key_list,
-};
+use raft_members::quorum::QuorumSet;
+use raft_progress::{InflightOf, Progress, ProgressEntryOf};
+use raft_state::{FollowersOf, ForwardToLeader, RaftStateIn};
 use std::alloc::{AllocError, Global};
+use std::process::Abort;
 use std::test::Fail;
 
-pub type State<K> = RaftStateOf<u64, u64, u64, K>;
-
-/// `purged_next`, the purge point, what is committed, the snapshot's last log id, and the log ids
-/// of the committed and of the effective membership.
-type Ids = (u64, Row, Row, Row, Row, Row);
-
-const NO_MEMBERSHIP: Row = None;
-
-/// Memberships of the voters 1 and 2 and a node 3, at these log ids.
-fn memberships<K: LeaderKind<u64>>(
-    alloc: Global,
-    committed: Row,
-    in_effect: Row,
-) -> Result<MembershipStateOf<K::Committed, u64, u64>, AllocError> {
-    let committed = effective::<K>(alloc, committed, &[1, 2])?;
-    Ok(MembershipStateOf::new(committed, effective::<K>(alloc, in_effect, &[1, 2])?))
-}
-
-/// The log of the keys (1,1) and (3,4).
-fn log_ids<K: LeaderKind<u64>>(alloc: Global) -> Result<LogIdListOf<K::Committed>, AllocError> {
-    let keys = ids_of::<K>(alloc, &[(1, 1), (3, 4)])?;
-    if is_key_list(&keys) {
-        Ok(LogIdListOf::new(keys))
-    } else {
-        Ok(LogIdListOf::new(Vec::new(alloc)))
+/// A leader with a valid state commits what a quorum of its followers has, if that is in its log
+/// and more than is committed.
+fn commit_granted<
+    NID: NodeId,
+    N: Node,
+    I: Instant,
+    C: Ord + Copy + Default + Drop + 'static,
+    L: LeaderIdentity<Id = NID, Committed = C> + Drop,
+    QS: QuorumSet<NID> + Drop,
+>(
+    state: &mut RaftStateIn<NID, N, I, L, C>,
+    followers: &FollowersOf<C, NID, QS>,
+) -> Result<bool, AllocError>
+    ensures valid { IfOk result (λ more. IsTrue more → broken_relation C.cmp state.old ≡ None) }
+    ensures in_log { IfOk result (λ more. IsTrue more → IsTrue (id_le C.cmp
+        (shown followers.now).granted (last_id (full_log state.old.log_ids)))) }
+    ensures committed { IfOk result (λ more. IsTrue more →
+        state.new ≡ state_after_commit C.cmp (shown followers.now).granted state.old) }
+    ensures greater { IfOk result (λ more. IsTrue more →
+        IsTrue (id_lt C.cmp state.old.committed state.new.committed)) }
+    ensures stays_valid { broken_relation C.cmp state.old ≡ None →
+        broken_relation C.cmp state.new ≡ None }
+    ensures kept { IfOk result (λ more. more ≡ false → state.new ≡ state.old) }
+    ensures err { OnErr result (state.new ≡ state.old) }
+{
+    let granted = *followers.granted();
+    if state.validate().is_err()
+        || !log_id_at_most(granted, state.last_log_id().copied())
+        || !state.can_commit(&granted)
+    {
+        return Ok(false);
     }
+    let before = state.update_committed(&granted)?;
+    Ok(before.is_some())
 }
 
-/// A state with that log and such memberships.
-pub fn state<K: LeaderKind<u64>>(alloc: Global, ids: Ids) -> Result<State<K>, AllocError> {
-    let log_ids = log_ids::<K>(alloc)?;
-    let membership_state = memberships::<K>(alloc, ids.4, ids.5)?;
-    let mut state = State::<K>::try_default(alloc)?;
-    state.log_ids = log_ids;
-    state.membership_state = membership_state;
-    state.purged_next = ids.0;
-    state.purge_upto = id::<K>(ids.1);
-    state.committed = id::<K>(ids.2);
-    state.snapshot_meta.last_log_id = id::<K>(ids.3);
-    Ok(state)
-}
-
-/// The valid state that the rows start from.
-pub fn valid_state<K: LeaderKind<u64>>(alloc: Global) -> Result<State<K>, AllocError> {
-    let first = Some((1, 1));
-    state::<K>(alloc, (2, first, first, None, NO_MEMBERSHIP, NO_MEMBERSHIP))
+/// A follower takes of a leader's entries those that its log does not have.
+fn lacking<
+    'a,
+    NID: NodeId,
+    N: Node,
+    I: Instant,
+    C: Ord + Copy + Default + Drop + 'static,
+    L: LeaderIdentity<Id = NID, Committed = C> + Drop,
+    Ent: RaftLogId<C>,
+>(state: &RaftStateIn<NID, N, I, L, C>, entries: &'a [Ent]) -> &'a [Ent]
+    requires { IsTrue (list_all (λ e. may_ask C.cmp (view_of state.now) (Ent.id_of e))
+        entries.now) }
+    ensures { IfSome (slice_get result.now 0)
+        (λ e. has_id C.eq (view_of state.now) (Ent.id_of e) ≡ false) }
+{
+    let place = state.first_conflicting_index(entries);
+    &entries[place..]
 }
 
 /// Whether each relation is told where it alone is broken, and the first one where two are.
@@ -147,22 +167,6 @@ pub fn reads<K: LeaderKind<u64>>(state: &State<K>, other: &State<K>) -> bool {
         !other.committed_is_logged(),
     ];
     !are_right.contains(&false)
-}
-
-/// A valid state of whose log neither the purge point nor what is committed is one.
-pub fn unlogged<K: LeaderKind<u64>>(alloc: Global) -> Result<State<K>, AllocError> {
-    let not_in_log = Some((3, 0));
-    state::<K>(
-        alloc,
-        (
-            2,
-            not_in_log,
-            not_in_log,
-            None,
-            NO_MEMBERSHIP,
-            NO_MEMBERSHIP,
-        ),
-    )
 }
 
 /// The same, of the first valid state and of one that has neither in its log. Of a new state nothing
@@ -265,104 +269,6 @@ fn grows<K: LeaderKind<u64>>(alloc: Global, state: &mut State<K>) -> Result<bool
     Ok(is_purged::<K>(state, &keys))
 }
 
-/// Whether storage's progress reads as it was written.
-fn reads_io<K: LeaderKind<u64>>(io_state: &IOStateOf<u64, K>) -> bool {
-    io_state.building_snapshot()
-        && *io_state.vote() == VoteOf::<u64, K>::new(2, 1)
-        && io_state.purged() == Some(&log_id::<K>(1, 1))
-        && io_state.applied() == None
-        && io_state.snapshot() == None
-}
-
-/// Whether storage's progress takes what is applied and in a snapshot, and keeps what is flushed.
-fn takes_applied<K: LeaderKind<u64>>() -> bool {
-    let last = id::<K>(Some((3, 4)));
-    let flushed = LogIOIdOf::new(K::new_committed(2, 1), last);
-    let vote = VoteOf::<u64, K>::new(2, 1);
-    let mut io_state = IOStateOf::<u64, K>::new(vote, flushed, None, None, None);
-    if log_id_below(io_state.applied, last) && log_id_below(io_state.snapshot, last) {
-        io_state.update_applied(last);
-        io_state.update_snapshot(last);
-    }
-    io_state.applied() == last.as_ref()
-        && io_state.snapshot() == last.as_ref()
-        && io_state.flushed == flushed
-}
-
-/// Writes storage's progress.
-fn write_io<K: LeaderKind<u64>>(io_state: &mut IOStateOf<u64, K>) {
-    io_state.update_vote(VoteOf::<u64, K>::new(2, 1));
-    io_state.update_purged(id::<K>(Some((1, 1))));
-    io_state.set_building_snapshot(true);
-}
-
-/// Whether storage's progress is written and read in a state, and nothing else changes.
-pub fn writes_io<K: LeaderKind<u64>>(state: &mut State<K>, before: &State<K>) -> bool {
-    write_io::<K>(state.io_state_mut());
-    let is_read = reads_io::<K>(state.io_state());
-    let is_other = *state != *before;
-    state.io_state = before.io_state;
-    is_read && is_other && *state == *before && takes_applied::<K>()
-}
-
-/// The same, of a state and its clone.
-fn io_right<K: LeaderKind<u64>>(mut state: State<K>) -> Result<bool, AllocError> {
-    let before = state.try_clone()?;
-    Ok(writes_io::<K>(&mut state, &before))
-}
-
-/// Whether what was accepted is known of its leader alone.
-fn is_of_its_leader<K: LeaderKind<u64>>(
-    accepted: &AcceptedOf<u64, K>,
-    want: Option<LogIdOf<K::Committed>>,
-) -> bool {
-    accepted
-        .last_accepted_log_id(&K::new_leader(5, 10))
-        .copied()
-        == want
-        && accepted
-            .last_accepted_log_id(&K::new_leader(6, 10))
-            .is_none()
-        && accepted
-            .last_accepted_log_id(&K::new_leader(4, 10))
-            .is_none()
-        && accepted
-            .last_accepted_log_id(&K::new_leader(5, 9))
-            .is_none()
-}
-
-/// Whether what was accepted of node 1 in term 2 is unknown of node 2 in that term.
-pub fn is_of_its_node<K: LeaderKind<u64>>() -> bool {
-    let accepted = AcceptedOf::<u64, K>::new(K::new_leader(2, 1), id::<K>(Some((2, 3))));
-    accepted
-        .last_accepted_log_id(&K::new_leader(2, 2))
-        .is_none()
-}
-
-/// Takes what is accepted of the vote's leader, if that may be.
-fn accept<K: LeaderKind<u64>>(state: &mut State<K>, log_id: Option<LogIdOf<K::Committed>>) {
-    if state.can_accept() {
-        state.update_accepted(log_id);
-    }
-}
-
-/// Whether a new node's vote, and what it has accepted of the leader, read as they should.
-pub fn accepts<K: LeaderKind<u64>>(state: &mut State<K>) -> bool {
-    let log_id = Some(LogIdOf::new(K::new_committed(6, 2), 3));
-    let want = AcceptedOf::<u64, K>::new(K::new_leader(5, 10), log_id);
-    let vote = VoteOf::<u64, K>::new_committed(5, 10);
-    let unset = state.accepted().is_none() && !state.is_initialized();
-    state.vote = UTime::new(7, vote);
-    accept::<K>(state, log_id);
-    is_of_its_leader::<K>(&want, log_id)
-        && unset
-        && state.accepted == want
-        && state.accepted().copied() == log_id
-        && state.is_initialized()
-        && state.vote_last_modified() == Some(7)
-        && *VoteStateReader::vote_ref(state) == vote
-}
-
 /// Whether with a vote requests are forwarded as wanted, and the nodes 1, 3 and 9 are what they
 /// should be.
 fn leads<K: LeaderKind<u64>>(
@@ -442,18 +348,6 @@ fn leads_as_voted<K: LeaderKind<u64>>(alloc: Global) -> Result<bool, AllocError>
     leads_right::<K>(&mut valid_state::<K>(alloc)?)
 }
 
-/// Whether a new state takes what is accepted.
-fn takes_accepted<K: LeaderKind<u64>>(alloc: Global) -> Result<bool, AllocError> {
-    let mut state = State::<K>::try_default(alloc)?;
-    Ok(accepts::<K>(&mut state) && is_of_its_node::<K>())
-}
-
-/// Whether a valid state and its clone take storage's progress.
-fn takes_io<K: LeaderKind<u64>>(alloc: Global) -> Result<bool, AllocError> {
-    let cloned = valid_state::<K>(alloc)?.clone()?;
-    io_right::<K>(cloned)
-}
-
 /// Whether a whole state validates, reads and moves as it should.
 fn state_right<K: LeaderKind<u64>>(alloc: Global) -> Result<bool, AllocError> {
     Ok(
@@ -461,9 +355,7 @@ fn state_right<K: LeaderKind<u64>>(alloc: Global) -> Result<bool, AllocError> {
             && reads_right::<K>(alloc)?
             && finds::<K>(alloc)?
             && moves::<K>(alloc)?
-            && leads_as_voted::<K>(alloc)?
-            && takes_accepted::<K>(alloc)?
-            && takes_io::<K>(alloc)?,
+            && leads_as_voted::<K>(alloc)?,
     )
 }
 
@@ -476,54 +368,86 @@ fn a_state_validates_reads_and_moves(rt: HostRuntime) -> Result<(), Fail> {
     Ok(())
 }
 
-/// What the state of a new node prints.
-const NEW_STATE: &str =
-    "RaftState { vote: UTime { data: Vote { leader_id: LeaderId { term: 0, node_id: 0 }, \
-    committed: false }, utime: None }, \
-    committed: None, purged_next: 0, log_ids: LogIdList { key_log_ids: [] }, \
-    membership_state: MembershipState { \
-    committed: EffectiveMembership { log_id: None, membership: Membership { configs: [], nodes: {} \
-    }, voter_ids: {} }, \
-    effective: EffectiveMembership { log_id: None, membership: Membership { configs: [], nodes: {} \
-    }, voter_ids: {} } }, \
-    snapshot_meta: SnapshotMeta { last_log_id: None, \
-    last_membership: StoredMembership { log_id: None, membership: Membership { configs: [], nodes: \
-    {} } }, \
-    snapshot_id: \"\" }, \
-    server_state: Learner, accepted: Accepted { leader_id: LeaderId { term: 0, node_id: 0 }, \
-    log_id: None }, \
-    io_state: IOState { building_snapshot: false, \
-    vote: Vote { leader_id: LeaderId { term: 0, node_id: 0 }, committed: false }, \
-    flushed: LogIOId { committed_leader_id: LeaderId { term: 0, node_id: 0 }, log_id: None }, \
-    applied: None, snapshot: None, purged: None }, purge_upto: None }";
-
-/// Whether the state of a new node prints so, and is valid.
-fn print(alloc: Global) -> Result<bool, AllocError> {
-    let state = RaftState::<u64, u64, u64>::try_default(alloc)?;
-    Ok(debugs(alloc, &state, NEW_STATE)? && is_new(alloc, &state)?)
+/// Whether a follower lacks as many of some entries.
+fn lacks<K: LeaderKind<u64>>(
+    alloc: Global,
+    state: &State<K>,
+    rows: &[(u64, u64)],
+    want: usize,
+) -> Result<bool, AllocError> {
+    let entries = ids_of::<K>(alloc, rows)?;
+    Ok(state.can_ask_all(&entries) && lacking(state, &entries).len() == want)
 }
 
-/// Whether a state is valid, and its snapshot is none.
-fn is_new(alloc: Global, state: &RaftState<u64, u64, u64>) -> Result<bool, AllocError> {
-    let none = SnapshotMeta::try_default(alloc)?;
-    Ok(state.validate() == Ok(()) && state.snapshot_meta == none)
-}
-
-/// Whether the error that forwards a request says where, and equals its clone.
-fn forwards(alloc: Global) -> Result<bool, AllocError> {
-    let to: ForwardToLeader<u64, u64> = ForwardToLeader::new(3, 6);
-    let to_none: ForwardToLeader<u64, u64> = ForwardToLeader::empty();
+/// Whether a follower lacks what is past its log, and what another leader has written.
+fn lacks_right<K: LeaderKind<u64>>(alloc: Global) -> Result<bool, AllocError> {
+    let state = valid_state::<K>(alloc)?;
     Ok(
-        displays(alloc, &to, "has to forward request to: Some(3), Some(6)")?
-            && displays(alloc, &to_none, "has to forward request to: None, None")?
-            && to.try_clone()? == to
-            && to_none.try_clone()? == to_none
-            && to.try_clone()? != to_none,
+        lacks::<K>(alloc, &state, &[(1, 3), (3, 4), (3, 5)], 1)?
+            && lacks::<K>(alloc, &state, &[(1, 3), (2, 4), (3, 5)], 2)?
+            && lacks::<K>(alloc, &state, &[(1, 3), (3, 4)], 0)?,
     )
 }
 
 #[test]
-fn a_new_state_prints(rt: HostRuntime) -> Result<(), Fail> {
-    assert!(rt; print(rt.alloc())? && forwards(rt.alloc())?);
+fn a_follower_lacks_what_conflicts(rt: HostRuntime) -> Result<(), Fail> {
+    assert!(rt; lacks_right::<LeaderAdv>(rt.alloc())?);
+    assert!(rt; lacks_right::<LeaderStd>(rt.alloc())?);
+    Ok(())
+}
+
+/// Whether a send, the conflict that answers it and the next send lead where they should.
+fn sends_right<K: LeaderKind<u64>>(state: &State<K>) -> bool {
+    let mut follower = ProgressEntryOf::empty(5);
+    let is_sent = send(state, &mut follower, 10);
+    let log_id_range = LogIdRangeOf::new(id::<K>(Some((1, 1))), id::<K>(Some((3, 4))));
+    let are_logs = follower.inflight
+        == InflightOf::Logs {
+            id: 1,
+            log_id_range,
+        };
+    let is_taken = follower.update_conflicting(Some(1), 1).is_ok() && follower.searching_end == 1;
+    let is_sent_again = send(state, &mut follower, 10);
+    let last_log_id = None;
+    let is_snapshot = follower.inflight == InflightOf::Snapshot { id: 2, last_log_id };
+    is_sent && are_logs && is_taken && is_sent_again && is_snapshot
+}
+
+/// Whether a leader commits once what two followers of three match, that it has caught up.
+fn commits_once<K: LeaderKind<u64>>(
+    state: &mut State<K>,
+    followers: &mut Followers<K>,
+) -> Result<bool, AllocError> {
+    let caught_up = caught_up::<K>(state, followers, &[(1, 3), (2, 3)]);
+    let first = commit_granted(state, followers)?;
+    let second = commit_granted(state, followers)?;
+    Ok(caught_up == Some(2) && first && !second && state.committed == id::<K>(Some((3, 4))))
+}
+
+/// Whether a leader sends as it should, and commits what two followers match up to.
+fn sends_and_commits<K: LeaderKind<u64>>(
+    rt: &impl Abort,
+    alloc: Global,
+    state: &mut State<K>,
+) -> Result<bool, AllocError> {
+    if !sends_right::<K>(state) {
+        return Ok(false);
+    }
+    commits_once::<K>(state, &mut followers::<K>(rt, alloc, &[], 5)?)
+}
+
+/// The same, of a valid state.
+fn sends_and_commits_right<K: LeaderKind<u64>>(
+    rt: &impl Abort,
+    alloc: Global,
+) -> Result<bool, AllocError> {
+    sends_and_commits::<K>(rt, alloc, &mut valid_state::<K>(alloc)?)
+}
+
+#[test]
+fn a_leader_sends_and_commits(rt: HostRuntime) -> Result<(), Fail> {
+    let alloc = rt.alloc();
+    assert!(rt; sends_and_commits_right::<LeaderAdv>(&rt, alloc)?);
+    assert!(rt; sends_and_commits_right::<LeaderStd>(&rt, alloc)?);
     Ok(())
 }

@@ -1,6 +1,6 @@
 //! The memberships of a node, and a change of the effective one.
 
-use super::rows::{Effective, Row, effective, id};
+use crate::support::rows::{Effective, Row, effective, id};
 use raft_base::{Invalid, LeaderAdv, LeaderKind, LeaderStd, LogIdOptionExt, Validate};
 use raft_members::{ChangeMembers, ChangeMembershipErrorOf, InProgressOf};
 use raft_members_tests::support::words::ids;

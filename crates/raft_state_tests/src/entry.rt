@@ -1,4 +1,4 @@
-//! Calls of log entries.
+//! Log entries.
 ghost use Rattle.std.specs.Prelude.{◌≡◌};
 
 use raft_base::{CommittedLeaderId, LogId, LogIdOf, RaftLogId, leader_id_std};

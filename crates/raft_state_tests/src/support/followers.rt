@@ -1,11 +1,11 @@
 //! Followers of a leader, over any kind of leader ids.
-ghost use Rattle.std.specs.Prelude.{◌≡◌, ℕ, IfSome, IsTrue, List, length, nat_eq};
 ghost use Rattle.raft_base.specs.LogId.{id_le};
 ghost use Rattle.raft_progress.specs.progress.VecProgress.{shown};
 ghost use Rattle.raft_state.specs.Round.{QuorumRan};
 ghost use Rattle.raft_state.specs.StateView.{view_of};
+ghost use Rattle.std.specs.Prelude.{◌≡◌, IfSome, IsTrue, List, length, nat_eq, ℕ};
 
-use super::whole::State;
+use crate::support::states::State;
 use raft_base::LeaderKind;
 use raft_members::quorum::QuorumSet;
 use raft_progress::ProgressEntryOf;

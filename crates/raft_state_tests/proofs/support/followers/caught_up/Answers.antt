@@ -2,7 +2,7 @@ use Rattle.std.proofs.Common.{◌≡◌, ℕ, Bool, List, Global, Vec, nat_eq}
 use Rattle.raft_members.specs.Majority.{is_majority}
 use Rattle.raft_progress.specs.progress.VecProgress.{shown}
 use Rattle.raft_state.specs.Round.{Followers, QuorumRan}
-use Rattle.raft_state_tests.proofs.followers.caught_up.Goals as goal
+use Rattle.raft_state_tests.proofs.support.followers.caught_up.Goals as goal
 
 pub catch_up_all-requires-after_bounds : goal.catch_up_all-requires-after_bounds
 catch_up_all-requires-after_bounds g c κs within = c.is_in_order.ensures.ordered c.if-not-is_in_order.false
@@ -14,6 +14,9 @@ quorum_still eq has_quorum p q ran same h ran_at_p = h (rw same ran_at_p)
 
 pub returns : goal.returns
 returns g c =
-    let end = c.catch_up_all.ensures.round in
-    (end.0, end.1.counted, quorum_still nat_eq (λ (voters : Vec ℕ Global) reached. is_majority nat_eq voters.items reached)
-            (shown c.args.followers.now) (shown c.is_in_order.new.self) end.0 c.is_in_order.ensures.same end.1.last_at_most)
+    let end = c.catch_up_all.ensures.round in (
+      end.0,
+      end.1.counted,
+      quorum_still nat_eq (λ (voters : Vec ℕ Global) reached. is_majority nat_eq voters.items reached)
+          (shown c.args.followers.now) (shown c.is_in_order.new.self) end.0 c.is_in_order.ensures.same end.1.last_at_most,
+    )

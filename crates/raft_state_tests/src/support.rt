@@ -1,0 +1,7 @@
+//! What tests share: worked rows and calls as words, states, what a follower is sent, and followers.
+
+pub mod followers;
+pub mod messages;
+pub mod rows;
+pub mod states;
+pub mod words;
