@@ -11,7 +11,7 @@ use Rattle.raft_base.specs.declared.log_id.LogIdOf.{LogIdOf}
 use Rattle.raft_members.specs.Members.{MemberList}
 use Rattle.raft_members.specs.Stored.{log_id_of}
 use Rattle.raft_members.specs.declared.membership.stored.StoredMembershipOf.{StoredMembershipOf}
-use Rattle.raft_progress.proofs.lemmas.progress.recount.RecountLemmas.{AtMost-from_lt}
+use Rattle.raft_progress.proofs.lemmas.OrderLemmas.{AtMost-from_lt}
 use Rattle.raft_state.proofs.lemmas.validate.RelationLemmas.{hold_all}
 use Rattle.raft_state.specs.Appended.{AppendsMemberships, IsStoredBy, memberships_follow}
 use Rattle.raft_state.specs.MembershipMoves.{after_append}

@@ -34,7 +34,7 @@ use Rattle.raft_base.specs.LogIndex.{index_le}
 use Rattle.raft_base.specs.Validate.{first_false}
 use Rattle.raft_base.specs.declared.log_id.LogIdOf.{LogIdOf}
 use Rattle.raft_members.specs.Stored.{log_id_of}
-use Rattle.raft_progress.proofs.lemmas.progress.recount.RecountLemmas.{AtMost-refl, AtMost-trans}
+use Rattle.raft_progress.proofs.lemmas.OrderLemmas.{AtMost-refl, AtMost-trans}
 use Rattle.raft_state.proofs.lemmas.log_id_list.FrontLemmas.{front_none}
 use Rattle.raft_state.proofs.lemmas.log_id_list.IdOrderLemmas.{none_at_most}
 use Rattle.raft_state.proofs.lemmas.validate.RelationLemmas.{all_hold, hold_all}

@@ -9,7 +9,7 @@ use Rattle.raft_base.specs.LogIdLawful.{optional-log_id_cmp-total}
 use Rattle.raft_base.specs.Validate.{first_false}
 use Rattle.raft_base.specs.declared.log_id.LogIdOf.{LogIdOf}
 use Rattle.raft_members.specs.Stored.{log_id_of}
-use Rattle.raft_progress.proofs.lemmas.progress.recount.RecountLemmas.{AtMost-from_lt, AtMost-refl, AtMost-trans}
+use Rattle.raft_progress.proofs.lemmas.OrderLemmas.{AtMost-from_lt, AtMost-refl, AtMost-trans}
 use Rattle.raft_state.proofs.lemmas.validate.RelationLemmas.{all_hold, hold_all}
 use Rattle.raft_state.specs.FullLog.{full_log}
 use Rattle.raft_state.specs.LogReads.{last_id}

@@ -33,7 +33,7 @@ use Rattle.raft_base.specs.LogIdLawful.{optional-log_id_cmp-total}
 use Rattle.raft_base.specs.LogIndex.{index_le, next_index_of}
 use Rattle.raft_base.specs.Validate.{first_false}
 use Rattle.raft_base.specs.declared.log_id.LogIdOf.{LogIdOf}
-use Rattle.raft_progress.proofs.lemmas.progress.recount.RecountLemmas.{AtMost-refl, AtMost-trans}
+use Rattle.raft_progress.proofs.lemmas.OrderLemmas.{AtMost-refl, AtMost-trans}
 use Rattle.raft_state.proofs.lemmas.log_id_list.IdOrderLemmas.{none_at_most, then_below, upto_equal}
 use Rattle.raft_state.proofs.lemmas.log_id_list.ExtendLemmas.{extend_raises, first_extended}
 use Rattle.raft_state.proofs.lemmas.validate.RelationLemmas.{all_hold, hold_all}

@@ -38,7 +38,7 @@ use Rattle.raft_base.specs.LogId.{id_le, index_of, next_index}
 use Rattle.raft_base.specs.LogIdLawful.{optional-log_id_cmp-total}
 use Rattle.raft_base.specs.LogIndex.{next_index_of}
 use Rattle.raft_base.specs.declared.log_id.LogIdOf.{LogIdOf}
-use Rattle.raft_progress.proofs.lemmas.progress.recount.RecountLemmas.{AtMost-trans}
+use Rattle.raft_progress.proofs.lemmas.OrderLemmas.{AtMost-trans}
 use Rattle.raft_state.proofs.lemmas.log_id_list.IdOrderLemmas.{then_below}
 use Rattle.raft_state.proofs.lemmas.log_id_list.FrontLemmas.{rest_first}
 use Rattle.raft_state.proofs.lemmas.log_id_list.KeptLemmas.{ends_there, from_end, purged_ends, has_id_at}

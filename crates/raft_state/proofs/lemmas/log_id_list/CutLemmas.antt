@@ -46,7 +46,7 @@ use Rattle.std.proofs.lemmas.List.{append-nil, take_more_set, take_at}
 use Rattle.std.specs.Prelude.{slice_get}
 use Rattle.raft_base.specs.LogId.{next_index}
 use Rattle.raft_base.specs.declared.log_id.LogIdOf.{LogIdOf}
-use Rattle.raft_progress.proofs.lemmas.progress.recount.RecountLemmas.{AtMost-from_lt}
+use Rattle.raft_progress.proofs.lemmas.OrderLemmas.{AtMost-from_lt}
 use Rattle.raft_state.specs.FullLog.{end_index, ids_of_keys, first_index, first_index_or, full_log, ids_of}
 use Rattle.raft_state.specs.Inner.KeyEdits.{keys_below, rest_up_to, keys_up_to, end_at, rest_from, keys_from, keys_after_purge}
 use Rattle.raft_state.specs.Inner.KeyList.{Rises, keys_to}

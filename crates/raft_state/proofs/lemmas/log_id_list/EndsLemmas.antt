@@ -30,7 +30,7 @@ use Rattle.std.specs.Ordering.{is_le, is_eq, ordering_reverse}
 use Rattle.std.specs.Cmp.{IsEquivalence, IsTotalOrder}
 use Rattle.std.proofs.lemmas.Cmp.{tied_back}
 use Rattle.raft_base.specs.declared.log_id.LogIdOf.{LogIdOf}
-use Rattle.raft_progress.proofs.lemmas.progress.recount.RecountLemmas.{AtMost-refl, AtMost-trans}
+use Rattle.raft_progress.proofs.lemmas.OrderLemmas.{AtMost-refl, AtMost-trans}
 use Rattle.raft_state.specs.Inner.KeyEdits.{keys_after_append, rest_after_append, keys_after_extend}
 use Rattle.raft_state.specs.LogConditions.{all_follow, ends_share_leader, follows}
 use Rattle.raft_state.specs.LogReads.{first_id, last_id}

@@ -3,7 +3,7 @@ use Rattle.std.proofs.Common.{◌<◌, List, [], ◌∷◌, IsTrue}
 use Rattle.std.specs.Ordering.{is_le, is_lt}
 use Rattle.std.specs.declared.cmp.Ordering.{Ordering}
 use Rattle.raft_base.specs.declared.log_id.LogIdOf.{LogIdOf}
-use Rattle.raft_progress.proofs.lemmas.progress.recount.RecountLemmas.{AtMost-from_lt}
+use Rattle.raft_progress.proofs.lemmas.OrderLemmas.{AtMost-from_lt}
 
 -- these may be keys: what the test says, key by key
 abbrev pub IsKeyList : {C : Type 0} → (C → C → Ordering) → List (LogIdOf C) → Type 0

@@ -31,7 +31,7 @@ use Rattle.std.specs.Ordering.{is_eq}
 use Rattle.std.proofs.lemmas.Option.{same_Some}
 use Rattle.std.specs.Cmp.{IsTotalOrder, IsEquivalence}
 use Rattle.raft_base.specs.declared.log_id.LogIdOf.{LogIdOf}
-use Rattle.raft_progress.proofs.lemmas.progress.recount.RecountLemmas.{AtMost-refl}
+use Rattle.raft_progress.proofs.lemmas.OrderLemmas.{AtMost-refl}
 use Rattle.raft_state.specs.FullLog.{first_index, full_log, same_log}
 use Rattle.raft_state.specs.LogReads.{last_id, last_two_share_leader, leader_count}
 use Rattle.raft_state.specs.LogEdits.{log_after_append, log_after_extend, log_after_purge}

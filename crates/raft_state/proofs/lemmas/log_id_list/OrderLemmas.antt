@@ -41,7 +41,7 @@ use Rattle.raft_state.specs.LogReadsLawful.{id_at-indexed}
 use Rattle.raft_state.proofs.lemmas.log_id_list.IdOrderLemmas.{none_at_most, then_below}
 use Rattle.raft_base.specs.LogId.{id_le}
 use Rattle.raft_state.proofs.lemmas.log_id_list.CutLemmas.{first_full, one_key}
-use Rattle.raft_progress.proofs.lemmas.progress.recount.RecountLemmas.{AtMost-refl, AtMost-trans}
+use Rattle.raft_progress.proofs.lemmas.OrderLemmas.{AtMost-refl, AtMost-trans}
 
 -- consecutive indexes from i on
 abbrev pub From : {C : Type 0} → ℕ → List (LogIdOf C) → Type 0

@@ -34,7 +34,7 @@ use Rattle.std.specs.Ordering.{is_eq, is_le}
 use Rattle.raft_base.specs.LogId.{id_le, index_of, same_ids}
 use Rattle.raft_base.specs.LogIndex.{index_lt}
 use Rattle.raft_base.specs.declared.log_id.LogIdOf.{LogIdOf}
-use Rattle.raft_progress.proofs.lemmas.progress.recount.RecountLemmas.{AtMost-refl}
+use Rattle.raft_progress.proofs.lemmas.OrderLemmas.{AtMost-refl}
 use Rattle.raft_state.proofs.lemmas.log_id_list.IdOrderLemmas.{leaders_symm, none_at_most, then_below, upto_equal}
 use Rattle.raft_state.proofs.lemmas.log_id_list.FrontLemmas.{from_first}
 use Rattle.raft_state.proofs.lemmas.log_id_list.SameLogLemmas.{equal_found}

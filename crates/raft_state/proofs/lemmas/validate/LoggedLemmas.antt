@@ -44,7 +44,7 @@ use Rattle.raft_state.proofs.lemmas.log_id_list.KeyListLemmas.{IsKeyList, step_k
 use Rattle.raft_state.proofs.lemmas.log_id_list.FullLogLemmas.{at_full, covering, covers, covers_none}
 use Rattle.raft_state.proofs.lemmas.log_id_list.CutLemmas.{last_full, first_full}
 use Rattle.raft_state.proofs.lemmas.log_id_list.IdOrderLemmas.{le_than}
-use Rattle.raft_progress.proofs.lemmas.progress.recount.RecountLemmas.{AtMost-refl, AtMost-trans}
+use Rattle.raft_progress.proofs.lemmas.OrderLemmas.{AtMost-refl, AtMost-trans}
 use Rattle.raft_base.specs.LogId.{next_index, id_le, index_of, same_ids}
 use Rattle.raft_base.specs.LogIndex.{index_le}
 use Rattle.raft_base.specs.LogView.{LogView, prev_id}
