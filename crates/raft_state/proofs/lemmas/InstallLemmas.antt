@@ -2,8 +2,6 @@
 use Rattle.std.proofs.Common.{
   ◌≡◌,
   ℕ,
-  zero,
-  suc,
   ◌+◌,
   ◌==◌,
   ◌≤◌,
@@ -20,15 +18,10 @@ use Rattle.std.proofs.Common.{
   Some,
   None,
   if◌then◌else◌,
-  IsTrue,
-  length,
-  nat_eq,
   nat_lt,
   nat_le,
   refl,
   sym,
-  ap,
-  subst,
   arith,
   inl,
   inr,
@@ -40,16 +33,15 @@ use Rattle.std.specs.declared.cmp.Ordering.{Ordering}
 use Rattle.std.specs.declared.cmp.Ordering.TheVariants.{Less, Equal, Greater}
 use Rattle.std.specs.Cmp.{IsEquivalence, IsTotalOrder, nat_cmp_total}
 use Rattle.std.specs.Cmp.Lexicographic.{options_total}
-use Rattle.std.specs.Option.{option_cmp}
-use Rattle.std.specs.Ordering.{is_eq, is_le, is_lt, nat_cmp, ordering_then}
-use Rattle.raft_base.specs.LogId.{id_le, id_lt, index_of, log_id_cmp, next_index, same_ids}
+use Rattle.std.specs.Ordering.{is_eq, is_le, nat_cmp, ordering_then}
+use Rattle.raft_base.specs.LogId.{id_le, id_lt, index_of, next_index, same_ids}
 use Rattle.raft_base.specs.LogIdLawful.{optional-log_id_cmp-total}
 use Rattle.raft_base.specs.LogIndex.{index_le, index_lt}
 use Rattle.raft_base.specs.Validate.{first_false}
 use Rattle.raft_base.specs.declared.log_id.LogIdOf.{LogIdOf}
 use Rattle.raft_members.specs.Stored.{log_id_of}
 use Rattle.raft_members.specs.declared.membership.stored.StoredMembershipOf.{StoredMembershipOf}
-use Rattle.raft_progress.proofs.lemmas.OrderLemmas.{AtMost-refl, AtMost-trans}
+use Rattle.raft_progress.proofs.lemmas.OrderLemmas.{AtMost-refl}
 use Rattle.raft_base.specs.declared.log_id.validate.Invalid.TheVariants.{
   PurgedNext,
   LastPurgedPastUpto,
@@ -57,13 +49,12 @@ use Rattle.raft_base.specs.declared.log_id.validate.Invalid.TheVariants.{
   CommittedPastLast,
 }
 use Rattle.raft_state.proofs.lemmas.log_id_list.IdOrderLemmas.{leaders_symm, then_below, upto_equal}
-use Rattle.raft_state.proofs.lemmas.log_id_list.FrontLemmas.{front_none, from_first, last_at, rest_first, rest_last}
+use Rattle.raft_state.proofs.lemmas.log_id_list.FrontLemmas.{from_first, rest_first, rest_last}
 use Rattle.raft_state.proofs.lemmas.log_id_list.KeyListLemmas.{IsKeyList}
 use Rattle.raft_state.proofs.lemmas.validate.RelationLemmas.{all_hold, hold_all}
 use Rattle.raft_state.proofs.lemmas.log_id_list.OrderLemmas.{From, above_full, index_within, last_at_least}
 use Rattle.raft_state.proofs.lemmas.log_id_list.SameLogLemmas.{equal_found}
 use Rattle.raft_state.proofs.lemmas.TruncateLemmas.{cut_members_stay}
-use Rattle.raft_state.specs.Accepted.{after_accept}
 use Rattle.raft_state.specs.FullLog.{end_index, first_index, full_log}
 use Rattle.raft_state.specs.Install.{
   is_logged,

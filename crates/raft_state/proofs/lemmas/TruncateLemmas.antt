@@ -3,8 +3,6 @@ use Rattle.std.proofs.Common.{
   ◌≡◌,
   ℕ,
   ◌==◌,
-  ◌≤◌,
-  ◌<◌,
   Bool,
   true,
   false,
@@ -15,13 +13,11 @@ use Rattle.std.proofs.Common.{
   Some,
   None,
   if◌then◌else◌,
-  IsTrue,
   nat_lt,
   refl,
   arith,
   inl,
   inr,
-  ◌∙◌,
 }
 use Rattle.std.proofs.lemmas.Bool.{and_parts, cases_lt}
 use Rattle.std.proofs.lemmas.Bool.Decides.{nat_tests}

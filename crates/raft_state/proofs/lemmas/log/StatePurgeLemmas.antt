@@ -10,7 +10,6 @@ use Rattle.std.proofs.Common.{
   true,
   false,
   ◌&&◌,
-  ◌||◌,
   List,
   [],
   ◌∷◌,
@@ -19,11 +18,9 @@ use Rattle.std.proofs.Common.{
   None,
   if◌then◌else◌,
   IfSome,
-  length,
   nat_lt,
   nat_le,
   refl,
-  sym,
   ap,
   arith,
   ◌∙◌,
@@ -33,7 +30,6 @@ use Rattle.std.proofs.lemmas.Bool.Decides.{nat_tests}
 use Rattle.std.specs.declared.cmp.Ordering.{Ordering}
 use Rattle.std.specs.Cmp.{IsTotalOrder}
 use Rattle.std.specs.Option.{option_or}
-use Rattle.std.specs.Ordering.{is_le}
 use Rattle.raft_base.specs.LogId.{id_le, index_of, next_index}
 use Rattle.raft_base.specs.LogIdLawful.{optional-log_id_cmp-total}
 use Rattle.raft_base.specs.LogIndex.{next_index_of}

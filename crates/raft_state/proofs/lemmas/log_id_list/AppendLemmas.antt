@@ -27,12 +27,7 @@ use Rattle.std.proofs.Common.{
   ap,
 }
 use Rattle.std.specs.declared.cmp.Ordering.{Ordering}
-use Rattle.std.proofs.lemmas.Bool.Decides.{nat_tests}
-use Rattle.std.specs.Ordering.{is_le, is_lt, is_eq, nat_cmp, ordering_then}
-use Rattle.std.specs.Cmp.{IsTotalOrder}
-use Rattle.std.proofs.lemmas.Cmp.{tied_itself}
-use Rattle.std.specs.declared.cmp.Ordering.TheVariants.{Less, Equal, Greater}
-use Rattle.std.proofs.Common.{◌∙◌}
+use Rattle.std.specs.Ordering.{is_le, is_lt}
 use Rattle.raft_base.specs.declared.log_id.LogIdOf.{LogIdOf}
 use Rattle.raft_state.specs.FullLog.{full_log, ids_of}
 use Rattle.raft_state.specs.Inner.KeyEdits.{keys_after_append, rest_after_append}

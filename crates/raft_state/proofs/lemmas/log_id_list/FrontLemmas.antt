@@ -9,17 +9,13 @@ use Rattle.std.proofs.Common.{
   ◌<◌,
   ◌≤◌,
   ◌==◌,
-  Bool,
   true,
   false,
   List,
   [],
   ◌∷◌,
-  Option,
   Some,
   None,
-  if◌then◌else◌,
-  IsTrue,
   length,
   nat_lt,
   nat_le,
@@ -30,7 +26,6 @@ use Rattle.std.proofs.Common.{
   arith,
   inl,
   inr,
-  ◌∙◌,
 }
 use Rattle.std.proofs.lemmas.Bool.{cases_lt}
 use Rattle.std.proofs.lemmas.Bool.Decides.{nat_tests}

@@ -24,15 +24,15 @@ then_below Less i j h le = refl
 then_below Equal i j h le = grind (arith, nat_tests)
 then_below Greater i j h le = cc
 
+pub then_less : (o : Ordering) (i j : ℕ) → is_le o ≡ true → i < j → is_lt (ordering_then o (nat_cmp i j)) ≡ true
+then_less Less i j h lt = refl
+then_less Equal i j h lt = grind (arith, nat_tests)
+then_less Greater i j h lt = cc
+
 lt_not_eq : (o : Ordering) (t : Bool) → t ≡ is_eq o → is_lt o ≡ true → t ≡ true → ⊥
 lt_not_eq Less t e h f = cc
 lt_not_eq Equal t e h f = cc
 lt_not_eq Greater t e h f = cc
-
-pub le_than : (o : Ordering) (i j : ℕ) → is_le o ≡ true → i < j → is_lt (ordering_then o (nat_cmp i j)) ≡ true
-le_than Less i j h lt = refl
-le_than Equal i j h lt = grind (arith, nat_tests)
-le_than Greater i j h lt = cc
 
 -- no log id is the least
 pub none_at_most : {C : Type 0} (cmp : C → C → Ordering) (a : Option (LogIdOf C)) → id_le cmp None a ≡ true
@@ -50,7 +50,7 @@ module _ {C : Type 0} (cmp : C → C → Ordering) (eq : C → C → Bool) (tota
   pub upto_equal : (a b c : C) → eq a b ≡ true → IsTrue (is_le (cmp b c)) → IsTrue (is_le (cmp a c))
   upto_equal a b c e h = let o = equal_of (cmp a b) (sym (law a b) ∙ e) in rw (total.congr a b c o) h
 
--- of leaders that are equal each stands for the other
+-- an equality of leaders is transitive and symmetric
 module _ {C : Type 0} {eq : C → C → Bool} (eqs : IsEquivalence eq) where
   pub leaders_trans : (a b c : C) → eq a b ≡ true → eq b c ≡ true → eq a c ≡ true
   leaders_trans a b c h g = eqs.congr a b c h ∙ g

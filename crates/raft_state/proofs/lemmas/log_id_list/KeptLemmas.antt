@@ -14,7 +14,6 @@ use Rattle.std.proofs.Common.{
   Bool,
   true,
   false,
-  ◌&&◌,
   List,
   [],
   ◌∷◌,
@@ -23,7 +22,6 @@ use Rattle.std.proofs.Common.{
   Some,
   None,
   if◌then◌else◌,
-  IfSome,
   IsTrue,
   length,
   nat_lt,
@@ -43,10 +41,10 @@ use Rattle.std.specs.Ordering.{is_le}
 use Rattle.std.specs.declared.cmp.Ordering.{Ordering}
 use Rattle.std.proofs.lemmas.Bool.{and_parts, cases_lt}
 use Rattle.std.proofs.lemmas.Bool.Decides.{nat_tests}
-use Rattle.raft_base.specs.LogId.{next_index, same_ids}
+use Rattle.raft_base.specs.LogId.{next_index}
 use Rattle.raft_base.specs.LogView.{prev_id}
 use Rattle.raft_base.specs.declared.log_id.LogIdOf.{LogIdOf}
-use Rattle.raft_state.specs.FullLog.{end_index, first_index, full_log, same_log}
+use Rattle.raft_state.specs.FullLog.{end_index, first_index, same_log}
 use Rattle.raft_state.specs.LogConditions.{all_follow, follows}
 use Rattle.raft_state.specs.LogEdits.{front, log_after_append, log_after_extend, log_after_purge, missing_ids, rest}
 use Rattle.raft_state.specs.LogKept.{HasIds, KeepsIds}

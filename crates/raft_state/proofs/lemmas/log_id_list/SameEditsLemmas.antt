@@ -21,7 +21,6 @@ use Rattle.std.proofs.Common.{
   refl,
   ap,
   arith,
-  ◌∙◌,
 }
 use Rattle.std.proofs.lemmas.Bool.Decides.{nat_tests}
 use Rattle.std.specs.Cmp.{IsEquivalence}

@@ -31,8 +31,7 @@ use Rattle.std.proofs.Common.{
 }
 use Rattle.std.specs.Option.{is_some, option_or}
 use Rattle.std.specs.declared.cmp.Ordering.{Ordering}
-use Rattle.std.specs.declared.cmp.Ordering.TheVariants.{Less, Equal, Greater}
-use Rattle.std.specs.Ordering.{nat_cmp, is_le, is_lt, ordering_then}
+use Rattle.std.specs.Ordering.{nat_cmp, is_le}
 use Rattle.std.proofs.lemmas.Option.{same_Some}
 use Rattle.std.specs.Cmp.{IsTotalOrder}
 use Rattle.std.proofs.lemmas.Bool.{cases_lt}
@@ -43,7 +42,7 @@ use Rattle.raft_state.specs.LogReads.{id_at, first_id, last_id}
 use Rattle.raft_state.proofs.lemmas.log_id_list.KeyListLemmas.{IsKeyList, step_keys, tail_keys}
 use Rattle.raft_state.proofs.lemmas.log_id_list.FullLogLemmas.{at_full, covering, covers, covers_none}
 use Rattle.raft_state.proofs.lemmas.log_id_list.CutLemmas.{last_full, first_full}
-use Rattle.raft_state.proofs.lemmas.log_id_list.IdOrderLemmas.{le_than}
+use Rattle.raft_state.proofs.lemmas.log_id_list.IdOrderLemmas.{then_less}
 use Rattle.raft_progress.proofs.lemmas.OrderLemmas.{AtMost-refl, AtMost-trans}
 use Rattle.raft_base.specs.LogId.{next_index, id_le, index_of, same_ids}
 use Rattle.raft_base.specs.LogIndex.{index_le}
@@ -179,7 +178,7 @@ logged_keys {C} cmp total (k ∷ ks) purge rest s inside =
       rises = λ i j from lt high.
           (let c = covers k ks i (low.2 i from) in let d = covers k ks j (low.2 j (omega arith)) in
           rw (id_here cmp total (k ∷ ks) i c.0 s (omega arith) c.1, id_here cmp total (k ∷ ks) j d.0 s (omega arith) d.1)
-          (le_than (cmp c.0.leader_id d.0.leader_id) i j (rising_le cmp total (k ∷ ks) i j c.0 d.0 s c.1 d.1 lt) lt));
+          (then_less (cmp c.0.leader_id d.0.leader_id) i j (rising_le cmp total (k ∷ ks) i j c.0 d.0 s c.1 d.1 lt) lt));
       at_end = subst (λ (x : ℕ). prev_id (id_at (full_log (k ∷ ks))) x ≡ last_id (full_log (k ∷ ks))) (sym (l ∙ n))
           (id_here cmp total (k ∷ ks) y.0.index y.0 s (omega arith) y.2 ∙ sym (last_full cmp (k ∷ ks) s ∙ y.1));
     }

@@ -1,4 +1,4 @@
-use Rattle.std.proofs.Common.{◌≡◌, drop, is_some, IsTrue}
+use Rattle.std.proofs.Common.{drop, is_some, IsTrue}
 use Rattle.raft_members.specs.Stored.{log_id_of}
 use Rattle.raft_state.specs.Appended.{AppendsMemberships, memberships_follow}
 use Rattle.raft_state.specs.Memberships.{Memberships}
