@@ -1,0 +1,257 @@
+//! Input and output: readers and writers that fail, cut scripts, and who types a piece at a time.
+
+use crate::script::run;
+use crate::tests::support::{REPLIES, SCRIPT};
+use std::alloc::Global;
+use std::cell::Cell;
+use std::io::{self, Read, Write};
+use std::process::Abort;
+use std::test::Fail;
+
+/// Gives its text a few bytes a read, and fails at the read numbered `bad`.
+#[derive(Drop)]
+struct FailingReader<'a> {
+    text: &'a [u8],
+    reads: u64,
+    bad: u64,
+}
+
+impl Read for FailingReader<'_> {
+    fn read(&mut self, buf: &mut [u8]) -> io::Result<usize> {
+        self.reads = self.reads.saturating_add(1);
+        if self.reads == self.bad {
+            return Err(io::Error::from(io::ErrorKind::BrokenPipe));
+        }
+        let n = self.text.len().min(buf.len()).min(7);
+        buf[..n].copy_from_slice(&self.text[..n]);
+        self.text = &self.text[n..];
+        Ok(n)
+    }
+}
+
+/// Takes a few bytes a write, and fails from the write numbered `bad` on.
+#[derive(Drop)]
+struct FailingWriter {
+    text: Vec<u8>,
+    writes: u64,
+    bad: u64,
+}
+
+impl Write for FailingWriter {
+    fn write(&mut self, buf: &[u8]) -> io::Result<usize> {
+        self.writes = self.writes.saturating_add(1);
+        if self.writes >= self.bad {
+            return Err(io::Error::from(io::ErrorKind::BrokenPipe));
+        }
+        let n = buf.len().min(7);
+        self.text.extend_from_slice(&buf[..n])?;
+        Ok(n)
+    }
+
+    fn flush(&mut self) -> io::Result<()> {
+        Ok(())
+    }
+}
+
+/// How many line feeds stand before the last bytes of a text.
+fn line_feeds(text: &[u8], left: usize) -> usize {
+    let mut count = 0usize;
+    for byte in text.iter().take(text.len().saturating_sub(left)) {
+        if *byte == b'\n' {
+            count = count.saturating_add(1);
+        }
+    }
+    count
+}
+
+/// The replies to the first lines of the script: the first line has none.
+fn replies_to(lines: usize) -> &'static [u8] {
+    let mut end = 0;
+    let mut left = lines.saturating_sub(1);
+    for i in 0..REPLIES.len() {
+        if left > 0 && REPLIES[i] == b'\n' {
+            end = i + 1;
+            left -= 1;
+        }
+    }
+    if end <= REPLIES.len() {
+        &REPLIES[..end]
+    } else {
+        REPLIES
+    }
+}
+
+/// Runs the script with a reader that fails at a read, and answers whether it came so far.
+fn assert_read_fault<R: Abort>(rt: &R, alloc: Global, bad: u64) -> bool {
+    let mut out = Vec::new(alloc);
+    let mut reader = FailingReader {
+        text: SCRIPT,
+        reads: 0,
+        bad,
+    };
+    let status = run(alloc, &mut reader, &mut out);
+    if reader.reads < bad {
+        assert_eq!(rt; status, 2, "at {bad}");
+        assert_eq!(rt; out.as_slice(), REPLIES, "at {bad}");
+        return false;
+    }
+    assert_eq!(rt; status, 1, "at {bad}");
+    let due = line_feeds(SCRIPT, reader.text.len());
+    assert_eq!(rt; out.as_slice(), replies_to(due), "at {bad}");
+    true
+}
+
+#[test]
+fn tells_of_a_failing_reader(rt: HostRuntime) {
+    let mut faults = 0;
+    for bad in 1..40 {
+        if assert_read_fault(&rt, rt.alloc(), bad) {
+            faults = bad;
+        }
+    }
+    assert!(rt; faults > 10);
+}
+
+/// Runs the script with a writer that fails from a write on, and answers whether it came so far.
+fn assert_write_fault<R: Abort>(rt: &R, alloc: Global, bad: u64) -> bool {
+    let mut writer = FailingWriter {
+        text: Vec::new(alloc),
+        writes: 0,
+        bad,
+    };
+    let status = run(alloc, SCRIPT, &mut writer);
+    if writer.writes < bad {
+        assert_eq!(rt; status, 2, "at {bad}");
+        assert_eq!(rt; writer.text.as_slice(), REPLIES, "at {bad}");
+        return false;
+    }
+    assert_eq!(rt; status, 1, "at {bad}");
+    assert!(rt; REPLIES.starts_with(writer.text.as_slice()), "at {bad}");
+    true
+}
+
+#[test]
+fn tells_of_a_failing_writer(rt: HostRuntime) {
+    let mut faults = 0;
+    for bad in 1..40 {
+        if assert_write_fault(&rt, rt.alloc(), bad) {
+            faults = bad;
+        }
+    }
+    assert!(rt; faults > 5);
+}
+
+/// Gives its text a byte a read.
+#[derive(Drop)]
+struct ByteReader<'a> {
+    text: &'a [u8],
+}
+
+impl Read for ByteReader<'_> {
+    fn read(&mut self, buf: &mut [u8]) -> io::Result<usize> {
+        let n = self.text.len().min(buf.len()).min(1);
+        buf[..n].copy_from_slice(&self.text[..n]);
+        self.text = &self.text[n..];
+        Ok(n)
+    }
+}
+
+/// Runs a beginning of the script, and answers whether its whole lines have their replies, and a
+/// line that is cut inside is a bad line: each line ends in a word of one byte.
+fn answers_cut<R: Read + Drop>(
+    alloc: Global,
+    reader: R,
+    text: &[u8],
+    rest: &[u8],
+) -> Result<bool, Fail> {
+    let mut out = Vec::new(alloc);
+    let status = run(alloc, reader, &mut out);
+    let lines = line_feeds(text, 0);
+    if text.is_empty() || text.ends_with(b"\n") {
+        return Ok(status == 0 && out.as_slice() == replies_to(lines));
+    }
+    let cut = lines.saturating_add(1);
+    if rest.starts_with(b"\n") {
+        return Ok(status == 0 && out.as_slice() == replies_to(cut));
+    }
+    let mut replies = replies_to(lines).to_vec(alloc)?;
+    writeln!(replies, "bad line {cut}")?;
+    Ok(status == 2 && out == replies)
+}
+
+#[test]
+fn answers_a_cut_script(rt: HostRuntime) -> Result<(), Fail> {
+    for cut in 0..=SCRIPT.len() {
+        let (text, rest) = SCRIPT.split_at(cut);
+        assert!(rt; answers_cut(rt.alloc(), text, text, rest)?, "at {cut}");
+        let reader = ByteReader { text };
+        assert!(rt;
+            answers_cut(rt.alloc(), reader, text, rest)?,
+            "by bytes, at {cut}"
+        );
+    }
+    Ok(())
+}
+
+/// One who types a piece at a time, and notes before each how much of the answer has come.
+#[derive(Drop)]
+struct Typist<'a> {
+    pieces: &'a [&'static str],
+    typed: usize,
+    written: &'a Cell<usize>,
+    seen: Vec<usize>,
+}
+
+impl Read for Typist<'_> {
+    fn read(&mut self, buf: &mut [u8]) -> io::Result<usize> {
+        self.seen.push(self.written.get())?;
+        let Some(piece) = self.pieces.get(self.typed) else {
+            return Ok(0);
+        };
+        self.typed = self.typed.saturating_add(1);
+        let n = piece.len().min(buf.len());
+        buf[..n].copy_from_slice(&piece.as_bytes()[..n]);
+        Ok(n)
+    }
+}
+
+/// Counts the bytes that are written.
+#[derive(Drop)]
+struct Counter<'a> {
+    written: &'a Cell<usize>,
+}
+
+impl Write for Counter<'_> {
+    fn write(&mut self, buf: &[u8]) -> io::Result<usize> {
+        self.written
+            .set(self.written.get().saturating_add(buf.len()));
+        Ok(buf.len())
+    }
+
+    fn flush(&mut self) -> io::Result<()> {
+        Ok(())
+    }
+}
+
+#[test]
+fn answers_before_it_waits(rt: HostRuntime) -> Result<(), Fail> {
+    let written = Cell::new(0);
+    let pieces = [
+        "init 0 1 -\nupdate 1 2\nupdate 1 3\nupd",
+        "ate 1 4",
+        "\n",
+        "update 1 3\nupdate 1 5",
+    ];
+    let mut typist = Typist {
+        pieces: &pieces,
+        typed: 0,
+        written: &written,
+        seen: Vec::new(rt.alloc()),
+    };
+    let status = run(rt.alloc(), &mut typist, &mut Counter { written: &written });
+    assert_eq!(rt; status, 0);
+    // Each `granted` with its number is 10 bytes, and `would-fall` 11.
+    assert_eq!(rt; typist.seen.as_slice(), [0, 20, 20, 30, 41].as_slice());
+    assert_eq!(rt; written.get(), 51);
+    Ok(())
+}
