@@ -1,6 +1,6 @@
 //! When a follower can be caught up.
 
-use crate::support::values::{at, logs};
+use crate::support::values::{at, logs, purged_log};
 use raft_base::LeaderId;
 use raft_base::leader_id_std::CommittedLeaderId;
 use raft_base_tests::support::plain_log::{Numbered, PlainLog, id, log_below};
@@ -34,9 +34,7 @@ pub fn can_be_caught_up<C: Numbered>(log: &PlainLog<C>, purged: &PlainLog<C>) ->
 /// Whether that holds over a kind of leaders.
 fn is_told<C: Numbered>(alloc: Global) -> Result<bool, AllocError> {
     let hundred = log_below::<C>(alloc, 100, None)?;
-    let mut purged = log_below::<C>(alloc, 21, None)?;
-    purged.purge_upto = id(1, 4);
-    purged.snapshot = id(1, 6);
+    let purged = purged_log::<C>(alloc)?;
     Ok(can_be_caught_up(&hundred, &purged))
 }
 

@@ -12,7 +12,7 @@ ghost use Rattle.std.specs.Prelude.{◌≡◌, IfSome, IsTrue, None, Ok, Some, f
 
 use crate::support::entry_calls::{Answer, Call, answer_of};
 use crate::support::steps::first_ids;
-use crate::support::values::{at, logs, snapshot, wrong_id};
+use crate::support::values::{at, logs, purged_log, snapshot, wrong_id};
 use raft_base::leader_id_std::CommittedLeaderId;
 use raft_base::{Invalid, LeaderId, LogIdOf, LogStateReader, Validate};
 use raft_base_tests::support::plain_log::{Numbered, PlainLog, id, log_below};
@@ -294,9 +294,7 @@ fn is_as_worked<C: Numbered>(alloc: Global) -> Result<bool, AllocError> {
     let hundred = log_below::<C>(alloc, 100, None)?;
     let ten = log_below::<C>(alloc, 10, None)?;
     let eight = log_below::<C>(alloc, 8, id(5, 4))?;
-    let mut purged = log_below::<C>(alloc, 21, None)?;
-    purged.purge_upto = id(1, 4);
-    purged.snapshot = id(1, 6);
+    let purged = purged_log::<C>(alloc)?;
     let mut far = log_below::<C>(alloc, 10, None)?;
     far.purge_upto = id(1, u64::MAX);
     Ok(
@@ -394,7 +392,7 @@ fn a_caller_takes_acks(rt: HostRuntime) -> Result<(), Fail> {
 }
 
 /// A log from 0 to 20 that is purged up to 20, with a snapshot of all of it.
-fn purged_log(alloc: Global) -> Result<PlainLog<LeaderId<u64>>, AllocError> {
+fn wholly_purged_log(alloc: Global) -> Result<PlainLog<LeaderId<u64>>, AllocError> {
     let mut log = log_below(alloc, 21, None)?;
     log.purge_upto = id(1, 20);
     log.snapshot = id(1, 20);
@@ -422,7 +420,7 @@ fn sends_again(log: &PlainLog<LeaderId<u64>>) -> bool {
 
 #[test]
 fn a_lost_snapshot_is_sent_again(rt: HostRuntime) -> Result<(), Fail> {
-    let log = purged_log(rt.alloc())?;
+    let log = wholly_purged_log(rt.alloc())?;
     assert!(rt; sends_again(&log));
     Ok(())
 }

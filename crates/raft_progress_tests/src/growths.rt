@@ -5,9 +5,10 @@ use crate::support::members::{TrackedNumbers, members};
 use crate::support::quorums::of_five;
 use crate::support::rows::{self, Numbers};
 use crate::support::steps::updated;
+use crate::support::values::purged_log;
 use raft_base::{EmptyNode, LeaderId};
 use raft_base_tests::support::growths::{Call, Growth, is_free, is_swept, refuse_each};
-use raft_base_tests::support::plain_log::{PlainLog, id, log_below};
+use raft_base_tests::support::plain_log::{PlainLog, log_below};
 use raft_members::membership::Membership;
 use raft_members::quorum::{AtLeast, QuorumSet};
 use raft_progress::progress::{AnyStep, Progress, Reply, VecProgress, replay_any};
@@ -548,14 +549,6 @@ fn no_growths_of_quorums(rt: HostRuntime) -> Result<(), Fail> {
 }
 
 type Leader = LeaderId<u64>;
-
-/// A log from 0 to 20, to be purged up to index 4.
-fn purged_log(alloc: Global) -> Result<PlainLog<Leader>, AllocError> {
-    let mut log = log_below(alloc, 21, None)?;
-    log.purge_upto = id(1, 4);
-    log.snapshot = id(1, 6);
-    Ok(log)
-}
 
 /// Whether replies, sends and searches of entries are as worked, and entries are validated.
 fn searches_are_as_worked(log: &PlainLog<Leader>, purged: &PlainLog<Leader>) -> bool {

@@ -2,7 +2,7 @@
 ghost use Rattle.raft_progress.specs.search.Search.{CanSearch, stretch};
 ghost use Rattle.std.specs.Prelude.{◌<◌, ◌≤◌};
 
-use crate::support::values::{at, logs, snapshot};
+use crate::support::values::{at, logs, purged_log, snapshot};
 use raft_base::LeaderId;
 use raft_base::leader_id_std::CommittedLeaderId;
 use raft_base_tests::support::plain_log::{Numbered, PlainLog, id, log_below};
@@ -100,9 +100,7 @@ pub fn ends_with_a_snapshot<C: Numbered>(purged: &PlainLog<C>, whole: &PlainLog<
 fn is_as_worked<C: Numbered>(alloc: Global) -> Result<bool, AllocError> {
     let hundred = log_below::<C>(alloc, 100, None)?;
     let whole = log_below::<C>(alloc, 21, None)?;
-    let mut purged = log_below::<C>(alloc, 21, None)?;
-    purged.purge_upto = id(1, 4);
-    purged.snapshot = id(1, 6);
+    let purged = purged_log::<C>(alloc)?;
     Ok(halves(&hundred) && ends_with_a_snapshot(&purged, &whole))
 }
 

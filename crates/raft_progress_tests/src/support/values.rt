@@ -1,9 +1,10 @@
-//! What is in flight, entries, and the refusals of replies.
+//! What is in flight, entries, the refusals of replies, and a log that is to be purged.
 
 use raft_base::{LogIdOf, LogIdRangeOf};
-use raft_base_tests::support::plain_log::Numbered;
+use raft_base_tests::support::plain_log::{Numbered, PlainLog, id, log_below};
 use raft_progress::entry::ProgressEntryOf;
 use raft_progress::inflight::{InflightError, InflightOf};
+use std::alloc::{AllocError, Global};
 
 /// Logs in flight.
 pub fn logs<C: Numbered>(
@@ -40,4 +41,12 @@ pub fn at<C: Numbered>(
         inflight,
         searching_end,
     }
+}
+
+/// A log from 0 to 20, to be purged up to index 4, with a snapshot up to index 6.
+pub fn purged_log<C: Numbered>(alloc: Global) -> Result<PlainLog<C>, AllocError> {
+    let mut log = log_below(alloc, 21, None)?;
+    log.purge_upto = id(1, 4);
+    log.snapshot = id(1, 6);
+    Ok(log)
 }
