@@ -5,9 +5,9 @@ use std::test::Fail;
 
 /// Whether the leader of node 4 in a term is committed as told,
 /// and in any term by a committed vote.
-fn is_committed_in(term: u64, granted: bool) -> bool {
+fn is_committed_in(term: u64, is_given: bool) -> bool {
     let leader = LeaderId::new(term, 4u64);
-    let want = if granted { Some(leader) } else { None };
+    let want = if is_given { Some(leader) } else { None };
     Vote::new(term, 4u64).committed_leader_id() == want
         && Vote::new_committed(term, 4u64).committed_leader_id() == Some(leader)
         && leader.to_committed() == CommittedLeaderId::new(term, 4)
@@ -16,8 +16,8 @@ fn is_committed_in(term: u64, granted: bool) -> bool {
 // Nobody has to grant the leader of term 0.
 #[test]
 fn a_leader_is_committed_by_its_vote_or_by_term_zero(rt: HostRuntime) -> Result<(), Fail> {
-    for (term, granted) in [(0, true), (1, false), (2, false)] {
-        assert!(rt; is_committed_in(term, granted), "in term {term}");
+    for (term, is_given) in [(0, true), (1, false), (2, false)] {
+        assert!(rt; is_committed_in(term, is_given), "in term {term}");
     }
     Ok(())
 }

@@ -1,4 +1,4 @@
-//! Progress entries: worked replies and sends, validity, and callers that take acks and send.
+//! Progress entries: worked responses and sends, validity, and callers that take acks and send.
 ghost use Rattle.raft_base.specs.LogId.{id_le, log_id_cmp};
 ghost use Rattle.raft_base.specs.Validate.{first_false};
 ghost use Rattle.raft_progress.specs.declared.entry.ProgressEntryOf.{ProgressEntryOf};
@@ -95,7 +95,7 @@ fn refuses<C: Numbered>(
     leads(log, entry, call, Answer::Taken(want), entry)
 }
 
-/// Whether a reply is taken, and leaves the entry as wanted.
+/// Whether a response is taken, and leaves the entry as wanted.
 fn takes<C: Numbered>(
     log: &PlainLog<C>,
     from: ProgressEntryOf<C>,
@@ -214,8 +214,8 @@ pub fn takes_heartbeats<C: Numbered>(log: &PlainLog<C>) -> bool {
         && takes(log, matched(10), Call::Conflict(None, 5), matched(5))
 }
 
-/// Whether replies of a stranger to logs are refused, and a heartbeat leaves an
-/// entry that is invalid until the reply.
+/// Whether responses of a stranger to logs are refused, and a heartbeat leaves an
+/// entry that is invalid until the response.
 pub fn stands_strangers<C: Numbered>(log: &PlainLog<C>) -> bool {
     let sending = logs(1, id(1, 47), id(1, 57));
     let entry = at(None, 100, 1, sending);
@@ -238,7 +238,7 @@ pub fn stands_strangers<C: Numbered>(log: &PlainLog<C>) -> bool {
         && answered.validate() == Ok(())
 }
 
-/// Whether replies below the match are refused, and what is in flight stays.
+/// Whether responses below the match are refused, and what is in flight stays.
 fn stands_regress<C: Numbered>(log: &PlainLog<C>) -> bool {
     let entry = ProgressEntryOf::new(id(1, 8)).with_inflight(logs(0, id(1, 2), id(1, 9)));
     let regress = Err(InflightError::MatchingRegress);
@@ -259,7 +259,7 @@ fn sends_next<C: Numbered>(
     sent_next(&mut entry, log) == want
 }
 
-/// Whether replies to a snapshot are taken up to the greatest
+/// Whether responses to a snapshot are taken up to the greatest
 /// index but one, in a log that ends at 9.
 fn stands_snapshots<C: Numbered>(log: &PlainLog<C>) -> bool {
     let entry = at(None, 9, 0, snapshot(2, id(1, 8)));
@@ -311,7 +311,7 @@ fn is_as_worked<C: Numbered>(alloc: Global) -> Result<bool, AllocError> {
 }
 
 #[test]
-fn replies_and_sends_are_as_worked(rt: HostRuntime) -> Result<(), Fail> {
+fn responses_and_sends_are_as_worked(rt: HostRuntime) -> Result<(), Fail> {
     assert!(rt; is_as_worked::<LeaderId<u64>>(rt.alloc())?);
     assert!(rt; is_as_worked::<CommittedLeaderId>(rt.alloc())?);
     Ok(())
@@ -399,7 +399,7 @@ fn wholly_purged_log(alloc: Global) -> Result<PlainLog<LeaderId<u64>>, AllocErro
     Ok(log)
 }
 
-/// Whether a snapshot that is lost is sent once more, and late replies to the first are refused.
+/// Whether a snapshot that is lost is sent once more, and late responses to the first are refused.
 fn sends_again(log: &PlainLog<LeaderId<u64>>) -> bool {
     let mut entry = ProgressEntry::<u64>::empty(21);
     let first = sent_next(&mut entry, log);

@@ -1,5 +1,5 @@
-//! Ten thousand events, each given to an entry and to a plain table: a follower may reply anything.
-//! A thousand entries take ten each, and one takes all. The same without acks, as searches.
+//! Ten thousand events, each given to an entry and to a plain table: a follower may respond
+//! anything. A thousand entries take ten each, and one takes all. The same without acks, as searches.
 ghost use Rattle.std.specs.Prelude.{◌≤◌};
 
 use crate::support::entry_calls::{Answer, Call, answer_of};

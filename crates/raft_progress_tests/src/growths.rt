@@ -550,7 +550,7 @@ fn no_growths_of_quorums(rt: HostRuntime) -> Result<(), Fail> {
 
 type Leader = LeaderId<u64>;
 
-/// Whether replies, sends and searches of entries are as worked, and entries are validated.
+/// Whether responses, sends and searches of entries are as worked, and entries are validated.
 fn searches_are_as_worked(log: &PlainLog<Leader>, purged: &PlainLog<Leader>) -> bool {
     entry::searches(log)
         && entry::takes_heartbeats(log)
@@ -574,6 +574,6 @@ fn no_growths_of_searches(rt: HostRuntime) -> Result<(), Fail> {
         && inflight::conflicts_are_answered::<Leader>()
         && inflight::logs_read_back()
         && inflight::others_read_back();
-    assert!(rt; is_free(&rt, alloc, "Inflight, replies and reads", is_right)?);
+    assert!(rt; is_free(&rt, alloc, "Inflight, responses and reads", is_right)?);
     Ok(())
 }

@@ -1,4 +1,4 @@
-//! What is in flight: worked replies and reads.
+//! What is in flight: worked responses and reads.
 
 use crate::support::values::{logs, snapshot, wrong_id};
 use raft_base::leader_id_std::CommittedLeaderId;
@@ -116,7 +116,7 @@ pub fn others_read_back() -> bool {
 }
 
 #[test]
-fn replies_are_answered_case_by_case(rt: HostRuntime) -> Result<(), Fail> {
+fn responses_are_answered_case_by_case(rt: HostRuntime) -> Result<(), Fail> {
     assert!(rt; acks_are_answered::<LeaderId<u64>>() && acks_are_answered::<CommittedLeaderId>());
     assert!(rt;
         conflicts_are_answered::<LeaderId<u64>>() && conflicts_are_answered::<CommittedLeaderId>()

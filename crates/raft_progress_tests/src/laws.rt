@@ -77,7 +77,7 @@ fn acked<
     let _ = progress.update(id, value);
 }
 
-/// Takes the value of a reply where it is greater than what is there, which is a step of a run.
+/// Takes the value of a response where it is greater than what is there, which is a step of a run.
 fn heard<
     ID: Copy + Ord,
     V: ProgressPart<P> + PartialOrd + Clone + Drop,

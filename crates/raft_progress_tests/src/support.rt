@@ -1,5 +1,5 @@
-//! What tests share: steps of a progress, calls of an entry with a table of their answers, values and
-//! worked rows.
+//! What tests share: steps of a progress, calls of an entry with a table of their answers,
+//! memberships, quorums of a stated size, values and worked rows.
 
 pub mod entry_calls;
 pub mod members;

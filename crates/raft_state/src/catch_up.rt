@@ -36,7 +36,7 @@ impl<
             && can_catch_up_entry(self, entry, agree, max_entries)
     }
 
-    /// Sends to a follower whose log agrees with this one below an index, and takes its replies,
+    /// Sends to a follower whose log agrees with this one below an index, and takes its responses,
     /// until it has all. Answers how many conflicts came, and how many acks; see
     /// [`catch_up_entry`].
     pub fn catch_up(

@@ -1,5 +1,5 @@
-//! The tests for the conditions of calls: that learners fit, that a progress is in order, that no
-//! inherited value is below a default, and that no value's part falls.
+//! The tests for the conditions of calls: that learners fit, that a progress is in order, and that no
+//! value's part falls; and which ids a new quorum set and its learners have.
 ghost use Rattle.std.specs.Prelude.{◌≡◌};
 ghost use Rattle.std.specs.List.{list_all, list_any};
 ghost use Rattle.std.specs.Option.{option_copied};

@@ -39,7 +39,7 @@ fn is_greatest(id: Option<LogId<u64>>) -> bool {
     index(id) == Some(u64::MAX)
 }
 
-/// What replies leave in flight, by the table: an ack of all up to a log id.
+/// What responses leave in flight, by the table: an ack of all up to a log id.
 fn table_ack(
     inflight: Inflight<u64>,
     request_id: u64,

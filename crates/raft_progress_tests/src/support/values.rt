@@ -1,4 +1,4 @@
-//! What is in flight, entries, the refusals of replies, and a log that is to be purged.
+//! What is in flight, entries, the refusals of responses, and a log that is to be purged.
 
 use raft_base::{LogIdOf, LogIdRangeOf};
 use raft_base_tests::support::plain_log::{Numbered, PlainLog, id, log_below};
@@ -23,7 +23,7 @@ pub fn snapshot<C: Numbered>(id: u64, last_log_id: Option<LogIdOf<C>>) -> Inflig
     InflightOf::Snapshot { id, last_log_id }
 }
 
-/// The refusal of a reply to another request.
+/// The refusal of a response to another request.
 pub fn wrong_id(mine: Option<u64>, received: u64) -> Result<(), InflightError> {
     Err(InflightError::InvalidRequestId { mine, received })
 }
