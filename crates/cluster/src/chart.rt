@@ -3,9 +3,8 @@
 use crate::network::Network;
 use crate::server::{Role, Server, greatest_leader};
 use crate::types::{Members, end};
-use anyhow::Result;
 use raft_base::{LeaderKind, LogIdOptionExt, LogStateReader};
-use std::alloc::Global;
+use std::alloc::AllocError;
 
 /// How many indexes of a log are shown.
 const WIDTH: u64 = 8;
@@ -18,40 +17,45 @@ quorum has, the voters (of both configs of a joint membership), +learners, and w
 event 1           2           3           4           5          has members
 ";
 
-/// A line of a cluster.
+/// Writes what all servers are, what the greatest leader knows a quorum to have, and its members.
 pub fn line<K: LeaderKind<u64>>(
-    alloc: Global,
-    event: u64,
+    text: &mut String,
     servers: &[Server<K>],
     network: &Network<K>,
-) -> Result<String> {
+) -> Result<(), AllocError> {
+    let last = longest(servers);
+    for server in servers {
+        text.push(if network.is_cut_off(server.id) {
+            '*'
+        } else {
+            ' '
+        })?;
+        show(text, server, last)?;
+    }
+    let Some(leader) = greatest_leader(servers) else {
+        return Ok(());
+    };
+    if let Some(granted) = leader.followers.granted() {
+        write!(text, " {:>3}", granted.index)?;
+    }
+    describe(text, leader.members())
+}
+
+/// The index after the longest log, or that after the first ones.
+fn longest<K: LeaderKind<u64>>(servers: &[Server<K>]) -> u64 {
     let mut last = WIDTH;
     for server in servers {
         last = end(server.last()).max(last);
     }
-    let mut text = format!(in alloc; "{event:>4} ")?;
-    for server in servers {
-        let sign = if network.is_cut_off(server.id) {
-            '*'
-        } else {
-            ' '
-        };
-        text.push(sign)?;
-        show(&mut text, server, last)?;
-    }
-    if let Some(leader) = greatest_leader(servers) {
-        if let Role::Leader(followers) = &leader.role {
-            if let Some(granted) = followers.granted() {
-                write!(text, " {:>3}", granted.index)?;
-            }
-        }
-        describe(&mut text, leader.members())?;
-    }
-    Ok(text)
+    last
 }
 
 /// What a server is, its term, and its log up to an index.
-fn show<K: LeaderKind<u64>>(text: &mut String, server: &Server<K>, last: u64) -> Result<()> {
+fn show<K: LeaderKind<u64>>(
+    text: &mut String,
+    server: &Server<K>,
+    last: u64,
+) -> Result<(), AllocError> {
     let term = K::term(server.vote().leader_id());
     write!(text, "{}{term:<2}", letter(server))?;
     for index in last.saturating_sub(WIDTH)..last {
@@ -62,9 +66,9 @@ fn show<K: LeaderKind<u64>>(text: &mut String, server: &Server<K>, last: u64) ->
 
 /// The letter of what a server is.
 fn letter<K: LeaderKind<u64>>(server: &Server<K>) -> char {
-    match &server.role {
-        Role::Leader(_) => 'L',
-        Role::Candidate(_) => 'C',
+    match server.role {
+        Role::Leader => 'L',
+        Role::Candidate => 'C',
         Role::Follower if server.state.is_voter(&server.id) => 'F',
         Role::Follower => 'l',
     }
@@ -85,7 +89,7 @@ fn mark<K: LeaderKind<u64>>(server: &Server<K>, index: u64) -> char {
 }
 
 /// The configs, and the learners.
-fn describe(text: &mut String, members: &Members) -> Result<()> {
+fn describe(text: &mut String, members: &Members) -> Result<(), AllocError> {
     let mut sign = ' ';
     for config in members.get_joint_config() {
         text.push(sign)?;

@@ -3,20 +3,17 @@
 use crate::acts::SERVERS;
 use crate::chart;
 use crate::dice::Dice;
-use crate::events::{Counts, Event};
+use crate::events::{Event, Notes};
 use crate::fault::Fault;
 use crate::network::Network;
-use crate::safety::{History, check_pair, check_server};
+use crate::safety::History;
 use crate::server::{Server, greatest_leader};
-use crate::types::{FollowerProgress, LogId, Members};
-use anyhow::{Result, bail};
+use crate::types::{FollowerProgress, LogId, Members, Payload};
+use anyhow::Result;
 use raft_base::{EmptyNode, LeaderKind};
 use raft_progress::ProgressPart;
-use std::alloc::Global;
+use std::alloc::{AllocError, Global};
 use std::collections::BTreeMap;
-
-/// How long the notes of a line may be.
-const NOTES: usize = 18;
 
 /// A cluster.
 #[derive(Drop)]
@@ -25,56 +22,49 @@ where
     Option<LogId<K>>: Ord,
     FollowerProgress<K>: ProgressPart<Option<LogId<K>>>,
 {
-    alloc: Global,
     servers: Vec<Server<K>>,
     network: Network<K>,
     dice: Dice,
     now: u64,
     history: History<K>,
-    /// What has happened since the last line of its chart.
-    notes: String,
-    /// What has happened so far.
-    pub counts: Counts,
+    pub notes: Notes,
 }
 
 impl<K: LeaderKind<u64>> Cluster<K> {
-    /// A cluster of the first three servers, which the first of them begins.
-    pub fn new(alloc: Global, seed: u64, fault: Option<Fault>) -> Result<Self> {
-        let mut servers = Vec::new(alloc);
-        let mut nodes = BTreeMap::new(alloc);
-        for id in 1..=SERVERS {
-            servers.push(Server::new(alloc, id, fault)?)?;
-            if id <= 3 {
-                nodes.insert(id, EmptyNode::new())?;
-            }
-        }
-        if let Some(first) = servers.first_mut() {
-            first.initialize(Members::from_nodes(alloc, nodes)?)?;
-        }
-        Ok(Cluster {
-            alloc,
-            servers,
+    /// A cluster without servers.
+    pub fn new(alloc: Global, seed: u64) -> Self {
+        Cluster {
+            servers: Vec::new(alloc),
             network: Network::new(alloc),
             dice: Dice::new(seed),
             now: 0,
             history: History::new(alloc),
-            notes: String::new(alloc),
-            counts: Counts::new(alloc),
-        })
+            notes: Notes::new(alloc),
+        }
     }
 
-    /// A line of its chart.
-    pub fn line(&mut self) -> Result<String> {
-        let mut line = chart::line(self.alloc, self.now, &self.servers, &self.network)?;
-        write!(line, " {}", self.notes)?;
-        self.notes.clear();
-        Ok(line)
+    /// Starts the servers. The first of them begins a cluster of the first three.
+    pub fn start(&mut self, alloc: Global, fault: Option<Fault>) -> Result<()> {
+        for id in 1..=SERVERS {
+            self.servers.push(Server::new(alloc, id, fault)?)?;
+        }
+        match self.servers.first_mut() {
+            Some(first) => first.write(Payload::Membership(first_members(alloc)?)),
+            None => Ok(()),
+        }
+    }
+
+    /// Writes a line of its chart.
+    pub fn line(&mut self, text: &mut String) -> Result<(), AllocError> {
+        write!(text, "{:>4} ", self.now)?;
+        chart::line(text, &self.servers, &self.network)?;
+        self.notes.end_line(text)
     }
 
     /// Something happens, and all is still well.
     pub fn step(&mut self) -> Result<()> {
         self.now = self.now.saturating_add(1);
-        self.counts.add(Event::Any, 1)?;
+        self.notes.counts.add(Event::Any, 1);
         let bound = if self.network.is_rough { 100 } else { 81 };
         match self.dice.below(bound) {
             0..=55 => self.deliver(),
@@ -89,71 +79,32 @@ impl<K: LeaderKind<u64>> Cluster<K> {
             return Ok(());
         };
         let place = envelope.to.saturating_sub(1) as usize;
-        let Some(server) = self.servers.get_mut(place) else {
-            bail!("no server {}", envelope.to);
-        };
-        server.receive(self.now, &envelope, &mut self.network.mail)?;
-        let event = server.event.take();
-        self.look_after(place, event)
+        if let Some(server) = self.servers.get_mut(place) {
+            server.receive(self.now, &envelope, &mut self.network.mail)?;
+        }
+        self.look_after(place)
     }
 
     /// A server does something unasked.
     fn act(&mut self, what: u64) -> Result<()> {
         let place = self.dice.below(SERVERS) as usize;
-        let Some(server) = self.servers.get_mut(place) else {
-            bail!("no server at {place}");
-        };
-        server.act(what, self.now, &mut self.network.mail, &mut self.dice)?;
-        let event = server.event.take();
-        self.look_after(place, event)
+        if let Some(server) = self.servers.get_mut(place) {
+            server.act(what, self.now, &mut self.network.mail, &mut self.dice)?;
+        }
+        self.look_after(place)
     }
 
     /// The network is cut in two, or heals.
     fn part(&mut self) -> Result<()> {
-        let event = if self.network.heal() {
-            Event::Healed
-        } else {
-            self.network.cut(SERVERS, &mut self.dice)?;
-            Event::Parted
-        };
-        self.note(None, event)
-    }
-
-    /// Looks whether all is well after something at a server, and notes what has become of it.
-    fn look_after(&mut self, place: usize, event: Option<Event>) -> Result<()> {
-        let Some(server) = self.servers.get(place) else {
-            bail!("no server at {place}");
-        };
-        check_server(server)?;
-        for other in &self.servers {
-            check_pair(server, other)?;
-        }
-        let id = server.id;
-        let commits = self.history.commit(server)?;
-        if commits > 0 || event == Some(Event::Elected) {
-            for other in &self.servers {
-                self.history.check_leader(other)?;
-            }
-        }
-        self.counts.add(Event::Committed, commits)?;
-        match event {
-            Some(event) => self.note(Some(id), event),
-            None => Ok(()),
-        }
-    }
-
-    /// Counts something, and notes it at the end of a line, as far as there is room.
-    fn note(&mut self, id: Option<u64>, event: Event) -> Result<()> {
-        self.counts.add(event, 1)?;
-        let sign = if self.notes.is_empty() { "" } else { ", " };
-        let more = match id {
-            Some(id) => format!(in self.alloc; "{sign}{id} {event}")?,
-            None => format!(in self.alloc; "{sign}{event}")?,
-        };
-        if self.notes.len().saturating_add(more.len()) <= NOTES {
-            self.notes.push_str(&more)?;
-        }
+        let event = self.network.part(&mut self.dice)?;
+        self.notes.note(None, event)?;
         Ok(())
+    }
+
+    /// Looks whether all is well after something at a server.
+    fn look_after(&mut self, place: usize) -> Result<()> {
+        self.history
+            .look_after(&self.servers, place, &mut self.notes)
     }
 
     /// The network is mended, and after some time a leader and all its members have committed the
@@ -161,26 +112,35 @@ impl<K: LeaderKind<u64>> Cluster<K> {
     pub fn settle(&mut self, events: u64) -> Result<bool> {
         self.network.mend();
         for _ in 0..events {
-            if self.is_settled() {
+            if is_settled(&self.servers) {
                 return Ok(true);
             }
             self.step()?;
         }
         Ok(false)
     }
+}
 
-    /// Whether a leader and all its members have committed its whole log, and no change is half done.
-    fn is_settled(&self) -> bool {
-        let Some(leader) = greatest_leader(&self.servers) else {
-            return false;
-        };
-        let last = leader.last();
-        for server in &self.servers {
-            let is_even = server.last() == last && server.state.committed == last;
-            if leader.members().contains(&server.id) && !is_even {
-                return false;
-            }
-        }
-        !leader.members().is_in_joint_consensus()
+/// The members that a cluster begins with: the first three servers.
+fn first_members(alloc: Global) -> Result<Members, AllocError> {
+    let mut nodes = BTreeMap::new(alloc);
+    for id in 1..=3 {
+        nodes.insert(id, EmptyNode::new())?;
     }
+    Members::from_nodes(alloc, nodes)
+}
+
+/// Whether a leader and all its members have committed its whole log, and no change is half done.
+fn is_settled<K: LeaderKind<u64>>(servers: &[Server<K>]) -> bool {
+    let Some(leader) = greatest_leader(servers) else {
+        return false;
+    };
+    let last = leader.last();
+    for server in servers {
+        let is_even = server.last() == last && server.state.committed == last;
+        if leader.members().contains(&server.id) && !is_even {
+            return false;
+        }
+    }
+    !leader.members().is_in_joint_consensus()
 }

@@ -1,11 +1,13 @@
 //! What happens in a cluster: how often, and what a chart notes of it.
 
 use std::alloc::{AllocError, Global};
-use std::collections::BTreeMap;
 use std::fmt;
 
+/// How long the notes of a line may be.
+const NOTES: usize = 18;
+
 /// Something that happens.
-#[derive(Clone, Copy, PartialEq, Eq, PartialOrd, Ord)]
+#[derive(Clone, Copy, PartialEq, Eq)]
 pub enum Event {
     /// Anything.
     Any,
@@ -31,69 +33,108 @@ pub enum Event {
     Settled,
 }
 
-impl fmt::Display for Event {
-    fn fmt<W: fmt::Write>(&self, f: &mut fmt::Formatter<W>) -> fmt::Result {
-        f.write_str(match self {
-            Event::Any => "events",
-            Event::Elected => "elected",
-            Event::Changed => "changes",
-            Event::Committed => "committed",
-            Event::CutBack => "cut back",
-            Event::Installed => "installs",
-            Event::Restarted => "restarts",
-            Event::Parted => "cut",
-            Event::Healed => "healed",
-            Event::Safe => "safe",
-            Event::Settled => "settled",
-        })
-    }
+/// The words for all that happens, in the order of `Event`.
+const WORDS: [&str; 11] = [
+    "events",
+    "elected",
+    "changes",
+    "committed",
+    "cut back",
+    "installs",
+    "restarts",
+    "cut",
+    "healed",
+    "safe",
+    "settled",
+];
+
+/// How often things happened, in the order of `Event`.
+#[derive(Clone, Copy)]
+pub struct Counts {
+    counts: [u64; 11],
 }
 
-/// How often things happened.
-#[derive(Drop)]
-pub struct Counts {
-    counts: BTreeMap<Event, u64>,
+impl Event {
+    /// The word for it.
+    pub fn word(self) -> &'static str {
+        WORDS[self as usize]
+    }
 }
 
 impl Counts {
     /// Nothing has happened.
-    pub fn new(alloc: Global) -> Self {
-        Counts {
-            counts: BTreeMap::new(alloc),
-        }
+    pub fn new() -> Self {
+        Counts { counts: [0; 11] }
     }
 
     /// How often something happened.
     pub fn of(&self, event: Event) -> u64 {
-        self.counts.get(&event).copied().unwrap_or(0)
+        self.counts[event as usize]
     }
 
     /// Something happens so many times more.
-    pub fn add(&mut self, event: Event, more: u64) -> Result<(), AllocError> {
-        let count = self.of(event).saturating_add(more);
-        self.counts.insert(event, count)?;
-        Ok(())
+    pub fn add(&mut self, event: Event, more: u64) {
+        let count = &mut self.counts[event as usize];
+        *count = count.saturating_add(more);
     }
 
     /// All happens that another one has counted.
-    pub fn add_all(&mut self, other: &Counts) -> Result<(), AllocError> {
-        for (event, count) in &other.counts {
-            self.add(*event, *count)?;
+    pub fn add_all(&mut self, other: &Counts) {
+        for (count, more) in self.counts.iter_mut().zip(&other.counts) {
+            *count = count.saturating_add(*more);
         }
-        Ok(())
     }
 }
 
 impl fmt::Display for Counts {
     fn fmt<W: fmt::Write>(&self, f: &mut fmt::Formatter<W>) -> fmt::Result {
-        for (place, (event, count)) in self.counts.iter().enumerate() {
-            match place {
-                0 => {}
-                6 => f.write_str(",\n")?,
-                _ => f.write_str(", ")?,
-            }
-            write!(f, "{count} {event}")?;
+        for (place, (count, word)) in self.counts.iter().zip(&WORDS).enumerate() {
+            f.write_str(match place {
+                0 => "",
+                6 => ",\n",
+                _ => ", ",
+            })?;
+            write!(f, "{count} {word}")?;
         }
+        Ok(())
+    }
+}
+
+/// How often things happened, and what is noted of them at the end of a line.
+#[derive(Drop)]
+pub struct Notes {
+    text: String,
+    pub counts: Counts,
+}
+
+impl Notes {
+    /// Nothing has happened.
+    pub fn new(alloc: Global) -> Self {
+        Notes {
+            text: String::new(alloc),
+            counts: Counts::new(),
+        }
+    }
+
+    /// Counts something, and notes it, if there is room, with the server that it has happened to.
+    pub fn note(&mut self, server: Option<u64>, event: Event) -> Result<(), AllocError> {
+        self.counts.add(event, 1);
+        let (alloc, word) = (*self.text.allocator(), event.word());
+        let sign = if self.text.is_empty() { "" } else { ", " };
+        let more = match server {
+            Some(id) => format!(in alloc; "{sign}{id} {word}")?,
+            None => format!(in alloc; "{sign}{word}")?,
+        };
+        if self.text.len().saturating_add(more.len()) <= NOTES {
+            self.text.push_str(&more)?;
+        }
+        Ok(())
+    }
+
+    /// Ends a line with what is noted, and begins anew.
+    pub fn end_line(&mut self, line: &mut String) -> Result<(), AllocError> {
+        write!(line, " {}", self.text)?;
+        self.text.clear();
         Ok(())
     }
 }

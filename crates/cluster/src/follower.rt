@@ -3,14 +3,18 @@
 use crate::events::Event;
 use crate::fault::Fault;
 use crate::server::Server;
-use crate::types::{LogId, Snapshot};
+use crate::storage;
+use crate::types::{LogId, Snapshot, State, Vote};
 use anyhow::{Result, ensure};
 use raft_base::{LeaderKind, LogStateReader, log_id_below};
 use raft_state_tests::turn::{Logs, Outcome, take_logs};
 
 impl<K: LeaderKind<u64>> Server<K> {
-    /// Takes a leader's logs.
-    pub fn append(&mut self, now: u64, logs: &Logs<K>) -> Result<Outcome<K>> {
+    /// Takes a leader's logs, unless it has promised a greater vote.
+    pub fn append(&mut self, now: u64, vote: Vote<K>, logs: &Logs<K>) -> Result<Outcome<K>> {
+        if !self.promise(now, vote) {
+            return Ok(Outcome::Refused);
+        }
         self.is_behind = false;
         if self.skips_writing(now, logs) {
             return Ok(Outcome::Matches(logs.last()));
@@ -38,31 +42,37 @@ impl<K: LeaderKind<u64>> Server<K> {
         }
     }
 
-    /// Takes a leader's snapshot, unless it has nothing new.
-    pub fn install(&mut self, snapshot: &Snapshot<K>) -> Result<Outcome<K>> {
+    /// Takes a leader's snapshot, unless it has promised a greater vote or there is nothing new.
+    pub fn install(
+        &mut self,
+        now: u64,
+        vote: Vote<K>,
+        snapshot: &Snapshot<K>,
+    ) -> Result<Outcome<K>> {
+        if !self.promise(now, vote) {
+            return Ok(Outcome::Refused);
+        }
         self.is_behind = false;
         if log_id_below(self.state.committed, snapshot.last_log_id) {
-            ensure!(
-                self.state.can_install_snapshot(snapshot),
-                "a snapshot does not fit"
-            );
-            self.state.install_snapshot(snapshot.try_clone()?)?;
-            self.note_snapshot(snapshot.last_log_id);
-            self.cut_disk();
+            install::<K>(&mut self.state, snapshot)?;
+            storage::cut::<K>(&mut self.disk, &self.state);
             self.event = Some(Event::Installed);
         }
         Ok(Outcome::Matches(snapshot.last_log_id))
     }
+}
 
-    /// Notes that storage has a snapshot, which is applied, and has purged the log up to it.
-    fn note_snapshot(&mut self, upto: Option<LogId<K>>) {
-        let io_state = self.state.io_state_mut();
-        if log_id_below(io_state.applied, upto) {
-            io_state.update_applied(upto);
-        }
-        if log_id_below(io_state.snapshot, upto) {
-            io_state.update_snapshot(upto);
-        }
-        io_state.update_purged(upto);
-    }
+/// Installs a snapshot, which storage then has, and has applied, with the log purged up to it.
+fn install<K: LeaderKind<u64>>(state: &mut State<K>, snapshot: &Snapshot<K>) -> Result<()> {
+    ensure!(
+        state.can_install_snapshot(snapshot),
+        "a snapshot does not fit"
+    );
+    state.install_snapshot(snapshot.try_clone()?)?;
+    let upto = snapshot.last_log_id;
+    let io_state = state.io_state_mut();
+    io_state.applied = io_state.applied.max(upto);
+    io_state.snapshot = io_state.snapshot.max(upto);
+    io_state.purged = upto;
+    Ok(())
 }

@@ -37,44 +37,61 @@ use std::env;
 const SETTLE: u64 = 4000;
 
 /// What is asked for.
-#[derive(Drop)]
+#[derive(Clone, Copy)]
 struct Plan {
-    numbers: Vec<u64>,
+    first: u64,
+    count: u64,
+    events: u64,
+    every: u64,
     is_standard: bool,
     fault: Option<Fault>,
 }
 
 impl Plan {
     /// A plan of a program's words.
-    fn of(alloc: Global, words: &[String]) -> Result<Plan> {
-        let mut plan = Plan {
-            numbers: Vec::new(alloc),
-            is_standard: false,
-            fault: None,
-        };
+    fn of(words: &[String]) -> Result<Plan> {
+        let mut numbers = [1, 1, 1000, 20];
+        let mut places = numbers.iter_mut();
+        let (mut is_standard, mut fault) = (false, None);
         for word in words {
             if let Ok(number) = word.parse::<u64>() {
-                plan.numbers.push(number)?;
-            } else if let Some(fault) = Fault::named(word.as_str()) {
-                plan.fault = Some(fault);
+                if let Some(place) = places.next() {
+                    *place = number;
+                }
+            } else if let Some(named) = Fault::named(word.as_str()) {
+                fault = Some(named);
             } else {
-                plan.is_standard = match word.as_str() {
+                is_standard = match word.as_str() {
                     "standard" => true,
                     "default" => false,
                     _ => bail!("no such word as {word}"),
                 };
             }
         }
-        Ok(plan)
-    }
-
-    /// The number at a place.
-    fn number(&self, place: usize, default: u64) -> u64 {
-        self.numbers.get(place).copied().unwrap_or(default)
+        let [first, count, events, every] = numbers;
+        Ok(Plan {
+            first,
+            count,
+            events,
+            every,
+            is_standard,
+            fault,
+        })
     }
 }
 
-/// Runs a cluster of a seed. What happened is added to what has.
+/// Runs a cluster of each seed, and answers what happened.
+fn run_all<K: LeaderKind<u64>>(rt: &impl Print, alloc: Global, plan: &Plan) -> Result<Counts> {
+    let mut total = Counts::new();
+    for seed in plan.first..plan.first.saturating_add(plan.count) {
+        if let Err(error) = run::<K>(rt, alloc, plan, seed, &mut total) {
+            println!(rt; "seed {seed}: {error:#}")?;
+        }
+    }
+    Ok(total)
+}
+
+/// Runs a cluster of a seed. What happens is added to what has.
 fn run<K: LeaderKind<u64>>(
     rt: &impl Print,
     alloc: Global,
@@ -82,63 +99,62 @@ fn run<K: LeaderKind<u64>>(
     seed: u64,
     total: &mut Counts,
 ) -> Result<()> {
-    let mut cluster = Cluster::<K>::new(alloc, seed, plan.fault)?;
-    let is_settled = play::<K>(rt, &mut cluster, plan)?;
-    total.add_all(&cluster.counts)?;
-    total.add(Event::Safe, 1)?;
-    ensure!(is_settled, "it does not settle");
-    total.add(Event::Settled, 1)?;
-    Ok(())
+    let mut cluster = Cluster::<K>::new(alloc, seed);
+    play::<K>(rt, alloc, plan, &mut cluster, total)
 }
 
-/// Lets events happen to a cluster, and draws its chart. True if it settles in the end.
+/// Lets events happen to a cluster, and draws its chart.
 fn play<K: LeaderKind<u64>>(
     rt: &impl Print,
-    cluster: &mut Cluster<K>,
+    alloc: Global,
     plan: &Plan,
-) -> Result<bool> {
-    let every = plan.number(3, 20);
-    for event in 0..plan.number(2, 1000) {
-        if event.checked_rem(every) == Some(0) {
-            draw::<K>(rt, cluster)?;
+    cluster: &mut Cluster<K>,
+    total: &mut Counts,
+) -> Result<()> {
+    cluster.start(alloc, plan.fault)?;
+    for event in 0..plan.events {
+        if event.checked_rem(plan.every) == Some(0) {
+            draw::<K>(rt, alloc, cluster)?;
         }
         cluster.step().context(format_args!("event {event}"))?;
     }
     let is_settled = cluster.settle(SETTLE).context("at the end")?;
-    if every > 0 {
-        draw::<K>(rt, cluster)?;
+    if plan.every > 0 {
+        draw::<K>(rt, alloc, cluster)?;
     }
-    Ok(is_settled)
+    total.add_all(&cluster.notes.counts);
+    total.add(Event::Safe, 1);
+    ensure!(is_settled, "it does not settle");
+    total.add(Event::Settled, 1);
+    Ok(())
 }
 
 /// Prints a line of a cluster's chart.
-fn draw<K: LeaderKind<u64>>(rt: &impl Print, cluster: &mut Cluster<K>) -> Result<()> {
-    let line = cluster.line()?;
+fn draw<K: LeaderKind<u64>>(
+    rt: &impl Print,
+    alloc: Global,
+    cluster: &mut Cluster<K>,
+) -> Result<()> {
+    let mut line = String::new(alloc);
+    cluster.line(&mut line)?;
     println!(rt; "{}", line.trim_end())?;
     Ok(())
 }
 
 fn main(rt: HostRuntime) -> Result<()> {
     let words: Vec<String> = env::args(&rt)?.skip(1).collect(rt.alloc())?;
-    let plan = Plan::of(rt.alloc(), &words)?;
-    if plan.number(3, 20) > 0 {
+    let plan = Plan::of(&words)?;
+    if plan.every > 0 {
         print!(rt; "{}", chart::LEGEND)?;
     }
-    let (first, count) = (plan.number(0, 1), plan.number(1, 1));
-    let mut total = Counts::new(rt.alloc());
-    for seed in first..first.saturating_add(count) {
-        let done = if plan.is_standard {
-            run::<LeaderStd>(&rt, rt.alloc(), &plan, seed, &mut total)
-        } else {
-            run::<LeaderAdv>(&rt, rt.alloc(), &plan, seed, &mut total)
-        };
-        if let Err(error) = done {
-            println!(rt; "seed {seed}: {error:#}")?;
-        }
-    }
+    let total = if plan.is_standard {
+        run_all::<LeaderStd>(&rt, rt.alloc(), &plan)?
+    } else {
+        run_all::<LeaderAdv>(&rt, rt.alloc(), &plan)?
+    };
     println!(rt; "{total}")?;
     ensure!(
-        total.of(Event::Settled) == count,
+        total.of(Event::Settled) == plan.count,
         "not all runs were safe and settled"
     );
     Ok(())

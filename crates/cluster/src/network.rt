@@ -1,10 +1,11 @@
 //! The network: messages get lost, come twice and out of order, and a cut keeps some servers apart.
 
+use crate::acts::SERVERS;
 use crate::dice::Dice;
+use crate::events::Event;
 use crate::message::{Envelope, Mail};
-use anyhow::Result;
 use raft_base::LeaderKind;
-use std::alloc::Global;
+use std::alloc::{AllocError, Global};
 use std::rc::Rc;
 
 /// The messages on their way, and the servers that are cut off.
@@ -31,21 +32,18 @@ impl<K: LeaderKind<u64>> Network<K> {
         self.cut.contains(&id)
     }
 
-    /// Cuts off some of the servers up to a number.
-    pub fn cut(&mut self, servers: u64, dice: &mut Dice) -> Result<()> {
-        for id in 1..=servers {
+    /// It is cut in two, or a cut ends.
+    pub fn part(&mut self, dice: &mut Dice) -> Result<Event, AllocError> {
+        if !self.cut.is_empty() {
+            self.cut.clear();
+            return Ok(Event::Healed);
+        }
+        for id in 1..=SERVERS {
             if dice.chance(40) {
                 self.cut.push(id)?;
             }
         }
-        Ok(())
-    }
-
-    /// Ends a cut. False if there was none.
-    pub fn heal(&mut self) -> bool {
-        let was_cut = !self.cut.is_empty();
-        self.cut.clear();
-        was_cut
+        Ok(Event::Parted)
     }
 
     /// From now on no message is lost.
@@ -55,7 +53,7 @@ impl<K: LeaderKind<u64>> Network<K> {
     }
 
     /// One of the messages that are on their way comes in, if it gets through.
-    pub fn deliver(&mut self, dice: &mut Dice) -> Result<Option<Rc<Envelope<K>>>> {
+    pub fn deliver(&mut self, dice: &mut Dice) -> Result<Option<Rc<Envelope<K>>>, AllocError> {
         let place = dice.below(self.mail.len() as u64) as usize;
         if place >= self.mail.len() {
             return Ok(None);

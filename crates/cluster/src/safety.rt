@@ -1,6 +1,7 @@
 //! What Raft promises of a whole cluster, looked after at each event.
 
-use crate::server::{Role, Server};
+use crate::events::{Event, Notes};
+use crate::server::Server;
 use crate::types::{Leader, LogId, State, end};
 use anyhow::{Result, bail, ensure};
 use raft_base::{LeaderKind, LogIdOptionExt, LogStateReader, Validate};
@@ -25,16 +26,46 @@ impl<K: LeaderKind<u64>> History<K> {
         }
     }
 
+    /// Looks whether all is well after something at a server, and notes what has become of it.
+    pub fn look_after(
+        &mut self,
+        servers: &[Server<K>],
+        place: usize,
+        notes: &mut Notes,
+    ) -> Result<()> {
+        let Some(server) = servers.get(place) else {
+            bail!("no server at {place}");
+        };
+        check_server(server)?;
+        for other in servers {
+            check_pair(server, other)?;
+        }
+        let known = self.committed.len();
+        self.commit(server)?;
+        let commits = self.committed.len().saturating_sub(known) as u64;
+        notes.counts.add(Event::Committed, commits);
+        if commits > 0 || server.event == Some(Event::Elected) {
+            for other in servers {
+                self.check_leader(other)?;
+            }
+        }
+        match server.event {
+            Some(event) => notes.note(Some(server.id), event)?,
+            None => {}
+        }
+        Ok(())
+    }
+
     /// A server that leads has to be the only leader of its id, and to have in its log all that was
     /// committed under lesser ones. The default ids have the node in them, so two may be of one term.
-    pub fn check_leader(&mut self, server: &Server<K>) -> Result<()> {
+    fn check_leader(&mut self, server: &Server<K>) -> Result<()> {
         if !server.leads() {
             return Ok(());
         }
         let leader = K::to_committed(server.vote().leader_id());
         let before = self.leaders.insert(leader, server.id)?;
         ensure!(
-            before.is_none_or(|id| id == server.id),
+            before.unwrap_or(server.id) == server.id,
             "two leaders {leader}"
         );
         for (log_id, by) in &self.committed {
@@ -46,12 +77,10 @@ impl<K: LeaderKind<u64>> History<K> {
         Ok(())
     }
 
-    /// What a server knows to be committed has to be what others know. It answers how many entries
-    /// nobody knew of.
-    pub fn commit(&mut self, server: &Server<K>) -> Result<u64> {
+    /// What a server knows to be committed has to be what others know.
+    fn commit(&mut self, server: &Server<K>) -> Result<()> {
         let state = &server.state;
         let by = K::to_committed(server.vote().leader_id());
-        let known = self.committed.len();
         let first = state.last_purged_log_id().copied().index().unwrap_or(0);
         for index in first..end(state.committed) {
             let Some(log_id) = state.get_log_id(index) else {
@@ -62,13 +91,13 @@ impl<K: LeaderKind<u64>> History<K> {
                 None => self.committed.push((log_id, by))?,
             }
         }
-        Ok(self.committed.len().saturating_sub(known) as u64)
+        Ok(())
     }
 }
 
 /// Whether a server is well by itself: its state is valid, what it has committed is in its log, and
 /// its disk has its log.
-pub fn check_server<K: LeaderKind<u64>>(server: &Server<K>) -> Result<()> {
+fn check_server<K: LeaderKind<u64>>(server: &Server<K>) -> Result<()> {
     let state = &server.state;
     state.validate()?;
     ensure!(
@@ -84,8 +113,7 @@ pub fn check_server<K: LeaderKind<u64>>(server: &Server<K>) -> Result<()> {
     for (index, entry) in &server.disk {
         ensure!(
             state.get_log_id(*index) == Some(entry.log_id),
-            "the disk has another {}",
-            entry.log_id
+            "the disk has another {index}"
         );
     }
     Ok(())
@@ -93,7 +121,7 @@ pub fn check_server<K: LeaderKind<u64>>(server: &Server<K>) -> Result<()> {
 
 /// Whether two servers are well together: their logs match, and a leader knows of no match that isn't
 /// so.
-pub fn check_pair<K: LeaderKind<u64>>(one: &Server<K>, other: &Server<K>) -> Result<()> {
+fn check_pair<K: LeaderKind<u64>>(one: &Server<K>, other: &Server<K>) -> Result<()> {
     check_match(one, other)?;
     check_known(one, other)?;
     check_known(other, one)
@@ -108,7 +136,7 @@ fn check_match<K: LeaderKind<u64>>(one: &Server<K>, other: &Server<K>) -> Result
         };
         if second.log_id == entry.log_id {
             is_shared = true;
-            ensure!(second == entry, "two entries {}", entry.log_id);
+            ensure!(second == entry, "two entries at {index}");
         } else {
             ensure!(!is_shared, "logs part at {index} and meet later");
         }
@@ -118,15 +146,15 @@ fn check_match<K: LeaderKind<u64>>(one: &Server<K>, other: &Server<K>) -> Result
 
 /// Whether another server of a leader's vote has what the leader knows to match.
 fn check_known<K: LeaderKind<u64>>(leader: &Server<K>, other: &Server<K>) -> Result<()> {
-    let Role::Leader(followers) = &leader.role else {
+    if !leader.leads() || leader.vote() != other.vote() {
         return Ok(());
-    };
-    let Some(follower) = followers.get(other.id) else {
+    }
+    let Some(follower) = leader.followers.get(other.id) else {
         return Ok(());
     };
     if let Some(matching) = follower.matching {
         ensure!(
-            leader.vote() != other.vote() || has::<K>(&other.state, matching),
+            has::<K>(&other.state, matching),
             "{} has no {matching}",
             other.id
         );

@@ -3,12 +3,12 @@
 use crate::events::Event;
 use crate::fault::Fault;
 use crate::message::{Envelope, Mail, Message};
-use crate::types::{Entry, FollowerProgress, LogId, Members, State, Vote};
+use crate::types::{Disk, FollowerProgress, LogId, Members, State, Vote};
 use anyhow::Result;
 use raft_base::{EmptyNode, LeaderKind, LogStateReader, log_id_at_most, log_id_below};
 use raft_progress::{ProgressPart, Tracked};
 use raft_state_tests::turn::{Followers, Outcome, Response};
-use std::alloc::{AllocError, Global};
+use std::alloc::Global;
 use std::collections::BTreeMap;
 use std::rc::Rc;
 
@@ -16,18 +16,14 @@ use std::rc::Rc;
 pub type Ballot = Tracked<u64, EmptyNode, bool, bool>;
 
 /// What a server is doing.
-#[derive(Drop)]
-pub enum Role<K: LeaderKind<u64>>
-where
-    Option<LogId<K>>: Ord,
-    FollowerProgress<K>: ProgressPart<Option<LogId<K>>>,
-{
+#[derive(Clone, Copy, PartialEq, Eq)]
+pub enum Role {
     /// It waits for a leader.
     Follower,
-    /// It counts the votes for itself.
-    Candidate(Ballot),
+    /// It asks for votes.
+    Candidate,
     /// It leads.
-    Leader(Followers<K>),
+    Leader,
 }
 
 /// A server.
@@ -39,29 +35,37 @@ where
 {
     pub alloc: Global,
     pub id: u64,
+    pub fault: Option<Fault>,
     pub state: State<K>,
-    /// The entries on disk, by their indexes.
-    pub disk: BTreeMap<u64, Entry<K>>,
-    pub role: Role<K>,
+    pub disk: Disk<K>,
+    pub role: Role,
+    /// Who has voted for it, while it is a candidate.
+    pub ballot: Ballot,
+    /// What it knows of its followers, while it leads.
+    pub followers: Followers<K>,
     /// Whether a voter with a longer log has refused it: it waits longer then, for that one to lead.
     pub is_behind: bool,
-    /// What has become of it, until that is noted.
+    /// What has become of it at the last event.
     pub event: Option<Event>,
-    pub fault: Option<Fault>,
 }
 
 impl<K: LeaderKind<u64>> Server<K> {
     /// A new server.
-    pub fn new(alloc: Global, id: u64, fault: Option<Fault>) -> Result<Self, AllocError> {
+    pub fn new(alloc: Global, id: u64, fault: Option<Fault>) -> Result<Self> {
+        let ballot = Ballot::new(Members::try_default(alloc)?, false)?;
+        let followers = Followers::new(Members::try_default(alloc)?, 0)?;
+        let state = State::<K>::try_default(alloc)?;
         Ok(Server {
             alloc,
             id,
-            state: State::<K>::try_default(alloc)?,
+            fault,
+            state,
             disk: BTreeMap::new(alloc),
             role: Role::Follower,
+            ballot,
+            followers,
             is_behind: false,
             event: None,
-            fault,
         })
     }
 
@@ -82,7 +86,7 @@ impl<K: LeaderKind<u64>> Server<K> {
 
     /// Whether it leads.
     pub fn leads(&self) -> bool {
-        matches!(&self.role, Role::Leader(_))
+        self.role == Role::Leader
     }
 
     /// Writes a vote, also to disk.
@@ -92,19 +96,17 @@ impl<K: LeaderKind<u64>> Server<K> {
     }
 
     /// Promises a vote, unless it is below the own one or does not compare with it.
-    fn promise(&mut self, now: u64, vote: Vote<K>) -> bool {
-        if !(vote >= self.vote()) {
-            return false;
+    pub fn promise(&mut self, now: u64, vote: Vote<K>) -> bool {
+        let may_be = vote >= self.vote();
+        if may_be {
+            self.yield_to(vote);
+            self.save_vote(now, vote);
         }
-        if vote != self.vote() {
-            self.role = Role::Follower;
-        }
-        self.save_vote(now, vote);
-        true
+        may_be
     }
 
-    /// Takes over a greater vote that an answer tells. That is no sign of a leader, so the moment of
-    /// its own vote stays.
+    /// Takes over a greater vote, and follows from then on. An answer that tells one is no sign of a
+    /// leader, so the moment of its own vote stays.
     fn yield_to(&mut self, vote: Vote<K>) {
         if vote > self.vote() {
             self.role = Role::Follower;
@@ -127,8 +129,8 @@ impl<K: LeaderKind<u64>> Server<K> {
 
     /// Answers a message that asks for something, and takes one that answers.
     pub fn receive(&mut self, now: u64, envelope: &Envelope<K>, mail: &mut Mail<K>) -> Result<()> {
-        let vote = envelope.vote;
-        let from = envelope.from;
+        let (from, vote) = (envelope.from, envelope.vote);
+        self.event = None;
         match &envelope.message {
             Message::AskVote(last) => {
                 let own = self.last();
@@ -136,47 +138,40 @@ impl<K: LeaderKind<u64>> Server<K> {
                 self.send(from, Message::Voted(is_voted, own), mail)
             }
             Message::Append(request, logs) => {
-                let outcome = if self.promise(now, vote) {
-                    self.append(now, logs)?
-                } else {
-                    Outcome::Refused
-                };
-                let request = *request;
-                self.send(
-                    from,
-                    Message::Responded(Response { request, outcome }),
-                    mail,
-                )
+                let outcome = self.append(now, vote, logs)?;
+                self.respond(from, *request, outcome, mail)
             }
             Message::Install(request, snapshot) => {
-                let outcome = if self.promise(now, vote) {
-                    self.install(snapshot)?
-                } else {
-                    Outcome::Refused
-                };
-                let request = Some(*request);
-                self.send(
-                    from,
-                    Message::Responded(Response { request, outcome }),
-                    mail,
-                )
+                let outcome = self.install(now, vote, snapshot)?;
+                self.respond(from, Some(*request), outcome, mail)
             }
             Message::Voted(is_voted, last) => {
+                self.yield_to(vote);
                 if *is_voted && vote == self.vote() {
                     return self.count_vote(now, from);
                 }
                 self.is_behind = self.is_behind || log_id_below(self.last(), *last);
-                self.yield_to(vote);
                 Ok(())
             }
             Message::Responded(response) => {
-                if vote == self.vote() {
+                self.yield_to(vote);
+                if self.leads() && vote == self.vote() {
                     return self.take_response(from, response);
                 }
-                self.yield_to(vote);
                 Ok(())
             }
         }
+    }
+
+    /// Responds to a leader.
+    fn respond(
+        &self,
+        to: u64,
+        request: Option<u64>,
+        outcome: Outcome<K>,
+        mail: &mut Mail<K>,
+    ) -> Result<()> {
+        self.send(to, Message::Responded(Response { request, outcome }), mail)
     }
 
     /// Whether a candidate's log is not behind the own one.

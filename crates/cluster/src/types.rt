@@ -1,16 +1,24 @@
 //! The types of the layer as this cluster has them, beside those of the turns.
 
 use raft_base::{EmptyNode, LeaderKind, LogIdOf, LogIdOptionExt, VoteOf};
+use raft_members::ChangeMembers;
 use raft_state::{EntryPayload, SnapshotMetaOf};
 pub use raft_state_tests::turn::{
     Entry, FollowerProgress, Inflight, Leader, LogId, Members, State,
 };
+use std::collections::BTreeMap;
 
 /// A vote.
 pub type Vote<K> = VoteOf<u64, K>;
 
 /// What a log entry holds.
 pub type Payload = EntryPayload<u64, EmptyNode, u64>;
+
+/// A change of the members.
+pub type Change = ChangeMembers<u64, EmptyNode>;
+
+/// The entries on a server's disk, by their indexes.
+pub type Disk<K> = BTreeMap<u64, Entry<K>>;
 
 /// What is known of a snapshot.
 pub type Snapshot<K> = SnapshotMetaOf<Leader<K>, u64, EmptyNode>;
