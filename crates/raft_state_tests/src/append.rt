@@ -19,13 +19,21 @@ fn append<K: LeaderKind<u64>>(
     Ok(true)
 }
 
-/// Whether entries are appended with the membership among them, and one before it is committed.
-fn appends<K: LeaderKind<u64>>(alloc: Global) -> Result<bool, AllocError> {
-    let mut state = follower::<K>(alloc, Some((1, 1)), None, Some((1, 2)))?;
-    let is_appended = append::<K>(&mut state, &entries::<K>(alloc, 4, 5)?)?;
+/// Appends an entry of each kind, of a leader and from an index on, if that may be.
+fn append_from<K: LeaderKind<u64>>(
+    state: &mut State<K>,
+    alloc: Global,
+    leader: u64,
+    index: u64,
+) -> Result<bool, AllocError> {
+    let entries = entries::<K>(alloc, leader, index)?;
+    append::<K>(state, &entries)
+}
+
+/// Whether a state has (4,5) to (4,7), with the membership at (4,6), and that of (1,2) is committed.
+fn has_appended<K: LeaderKind<u64>>(alloc: Global, state: &State<K>) -> Result<bool, AllocError> {
     Ok(
-        is_appended
-            && state.last_log_id().copied() == id::<K>(Some((4, 7)))
+        state.last_log_id().copied() == id::<K>(Some((4, 7)))
             && *state.membership_state.committed().log_id() == id::<K>(Some((1, 2)))
             && *state.membership_state.effective().log_id() == id::<K>(Some((4, 6)))
             && *state.membership_state.effective().membership() == members(alloc)?
@@ -33,22 +41,28 @@ fn appends<K: LeaderKind<u64>>(alloc: Global) -> Result<bool, AllocError> {
     )
 }
 
+/// Whether entries are appended with the membership among them, and one before it is committed.
+fn appends<K: LeaderKind<u64>>(alloc: Global) -> Result<bool, AllocError> {
+    let mut state = follower::<K>(alloc, Some((1, 1)), None, Some((1, 2)))?;
+    Ok(append_from::<K>(&mut state, alloc, 4, 5)? && has_appended::<K>(alloc, &state)?)
+}
+
 /// Whether entries are refused that do not follow the log, or whose membership does not follow the
-/// effective one, or that begin an empty log past index 0.
-fn appends_no_others<K: LeaderKind<u64>>(alloc: Global) -> Result<bool, AllocError> {
+/// effective one.
+fn refuses<K: LeaderKind<u64>>(alloc: Global) -> Result<bool, AllocError> {
     let mut state = follower::<K>(alloc, Some((1, 1)), None, Some((9, 2)))?;
-    let mut empty = State::<K>::try_default(alloc)?;
-    Ok(
-        !append::<K>(&mut state, &entries::<K>(alloc, 4, 4)?)?
-            && !append::<K>(&mut state, &entries::<K>(alloc, 4, 5)?)?
-            && !append::<K>(&mut empty, &entries::<K>(alloc, 4, 5)?)?
-            && append::<K>(&mut empty, &entries::<K>(alloc, 4, 0)?)?,
-    )
+    Ok(!append_from::<K>(&mut state, alloc, 4, 4)? && !append_from::<K>(&mut state, alloc, 4, 5)?)
+}
+
+/// Whether an empty log begins at index 0 alone.
+fn begins_at_zero<K: LeaderKind<u64>>(alloc: Global) -> Result<bool, AllocError> {
+    let mut state = State::<K>::try_default(alloc)?;
+    Ok(!append_from::<K>(&mut state, alloc, 4, 5)? && append_from::<K>(&mut state, alloc, 4, 0)?)
 }
 
 /// Whether entries are appended where they may be, and there alone.
 fn is_appended_right<K: LeaderKind<u64>>(alloc: Global) -> Result<bool, AllocError> {
-    Ok(appends::<K>(alloc)? && appends_no_others::<K>(alloc)?)
+    Ok(appends::<K>(alloc)? && refuses::<K>(alloc)? && begins_at_zero::<K>(alloc)?)
 }
 
 #[test]
