@@ -46,7 +46,7 @@ impl From<AllocError> for LineError {
 
 /// What a line says: nothing where it has no words.
 pub fn parse(alloc: Global, line: &[u8]) -> Result<Option<Command>, LineError>
-    ensures nothing { (result ≡ Ok None) ↔ SaysNothing line.now }
+    ensures no_words { (result ≡ Ok None) ↔ SaysNothing line.now }
     ensures command { IfOk result (λ said. IfSome said (SaysCommand line.now)) }
     ensures bad_line { IsErrOf result LineError.BadLine → IsBadLine line.now }
 {
