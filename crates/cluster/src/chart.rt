@@ -1,9 +1,9 @@
 //! A chart of a cluster, a line at a time.
 
 use crate::network::Network;
-use crate::server::{Role, Server, greatest_leader};
-use crate::types::{Members, end};
-use raft_base::{LeaderKind, LogIdOptionExt, LogStateReader};
+use crate::replica::{Replica, Role};
+use crate::safety::last_leader;
+use crate::types::Members;
 use std::alloc::AllocError;
 
 /// How many indexes of a log are shown.
@@ -17,71 +17,65 @@ quorum has, the voters (of both configs of a joint membership), +learners, and w
 event 1           2           3           4           5          has members
 ";
 
-/// Writes what all servers are, what the greatest leader knows a quorum to have, and its members.
-pub fn line<K: LeaderKind<u64>>(
+/// Writes what all servers are, what the last leader knows a quorum to have, and its members.
+pub fn line<S: Replica, M: Drop>(
     text: &mut String,
-    servers: &[Server<K>],
-    network: &Network<K>,
+    servers: &[S],
+    network: &Network<M>,
 ) -> Result<(), AllocError> {
-    let last = longest(servers);
+    let end = longest(servers);
     for server in servers {
-        text.push(if network.is_cut_off(server.id) {
+        text.push(if network.is_cut_off(server.id()) {
             '*'
         } else {
             ' '
         })?;
-        show(text, server, last)?;
+        show(text, server, end)?;
     }
-    let Some(leader) = greatest_leader(servers) else {
-        return Ok(());
-    };
-    if let Some(granted) = leader.followers.granted() {
-        write!(text, " {:>3}", granted.index)?;
+    if let Some(leader) = last_leader(servers) {
+        if let Some(granted) = leader.granted() {
+            write!(text, " {granted:>3}")?;
+        }
+        describe(text, leader.members())?;
     }
-    describe(text, leader.members())
+    Ok(())
 }
 
-/// The index after the longest log, or that after the first ones.
-fn longest<K: LeaderKind<u64>>(servers: &[Server<K>]) -> u64 {
-    let mut last = WIDTH;
+/// The end of the longest log, or that of the first few indexes.
+fn longest<S: Replica>(servers: &[S]) -> u64 {
+    let mut end = WIDTH;
     for server in servers {
-        last = end(server.last()).max(last);
+        end = end.max(server.end());
     }
-    last
+    end
 }
 
-/// What a server is, its term, and its log up to an index.
-fn show<K: LeaderKind<u64>>(
-    text: &mut String,
-    server: &Server<K>,
-    last: u64,
-) -> Result<(), AllocError> {
-    let term = K::term(server.vote().leader_id());
-    write!(text, "{}{term:<2}", letter(server))?;
-    for index in last.saturating_sub(WIDTH)..last {
+/// What a server is, its term, and the last indexes of its log up to an end.
+fn show<S: Replica>(text: &mut String, server: &S, end: u64) -> Result<(), AllocError> {
+    write!(text, "{}{:<2}", letter(server), server.term())?;
+    for index in end.saturating_sub(WIDTH)..end {
         text.push(mark(server, index))?;
     }
     Ok(())
 }
 
 /// The letter of what a server is.
-fn letter<K: LeaderKind<u64>>(server: &Server<K>) -> char {
-    match server.role {
+fn letter<S: Replica>(server: &S) -> char {
+    match server.role() {
         Role::Leader => 'L',
         Role::Candidate => 'C',
-        Role::Follower if server.state.is_voter(&server.id) => 'F',
+        Role::Follower if server.members().is_voter(&server.id()) => 'F',
         Role::Follower => 'l',
     }
 }
 
 /// The sign of an index of a server's log.
-fn mark<K: LeaderKind<u64>>(server: &Server<K>, index: u64) -> char {
-    let state = &server.state;
-    if index < state.purged_next {
+fn mark<S: Replica>(server: &S, index: u64) -> char {
+    if index < server.purged() {
         '='
-    } else if Some(index) <= state.committed.index() {
+    } else if index < server.committed() {
         '#'
-    } else if state.get_log_id(index).is_some() {
+    } else if index < server.end() {
         '+'
     } else {
         ' '

@@ -1,36 +1,31 @@
 //! A cluster: its servers, the network between them, and what happens to both.
 
-use crate::acts::SERVERS;
+use crate::acts::{self, SERVERS};
 use crate::chart;
 use crate::dice::Dice;
 use crate::events::{Event, Notes};
 use crate::fault::Fault;
 use crate::network::Network;
-use crate::safety::History;
-use crate::server::{Server, greatest_leader};
-use crate::types::{FollowerProgress, LogId, Members, Payload};
+use crate::replica::{Duties, Replica};
+use crate::safety::{History, last_leader};
+use crate::types::Members;
 use anyhow::Result;
-use raft_base::{EmptyNode, LeaderKind};
-use raft_progress::ProgressPart;
+use raft_base::EmptyNode;
 use std::alloc::{AllocError, Global};
 use std::collections::BTreeMap;
 
 /// A cluster.
 #[derive(Drop)]
-pub struct Cluster<K: LeaderKind<u64>>
-where
-    Option<LogId<K>>: Ord,
-    FollowerProgress<K>: ProgressPart<Option<LogId<K>>>,
-{
-    servers: Vec<Server<K>>,
-    network: Network<K>,
+pub struct Cluster<S: Duties> {
+    servers: Vec<S>,
+    network: Network<S::Message>,
     dice: Dice,
-    now: u64,
-    history: History<K>,
+    pub now: u64,
+    history: History<S>,
     pub notes: Notes,
 }
 
-impl<K: LeaderKind<u64>> Cluster<K> {
+impl<S: Duties> Cluster<S> {
     /// A cluster without servers.
     pub fn new(alloc: Global, seed: u64) -> Self {
         Cluster {
@@ -46,19 +41,21 @@ impl<K: LeaderKind<u64>> Cluster<K> {
     /// Starts the servers. The first of them begins a cluster of the first three.
     pub fn start(&mut self, alloc: Global, fault: Option<Fault>) -> Result<()> {
         for id in 1..=SERVERS {
-            self.servers.push(Server::new(alloc, id, fault)?)?;
+            self.servers.push(S::new(alloc, id, fault)?)?;
         }
         match self.servers.first_mut() {
-            Some(first) => first.write(Payload::Membership(first_members(alloc)?)),
+            Some(first) => first.begin(first_members(alloc)?),
             None => Ok(()),
         }
     }
 
     /// Writes a line of its chart.
-    pub fn line(&mut self, text: &mut String) -> Result<(), AllocError> {
-        write!(text, "{:>4} ", self.now)?;
-        chart::line(text, &self.servers, &self.network)?;
-        self.notes.end_line(text)
+    pub fn draw(&mut self, text: &mut String) -> Result<(), AllocError> {
+        let mut line = String::new(*text.allocator());
+        write!(line, "{:>4} ", self.now)?;
+        chart::line(&mut line, &self.servers, &self.network)?;
+        self.notes.end_line(&mut line)?;
+        writeln!(text, "{}", line.trim_end())
     }
 
     /// Something happens, and all is still well.
@@ -89,7 +86,7 @@ impl<K: LeaderKind<u64>> Cluster<K> {
     fn act(&mut self, what: u64) -> Result<()> {
         let place = self.dice.below(SERVERS) as usize;
         if let Some(server) = self.servers.get_mut(place) {
-            server.act(what, self.now, &mut self.network.mail, &mut self.dice)?;
+            acts::act(server, what, self.now, &mut self.network.mail, &mut self.dice)?;
         }
         self.look_after(place)
     }
@@ -103,8 +100,12 @@ impl<K: LeaderKind<u64>> Cluster<K> {
 
     /// Looks whether all is well after something at a server.
     fn look_after(&mut self, place: usize) -> Result<()> {
+        let event = match self.servers.get_mut(place) {
+            Some(server) => server.take_event(),
+            None => None,
+        };
         self.history
-            .look_after(&self.servers, place, &mut self.notes)
+            .look_after(&self.servers, place, event, &mut self.notes)
     }
 
     /// The network is mended, and after some time a leader and all its members have committed the
@@ -131,16 +132,13 @@ fn first_members(alloc: Global) -> Result<Members, AllocError> {
 }
 
 /// Whether a leader and all its members have committed its whole log, and no change is half done.
-fn is_settled<K: LeaderKind<u64>>(servers: &[Server<K>]) -> bool {
-    let Some(leader) = greatest_leader(servers) else {
+fn is_settled<S: Replica>(servers: &[S]) -> bool {
+    let Some(leader) = last_leader(servers) else {
         return false;
     };
-    let last = leader.last();
-    for server in servers {
-        let is_even = server.last() == last && server.state.committed == last;
-        if leader.members().contains(&server.id) && !is_even {
-            return false;
-        }
-    }
-    !leader.members().is_in_joint_consensus()
+    let (members, end) = (leader.members(), leader.end());
+    let is_even = servers.iter().all(|server| {
+        !members.contains(&server.id()) || (server.end() == end && server.committed() == end)
+    });
+    is_even && !members.is_in_joint_consensus()
 }

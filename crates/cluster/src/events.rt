@@ -78,11 +78,13 @@ impl Counts {
         *count = count.saturating_add(more);
     }
 
-    /// All happens that another one has counted.
-    pub fn add_all(&mut self, other: &Counts) {
-        for (count, more) in self.counts.iter_mut().zip(&other.counts) {
+    /// Adds what a safe run has counted, and whether it has settled.
+    pub fn add_run(&mut self, run: &Counts, is_settled: bool) {
+        for (count, more) in self.counts.iter_mut().zip(&run.counts) {
             *count = count.saturating_add(*more);
         }
+        self.add(Event::Safe, 1);
+        self.add(Event::Settled, u64::from(is_settled));
     }
 }
 

@@ -3,14 +3,14 @@
 use crate::acts::SERVERS;
 use crate::events::Event;
 use crate::fault::Fault;
-use crate::message::{Mail, Message};
-use crate::server::{Ballot, Role, Server};
-use crate::types::{Change, Entry, Inflight, LogId, Members, Payload, Vote, end};
-use anyhow::{Result, bail, ensure};
+use crate::message::{Content, Mail, Message};
+use crate::replica::{Replica, Role};
+use crate::server::Server;
+use crate::types::{Change, Entry, Leader, LogId, Members, Payload, end};
+use anyhow::{Context, Result, ensure};
 use raft_base::{LeaderKind, LogIdRangeOf};
-use raft_members::ChangeMembershipErrorOf;
 use raft_progress::Progress;
-use raft_state_tests::turn::{Followers, Logs, Response};
+use raft_state_tests::turn::{Followers, Logs};
 use std::collections::BTreeSet;
 
 impl<K: LeaderKind<u64>> Server<K> {
@@ -22,21 +22,11 @@ impl<K: LeaderKind<u64>> Server<K> {
             || (memberships.committed().is_voter(&self.id) && memberships.contains(&self.id))
     }
 
-    /// Asks the other voters to vote for it in the next term.
-    pub fn campaign(&mut self, now: u64, mail: &mut Mail<K>) -> Result<()> {
-        let term = K::term(self.vote().leader_id()).saturating_add(1);
-        self.save_vote(now, Vote::<K>::new(term, self.id));
-        self.role = Role::Candidate;
-        self.ballot = Ballot::new(self.members().try_clone()?, false)?;
-        self.ask_votes(mail)?;
-        self.count_vote(now, self.id)
-    }
-
     /// Asks the other voters for their votes.
-    fn ask_votes(&self, mail: &mut Mail<K>) -> Result<()> {
+    pub fn ask_votes(&self, mail: &mut Mail<Message<K>>) -> Result<()> {
         for id in 1..=SERVERS {
             if id != self.id && self.state.is_voter(&id) {
-                self.send(id, Message::AskVote(self.last()), mail)?;
+                self.send(id, Content::AskVote(self.last()), mail)?;
             }
         }
         Ok(())
@@ -61,7 +51,7 @@ impl<K: LeaderKind<u64>> Server<K> {
         self.save_vote(now, vote);
         self.is_behind = false;
         self.event = Some(Event::Elected);
-        self.followers = Followers::new(self.members().try_clone()?, end(self.last()))?;
+        self.followers = Followers::new(self.members().try_clone()?, self.end())?;
         self.role = Role::Leader;
         self.propose(Payload::Blank)
     }
@@ -75,8 +65,7 @@ impl<K: LeaderKind<u64>> Server<K> {
     /// Writes an entry of its own. The first one of a cluster is of term 0, which nobody has to
     /// grant.
     pub fn write(&mut self, payload: Payload) -> Result<()> {
-        let leader = K::to_committed(self.vote().leader_id());
-        let log_id = LogId::<K>::new(leader, end(self.last()));
+        let log_id = LogId::<K>::new(self.leader(), self.end());
         let mut entries = Vec::new(self.alloc);
         entries.push(Entry::<K> { log_id, payload })?;
         self.write_all(&entries)
@@ -103,7 +92,7 @@ impl<K: LeaderKind<u64>> Server<K> {
     }
 
     /// Commits what a quorum has.
-    fn commit(&mut self) -> Result<()> {
+    pub fn commit(&mut self) -> Result<()> {
         self.followers.commit(&mut self.state)?;
         let granted = self.followers.granted();
         if self.fault == Some(Fault::CountAlone) && self.state.can_commit(&granted) {
@@ -112,39 +101,13 @@ impl<K: LeaderKind<u64>> Server<K> {
         Ok(())
     }
 
-    /// Takes what a follower made of a request.
-    pub fn take_response(&mut self, from: u64, response: &Response<K>) -> Result<()> {
-        let _taken = self.followers.take_response(from, response);
-        self.commit()
-    }
-
-    /// Sends a follower what comes next, if nothing is in flight to it.
-    pub fn send_next(&mut self, to: u64, mail: &mut Mail<K>) -> Result<()> {
-        match self.followers.next_request(&self.state, to) {
-            Some(Inflight::<K>::Logs { id, log_id_range }) => {
-                self.send_logs(to, Some(id), log_id_range, mail)
-            }
-            Some(Inflight::<K>::Snapshot { id, .. }) => {
-                let snapshot = self.state.snapshot_meta.try_clone()?;
-                self.send(to, Message::Install(id, snapshot), mail)
-            }
-            _ => Ok(()),
-        }
-    }
-
-    /// Tells a follower that it leads, and what is committed.
-    pub fn send_heartbeat(&self, to: u64, mail: &mut Mail<K>) -> Result<()> {
-        let last = self.last();
-        self.send_logs(to, None, LogIdRangeOf { prev: last, last }, mail)
-    }
-
     /// Sends the entries of a range.
-    fn send_logs(
+    pub fn send_logs(
         &self,
         to: u64,
         request: Option<u64>,
-        range: LogIdRangeOf<K::Committed>,
-        mail: &mut Mail<K>,
+        range: LogIdRangeOf<Leader<K>>,
+        mail: &mut Mail<Message<K>>,
     ) -> Result<()> {
         let entries = self.entries(end(range.prev), end(range.last))?;
         let logs = Logs {
@@ -152,64 +115,45 @@ impl<K: LeaderKind<u64>> Server<K> {
             entries,
             committed: self.state.committed,
         };
-        self.send(to, Message::Append(request, logs), mail)
+        self.send(to, Content::Append(request, logs), mail)
     }
 
     /// The entries from an index up to another one.
     fn entries(&self, first: u64, end: u64) -> Result<Vec<Entry<K>>> {
         let mut entries = Vec::new(self.alloc);
         for index in first..end {
-            let Some(entry) = self.disk.get(&index) else {
-                bail!("an entry is to be sent and is purged");
-            };
-            entries.push(entry.try_clone()?)?;
+            entries.push(self.stored(index)?.try_clone()?)?;
         }
         Ok(entries)
     }
 
-    /// Proposes a change of the members, unless it is refused.
-    pub fn change(&mut self, change: Change, retain: bool) -> Result<()> {
-        let handler = self.state.membership_state.change_handler();
-        match handler.apply(change, retain) {
-            Ok(members) => self.go_over(members, retain),
-            Err(ChangeMembershipErrorOf::OutOfMemory) => bail!("out of memory"),
-            Err(_) => Ok(()),
-        }
+    /// The entry at an index.
+    fn stored(&self, index: u64) -> Result<&Entry<K>> {
+        self.entry(index).context("an entry is to be sent and is purged")
     }
 
     /// Proposes other members, and counts by them.
-    fn go_over(&mut self, members: Members, retain: bool) -> Result<()> {
+    pub fn go_over(&mut self, members: Members, retain: bool) -> Result<()> {
         let members = if self.fault == Some(Fault::NoJoint) {
             members.change(self.last_of_joint(), retain)?
         } else {
             members
         };
         self.write(Payload::Membership(members))?;
-        let (members, last) = (self.members().try_clone()?, self.last());
-        self.followers
-            .change_to(members, end(last).saturating_sub(1))?;
         self.event = Some(Event::Changed);
+        self.count_by_members()
+    }
+
+    /// Counts by the effective members from now on. Of a new one nothing is known but that it lacks
+    /// the entry that adds it.
+    fn count_by_members(&mut self) -> Result<()> {
+        let (members, last) = (self.members().try_clone()?, self.end().saturating_sub(1));
+        self.followers.change_to(members, last)?;
         self.count_own()
     }
 
-    /// Once a change is committed, goes on from a joint membership to its last config, in which those
-    /// who leave are learners; and leads no longer where it is no voter any more.
-    pub fn end_change(&mut self) -> Result<()> {
-        let handler = self.state.membership_state.change_handler();
-        if handler.ensure_committed().is_err() {
-            return Ok(());
-        }
-        if self.members().is_in_joint_consensus() {
-            return self.change(self.last_of_joint(), true);
-        }
-        if !self.state.is_voter(&self.id) {
-            self.role = Role::Follower;
-        }
-        Ok(())
-    }
-
     /// The change from a joint membership to its last config. It leaves others as they are.
-    fn last_of_joint(&self) -> Change {
+    pub fn last_of_joint(&self) -> Change {
         Change::AddVoterIds(BTreeSet::new(self.alloc))
     }
 }

@@ -14,23 +14,26 @@ mod acts;
 mod chart;
 mod cluster;
 mod dice;
+mod duties;
 mod events;
 mod fault;
 mod follower;
 mod leader;
 mod message;
 mod network;
+mod replica;
 mod safety;
 mod server;
 mod storage;
 mod types;
 
-use anyhow::{Context, Result, bail, ensure};
+use anyhow::{Result, bail, ensure};
 use cluster::Cluster;
 use events::{Counts, Event};
 use fault::Fault;
 use raft_base::{LeaderAdv, LeaderKind, LeaderStd};
-use std::alloc::Global;
+use replica::Duties;
+use server::Server;
 use std::env;
 
 /// How many events a cluster has to settle in, once its network is mended.
@@ -80,79 +83,59 @@ impl Plan {
     }
 }
 
-/// Runs a cluster of each seed, and answers what happened.
-fn run_all<K: LeaderKind<u64>>(rt: &impl Print, alloc: Global, plan: &Plan) -> Result<Counts> {
+/// Runs a cluster of each seed, writes what is to be told, and answers what happened.
+fn run_all<K: LeaderKind<u64>>(text: &mut String, plan: &Plan) -> Result<Counts> {
     let mut total = Counts::new();
     for seed in plan.first..plan.first.saturating_add(plan.count) {
-        if let Err(error) = run::<K>(rt, alloc, plan, seed, &mut total) {
-            println!(rt; "seed {seed}: {error:#}")?;
-        }
+        run::<Server<K>>(text, plan, seed, &mut total)?;
     }
     Ok(total)
 }
 
-/// Runs a cluster of a seed. What happens is added to what has.
-fn run<K: LeaderKind<u64>>(
-    rt: &impl Print,
-    alloc: Global,
-    plan: &Plan,
-    seed: u64,
-    total: &mut Counts,
-) -> Result<()> {
-    let mut cluster = Cluster::<K>::new(alloc, seed);
-    play::<K>(rt, alloc, plan, &mut cluster, total)
+/// Runs a cluster of a seed, and adds what happens to what has.
+fn run<S: Duties>(text: &mut String, plan: &Plan, seed: u64, total: &mut Counts) -> Result<()> {
+    let mut cluster = Cluster::<S>::new(*text.allocator(), seed);
+    match play::<S>(text, plan, &mut cluster) {
+        Ok(is_settled) => {
+            total.add_run(&cluster.notes.counts, is_settled);
+            if !is_settled {
+                writeln!(text, "seed {seed}: it does not settle")?;
+            }
+        }
+        Err(error) => writeln!(text, "seed {seed}: event {}: {error:#}", cluster.now)?,
+    }
+    Ok(())
 }
 
-/// Lets events happen to a cluster, and draws its chart.
-fn play<K: LeaderKind<u64>>(
-    rt: &impl Print,
-    alloc: Global,
-    plan: &Plan,
-    cluster: &mut Cluster<K>,
-    total: &mut Counts,
-) -> Result<()> {
-    cluster.start(alloc, plan.fault)?;
+/// Lets events happen to a cluster, and draws its chart. False if it does not settle.
+fn play<S: Duties>(text: &mut String, plan: &Plan, cluster: &mut Cluster<S>) -> Result<bool> {
+    cluster.start(*text.allocator(), plan.fault)?;
     for event in 0..plan.events {
         if event.checked_rem(plan.every) == Some(0) {
-            draw::<K>(rt, alloc, cluster)?;
+            cluster.draw(text)?;
         }
-        cluster.step().context(format_args!("event {event}"))?;
+        cluster.step()?;
     }
-    let is_settled = cluster.settle(SETTLE).context("at the end")?;
+    let is_settled = cluster.settle(SETTLE)?;
     if plan.every > 0 {
-        draw::<K>(rt, alloc, cluster)?;
+        cluster.draw(text)?;
     }
-    total.add_all(&cluster.notes.counts);
-    total.add(Event::Safe, 1);
-    ensure!(is_settled, "it does not settle");
-    total.add(Event::Settled, 1);
-    Ok(())
-}
-
-/// Prints a line of a cluster's chart.
-fn draw<K: LeaderKind<u64>>(
-    rt: &impl Print,
-    alloc: Global,
-    cluster: &mut Cluster<K>,
-) -> Result<()> {
-    let mut line = String::new(alloc);
-    cluster.line(&mut line)?;
-    println!(rt; "{}", line.trim_end())?;
-    Ok(())
+    Ok(is_settled)
 }
 
 fn main(rt: HostRuntime) -> Result<()> {
     let words: Vec<String> = env::args(&rt)?.skip(1).collect(rt.alloc())?;
     let plan = Plan::of(&words)?;
+    let mut text = String::new(rt.alloc());
     if plan.every > 0 {
-        print!(rt; "{}", chart::LEGEND)?;
+        text.push_str(chart::LEGEND)?;
     }
     let total = if plan.is_standard {
-        run_all::<LeaderStd>(&rt, rt.alloc(), &plan)?
+        run_all::<LeaderStd>(&mut text, &plan)?
     } else {
-        run_all::<LeaderAdv>(&rt, rt.alloc(), &plan)?
+        run_all::<LeaderAdv>(&mut text, &plan)?
     };
-    println!(rt; "{total}")?;
+    println!(rt; "{text}{total}")?;
     ensure!(
         total.of(Event::Settled) == plan.count,
         "not all runs were safe and settled"

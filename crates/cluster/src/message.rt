@@ -5,9 +5,27 @@ use raft_base::LeaderKind;
 use raft_state_tests::turn::{Logs, Response};
 use std::rc::Rc;
 
-/// A message.
+/// A message on its way.
 #[derive(Drop)]
-pub enum Message<K: LeaderKind<u64>> {
+pub struct Envelope<M> {
+    pub from: u64,
+    pub to: u64,
+    pub message: M,
+}
+
+/// The messages that are on their way.
+pub type Mail<M> = Vec<Rc<Envelope<M>>>;
+
+/// A message, with its sender's vote.
+#[derive(Drop)]
+pub struct Message<K: LeaderKind<u64>> {
+    pub vote: Vote<K>,
+    pub content: Content<K>,
+}
+
+/// What a message says.
+#[derive(Drop)]
+pub enum Content<K: LeaderKind<u64>> {
     /// A candidate with this last log id asks for a vote.
     AskVote(Option<LogId<K>>),
     /// The answer of a voter with this last log id.
@@ -19,15 +37,3 @@ pub enum Message<K: LeaderKind<u64>> {
     /// A follower responds to both.
     Responded(Response<K>),
 }
-
-/// A message on its way, with its sender's vote.
-#[derive(Drop)]
-pub struct Envelope<K: LeaderKind<u64>> {
-    pub from: u64,
-    pub to: u64,
-    pub vote: Vote<K>,
-    pub message: Message<K>,
-}
-
-/// The messages that are on their way.
-pub type Mail<K> = Vec<Rc<Envelope<K>>>;

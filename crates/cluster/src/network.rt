@@ -4,20 +4,19 @@ use crate::acts::SERVERS;
 use crate::dice::Dice;
 use crate::events::Event;
 use crate::message::{Envelope, Mail};
-use raft_base::LeaderKind;
 use std::alloc::{AllocError, Global};
 use std::rc::Rc;
 
 /// The messages on their way, and the servers that are cut off.
 #[derive(Drop)]
-pub struct Network<K: LeaderKind<u64>> {
-    pub mail: Mail<K>,
+pub struct Network<M> {
+    pub mail: Mail<M>,
     /// Whether messages get lost or come twice.
     pub is_rough: bool,
     cut: Vec<u64>,
 }
 
-impl<K: LeaderKind<u64>> Network<K> {
+impl<M: Drop> Network<M> {
     /// A rough network without a cut.
     pub fn new(alloc: Global) -> Self {
         Network {
@@ -53,7 +52,7 @@ impl<K: LeaderKind<u64>> Network<K> {
     }
 
     /// One of the messages that are on their way comes in, if it gets through.
-    pub fn deliver(&mut self, dice: &mut Dice) -> Result<Option<Rc<Envelope<K>>>, AllocError> {
+    pub fn deliver(&mut self, dice: &mut Dice) -> Result<Option<Rc<Envelope<M>>>, AllocError> {
         let place = dice.below(self.mail.len() as u64) as usize;
         if place >= self.mail.len() {
             return Ok(None);

@@ -1,23 +1,21 @@
 //! What Raft promises of a whole cluster, looked after at each event.
 
 use crate::events::{Event, Notes};
-use crate::server::Server;
-use crate::types::{Leader, LogId, State, end};
+use crate::replica::{Replica, Role};
 use anyhow::{Result, bail, ensure};
-use raft_base::{LeaderKind, LogIdOptionExt, LogStateReader, Validate};
 use std::alloc::Global;
 use std::collections::BTreeMap;
 
 /// Who was elected, and what was committed.
 #[derive(Drop)]
-pub struct History<K: LeaderKind<u64>> {
+pub struct History<S: Replica> {
     /// The server that each leader is.
-    leaders: BTreeMap<Leader<K>, u64>,
+    leaders: BTreeMap<S::Leader, u64>,
     /// The log id at each index, and the leader under which it was first known to be committed.
-    committed: Vec<(LogId<K>, Leader<K>)>,
+    committed: Vec<(S::LogId, S::Leader)>,
 }
 
-impl<K: LeaderKind<u64>> History<K> {
+impl<S: Replica> History<S> {
     /// Nothing has happened.
     pub fn new(alloc: Global) -> Self {
         History {
@@ -26,117 +24,101 @@ impl<K: LeaderKind<u64>> History<K> {
         }
     }
 
-    /// Looks whether all is well after something at a server, and notes what has become of it.
+    /// Looks whether all is well after something at a server, and notes it.
     pub fn look_after(
         &mut self,
-        servers: &[Server<K>],
+        servers: &[S],
         place: usize,
+        event: Option<Event>,
         notes: &mut Notes,
     ) -> Result<()> {
         let Some(server) = servers.get(place) else {
             bail!("no server at {place}");
         };
-        check_server(server)?;
+        server.check()?;
         for other in servers {
             check_pair(server, other)?;
         }
-        let known = self.committed.len();
-        self.commit(server)?;
-        let commits = self.committed.len().saturating_sub(known) as u64;
+        let commits = self.commit(server)?;
         notes.counts.add(Event::Committed, commits);
-        if commits > 0 || server.event == Some(Event::Elected) {
-            for other in servers {
-                self.check_leader(other)?;
-            }
+        if commits > 0 || event == Some(Event::Elected) {
+            self.check_leaders(servers)?;
         }
-        match server.event {
-            Some(event) => notes.note(Some(server.id), event)?,
-            None => {}
+        if let Some(event) = event {
+            notes.note(Some(server.id()), event)?;
         }
         Ok(())
     }
 
-    /// A server that leads has to be the only leader of its id, and to have in its log all that was
-    /// committed under lesser ones. The default ids have the node in them, so two may be of one term.
-    fn check_leader(&mut self, server: &Server<K>) -> Result<()> {
-        if !server.leads() {
-            return Ok(());
+    /// What a server knows to be committed has to be what others know. Answers how much of it none
+    /// knew.
+    fn commit(&mut self, server: &S) -> Result<u64> {
+        let known = self.committed.len();
+        for index in server.purged().saturating_sub(1)..server.committed() {
+            let Some(log_id) = server.log_id(index) else {
+                bail!("{index} is committed and not in the log");
+            };
+            match self.committed.get(index as usize) {
+                Some(known) => ensure!(known.0 == log_id, "{log_id} and {} committed", known.0),
+                None => self.committed.push((log_id, server.leader()))?,
+            }
         }
-        let leader = K::to_committed(server.vote().leader_id());
-        let before = self.leaders.insert(leader, server.id)?;
-        ensure!(
-            before.unwrap_or(server.id) == server.id,
-            "two leaders {leader}"
-        );
+        Ok(self.committed.len().saturating_sub(known) as u64)
+    }
+
+    /// Each server that leads has to be the only leader of its id, and to have in its log all that
+    /// was committed under lesser ones. The default ids have the node in them, so two may be of one
+    /// term.
+    fn check_leaders(&mut self, servers: &[S]) -> Result<()> {
+        for server in servers {
+            if server.role() == Role::Leader {
+                self.check_only(server)?;
+                self.check_complete(server)?;
+            }
+        }
+        Ok(())
+    }
+
+    /// Whether a leader is the only one of its id.
+    fn check_only(&mut self, server: &S) -> Result<()> {
+        let (leader, id) = (server.leader(), server.id());
+        let before = self.leaders.insert(leader, id)?;
+        ensure!(before.unwrap_or(id) == id, "two leaders {leader}");
+        Ok(())
+    }
+
+    /// Whether a leader has what was committed under lesser ones.
+    fn check_complete(&self, server: &S) -> Result<()> {
+        let leader = server.leader();
         for (log_id, by) in &self.committed {
             ensure!(
-                leader <= *by || has::<K>(&server.state, *log_id),
+                leader <= *by || server.has(*log_id),
                 "leader {leader} lacks {log_id}"
             );
         }
         Ok(())
     }
-
-    /// What a server knows to be committed has to be what others know.
-    fn commit(&mut self, server: &Server<K>) -> Result<()> {
-        let state = &server.state;
-        let by = K::to_committed(server.vote().leader_id());
-        let first = state.last_purged_log_id().copied().index().unwrap_or(0);
-        for index in first..end(state.committed) {
-            let Some(log_id) = state.get_log_id(index) else {
-                bail!("{index} is committed and not in the log");
-            };
-            match self.committed.get(index as usize) {
-                Some(known) => ensure!(known.0 == log_id, "{log_id} and {} committed", known.0),
-                None => self.committed.push((log_id, by))?,
-            }
-        }
-        Ok(())
-    }
-}
-
-/// Whether a server is well by itself: its state is valid, what it has committed is in its log, and
-/// its disk has its log.
-fn check_server<K: LeaderKind<u64>>(server: &Server<K>) -> Result<()> {
-    let state = &server.state;
-    state.validate()?;
-    ensure!(
-        state.purge_upto_is_logged(),
-        "the purge point is not logged"
-    );
-    ensure!(state.committed_is_logged(), "a committed entry is lost");
-    let length = end(server.last()).saturating_sub(state.purged_next);
-    ensure!(
-        server.disk.len() as u64 == length,
-        "the disk has another log"
-    );
-    for (index, entry) in &server.disk {
-        ensure!(
-            state.get_log_id(*index) == Some(entry.log_id),
-            "the disk has another {index}"
-        );
-    }
-    Ok(())
 }
 
 /// Whether two servers are well together: their logs match, and a leader knows of no match that isn't
 /// so.
-fn check_pair<K: LeaderKind<u64>>(one: &Server<K>, other: &Server<K>) -> Result<()> {
+fn check_pair<S: Replica>(one: &S, other: &S) -> Result<()> {
     check_match(one, other)?;
     check_known(one, other)?;
     check_known(other, one)
 }
 
 /// Whether two servers have the same entries up to the last log id that both have.
-fn check_match<K: LeaderKind<u64>>(one: &Server<K>, other: &Server<K>) -> Result<()> {
+fn check_match<S: Replica>(one: &S, other: &S) -> Result<()> {
     let mut is_shared = false;
-    for (index, entry) in one.disk.iter().rev() {
-        let Some(second) = other.disk.get(index) else {
-            continue;
-        };
-        if second.log_id == entry.log_id {
+    let first = one.purged().max(other.purged());
+    for index in (first..one.end().min(other.end())).rev() {
+        if one.log_id(index) == other.log_id(index) {
             is_shared = true;
-            ensure!(second == entry, "two entries at {index}");
+            ensure!(
+                one.entry(index) == other.entry(index),
+                "two entries at {index}"
+            );
         } else {
             ensure!(!is_shared, "logs part at {index} and meet later");
         }
@@ -145,24 +127,24 @@ fn check_match<K: LeaderKind<u64>>(one: &Server<K>, other: &Server<K>) -> Result
 }
 
 /// Whether another server of a leader's vote has what the leader knows to match.
-fn check_known<K: LeaderKind<u64>>(leader: &Server<K>, other: &Server<K>) -> Result<()> {
-    if !leader.leads() || leader.vote() != other.vote() {
+fn check_known<S: Replica>(leader: &S, other: &S) -> Result<()> {
+    if leader.role() != Role::Leader || leader.leader() != other.leader() {
         return Ok(());
     }
-    let Some(follower) = leader.followers.get(other.id) else {
-        return Ok(());
-    };
-    if let Some(matching) = follower.matching {
-        ensure!(
-            has::<K>(&other.state, matching),
-            "{} has no {matching}",
-            other.id
-        );
+    if let Some(matching) = leader.matching(other.id()) {
+        ensure!(other.has(matching), "{} has no {matching}", other.id());
     }
     Ok(())
 }
 
-/// Whether a log has a log id, or has purged its index.
-fn has<K: LeaderKind<u64>>(state: &State<K>, log_id: LogId<K>) -> bool {
-    log_id.index < state.purged_next || state.get_log_id(log_id.index) == Some(log_id)
+/// The leader that was elected last.
+pub fn last_leader<S: Replica>(servers: &[S]) -> Option<&S> {
+    let mut last: Option<&S> = None;
+    for server in servers {
+        let is_later = last.is_none_or(|other| server.leader() > other.leader());
+        if server.role() == Role::Leader && is_later {
+            last = Some(server);
+        }
+    }
+    last
 }

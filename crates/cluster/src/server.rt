@@ -1,11 +1,13 @@
-//! A server: its state, what it has on disk, what it is doing, and how it takes messages.
+//! A server: its state, what it has on disk, what it is doing, and what is seen of it.
 
 use crate::events::Event;
 use crate::fault::Fault;
-use crate::message::{Envelope, Mail, Message};
-use crate::types::{Disk, FollowerProgress, LogId, Members, State, Vote};
+use crate::message::{Content, Envelope, Mail, Message};
+use crate::replica::{Replica, Role};
+use crate::storage;
+use crate::types::{Disk, Entry, FollowerProgress, Leader, LogId, Members, State, Vote, end};
 use anyhow::Result;
-use raft_base::{EmptyNode, LeaderKind, LogStateReader, log_id_at_most, log_id_below};
+use raft_base::{EmptyNode, LeaderKind, LogIdOptionExt, LogStateReader, log_id_at_most, log_id_below};
 use raft_progress::{ProgressPart, Tracked};
 use raft_state_tests::turn::{Followers, Outcome, Response};
 use std::alloc::Global;
@@ -14,17 +16,6 @@ use std::rc::Rc;
 
 /// Who has voted for a candidate.
 pub type Ballot = Tracked<u64, EmptyNode, bool, bool>;
-
-/// What a server is doing.
-#[derive(Clone, Copy, PartialEq, Eq)]
-pub enum Role {
-    /// It waits for a leader.
-    Follower,
-    /// It asks for votes.
-    Candidate,
-    /// It leads.
-    Leader,
-}
 
 /// A server.
 #[derive(Drop)]
@@ -45,30 +36,73 @@ where
     pub followers: Followers<K>,
     /// Whether a voter with a longer log has refused it: it waits longer then, for that one to lead.
     pub is_behind: bool,
-    /// What has become of it at the last event.
+    /// What has become of it.
     pub event: Option<Event>,
 }
 
-impl<K: LeaderKind<u64>> Server<K> {
-    /// A new server.
-    pub fn new(alloc: Global, id: u64, fault: Option<Fault>) -> Result<Self> {
-        let ballot = Ballot::new(Members::try_default(alloc)?, false)?;
-        let followers = Followers::new(Members::try_default(alloc)?, 0)?;
-        let state = State::<K>::try_default(alloc)?;
-        Ok(Server {
-            alloc,
-            id,
-            fault,
-            state,
-            disk: BTreeMap::new(alloc),
-            role: Role::Follower,
-            ballot,
-            followers,
-            is_behind: false,
-            event: None,
-        })
+impl<K: LeaderKind<u64>> Replica for Server<K> {
+    type Leader = Leader<K>;
+    type LogId = LogId<K>;
+    type Entry = Entry<K>;
+
+    fn id(&self) -> u64 {
+        self.id
     }
 
+    fn role(&self) -> Role {
+        self.role
+    }
+
+    fn term(&self) -> u64 {
+        K::term(self.state.vote_ref().leader_id())
+    }
+
+    fn leader(&self) -> Leader<K> {
+        K::to_committed(self.state.vote_ref().leader_id())
+    }
+
+    fn purged(&self) -> u64 {
+        self.state.purged_next
+    }
+
+    fn committed(&self) -> u64 {
+        end(self.state.committed)
+    }
+
+    fn end(&self) -> u64 {
+        end(self.last())
+    }
+
+    fn log_id(&self, index: u64) -> Option<LogId<K>> {
+        self.state.get_log_id(index)
+    }
+
+    fn entry(&self, index: u64) -> Option<&Entry<K>> {
+        self.disk.get(&index)
+    }
+
+    fn has(&self, log_id: LogId<K>) -> bool {
+        log_id.index < self.state.purged_next || self.state.get_log_id(log_id.index) == Some(log_id)
+    }
+
+    fn matching(&self, id: u64) -> Option<LogId<K>> {
+        self.followers.get(id)?.matching
+    }
+
+    fn granted(&self) -> Option<u64> {
+        self.followers.granted().index()
+    }
+
+    fn members(&self) -> &Members {
+        self.state.membership_state.effective().membership()
+    }
+
+    fn check(&self) -> Result<()> {
+        storage::check::<K>(&self.state, &self.disk)
+    }
+}
+
+impl<K: LeaderKind<u64>> Server<K> {
     /// Its vote.
     pub fn vote(&self) -> Vote<K> {
         *self.state.vote_ref()
@@ -77,11 +111,6 @@ impl<K: LeaderKind<u64>> Server<K> {
     /// Its last log id.
     pub fn last(&self) -> Option<LogId<K>> {
         self.state.last_log_id().copied()
-    }
-
-    /// The effective members.
-    pub fn members(&self) -> &Members {
-        self.state.membership_state.effective().membership()
     }
 
     /// Whether it leads.
@@ -107,7 +136,7 @@ impl<K: LeaderKind<u64>> Server<K> {
 
     /// Takes over a greater vote, and follows from then on. An answer that tells one is no sign of a
     /// leader, so the moment of its own vote stays.
-    fn yield_to(&mut self, vote: Vote<K>) {
+    pub fn yield_to(&mut self, vote: Vote<K>) {
         if vote > self.vote() {
             self.role = Role::Follower;
             *self.state.vote.get_mut() = vote;
@@ -116,81 +145,75 @@ impl<K: LeaderKind<u64>> Server<K> {
     }
 
     /// Sends a message with its vote.
-    pub fn send(&self, to: u64, message: Message<K>, mail: &mut Mail<K>) -> Result<()> {
-        let envelope = Envelope {
-            from: self.id,
-            to,
+    pub fn send(&self, to: u64, content: Content<K>, mail: &mut Mail<Message<K>>) -> Result<()> {
+        let message = Message {
             vote: self.vote(),
-            message,
+            content,
         };
-        mail.push(Rc::new(self.alloc, envelope)?)?;
+        let from = self.id;
+        mail.push(Rc::new(self.alloc, Envelope { from, to, message })?)?;
         Ok(())
     }
 
-    /// Answers a message that asks for something, and takes one that answers.
-    pub fn receive(&mut self, now: u64, envelope: &Envelope<K>, mail: &mut Mail<K>) -> Result<()> {
-        let (from, vote) = (envelope.from, envelope.vote);
-        self.event = None;
-        match &envelope.message {
-            Message::AskVote(last) => {
-                let own = self.last();
-                let is_voted = self.takes_candidate(*last) && self.promise(now, vote);
-                self.send(from, Message::Voted(is_voted, own), mail)
-            }
-            Message::Append(request, logs) => {
-                let outcome = self.append(now, vote, logs)?;
-                self.respond(from, *request, outcome, mail)
-            }
-            Message::Install(request, snapshot) => {
-                let outcome = self.install(now, vote, snapshot)?;
-                self.respond(from, Some(*request), outcome, mail)
-            }
-            Message::Voted(is_voted, last) => {
-                self.yield_to(vote);
-                if *is_voted && vote == self.vote() {
-                    return self.count_vote(now, from);
-                }
-                self.is_behind = self.is_behind || log_id_below(self.last(), *last);
-                Ok(())
-            }
-            Message::Responded(response) => {
-                self.yield_to(vote);
-                if self.leads() && vote == self.vote() {
-                    return self.take_response(from, response);
-                }
-                Ok(())
-            }
-        }
-    }
-
     /// Responds to a leader.
-    fn respond(
+    pub fn respond(
         &self,
         to: u64,
         request: Option<u64>,
         outcome: Outcome<K>,
-        mail: &mut Mail<K>,
+        mail: &mut Mail<Message<K>>,
     ) -> Result<()> {
-        self.send(to, Message::Responded(Response { request, outcome }), mail)
+        self.send(to, Content::Responded(Response { request, outcome }), mail)
+    }
+
+    /// Answers a candidate with this last log id.
+    pub fn answer_candidate(
+        &mut self,
+        now: u64,
+        from: u64,
+        vote: Vote<K>,
+        last: Option<LogId<K>>,
+        mail: &mut Mail<Message<K>>,
+    ) -> Result<()> {
+        let own = self.last();
+        let is_voted = self.takes_candidate(last) && self.promise(now, vote);
+        self.send(from, Content::Voted(is_voted, own), mail)
     }
 
     /// Whether a candidate's log is not behind the own one.
     fn takes_candidate(&self, last: Option<LogId<K>>) -> bool {
         self.fault == Some(Fault::AnyCandidate) || log_id_at_most(self.last(), last)
     }
-}
 
-/// The leader of the greatest vote.
-pub fn greatest_leader<K: LeaderKind<u64>>(servers: &[Server<K>]) -> Option<&Server<K>> {
-    let mut leader: Option<&Server<K>> = None;
-    for server in servers {
-        let is_greater = match leader {
-            Some(other) => server.vote() > other.vote(),
-            None => true,
-        };
-        if server.leads() && is_greater {
-            leader = Some(server);
+    /// Takes the answer of a voter with this last log id.
+    pub fn take_vote(
+        &mut self,
+        now: u64,
+        from: u64,
+        vote: Vote<K>,
+        is_voted: bool,
+        last: Option<LogId<K>>,
+    ) -> Result<()> {
+        self.yield_to(vote);
+        if is_voted && vote == self.vote() {
+            return self.count_vote(now, from);
         }
+        self.is_behind = self.is_behind || log_id_below(self.last(), last);
+        Ok(())
     }
-    leader
+
+    /// Takes a follower's response.
+    pub fn take_response(
+        &mut self,
+        from: u64,
+        vote: Vote<K>,
+        response: &Response<K>,
+    ) -> Result<()> {
+        self.yield_to(vote);
+        if self.leads() && vote == self.vote() {
+            let _taken = self.followers.take_response(from, response);
+            return self.commit();
+        }
+        Ok(())
+    }
 }

@@ -1,11 +1,11 @@
 //! What a server does with its disk: it writes, applies, builds snapshots, purges, and starts again.
 
-use crate::events::Event;
-use crate::server::{Role, Server};
+use crate::replica::Replica;
+use crate::server::Server;
 use crate::types::{Disk, Entry, Leader, LogId, Snapshot, State, end};
 use anyhow::{Result, ensure};
 use raft_base::{
-    EmptyNode, LeaderKind, LogIdOptionExt, LogStateReader, UTime, log_id_at_most, log_id_below,
+    EmptyNode, LeaderKind, LogIdOptionExt, LogStateReader, Validate, log_id_at_most, log_id_below,
 };
 use raft_members::EffectiveMembershipOf;
 use raft_state::{AcceptedOf, MembershipStateOf, RaftPayload};
@@ -50,24 +50,41 @@ impl<K: LeaderKind<u64>> Server<K> {
                 .any(|follower| follower.1.is_log_range_inflight(upto))
     }
 
-    /// Starts again from what is on disk: the vote, the snapshot, the entries, and what is applied.
-    /// One that led leads on.
-    pub fn restart(&mut self, now: u64) -> Result<()> {
+    /// Takes its state back to what is on disk: the vote, the snapshot, the entries, and what is
+    /// applied.
+    pub fn reload(&mut self, now: u64) -> Result<()> {
         let before = self.state.membership_state.effective().clone()?;
         load::<K>(&mut self.state, now, &self.disk)?;
         ensure!(
             self.members() == before.membership(),
             "the members are other ones"
         );
-        self.role = Role::Follower;
-        self.is_behind = false;
-        // One that was removed has its committed vote still.
-        if self.state.is_leader(&self.id) && self.may_campaign() {
-            self.lead(now)?;
-        }
-        self.event = Some(Event::Restarted);
         Ok(())
     }
+}
+
+/// An error, unless a state is valid, what it has committed is in its log, and a disk has that log.
+pub fn check<K: LeaderKind<u64>>(state: &State<K>, disk: &Disk<K>) -> Result<()> {
+    state.validate()?;
+    ensure!(
+        state.purge_upto_is_logged(),
+        "the purge point is not logged"
+    );
+    ensure!(state.committed_is_logged(), "a committed entry is lost");
+    check_disk::<K>(state, disk)
+}
+
+/// An error, unless a disk has what is in the log of a state.
+fn check_disk<K: LeaderKind<u64>>(state: &State<K>, disk: &Disk<K>) -> Result<()> {
+    let length = end(state.last_log_id().copied()).saturating_sub(state.purged_next);
+    ensure!(disk.len() as u64 == length, "the disk has another log");
+    for (index, entry) in disk {
+        ensure!(
+            state.get_log_id(*index) == Some(entry.log_id),
+            "the disk has another {index}"
+        );
+    }
+    Ok(())
 }
 
 /// Whether a log has an entry, and has not purged it.
