@@ -51,11 +51,9 @@ impl<S: Duties> Cluster<S> {
 
     /// Writes a line of its chart.
     pub fn draw(&mut self, text: &mut String) -> Result<(), AllocError> {
-        let mut line = String::new(*text.allocator());
-        write!(line, "{:>4} ", self.now)?;
-        chart::line(&mut line, &self.servers, &self.network)?;
-        self.notes.end_line(&mut line)?;
-        writeln!(text, "{}", line.trim_end())
+        write!(text, "{:>4} ", self.now)?;
+        chart::line(text, &self.servers, &self.network)?;
+        self.notes.end_line(text)
     }
 
     /// Something happens, and all is still well.

@@ -4,29 +4,27 @@ use crate::events::Event;
 use crate::fault::Fault;
 use crate::message::{Content, Envelope, Mail, Message};
 use crate::replica::{Duties, Replica, Role};
-use crate::server::{Ballot, Server};
+use crate::leader::{new_ballot, nobody};
+use crate::server::Server;
 use crate::storage;
 use crate::types::{Change, Inflight, Members, Payload, State, Vote, end};
 use anyhow::{Result, bail};
 use raft_base::{Instant, LeaderKind, LogIdRangeOf, LogStateReader, UTime};
 use raft_members::ChangeMembershipErrorOf;
-use raft_state_tests::turn::Followers;
 use std::alloc::Global;
-use std::collections::BTreeMap;
 
 impl<K: LeaderKind<u64>> Duties for Server<K> {
     type Message = Message<K>;
 
     fn new(alloc: Global, id: u64, fault: Option<Fault>) -> Result<Self> {
-        let ballot = Ballot::new(Members::try_default(alloc)?, false)?;
-        let followers = Followers::new(Members::try_default(alloc)?, 0)?;
+        let (ballot, followers) = nobody::<K>(alloc)?;
         let state = State::<K>::try_default(alloc)?;
         Ok(Server {
             alloc,
             id,
             fault,
             state,
-            disk: BTreeMap::new(alloc),
+            disk: Vec::new(alloc),
             role: Role::Follower,
             ballot,
             followers,
@@ -99,7 +97,7 @@ impl<K: LeaderKind<u64>> Duties for Server<K> {
         let term = self.term().saturating_add(1);
         self.save_vote(now, Vote::<K>::new(term, self.id));
         self.role = Role::Candidate;
-        self.ballot = Ballot::new(self.members().try_clone()?, false)?;
+        self.ballot = new_ballot(self.members())?;
         self.ask_votes(mail)?;
         self.count_vote(now, self.id)
     }

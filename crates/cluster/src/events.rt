@@ -78,13 +78,11 @@ impl Counts {
         *count = count.saturating_add(more);
     }
 
-    /// Adds what a safe run has counted, and whether it has settled.
-    pub fn add_run(&mut self, run: &Counts, is_settled: bool) {
-        for (count, more) in self.counts.iter_mut().zip(&run.counts) {
+    /// All happens that another one has counted.
+    pub fn add_all(&mut self, other: &Counts) {
+        for (count, more) in self.counts.iter_mut().zip(&other.counts) {
             *count = count.saturating_add(*more);
         }
-        self.add(Event::Safe, 1);
-        self.add(Event::Settled, u64::from(is_settled));
     }
 }
 
@@ -135,7 +133,7 @@ impl Notes {
 
     /// Ends a line with what is noted, and begins anew.
     pub fn end_line(&mut self, line: &mut String) -> Result<(), AllocError> {
-        write!(line, " {}", self.text)?;
+        writeln!(line, " {}", self.text)?;
         self.text.clear();
         Ok(())
     }

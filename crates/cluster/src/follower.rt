@@ -2,10 +2,11 @@
 
 use crate::events::Event;
 use crate::fault::Fault;
+use crate::replica::Replica;
 use crate::server::Server;
 use crate::storage;
-use crate::types::{LogId, Snapshot, State, Vote};
-use anyhow::{Result, ensure};
+use crate::types::{Snapshot, Vote};
+use anyhow::Result;
 use raft_base::{LeaderKind, LogStateReader, log_id_below};
 use raft_state_tests::turn::{Logs, Outcome, take_logs};
 
@@ -20,13 +21,19 @@ impl<K: LeaderKind<u64>> Server<K> {
             return Ok(Outcome::Matches(logs.last()));
         }
         let last = self.last();
-        let outcome = take_logs(&mut self.state, logs)?;
-        self.flush(&logs.entries)?;
+        let outcome = self.write_logs(logs)?;
         if let Some(last) = last {
-            if self.state.get_log_id(last.index) != Some(last) {
+            if !self.has(last) {
                 self.event = Some(Event::CutBack);
             }
         }
+        Ok(outcome)
+    }
+
+    /// Takes a leader's logs, also to disk.
+    fn write_logs(&mut self, logs: &Logs<K>) -> Result<Outcome<K>> {
+        let outcome = take_logs(&mut self.state, logs)?;
+        self.flush(&logs.entries)?;
         Ok(outcome)
     }
 
@@ -54,25 +61,10 @@ impl<K: LeaderKind<u64>> Server<K> {
         }
         self.is_behind = false;
         if log_id_below(self.state.committed, snapshot.last_log_id) {
-            install::<K>(&mut self.state, snapshot)?;
+            storage::install::<K>(&mut self.state, snapshot)?;
             storage::cut::<K>(&mut self.disk, &self.state);
             self.event = Some(Event::Installed);
         }
         Ok(Outcome::Matches(snapshot.last_log_id))
     }
-}
-
-/// Installs a snapshot, which storage then has, and has applied, with the log purged up to it.
-fn install<K: LeaderKind<u64>>(state: &mut State<K>, snapshot: &Snapshot<K>) -> Result<()> {
-    ensure!(
-        state.can_install_snapshot(snapshot),
-        "a snapshot does not fit"
-    );
-    state.install_snapshot(snapshot.try_clone()?)?;
-    let upto = snapshot.last_log_id;
-    let io_state = state.io_state_mut();
-    io_state.applied = io_state.applied.max(upto);
-    io_state.snapshot = io_state.snapshot.max(upto);
-    io_state.purged = upto;
-    Ok(())
 }

@@ -5,12 +5,14 @@ use crate::events::Event;
 use crate::fault::Fault;
 use crate::message::{Content, Mail, Message};
 use crate::replica::{Replica, Role};
-use crate::server::Server;
+use crate::server::{Ballot, Server};
+use crate::storage;
 use crate::types::{Change, Entry, Leader, LogId, Members, Payload, end};
-use anyhow::{Context, Result, ensure};
+use anyhow::Result;
 use raft_base::{LeaderKind, LogIdRangeOf};
 use raft_progress::Progress;
 use raft_state_tests::turn::{Followers, Logs};
+use std::alloc::{AllocError, Global};
 use std::collections::BTreeSet;
 
 impl<K: LeaderKind<u64>> Server<K> {
@@ -51,7 +53,7 @@ impl<K: LeaderKind<u64>> Server<K> {
         self.save_vote(now, vote);
         self.is_behind = false;
         self.event = Some(Event::Elected);
-        self.followers = Followers::new(self.members().try_clone()?, self.end())?;
+        self.followers = new_followers::<K>(self.members(), self.end())?;
         self.role = Role::Leader;
         self.propose(Payload::Blank)
     }
@@ -73,11 +75,7 @@ impl<K: LeaderKind<u64>> Server<K> {
 
     /// Writes entries of its own.
     fn write_all(&mut self, entries: &[Entry<K>]) -> Result<()> {
-        ensure!(
-            self.state.can_append_entries(entries),
-            "an entry does not follow"
-        );
-        self.state.append_entries(entries)?;
+        storage::append::<K>(&mut self.state, entries)?;
         self.flush(entries)
     }
 
@@ -94,9 +92,8 @@ impl<K: LeaderKind<u64>> Server<K> {
     /// Commits what a quorum has.
     pub fn commit(&mut self) -> Result<()> {
         self.followers.commit(&mut self.state)?;
-        let granted = self.followers.granted();
-        if self.fault == Some(Fault::CountAlone) && self.state.can_commit(&granted) {
-            self.state.update_committed(&granted)?;
+        if self.fault == Some(Fault::CountAlone) {
+            return storage::commit::<K>(&mut self.state, self.followers.granted());
         }
         Ok(())
     }
@@ -121,24 +118,23 @@ impl<K: LeaderKind<u64>> Server<K> {
     /// The entries from an index up to another one.
     fn entries(&self, first: u64, end: u64) -> Result<Vec<Entry<K>>> {
         let mut entries = Vec::new(self.alloc);
-        for index in first..end {
-            entries.push(self.stored(index)?.try_clone()?)?;
+        if let Some(stored) = self.disk.get(self.place(first)..self.place(end)) {
+            entries.extend_with_clones(stored)?;
         }
         Ok(entries)
     }
 
-    /// The entry at an index.
-    fn stored(&self, index: u64) -> Result<&Entry<K>> {
-        self.entry(index).context("an entry is to be sent and is purged")
+    /// Goes over to other members; with a fault that is planted, at once to the last config.
+    pub fn go_over(&mut self, members: Members, retain: bool) -> Result<()> {
+        if self.fault == Some(Fault::NoJoint) {
+            let last = members.change(self.last_of_joint(), retain)?;
+            return self.propose_members(last);
+        }
+        self.propose_members(members)
     }
 
     /// Proposes other members, and counts by them.
-    pub fn go_over(&mut self, members: Members, retain: bool) -> Result<()> {
-        let members = if self.fault == Some(Fault::NoJoint) {
-            members.change(self.last_of_joint(), retain)?
-        } else {
-            members
-        };
+    fn propose_members(&mut self, members: Members) -> Result<()> {
         self.write(Payload::Membership(members))?;
         self.event = Some(Event::Changed);
         self.count_by_members()
@@ -156,4 +152,24 @@ impl<K: LeaderKind<u64>> Server<K> {
     pub fn last_of_joint(&self) -> Change {
         Change::AddVoterIds(BTreeSet::new(self.alloc))
     }
+}
+
+/// A ballot on which nobody has voted.
+pub fn new_ballot(members: &Members) -> Result<Ballot, AllocError> {
+    Ballot::new(members.try_clone()?, false)
+}
+
+/// Followers of which nothing is known, but that their logs end before an index.
+fn new_followers<K: LeaderKind<u64>>(
+    members: &Members,
+    end: u64,
+) -> Result<Followers<K>, AllocError> {
+    Followers::new(members.try_clone()?, end)
+}
+
+/// A ballot and followers without members.
+pub fn nobody<K: LeaderKind<u64>>(alloc: Global) -> Result<(Ballot, Followers<K>), AllocError> {
+    let members = Members::try_default(alloc)?;
+    let ballot = new_ballot(&members)?;
+    Ok((ballot, new_followers::<K>(&members, 0)?))
 }

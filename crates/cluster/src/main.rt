@@ -34,6 +34,7 @@ use fault::Fault;
 use raft_base::{LeaderAdv, LeaderKind, LeaderStd};
 use replica::Duties;
 use server::Server;
+use std::alloc::AllocError;
 use std::env;
 
 /// How many events a cluster has to settle in, once its network is mended.
@@ -95,20 +96,22 @@ fn run_all<K: LeaderKind<u64>>(text: &mut String, plan: &Plan) -> Result<Counts>
 /// Runs a cluster of a seed, and adds what happens to what has.
 fn run<S: Duties>(text: &mut String, plan: &Plan, seed: u64, total: &mut Counts) -> Result<()> {
     let mut cluster = Cluster::<S>::new(*text.allocator(), seed);
-    match play::<S>(text, plan, &mut cluster) {
-        Ok(is_settled) => {
-            total.add_run(&cluster.notes.counts, is_settled);
-            if !is_settled {
-                writeln!(text, "seed {seed}: it does not settle")?;
-            }
-        }
-        Err(error) => writeln!(text, "seed {seed}: event {}: {error:#}", cluster.now)?,
-    }
+    let outcome = play::<S>(text, plan, &mut cluster);
+    total.add_all(&cluster.notes.counts);
+    tell(text, seed, cluster.now, outcome)?;
     Ok(())
 }
 
-/// Lets events happen to a cluster, and draws its chart. False if it does not settle.
-fn play<S: Duties>(text: &mut String, plan: &Plan, cluster: &mut Cluster<S>) -> Result<bool> {
+/// Writes how a run has ended, if not well.
+fn tell(text: &mut String, seed: u64, now: u64, outcome: Result<()>) -> Result<(), AllocError> {
+    match outcome {
+        Ok(()) => Ok(()),
+        Err(error) => writeln!(text, "seed {seed}: event {now}: {error:#}"),
+    }
+}
+
+/// Lets events happen to a cluster, and draws its chart.
+fn play<S: Duties>(text: &mut String, plan: &Plan, cluster: &mut Cluster<S>) -> Result<()> {
     cluster.start(*text.allocator(), plan.fault)?;
     for event in 0..plan.events {
         if event.checked_rem(plan.every) == Some(0) {
@@ -120,7 +123,10 @@ fn play<S: Duties>(text: &mut String, plan: &Plan, cluster: &mut Cluster<S>) -> 
     if plan.every > 0 {
         cluster.draw(text)?;
     }
-    Ok(is_settled)
+    cluster.notes.counts.add(Event::Safe, 1);
+    ensure!(is_settled, "it does not settle");
+    cluster.notes.counts.add(Event::Settled, 1);
+    Ok(())
 }
 
 fn main(rt: HostRuntime) -> Result<()> {
@@ -135,7 +141,10 @@ fn main(rt: HostRuntime) -> Result<()> {
     } else {
         run_all::<LeaderAdv>(&mut text, &plan)?
     };
-    println!(rt; "{text}{total}")?;
+    for line in text.lines() {
+        println!(rt; "{}", line.trim_end())?;
+    }
+    println!(rt; "{total}")?;
     ensure!(
         total.of(Event::Settled) == plan.count,
         "not all runs were safe and settled"

@@ -36,9 +36,7 @@ impl<S: Replica> History<S> {
             bail!("no server at {place}");
         };
         server.check()?;
-        for other in servers {
-            check_pair(server, other)?;
-        }
+        check_pairs(server, servers)?;
         let commits = self.commit(server)?;
         notes.counts.add(Event::Committed, commits);
         if commits > 0 || event == Some(Event::Elected) {
@@ -100,12 +98,15 @@ impl<S: Replica> History<S> {
     }
 }
 
-/// Whether two servers are well together: their logs match, and a leader knows of no match that isn't
-/// so.
-fn check_pair<S: Replica>(one: &S, other: &S) -> Result<()> {
-    check_match(one, other)?;
-    check_known(one, other)?;
-    check_known(other, one)
+/// Whether a server is well together with others: their logs match, and a leader knows of no match
+/// that isn't so.
+fn check_pairs<S: Replica>(server: &S, others: &[S]) -> Result<()> {
+    for other in others {
+        check_match(server, other)?;
+        check_known(server, other)?;
+        check_known(other, server)?;
+    }
+    Ok(())
 }
 
 /// Whether two servers have the same entries up to the last log id that both have.

@@ -11,7 +11,6 @@ use raft_base::{EmptyNode, LeaderKind, LogIdOptionExt, LogStateReader, log_id_at
 use raft_progress::{ProgressPart, Tracked};
 use raft_state_tests::turn::{Followers, Outcome, Response};
 use std::alloc::Global;
-use std::collections::BTreeMap;
 use std::rc::Rc;
 
 /// Who has voted for a candidate.
@@ -78,7 +77,7 @@ impl<K: LeaderKind<u64>> Replica for Server<K> {
     }
 
     fn entry(&self, index: u64) -> Option<&Entry<K>> {
-        self.disk.get(&index)
+        self.disk.get(self.place(index))
     }
 
     fn has(&self, log_id: LogId<K>) -> bool {
@@ -116,6 +115,11 @@ impl<K: LeaderKind<u64>> Server<K> {
     /// Whether it leads.
     pub fn leads(&self) -> bool {
         self.role == Role::Leader
+    }
+
+    /// The place of an index on its disk.
+    pub fn place(&self, index: u64) -> usize {
+        index.saturating_sub(self.state.purged_next) as usize
     }
 
     /// Writes a vote, also to disk.

@@ -8,25 +8,20 @@ use raft_base::{
     EmptyNode, LeaderKind, LogIdOptionExt, LogStateReader, Validate, log_id_at_most, log_id_below,
 };
 use raft_members::EffectiveMembershipOf;
-use raft_state::{AcceptedOf, MembershipStateOf, RaftPayload};
+use raft_state::AcceptedOf;
 use std::alloc::Global;
-use std::rc::Rc;
 
 /// What is known of the members at a place in the log.
 type Membership<K> = EffectiveMembershipOf<Leader<K>, u64, EmptyNode>;
 
-/// The committed members, and the effective ones.
-type Memberships<K> = MembershipStateOf<Leader<K>, u64, EmptyNode>;
-
 impl<K: LeaderKind<u64>> Server<K> {
-    /// Writes to disk what its log has of these entries.
+    /// Writes to disk those of these entries, the last ones of its log, that it does not have, once
+    /// what is no longer in the log is removed.
     pub fn flush(&mut self, entries: &[Entry<K>]) -> Result<()> {
         cut::<K>(&mut self.disk, &self.state);
-        for entry in entries {
-            if has_entry::<K>(&self.state, entry) {
-                self.disk.insert(entry.log_id.index, entry.try_clone()?)?;
-            }
-        }
+        let missing = self.place(self.end()).saturating_sub(self.disk.len());
+        let (_stored, new) = entries.split_at(entries.len().saturating_sub(missing));
+        self.disk.extend_with_clones(new)?;
         Ok(())
     }
 
@@ -50,17 +45,58 @@ impl<K: LeaderKind<u64>> Server<K> {
                 .any(|follower| follower.1.is_log_range_inflight(upto))
     }
 
-    /// Takes its state back to what is on disk: the vote, the snapshot, the entries, and what is
-    /// applied.
+    /// Makes its state anew from what is on disk: the vote, the snapshot, the entries after it, and
+    /// what is applied. What comes before is purged.
     pub fn reload(&mut self, now: u64) -> Result<()> {
-        let before = self.state.membership_state.effective().clone()?;
-        load::<K>(&mut self.state, now, &self.disk)?;
-        ensure!(
-            self.members() == before.membership(),
-            "the members are other ones"
-        );
+        self.state = self.stored_state(now)?;
+        cut::<K>(&mut self.disk, &self.state);
         Ok(())
     }
+
+    /// The state that is on disk.
+    fn stored_state(&self, now: u64) -> Result<State<K>> {
+        let mut state = State::<K>::try_default(self.alloc)?;
+        restore_snapshot::<K>(&mut state, now, &self.state)?;
+        restore_log::<K>(&mut state, &self.state, &self.disk)?;
+        Ok(state)
+    }
+}
+
+/// Takes over a stored vote, how far storage has got, and its snapshot.
+fn restore_snapshot<K: LeaderKind<u64>>(
+    state: &mut State<K>,
+    now: u64,
+    stored: &State<K>,
+) -> Result<()> {
+    let vote = stored.io_state().vote;
+    *state.io_state_mut() = *stored.io_state();
+    if stored.snapshot_meta.last_log_id.is_some() {
+        // It is installed as a leader's, and then is none's: who leads now is not known yet.
+        state.vote.get_mut().commit();
+        install::<K>(state, &stored.snapshot_meta)?;
+        state.accepted = AcceptedOf::<u64, K>::new(K::Leader::default(), None);
+    }
+    state.vote.update(now, vote);
+    Ok(())
+}
+
+/// Takes over the entries that come after the snapshot, and commits what is applied, and what is
+/// known to be committed for its members: each are proposed once those before them are committed.
+fn restore_log<K: LeaderKind<u64>>(
+    state: &mut State<K>,
+    stored: &State<K>,
+    disk: &[Entry<K>],
+) -> Result<()> {
+    let old = state.purged_next.saturating_sub(stored.purged_next) as usize;
+    append::<K>(state, disk.get(old..).unwrap_or(&[]))?;
+    let known = *state.membership_state.committed().log_id();
+    commit::<K>(state, known.max(stored.io_state().applied))?;
+    ensure!(
+        state.membership_state.effective().membership()
+            == stored.membership_state.effective().membership(),
+        "the members are other ones"
+    );
+    Ok(())
 }
 
 /// An error, unless a state is valid, what it has committed is in its log, and a disk has that log.
@@ -75,12 +111,12 @@ pub fn check<K: LeaderKind<u64>>(state: &State<K>, disk: &Disk<K>) -> Result<()>
 }
 
 /// An error, unless a disk has what is in the log of a state.
-fn check_disk<K: LeaderKind<u64>>(state: &State<K>, disk: &Disk<K>) -> Result<()> {
+fn check_disk<K: LeaderKind<u64>>(state: &State<K>, disk: &[Entry<K>]) -> Result<()> {
     let length = end(state.last_log_id().copied()).saturating_sub(state.purged_next);
     ensure!(disk.len() as u64 == length, "the disk has another log");
-    for (index, entry) in disk {
+    for (index, entry) in (state.purged_next..).zip(disk) {
         ensure!(
-            state.get_log_id(*index) == Some(entry.log_id),
+            state.get_log_id(index) == Some(entry.log_id),
             "the disk has another {index}"
         );
     }
@@ -95,7 +131,7 @@ fn has_entry<K: LeaderKind<u64>>(state: &State<K>, entry: &Entry<K>) -> bool {
 
 /// Removes from a disk what a log no longer has.
 pub fn cut<K: LeaderKind<u64>>(disk: &mut Disk<K>, state: &State<K>) {
-    disk.retain(|_, entry| has_entry::<K>(state, entry));
+    disk.retain(|entry| has_entry::<K>(state, entry));
 }
 
 /// Applies what is committed, no more than so many entries.
@@ -110,7 +146,8 @@ pub fn apply<K: LeaderKind<u64>>(state: &mut State<K>, most: u64) {
     }
 }
 
-/// Builds a snapshot of what is applied, and plans to purge all but the last few entries of it.
+/// Builds a snapshot of what is applied, if it has more than the one before, and plans to purge all
+/// but the last few entries of it.
 pub fn build_snapshot<K: LeaderKind<u64>>(
     state: &mut State<K>,
     alloc: Global,
@@ -121,20 +158,29 @@ pub fn build_snapshot<K: LeaderKind<u64>>(
     if !log_id_below(state.io_state().snapshot, applied) {
         return Ok(());
     }
-    let last_membership = match applied_membership::<K>(state) {
-        Some(membership) => membership.stored_membership().try_clone()?,
-        None => return Ok(()),
-    };
-    let snapshot_id = format!(in alloc; "{id}-{}", end(applied))?;
-    state.snapshot_meta = Snapshot::<K> {
-        last_log_id: applied,
-        last_membership,
-        snapshot_id,
-    };
-    state.io_state_mut().update_snapshot(applied);
-    let upto = state.get_log_id(applied.index().unwrap_or(0).saturating_sub(keep));
-    state.purge_upto = state.purge_upto.max(upto);
+    if let Some(membership) = applied_membership::<K>(state) {
+        let last_membership = membership.stored_membership().try_clone()?;
+        let snapshot_id = format!(in alloc; "{id}-{}", end(applied))?;
+        state.io_state_mut().update_snapshot(applied);
+        save_snapshot::<K>(
+            state,
+            Snapshot::<K> {
+                last_log_id: applied,
+                last_membership,
+                snapshot_id,
+            },
+            keep,
+        );
+    }
     Ok(())
+}
+
+/// Takes over a snapshot, and plans to purge all but the last few entries of it.
+fn save_snapshot<K: LeaderKind<u64>>(state: &mut State<K>, snapshot: Snapshot<K>, keep: u64) {
+    let last = snapshot.last_log_id;
+    state.snapshot_meta = snapshot;
+    let upto = state.get_log_id(last.index().unwrap_or(0).saturating_sub(keep));
+    state.purge_upto = state.purge_upto.max(upto);
 }
 
 /// The last membership that is applied, if it is one of the two that are known.
@@ -157,61 +203,34 @@ fn purge<K: LeaderKind<u64>>(state: &mut State<K>, upto: &LogId<K>) -> Result<()
     Ok(())
 }
 
-/// Takes a state back to what is on disk.
-fn load<K: LeaderKind<u64>>(state: &mut State<K>, now: u64, disk: &Disk<K>) -> Result<()> {
-    let (vote, purged) = (state.io_state().vote, state.io_state().purged);
-    state.vote.update(now, vote);
-    state.accepted = AcceptedOf::<u64, K>::new(K::Leader::default(), None);
-    state.purge_upto = purged;
-    state.purged_next = end(purged);
-    state.log_ids.truncate(0);
-    if let Some(purged) = purged {
-        append_id::<K>(state, purged)?;
-    }
-    state.membership_state = members_of::<K>(&state.snapshot_meta)?;
-    for entry in disk.values() {
-        append_id::<K>(state, entry.log_id)?;
-        append_members::<K>(state, entry)?;
-    }
-    commit_applied::<K>(state)
-}
-
-/// Appends a log id.
-fn append_id<K: LeaderKind<u64>>(state: &mut State<K>, log_id: LogId<K>) -> Result<()> {
-    ensure!(state.log_ids.can_append(log_id), "{log_id} does not follow");
-    state.log_ids.append(log_id)?;
-    Ok(())
-}
-
-/// The members in a snapshot.
-fn members_of<K: LeaderKind<u64>>(snapshot: &Snapshot<K>) -> Result<Memberships<K>> {
-    let stored = snapshot.last_membership.try_clone()?;
-    let alloc = *snapshot.snapshot_id.allocator();
-    let members = Rc::new(alloc, Membership::<K>::new_from_stored_membership(stored)?)?;
-    Ok(MembershipStateOf::new(members.clone()?, members))
-}
-
-/// Appends the members that an entry has, if they are not in the snapshot.
-fn append_members<K: LeaderKind<u64>>(state: &mut State<K>, entry: &Entry<K>) -> Result<()> {
-    if let Some(members) = entry.get_membership() {
-        let next = Membership::<K>::new_arc(Some(entry.log_id), members.try_clone()?)?;
-        if state.membership_state.can_append(&next) {
-            state.membership_state.append(next);
-        }
-    }
-    Ok(())
-}
-
-/// Commits what is applied, and the members that are known to be committed: each membership is
-/// proposed once the one before it is.
-fn commit_applied<K: LeaderKind<u64>>(state: &mut State<K>) -> Result<()> {
-    let applied = state.io_state().applied;
+/// Installs a snapshot, which storage then has, and has applied, with the log purged up to it.
+pub fn install<K: LeaderKind<u64>>(state: &mut State<K>, snapshot: &Snapshot<K>) -> Result<()> {
     ensure!(
-        state.membership_state.can_commit(&applied),
-        "members are past what is applied"
+        state.can_install_snapshot(snapshot),
+        "a snapshot does not fit"
     );
-    state.membership_state.commit(&applied)?;
-    let committed = *state.membership_state.committed().log_id();
-    state.committed = committed.max(applied);
+    state.install_snapshot(snapshot.try_clone()?)?;
+    let upto = snapshot.last_log_id;
+    let io_state = state.io_state_mut();
+    io_state.applied = io_state.applied.max(upto);
+    io_state.snapshot = io_state.snapshot.max(upto);
+    io_state.purged = upto;
+    Ok(())
+}
+
+/// Appends entries to a log.
+pub fn append<K: LeaderKind<u64>>(state: &mut State<K>, entries: &[Entry<K>]) -> Result<()> {
+    ensure!(
+        state.can_append_entries(entries),
+        "an entry does not follow"
+    );
+    state.append_entries(entries)?;
+    Ok(())
+}
+
+/// Commits up to a log id.
+pub fn commit<K: LeaderKind<u64>>(state: &mut State<K>, upto: Option<LogId<K>>) -> Result<()> {
+    ensure!(state.can_commit(&upto), "members are not in turn");
+    state.update_committed(&upto)?;
     Ok(())
 }

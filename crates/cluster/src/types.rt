@@ -6,7 +6,6 @@ use raft_state::{EntryPayload, SnapshotMetaOf};
 pub use raft_state_tests::turn::{
     Entry, FollowerProgress, Inflight, Leader, LogId, Members, State,
 };
-use std::collections::BTreeMap;
 
 /// A vote.
 pub type Vote<K> = VoteOf<u64, K>;
@@ -17,8 +16,8 @@ pub type Payload = EntryPayload<u64, EmptyNode, u64>;
 /// A change of the members.
 pub type Change = ChangeMembers<u64, EmptyNode>;
 
-/// The entries on a server's disk, by their indexes.
-pub type Disk<K> = BTreeMap<u64, Entry<K>>;
+/// The entries on a server's disk: those of its log that are not purged, in their order.
+pub type Disk<K> = Vec<Entry<K>>;
 
 /// What is known of a snapshot.
 pub type Snapshot<K> = SnapshotMetaOf<Leader<K>, u64, EmptyNode>;
