@@ -1,7 +1,7 @@
-//! What a server does unasked, as chance has it.
+//! What a server does with a message, and unasked, as chance has it.
 
 use crate::dice::Dice;
-use crate::message::Mail;
+use crate::network::{Envelope, Network};
 use crate::replica::{Duties, Role};
 use crate::types::Change;
 use anyhow::Result;
@@ -15,26 +15,39 @@ pub const SERVERS: u64 = 5;
 /// How many events a voter waits for a leader at least.
 const TIMEOUT: u64 = 40;
 
+/// A server takes a message, and may answer it.
+pub fn answer<S: Duties>(
+    server: &mut S,
+    now: u64,
+    envelope: &Envelope<S::Message>,
+    network: &mut Network<S::Message>,
+) -> Result<()> {
+    if let Some(answer) = server.receive(now, envelope.from, &envelope.message)? {
+        network.post(envelope.to, envelope.from, answer)?;
+    }
+    Ok(())
+}
+
 /// A server does what a number stands for: 86 and less are requests of a client and the passing of
 /// time.
 pub fn act<S: Duties>(
     server: &mut S,
     what: u64,
     now: u64,
-    mail: &mut Mail<S::Message>,
+    network: &mut Network<S::Message>,
     dice: &mut Dice,
 ) -> Result<()> {
     let leads = server.role() == Role::Leader;
     match what {
         81..=86 if leads => server.request(now),
-        87..=90 if leads => change_some(server, *mail.allocator(), dice),
+        87..=90 if leads => change_some(server, network.alloc(), dice),
         81..=90 => Ok(()),
         91..=95 => {
             server.apply(4);
             server.compact(dice.below(4))
         }
         96 => server.restart(now),
-        _ => tick(server, now, mail, dice),
+        _ => tick(server, now, network, dice),
     }
 }
 
@@ -86,37 +99,50 @@ fn some_close<S: Duties>(
 fn tick<S: Duties>(
     server: &mut S,
     now: u64,
-    mail: &mut Mail<S::Message>,
+    network: &mut Network<S::Message>,
     dice: &mut Dice,
 ) -> Result<()> {
     server.apply(dice.below(8));
     if server.role() == Role::Leader {
         for id in 1..=SERVERS {
             if id != server.id() && server.members().contains(&id) {
-                replicate(server, id, mail, dice)?;
+                replicate(server, id, network, dice)?;
             }
         }
         server.end_change()
     } else if server.has_waited(now, dice.below(TIMEOUT).saturating_add(TIMEOUT)) {
-        server.campaign(now, mail)
+        server.campaign(now)?;
+        ask_votes(server, network)
     } else {
         Ok(())
     }
+}
+
+/// A candidate asks the other voters for their votes.
+fn ask_votes<S: Duties>(server: &S, network: &mut Network<S::Message>) -> Result<()> {
+    for id in 1..=SERVERS {
+        if id != server.id() && server.members().is_voter(&id) {
+            network.post(server.id(), id, server.ask_vote())?;
+        }
+    }
+    Ok(())
 }
 
 /// A leader sends a follower what comes next, and at times a heartbeat.
 fn replicate<S: Duties>(
     server: &mut S,
     to: u64,
-    mail: &mut Mail<S::Message>,
+    network: &mut Network<S::Message>,
     dice: &mut Dice,
 ) -> Result<()> {
     if dice.chance(15) {
         server.give_up(to);
     }
-    server.send_next(to, mail)?;
+    if let Some(message) = server.next_message(to)? {
+        network.post(server.id(), to, message)?;
+    }
     if dice.chance(30) {
-        server.send_heartbeat(to, mail)?;
+        network.post(server.id(), to, server.heartbeat()?)?;
     }
     Ok(())
 }

@@ -75,7 +75,7 @@ impl<S: Duties> Cluster<S> {
         };
         let place = envelope.to.saturating_sub(1) as usize;
         if let Some(server) = self.servers.get_mut(place) {
-            server.receive(self.now, &envelope, &mut self.network.mail)?;
+            acts::answer(server, self.now, &envelope, &mut self.network)?;
         }
         self.look_after(place)
     }
@@ -84,7 +84,7 @@ impl<S: Duties> Cluster<S> {
     fn act(&mut self, what: u64) -> Result<()> {
         let place = self.dice.below(SERVERS) as usize;
         if let Some(server) = self.servers.get_mut(place) {
-            acts::act(server, what, self.now, &mut self.network.mail, &mut self.dice)?;
+            acts::act(server, what, self.now, &mut self.network, &mut self.dice)?;
         }
         self.look_after(place)
     }
@@ -92,8 +92,7 @@ impl<S: Duties> Cluster<S> {
     /// The network is cut in two, or heals.
     fn part(&mut self) -> Result<()> {
         let event = self.network.part(&mut self.dice)?;
-        self.notes.note(None, event)?;
-        Ok(())
+        self.notes.note(None, event)
     }
 
     /// Looks whether all is well after something at a server.

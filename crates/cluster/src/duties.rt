@@ -2,10 +2,10 @@
 
 use crate::events::Event;
 use crate::fault::Fault;
-use crate::message::{Content, Envelope, Mail, Message};
+use crate::leader::{no_ballot, no_followers};
+use crate::message::{Content, Message};
 use crate::replica::{Duties, Replica, Role};
-use crate::leader::{new_ballot, nobody};
-use crate::server::Server;
+use crate::server::{Ballot, Server};
 use crate::storage;
 use crate::types::{Change, Inflight, Members, Payload, State, Vote, end};
 use anyhow::{Result, bail};
@@ -17,7 +17,8 @@ impl<K: LeaderKind<u64>> Duties for Server<K> {
     type Message = Message<K>;
 
     fn new(alloc: Global, id: u64, fault: Option<Fault>) -> Result<Self> {
-        let (ballot, followers) = nobody::<K>(alloc)?;
+        let ballot = no_ballot(alloc)?;
+        let followers = no_followers::<K>(alloc)?;
         let state = State::<K>::try_default(alloc)?;
         Ok(Server {
             alloc,
@@ -37,25 +38,26 @@ impl<K: LeaderKind<u64>> Duties for Server<K> {
         self.write(Payload::Membership(members))
     }
 
-    fn receive(
-        &mut self,
-        now: u64,
-        envelope: &Envelope<Message<K>>,
-        mail: &mut Mail<Message<K>>,
-    ) -> Result<()> {
-        let (from, vote) = (envelope.from, envelope.message.vote);
-        match &envelope.message.content {
-            Content::AskVote(last) => self.answer_candidate(now, from, vote, *last, mail),
-            Content::Voted(is_voted, last) => self.take_vote(now, from, vote, *is_voted, *last),
+    fn receive(&mut self, now: u64, from: u64, message: &Message<K>) -> Result<Option<Message<K>>> {
+        let vote = message.vote;
+        match &message.content {
+            Content::AskVote(last) => Ok(Some(self.answer_candidate(now, vote, *last))),
             Content::Append(request, logs) => {
                 let outcome = self.append(now, vote, logs)?;
-                self.respond(from, *request, outcome, mail)
+                Ok(Some(self.response(*request, outcome)))
             }
             Content::Install(request, snapshot) => {
                 let outcome = self.install(now, vote, snapshot)?;
-                self.respond(from, Some(*request), outcome, mail)
+                Ok(Some(self.response(Some(*request), outcome)))
             }
-            Content::Responded(response) => self.take_response(from, vote, response),
+            Content::Voted(is_voted, last) => {
+                self.take_vote(now, from, vote, *is_voted, *last)?;
+                Ok(None)
+            }
+            Content::Responded(response) => {
+                self.take_response(from, vote, response)?;
+                Ok(None)
+            }
         }
     }
 
@@ -87,19 +89,20 @@ impl<K: LeaderKind<u64>> Duties for Server<K> {
     fn has_waited(&self, now: u64, patience: u64) -> bool {
         let times = if self.is_behind { 5 } else { 1 };
         self.may_campaign()
-            && self
-                .state
-                .vote_last_modified()
-                .is_none_or(|moment| patience.saturating_mul(times) <= moment.elapsed(now))
+            && self.state.vote_last_modified().is_none_or(|moment| patience.saturating_mul(times)
+                <= moment.elapsed(now))
     }
 
-    fn campaign(&mut self, now: u64, mail: &mut Mail<Message<K>>) -> Result<()> {
+    fn campaign(&mut self, now: u64) -> Result<()> {
         let term = self.term().saturating_add(1);
         self.save_vote(now, Vote::<K>::new(term, self.id));
         self.role = Role::Candidate;
-        self.ballot = new_ballot(self.members())?;
-        self.ask_votes(mail)?;
+        self.ballot = Ballot::new(self.members().try_clone()?, false)?;
         self.count_vote(now, self.id)
+    }
+
+    fn ask_vote(&self) -> Message<K> {
+        self.message(Content::AskVote(self.last()))
     }
 
     fn request(&mut self, data: u64) -> Result<()> {
@@ -140,21 +143,23 @@ impl<K: LeaderKind<u64>> Duties for Server<K> {
         self.followers.give_up(to);
     }
 
-    fn send_next(&mut self, to: u64, mail: &mut Mail<Message<K>>) -> Result<()> {
+    fn next_message(&mut self, to: u64) -> Result<Option<Message<K>>> {
         match self.followers.next_request(&self.state, to) {
             Some(Inflight::<K>::Logs { id, log_id_range }) => {
-                self.send_logs(to, Some(id), log_id_range, mail)
+                let logs = self.logs(log_id_range)?;
+                Ok(Some(self.message(Content::Append(Some(id), logs))))
             }
             Some(Inflight::<K>::Snapshot { id, .. }) => {
                 let snapshot = self.state.snapshot_meta.try_clone()?;
-                self.send(to, Content::Install(id, snapshot), mail)
+                Ok(Some(self.message(Content::Install(id, snapshot))))
             }
-            _ => Ok(()),
+            _ => Ok(None),
         }
     }
 
-    fn send_heartbeat(&self, to: u64, mail: &mut Mail<Message<K>>) -> Result<()> {
+    fn heartbeat(&self) -> Result<Message<K>> {
         let last = self.last();
-        self.send_logs(to, None, LogIdRangeOf { prev: last, last }, mail)
+        let logs = self.logs(LogIdRangeOf { prev: last, last })?;
+        Ok(self.message(Content::Append(None, logs)))
     }
 }

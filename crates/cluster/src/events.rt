@@ -1,5 +1,6 @@
 //! What happens in a cluster: how often, and what a chart notes of it.
 
+use anyhow::Result;
 use std::alloc::{AllocError, Global};
 use std::fmt;
 
@@ -117,7 +118,7 @@ impl Notes {
     }
 
     /// Counts something, and notes it, if there is room, with the server that it has happened to.
-    pub fn note(&mut self, server: Option<u64>, event: Event) -> Result<(), AllocError> {
+    pub fn note(&mut self, server: Option<u64>, event: Event) -> Result<()> {
         self.counts.add(event, 1);
         let (alloc, word) = (*self.text.allocator(), event.word());
         let sign = if self.text.is_empty() { "" } else { ", " };

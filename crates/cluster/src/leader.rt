@@ -1,9 +1,7 @@
 //! What a candidate and a leader do.
 
-use crate::acts::SERVERS;
 use crate::events::Event;
 use crate::fault::Fault;
-use crate::message::{Content, Mail, Message};
 use crate::replica::{Replica, Role};
 use crate::server::{Ballot, Server};
 use crate::storage;
@@ -22,16 +20,6 @@ impl<K: LeaderKind<u64>> Server<K> {
         let memberships = &self.state.membership_state;
         memberships.is_voter(&self.id)
             || (memberships.committed().is_voter(&self.id) && memberships.contains(&self.id))
-    }
-
-    /// Asks the other voters for their votes.
-    pub fn ask_votes(&self, mail: &mut Mail<Message<K>>) -> Result<()> {
-        for id in 1..=SERVERS {
-            if id != self.id && self.state.is_voter(&id) {
-                self.send(id, Content::AskVote(self.last()), mail)?;
-            }
-        }
-        Ok(())
     }
 
     /// Counts a vote for it, and leads once a quorum has voted.
@@ -53,7 +41,7 @@ impl<K: LeaderKind<u64>> Server<K> {
         self.save_vote(now, vote);
         self.is_behind = false;
         self.event = Some(Event::Elected);
-        self.followers = new_followers::<K>(self.members(), self.end())?;
+        self.followers = Followers::new(self.members().try_clone()?, self.end())?;
         self.role = Role::Leader;
         self.propose(Payload::Blank)
     }
@@ -98,21 +86,13 @@ impl<K: LeaderKind<u64>> Server<K> {
         Ok(())
     }
 
-    /// Sends the entries of a range.
-    pub fn send_logs(
-        &self,
-        to: u64,
-        request: Option<u64>,
-        range: LogIdRangeOf<Leader<K>>,
-        mail: &mut Mail<Message<K>>,
-    ) -> Result<()> {
-        let entries = self.entries(end(range.prev), end(range.last))?;
-        let logs = Logs {
+    /// The entries of a range, and what is committed.
+    pub fn logs(&self, range: LogIdRangeOf<Leader<K>>) -> Result<Logs<K>> {
+        Ok(Logs {
             prev: range.prev,
-            entries,
+            entries: self.entries(end(range.prev), end(range.last))?,
             committed: self.state.committed,
-        };
-        self.send(to, Content::Append(request, logs), mail)
+        })
     }
 
     /// The entries from an index up to another one.
@@ -154,22 +134,12 @@ impl<K: LeaderKind<u64>> Server<K> {
     }
 }
 
-/// A ballot on which nobody has voted.
-pub fn new_ballot(members: &Members) -> Result<Ballot, AllocError> {
-    Ballot::new(members.try_clone()?, false)
+/// A ballot of no voters.
+pub fn no_ballot(alloc: Global) -> Result<Ballot, AllocError> {
+    Ballot::new(Members::try_default(alloc)?, false)
 }
 
-/// Followers of which nothing is known, but that their logs end before an index.
-fn new_followers<K: LeaderKind<u64>>(
-    members: &Members,
-    end: u64,
-) -> Result<Followers<K>, AllocError> {
-    Followers::new(members.try_clone()?, end)
-}
-
-/// A ballot and followers without members.
-pub fn nobody<K: LeaderKind<u64>>(alloc: Global) -> Result<(Ballot, Followers<K>), AllocError> {
-    let members = Members::try_default(alloc)?;
-    let ballot = new_ballot(&members)?;
-    Ok((ballot, new_followers::<K>(&members, 0)?))
+/// What a server that does not lead knows of followers.
+pub fn no_followers<K: LeaderKind<u64>>(alloc: Global) -> Result<Followers<K>, AllocError> {
+    Followers::new(Members::try_default(alloc)?, 0)
 }

@@ -3,18 +3,6 @@
 use crate::types::{LogId, Snapshot, Vote};
 use raft_base::LeaderKind;
 use raft_state_tests::turn::{Logs, Response};
-use std::rc::Rc;
-
-/// A message on its way.
-#[derive(Drop)]
-pub struct Envelope<M> {
-    pub from: u64,
-    pub to: u64,
-    pub message: M,
-}
-
-/// The messages that are on their way.
-pub type Mail<M> = Vec<Rc<Envelope<M>>>;
 
 /// A message, with its sender's vote.
 #[derive(Drop)]

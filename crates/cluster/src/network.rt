@@ -3,14 +3,21 @@
 use crate::acts::SERVERS;
 use crate::dice::Dice;
 use crate::events::Event;
-use crate::message::{Envelope, Mail};
 use std::alloc::{AllocError, Global};
 use std::rc::Rc;
+
+/// A message on its way.
+#[derive(Drop)]
+pub struct Envelope<M> {
+    pub from: u64,
+    pub to: u64,
+    pub message: M,
+}
 
 /// The messages on their way, and the servers that are cut off.
 #[derive(Drop)]
 pub struct Network<M> {
-    pub mail: Mail<M>,
+    mail: Vec<Rc<Envelope<M>>>,
     /// Whether messages get lost or come twice.
     pub is_rough: bool,
     cut: Vec<u64>,
@@ -49,6 +56,18 @@ impl<M: Drop> Network<M> {
     pub fn mend(&mut self) {
         self.cut.clear();
         self.is_rough = false;
+    }
+
+    /// Sends a message.
+    pub fn post(&mut self, from: u64, to: u64, message: M) -> Result<(), AllocError> {
+        let envelope = Rc::new(self.alloc(), Envelope { from, to, message })?;
+        self.mail.push(envelope)?;
+        Ok(())
+    }
+
+    /// Where its memory comes from.
+    pub fn alloc(&self) -> Global {
+        *self.mail.allocator()
     }
 
     /// One of the messages that are on their way comes in, if it gets through.

@@ -3,7 +3,6 @@
 
 use crate::events::Event;
 use crate::fault::Fault;
-use crate::message::{Envelope, Mail};
 use crate::types::{Change, Members};
 use anyhow::Result;
 use std::alloc::Global;
@@ -83,13 +82,13 @@ pub trait Duties: Replica + Drop {
     /// Begins a cluster of these members.
     fn begin(&mut self, members: Members) -> Result<()>;
 
-    /// Takes a message.
+    /// Takes a message. Some are answered.
     fn receive(
         &mut self,
         now: u64,
-        envelope: &Envelope<Self::Message>,
-        mail: &mut Mail<Self::Message>,
-    ) -> Result<()>;
+        from: u64,
+        message: &Self::Message,
+    ) -> Result<Option<Self::Message>>;
 
     /// What has become of it since it was last asked.
     fn take_event(&mut self) -> Option<Event>;
@@ -106,8 +105,11 @@ pub trait Duties: Replica + Drop {
     /// Whether it is to ask for votes, after so long without a leader.
     fn has_waited(&self, now: u64, patience: u64) -> bool;
 
-    /// Asks for votes.
-    fn campaign(&mut self, now: u64, mail: &mut Mail<Self::Message>) -> Result<()>;
+    /// Votes for itself in the next term.
+    fn campaign(&mut self, now: u64) -> Result<()>;
+
+    /// What asks a voter for its vote.
+    fn ask_vote(&self) -> Self::Message;
 
     /// Appends what a client asks for, as the leader.
     fn request(&mut self, data: u64) -> Result<()>;
@@ -125,9 +127,9 @@ pub trait Duties: Replica + Drop {
     /// Takes what is in flight to a follower as lost.
     fn give_up(&mut self, to: u64);
 
-    /// Sends a follower what comes next, if nothing is in flight to it.
-    fn send_next(&mut self, to: u64, mail: &mut Mail<Self::Message>) -> Result<()>;
+    /// What is sent next to a follower, if nothing is in flight to it.
+    fn next_message(&mut self, to: u64) -> Result<Option<Self::Message>>;
 
-    /// Tells a follower that it leads, and what is committed.
-    fn send_heartbeat(&self, to: u64, mail: &mut Mail<Self::Message>) -> Result<()>;
+    /// What tells a follower that it leads, and what is committed.
+    fn heartbeat(&self) -> Result<Self::Message>;
 }

@@ -2,16 +2,17 @@
 
 use crate::events::Event;
 use crate::fault::Fault;
-use crate::message::{Content, Envelope, Mail, Message};
+use crate::message::{Content, Message};
 use crate::replica::{Replica, Role};
 use crate::storage;
 use crate::types::{Disk, Entry, FollowerProgress, Leader, LogId, Members, State, Vote, end};
 use anyhow::Result;
-use raft_base::{EmptyNode, LeaderKind, LogIdOptionExt, LogStateReader, log_id_at_most, log_id_below};
+use raft_base::{
+    EmptyNode, LeaderKind, LogIdOptionExt, LogStateReader, log_id_at_most, log_id_below,
+};
 use raft_progress::{ProgressPart, Tracked};
 use raft_state_tests::turn::{Followers, Outcome, Response};
 use std::alloc::Global;
-use std::rc::Rc;
 
 /// Who has voted for a candidate.
 pub type Ballot = Tracked<u64, EmptyNode, bool, bool>;
@@ -41,7 +42,9 @@ where
 
 impl<K: LeaderKind<u64>> Replica for Server<K> {
     type Leader = Leader<K>;
+
     type LogId = LogId<K>;
+
     type Entry = Entry<K>;
 
     fn id(&self) -> u64 {
@@ -148,40 +151,29 @@ impl<K: LeaderKind<u64>> Server<K> {
         }
     }
 
-    /// Sends a message with its vote.
-    pub fn send(&self, to: u64, content: Content<K>, mail: &mut Mail<Message<K>>) -> Result<()> {
-        let message = Message {
+    /// A message with its vote.
+    pub fn message(&self, content: Content<K>) -> Message<K> {
+        Message {
             vote: self.vote(),
             content,
-        };
-        let from = self.id;
-        mail.push(Rc::new(self.alloc, Envelope { from, to, message })?)?;
-        Ok(())
+        }
     }
 
-    /// Responds to a leader.
-    pub fn respond(
-        &self,
-        to: u64,
-        request: Option<u64>,
-        outcome: Outcome<K>,
-        mail: &mut Mail<Message<K>>,
-    ) -> Result<()> {
-        self.send(to, Content::Responded(Response { request, outcome }), mail)
+    /// A response to a leader.
+    pub fn response(&self, request: Option<u64>, outcome: Outcome<K>) -> Message<K> {
+        self.message(Content::Responded(Response { request, outcome }))
     }
 
-    /// Answers a candidate with this last log id.
+    /// The answer to a candidate with this last log id.
     pub fn answer_candidate(
         &mut self,
         now: u64,
-        from: u64,
         vote: Vote<K>,
         last: Option<LogId<K>>,
-        mail: &mut Mail<Message<K>>,
-    ) -> Result<()> {
+    ) -> Message<K> {
         let own = self.last();
         let is_voted = self.takes_candidate(last) && self.promise(now, vote);
-        self.send(from, Content::Voted(is_voted, own), mail)
+        self.message(Content::Voted(is_voted, own))
     }
 
     /// Whether a candidate's log is not behind the own one.

@@ -10,6 +10,7 @@ use raft_base::{
 use raft_members::EffectiveMembershipOf;
 use raft_state::AcceptedOf;
 use std::alloc::Global;
+use std::mem;
 
 /// What is known of the members at a place in the log.
 type Membership<K> = EffectiveMembershipOf<Leader<K>, u64, EmptyNode>;
@@ -48,18 +49,23 @@ impl<K: LeaderKind<u64>> Server<K> {
     /// Makes its state anew from what is on disk: the vote, the snapshot, the entries after it, and
     /// what is applied. What comes before is purged.
     pub fn reload(&mut self, now: u64) -> Result<()> {
-        self.state = self.stored_state(now)?;
+        let mut stored = State::<K>::try_default(self.alloc)?;
+        mem::swap(&mut self.state, &mut stored);
+        restore::<K>(&mut self.state, now, &stored, &self.disk)?;
         cut::<K>(&mut self.disk, &self.state);
         Ok(())
     }
+}
 
-    /// The state that is on disk.
-    fn stored_state(&self, now: u64) -> Result<State<K>> {
-        let mut state = State::<K>::try_default(self.alloc)?;
-        restore_snapshot::<K>(&mut state, now, &self.state)?;
-        restore_log::<K>(&mut state, &self.state, &self.disk)?;
-        Ok(state)
-    }
+/// Makes a new state from what is stored.
+fn restore<K: LeaderKind<u64>>(
+    state: &mut State<K>,
+    now: u64,
+    stored: &State<K>,
+    disk: &[Entry<K>],
+) -> Result<()> {
+    restore_snapshot::<K>(state, now, stored)?;
+    restore_log::<K>(state, stored, disk)
 }
 
 /// Takes over a stored vote, how far storage has got, and its snapshot.
