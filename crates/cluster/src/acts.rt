@@ -23,7 +23,7 @@ pub fn answer<S: Duties>(
     network: &mut Network<S::Message>,
 ) -> Result<()> {
     if let Some(answer) = server.receive(now, envelope.from, &envelope.message)? {
-        network.post(envelope.to, envelope.from, answer)?;
+        network.post(envelope.to, envelope.from, answer);
     }
     Ok(())
 }
@@ -112,20 +112,20 @@ fn tick<S: Duties>(
         server.end_change()
     } else if server.has_waited(now, dice.below(TIMEOUT).saturating_add(TIMEOUT)) {
         server.campaign(now)?;
-        ask_votes(server, network)
+        ask_votes(server, network);
+        Ok(())
     } else {
         Ok(())
     }
 }
 
 /// A candidate asks the other voters for their votes.
-fn ask_votes<S: Duties>(server: &S, network: &mut Network<S::Message>) -> Result<()> {
+fn ask_votes<S: Duties>(server: &S, network: &mut Network<S::Message>) {
     for id in 1..=SERVERS {
         if id != server.id() && server.members().is_voter(&id) {
-            network.post(server.id(), id, server.ask_vote())?;
+            network.post(server.id(), id, server.ask_vote());
         }
     }
-    Ok(())
 }
 
 /// A leader sends a follower what comes next, and at times a heartbeat.
@@ -139,10 +139,10 @@ fn replicate<S: Duties>(
         server.give_up(to);
     }
     if let Some(message) = server.next_message(to)? {
-        network.post(server.id(), to, message)?;
+        network.post(server.id(), to, message);
     }
     if dice.chance(30) {
-        network.post(server.id(), to, server.heartbeat()?)?;
+        network.post(server.id(), to, server.heartbeat()?);
     }
     Ok(())
 }

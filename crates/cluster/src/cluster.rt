@@ -63,14 +63,17 @@ impl<S: Duties> Cluster<S> {
         let bound = if self.network.is_rough { 100 } else { 81 };
         match self.dice.below(bound) {
             0..=55 => self.deliver(),
-            97..=99 => self.part(),
+            97..=99 => {
+                self.notes.note(None, self.network.part(&mut self.dice));
+                Ok(())
+            }
             what => self.act(what),
         }
     }
 
     /// A server takes a message, if one gets through.
     fn deliver(&mut self) -> Result<()> {
-        let Some(envelope) = self.network.deliver(&mut self.dice)? else {
+        let Some(envelope) = self.network.deliver(&mut self.dice) else {
             return Ok(());
         };
         let place = envelope.to.saturating_sub(1) as usize;
@@ -89,20 +92,21 @@ impl<S: Duties> Cluster<S> {
         self.look_after(place)
     }
 
-    /// The network is cut in two, or heals.
-    fn part(&mut self) -> Result<()> {
-        let event = self.network.part(&mut self.dice)?;
-        self.notes.note(None, event)
-    }
-
-    /// Looks whether all is well after something at a server.
+    /// Looks whether all is well after something at a server, and notes it.
     fn look_after(&mut self, place: usize) -> Result<()> {
-        let event = match self.servers.get_mut(place) {
-            Some(server) => server.take_event(),
-            None => None,
-        };
-        self.history
-            .look_after(&self.servers, place, event, &mut self.notes)
+        if let Some(server) = self.servers.get_mut(place) {
+            if let Some(event) = server.take_event() {
+                self.notes.note(Some(server.id()), event);
+            }
+        }
+        match self.servers.get(place) {
+            Some(server) => {
+                let commits = self.history.look_after(&self.servers, server)?;
+                self.notes.counts.add(Event::Committed, commits);
+                Ok(())
+            }
+            None => Ok(()),
+        }
     }
 
     /// The network is mended, and after some time a leader and all its members have committed the

@@ -2,15 +2,14 @@
 
 use crate::events::Event;
 use crate::fault::Fault;
-use crate::leader::{no_ballot, no_followers};
+use crate::leader::{new_ballot, no_ballot, no_followers};
 use crate::message::{Content, Message};
 use crate::replica::{Duties, Replica, Role};
-use crate::server::{Ballot, Server};
+use crate::server::Server;
 use crate::storage;
-use crate::types::{Change, Inflight, Members, Payload, State, Vote, end};
+use crate::types::{Change, ChangeError, Inflight, Members, Payload, State, Vote, end};
 use anyhow::{Result, bail};
 use raft_base::{Instant, LeaderKind, LogIdRangeOf, LogStateReader, UTime};
-use raft_members::ChangeMembershipErrorOf;
 use std::alloc::Global;
 
 impl<K: LeaderKind<u64>> Duties for Server<K> {
@@ -97,7 +96,7 @@ impl<K: LeaderKind<u64>> Duties for Server<K> {
         let term = self.term().saturating_add(1);
         self.save_vote(now, Vote::<K>::new(term, self.id));
         self.role = Role::Candidate;
-        self.ballot = Ballot::new(self.members().try_clone()?, false)?;
+        self.ballot = new_ballot(self.members())?;
         self.count_vote(now, self.id)
     }
 
@@ -110,10 +109,9 @@ impl<K: LeaderKind<u64>> Duties for Server<K> {
     }
 
     fn change(&mut self, change: Change, retain: bool) -> Result<()> {
-        let handler = self.state.membership_state.change_handler();
-        match handler.apply(change, retain) {
-            Ok(members) => self.go_over(members, retain),
-            Err(ChangeMembershipErrorOf::OutOfMemory) => bail!("out of memory"),
+        match self.members_after(change, retain) {
+            Ok(members) => self.go_over(members),
+            Err(ChangeError::<K>::OutOfMemory) => bail!("out of memory"),
             Err(_) => Ok(()),
         }
     }

@@ -1,6 +1,5 @@
 //! What happens in a cluster: how often, and what a chart notes of it.
 
-use anyhow::Result;
 use std::alloc::{AllocError, Global};
 use std::fmt;
 
@@ -117,19 +116,21 @@ impl Notes {
         }
     }
 
-    /// Counts something, and notes it, if there is room, with the server that it has happened to.
-    pub fn note(&mut self, server: Option<u64>, event: Event) -> Result<()> {
+    /// Counts something, and notes it, if there is room and memory, with the server that it has
+    /// happened to.
+    pub fn note(&mut self, server: Option<u64>, event: Event) {
         self.counts.add(event, 1);
         let (alloc, word) = (*self.text.allocator(), event.word());
         let sign = if self.text.is_empty() { "" } else { ", " };
         let more = match server {
-            Some(id) => format!(in alloc; "{sign}{id} {word}")?,
-            None => format!(in alloc; "{sign}{word}")?,
+            Some(id) => format!(in alloc; "{sign}{id} {word}"),
+            None => format!(in alloc; "{sign}{word}"),
         };
-        if self.text.len().saturating_add(more.len()) <= NOTES {
-            self.text.push_str(&more)?;
+        if let Ok(more) = more {
+            if self.text.len().saturating_add(more.len()) <= NOTES {
+                let _left_out = self.text.push_str(&more);
+            }
         }
-        Ok(())
     }
 
     /// Ends a line with what is noted, and begins anew.

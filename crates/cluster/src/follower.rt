@@ -39,12 +39,9 @@ impl<K: LeaderKind<u64>> Server<K> {
 
     /// Whether a planted fault keeps entries from being written.
     fn skips_writing(&self, now: u64, logs: &Logs<K>) -> bool {
-        match self.fault {
-            Some(Fault::NoWrite) => now % 8 == 0,
-            Some(Fault::NoCut) => logs.entries.iter().any(|entry| {
-                let own = self.state.get_log_id(entry.log_id.index);
-                own.is_some() && own != Some(entry.log_id)
-            }),
+        match (self.fault, logs.last()) {
+            (Some(Fault::NoWrite), _) => now % 8 == 0,
+            (Some(Fault::NoCut), Some(last)) => last.index < self.end() && !self.has(last),
             _ => false,
         }
     }

@@ -5,7 +5,7 @@ use crate::fault::Fault;
 use crate::replica::{Replica, Role};
 use crate::server::{Ballot, Server};
 use crate::storage;
-use crate::types::{Change, Entry, Leader, LogId, Members, Payload, end};
+use crate::types::{Change, ChangeError, Entry, Leader, LogId, Members, Payload, end};
 use anyhow::Result;
 use raft_base::{LeaderKind, LogIdRangeOf};
 use raft_progress::Progress;
@@ -41,7 +41,7 @@ impl<K: LeaderKind<u64>> Server<K> {
         self.save_vote(now, vote);
         self.is_behind = false;
         self.event = Some(Event::Elected);
-        self.followers = Followers::new(self.members().try_clone()?, self.end())?;
+        self.followers = new_followers::<K>(self.members(), self.end())?;
         self.role = Role::Leader;
         self.propose(Payload::Blank)
     }
@@ -104,17 +104,22 @@ impl<K: LeaderKind<u64>> Server<K> {
         Ok(entries)
     }
 
-    /// Goes over to other members; with a fault that is planted, at once to the last config.
-    pub fn go_over(&mut self, members: Members, retain: bool) -> Result<()> {
+    /// The members after a change, or why it is refused. With a fault that is planted it goes at once
+    /// to its last config.
+    pub fn members_after(&self, change: Change, retain: bool) -> Result<Members, ChangeError<K>> {
+        let handler = self.state.membership_state.change_handler();
+        let members = handler.apply(change, retain)?;
         if self.fault == Some(Fault::NoJoint) {
-            let last = members.change(self.last_of_joint(), retain)?;
-            return self.propose_members(last);
+            return match members.change(self.last_of_joint(), retain) {
+                Ok(last) => Ok(last),
+                Err(_) => Err(ChangeError::<K>::OutOfMemory),
+            };
         }
-        self.propose_members(members)
+        Ok(members)
     }
 
     /// Proposes other members, and counts by them.
-    fn propose_members(&mut self, members: Members) -> Result<()> {
+    pub fn go_over(&mut self, members: Members) -> Result<()> {
         self.write(Payload::Membership(members))?;
         self.event = Some(Event::Changed);
         self.count_by_members()
@@ -132,6 +137,19 @@ impl<K: LeaderKind<u64>> Server<K> {
     pub fn last_of_joint(&self) -> Change {
         Change::AddVoterIds(BTreeSet::new(self.alloc))
     }
+}
+
+/// Followers of which nothing is known but that their logs end before an index.
+fn new_followers<K: LeaderKind<u64>>(
+    members: &Members,
+    end: u64,
+) -> Result<Followers<K>, AllocError> {
+    Followers::new(members.try_clone()?, end)
+}
+
+/// A ballot on which nobody has voted.
+pub fn new_ballot(members: &Members) -> Result<Ballot, AllocError> {
+    Ballot::new(members.try_clone()?, false)
 }
 
 /// A ballot of no voters.

@@ -34,7 +34,6 @@ use fault::Fault;
 use raft_base::{LeaderAdv, LeaderKind, LeaderStd};
 use replica::Duties;
 use server::Server;
-use std::alloc::AllocError;
 use std::env;
 
 /// How many events a cluster has to settle in, once its network is mended.
@@ -98,27 +97,21 @@ fn run<S: Duties>(text: &mut String, plan: &Plan, seed: u64, total: &mut Counts)
     let mut cluster = Cluster::<S>::new(*text.allocator(), seed);
     let outcome = play::<S>(text, plan, &mut cluster);
     total.add_all(&cluster.notes.counts);
-    tell(text, seed, cluster.now, outcome)?;
-    Ok(())
+    tell(text, seed, cluster.now, outcome)
 }
 
 /// Writes how a run has ended, if not well.
-fn tell(text: &mut String, seed: u64, now: u64, outcome: Result<()>) -> Result<(), AllocError> {
-    match outcome {
-        Ok(()) => Ok(()),
-        Err(error) => writeln!(text, "seed {seed}: event {now}: {error:#}"),
+fn tell(text: &mut String, seed: u64, now: u64, outcome: Result<()>) -> Result<()> {
+    if let Err(error) = outcome {
+        writeln!(text, "seed {seed}: event {now}: {error:#}")?;
     }
+    Ok(())
 }
 
 /// Lets events happen to a cluster, and draws its chart.
 fn play<S: Duties>(text: &mut String, plan: &Plan, cluster: &mut Cluster<S>) -> Result<()> {
     cluster.start(*text.allocator(), plan.fault)?;
-    for event in 0..plan.events {
-        if event.checked_rem(plan.every) == Some(0) {
-            cluster.draw(text)?;
-        }
-        cluster.step()?;
-    }
+    go_on::<S>(text, plan, cluster)?;
     let is_settled = cluster.settle(SETTLE)?;
     if plan.every > 0 {
         cluster.draw(text)?;
@@ -126,6 +119,17 @@ fn play<S: Duties>(text: &mut String, plan: &Plan, cluster: &mut Cluster<S>) -> 
     cluster.notes.counts.add(Event::Safe, 1);
     ensure!(is_settled, "it does not settle");
     cluster.notes.counts.add(Event::Settled, 1);
+    Ok(())
+}
+
+/// Lets the events of a plan happen to a cluster, with a line of its chart every few.
+fn go_on<S: Duties>(text: &mut String, plan: &Plan, cluster: &mut Cluster<S>) -> Result<()> {
+    for event in 0..plan.events {
+        if event.checked_rem(plan.every) == Some(0) {
+            cluster.draw(text)?;
+        }
+        cluster.step()?;
+    }
     Ok(())
 }
 

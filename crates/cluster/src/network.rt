@@ -1,9 +1,8 @@
 //! The network: messages get lost, come twice and out of order, and a cut keeps some servers apart.
 
-use crate::acts::SERVERS;
 use crate::dice::Dice;
 use crate::events::Event;
-use std::alloc::{AllocError, Global};
+use std::alloc::Global;
 use std::rc::Rc;
 
 /// A message on its way.
@@ -20,7 +19,8 @@ pub struct Network<M> {
     mail: Vec<Rc<Envelope<M>>>,
     /// Whether messages get lost or come twice.
     pub is_rough: bool,
-    cut: Vec<u64>,
+    /// Whether each server is cut off.
+    cut: [bool; 5],
 }
 
 impl<M: Drop> Network<M> {
@@ -29,40 +29,39 @@ impl<M: Drop> Network<M> {
         Network {
             mail: Vec::new(alloc),
             is_rough: true,
-            cut: Vec::new(alloc),
+            cut: [false; 5],
         }
     }
 
     /// Whether a server is cut off from those that aren't.
     pub fn is_cut_off(&self, id: u64) -> bool {
-        self.cut.contains(&id)
+        let place = id.saturating_sub(1) as usize;
+        self.cut.get(place) == Some(&true)
     }
 
     /// It is cut in two, or a cut ends.
-    pub fn part(&mut self, dice: &mut Dice) -> Result<Event, AllocError> {
-        if !self.cut.is_empty() {
-            self.cut.clear();
-            return Ok(Event::Healed);
+    pub fn part(&mut self, dice: &mut Dice) -> Event {
+        if self.cut.contains(&true) {
+            self.cut = [false; 5];
+            return Event::Healed;
         }
-        for id in 1..=SERVERS {
-            if dice.chance(40) {
-                self.cut.push(id)?;
-            }
+        for is_cut_off in &mut self.cut {
+            *is_cut_off = dice.chance(40);
         }
-        Ok(Event::Parted)
+        Event::Parted
     }
 
     /// From now on no message is lost.
     pub fn mend(&mut self) {
-        self.cut.clear();
+        self.cut = [false; 5];
         self.is_rough = false;
     }
 
-    /// Sends a message.
-    pub fn post(&mut self, from: u64, to: u64, message: M) -> Result<(), AllocError> {
-        let envelope = Rc::new(self.alloc(), Envelope { from, to, message })?;
-        self.mail.push(envelope)?;
-        Ok(())
+    /// Sends a message. One for which there is no memory is lost.
+    pub fn post(&mut self, from: u64, to: u64, message: M) {
+        if let Ok(envelope) = Rc::new(self.alloc(), Envelope { from, to, message }) {
+            let _lost = self.mail.push(envelope);
+        }
     }
 
     /// Where its memory comes from.
@@ -71,19 +70,24 @@ impl<M: Drop> Network<M> {
     }
 
     /// One of the messages that are on their way comes in, if it gets through.
-    pub fn deliver(&mut self, dice: &mut Dice) -> Result<Option<Rc<Envelope<M>>>, AllocError> {
+    pub fn deliver(&mut self, dice: &mut Dice) -> Option<Rc<Envelope<M>>> {
         let place = dice.below(self.mail.len() as u64) as usize;
         if place >= self.mail.len() {
-            return Ok(None);
+            return None;
         }
         let envelope = self.mail.swap_remove(place);
         if self.is_rough && dice.chance(8) {
-            self.mail.push(envelope.clone()?)?;
+            self.post_again(&envelope);
         }
         let is_apart = self.is_cut_off(envelope.from) != self.is_cut_off(envelope.to);
-        if is_apart || (self.is_rough && dice.chance(8)) {
-            return Ok(None);
+        let is_lost = is_apart || (self.is_rough && dice.chance(8));
+        (!is_lost).then_some(envelope)
+    }
+
+    /// Sends a message that is coming in once more.
+    fn post_again(&mut self, envelope: &Rc<Envelope<M>>) {
+        if let Ok(second) = envelope.clone() {
+            let _lost = self.mail.push(second);
         }
-        Ok(Some(envelope))
     }
 }

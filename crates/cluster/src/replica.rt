@@ -6,7 +6,6 @@ use crate::fault::Fault;
 use crate::types::{Change, Members};
 use anyhow::Result;
 use std::alloc::Global;
-use std::fmt::Display;
 
 /// What a server is doing.
 #[derive(Clone, Copy, PartialEq, Eq)]
@@ -22,11 +21,9 @@ pub enum Role {
 /// What is seen of a server. A log is told by its indexes: an end is the index after the last one.
 pub trait Replica {
     /// A leader, once it is elected.
-    type Leader: Ord + Copy + Display;
+    type Leader: Ord + Copy;
     /// What tells an entry from others at its index.
-    type LogId: Eq + Copy + Display;
-    /// A log entry.
-    type Entry: PartialEq;
+    type LogId: Eq + Copy;
 
     /// Its id.
     fn id(&self) -> u64;
@@ -52,8 +49,8 @@ pub trait Replica {
     /// The log id at an index, if it is in the log.
     fn log_id(&self, index: u64) -> Option<Self::LogId>;
 
-    /// The entry at an index, if it is on disk.
-    fn entry(&self, index: u64) -> Option<&Self::Entry>;
+    /// Whether its entry at an index is that of another server.
+    fn shares_entry(&self, other: &Self, index: u64) -> bool;
 
     /// Whether a log id is in the log, or its index is purged.
     fn has(&self, log_id: Self::LogId) -> bool;
@@ -67,8 +64,8 @@ pub trait Replica {
     /// The effective members.
     fn members(&self) -> &Members;
 
-    /// An error, if it is not well by itself.
-    fn check(&self) -> Result<()>;
+    /// What is wrong with it by itself, if anything is.
+    fn flaw(&self) -> Option<&'static str>;
 }
 
 /// What a server does when it is told to.

@@ -1,6 +1,5 @@
 //! What Raft promises of a whole cluster, looked after at each event.
 
-use crate::events::{Event, Notes};
 use crate::replica::{Replica, Role};
 use anyhow::{Result, bail, ensure};
 use std::alloc::Global;
@@ -24,41 +23,27 @@ impl<S: Replica> History<S> {
         }
     }
 
-    /// Looks whether all is well after something at a server, and notes it.
-    pub fn look_after(
-        &mut self,
-        servers: &[S],
-        place: usize,
-        event: Option<Event>,
-        notes: &mut Notes,
-    ) -> Result<()> {
-        let Some(server) = servers.get(place) else {
-            bail!("no server at {place}");
-        };
-        server.check()?;
+    /// Looks whether all is well after something at a server. Answers how many entries are first
+    /// known to be committed.
+    pub fn look_after(&mut self, servers: &[S], server: &S) -> Result<u64> {
+        if let Some(flaw) = server.flaw() {
+            bail!("of {} {flaw}", server.id());
+        }
         check_pairs(server, servers)?;
         let commits = self.commit(server)?;
-        notes.counts.add(Event::Committed, commits);
-        if commits > 0 || event == Some(Event::Elected) {
-            self.check_leaders(servers)?;
-        }
-        if let Some(event) = event {
-            notes.note(Some(server.id()), event)?;
-        }
-        Ok(())
+        self.check_leaders(servers)?;
+        Ok(commits)
     }
 
-    /// What a server knows to be committed has to be what others know. Answers how much of it none
-    /// knew.
+    /// What a server knows to be committed has to be in its log, and what others know. Answers how
+    /// much of it none knew.
     fn commit(&mut self, server: &S) -> Result<u64> {
         let known = self.committed.len();
         for index in server.purged().saturating_sub(1)..server.committed() {
-            let Some(log_id) = server.log_id(index) else {
-                bail!("{index} is committed and not in the log");
-            };
-            match self.committed.get(index as usize) {
-                Some(known) => ensure!(known.0 == log_id, "{log_id} and {} committed", known.0),
-                None => self.committed.push((log_id, server.leader()))?,
+            match (server.log_id(index), self.committed.get(index as usize)) {
+                (Some(log_id), None) => self.committed.push((log_id, server.leader()))?,
+                (Some(log_id), Some(known)) if known.0 == log_id => {}
+                _ => bail!("{index} is not what was committed"),
             }
         }
         Ok(self.committed.len().saturating_sub(known) as u64)
@@ -79,19 +64,24 @@ impl<S: Replica> History<S> {
 
     /// Whether a leader is the only one of its id.
     fn check_only(&mut self, server: &S) -> Result<()> {
-        let (leader, id) = (server.leader(), server.id());
-        let before = self.leaders.insert(leader, id)?;
-        ensure!(before.unwrap_or(id) == id, "two leaders {leader}");
+        let id = server.id();
+        let before = self.leaders.insert(server.leader(), id)?;
+        ensure!(
+            before.unwrap_or(id) == id,
+            "two leaders of term {}",
+            server.term()
+        );
         Ok(())
     }
 
     /// Whether a leader has what was committed under lesser ones.
     fn check_complete(&self, server: &S) -> Result<()> {
         let leader = server.leader();
-        for (log_id, by) in &self.committed {
+        for (index, (log_id, by)) in self.committed.iter().enumerate() {
             ensure!(
                 leader <= *by || server.has(*log_id),
-                "leader {leader} lacks {log_id}"
+                "the leader of term {} lacks {index}",
+                server.term()
             );
         }
         Ok(())
@@ -116,10 +106,7 @@ fn check_match<S: Replica>(one: &S, other: &S) -> Result<()> {
     for index in (first..one.end().min(other.end())).rev() {
         if one.log_id(index) == other.log_id(index) {
             is_shared = true;
-            ensure!(
-                one.entry(index) == other.entry(index),
-                "two entries at {index}"
-            );
+            ensure!(one.shares_entry(other, index), "two entries at {index}");
         } else {
             ensure!(!is_shared, "logs part at {index} and meet later");
         }
@@ -133,7 +120,7 @@ fn check_known<S: Replica>(leader: &S, other: &S) -> Result<()> {
         return Ok(());
     }
     if let Some(matching) = leader.matching(other.id()) {
-        ensure!(other.has(matching), "{} has no {matching}", other.id());
+        ensure!(other.has(matching), "{} has no match", other.id());
     }
     Ok(())
 }

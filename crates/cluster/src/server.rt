@@ -45,8 +45,6 @@ impl<K: LeaderKind<u64>> Replica for Server<K> {
 
     type LogId = LogId<K>;
 
-    type Entry = Entry<K>;
-
     fn id(&self) -> u64 {
         self.id
     }
@@ -79,8 +77,8 @@ impl<K: LeaderKind<u64>> Replica for Server<K> {
         self.state.get_log_id(index)
     }
 
-    fn entry(&self, index: u64) -> Option<&Entry<K>> {
-        self.disk.get(self.place(index))
+    fn shares_entry(&self, other: &Self, index: u64) -> bool {
+        self.disk.get(self.place(index)) == other.disk.get(other.place(index))
     }
 
     fn has(&self, log_id: LogId<K>) -> bool {
@@ -99,8 +97,8 @@ impl<K: LeaderKind<u64>> Replica for Server<K> {
         self.state.membership_state.effective().membership()
     }
 
-    fn check(&self) -> Result<()> {
-        storage::check::<K>(&self.state, &self.disk)
+    fn flaw(&self) -> Option<&'static str> {
+        storage::flaw::<K>(&self.state, &self.disk)
     }
 }
 
@@ -143,7 +141,7 @@ impl<K: LeaderKind<u64>> Server<K> {
 
     /// Takes over a greater vote, and follows from then on. An answer that tells one is no sign of a
     /// leader, so the moment of its own vote stays.
-    pub fn yield_to(&mut self, vote: Vote<K>) {
+    fn yield_to(&mut self, vote: Vote<K>) {
         if vote > self.vote() {
             self.role = Role::Follower;
             *self.state.vote.get_mut() = vote;

@@ -51,9 +51,7 @@ impl<K: LeaderKind<u64>> Server<K> {
     pub fn reload(&mut self, now: u64) -> Result<()> {
         let mut stored = State::<K>::try_default(self.alloc)?;
         mem::swap(&mut self.state, &mut stored);
-        restore::<K>(&mut self.state, now, &stored, &self.disk)?;
-        cut::<K>(&mut self.disk, &self.state);
-        Ok(())
+        restore::<K>(&mut self.state, now, &stored, &mut self.disk)
     }
 }
 
@@ -62,10 +60,12 @@ fn restore<K: LeaderKind<u64>>(
     state: &mut State<K>,
     now: u64,
     stored: &State<K>,
-    disk: &[Entry<K>],
+    disk: &mut Disk<K>,
 ) -> Result<()> {
     restore_snapshot::<K>(state, now, stored)?;
-    restore_log::<K>(state, stored, disk)
+    restore_log::<K>(state, stored, disk)?;
+    cut::<K>(disk, state);
+    Ok(())
 }
 
 /// Takes over a stored vote, how far storage has got, and its snapshot.
@@ -105,28 +105,31 @@ fn restore_log<K: LeaderKind<u64>>(
     Ok(())
 }
 
-/// An error, unless a state is valid, what it has committed is in its log, and a disk has that log.
-pub fn check<K: LeaderKind<u64>>(state: &State<K>, disk: &Disk<K>) -> Result<()> {
-    state.validate()?;
-    ensure!(
-        state.purge_upto_is_logged(),
-        "the purge point is not logged"
-    );
-    ensure!(state.committed_is_logged(), "a committed entry is lost");
-    check_disk::<K>(state, disk)
+/// What is wrong with a state and its disk, if anything is.
+pub fn flaw<K: LeaderKind<u64>>(state: &State<K>, disk: &[Entry<K>]) -> Option<&'static str> {
+    if state.validate().is_err() {
+        Some("its state is not valid")
+    } else if !state.purge_upto_is_logged() {
+        Some("its purge point is not logged")
+    } else if !state.committed_is_logged() {
+        Some("it has lost a committed entry")
+    } else if !has_log::<K>(disk, state) {
+        Some("its disk has another log")
+    } else {
+        None
+    }
 }
 
-/// An error, unless a disk has what is in the log of a state.
-fn check_disk<K: LeaderKind<u64>>(state: &State<K>, disk: &[Entry<K>]) -> Result<()> {
-    let length = end(state.last_log_id().copied()).saturating_sub(state.purged_next);
-    ensure!(disk.len() as u64 == length, "the disk has another log");
-    for (index, entry) in (state.purged_next..).zip(disk) {
-        ensure!(
-            state.get_log_id(index) == Some(entry.log_id),
-            "the disk has another {index}"
-        );
+/// Whether a disk has what is in the log of a state.
+fn has_log<K: LeaderKind<u64>>(disk: &[Entry<K>], state: &State<K>) -> bool {
+    let mut index = state.purged_next;
+    for entry in disk {
+        if state.get_log_id(index) != Some(entry.log_id) {
+            return false;
+        }
+        index = index.saturating_add(1);
     }
-    Ok(())
+    index == end(state.last_log_id().copied())
 }
 
 /// Whether a log has an entry, and has not purged it.
@@ -165,20 +168,26 @@ pub fn build_snapshot<K: LeaderKind<u64>>(
         return Ok(());
     }
     if let Some(membership) = applied_membership::<K>(state) {
-        let last_membership = membership.stored_membership().try_clone()?;
-        let snapshot_id = format!(in alloc; "{id}-{}", end(applied))?;
+        let snapshot = snapshot_of::<K>(alloc, id, applied, membership)?;
         state.io_state_mut().update_snapshot(applied);
-        save_snapshot::<K>(
-            state,
-            Snapshot::<K> {
-                last_log_id: applied,
-                last_membership,
-                snapshot_id,
-            },
-            keep,
-        );
+        save_snapshot::<K>(state, snapshot, keep);
     }
     Ok(())
+}
+
+/// A snapshot of what is applied, with a server's name for it.
+fn snapshot_of<K: LeaderKind<u64>>(
+    alloc: Global,
+    id: u64,
+    applied: Option<LogId<K>>,
+    membership: &Membership<K>,
+) -> Result<Snapshot<K>> {
+    let snapshot_id = format!(in alloc; "{id}-{}", end(applied))?;
+    Ok(Snapshot::<K> {
+        last_log_id: applied,
+        last_membership: membership.stored_membership().try_clone()?,
+        snapshot_id,
+    })
 }
 
 /// Takes over a snapshot, and plans to purge all but the last few entries of it.

@@ -1,7 +1,7 @@
 //! The types of the layer as this cluster has them, beside those of the turns.
 
 use raft_base::{EmptyNode, LeaderKind, LogIdOf, LogIdOptionExt, VoteOf};
-use raft_members::ChangeMembers;
+use raft_members::{ChangeMembers, ChangeMembershipErrorOf};
 use raft_state::{EntryPayload, SnapshotMetaOf};
 pub use raft_state_tests::turn::{
     Entry, FollowerProgress, Inflight, Leader, LogId, Members, State,
@@ -15,6 +15,9 @@ pub type Payload = EntryPayload<u64, EmptyNode, u64>;
 
 /// A change of the members.
 pub type Change = ChangeMembers<u64, EmptyNode>;
+
+/// Why a change is refused.
+pub type ChangeError<K> = ChangeMembershipErrorOf<Leader<K>, u64>;
 
 /// The entries on a server's disk: those of its log that are not purged, in their order.
 pub type Disk<K> = Vec<Entry<K>>;
