@@ -2,7 +2,7 @@
 
 use crate::events::Event;
 use crate::fault::Fault;
-use crate::leader::{new_ballot, no_ballot, no_followers};
+use crate::leader::{new_ballot, new_followers};
 use crate::message::{Content, Message};
 use crate::replica::{Duties, Replica, Role};
 use crate::server::Server;
@@ -16,8 +16,9 @@ impl<K: LeaderKind<u64>> Duties for Server<K> {
     type Message = Message<K>;
 
     fn new(alloc: Global, id: u64, fault: Option<Fault>) -> Result<Self> {
-        let ballot = no_ballot(alloc)?;
-        let followers = no_followers::<K>(alloc)?;
+        let nobody = Members::try_default(alloc)?;
+        let ballot = new_ballot(&nobody)?;
+        let followers = new_followers::<K>(&nobody, 0)?;
         let state = State::<K>::try_default(alloc)?;
         Ok(Server {
             alloc,

@@ -6,11 +6,11 @@ use crate::replica::{Replica, Role};
 use crate::server::{Ballot, Server};
 use crate::storage;
 use crate::types::{Change, ChangeError, Entry, Leader, LogId, Members, Payload, end};
-use anyhow::Result;
+use anyhow::{Result, bail};
 use raft_base::{LeaderKind, LogIdRangeOf};
 use raft_progress::Progress;
 use raft_state_tests::turn::{Followers, Logs};
-use std::alloc::{AllocError, Global};
+use std::alloc::AllocError;
 use std::collections::BTreeSet;
 
 impl<K: LeaderKind<u64>> Server<K> {
@@ -97,10 +97,11 @@ impl<K: LeaderKind<u64>> Server<K> {
 
     /// The entries from an index up to another one.
     fn entries(&self, first: u64, end: u64) -> Result<Vec<Entry<K>>> {
+        let Some(stored) = self.disk.get(self.place(first)..self.place(end)) else {
+            bail!("entries are to be sent and are not on disk");
+        };
         let mut entries = Vec::new(self.alloc);
-        if let Some(stored) = self.disk.get(self.place(first)..self.place(end)) {
-            entries.extend_with_clones(stored)?;
-        }
+        entries.extend_with_clones(stored)?;
         Ok(entries)
     }
 
@@ -139,25 +140,15 @@ impl<K: LeaderKind<u64>> Server<K> {
     }
 }
 
-/// Followers of which nothing is known but that their logs end before an index.
-fn new_followers<K: LeaderKind<u64>>(
-    members: &Members,
-    end: u64,
-) -> Result<Followers<K>, AllocError> {
-    Followers::new(members.try_clone()?, end)
-}
-
 /// A ballot on which nobody has voted.
 pub fn new_ballot(members: &Members) -> Result<Ballot, AllocError> {
     Ballot::new(members.try_clone()?, false)
 }
 
-/// A ballot of no voters.
-pub fn no_ballot(alloc: Global) -> Result<Ballot, AllocError> {
-    Ballot::new(Members::try_default(alloc)?, false)
-}
-
-/// What a server that does not lead knows of followers.
-pub fn no_followers<K: LeaderKind<u64>>(alloc: Global) -> Result<Followers<K>, AllocError> {
-    Followers::new(Members::try_default(alloc)?, 0)
+/// Followers of which nothing is known but that their logs end before an index.
+pub fn new_followers<K: LeaderKind<u64>>(
+    members: &Members,
+    end: u64,
+) -> Result<Followers<K>, AllocError> {
+    Followers::new(members.try_clone()?, end)
 }

@@ -23,6 +23,7 @@ mod message;
 mod network;
 mod replica;
 mod safety;
+mod seen;
 mod server;
 mod storage;
 mod types;

@@ -1,15 +1,12 @@
-//! A server: its state, what it has on disk, what it is doing, and what is seen of it.
+//! A server: its state, what it has on disk, what it is doing, and its votes.
 
 use crate::events::Event;
 use crate::fault::Fault;
 use crate::message::{Content, Message};
-use crate::replica::{Replica, Role};
-use crate::storage;
-use crate::types::{Disk, Entry, FollowerProgress, Leader, LogId, Members, State, Vote, end};
+use crate::replica::Role;
+use crate::types::{Disk, FollowerProgress, LogId, State, Vote};
 use anyhow::Result;
-use raft_base::{
-    EmptyNode, LeaderKind, LogIdOptionExt, LogStateReader, log_id_at_most, log_id_below,
-};
+use raft_base::{EmptyNode, LeaderKind, LogStateReader, log_id_at_most, log_id_below};
 use raft_progress::{ProgressPart, Tracked};
 use raft_state_tests::turn::{Followers, Outcome, Response};
 use std::alloc::Global;
@@ -38,68 +35,6 @@ where
     pub is_behind: bool,
     /// What has become of it.
     pub event: Option<Event>,
-}
-
-impl<K: LeaderKind<u64>> Replica for Server<K> {
-    type Leader = Leader<K>;
-
-    type LogId = LogId<K>;
-
-    fn id(&self) -> u64 {
-        self.id
-    }
-
-    fn role(&self) -> Role {
-        self.role
-    }
-
-    fn term(&self) -> u64 {
-        K::term(self.state.vote_ref().leader_id())
-    }
-
-    fn leader(&self) -> Leader<K> {
-        K::to_committed(self.state.vote_ref().leader_id())
-    }
-
-    fn purged(&self) -> u64 {
-        self.state.purged_next
-    }
-
-    fn committed(&self) -> u64 {
-        end(self.state.committed)
-    }
-
-    fn end(&self) -> u64 {
-        end(self.last())
-    }
-
-    fn log_id(&self, index: u64) -> Option<LogId<K>> {
-        self.state.get_log_id(index)
-    }
-
-    fn shares_entry(&self, other: &Self, index: u64) -> bool {
-        self.disk.get(self.place(index)) == other.disk.get(other.place(index))
-    }
-
-    fn has(&self, log_id: LogId<K>) -> bool {
-        log_id.index < self.state.purged_next || self.state.get_log_id(log_id.index) == Some(log_id)
-    }
-
-    fn matching(&self, id: u64) -> Option<LogId<K>> {
-        self.followers.get(id)?.matching
-    }
-
-    fn granted(&self) -> Option<u64> {
-        self.followers.granted().index()
-    }
-
-    fn members(&self) -> &Members {
-        self.state.membership_state.effective().membership()
-    }
-
-    fn flaw(&self) -> Option<&'static str> {
-        storage::flaw::<K>(&self.state, &self.disk)
-    }
 }
 
 impl<K: LeaderKind<u64>> Server<K> {
