@@ -27,7 +27,7 @@ impl<S: Replica> History<S> {
     /// known to be committed.
     pub fn look_after(&mut self, servers: &[S], server: &S) -> Result<u64> {
         if let Some(flaw) = server.flaw() {
-            bail!("of {} {flaw}", server.id());
+            bail!("server {}: {flaw}", server.id());
         }
         check_pairs(server, servers)?;
         let commits = self.commit(server)?;
