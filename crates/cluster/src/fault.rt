@@ -9,8 +9,8 @@ pub enum Fault {
     AnyCandidate,
     /// A change goes to the new config without the joint one.
     NoJoint,
-    /// A follower keeps its own entries where a leader sends others, and acks these. Where it lacks
-    /// what comes before them it cuts, as it should.
+    /// A follower keeps its own entries where a leader sends others that go no further than its log,
+    /// and acks these. Where it lacks what comes before them it cuts, as it should.
     NoCut,
     /// A follower acks some entries that it has not written.
     NoWrite,

@@ -5,6 +5,9 @@ use crate::events::Event;
 use std::alloc::Global;
 use std::rc::Rc;
 
+/// None of the servers is cut off.
+const WHOLE: [bool; 5] = [false; 5];
+
 /// A message on its way.
 #[derive(Drop)]
 pub struct Envelope<M> {
@@ -29,7 +32,7 @@ impl<M: Drop> Network<M> {
         Network {
             mail: Vec::new(alloc),
             is_rough: true,
-            cut: [false; 5],
+            cut: WHOLE,
         }
     }
 
@@ -42,7 +45,7 @@ impl<M: Drop> Network<M> {
     /// It is cut in two, or a cut ends.
     pub fn part(&mut self, dice: &mut Dice) -> Event {
         if self.cut.contains(&true) {
-            self.cut = [false; 5];
+            self.cut = WHOLE;
             return Event::Healed;
         }
         for is_cut_off in &mut self.cut {
@@ -53,7 +56,7 @@ impl<M: Drop> Network<M> {
 
     /// From now on no message is lost.
     pub fn mend(&mut self) {
-        self.cut = [false; 5];
+        self.cut = WHOLE;
         self.is_rough = false;
     }
 

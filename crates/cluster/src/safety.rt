@@ -120,7 +120,11 @@ fn check_known<S: Replica>(leader: &S, other: &S) -> Result<()> {
         return Ok(());
     }
     if let Some(matching) = leader.matching(other.id()) {
-        ensure!(other.has(matching), "{} has no match", other.id());
+        ensure!(
+            other.has(matching),
+            "server {} lacks what its leader knows to match",
+            other.id()
+        );
     }
     Ok(())
 }

@@ -55,7 +55,7 @@ impl<K: LeaderKind<u64>> Server<K> {
     }
 }
 
-/// Makes a new state from what is stored.
+/// Makes a new state from what is stored, and removes from disk what comes before the snapshot.
 fn restore<K: LeaderKind<u64>>(
     state: &mut State<K>,
     now: u64,
