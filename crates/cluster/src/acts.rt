@@ -2,9 +2,9 @@
 
 use crate::dice::Dice;
 use crate::network::{Envelope, Network};
-use crate::replica::{Duties, Role};
-use crate::types::Change;
-use anyhow::Result;
+use crate::replica::Duties;
+use crate::standing::Role;
+use crate::types::{Change, Payload};
 use raft_base::EmptyNode;
 use std::alloc::{AllocError, Global};
 use std::collections::{BTreeMap, BTreeSet};
@@ -21,11 +21,10 @@ pub fn answer<S: Duties>(
     now: u64,
     envelope: &Envelope<S::Message>,
     network: &mut Network<S::Message>,
-) -> Result<()> {
-    if let Some(answer) = server.receive(now, envelope.from, &envelope.message)? {
+) {
+    if let Some(answer) = server.receive(now, envelope.from, &envelope.message) {
         network.post(envelope.to, envelope.from, answer);
     }
-    Ok(())
 }
 
 /// A server does what a number stands for: 86 and less are requests of a client and the passing of
@@ -36,33 +35,42 @@ pub fn act<S: Duties>(
     now: u64,
     network: &mut Network<S::Message>,
     dice: &mut Dice,
-) -> Result<()> {
-    let leads = server.role() == Role::Leader;
+) {
+    let leads = server.seen().role == Role::Leader;
     match what {
-        81..=86 if leads => server.request(now),
+        81..=86 if leads => server.propose(Payload::Normal(now)),
         87..=90 if leads => change_some(server, network.alloc(), dice),
-        81..=90 => Ok(()),
+        81..=90 => {}
         91..=95 => {
             server.apply(4);
-            server.compact(dice.below(4))
+            server.compact(dice.below(4));
         }
         96 => server.restart(now),
         _ => tick(server, now, network, dice),
     }
 }
 
-/// A leader is asked for a change of the members: to add a learner, to go over to other voters, or
-/// to remove a learner.
-fn change_some<S: Duties>(server: &mut S, alloc: Global, dice: &mut Dice) -> Result<()> {
+/// A leader is asked for a change of the members, if there is memory for one.
+fn change_some<S: Duties>(server: &mut S, alloc: Global, dice: &mut Dice) {
+    if let Ok(change) = some_change(server, alloc, dice) {
+        server.change(change, dice.chance(50));
+    }
+}
+
+/// A change of the members: to add a learner, to go over to other voters, or to remove a learner.
+fn some_change<S: Duties>(
+    server: &S,
+    alloc: Global,
+    dice: &mut Dice,
+) -> Result<Change, AllocError> {
     let id = dice.below(SERVERS).saturating_add(1);
-    let change = if !server.members().contains(&id) {
-        addition_of(alloc, id)?
+    if !server.members().contains(&id) {
+        addition_of(alloc, id)
     } else if dice.chance(80) {
-        Change::ReplaceAllVoters(some_close(server, alloc, dice)?)
+        Ok(Change::ReplaceAllVoters(some_close(server, alloc, dice)?))
     } else {
-        removal_of(alloc, id)?
-    };
-    server.change(change, dice.chance(50))
+        removal_of(alloc, id)
+    }
 }
 
 /// The change that adds a learner.
@@ -96,34 +104,26 @@ fn some_close<S: Duties>(
 
 /// Time passes: a leader sends to its followers, and another server asks for votes, if it has
 /// waited too long.
-fn tick<S: Duties>(
-    server: &mut S,
-    now: u64,
-    network: &mut Network<S::Message>,
-    dice: &mut Dice,
-) -> Result<()> {
+fn tick<S: Duties>(server: &mut S, now: u64, network: &mut Network<S::Message>, dice: &mut Dice) {
     server.apply(dice.below(8));
-    if server.role() == Role::Leader {
+    if server.seen().role == Role::Leader {
         for id in 1..=SERVERS {
-            if id != server.id() && server.members().contains(&id) {
-                replicate(server, id, network, dice)?;
+            if id != server.seen().id && server.members().contains(&id) {
+                replicate(server, id, network, dice);
             }
         }
-        server.end_change()
+        server.end_change();
     } else if server.has_waited(now, dice.below(TIMEOUT).saturating_add(TIMEOUT)) {
-        server.campaign(now)?;
+        server.campaign(now);
         ask_votes(server, network);
-        Ok(())
-    } else {
-        Ok(())
     }
 }
 
 /// A candidate asks the other voters for their votes.
 fn ask_votes<S: Duties>(server: &S, network: &mut Network<S::Message>) {
     for id in 1..=SERVERS {
-        if id != server.id() && server.members().is_voter(&id) {
-            network.post(server.id(), id, server.ask_vote());
+        if id != server.seen().id && server.members().is_voter(&id) {
+            network.post(server.seen().id, id, server.ask_vote());
         }
     }
 }
@@ -134,15 +134,16 @@ fn replicate<S: Duties>(
     to: u64,
     network: &mut Network<S::Message>,
     dice: &mut Dice,
-) -> Result<()> {
+) {
     if dice.chance(15) {
         server.give_up(to);
     }
-    if let Some(message) = server.next_message(to)? {
-        network.post(server.id(), to, message);
+    if let Some(message) = server.next_message(to) {
+        network.post(server.seen().id, to, message);
     }
     if dice.chance(30) {
-        network.post(server.id(), to, server.heartbeat()?);
+        if let Some(message) = server.heartbeat() {
+            network.post(server.seen().id, to, message);
+        }
     }
-    Ok(())
 }

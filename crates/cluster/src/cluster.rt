@@ -3,54 +3,59 @@
 use crate::acts::{self, SERVERS};
 use crate::chart;
 use crate::dice::Dice;
-use crate::events::{Event, Notes};
+use crate::events::{Counts, Event, Notes};
 use crate::fault::Fault;
 use crate::network::Network;
-use crate::replica::{Duties, Replica};
+use crate::replica::{Duties, Replica, Seen};
 use crate::safety::{History, last_leader};
-use crate::types::Members;
-use anyhow::Result;
+use crate::types::{Members, Payload};
+use anyhow::{Result, bail};
 use raft_base::EmptyNode;
 use std::alloc::{AllocError, Global};
 use std::collections::BTreeMap;
 
 /// A cluster.
 #[derive(Drop)]
-pub struct Cluster<S: Duties> {
+pub struct Cluster<S: Duties + Replica> {
     servers: Vec<S>,
     network: Network<S::Message>,
     dice: Dice,
     pub now: u64,
-    history: History<S>,
-    pub notes: Notes,
+    history: History<S::LogId>,
+    notes: Notes,
 }
 
-impl<S: Duties> Cluster<S> {
+impl<S: Duties + Replica> Cluster<S> {
     /// A cluster without servers.
-    pub fn new(alloc: Global, seed: u64) -> Self {
+    pub fn new(alloc: Global, seed: u64, is_standard: bool) -> Self {
         Cluster {
             servers: Vec::new(alloc),
             network: Network::new(alloc),
             dice: Dice::new(seed),
             now: 0,
-            history: History::new(alloc),
+            history: History::new(alloc, is_standard),
             notes: Notes::new(alloc),
         }
     }
 
     /// Starts the servers. The first of them begins a cluster of the first three.
-    pub fn start(&mut self, alloc: Global, fault: Option<Fault>) -> Result<()> {
+    pub fn start(&mut self, alloc: Global, fault: Option<Fault>) -> Result<(), AllocError> {
+        let nobody = Members::try_default(alloc)?;
         for id in 1..=SERVERS {
-            self.servers.push(S::new(alloc, id, fault)?)?;
+            self.servers.push(S::new(alloc, id, fault, &nobody)?)?;
         }
-        match self.servers.first_mut() {
-            Some(first) => first.begin(first_members(alloc)?),
-            None => Ok(()),
+        let members = first_members(alloc)?;
+        if let Some(first) = self.servers.first_mut() {
+            first.propose(Payload::Membership(members));
         }
+        Ok(())
     }
 
-    /// Writes a line of its chart.
-    pub fn draw(&mut self, text: &mut String) -> Result<(), AllocError> {
+    /// Writes a line of its chart, if one is due.
+    pub fn draw(&mut self, text: &mut String, is_due: bool) -> Result<(), AllocError> {
+        if !is_due {
+            return Ok(());
+        }
         write!(text, "{:>4} ", self.now)?;
         chart::line(text, &self.servers, &self.network)?;
         self.notes.end_line(text)
@@ -78,7 +83,7 @@ impl<S: Duties> Cluster<S> {
         };
         let place = envelope.to.saturating_sub(1) as usize;
         if let Some(server) = self.servers.get_mut(place) {
-            acts::answer(server, self.now, &envelope, &mut self.network)?;
+            acts::answer(server, self.now, &envelope, &mut self.network);
         }
         self.look_after(place)
     }
@@ -87,7 +92,7 @@ impl<S: Duties> Cluster<S> {
     fn act(&mut self, what: u64) -> Result<()> {
         let place = self.dice.below(SERVERS) as usize;
         if let Some(server) = self.servers.get_mut(place) {
-            acts::act(server, what, self.now, &mut self.network, &mut self.dice)?;
+            acts::act(server, what, self.now, &mut self.network, &mut self.dice);
         }
         self.look_after(place)
     }
@@ -95,31 +100,35 @@ impl<S: Duties> Cluster<S> {
     /// Looks whether all is well after something at a server, and notes it.
     fn look_after(&mut self, place: usize) -> Result<()> {
         if let Some(server) = self.servers.get_mut(place) {
-            if let Some(event) = server.take_event() {
-                self.notes.note(Some(server.id()), event);
+            if let Some(event) = server.take_event()? {
+                self.notes.note(Some(server.seen().id), event);
             }
         }
         match self.servers.get(place) {
-            Some(server) => {
-                let commits = self.history.look_after(&self.servers, server)?;
-                self.notes.counts.add(Event::Committed, commits);
-                Ok(())
-            }
+            Some(server) => self.history.look_after(&self.servers, server),
             None => Ok(()),
         }
     }
 
     /// The network is mended, and after some time a leader and all its members have committed the
-    /// same log. False if they have not.
-    pub fn settle(&mut self, events: u64) -> Result<bool> {
+    /// same log, or it fails.
+    pub fn settle(&mut self, events: u64) -> Result<()> {
         self.network.mend();
         for _ in 0..events {
             if is_settled(&self.servers) {
-                return Ok(true);
+                self.notes.counts.add(Event::Settled, 1);
+                return Ok(());
             }
             self.step()?;
         }
-        Ok(false)
+        bail!("it does not settle")
+    }
+
+    /// How often things have happened.
+    pub fn counts(&self) -> Counts {
+        let mut counts = self.notes.counts;
+        counts.add(Event::Committed, self.history.commits());
+        counts
     }
 }
 
@@ -133,13 +142,14 @@ fn first_members(alloc: Global) -> Result<Members, AllocError> {
 }
 
 /// Whether a leader and all its members have committed its whole log, and no change is half done.
-fn is_settled<S: Replica>(servers: &[S]) -> bool {
+fn is_settled<S: Seen>(servers: &[S]) -> bool {
     let Some(leader) = last_leader(servers) else {
         return false;
     };
-    let (members, end) = (leader.members(), leader.end());
+    let (members, end) = (leader.members(), leader.seen().end);
     let is_even = servers.iter().all(|server| {
-        !members.contains(&server.id()) || (server.end() == end && server.committed() == end)
+        let seen = server.seen();
+        !members.contains(&seen.id) || (seen.end == end && seen.committed == end)
     });
     is_even && !members.is_in_joint_consensus()
 }

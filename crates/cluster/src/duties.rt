@@ -2,138 +2,144 @@
 
 use crate::events::Event;
 use crate::fault::Fault;
-use crate::leader::{new_ballot, new_followers};
+use crate::leader::{last_of_joint, new_followers};
+use crate::memory::both;
 use crate::message::{Content, Message};
-use crate::replica::{Duties, Replica, Role};
+use crate::replica::{Duties, Seen};
 use crate::server::Server;
+use crate::standing::{Role, Standing};
 use crate::storage;
-use crate::types::{Change, ChangeError, Inflight, Members, Payload, State, Vote, end};
-use anyhow::{Result, bail};
-use raft_base::{Instant, LeaderKind, LogIdRangeOf, LogStateReader, UTime};
-use std::alloc::Global;
+use crate::types::{Change, Inflight, Members, Payload, State, Vote, end};
+use anyhow::Result;
+use raft_base::{LeaderKind, LogIdRangeOf, LogStateReader, log_id_below};
+use raft_state_tests::turn::Response;
+use std::alloc::{AllocError, Global};
 
 impl<K: LeaderKind<u64>> Duties for Server<K> {
     type Message = Message<K>;
 
-    fn new(alloc: Global, id: u64, fault: Option<Fault>) -> Result<Self> {
-        let nobody = Members::try_default(alloc)?;
-        let ballot = new_ballot(&nobody)?;
-        let followers = new_followers::<K>(&nobody, 0)?;
-        let state = State::<K>::try_default(alloc)?;
+    fn new(
+        alloc: Global,
+        id: u64,
+        fault: Option<Fault>,
+        nobody: &Members,
+    ) -> Result<Self, AllocError> {
+        let standing = Standing::new(nobody)?;
+        let followers = new_followers::<K>(nobody, 0);
+        let (followers, state) = both(followers, State::<K>::try_default(alloc))?;
         Ok(Server {
             alloc,
             id,
             fault,
+            standing,
             state,
             disk: Vec::new(alloc),
-            role: Role::Follower,
-            ballot,
             followers,
-            is_behind: false,
-            event: None,
         })
     }
 
-    fn begin(&mut self, members: Members) -> Result<()> {
-        self.write(Payload::Membership(members))
-    }
-
-    fn receive(&mut self, now: u64, from: u64, message: &Message<K>) -> Result<Option<Message<K>>> {
+    fn receive(&mut self, now: u64, from: u64, message: &Message<K>) -> Option<Message<K>> {
         let vote = message.vote;
-        match &message.content {
-            Content::AskVote(last) => Ok(Some(self.answer_candidate(now, vote, *last))),
-            Content::Append(request, logs) => {
-                let outcome = self.append(now, vote, logs)?;
-                Ok(Some(self.response(*request, outcome)))
-            }
-            Content::Install(request, snapshot) => {
-                let outcome = self.install(now, vote, snapshot)?;
-                Ok(Some(self.response(Some(*request), outcome)))
-            }
+        let content = match &message.content {
+            Content::AskVote(last) => Content::Voted(self.votes(now, vote, *last), self.last()),
+            Content::Append(request, logs) => Content::Responded(Response {
+                request: *request,
+                outcome: self.append(now, vote, logs),
+            }),
+            Content::Install(request, snapshot) => Content::Responded(Response {
+                request: Some(*request),
+                outcome: self.install(now, vote, snapshot),
+            }),
             Content::Voted(is_voted, last) => {
-                self.take_vote(now, from, vote, *is_voted, *last)?;
-                Ok(None)
+                let is_voted = self.hears(vote) && *is_voted;
+                self.take_vote(from, is_voted, *last);
+                return None;
             }
             Content::Responded(response) => {
-                self.take_response(from, vote, response)?;
-                Ok(None)
+                if self.hears(vote) {
+                    self.take_response(from, response);
+                }
+                return None;
             }
-        }
+        };
+        Some(self.message(content))
     }
 
-    fn take_event(&mut self) -> Option<Event> {
-        self.event.take()
+    fn take_event(&mut self) -> Result<Option<Event>> {
+        self.standing.take_event()
     }
 
     fn apply(&mut self, most: u64) {
-        storage::apply::<K>(&mut self.state, most);
+        let applied = self.state.io_state().applied;
+        let last = end(self.state.committed).min(end(applied).saturating_add(most));
+        if last > 0 {
+            let upto = self.state.get_log_id(last - 1);
+            if log_id_below(applied, upto) {
+                self.state.io_state_mut().update_applied(upto);
+            }
+        }
     }
 
-    fn compact(&mut self, keep: u64) -> Result<()> {
-        storage::build_snapshot::<K>(&mut self.state, self.alloc, self.id, keep)?;
-        self.purge()
+    fn compact(&mut self, keep: u64) {
+        storage::build_snapshot::<K>(&mut self.state, keep);
+        self.purge();
     }
 
-    fn restart(&mut self, now: u64) -> Result<()> {
-        self.reload(now)?;
-        self.role = Role::Follower;
-        self.is_behind = false;
+    fn restart(&mut self, now: u64) {
+        self.reload(now);
+        self.standing.follow();
         // One that was removed has its committed vote still.
         if self.state.is_leader(&self.id) && self.may_campaign() {
-            self.lead(now)?;
+            self.lead();
         }
-        self.event = Some(Event::Restarted);
-        Ok(())
+        self.standing.note(Event::Restarted);
     }
 
     fn has_waited(&self, now: u64, patience: u64) -> bool {
-        let times = if self.is_behind { 5 } else { 1 };
-        self.may_campaign()
-            && self.state.vote_last_modified().is_none_or(|moment| patience.saturating_mul(times)
-                <= moment.elapsed(now))
+        let since = self.state.vote_last_modified();
+        self.may_campaign() && self.standing.has_waited(since, now, patience)
     }
 
-    fn campaign(&mut self, now: u64) -> Result<()> {
-        let term = self.term().saturating_add(1);
-        self.save_vote(now, Vote::<K>::new(term, self.id));
-        self.role = Role::Candidate;
-        self.ballot = new_ballot(self.members())?;
-        self.count_vote(now, self.id)
+    fn campaign(&mut self, now: u64) {
+        let term = self.seen().vote.0.saturating_add(1);
+        let vote = Vote::<K>::new(term, self.id);
+        self.save_vote(vote);
+        self.state.vote.update(now, vote);
+        self.standing
+            .ask(self.state.membership_state.effective().membership());
+        self.count_vote(self.id);
     }
 
     fn ask_vote(&self) -> Message<K> {
         self.message(Content::AskVote(self.last()))
     }
 
-    fn request(&mut self, data: u64) -> Result<()> {
-        self.propose(Payload::Normal(data))
+    fn propose(&mut self, payload: Payload) {
+        self.write(payload);
+        self.count_own();
     }
 
-    fn change(&mut self, change: Change, retain: bool) -> Result<()> {
-        match self.members_after(change, retain) {
-            Ok(members) => self.go_over(members),
-            Err(ChangeError::<K>::OutOfMemory) => bail!("out of memory"),
-            Err(_) => Ok(()),
-        }
-    }
-
-    fn end_change(&mut self) -> Result<()> {
+    fn change(&mut self, change: Change, retain: bool) {
         let handler = self.state.membership_state.change_handler();
-        if handler.ensure_committed().is_err() {
-            return Ok(());
+        if let Some(members) = handler.apply(change, retain).ok() {
+            self.go_over(members);
         }
-        if self.members().is_in_joint_consensus() {
-            return self.change(self.last_of_joint(), true);
+    }
+
+    fn end_change(&mut self) {
+        let handler = self.state.membership_state.change_handler();
+        if handler.ensure_committed().is_ok() {
+            if self.members().is_in_joint_consensus() {
+                self.change(last_of_joint(self.alloc), true);
+            } else if !self.state.is_voter(&self.id) {
+                self.standing.role = Role::Follower;
+            }
         }
-        if !self.state.is_voter(&self.id) {
-            self.role = Role::Follower;
-        }
-        Ok(())
     }
 
     fn is_close(&self, id: u64, lag: u64) -> bool {
         match self.followers.get(id) {
-            Some(follower) => end(follower.matching).saturating_add(lag) >= self.end(),
+            Some(follower) => end(follower.matching).saturating_add(lag) >= end(self.last()),
             None => false,
         }
     }
@@ -142,23 +148,16 @@ impl<K: LeaderKind<u64>> Duties for Server<K> {
         self.followers.give_up(to);
     }
 
-    fn next_message(&mut self, to: u64) -> Result<Option<Message<K>>> {
+    fn next_message(&mut self, to: u64) -> Option<Message<K>> {
         match self.followers.next_request(&self.state, to) {
-            Some(Inflight::<K>::Logs { id, log_id_range }) => {
-                let logs = self.logs(log_id_range)?;
-                Ok(Some(self.message(Content::Append(Some(id), logs))))
-            }
-            Some(Inflight::<K>::Snapshot { id, .. }) => {
-                let snapshot = self.state.snapshot_meta.try_clone()?;
-                Ok(Some(self.message(Content::Install(id, snapshot))))
-            }
-            _ => Ok(None),
+            Some(Inflight::<K>::Logs { id, log_id_range }) => self.logs(Some(id), log_id_range),
+            Some(Inflight::<K>::Snapshot { id, .. }) => self.snapshot(id),
+            _ => None,
         }
     }
 
-    fn heartbeat(&self) -> Result<Message<K>> {
+    fn heartbeat(&self) -> Option<Message<K>> {
         let last = self.last();
-        let logs = self.logs(LogIdRangeOf { prev: last, last })?;
-        Ok(self.message(Content::Append(None, logs)))
+        self.logs(None, LogIdRangeOf { prev: last, last })
     }
 }

@@ -27,14 +27,12 @@ pub enum Event {
     Parted,
     /// The cut has ended.
     Healed,
-    /// A run was safe to its end.
-    Safe,
     /// A cluster has settled once its network was mended.
     Settled,
 }
 
 /// The words for all that happens, in the order of `Event`.
-const WORDS: [&str; 11] = [
+const WORDS: [&str; 10] = [
     "events",
     "elected",
     "changes",
@@ -44,14 +42,13 @@ const WORDS: [&str; 11] = [
     "restarts",
     "cut",
     "healed",
-    "safe",
     "settled",
 ];
 
 /// How often things happened, in the order of `Event`.
 #[derive(Clone, Copy)]
 pub struct Counts {
-    counts: [u64; 11],
+    counts: [u64; 10],
 }
 
 impl Event {
@@ -64,7 +61,7 @@ impl Event {
 impl Counts {
     /// Nothing has happened.
     pub fn new() -> Self {
-        Counts { counts: [0; 11] }
+        Counts { counts: [0; 10] }
     }
 
     /// How often something happened.
@@ -133,9 +130,9 @@ impl Notes {
         }
     }
 
-    /// Ends a line with what is noted, and begins anew.
-    pub fn end_line(&mut self, line: &mut String) -> Result<(), AllocError> {
-        writeln!(line, " {}", self.text)?;
+    /// Ends a text's last line with what is noted, and begins anew.
+    pub fn end_line(&mut self, text: &mut String) -> Result<(), AllocError> {
+        writeln!(text, " {}", self.text)?;
         self.text.clear();
         Ok(())
     }

@@ -2,15 +2,15 @@
 
 use crate::events::Event;
 use crate::fault::Fault;
-use crate::replica::{Replica, Role};
-use crate::server::{Ballot, Server};
+use crate::memory::{add, copy_of, last_few, renew};
+use crate::message::{Content, Message};
+use crate::replica::{Duties, Seen};
+use crate::server::Server;
 use crate::storage;
-use crate::types::{Change, ChangeError, Entry, Leader, LogId, Members, Payload, end};
-use anyhow::{Result, bail};
+use crate::types::{Change, Entry, Leader, LogId, Members, Payload, end};
 use raft_base::{LeaderKind, LogIdRangeOf};
-use raft_progress::Progress;
 use raft_state_tests::turn::{Followers, Logs};
-use std::alloc::AllocError;
+use std::alloc::{AllocError, Global};
 use std::collections::BTreeSet;
 
 impl<K: LeaderKind<u64>> Server<K> {
@@ -23,126 +23,95 @@ impl<K: LeaderKind<u64>> Server<K> {
     }
 
     /// Counts a vote for it, and leads once a quorum has voted.
-    pub fn count_vote(&mut self, now: u64, from: u64) -> Result<()> {
-        if self.role != Role::Candidate {
-            return Ok(());
+    pub fn count_vote(&mut self, from: u64) {
+        if self.standing.count(from) {
+            self.lead();
         }
-        let _granted = self.ballot.update(&from, true);
-        if *self.ballot.progress().granted() {
-            return self.lead(now);
-        }
-        Ok(())
     }
 
-    /// Leads, and begins with a blank entry.
-    pub fn lead(&mut self, now: u64) -> Result<()> {
+    /// Leads, and begins with a blank entry, if there is memory to know its followers by.
+    pub fn lead(&mut self) {
         let mut vote = self.vote();
         vote.commit();
-        self.save_vote(now, vote);
-        self.is_behind = false;
-        self.event = Some(Event::Elected);
-        self.followers = new_followers::<K>(self.members(), self.end())?;
-        self.role = Role::Leader;
-        self.propose(Payload::Blank)
+        self.save_vote(vote);
+        let followers = new_followers::<K>(self.members(), end(self.last()));
+        if renew(&mut self.followers, followers) {
+            self.standing.lead();
+            self.propose(Payload::Blank);
+        }
     }
 
-    /// Appends an entry as the leader.
-    pub fn propose(&mut self, payload: Payload) -> Result<()> {
-        self.write(payload)?;
-        self.count_own()
-    }
-
-    /// Writes an entry of its own. The first one of a cluster is of term 0, which nobody has to
-    /// grant.
-    pub fn write(&mut self, payload: Payload) -> Result<()> {
-        let log_id = LogId::<K>::new(self.leader(), self.end());
-        let mut entries = Vec::new(self.alloc);
-        entries.push(Entry::<K> { log_id, payload })?;
-        self.write_all(&entries)
-    }
-
-    /// Writes entries of its own.
-    fn write_all(&mut self, entries: &[Entry<K>]) -> Result<()> {
-        storage::append::<K>(&mut self.state, entries)?;
-        self.flush(entries)
+    /// Writes an entry of its own, first to disk.
+    pub fn write(&mut self, payload: Payload) {
+        let leader = K::to_committed(self.state.vote_ref().leader_id());
+        let log_id = LogId::<K>::new(leader, end(self.last()));
+        let is_written = add(&mut self.disk, Entry::<K> { log_id, payload });
+        let is_appended = storage::append::<K>(&mut self.state, last_few(&self.disk, 1));
+        self.standing
+            .check(is_written && is_appended, "an entry does not follow");
     }
 
     /// Has all of its own log, and commits what a quorum has.
-    fn count_own(&mut self) -> Result<()> {
+    pub fn count_own(&mut self) {
         let last = self.last();
         self.followers.set_own(self.id, last);
         if self.state.can_accept() {
             self.state.update_accepted(last);
         }
-        self.commit()
+        self.commit();
     }
 
     /// Commits what a quorum has.
-    pub fn commit(&mut self) -> Result<()> {
-        self.followers.commit(&mut self.state)?;
+    pub fn commit(&mut self) {
+        let mut is_committed = self.followers.commit(&mut self.state).is_ok();
         if self.fault == Some(Fault::CountAlone) {
-            return storage::commit::<K>(&mut self.state, self.followers.granted());
+            is_committed = storage::commit::<K>(&mut self.state, self.followers.granted());
         }
-        Ok(())
+        self.standing.check(is_committed, "members are not in turn");
     }
 
-    /// The entries of a range, and what is committed.
-    pub fn logs(&self, range: LogIdRangeOf<Leader<K>>) -> Result<Logs<K>> {
-        Ok(Logs {
+    /// What sends the entries of a range, and what is committed, if there is memory.
+    pub fn logs(&self, request: Option<u64>, range: LogIdRangeOf<Leader<K>>) -> Option<Message<K>> {
+        let places = self.place(end(range.prev))..self.place(end(range.last));
+        let entries = copy_of(self.alloc, &self.disk, places)?;
+        let logs = Logs {
             prev: range.prev,
-            entries: self.entries(end(range.prev), end(range.last))?,
+            entries,
             committed: self.state.committed,
-        })
-    }
-
-    /// The entries from an index up to another one.
-    fn entries(&self, first: u64, end: u64) -> Result<Vec<Entry<K>>> {
-        let Some(stored) = self.disk.get(self.place(first)..self.place(end)) else {
-            bail!("entries are to be sent and are not on disk");
         };
-        let mut entries = Vec::new(self.alloc);
-        entries.extend_with_clones(stored)?;
-        Ok(entries)
+        Some(self.message(Content::Append(request, logs)))
     }
 
-    /// The members after a change, or why it is refused. With a fault that is planted it goes at once
-    /// to its last config.
-    pub fn members_after(&self, change: Change, retain: bool) -> Result<Members, ChangeError<K>> {
-        let handler = self.state.membership_state.change_handler();
-        let members = handler.apply(change, retain)?;
-        if self.fault == Some(Fault::NoJoint) {
-            return match members.change(self.last_of_joint(), retain) {
-                Ok(last) => Ok(last),
-                Err(_) => Err(ChangeError::<K>::OutOfMemory),
-            };
+    /// What sends the snapshot, if there is memory.
+    pub fn snapshot(&self, request: u64) -> Option<Message<K>> {
+        match self.state.snapshot_meta.try_clone() {
+            Ok(snapshot) => Some(self.message(Content::Install(request, snapshot))),
+            Err(_) => None,
         }
-        Ok(members)
     }
 
-    /// Proposes other members, and counts by them.
-    pub fn go_over(&mut self, members: Members) -> Result<()> {
-        self.write(Payload::Membership(members))?;
-        self.event = Some(Event::Changed);
-        self.count_by_members()
+    /// Proposes other members, and counts by them. With a fault that is planted it goes at once to
+    /// the last config of joint ones.
+    pub fn go_over(&mut self, members: Members) {
+        if let Some(members) = planted(self.fault, members) {
+            self.write(Payload::Membership(members));
+            self.standing.note(Event::Changed);
+            self.count_by_members();
+        }
     }
 
     /// Counts by the effective members from now on. Of a new one nothing is known but that it lacks
     /// the entry that adds it.
-    fn count_by_members(&mut self) -> Result<()> {
-        let (members, last) = (self.members().try_clone()?, self.end().saturating_sub(1));
-        self.followers.change_to(members, last)?;
-        self.count_own()
+    fn count_by_members(&mut self) {
+        let last = end(self.last()).saturating_sub(1);
+        let members = self.state.membership_state.effective().membership();
+        let is_counting = match members.try_clone() {
+            Ok(members) => self.followers.change_to(members, last).is_ok(),
+            Err(_) => false,
+        };
+        self.standing.check(is_counting, "out of memory");
+        self.count_own();
     }
-
-    /// The change from a joint membership to its last config. It leaves others as they are.
-    pub fn last_of_joint(&self) -> Change {
-        Change::AddVoterIds(BTreeSet::new(self.alloc))
-    }
-}
-
-/// A ballot on which nobody has voted.
-pub fn new_ballot(members: &Members) -> Result<Ballot, AllocError> {
-    Ballot::new(members.try_clone()?, false)
 }
 
 /// Followers of which nothing is known but that their logs end before an index.
@@ -151,4 +120,18 @@ pub fn new_followers<K: LeaderKind<u64>>(
     end: u64,
 ) -> Result<Followers<K>, AllocError> {
     Followers::new(members.try_clone()?, end)
+}
+
+/// The change from a joint membership to its last config. It leaves others as they are.
+pub fn last_of_joint(alloc: Global) -> Change {
+    Change::AddVoterIds(BTreeSet::new(alloc))
+}
+
+/// Members, or where that fault is planted those of their last config, if there is memory.
+fn planted(fault: Option<Fault>, members: Members) -> Option<Members> {
+    if fault != Some(Fault::NoJoint) {
+        return Some(members);
+    }
+    let alloc = *members.get_joint_config().allocator();
+    members.change(last_of_joint(alloc), true).ok()
 }

@@ -19,12 +19,14 @@ mod events;
 mod fault;
 mod follower;
 mod leader;
+mod memory;
 mod message;
 mod network;
 mod replica;
 mod safety;
 mod seen;
 mod server;
+mod standing;
 mod storage;
 mod types;
 
@@ -33,8 +35,9 @@ use cluster::Cluster;
 use events::{Counts, Event};
 use fault::Fault;
 use raft_base::{LeaderAdv, LeaderKind, LeaderStd};
-use replica::Duties;
+use replica::{Duties, Replica};
 use server::Server;
+use std::alloc::AllocError;
 use std::env;
 
 /// How many events a cluster has to settle in, once its network is mended.
@@ -85,7 +88,7 @@ impl Plan {
 }
 
 /// Runs a cluster of each seed, writes what is to be told, and answers what happened.
-fn run_all<K: LeaderKind<u64>>(text: &mut String, plan: &Plan) -> Result<Counts> {
+fn run_all<K: LeaderKind<u64>>(text: &mut String, plan: &Plan) -> Result<Counts, AllocError> {
     let mut total = Counts::new();
     for seed in plan.first..plan.first.saturating_add(plan.count) {
         run::<Server<K>>(text, plan, seed, &mut total)?;
@@ -94,44 +97,40 @@ fn run_all<K: LeaderKind<u64>>(text: &mut String, plan: &Plan) -> Result<Counts>
 }
 
 /// Runs a cluster of a seed, and adds what happens to what has.
-fn run<S: Duties>(text: &mut String, plan: &Plan, seed: u64, total: &mut Counts) -> Result<()> {
-    let mut cluster = Cluster::<S>::new(*text.allocator(), seed);
+fn run<S: Duties + Replica>(
+    text: &mut String,
+    plan: &Plan,
+    seed: u64,
+    total: &mut Counts,
+) -> Result<(), AllocError> {
+    let mut cluster = Cluster::<S>::new(*text.allocator(), seed, plan.is_standard);
     let outcome = play::<S>(text, plan, &mut cluster);
-    total.add_all(&cluster.notes.counts);
+    total.add_all(&cluster.counts());
     tell(text, seed, cluster.now, outcome)
 }
 
-/// Writes how a run has ended, if not well.
-fn tell(text: &mut String, seed: u64, now: u64, outcome: Result<()>) -> Result<()> {
-    if let Err(error) = outcome {
-        writeln!(text, "seed {seed}: event {now}: {error:#}")?;
-    }
-    Ok(())
-}
-
-/// Lets events happen to a cluster, and draws its chart.
-fn play<S: Duties>(text: &mut String, plan: &Plan, cluster: &mut Cluster<S>) -> Result<()> {
+/// Lets the events of a plan happen to a cluster, with a line of its chart every few, and one once it
+/// has settled.
+fn play<S: Duties + Replica>(
+    text: &mut String,
+    plan: &Plan,
+    cluster: &mut Cluster<S>,
+) -> Result<()> {
     cluster.start(*text.allocator(), plan.fault)?;
-    go_on::<S>(text, plan, cluster)?;
-    let is_settled = cluster.settle(SETTLE)?;
-    if plan.every > 0 {
-        cluster.draw(text)?;
-    }
-    cluster.notes.counts.add(Event::Safe, 1);
-    ensure!(is_settled, "it does not settle");
-    cluster.notes.counts.add(Event::Settled, 1);
-    Ok(())
-}
-
-/// Lets the events of a plan happen to a cluster, with a line of its chart every few.
-fn go_on<S: Duties>(text: &mut String, plan: &Plan, cluster: &mut Cluster<S>) -> Result<()> {
     for event in 0..plan.events {
-        if event.checked_rem(plan.every) == Some(0) {
-            cluster.draw(text)?;
-        }
+        cluster.draw(text, event.checked_rem(plan.every) == Some(0))?;
         cluster.step()?;
     }
-    Ok(())
+    cluster.settle(SETTLE)?;
+    Ok(cluster.draw(text, plan.every > 0)?)
+}
+
+/// Writes how a run has ended, if not well.
+fn tell(text: &mut String, seed: u64, now: u64, outcome: Result<()>) -> Result<(), AllocError> {
+    match outcome {
+        Ok(()) => Ok(()),
+        Err(error) => writeln!(text, "seed {seed}: event {now}: {error:#}"),
+    }
 }
 
 fn main(rt: HostRuntime) -> Result<()> {
@@ -152,7 +151,7 @@ fn main(rt: HostRuntime) -> Result<()> {
     println!(rt; "{total}")?;
     ensure!(
         total.of(Event::Settled) == plan.count,
-        "not all runs were safe and settled"
+        "not all clusters were safe and settled"
     );
     Ok(())
 }

@@ -1,43 +1,32 @@
 //! What is seen of a server.
 
-use crate::replica::{Replica, Role};
+use crate::replica::{Glance, Replica, Seen};
 use crate::server::Server;
-use crate::storage;
-use crate::types::{Leader, LogId, Members, end};
-use raft_base::{LeaderKind, LogIdOptionExt, LogStateReader};
+use crate::storage::has_log;
+use crate::types::{LogId, Members, end};
+use raft_base::{LeaderKind, LogIdOptionExt, LogStateReader, Validate};
+
+impl<K: LeaderKind<u64>> Seen for Server<K> {
+    fn seen(&self) -> Glance {
+        let leader = *self.state.vote_ref().leader_id();
+        Glance {
+            id: self.id,
+            role: self.standing.role,
+            vote: (K::term(&leader), K::voted_for(&leader).unwrap_or(0)),
+            purged: self.state.purged_next,
+            committed: end(self.state.committed),
+            end: end(self.last()),
+            granted: self.followers.granted().index(),
+        }
+    }
+
+    fn members(&self) -> &Members {
+        self.state.membership_state.effective().membership()
+    }
+}
 
 impl<K: LeaderKind<u64>> Replica for Server<K> {
-    type Leader = Leader<K>;
-
     type LogId = LogId<K>;
-
-    fn id(&self) -> u64 {
-        self.id
-    }
-
-    fn role(&self) -> Role {
-        self.role
-    }
-
-    fn term(&self) -> u64 {
-        K::term(self.state.vote_ref().leader_id())
-    }
-
-    fn leader(&self) -> Leader<K> {
-        K::to_committed(self.state.vote_ref().leader_id())
-    }
-
-    fn purged(&self) -> u64 {
-        self.state.purged_next
-    }
-
-    fn committed(&self) -> u64 {
-        end(self.state.committed)
-    }
-
-    fn end(&self) -> u64 {
-        end(self.last())
-    }
 
     fn log_id(&self, index: u64) -> Option<LogId<K>> {
         self.state.get_log_id(index)
@@ -55,15 +44,17 @@ impl<K: LeaderKind<u64>> Replica for Server<K> {
         self.followers.get(id)?.matching
     }
 
-    fn granted(&self) -> Option<u64> {
-        self.followers.granted().index()
-    }
-
-    fn members(&self) -> &Members {
-        self.state.membership_state.effective().membership()
-    }
-
     fn flaw(&self) -> Option<&'static str> {
-        storage::flaw::<K>(&self.state, &self.disk)
+        if self.state.validate().is_err() {
+            Some("its state is not valid")
+        } else if !self.state.purge_upto_is_logged() {
+            Some("its purge point is not logged")
+        } else if !self.state.committed_is_logged() {
+            Some("it has lost a committed entry")
+        } else if !has_log::<K>(&self.disk, &self.state) {
+            Some("its disk has another log")
+        } else {
+            None
+        }
     }
 }

@@ -1,18 +1,15 @@
-//! A server: its state, what it has on disk, what it is doing, and its votes.
+//! A server: its state, what it has on disk, what it is doing, and whom it votes for.
+//!
+//! What fails in it is noted for the one who looks after it, so its functions return no errors.
 
-use crate::events::Event;
 use crate::fault::Fault;
 use crate::message::{Content, Message};
-use crate::replica::Role;
+use crate::standing::{Role, Standing};
 use crate::types::{Disk, FollowerProgress, LogId, State, Vote};
-use anyhow::Result;
-use raft_base::{EmptyNode, LeaderKind, LogStateReader, log_id_at_most, log_id_below};
-use raft_progress::{ProgressPart, Tracked};
-use raft_state_tests::turn::{Followers, Outcome, Response};
+use raft_base::{LeaderKind, LogStateReader, log_id_at_most, log_id_below};
+use raft_progress::ProgressPart;
+use raft_state_tests::turn::{Followers, Response};
 use std::alloc::Global;
-
-/// Who has voted for a candidate.
-pub type Ballot = Tracked<u64, EmptyNode, bool, bool>;
 
 /// A server.
 #[derive(Drop)]
@@ -24,17 +21,11 @@ where
     pub alloc: Global,
     pub id: u64,
     pub fault: Option<Fault>,
+    pub standing: Standing,
     pub state: State<K>,
     pub disk: Disk<K>,
-    pub role: Role,
-    /// Who has voted for it, while it is a candidate.
-    pub ballot: Ballot,
     /// What it knows of its followers, while it leads.
     pub followers: Followers<K>,
-    /// Whether a voter with a longer log has refused it: it waits longer then, for that one to lead.
-    pub is_behind: bool,
-    /// What has become of it.
-    pub event: Option<Event>,
 }
 
 impl<K: LeaderKind<u64>> Server<K> {
@@ -48,40 +39,9 @@ impl<K: LeaderKind<u64>> Server<K> {
         self.state.last_log_id().copied()
     }
 
-    /// Whether it leads.
-    pub fn leads(&self) -> bool {
-        self.role == Role::Leader
-    }
-
     /// The place of an index on its disk.
     pub fn place(&self, index: u64) -> usize {
         index.saturating_sub(self.state.purged_next) as usize
-    }
-
-    /// Writes a vote, also to disk.
-    pub fn save_vote(&mut self, now: u64, vote: Vote<K>) {
-        self.state.vote.update(now, vote);
-        self.state.io_state_mut().update_vote(vote);
-    }
-
-    /// Promises a vote, unless it is below the own one or does not compare with it.
-    pub fn promise(&mut self, now: u64, vote: Vote<K>) -> bool {
-        let may_be = vote >= self.vote();
-        if may_be {
-            self.yield_to(vote);
-            self.save_vote(now, vote);
-        }
-        may_be
-    }
-
-    /// Takes over a greater vote, and follows from then on. An answer that tells one is no sign of a
-    /// leader, so the moment of its own vote stays.
-    fn yield_to(&mut self, vote: Vote<K>) {
-        if vote > self.vote() {
-            self.role = Role::Follower;
-            *self.state.vote.get_mut() = vote;
-            self.state.io_state_mut().update_vote(vote);
-        }
     }
 
     /// A message with its vote.
@@ -92,57 +52,61 @@ impl<K: LeaderKind<u64>> Server<K> {
         }
     }
 
-    /// A response to a leader.
-    pub fn response(&self, request: Option<u64>, outcome: Outcome<K>) -> Message<K> {
-        self.message(Content::Responded(Response { request, outcome }))
+    /// Writes a vote, also to disk.
+    pub fn save_vote(&mut self, vote: Vote<K>) {
+        *self.state.vote.get_mut() = vote;
+        self.state.io_state_mut().update_vote(vote);
     }
 
-    /// The answer to a candidate with this last log id.
-    pub fn answer_candidate(
-        &mut self,
-        now: u64,
-        vote: Vote<K>,
-        last: Option<LogId<K>>,
-    ) -> Message<K> {
-        let own = self.last();
-        let is_voted = self.takes_candidate(last) && self.promise(now, vote);
-        self.message(Content::Voted(is_voted, own))
-    }
-
-    /// Whether a candidate's log is not behind the own one.
-    fn takes_candidate(&self, last: Option<LogId<K>>) -> bool {
-        self.fault == Some(Fault::AnyCandidate) || log_id_at_most(self.last(), last)
-    }
-
-    /// Takes the answer of a voter with this last log id.
-    pub fn take_vote(
-        &mut self,
-        now: u64,
-        from: u64,
-        vote: Vote<K>,
-        is_voted: bool,
-        last: Option<LogId<K>>,
-    ) -> Result<()> {
-        self.yield_to(vote);
-        if is_voted && vote == self.vote() {
-            return self.count_vote(now, from);
+    /// Promises a vote, unless it is below the own one or does not compare with it. It follows from
+    /// then on, if the vote is a greater one.
+    pub fn promise(&mut self, vote: Vote<K>) -> bool {
+        let own = self.vote();
+        if vote > own {
+            self.standing.role = Role::Follower;
+            self.save_vote(vote);
         }
-        self.is_behind = self.is_behind || log_id_below(self.last(), last);
-        Ok(())
+        vote >= own
     }
 
-    /// Takes a follower's response.
-    pub fn take_response(
-        &mut self,
-        from: u64,
-        vote: Vote<K>,
-        response: &Response<K>,
-    ) -> Result<()> {
-        self.yield_to(vote);
-        if self.leads() && vote == self.vote() {
+    /// Promises the vote that an answer tells, if it may. True if that is the own one then, so that
+    /// the answer counts.
+    pub fn hears(&mut self, vote: Vote<K>) -> bool {
+        self.promise(vote) && vote == self.vote()
+    }
+
+    /// Whether it votes for a candidate with this last log id: the candidate's log is not behind the
+    /// own one.
+    pub fn votes(&mut self, now: u64, vote: Vote<K>, last: Option<LogId<K>>) -> bool {
+        let is_careless = self.fault == Some(Fault::AnyCandidate);
+        let may_be = is_careless || log_id_at_most(self.last(), last);
+        may_be && self.promises(now, vote)
+    }
+
+    /// Promises a vote if it may, and waits anew for its leader then.
+    pub fn promises(&mut self, now: u64, vote: Vote<K>) -> bool {
+        let is_promised = self.promise(vote);
+        if is_promised {
+            self.state.vote.update(now, vote);
+            self.standing.is_behind = false;
+        }
+        is_promised
+    }
+
+    /// Takes the answer of a voter with this last log id, which has voted for it or not.
+    pub fn take_vote(&mut self, from: u64, is_voted: bool, last: Option<LogId<K>>) {
+        if is_voted {
+            self.count_vote(from);
+        } else if log_id_below(self.last(), last) {
+            self.standing.is_behind = true;
+        }
+    }
+
+    /// Takes a follower's response, as the leader.
+    pub fn take_response(&mut self, from: u64, response: &Response<K>) {
+        if self.standing.role == Role::Leader {
             let _taken = self.followers.take_response(from, response);
-            return self.commit();
+            self.commit();
         }
-        Ok(())
     }
 }

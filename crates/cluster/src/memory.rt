@@ -1,0 +1,47 @@
+//! What is done where there may be no memory.
+
+use std::alloc::{AllocError, Global};
+use std::ops::Range;
+
+/// Puts a new value in a place, if there was memory for it.
+pub fn renew<T: Drop>(place: &mut T, new: Result<T, AllocError>) -> bool {
+    match new {
+        Ok(new) => {
+            *place = new;
+            true
+        }
+        Err(_) => false,
+    }
+}
+
+/// Two values, if there was memory for both.
+pub fn both<A: Drop, B: Drop>(
+    first: Result<A, AllocError>,
+    second: Result<B, AllocError>,
+) -> Result<(A, B), AllocError> {
+    Ok((first?, second?))
+}
+
+/// Adds an item to others, if there is memory.
+pub fn add<T: Drop>(items: &mut Vec<T>, item: T) -> bool {
+    items.push(item).is_ok()
+}
+
+/// Adds copies of the last few of some items to others, if there is memory.
+pub fn add_last<T: Clone + Drop>(items: &mut Vec<T>, more: &[T], count: usize) -> bool {
+    items.extend_with_clones(last_few(more, count)).is_ok()
+}
+
+/// A copy of the items at some places, of those that there are, if there is memory.
+pub fn copy_of<T: Clone + Drop>(
+    alloc: Global,
+    items: &[T],
+    places: Range<usize>,
+) -> Option<Vec<T>> {
+    items.get(places).unwrap_or(&[]).to_vec(alloc).ok()
+}
+
+/// The last few of some items.
+pub fn last_few<T>(items: &[T], count: usize) -> &[T] {
+    items.split_at(items.len().saturating_sub(count)).1
+}

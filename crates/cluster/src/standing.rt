@@ -1,0 +1,116 @@
+//! What a server is to its cluster, apart from its log.
+
+use crate::events::Event;
+use crate::types::Members;
+use anyhow::{Error, Result};
+use raft_base::EmptyNode;
+use raft_progress::{Progress, Tracked};
+use std::alloc::AllocError;
+
+/// What a server is doing.
+#[derive(Clone, Copy, PartialEq, Eq)]
+pub enum Role {
+    /// It waits for a leader.
+    Follower,
+    /// It asks for votes.
+    Candidate,
+    /// It leads.
+    Leader,
+}
+
+/// Who has voted for a candidate.
+type Ballot = Tracked<u64, EmptyNode, bool, bool>;
+
+/// What a server is doing, and what has become of it.
+#[derive(Drop)]
+pub struct Standing {
+    pub role: Role,
+    /// Who has voted for it, while it is a candidate.
+    ballot: Ballot,
+    /// Whether a voter with a longer log has refused it: it waits longer then, for that one to lead.
+    pub is_behind: bool,
+    event: Option<Event>,
+    failure: Option<Error>,
+}
+
+impl Standing {
+    /// That of a new server, which knows of no members.
+    pub fn new(nobody: &Members) -> Result<Standing, AllocError> {
+        Ok(Standing {
+            role: Role::Follower,
+            ballot: ballot(nobody)?,
+            is_behind: false,
+            event: None,
+            failure: None,
+        })
+    }
+
+    /// It follows, and has heard of a leader.
+    pub fn follow(&mut self) {
+        self.role = Role::Follower;
+        self.is_behind = false;
+    }
+
+    /// It asks these members for their votes, if there is memory to count them.
+    pub fn ask(&mut self, members: &Members) {
+        if let Ok(ballot) = ballot(members) {
+            self.ballot = ballot;
+            self.role = Role::Candidate;
+        }
+    }
+
+    /// Counts a vote for it. True if it is a candidate for which a quorum has voted now.
+    pub fn count(&mut self, from: u64) -> bool {
+        if self.role != Role::Candidate {
+            return false;
+        }
+        let _granted = self.ballot.update(&from, true);
+        *self.ballot.progress().granted()
+    }
+
+    /// It leads.
+    pub fn lead(&mut self) {
+        self.role = Role::Leader;
+        self.is_behind = false;
+        self.note(Event::Elected);
+    }
+
+    /// Whether it has waited so long for a leader since a moment, if there was one.
+    pub fn has_waited(&self, since: Option<u64>, now: u64, patience: u64) -> bool {
+        let times = if self.is_behind { 5 } else { 1 };
+        match since {
+            Some(moment) => patience.saturating_mul(times) <= now.saturating_sub(moment),
+            None => true,
+        }
+    }
+
+    /// Notes what has become of it.
+    pub fn note(&mut self, event: Event) {
+        self.event = Some(event);
+    }
+
+    /// Notes what has failed.
+    pub fn fail(&mut self, failure: Error) {
+        self.failure = Some(failure);
+    }
+
+    /// Notes a failure, unless all is well.
+    pub fn check(&mut self, is_well: bool, failure: &'static str) {
+        if !is_well {
+            self.fail(Error::msg(failure));
+        }
+    }
+
+    /// What has become of it since it was last asked, or what has failed.
+    pub fn take_event(&mut self) -> Result<Option<Event>> {
+        match self.failure.take() {
+            Some(failure) => Err(failure),
+            None => Ok(self.event.take()),
+        }
+    }
+}
+
+/// A ballot on which nobody has voted.
+fn ballot(members: &Members) -> Result<Ballot, AllocError> {
+    Ballot::new(members.try_clone()?, false)
+}
