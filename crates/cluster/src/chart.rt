@@ -13,8 +13,8 @@ const WIDTH: u64 = 8;
 /// What its signs mean, and the head of its columns.
 pub const LEGEND: &str = "\
 L leader, C candidate, F follower, l learner, with its term and the last indexes of the longest log:
-= purged, # committed, + in the log. A * is cut off from those without. Then the last index that a
-quorum has, the voters (of both configs of a joint membership), +learners, and what has happened.
+= purged, # committed, + in the log. A * is cut off from those without. Then, if one leads, the last
+index that a quorum has, the voters (of both configs of joint members), +learners; what happened.
 event 1           2           3           4           5          has members
 ";
 
@@ -31,7 +31,7 @@ pub fn line<S: Seen, M: Drop>(
     }
     match last_leader(servers) {
         Some(leader) => describe(text, leader.seen().granted, leader.members()),
-        None => Ok(()),
+        None => text.push_str(" -"),
     }
 }
 

@@ -5,6 +5,7 @@ use crate::chart;
 use crate::dice::Dice;
 use crate::events::{Counts, Event, Notes};
 use crate::fault::Fault;
+use crate::memory::add;
 use crate::network::Network;
 use crate::replica::{Duties, Replica, Seen};
 use crate::safety::{History, last_leader};
@@ -42,7 +43,10 @@ impl<S: Duties + Replica> Cluster<S> {
     pub fn start(&mut self, alloc: Global, fault: Option<Fault>) -> Result<(), AllocError> {
         let nobody = Members::try_default(alloc)?;
         for id in 1..=SERVERS {
-            self.servers.push(S::new(alloc, id, fault, &nobody)?)?;
+            let server = S::new(alloc, id, fault, &nobody)?;
+            if !add(&mut self.servers, server) {
+                return Err(AllocError);
+            }
         }
         let members = first_members(alloc)?;
         if let Some(first) = self.servers.first_mut() {

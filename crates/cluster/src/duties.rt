@@ -2,7 +2,7 @@
 
 use crate::events::Event;
 use crate::fault::Fault;
-use crate::leader::{last_of_joint, new_followers};
+use crate::leader::{last_of_joint, may_campaign, new_followers, next_members};
 use crate::memory::both;
 use crate::message::{Content, Message};
 use crate::replica::{Duties, Seen};
@@ -70,18 +70,18 @@ impl<K: LeaderKind<u64>> Duties for Server<K> {
     }
 
     fn apply(&mut self, most: u64) {
-        let applied = self.state.io_state().applied;
+        let applied = self.state.io_state.applied;
         let last = end(self.state.committed).min(end(applied).saturating_add(most));
         if last > 0 {
             let upto = self.state.get_log_id(last - 1);
             if log_id_below(applied, upto) {
-                self.state.io_state_mut().update_applied(upto);
+                self.state.io_state.update_applied(upto);
             }
         }
     }
 
     fn compact(&mut self, keep: u64) {
-        storage::build_snapshot::<K>(&mut self.state, keep);
+        storage::build_snapshot(&mut self.state, keep);
         self.purge();
     }
 
@@ -89,7 +89,7 @@ impl<K: LeaderKind<u64>> Duties for Server<K> {
         self.reload(now);
         self.standing.follow();
         // One that was removed has its committed vote still.
-        if self.state.is_leader(&self.id) && self.may_campaign() {
+        if self.state.is_leader(&self.id) && may_campaign(&self.state.membership_state, self.id) {
             self.lead();
         }
         self.standing.note(Event::Restarted);
@@ -97,7 +97,8 @@ impl<K: LeaderKind<u64>> Duties for Server<K> {
 
     fn has_waited(&self, now: u64, patience: u64) -> bool {
         let since = self.state.vote_last_modified();
-        self.may_campaign() && self.standing.has_waited(since, now, patience)
+        may_campaign(&self.state.membership_state, self.id)
+            && self.standing.has_waited(since, now, patience)
     }
 
     fn campaign(&mut self, now: u64) {
@@ -121,8 +122,14 @@ impl<K: LeaderKind<u64>> Duties for Server<K> {
 
     fn change(&mut self, change: Change, retain: bool) {
         let handler = self.state.membership_state.change_handler();
-        if let Some(members) = handler.apply(change, retain).ok() {
-            self.go_over(members);
+        let members = handler.apply(change, retain).ok();
+        if let Some((to_count_by, members)) = next_members(self.fault, members) {
+            // Of a new one nothing is known but that it lacks the entry that adds it.
+            let lacked = end(self.last());
+            let is_counting = self.followers.change_to(to_count_by, lacked).is_ok();
+            self.standing.check(is_counting, "out of memory");
+            self.standing.note(Event::Changed);
+            self.propose(Payload::Membership(members));
         }
     }
 

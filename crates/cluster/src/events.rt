@@ -4,7 +4,7 @@ use std::alloc::{AllocError, Global};
 use std::fmt;
 
 /// How long the notes of a line may be.
-const NOTES: usize = 18;
+const NOTES: usize = 19;
 
 /// Something that happens.
 #[derive(Clone, Copy, PartialEq, Eq)]
@@ -118,7 +118,7 @@ impl Notes {
     pub fn note(&mut self, server: Option<u64>, event: Event) {
         self.counts.add(event, 1);
         let (alloc, word) = (*self.text.allocator(), event.word());
-        let sign = if self.text.is_empty() { "" } else { ", " };
+        let sign = if self.text.is_empty() { " " } else { ", " };
         let more = match server {
             Some(id) => format!(in alloc; "{sign}{id} {word}"),
             None => format!(in alloc; "{sign}{word}"),
@@ -132,7 +132,7 @@ impl Notes {
 
     /// Ends a text's last line with what is noted, and begins anew.
     pub fn end_line(&mut self, text: &mut String) -> Result<(), AllocError> {
-        writeln!(text, " {}", self.text)?;
+        writeln!(text, "{}", self.text)?;
         self.text.clear();
         Ok(())
     }

@@ -20,7 +20,12 @@ impl<K: LeaderKind<u64>> Server<K> {
         }
         match take_logs(&mut self.state, logs) {
             Ok(outcome) => {
-                self.flush(&logs.entries);
+                storage::flush(
+                    &mut self.disk,
+                    &self.state,
+                    &logs.entries,
+                    &mut self.standing,
+                );
                 outcome
             }
             Err(failure) => {
@@ -46,7 +51,7 @@ impl<K: LeaderKind<u64>> Server<K> {
         }
         if log_id_below(self.state.committed, snapshot.last_log_id) {
             let is_installed = storage::install::<K>(&mut self.state, snapshot);
-            storage::cut::<K>(&mut self.disk, &self.state);
+            storage::cut(&mut self.disk, &self.state);
             self.standing.check(is_installed, "a snapshot does not fit");
             self.standing.note(Event::Installed);
         }

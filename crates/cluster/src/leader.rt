@@ -1,6 +1,5 @@
 //! What a candidate and a leader do.
 
-use crate::events::Event;
 use crate::fault::Fault;
 use crate::memory::{add, copy_of, last_few, renew};
 use crate::message::{Content, Message};
@@ -8,20 +7,13 @@ use crate::replica::{Duties, Seen};
 use crate::server::Server;
 use crate::storage;
 use crate::types::{Change, Entry, Leader, LogId, Members, Payload, end};
-use raft_base::{LeaderKind, LogIdRangeOf};
+use raft_base::{EmptyNode, LeaderKind, LogIdRangeOf};
+use raft_state::MembershipStateOf;
 use raft_state_tests::turn::{Followers, Logs};
 use std::alloc::{AllocError, Global};
 use std::collections::BTreeSet;
 
 impl<K: LeaderKind<u64>> Server<K> {
-    /// Whether it may ask for votes: it is a voter, or was one until a change that is not committed,
-    /// which may need it.
-    pub fn may_campaign(&self) -> bool {
-        let memberships = &self.state.membership_state;
-        memberships.is_voter(&self.id)
-            || (memberships.committed().is_voter(&self.id) && memberships.contains(&self.id))
-    }
-
     /// Counts a vote for it, and leads once a quorum has voted.
     pub fn count_vote(&mut self, from: u64) {
         if self.standing.count(from) {
@@ -65,7 +57,8 @@ impl<K: LeaderKind<u64>> Server<K> {
     pub fn commit(&mut self) {
         let mut is_committed = self.followers.commit(&mut self.state).is_ok();
         if self.fault == Some(Fault::CountAlone) {
-            is_committed = storage::commit::<K>(&mut self.state, self.followers.granted());
+            let granted = self.followers.granted();
+            is_committed = is_committed && storage::commit::<K>(&mut self.state, granted);
         }
         self.standing.check(is_committed, "members are not in turn");
     }
@@ -89,29 +82,16 @@ impl<K: LeaderKind<u64>> Server<K> {
             Err(_) => None,
         }
     }
+}
 
-    /// Proposes other members, and counts by them. With a fault that is planted it goes at once to
-    /// the last config of joint ones.
-    pub fn go_over(&mut self, members: Members) {
-        if let Some(members) = planted(self.fault, members) {
-            self.write(Payload::Membership(members));
-            self.standing.note(Event::Changed);
-            self.count_by_members();
-        }
-    }
-
-    /// Counts by the effective members from now on. Of a new one nothing is known but that it lacks
-    /// the entry that adds it.
-    fn count_by_members(&mut self) {
-        let last = end(self.last()).saturating_sub(1);
-        let members = self.state.membership_state.effective().membership();
-        let is_counting = match members.try_clone() {
-            Ok(members) => self.followers.change_to(members, last).is_ok(),
-            Err(_) => false,
-        };
-        self.standing.check(is_counting, "out of memory");
-        self.count_own();
-    }
+/// Whether a server may ask for votes: it is a voter, or was one until a change that is not
+/// committed, which may need it.
+pub fn may_campaign<C: Ord + Copy + Drop>(
+    memberships: &MembershipStateOf<C, u64, EmptyNode>,
+    id: u64,
+) -> bool {
+    memberships.is_voter(&id)
+        || (memberships.committed().is_voter(&id) && memberships.contains(&id))
 }
 
 /// Followers of which nothing is known but that their logs end before an index.
@@ -127,11 +107,13 @@ pub fn last_of_joint(alloc: Global) -> Change {
     Change::AddVoterIds(BTreeSet::new(alloc))
 }
 
-/// Members, or where that fault is planted those of their last config, if there is memory.
-fn planted(fault: Option<Fault>, members: Members) -> Option<Members> {
-    if fault != Some(Fault::NoJoint) {
-        return Some(members);
+/// The members to count by and those to propose: the same ones, or where that fault is planted those of
+/// their last config. None without members, or memory.
+pub fn next_members(fault: Option<Fault>, members: Option<Members>) -> Option<(Members, Members)> {
+    let mut members = members?;
+    if fault == Some(Fault::NoJoint) {
+        let alloc = *members.get_joint_config().allocator();
+        members = members.change(last_of_joint(alloc), true).ok()?;
     }
-    let alloc = *members.get_joint_config().allocator();
-    members.change(last_of_joint(alloc), true).ok()
+    Some((members.try_clone().ok()?, members))
 }

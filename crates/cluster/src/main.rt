@@ -145,10 +145,7 @@ fn main(rt: HostRuntime) -> Result<()> {
     } else {
         run_all::<LeaderAdv>(&mut text, &plan)?
     };
-    for line in text.lines() {
-        println!(rt; "{}", line.trim_end())?;
-    }
-    println!(rt; "{total}")?;
+    println!(rt; "{text}{total}")?;
     ensure!(
         total.of(Event::Settled) == plan.count,
         "not all clusters were safe and settled"

@@ -51,7 +51,7 @@ impl<K: LeaderKind<u64>> Replica for Server<K> {
             Some("its purge point is not logged")
         } else if !self.state.committed_is_logged() {
             Some("it has lost a committed entry")
-        } else if !has_log::<K>(&self.disk, &self.state) {
+        } else if !has_log(&self.disk, &self.state) {
             Some("its disk has another log")
         } else {
             None

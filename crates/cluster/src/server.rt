@@ -5,7 +5,7 @@
 use crate::fault::Fault;
 use crate::message::{Content, Message};
 use crate::standing::{Role, Standing};
-use crate::types::{Disk, FollowerProgress, LogId, State, Vote};
+use crate::types::{Disk, FollowerProgress, Leader, LogId, State, Vote};
 use raft_base::{LeaderKind, LogStateReader, log_id_at_most, log_id_below};
 use raft_progress::ProgressPart;
 use raft_state_tests::turn::{Followers, Response};
@@ -23,7 +23,7 @@ where
     pub fault: Option<Fault>,
     pub standing: Standing,
     pub state: State<K>,
-    pub disk: Disk<K>,
+    pub disk: Disk<Leader<K>>,
     /// What it knows of its followers, while it leads.
     pub followers: Followers<K>,
 }
@@ -55,7 +55,7 @@ impl<K: LeaderKind<u64>> Server<K> {
     /// Writes a vote, also to disk.
     pub fn save_vote(&mut self, vote: Vote<K>) {
         *self.state.vote.get_mut() = vote;
-        self.state.io_state_mut().update_vote(vote);
+        self.state.io_state.update_vote(vote);
     }
 
     /// Promises a vote, unless it is below the own one or does not compare with it. It follows from

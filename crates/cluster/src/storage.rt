@@ -4,32 +4,22 @@
 use crate::events::Event;
 use crate::memory::{add_last, renew};
 use crate::server::Server;
-use crate::types::{Disk, Entry, LogId, Snapshot, State, end};
-use raft_base::{LeaderKind, LogIdOptionExt, LogStateReader, log_id_at_most, log_id_below};
+use crate::standing::Standing;
+use crate::types::{Disk, Entry, EntryIn, LogId, Snapshot, State, StateIn, end};
+use raft_base::{
+    LeaderKind, LogIdOf, LogIdOptionExt, LogStateReader, log_id_at_most, log_id_below,
+};
 use raft_state::AcceptedOf;
 use std::mem;
 
 impl<K: LeaderKind<u64>> Server<K> {
-    /// Writes to disk those of these entries, the last ones of its log, that it does not have, once
-    /// what is no longer in the log is removed.
-    pub fn flush(&mut self, entries: &[Entry<K>]) {
-        let before = self.disk.len();
-        cut::<K>(&mut self.disk, &self.state);
-        if self.disk.len() < before {
-            self.standing.note(Event::CutBack);
-        }
-        let missing = self.place(end(self.last())).saturating_sub(self.disk.len());
-        let is_written = add_last(&mut self.disk, entries, missing);
-        self.standing.check(is_written, "entries cannot be written");
-    }
-
     /// Purges its log as planned, also on disk. A message has its entries, so none that is on its way
     /// needs them here.
     pub fn purge(&mut self) {
         if let Some(upto) = self.state.purge_upto {
             let is_purged = purge::<K>(&mut self.state, &upto);
             self.standing.check(is_purged, "a log cannot be purged");
-            cut::<K>(&mut self.disk, &self.state);
+            cut(&mut self.disk, &self.state);
         }
     }
 
@@ -42,9 +32,27 @@ impl<K: LeaderKind<u64>> Server<K> {
             drop(stored);
             self.standing
                 .check(is_restored, "a state cannot be restored");
-            cut::<K>(&mut self.disk, &self.state);
+            cut(&mut self.disk, &self.state);
         }
     }
+}
+
+/// Writes to a disk those of these entries, the last ones of a log, that it does not have, once what
+/// is no longer in the log is removed.
+pub fn flush<L: Drop, C: Ord + Copy + Drop>(
+    disk: &mut Disk<C>,
+    state: &StateIn<L, C>,
+    entries: &[EntryIn<C>],
+    standing: &mut Standing,
+) {
+    let before = disk.len();
+    cut(disk, state);
+    if disk.len() < before {
+        standing.note(Event::CutBack);
+    }
+    let length = end(state.last_log_id().copied()).saturating_sub(state.purged_next) as usize;
+    let is_written = add_last(disk, entries, length.saturating_sub(disk.len()));
+    standing.check(is_written, "entries cannot be written");
 }
 
 /// Makes a new state from what is stored.
@@ -55,9 +63,9 @@ fn restore<K: LeaderKind<u64>>(
     disk: &[Entry<K>],
 ) -> bool {
     let is_restored = restore_snapshot::<K>(state, stored) && restore_log::<K>(state, stored, disk);
-    *state.io_state_mut() = *stored.io_state();
-    state.io_state_mut().purged = stored.snapshot_meta.last_log_id;
-    state.vote.update(now, stored.io_state().vote);
+    state.io_state = stored.io_state;
+    state.io_state.purged = stored.snapshot_meta.last_log_id;
+    state.vote.update(now, stored.io_state.vote);
     is_restored
 }
 
@@ -83,11 +91,11 @@ fn restore_log<K: LeaderKind<u64>>(
     let old = state.purged_next.saturating_sub(stored.purged_next) as usize;
     let is_appended = append::<K>(state, disk.get(old..).unwrap_or(&[]));
     let known = *state.membership_state.committed().log_id();
-    is_appended && commit::<K>(state, known.max(stored.io_state().applied))
+    is_appended && commit::<K>(state, known.max(stored.io_state.applied))
 }
 
 /// Whether a disk has what is in the log of a state.
-pub fn has_log<K: LeaderKind<u64>>(disk: &[Entry<K>], state: &State<K>) -> bool {
+pub fn has_log<L: Drop, C: Ord + Copy + Drop>(disk: &[EntryIn<C>], state: &StateIn<L, C>) -> bool {
     let mut index = state.purged_next;
     for entry in disk {
         if state.get_log_id(index) != Some(entry.log_id) {
@@ -99,30 +107,33 @@ pub fn has_log<K: LeaderKind<u64>>(disk: &[Entry<K>], state: &State<K>) -> bool 
 }
 
 /// Whether a log has an entry, and has not purged it.
-fn has_entry<K: LeaderKind<u64>>(state: &State<K>, entry: &Entry<K>) -> bool {
+fn has_entry<L: Drop, C: Ord + Copy + Drop>(state: &StateIn<L, C>, entry: &EntryIn<C>) -> bool {
     let index = entry.log_id.index;
     state.purged_next <= index && state.get_log_id(index) == Some(entry.log_id)
 }
 
 /// Removes from a disk what a log no longer has.
-pub fn cut<K: LeaderKind<u64>>(disk: &mut Disk<K>, state: &State<K>) {
-    disk.retain(|entry| has_entry::<K>(state, entry));
+pub fn cut<L: Drop, C: Ord + Copy + Drop>(disk: &mut Disk<C>, state: &StateIn<L, C>) {
+    disk.retain(|entry| has_entry(state, entry));
 }
 
 /// Builds a snapshot of what is applied, if it has more than the one before, and the effective
 /// members; and plans to purge all but the last few entries of it.
-pub fn build_snapshot<K: LeaderKind<u64>>(state: &mut State<K>, keep: u64) {
-    let applied = state.io_state().applied;
-    if log_id_below(state.io_state().snapshot, applied) && save_members::<K>(state, applied) {
+pub fn build_snapshot<L: Copy + Drop, C: Ord + Copy + Drop>(state: &mut StateIn<L, C>, keep: u64) {
+    let applied = state.io_state.applied;
+    if log_id_below(state.io_state.snapshot, applied) && save_members(state, applied) {
         state.snapshot_meta.last_log_id = applied;
-        state.io_state_mut().snapshot = applied;
+        state.io_state.snapshot = applied;
         let upto = state.get_log_id(applied.index().unwrap_or(0).saturating_sub(keep));
         state.purge_upto = state.purge_upto.max(upto);
     }
 }
 
 /// Writes the effective members into the snapshot, if they are applied, and there is memory.
-fn save_members<K: LeaderKind<u64>>(state: &mut State<K>, applied: Option<LogId<K>>) -> bool {
+fn save_members<L: Drop, C: Ord + Copy + Drop>(
+    state: &mut StateIn<L, C>,
+    applied: Option<LogIdOf<C>>,
+) -> bool {
     let members = state.membership_state.effective();
     if !log_id_at_most(*members.log_id(), applied) {
         return false;
@@ -139,10 +150,9 @@ pub fn install<K: LeaderKind<u64>>(state: &mut State<K>, snapshot: &Snapshot<K>)
             Ok(snapshot) => state.install_snapshot(snapshot).is_ok(),
             Err(_) => false,
         };
-    let io_state = state.io_state_mut();
-    io_state.applied = upto;
-    io_state.snapshot = upto;
-    io_state.purged = upto;
+    state.io_state.applied = upto;
+    state.io_state.snapshot = upto;
+    state.io_state.purged = upto;
     is_installed
 }
 
@@ -154,7 +164,7 @@ pub fn append<K: LeaderKind<u64>>(state: &mut State<K>, entries: &[Entry<K>]) ->
 /// Purges a log up to a log id.
 fn purge<K: LeaderKind<u64>>(state: &mut State<K>, upto: &LogId<K>) -> bool {
     let is_purged = state.can_purge_log(upto) && state.purge_log(upto).is_ok();
-    state.io_state_mut().purged = Some(*upto);
+    state.io_state.purged = Some(*upto);
     is_purged
 }
 

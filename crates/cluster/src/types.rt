@@ -2,7 +2,7 @@
 
 use raft_base::{EmptyNode, LeaderKind, LogIdOf, LogIdOptionExt, VoteOf};
 use raft_members::{ChangeMembers, ChangeMembershipErrorOf};
-use raft_state::{EntryPayload, SnapshotMetaOf};
+use raft_state::{EntryOf, EntryPayload, RaftStateIn, SnapshotMetaOf};
 pub use raft_state_tests::turn::{
     Entry, FollowerProgress, Inflight, Leader, LogId, Members, State,
 };
@@ -19,8 +19,13 @@ pub type Change = ChangeMembers<u64, EmptyNode>;
 /// Why a change is refused.
 pub type ChangeError<K> = ChangeMembershipErrorOf<Leader<K>, u64>;
 
+/// A state and an entry, by what is kept of their leaders alone.
+pub type StateIn<L, C> = RaftStateIn<u64, EmptyNode, u64, L, C>;
+
+pub type EntryIn<C> = EntryOf<C, u64, EmptyNode, u64>;
+
 /// The entries on a server's disk: those of its log that are not purged, in their order.
-pub type Disk<K> = Vec<Entry<K>>;
+pub type Disk<C> = Vec<EntryIn<C>>;
 
 /// What is known of a snapshot.
 pub type Snapshot<K> = SnapshotMetaOf<Leader<K>, u64, EmptyNode>;
