@@ -51,12 +51,12 @@ impl<K: LeaderKind<u64>> Duties for Server<K> {
                 outcome: self.install(now, vote, snapshot),
             }),
             Content::Voted(is_voted, last) => {
-                let is_voted = self.hears(vote) && *is_voted;
+                let is_voted = self.takes_answer(vote) && *is_voted;
                 self.take_vote(from, is_voted, *last);
                 return None;
             }
             Content::Responded(response) => {
-                if self.hears(vote) {
+                if self.takes_answer(vote) {
                     self.take_response(from, response);
                 }
                 return None;

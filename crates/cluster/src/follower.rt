@@ -12,7 +12,7 @@ use raft_state_tests::turn::{Logs, Outcome, take_logs};
 impl<K: LeaderKind<u64>> Server<K> {
     /// Takes a leader's logs, unless it has promised a greater vote.
     pub fn append(&mut self, now: u64, vote: Vote<K>, logs: &Logs<K>) -> Outcome<K> {
-        if !self.promises(now, vote) {
+        if !self.promise(now, vote) {
             return Outcome::Refused;
         }
         if self.skips_writing(now, logs) {
@@ -46,7 +46,7 @@ impl<K: LeaderKind<u64>> Server<K> {
 
     /// Takes a leader's snapshot, unless it has promised a greater vote or there is nothing new.
     pub fn install(&mut self, now: u64, vote: Vote<K>, snapshot: &Snapshot<K>) -> Outcome<K> {
-        if !self.promises(now, vote) {
+        if !self.promise(now, vote) {
             return Outcome::Refused;
         }
         if log_id_below(self.state.committed, snapshot.last_log_id) {

@@ -58,9 +58,9 @@ impl<K: LeaderKind<u64>> Server<K> {
         self.state.io_state.update_vote(vote);
     }
 
-    /// Promises a vote, unless it is below the own one or does not compare with it. It follows from
-    /// then on, if the vote is a greater one.
-    pub fn promise(&mut self, vote: Vote<K>) -> bool {
+    /// Takes over a vote that is greater than its own, and follows from then on. False if it is below
+    /// the own one or does not compare with it.
+    pub fn learn(&mut self, vote: Vote<K>) -> bool {
         let own = self.vote();
         if vote > own {
             self.standing.role = Role::Follower;
@@ -69,10 +69,9 @@ impl<K: LeaderKind<u64>> Server<K> {
         vote >= own
     }
 
-    /// Promises the vote that an answer tells, if it may. True if that is the own one then, so that
-    /// the answer counts.
-    pub fn hears(&mut self, vote: Vote<K>) -> bool {
-        self.promise(vote) && vote == self.vote()
+    /// Learns the vote that an answer tells. True if it is the own one then, so that the answer counts.
+    pub fn takes_answer(&mut self, vote: Vote<K>) -> bool {
+        self.learn(vote) && vote == self.vote()
     }
 
     /// Whether it votes for a candidate with this last log id: the candidate's log is not behind the
@@ -80,12 +79,13 @@ impl<K: LeaderKind<u64>> Server<K> {
     pub fn votes(&mut self, now: u64, vote: Vote<K>, last: Option<LogId<K>>) -> bool {
         let is_careless = self.fault == Some(Fault::AnyCandidate);
         let may_be = is_careless || log_id_at_most(self.last(), last);
-        may_be && self.promises(now, vote)
+        may_be && self.promise(now, vote)
     }
 
-    /// Promises a vote if it may, and waits anew for its leader then.
-    pub fn promises(&mut self, now: u64, vote: Vote<K>) -> bool {
-        let is_promised = self.promise(vote);
+    /// Promises a vote, unless it is below the own one or does not compare with it, and waits anew for
+    /// its leader.
+    pub fn promise(&mut self, now: u64, vote: Vote<K>) -> bool {
+        let is_promised = self.learn(vote);
         if is_promised {
             self.state.vote.update(now, vote);
             self.standing.is_behind = false;
