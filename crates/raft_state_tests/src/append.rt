@@ -1,5 +1,6 @@
 //! Entries that are appended.
 
+use crate::support::memory::holds;
 use crate::support::messages::{Entry, entries, members};
 use crate::support::rows::id;
 use crate::support::states::{State, follower};
@@ -44,20 +45,35 @@ fn has_appended<K: LeaderKind<u64>>(alloc: Global, state: &State<K>) -> Result<b
 /// Whether entries are appended with the membership among them, and one before it is committed.
 fn appends<K: LeaderKind<u64>>(alloc: Global) -> Result<bool, AllocError> {
     let mut state = follower::<K>(alloc, Some((1, 1)), None, Some((1, 2)))?;
-    Ok(append_from::<K>(&mut state, alloc, 4, 5)? && has_appended::<K>(alloc, &state)?)
+    let is_appended = holds(append_from::<K>(&mut state, alloc, 4, 5));
+    Ok(is_appended && holds(has_appended::<K>(alloc, &state)))
 }
 
 /// Whether entries are refused that do not follow the log, or whose membership does not follow the
 /// effective one.
 fn refuses<K: LeaderKind<u64>>(alloc: Global) -> Result<bool, AllocError> {
     let mut state = follower::<K>(alloc, Some((1, 1)), None, Some((9, 2)))?;
-    Ok(!append_from::<K>(&mut state, alloc, 4, 4)? && !append_from::<K>(&mut state, alloc, 4, 5)?)
+    Ok(appends_only::<K>(&mut state, alloc, [(4, false), (5, false)]))
 }
 
 /// Whether an empty log begins at index 0 alone.
 fn begins_at_zero<K: LeaderKind<u64>>(alloc: Global) -> Result<bool, AllocError> {
     let mut state = State::<K>::try_default(alloc)?;
-    Ok(!append_from::<K>(&mut state, alloc, 4, 5)? && append_from::<K>(&mut state, alloc, 4, 0)?)
+    Ok(appends_only::<K>(&mut state, alloc, [(5, false), (0, true)]))
+}
+
+/// Whether entries from an index on are appended as wanted, each time in turn.
+fn appends_only<K: LeaderKind<u64>>(
+    state: &mut State<K>,
+    alloc: Global,
+    rows: [(u64, bool); 2],
+) -> bool {
+    for (index, want) in rows {
+        if append_from::<K>(state, alloc, 4, index) != Ok(want) {
+            return false;
+        }
+    }
+    true
 }
 
 /// Whether entries are appended where they may be, and there alone.

@@ -1,6 +1,7 @@
 //! Followers that are caught up with a leader's state.
 
 use crate::support::followers::{Followers, caught_up, followers};
+use crate::support::memory::both;
 use crate::support::rows::{Row, id};
 use crate::support::states::{State, hundred, valid_state};
 use raft_base::{LeaderAdv, LeaderKind, LeaderStd, LogStateReader};
@@ -68,12 +69,9 @@ pub fn is_as_worked<K: LeaderKind<u64>>(
     rt: &impl Abort,
     alloc: Global,
 ) -> Result<bool, AllocError> {
-    let mut progress = followers::<K>(rt, alloc, &[4], 100)?;
-    let state = hundred::<K>(alloc)?;
-    Ok(
-        rounds_right::<K>(&state, &mut progress)
-            && catches_up_right::<K>(&state, &valid_state::<K>(alloc)?),
-    )
+    let states = both(hundred::<K>(alloc), valid_state::<K>(alloc));
+    let ((state, purged), mut progress) = both(states, followers::<K>(rt, alloc, &[4], 100))?;
+    Ok(rounds_right::<K>(&state, &mut progress) && catches_up_right::<K>(&state, &purged))
 }
 
 #[test]

@@ -1,5 +1,6 @@
 //! The memberships of a node, and a change of the effective one.
 
+use crate::support::memory::{both, holds};
 use crate::support::rows::{Effective, Row, effective, id};
 use raft_base::{Invalid, LeaderAdv, LeaderKind, LeaderStd, LogIdOptionExt, Validate};
 use raft_members::{ChangeMembers, ChangeMembershipErrorOf, InProgressOf};
@@ -98,57 +99,76 @@ fn append_leads<K: LeaderKind<u64>>(
 }
 
 /// Whether each move leads where it should.
-fn move_right<K: LeaderKind<u64>>(alloc: Global, from: &State<K>) -> Result<bool, AllocError> {
+fn move_right<K: LeaderKind<u64>>(from: &State<K>) -> bool {
     let first = Some((1, 1));
     let second = Some((2, 10));
     let new = Some((10, 5));
     let over = Err(Invalid::MembershipLogId);
-    Ok(
-        snapshot_leads::<K>(from, &[3], 4, None, (new, second), over)?
-            && snapshot_leads::<K>(from, &[3], 10, new, (new, new), Ok(()))?
-            // Equal memberships under another log id are no news.
-            && snapshot_leads::<K>(from, &[2, 3], 10, None, (new, new), Ok(()))?
-            && cut_leads::<K>(from, 10, first, first)?
-            && cut_leads::<K>(from, 2, first, first)?
-            && cut_leads::<K>(from, 11, None, second)?
-            && commit_leads::<K>(from, second, Some(second))?
-            && commit_leads::<K>(from, Some((2, 9)), Some(first))?
-            && commit_leads::<K>(from, Some((3, 9)), None)?
-            && append_leads::<K>(from, Some((2, 11)), true)?
-            && append_leads::<K>(from, Some((3, 10)), false)?
-            && append_leads::<K>(from, Some((1, 11)), false)?
-            && *from == state::<K>(alloc)?
-            && from.validate() == Ok(()),
-    )
+    holds(snapshot_leads::<K>(from, &[3], 4, None, (new, second), over))
+        && holds(snapshot_leads::<K>(from, &[3], 10, new, (new, new), Ok(())))
+        // Equal memberships under another log id are no news.
+        && holds(snapshot_leads::<K>(from, &[2, 3], 10, None, (new, new), Ok(())))
+        && holds(cut_leads::<K>(from, 10, first, first))
+        && holds(cut_leads::<K>(from, 2, first, first))
+        && holds(cut_leads::<K>(from, 11, None, second))
+        && holds(commit_leads::<K>(from, second, Some(second)))
+        && holds(commit_leads::<K>(from, Some((2, 9)), Some(first)))
+        && holds(commit_leads::<K>(from, Some((3, 9)), None))
+        && holds(append_leads::<K>(from, Some((2, 11)), true))
+        && holds(append_leads::<K>(from, Some((3, 10)), false))
+        && holds(append_leads::<K>(from, Some((1, 11)), false))
+        && from.validate() == Ok(())
 }
 
-/// Whether a change is refused while the effective membership is not committed, and made
-/// afterwards.
-fn apply_right<K: LeaderKind<u64>>(alloc: Global, mut state: State<K>) -> Result<bool, AllocError> {
-    let change = ChangeMembers::AddVoterIds(ids(alloc, "1")?);
-    let early = state.change_handler().apply(change.try_clone(alloc)?, true);
+/// Whether a change is refused while the effective membership is not committed.
+fn is_early<K: LeaderKind<u64>>(state: &State<K>, change: ChangeMembers<u64, u64>) -> bool {
     let want = InProgressOf {
         committed: id::<K>(Some((1, 1))),
         membership_log_id: id::<K>(Some((2, 10))),
     };
-    let is_refused = early == Err(ChangeMembershipErrorOf::InProgress(want));
+    state.change_handler().apply(change, true) == Err(ChangeMembershipErrorOf::InProgress(want))
+}
+
+/// Whether the members after a change are these voters, or there may be none.
+fn are_changed<K: LeaderKind<u64>>(
+    state: &State<K>,
+    change: ChangeMembers<u64, u64>,
+    voters: &[u64],
+) -> bool {
+    match state.change_handler().apply(change, true) {
+        Ok(made) => voters.iter().all(|id| made.is_voter(id)) && !voters.is_empty(),
+        Err(ChangeMembershipErrorOf::EmptyMembership(_)) => voters.is_empty(),
+        Err(_) => false,
+    }
+}
+
+/// The changes that add the voter 1, and that remove all voters.
+fn changes(alloc: Global) -> Result<[ChangeMembers<u64, u64>; 3], AllocError> {
+    let add = ChangeMembers::AddVoterIds(ids(alloc, "1")?);
+    let remove = ChangeMembers::RemoveVoters(ids(alloc, "2,3")?);
+    Ok([add.try_clone(alloc)?, remove, add])
+}
+
+/// Whether a change is refused while the effective membership is not committed, and made
+/// afterwards.
+fn apply_right<K: LeaderKind<u64>>(
+    alloc: Global,
+    state: &mut State<K>,
+) -> Result<bool, AllocError> {
+    let [early, none, add] = changes(alloc)?;
+    let is_early = is_early::<K>(state, early);
     let upto = id::<K>(Some((2, 10)));
     if state.can_commit(&upto) {
         state.commit(&upto)?;
     }
-    let none = ChangeMembers::RemoveVoters(ids(alloc, "2,3")?);
-    let is_empty = matches!(
-        state.change_handler().apply(none, true),
-        Err(ChangeMembershipErrorOf::EmptyMembership(_))
-    );
-    let made = state.change_handler().apply(change, true);
-    Ok(is_refused && is_empty && made.is_ok_and(|made| made.is_voter(&1) && made.is_voter(&3)))
+    Ok(is_early && are_changed::<K>(state, none, &[]) && are_changed::<K>(state, add, &[1, 3]))
 }
 
-/// Whether the memberships of a node move, and the effective one is changed, as they should.
+/// Whether the memberships of a node move, and stay as they are themselves, and the effective one is
+/// changed, as they should.
 fn memberships_right<K: LeaderKind<u64>>(alloc: Global) -> Result<bool, AllocError> {
-    let from = state::<K>(alloc)?;
-    Ok(move_right::<K>(alloc, &from)? && apply_right::<K>(alloc, from)?)
+    let (mut from, same) = both(state::<K>(alloc), state::<K>(alloc))?;
+    Ok(move_right::<K>(&from) && from == same && holds(apply_right::<K>(alloc, &mut from)))
 }
 
 #[test]

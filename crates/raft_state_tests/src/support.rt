@@ -1,6 +1,8 @@
-//! What tests share: worked rows and calls as words, states, what a follower is sent, and followers.
+//! What tests share: worked rows and calls as words, states, what a follower is sent, followers, and what
+//! is done with memory.
 
 pub mod followers;
+pub mod memory;
 pub mod messages;
 pub mod rows;
 pub mod states;

@@ -1,5 +1,6 @@
 //! A log that is cut off.
 
+use crate::support::memory::holds;
 use crate::support::rows::{Row, id};
 use crate::support::states::{State, follower};
 use raft_base::{LeaderAdv, LeaderKind, LeaderStd, LogStateReader, Validate};
@@ -34,7 +35,7 @@ fn is_cut_to<K: LeaderKind<u64>>(
         Some((1, 3))
     };
     Ok(
-        cut::<K>(&mut state, since)? == answer
+        cut::<K>(&mut state, since) == Ok(answer)
             && state.last_log_id().copied() == id::<K>(last)
             && *state.membership_state.effective().log_id() == id::<K>(in_effect)
             && state.validate() == Ok(()),
@@ -43,29 +44,27 @@ fn is_cut_to<K: LeaderKind<u64>>(
 
 /// Whether a log is cut off past what is committed, and not there or below. The committed log id
 /// (3,0) is not in the log, and above all of it but (3,4).
-fn cuts_right<K: LeaderKind<u64>>(alloc: Global) -> Result<bool, AllocError> {
+fn cuts_right<K: LeaderKind<u64>>(alloc: Global) -> bool {
     let first = Some((1, 1));
     let last = Some((3, 4));
-    Ok(
-        is_cut_to::<K>(alloc, first, 2, Some(true), first)?
-            && is_cut_to::<K>(alloc, first, 4, Some(false), Some((1, 3)))?
-            && is_cut_to::<K>(alloc, first, 9, Some(false), last)?
-            && is_cut_to::<K>(alloc, first, 1, None, last)?
-            && is_cut_to::<K>(alloc, Some((3, 0)), 3, None, last)?
-            && is_cut_to::<K>(alloc, Some((3, 0)), 5, Some(false), last)?,
-    )
+    holds(is_cut_to::<K>(alloc, first, 2, Some(true), first))
+        && holds(is_cut_to::<K>(alloc, first, 4, Some(false), Some((1, 3))))
+        && holds(is_cut_to::<K>(alloc, first, 9, Some(false), last))
+        && holds(is_cut_to::<K>(alloc, first, 1, None, last))
+        && holds(is_cut_to::<K>(alloc, Some((3, 0)), 3, None, last))
+        && holds(is_cut_to::<K>(alloc, Some((3, 0)), 5, Some(false), last))
 }
 
 /// Whether a log is not cut off at a membership that is committed.
 fn keeps_members<K: LeaderKind<u64>>(alloc: Global) -> Result<bool, AllocError> {
     let members = Some((1, 3));
     let mut state = follower::<K>(alloc, Some((1, 1)), members, members)?;
-    Ok(cut::<K>(&mut state, 3)? == None && cut::<K>(&mut state, 4)? == Some(false))
+    Ok(cut::<K>(&mut state, 3) == Ok(None) && cut::<K>(&mut state, 4) == Ok(Some(false)))
 }
 
 /// Whether a log is cut off where it may be, and there alone.
 fn is_cut_right<K: LeaderKind<u64>>(alloc: Global) -> Result<bool, AllocError> {
-    Ok(cuts_right::<K>(alloc)? && keeps_members::<K>(alloc)?)
+    Ok(cuts_right::<K>(alloc) && keeps_members::<K>(alloc)?)
 }
 
 #[test]

@@ -1,6 +1,7 @@
 //! A leader's turns with its followers, and a follower's with what it is sent.
 
 use super::turn::{Entry, Followers, Inflight, Logs, Members, Outcome, Response, State, take_logs};
+use crate::support::memory::both;
 use crate::support::rows::{Row, id, ids, log_id};
 use anyhow::Result;
 use raft_base::{
@@ -95,8 +96,8 @@ fn commits_with_own<K: LeaderKind<u64>>(
 
 /// Whether that holds of a new leader.
 fn own_commits<K: LeaderKind<u64>>(alloc: Global) -> Result<bool> {
-    let mut state = leader::<K>(alloc, &[(1, 0), (1, 3)])?;
-    let mut known = Followers::<K>::new(members(alloc)?, 4)?;
+    let known = Followers::<K>::new(members(alloc)?, 4);
+    let (mut state, mut known) = both(leader::<K>(alloc, &[(1, 0), (1, 3)]), known)?;
     commits_with_own::<K>(&mut state, &mut known)
 }
 
@@ -106,16 +107,20 @@ fn an_earlier_log_is_committed_with_an_own(rt: HostRuntime) -> Result<(), Fail> 
     Ok(())
 }
 
+/// The same with the voter 4.
+fn members_with_4(alloc: Global) -> Result<Members> {
+    let change = ChangeMembers::AddVoterIds([4].iter().copied().collect(alloc)?);
+    Ok(members(alloc)?.change(change, true)?)
+}
+
 /// Whether a learner that becomes a voter has to have the log too, as the third of four.
 fn changes<K: LeaderKind<u64>>(
     alloc: Global,
     state: &mut State<K>,
     known: &mut Followers<K>,
 ) -> Result<bool> {
-    let change = ChangeMembers::AddVoterIds([4].iter().copied().collect(alloc)?);
-    let to = members(alloc)?.change(change, true)?;
     let is_committed = commits::<K>(state, known, Some((2, 3)))?;
-    known.change_to(to, 4)?;
+    known.change_to(members_with_4(alloc)?, 4)?;
     let is_taken = grants::<K>(known, None);
     let _is_more = turn::<K>(state, known, 4)?;
     Ok(is_committed && is_taken && grants::<K>(known, Some((2, 3))))
@@ -124,8 +129,8 @@ fn changes<K: LeaderKind<u64>>(
 /// Whether that holds of a new leader. Of the learner 4 nothing is known: two of the four voters have
 /// the log.
 fn third_is_asked<K: LeaderKind<u64>>(alloc: Global) -> Result<bool> {
-    let mut state = leader::<K>(alloc, &[(1, 0), (2, 2), (2, 3)])?;
-    let mut known = Followers::<K>::new(members(alloc)?, 4)?;
+    let known = Followers::<K>::new(members(alloc)?, 4);
+    let (mut state, mut known) = both(leader::<K>(alloc, &[(1, 0), (2, 2), (2, 3)]), known)?;
     changes::<K>(alloc, &mut state, &mut known)
 }
 
@@ -191,12 +196,20 @@ fn goes_on_past_a_purge<K: LeaderKind<u64>>(
         && take::<K>(known, 2, 4, Outcome::Matches(last))
 }
 
-/// Whether that holds of a new leader, which grants once a second voter has its log.
+/// Whether that holds, and the leader commits once a second voter has its log.
+fn grants_past_a_purge<K: LeaderKind<u64>>(
+    state: &mut State<K>,
+    known: &mut Followers<K>,
+) -> Result<bool> {
+    let goes_on = goes_on_past_a_purge::<K>(state, known) && grants::<K>(known, None);
+    Ok(turn::<K>(state, known, 3)? && goes_on)
+}
+
+/// Whether that holds of a new leader.
 fn snapshot_is_sent_again<K: LeaderKind<u64>>(alloc: Global) -> Result<bool> {
-    let mut state = leader::<K>(alloc, &[(1, 5), (2, 6), (2, 9)])?;
-    let mut known = Followers::<K>::new(members(alloc)?, 10)?;
-    let goes_on = goes_on_past_a_purge::<K>(&mut state, &mut known);
-    Ok(goes_on && grants::<K>(&known, None) && turn::<K>(&mut state, &mut known, 3)?)
+    let known = Followers::<K>::new(members(alloc)?, 10);
+    let (mut state, mut known) = both(leader::<K>(alloc, &[(1, 5), (2, 6), (2, 9)]), known)?;
+    grants_past_a_purge::<K>(&mut state, &mut known)
 }
 
 #[test]
@@ -260,8 +273,8 @@ fn conflicts<K: LeaderKind<u64>>(alloc: Global, state: &mut State<K>) -> Result<
 /// committed; then whether an earlier request that comes once more cuts nothing off.
 fn replaces<K: LeaderKind<u64>>(alloc: Global, state: &mut State<K>) -> Result<bool> {
     let rows = [(1, 1), (2, 2), (2, 3)];
-    let sent = logs::<K>(alloc, Some((1, 0)), &rows, Some((2, 9)))?;
-    let first = logs::<K>(alloc, Some((1, 0)), &[(1, 1)], None)?;
+    let sent = logs::<K>(alloc, Some((1, 0)), &rows, Some((2, 9)));
+    let (sent, first) = both(sent, logs::<K>(alloc, Some((1, 0)), &[(1, 1)], None))?;
     let is_taken = matches_upto::<K>(state, &sent, (2, 3))?;
     let is_committed = is_at::<K>(state, (2, 3), Some((2, 3)));
     let is_matched = matches_upto::<K>(state, &first, (1, 1))?;
@@ -269,14 +282,18 @@ fn replaces<K: LeaderKind<u64>>(alloc: Global, state: &mut State<K>) -> Result<b
 }
 
 /// Whether a follower with an earlier leader's log takes what this leader sends.
-fn follows<K: LeaderKind<u64>>(alloc: Global) -> Result<bool> {
-    let mut state = leader::<K>(alloc, &[(1, 0), (1, 4)])?;
-    Ok(conflicts::<K>(alloc, &mut state)? && replaces::<K>(alloc, &mut state)?)
+fn follows<K: LeaderKind<u64>>(alloc: Global, state: &mut State<K>) -> Result<bool> {
+    Ok(conflicts::<K>(alloc, state)? && replaces::<K>(alloc, state)?)
+}
+
+/// Whether that holds of a follower with entries of an earlier leader alone.
+fn a_follower_follows<K: LeaderKind<u64>>(alloc: Global) -> Result<bool> {
+    follows::<K>(alloc, &mut leader::<K>(alloc, &[(1, 0), (1, 4)])?)
 }
 
 #[test]
 fn a_follower_cuts_what_conflicts(rt: HostRuntime) -> Result<(), Fail> {
-    assert!(rt; follows::<LeaderAdv>(rt.alloc())?);
-    assert!(rt; follows::<LeaderStd>(rt.alloc())?);
+    assert!(rt; a_follower_follows::<LeaderAdv>(rt.alloc())?);
+    assert!(rt; a_follower_follows::<LeaderStd>(rt.alloc())?);
     Ok(())
 }

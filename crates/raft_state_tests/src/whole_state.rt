@@ -13,6 +13,7 @@ ghost use Rattle.std.specs.Prelude.{◌≡◌, IfOk, IfSome, IsTrue, None, OnErr
 
 use crate::laws::{purge_to, send};
 use crate::support::followers::{Followers, caught_up, followers};
+use crate::support::memory::{both, holds};
 use crate::support::rows::{Row, id, ids as ids_of, log_id};
 use crate::support::states::{Ids, State, state, unlogged, valid_state};
 use raft_base::order::log_id_at_most;
@@ -172,12 +173,14 @@ pub fn reads<K: LeaderKind<u64>>(state: &State<K>, other: &State<K>) -> bool {
 /// The same, of the first valid state and of one that has neither in its log. Of a new state nothing
 /// is committed.
 fn reads_right<K: LeaderKind<u64>>(alloc: Global) -> Result<bool, AllocError> {
-    let other = unlogged::<K>(alloc)?;
-    Ok(
-        other.validate() == Ok(())
-            && reads::<K>(&valid_state::<K>(alloc)?, &other)
-            && State::<K>::try_default(alloc)?.committed_is_logged(),
-    )
+    let is_right = nothing_is_committed::<K>(alloc)?;
+    let (valid, other) = both(valid_state::<K>(alloc), unlogged::<K>(alloc))?;
+    Ok(is_right && other.validate() == Ok(()) && reads::<K>(&valid, &other))
+}
+
+/// Whether of a new state nothing is committed that its log lacks.
+fn nothing_is_committed<K: LeaderKind<u64>>(alloc: Global) -> Result<bool, AllocError> {
+    Ok(State::<K>::try_default(alloc)?.committed_is_logged())
 }
 
 /// Whether the first of some entries that the log does not have is at a place.
@@ -192,18 +195,13 @@ fn conflicts_at<K: LeaderKind<u64>>(
 }
 
 /// Whether a state finds the first entry that is not in its log.
-fn conflicts_right<K: LeaderKind<u64>>(
-    alloc: Global,
-    state: &State<K>,
-) -> Result<bool, AllocError> {
-    Ok(
-        conflicts_at::<K>(alloc, state, &[(1, 1), (3, 4)], 2)?
-            && conflicts_at::<K>(alloc, state, &[(1, 1), (3, 3)], 1)?
-            && conflicts_at::<K>(alloc, state, &[(1, 5), (1, 1)], 0)?
-            // What is committed each log has, but no log has it under a greater leader.
-            && conflicts_at::<K>(alloc, state, &[(1, 0), (1, 2)], 2)?
-            && !state.can_ask(&log_id::<K>(2, 1)),
-    )
+fn conflicts_right<K: LeaderKind<u64>>(alloc: Global, state: &State<K>) -> bool {
+    holds(conflicts_at::<K>(alloc, state, &[(1, 1), (3, 4)], 2))
+        && holds(conflicts_at::<K>(alloc, state, &[(1, 1), (3, 3)], 1))
+        && holds(conflicts_at::<K>(alloc, state, &[(1, 5), (1, 1)], 0))
+        // What is committed each log has, but no log has it under a greater leader.
+        && holds(conflicts_at::<K>(alloc, state, &[(1, 0), (1, 2)], 2))
+        && !state.can_ask(&log_id::<K>(2, 1))
 }
 
 /// Commits up to a row, if that may be, and answers what was committed before.
@@ -299,19 +297,14 @@ fn leads_right<K: LeaderKind<u64>>(state: &mut State<K>) -> Result<bool, AllocEr
     let granted = VoteOf::<u64, K>::new_committed(1, 3);
     let asking = VoteOf::<u64, K>::new(1, 3);
     let unknown = VoteOf::<u64, K>::new_committed(1, 9);
+    let leading = [follower, ServerState::Leader, learner];
+    let campaigning = [follower, ServerState::Candidate, learner];
     let none = ForwardToLeader::empty();
+    let same = none.clone()?;
     Ok(
-        leads::<K>(
-            state,
-            granted,
-            ForwardToLeader::new(3, 6),
-            [follower, ServerState::Leader, learner],
-        )? && leads::<K>(
-            state,
-            asking,
-            none.clone()?,
-            [follower, ServerState::Candidate, learner],
-        )? && leads::<K>(state, unknown, none, [follower, learner, learner])?,
+        holds(leads::<K>(state, granted, ForwardToLeader::new(3, 6), leading))
+            && holds(leads::<K>(state, asking, none, campaigning))
+            && holds(leads::<K>(state, unknown, same, [follower, learner, learner])),
     )
 }
 
@@ -335,12 +328,12 @@ fn nobody_leads(state: &mut State<LeaderStd>) -> Result<bool, AllocError> {
 /// Whether a valid state commits, and its log grows and is purged, as it should.
 fn moves<K: LeaderKind<u64>>(alloc: Global) -> Result<bool, AllocError> {
     let mut state = valid_state::<K>(alloc)?;
-    Ok(commits::<K>(&mut state)? && grows::<K>(alloc, &mut state)?)
+    Ok(holds(commits::<K>(&mut state)) && holds(grows::<K>(alloc, &mut state)))
 }
 
 /// Whether a valid state finds the first entry that is not in its log.
 fn finds<K: LeaderKind<u64>>(alloc: Global) -> Result<bool, AllocError> {
-    conflicts_right::<K>(alloc, &valid_state::<K>(alloc)?)
+    Ok(conflicts_right::<K>(alloc, &valid_state::<K>(alloc)?))
 }
 
 /// Whether a valid state leads as it should.
@@ -351,10 +344,10 @@ fn leads_as_voted<K: LeaderKind<u64>>(alloc: Global) -> Result<bool, AllocError>
 /// Whether a whole state validates, reads and moves as it should.
 fn state_right<K: LeaderKind<u64>>(alloc: Global) -> Result<bool, AllocError> {
     Ok(
-        relations_right::<K>(alloc)?
-            && reads_right::<K>(alloc)?
-            && finds::<K>(alloc)?
-            && moves::<K>(alloc)?
+        holds(relations_right::<K>(alloc))
+            && holds(reads_right::<K>(alloc))
+            && holds(finds::<K>(alloc))
+            && holds(moves::<K>(alloc))
             && leads_as_voted::<K>(alloc)?,
     )
 }
@@ -380,19 +373,21 @@ fn lacks<K: LeaderKind<u64>>(
 }
 
 /// Whether a follower lacks what is past its log, and what another leader has written.
-fn lacks_right<K: LeaderKind<u64>>(alloc: Global) -> Result<bool, AllocError> {
-    let state = valid_state::<K>(alloc)?;
-    Ok(
-        lacks::<K>(alloc, &state, &[(1, 3), (3, 4), (3, 5)], 1)?
-            && lacks::<K>(alloc, &state, &[(1, 3), (2, 4), (3, 5)], 2)?
-            && lacks::<K>(alloc, &state, &[(1, 3), (3, 4)], 0)?,
-    )
+fn lacks_right<K: LeaderKind<u64>>(alloc: Global, state: &State<K>) -> bool {
+    holds(lacks::<K>(alloc, state, &[(1, 3), (3, 4), (3, 5)], 1))
+        && holds(lacks::<K>(alloc, state, &[(1, 3), (2, 4), (3, 5)], 2))
+        && holds(lacks::<K>(alloc, state, &[(1, 3), (3, 4)], 0))
+}
+
+/// The same, of a valid state.
+fn valid_state_lacks<K: LeaderKind<u64>>(alloc: Global) -> Result<bool, AllocError> {
+    Ok(lacks_right::<K>(alloc, &valid_state::<K>(alloc)?))
 }
 
 #[test]
 fn a_follower_lacks_what_conflicts(rt: HostRuntime) -> Result<(), Fail> {
-    assert!(rt; lacks_right::<LeaderAdv>(rt.alloc())?);
-    assert!(rt; lacks_right::<LeaderStd>(rt.alloc())?);
+    assert!(rt; valid_state_lacks::<LeaderAdv>(rt.alloc())?);
+    assert!(rt; valid_state_lacks::<LeaderStd>(rt.alloc())?);
     Ok(())
 }
 

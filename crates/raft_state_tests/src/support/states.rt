@@ -1,5 +1,6 @@
 //! Whole states over any kind of leader ids.
 
+use crate::support::memory::both;
 use crate::support::rows::{Row, effective, id, ids as ids_of};
 use raft_base::{LeaderKind, UTime, VoteOf};
 use raft_state::{LogIdListOf, MembershipStateOf, RaftStateOf, is_key_list};
@@ -37,9 +38,8 @@ fn log_ids<K: LeaderKind<u64>>(alloc: Global) -> Result<LogIdListOf<K::Committed
 
 /// A state with that log and such memberships.
 pub fn state<K: LeaderKind<u64>>(alloc: Global, ids: Ids) -> Result<State<K>, AllocError> {
-    let log_ids = log_ids::<K>(alloc)?;
-    let membership_state = memberships::<K>(alloc, ids.4, ids.5)?;
-    let mut state = State::<K>::try_default(alloc)?;
+    let parts = both(log_ids::<K>(alloc), memberships::<K>(alloc, ids.4, ids.5));
+    let (mut state, (log_ids, membership_state)) = both(State::<K>::try_default(alloc), parts)?;
     state.log_ids = log_ids;
     state.membership_state = membership_state;
     state.purged_next = ids.0;

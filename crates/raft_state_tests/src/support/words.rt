@@ -3,6 +3,7 @@
 //! A log id is `TERM.INDEX`, over the default leader ids also `TERM.NODE.INDEX`. Log
 //! ids are joined by `,`; none is `-`.
 
+use super::memory::both;
 use raft_base::{LeaderIdentity, LogIdOf};
 use raft_members_tests::support::words::number;
 use raft_state::{LogIdListOf, is_key_list};
@@ -33,20 +34,19 @@ pub fn log_ids<L: LeaderIdentity<Id = u64>>(
     Ok(ids)
 }
 
-/// Makes a call that changes the list, if it may be made.
+/// Makes a call that changes the list, if it may be made, with these log ids or the first of them.
 fn edit<L: LeaderIdentity<Id = u64>>(
-    alloc: Global,
     list: &mut LogIdListOf<L::Committed>,
     call: &str,
     argument: &str,
+    ids: &[LogIdOf<L::Committed>],
 ) -> Result<(), AllocError> {
-    let ids = log_ids::<L>(alloc, argument)?;
     let id = log_id::<L>(argument);
     match call {
         "append" if list.can_append(id) => list.append(id),
-        "extend" if list.can_extend(&ids) => list.extend(&ids),
-        "extend_same" if list.can_extend_from_same_leader(&ids) => {
-            list.extend_from_same_leader(&ids)
+        "extend" if list.can_extend(ids) => list.extend(ids),
+        "extend_same" if list.can_extend_from_same_leader(ids) => {
+            list.extend_from_same_leader(ids)
         }
         "purge" if list.can_purge(&id) => list.purge(&id),
         "truncate" => {
@@ -70,31 +70,26 @@ fn is_said(answer: bool, word: &str) -> bool {
     answer == (word == "true")
 }
 
-/// Whether a call leads to the answer.
+/// Whether a call with these log ids leads to the answer, or the list to these keys.
 fn leads_to<L: LeaderIdentity<Id = u64>>(
-    alloc: Global,
     list: &mut LogIdListOf<L::Committed>,
     call: &str,
-    argument: &str,
-    answer: &str,
-) -> Result<bool, AllocError> {
-    let ids = log_ids::<L>(alloc, argument)?;
-    let id = log_id::<L>(argument);
-    let wanted = log_ids::<L>(alloc, answer)?;
-    Ok(match call {
-        "get" => is_id::<L>(list.get(number(argument)), answer),
-        "first" => is_id::<L>(list.first().copied(), answer),
-        "last" => is_id::<L>(list.last().copied(), answer),
-        "by_last_leader" => list.by_last_leader() == wanted.as_slice(),
-        "can_append" => is_said(list.can_append(id), answer),
-        "can_extend" => is_said(list.can_extend(&ids), answer),
-        "can_extend_same" => is_said(list.can_extend_from_same_leader(&ids), answer),
-        "can_purge" => is_said(list.can_purge(&id), answer),
-        _ => {
-            edit::<L>(alloc, list, call, argument)?;
-            list.key_log_ids() == wanted.as_slice()
-        }
-    })
+    argument: (&str, &[LogIdOf<L::Committed>]),
+    answer: (&str, &[LogIdOf<L::Committed>]),
+) -> bool {
+    let (word, ids) = argument;
+    let id = log_id::<L>(word);
+    match call {
+        "get" => is_id::<L>(list.get(number(word)), answer.0),
+        "first" => is_id::<L>(list.first().copied(), answer.0),
+        "last" => is_id::<L>(list.last().copied(), answer.0),
+        "by_last_leader" => list.by_last_leader() == answer.1,
+        "can_append" => is_said(list.can_append(id), answer.0),
+        "can_extend" => is_said(list.can_extend(ids), answer.0),
+        "can_extend_same" => is_said(list.can_extend_from_same_leader(ids), answer.0),
+        "can_purge" => is_said(list.can_purge(&id), answer.0),
+        _ => edit::<L>(list, call, word, ids).is_ok() && list.key_log_ids() == answer.1,
+    }
 }
 
 /// Whether the call of a line has the line's answer.
@@ -104,12 +99,14 @@ pub fn call_is_right<L: LeaderIdentity<Id = u64>>(
 ) -> Result<bool, AllocError> {
     let mut words = line.split_whitespace();
     let call = words.next().unwrap_or("");
-    let keys = log_ids::<L>(alloc, words.next().unwrap_or(""))?;
+    let keys = log_ids::<L>(alloc, words.next().unwrap_or(""));
     let argument = words.next().unwrap_or("");
     let answer = words.next().unwrap_or("");
+    let ids = both(log_ids::<L>(alloc, argument), log_ids::<L>(alloc, answer));
+    let (keys, (ids, wanted)) = both(keys, ids)?;
     if !is_key_list(&keys) {
         return Ok(call == "is_key_list" && answer == "false");
     }
     let mut list = LogIdListOf::new(keys);
-    leads_to::<L>(alloc, &mut list, call, argument, answer)
+    Ok(leads_to::<L>(&mut list, call, (argument, &ids), (answer, &wanted)))
 }
