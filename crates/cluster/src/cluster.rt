@@ -104,8 +104,11 @@ impl<S: Duties + Replica> Cluster<S> {
     /// Looks whether all is well after something at a server, and notes it.
     fn look_after(&mut self, place: usize) -> Result<()> {
         if let Some(server) = self.servers.get_mut(place) {
-            if let Some(event) = server.take_event()? {
-                self.notes.note(Some(server.seen().id), event);
+            let id = server.seen().id;
+            match server.take_event() {
+                Ok(Some(event)) => self.notes.note(Some(id), event),
+                Ok(None) => {}
+                Err(failure) => bail!("server {id}: {failure}"),
             }
         }
         match self.servers.get(place) {
