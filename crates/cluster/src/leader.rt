@@ -23,11 +23,11 @@ impl<K: LeaderKind<u64>> Server<K> {
 
     /// Leads, and begins with a blank entry, if there is memory to know its followers by.
     pub fn lead(&mut self) {
-        let mut vote = self.vote();
-        vote.commit();
-        self.save_vote(vote);
         let followers = new_followers::<K>(self.members(), end(self.last()));
         if renew(&mut self.followers, followers) {
+            let mut vote = self.vote();
+            vote.commit();
+            self.save_vote(vote);
             self.standing.lead();
             self.propose(Payload::Blank);
         }
@@ -107,8 +107,8 @@ pub fn last_of_joint(alloc: Global) -> Change {
     Change::AddVoterIds(BTreeSet::new(alloc))
 }
 
-/// The members to count by and those to propose: the same ones, or where that fault is planted those of
-/// their last config. None without members, or memory.
+/// The members to count by and those to propose: the same ones, or where that fault is planted those
+/// of their last config. None without members, or memory.
 pub fn next_members(fault: Option<Fault>, members: Option<Members>) -> Option<(Members, Members)> {
     let mut members = members?;
     if fault == Some(Fault::NoJoint) {

@@ -1,4 +1,4 @@
-//! What is done where there may be no memory.
+//! Values and lists of any type, where there may be no memory for more.
 
 use std::alloc::{AllocError, Global};
 use std::ops::Range;

@@ -59,7 +59,7 @@ pub trait Replica: Seen {
 }
 
 /// What a server does when it is told to. What fails in it is kept until it is asked what has become
-/// of it, and a message or a change for which there is no memory is lost.
+/// of it. What there is no memory for, as a message, a change or a campaign, is left undone.
 pub trait Duties: Seen + Drop {
     /// What servers send each other.
     type Message: Drop;

@@ -1,5 +1,5 @@
-//! What a server does with its log and its disk: it writes, applies, builds snapshots, purges, and
-//! starts again. What can fail is false then.
+//! What a server does with its log and its disk: it writes, builds snapshots, purges, and starts
+//! again. What could not be done answers false.
 
 use crate::events::Event;
 use crate::memory::{add_last, renew};

@@ -1,7 +1,7 @@
 //! The types of the layer as this cluster has them, beside those of the turns.
 
 use raft_base::{EmptyNode, LeaderKind, LogIdOf, LogIdOptionExt, VoteOf};
-use raft_members::{ChangeMembers, ChangeMembershipErrorOf};
+use raft_members::ChangeMembers;
 use raft_state::{EntryOf, EntryPayload, RaftStateIn, SnapshotMetaOf};
 pub use raft_state_tests::turn::{
     Entry, FollowerProgress, Inflight, Leader, LogId, Members, State,
@@ -16,12 +16,10 @@ pub type Payload = EntryPayload<u64, EmptyNode, u64>;
 /// A change of the members.
 pub type Change = ChangeMembers<u64, EmptyNode>;
 
-/// Why a change is refused.
-pub type ChangeError<K> = ChangeMembershipErrorOf<Leader<K>, u64>;
-
-/// A state and an entry, by what is kept of their leaders alone.
+/// A state over any leaders, and what is kept of them.
 pub type StateIn<L, C> = RaftStateIn<u64, EmptyNode, u64, L, C>;
 
+/// A log entry over what is kept of any leaders.
 pub type EntryIn<C> = EntryOf<C, u64, EmptyNode, u64>;
 
 /// The entries on a server's disk: those of its log that are not purged, in their order.
