@@ -1,5 +1,5 @@
-//! What tests share: worked rows and calls as words, states, what a follower is sent, followers, and what
-//! is done with memory.
+//! What tests share: worked rows and calls as words, states, what a follower is sent, followers, and
+//! what is done with memory.
 
 pub mod followers;
 pub mod memory;

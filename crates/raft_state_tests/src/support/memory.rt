@@ -1,5 +1,5 @@
-//! What is made where there is memory, as tests always have it: a value that was refused makes the test
-//! fail as a wrong one does. Values that are let go here cost less to prove than in each test.
+//! What is made where there is memory, as tests always have it: a value that was refused makes the
+//! test fail as a wrong one does. Values that are let go here cost less to prove than in each test.
 
 use std::alloc::AllocError;
 

@@ -34,7 +34,7 @@ pub fn log_ids<L: LeaderIdentity<Id = u64>>(
     Ok(ids)
 }
 
-/// Makes a call that changes the list, if it may be made, with these log ids or the first of them.
+/// Makes a call that changes the list, if it may be made: with the log id of a word, or with these.
 fn edit<L: LeaderIdentity<Id = u64>>(
     list: &mut LogIdListOf<L::Committed>,
     call: &str,
