@@ -19,7 +19,7 @@ use std::fmt::{Debug, Display};
 ///
 /// Leaders are ordered, partly or wholly, and equal where the order says so. Where leaders do not
 /// compare, no more than one of them can be elected.
-pub trait LeaderIdentity: Eq + Copy + Default + Debug + Display + 'static {
+pub trait LeaderIdentity: Eq + Copy + Default + 'static {
     /// The id of a node.
     type Id: NodeId;
     /// What is kept of a leader once a quorum has elected it.
@@ -110,7 +110,7 @@ pub trait LeaderIdentity: Eq + Copy + Default + Debug + Display + 'static {
 /// A kind of leader ids: its leaders over each type of node ids.
 pub trait LeaderKind<NID: NodeId>: 'static {
     /// The leader ids of votes.
-    type Leader: LeaderIdentity<Id = NID, Committed = Self::Committed>;
+    type Leader: LeaderIdentity<Id = NID, Committed = Self::Committed> + Debug + Display;
     /// The leader ids of log ids.
     type Committed: Ord + Copy + Default + Debug + Display + 'static;
 

@@ -13,17 +13,11 @@ use crate::entry::RaftEntry;
 use crate::membership_state::MembershipStateOf;
 use crate::raft_state::RaftStateIn;
 use raft_base::order::{index_below, log_id_below};
-use raft_base::{Instant, LeaderIdentity, LogIdOf, LogIdOptionExt, Node, NodeId};
+use raft_base::{Instant, LogIdOf, LogIdOptionExt, Node, NodeId};
 use raft_members::{EffectiveMembershipOf, Membership};
 use std::alloc::AllocError;
 
-impl<
-    NID: NodeId,
-    N: Node,
-    I: Instant,
-    C: Ord + Copy + Default + Drop + 'static,
-    L: LeaderIdentity<Id = NID, Committed = C> + Drop,
-> RaftStateIn<NID, N, I, L, C> {
+impl<NID: NodeId, N: Node, I: Instant, L: Drop, C: Ord + Copy + Drop> RaftStateIn<NID, N, I, L, C> {
     /// Whether `append_entries` may be called with entries: `log_ids.can_extend` is true of them,
     /// the first one of an empty log has index 0, and each that stores a membership comes after the
     /// effective one.

@@ -10,7 +10,7 @@ ghost use Rattle.raft_state.specs.Round.{IsCaughtUp, IsInOrderByMatch, IsRoundEn
 ghost use Rattle.raft_state.specs.StateView.{view_of};
 
 use crate::raft_state::RaftStateIn;
-use raft_base::{Instant, LeaderIdentity, LogIdOf, Node, NodeId, Validate};
+use raft_base::{Instant, LogIdOf, Node, NodeId, Validate};
 use raft_members::quorum::QuorumSet;
 use raft_progress::catch_up::{can_catch_up_entry, catch_up_entry};
 use raft_progress::entry::ProgressEntryOf;
@@ -19,13 +19,7 @@ use raft_progress::progress::{Progress, VecProgress};
 /// The progress of a leader's followers: for each what it has, by their matches.
 pub type FollowersOf<C, NID, QS> = VecProgress<NID, ProgressEntryOf<C>, Option<LogIdOf<C>>, QS>;
 
-impl<
-    NID: NodeId,
-    N: Node,
-    I: Instant,
-    C: Ord + Copy + Default + Drop + 'static,
-    L: LeaderIdentity<Id = NID, Committed = C> + Drop,
-> RaftStateIn<NID, N, I, L, C> {
+impl<NID: NodeId, N: Node, I: Instant, L: Drop, C: Ord + Copy + Drop> RaftStateIn<NID, N, I, L, C> {
     /// Whether `catch_up` may be called: the state is valid, its purge point is in its log, and
     /// [`can_catch_up_entry`] over that log.
     pub fn can_catch_up(&self, entry: &ProgressEntryOf<C>, agree: u64, max_entries: u64) -> bool

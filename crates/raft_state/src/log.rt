@@ -17,16 +17,10 @@ ghost use Rattle.raft_state.specs.Valid.{broken_relation};
 
 use crate::raft_state::RaftStateIn;
 use raft_base::order::log_id_below;
-use raft_base::{Instant, LeaderIdentity, LogIdOf, LogStateReader, Node, NodeId, RaftLogId};
+use raft_base::{Instant, LogIdOf, LogStateReader, Node, NodeId, RaftLogId};
 use std::alloc::AllocError;
 
-impl<
-    NID: NodeId,
-    N: Node,
-    I: Instant,
-    C: Ord + Copy + Default + Drop + 'static,
-    L: LeaderIdentity<Id = NID, Committed = C> + Drop,
-> RaftStateIn<NID, N, I, L, C> {
+impl<NID: NodeId, N: Node, I: Instant, L: Drop, C: Ord + Copy + Drop> RaftStateIn<NID, N, I, L, C> {
     /// Appends log ids of one leader to the log, as `LogIdListOf::extend_from_same_leader`;
     /// `log_ids.can_extend_from_same_leader` tests them.
     ///

@@ -146,10 +146,6 @@ impl<
     C: Ord + Copy + Default + Drop + 'static,
     L: LeaderIdentity<Id = NID, Committed = C> + Drop,
 > RaftStateIn<NID, N, I, L, C> {
-    ghost use Rattle.std.specs.Borrow.{sem, Lends};
-    ghost use Rattle.raft_state.specs.contracts.raft_state.RaftStateIn.{the_row};
-    ghost use Rattle.raft_state.specs.contracts.io_state.IOStateIn.{the_row as the_io_row};
-
     /// The state of a new node, in place of a `Default`, which has no allocator. Its vote is of term
     /// 0, before each term in which a node votes.
     pub fn try_default(alloc: Global) -> Result<Self, AllocError>
@@ -192,20 +188,6 @@ impl<
             copy ≡ record self.now { snapshot_meta = copy.snapshot_meta }) }
     {
         self.with_snapshot_meta(self.snapshot_meta.try_clone()?)
-    }
-
-    /// The vote.
-    pub fn vote_ref(&self) -> &VoteIn<L>
-        ensures { result.now ≡ vote_of self.now }
-    {
-        self.vote.get()
-    }
-
-    /// The moment of the vote's last update, if there was one.
-    pub fn vote_last_modified(&self) -> Option<I>
-        ensures { result ≡ moment_of self.now.vote }
-    {
-        self.vote.utime()
     }
 
     /// Whether the node has a log or has ever voted. Only a node that is not initialized may begin
@@ -255,6 +237,26 @@ impl<
     {
         let leader_id = self.vote.get().leader_id;
         self.accepted.update(leader_id, accepted);
+    }
+}
+
+impl<NID: NodeId, N: Node, I: Instant, L: Drop, C: Ord + Copy + Drop> RaftStateIn<NID, N, I, L, C> {
+    ghost use Rattle.std.specs.Borrow.{sem, Lends};
+    ghost use Rattle.raft_state.specs.contracts.raft_state.RaftStateIn.{the_row};
+    ghost use Rattle.raft_state.specs.contracts.io_state.IOStateIn.{the_row as the_io_row};
+
+    /// The vote.
+    pub fn vote_ref(&self) -> &VoteIn<L>
+        ensures { result.now ≡ vote_of self.now }
+    {
+        self.vote.get()
+    }
+
+    /// The moment of the vote's last update, if there was one.
+    pub fn vote_last_modified(&self) -> Option<I>
+        ensures { result ≡ moment_of self.now.vote }
+    {
+        self.vote.utime()
     }
 
     /// How far storage has got, to be written. Nothing else changes.

@@ -10,16 +10,10 @@ ghost use Rattle.raft_state.specs.Valid.{broken_relation};
 use crate::log_id_list::LogIdListOf;
 use crate::raft_state::RaftStateIn;
 use raft_base::order::{index_below, log_id_at_most};
-use raft_base::{Instant, LeaderIdentity, LogIdOf, LogIdOptionExt, Node, NodeId};
+use raft_base::{Instant, LogIdOf, LogIdOptionExt, Node, NodeId};
 use std::alloc::AllocError;
 
-impl<
-    NID: NodeId,
-    N: Node,
-    I: Instant,
-    C: Ord + Copy + Default + Drop + 'static,
-    L: LeaderIdentity<Id = NID, Committed = C> + Drop,
-> RaftStateIn<NID, N, I, L, C> {
+impl<NID: NodeId, N: Node, I: Instant, L: Drop, C: Ord + Copy + Drop> RaftStateIn<NID, N, I, L, C> {
     /// Whether `truncate_log` may be called with an index: it is past what is committed, the
     /// committed log id is not above the last one that stays, and the memberships may be cut there.
     ///

@@ -11,9 +11,7 @@ ghost use Rattle.raft_state.specs.Valid.{broken_relation, fits_purged_next, none
 
 use crate::raft_state::RaftStateIn;
 use raft_base::order::{log_id_at_most, same_optional_log_ids};
-use raft_base::{
-    Instant, Invalid, LeaderIdentity, LogIdOf, LogStateReader, Node, NodeId, Validate,
-};
+use raft_base::{Instant, Invalid, LogIdOf, LogStateReader, Node, NodeId, Validate};
 
 /// The relations between the log ids of a state in turn, and then those of its memberships.
 impl<NID: NodeId, N: Node, I: Instant, L: Drop, C: Ord + Copy + Drop> Validate
@@ -42,13 +40,7 @@ impl<NID: NodeId, N: Node, I: Instant, L: Drop, C: Ord + Copy + Drop> Validate
     }
 }
 
-impl<
-    NID: NodeId,
-    N: Node,
-    I: Instant,
-    C: Ord + Copy + Default + Drop + 'static,
-    L: LeaderIdentity<Id = NID, Committed = C> + Drop,
-> RaftStateIn<NID, N, I, L, C> {
+impl<NID: NodeId, N: Node, I: Instant, L: Drop, C: Ord + Copy + Drop> RaftStateIn<NID, N, I, L, C> {
     /// Whether the purge point is absent or the log id at its index. In a valid state the log then
     /// has each log id from there on.
     ///
