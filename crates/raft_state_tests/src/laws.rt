@@ -10,7 +10,7 @@ ghost use Rattle.raft_state.specs.StateView.{view_of};
 ghost use Rattle.std.specs.Prelude.{◌≡◌, IsTrue, OnOk, Some, ℕ};
 
 use raft_base::order::log_id_at_most;
-use raft_base::{Instant, LeaderIdentity, LogIdOf, Node, NodeId, Validate};
+use raft_base::{Instant, LogIdOf, Node, NodeId, Validate};
 use raft_progress::ProgressEntryOf;
 use raft_state::laws::sends_from_log;
 use raft_state::log_id_list::laws::{
@@ -31,13 +31,10 @@ pub fn is_up_to_date<C: Ord + Copy>(own: &LogIdListOf<C>, last: Option<LogIdOf<C
 
 /// Purges a node's log up to a log id: what is left of it begins there, since it may not be purged
 /// to below its first index.
-pub fn purge_to<
-    NID: NodeId,
-    N: Node,
-    I: Instant,
-    C: Ord + Copy + Default + Drop + 'static,
-    L: LeaderIdentity<Id = NID, Committed = C> + Drop,
->(state: &mut RaftStateIn<NID, N, I, L, C>, upto: &LogIdOf<C>) -> Result<(), AllocError>
+pub fn purge_to<NID: NodeId, N: Node, I: Instant, L: Drop, C: Ord + Copy + Drop>(
+    state: &mut RaftStateIn<NID, N, I, L, C>,
+    upto: &LogIdOf<C>,
+) -> Result<(), AllocError>
     requires { IsTrue (may_purge C.cmp (full_log state.old.log_ids) upto.now) }
     ensures { OnOk result (first_index (full_log state.new.log_ids) ≡ upto.now.index) }
 {
@@ -78,13 +75,11 @@ pub fn take_both<C: Ord + Copy>(
 
 /// A leader with a valid state, whose purge point is in its log, sends to a follower to which
 /// nothing is in flight. What is sent is from the full log.
-pub fn send<
-    NID: NodeId,
-    N: Node,
-    I: Instant,
-    C: Ord + Copy + Default + Drop + 'static,
-    L: LeaderIdentity<Id = NID, Committed = C> + Drop,
->(state: &RaftStateIn<NID, N, I, L, C>, follower: &mut ProgressEntryOf<C>, max_entries: u64) -> bool
+pub fn send<NID: NodeId, N: Node, I: Instant, L: Drop, C: Ord + Copy + Drop>(
+    state: &RaftStateIn<NID, N, I, L, C>,
+    follower: &mut ProgressEntryOf<C>,
+    max_entries: u64,
+) -> bool
     ensures { IsTrue result →
         FromLog (view_of state.now) max_entries follower.old follower.new.inflight }
 {

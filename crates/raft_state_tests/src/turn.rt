@@ -8,4 +8,4 @@ mod types;
 pub use follower::take_logs;
 pub use followers::Followers;
 pub use message::{Logs, Outcome, Response};
-pub use types::{Entry, FollowerProgress, Inflight, Leader, LogId, Members, State};
+pub use types::{Entry, Members, State};

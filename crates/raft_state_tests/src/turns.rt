@@ -1,6 +1,6 @@
 //! A leader's turns with its followers, and a follower's with what it is sent.
 
-use super::turn::{Entry, Followers, Inflight, Logs, Members, Outcome, Response, State, take_logs};
+use super::turn::{Entry, Followers, Logs, Members, Outcome, Response, State, take_logs};
 use crate::support::memory::both;
 use crate::support::rows::{Row, id, ids, log_id};
 use anyhow::Result;
@@ -9,17 +9,24 @@ use raft_base::{
     VoteOf,
 };
 use raft_members::ChangeMembers;
+use raft_progress::InflightOf;
 use raft_state::{EntryPayload, LogIdListOf, is_key_list};
 use std::alloc::{AllocError, Global};
 use std::collections::{BTreeMap, BTreeSet};
 use std::test::Fail;
 
+/// What is kept of a leader that a quorum has elected.
+type Leader<K> = <K as LeaderKind<u64>>::Committed;
+
+/// The whole state of a node.
+type StateOf<K> = State<<K as LeaderKind<u64>>::Leader, Leader<K>>;
+
 /// Takes a follower's response. False where it is refused.
 fn take<K: LeaderKind<u64>>(
-    known: &mut Followers<K>,
+    known: &mut Followers<Leader<K>>,
     from: u64,
     request: u64,
-    outcome: Outcome<K>,
+    outcome: Outcome<Leader<K>>,
 ) -> bool {
     let request = Some(request);
     known
@@ -29,13 +36,13 @@ fn take<K: LeaderKind<u64>>(
 
 /// A turn with a follower that acks all that it is sent. True where that commits more.
 fn turn<K: LeaderKind<u64>>(
-    state: &mut State<K>,
-    known: &mut Followers<K>,
+    state: &mut StateOf<K>,
+    known: &mut Followers<Leader<K>>,
     to: u64,
 ) -> Result<bool> {
     let (request, last) = match known.next_request(state, to) {
-        Some(Inflight::<K>::Logs { id, log_id_range }) => (id, log_id_range.last),
-        Some(Inflight::<K>::Snapshot { id, last_log_id }) => (id, last_log_id),
+        Some(InflightOf::Logs { id, log_id_range }) => (id, log_id_range.last),
+        Some(InflightOf::Snapshot { id, last_log_id }) => (id, last_log_id),
         _ => return Ok(false),
     };
     let committed = state.committed;
@@ -45,9 +52,12 @@ fn turn<K: LeaderKind<u64>>(
 }
 
 /// The leader 1 of term 2, with the log of these keys.
-fn leader<K: LeaderKind<u64>>(alloc: Global, keys: &[(u64, u64)]) -> Result<State<K>, AllocError> {
+fn leader<K: LeaderKind<u64>>(
+    alloc: Global,
+    keys: &[(u64, u64)],
+) -> Result<StateOf<K>, AllocError> {
     let keys = ids::<K>(alloc, keys)?;
-    let mut state = State::<K>::try_default(alloc)?;
+    let mut state = StateOf::<K>::try_default(alloc)?;
     state.vote = UTime::without_utime(VoteOf::<u64, K>::new_committed(2, 1));
     if is_key_list(&keys) {
         state.log_ids = LogIdListOf::new(keys);
@@ -67,8 +77,8 @@ fn members(alloc: Global) -> Result<Members, AllocError> {
 
 /// Whether turns with 2 and with 3 commit nothing, and then up to this row, if up to any.
 fn commits<K: LeaderKind<u64>>(
-    state: &mut State<K>,
-    known: &mut Followers<K>,
+    state: &mut StateOf<K>,
+    known: &mut Followers<Leader<K>>,
     upto: Row,
 ) -> Result<bool> {
     let first = turn::<K>(state, known, 2)?;
@@ -77,14 +87,14 @@ fn commits<K: LeaderKind<u64>>(
 }
 
 /// Whether this is granted.
-fn grants<K: LeaderKind<u64>>(known: &Followers<K>, granted: Row) -> bool {
+fn grants<K: LeaderKind<u64>>(known: &Followers<Leader<K>>, granted: Row) -> bool {
     known.granted() == id::<K>(granted)
 }
 
 /// Whether an earlier leader's log is committed with one of this leader's own, and not without.
 fn commits_with_own<K: LeaderKind<u64>>(
-    state: &mut State<K>,
-    known: &mut Followers<K>,
+    state: &mut StateOf<K>,
+    known: &mut Followers<Leader<K>>,
 ) -> Result<bool> {
     let without = commits::<K>(state, known, None)? && grants::<K>(known, Some((1, 3)));
     let own = log_id::<K>(2, 4);
@@ -96,7 +106,7 @@ fn commits_with_own<K: LeaderKind<u64>>(
 
 /// Whether that holds of a new leader.
 fn own_commits<K: LeaderKind<u64>>(alloc: Global) -> Result<bool> {
-    let known = Followers::<K>::new(members(alloc)?, 4);
+    let known = Followers::<Leader<K>>::new(members(alloc)?, 4);
     let (mut state, mut known) = both(leader::<K>(alloc, &[(1, 0), (1, 3)]), known)?;
     commits_with_own::<K>(&mut state, &mut known)
 }
@@ -116,8 +126,8 @@ fn members_with_4(alloc: Global) -> Result<Members> {
 /// Whether a learner that becomes a voter has to have the log too, as the third of four.
 fn changes<K: LeaderKind<u64>>(
     alloc: Global,
-    state: &mut State<K>,
-    known: &mut Followers<K>,
+    state: &mut StateOf<K>,
+    known: &mut Followers<Leader<K>>,
 ) -> Result<bool> {
     let is_committed = commits::<K>(state, known, Some((2, 3)))?;
     known.change_to(members_with_4(alloc)?, 4)?;
@@ -129,7 +139,7 @@ fn changes<K: LeaderKind<u64>>(
 /// Whether that holds of a new leader. Of the learner 4 nothing is known: two of the four voters have
 /// the log.
 fn third_is_asked<K: LeaderKind<u64>>(alloc: Global) -> Result<bool> {
-    let known = Followers::<K>::new(members(alloc)?, 4);
+    let known = Followers::<Leader<K>>::new(members(alloc)?, 4);
     let (mut state, mut known) = both(leader::<K>(alloc, &[(1, 0), (2, 2), (2, 3)]), known)?;
     changes::<K>(alloc, &mut state, &mut known)
 }
@@ -142,13 +152,13 @@ fn a_change_of_members_asks_for_a_third(rt: HostRuntime) -> Result<(), Fail> {
 
 /// Whether a snapshot up to (2, 7) is what is sent next in a request.
 fn sends_snapshot<K: LeaderKind<u64>>(
-    state: &State<K>,
-    known: &mut Followers<K>,
+    state: &StateOf<K>,
+    known: &mut Followers<Leader<K>>,
     request: u64,
 ) -> bool {
     let last_log_id = id::<K>(Some((2, 7)));
     known.next_request(state, 2)
-        == Some(Inflight::<K>::Snapshot {
+        == Some(InflightOf::Snapshot {
             id: request,
             last_log_id,
         })
@@ -156,14 +166,14 @@ fn sends_snapshot<K: LeaderKind<u64>>(
 
 /// Whether the logs after a row up to (2, 9) are what is sent next in a request.
 fn sends_logs<K: LeaderKind<u64>>(
-    state: &State<K>,
-    known: &mut Followers<K>,
+    state: &StateOf<K>,
+    known: &mut Followers<Leader<K>>,
     request: u64,
     after: Row,
 ) -> bool {
     let log_id_range = LogIdRangeOf::new(id::<K>(after), id::<K>(Some((2, 9))));
     known.next_request(state, 2)
-        == Some(Inflight::<K>::Logs {
+        == Some(InflightOf::Logs {
             id: request,
             log_id_range,
         })
@@ -172,8 +182,8 @@ fn sends_logs<K: LeaderKind<u64>>(
 /// Whether a follower whose log parts from the leader's below the purge point is sent a snapshot,
 /// and again once it is lost, and goes on with logs.
 fn goes_on_past_a_purge<K: LeaderKind<u64>>(
-    state: &mut State<K>,
-    known: &mut Followers<K>,
+    state: &mut StateOf<K>,
+    known: &mut Followers<Leader<K>>,
 ) -> bool {
     let snapshot = id::<K>(Some((2, 7)));
     let last = id::<K>(Some((2, 9)));
@@ -198,8 +208,8 @@ fn goes_on_past_a_purge<K: LeaderKind<u64>>(
 
 /// Whether that holds, and the leader commits once a second voter has its log.
 fn grants_past_a_purge<K: LeaderKind<u64>>(
-    state: &mut State<K>,
-    known: &mut Followers<K>,
+    state: &mut StateOf<K>,
+    known: &mut Followers<Leader<K>>,
 ) -> Result<bool> {
     let goes_on = goes_on_past_a_purge::<K>(state, known) && grants::<K>(known, None);
     Ok(turn::<K>(state, known, 3)? && goes_on)
@@ -207,7 +217,7 @@ fn grants_past_a_purge<K: LeaderKind<u64>>(
 
 /// Whether that holds of a new leader.
 fn snapshot_is_sent_again<K: LeaderKind<u64>>(alloc: Global) -> Result<bool> {
-    let known = Followers::<K>::new(members(alloc)?, 10);
+    let known = Followers::<Leader<K>>::new(members(alloc)?, 10);
     let (mut state, mut known) = both(leader::<K>(alloc, &[(1, 5), (2, 6), (2, 9)]), known)?;
     grants_past_a_purge::<K>(&mut state, &mut known)
 }
@@ -225,10 +235,10 @@ fn logs<K: LeaderKind<u64>>(
     prev: Row,
     rows: &[(u64, u64)],
     committed: Row,
-) -> Result<Logs<K>, AllocError> {
+) -> Result<Logs<Leader<K>>, AllocError> {
     let mut entries = Vec::new(alloc);
     for row in rows {
-        entries.push(Entry::<K> {
+        entries.push(Entry::<Leader<K>> {
             log_id: log_id::<K>(row.0, row.1),
             payload: EntryPayload::Blank,
         })?;
@@ -241,7 +251,7 @@ fn logs<K: LeaderKind<u64>>(
 }
 
 /// Whether a state is valid, and has this last log id and this committed one.
-fn is_at<K: LeaderKind<u64>>(state: &State<K>, last: (u64, u64), committed: Row) -> bool {
+fn is_at<K: LeaderKind<u64>>(state: &StateOf<K>, last: (u64, u64), committed: Row) -> bool {
     state.last_log_id().copied() == id::<K>(Some(last))
         && state.committed == id::<K>(committed)
         && state.validate() == Ok(())
@@ -249,11 +259,11 @@ fn is_at<K: LeaderKind<u64>>(state: &State<K>, last: (u64, u64), committed: Row)
 
 /// Whether logs after a row match up to another one.
 fn matches_upto<K: LeaderKind<u64>>(
-    state: &mut State<K>,
-    logs: &Logs<K>,
+    state: &mut StateOf<K>,
+    logs: &Logs<Leader<K>>,
     upto: (u64, u64),
 ) -> Result<bool> {
-    match take_logs::<K>(state, logs)? {
+    match take_logs::<K::Leader>(state, logs)? {
         Outcome::Matches(last) => Ok(last == id::<K>(Some(upto))),
         _ => Ok(false),
     }
@@ -261,9 +271,9 @@ fn matches_upto<K: LeaderKind<u64>>(
 
 /// Whether a log id that a follower lacks is answered as a conflict at its index, and the entries from
 /// there on are cut off.
-fn conflicts<K: LeaderKind<u64>>(alloc: Global, state: &mut State<K>) -> Result<bool> {
+fn conflicts<K: LeaderKind<u64>>(alloc: Global, state: &mut StateOf<K>) -> Result<bool> {
     let sent = logs::<K>(alloc, Some((2, 3)), &[(2, 4)], None)?;
-    match take_logs::<K>(state, &sent)? {
+    match take_logs::<K::Leader>(state, &sent)? {
         Outcome::Conflicts(index) => Ok(index == 3 && is_at::<K>(state, (1, 2), None)),
         _ => Ok(false),
     }
@@ -271,7 +281,7 @@ fn conflicts<K: LeaderKind<u64>>(alloc: Global, state: &mut State<K>) -> Result<
 
 /// Whether entries take the place of those that conflict, and what the leader has committed of them is
 /// committed; then whether an earlier request that comes once more cuts nothing off.
-fn replaces<K: LeaderKind<u64>>(alloc: Global, state: &mut State<K>) -> Result<bool> {
+fn replaces<K: LeaderKind<u64>>(alloc: Global, state: &mut StateOf<K>) -> Result<bool> {
     let rows = [(1, 1), (2, 2), (2, 3)];
     let sent = logs::<K>(alloc, Some((1, 0)), &rows, Some((2, 9)));
     let (sent, first) = both(sent, logs::<K>(alloc, Some((1, 0)), &[(1, 1)], None))?;
@@ -282,7 +292,7 @@ fn replaces<K: LeaderKind<u64>>(alloc: Global, state: &mut State<K>) -> Result<b
 }
 
 /// Whether a follower with an earlier leader's log takes what this leader sends.
-fn follows<K: LeaderKind<u64>>(alloc: Global, state: &mut State<K>) -> Result<bool> {
+fn follows<K: LeaderKind<u64>>(alloc: Global, state: &mut StateOf<K>) -> Result<bool> {
     Ok(conflicts::<K>(alloc, state)? && replaces::<K>(alloc, state)?)
 }
 

@@ -18,9 +18,8 @@ use crate::support::rows::{Row, id, ids as ids_of, log_id};
 use crate::support::states::{Ids, State, state, unlogged, valid_state};
 use raft_base::order::log_id_at_most;
 use raft_base::{
-    Instant, Invalid, LeaderAdv, LeaderIdentity, LeaderKind, LeaderStd, LogIdOf, LogIdRangeOf,
-    LogStateReader, Node, NodeId, RaftLogId, ServerState, UTime, Validate, VoteIn, VoteOf,
-    leader_id_std,
+    Instant, Invalid, LeaderAdv, LeaderKind, LeaderStd, LogIdOf, LogIdRangeOf, LogStateReader,
+    Node, NodeId, RaftLogId, ServerState, UTime, Validate, VoteIn, VoteOf, leader_id_std,
 };
 use raft_members::quorum::QuorumSet;
 use raft_progress::{InflightOf, Progress, ProgressEntryOf};
@@ -35,8 +34,8 @@ fn commit_granted<
     NID: NodeId,
     N: Node,
     I: Instant,
-    C: Ord + Copy + Default + Drop + 'static,
-    L: LeaderIdentity<Id = NID, Committed = C> + Drop,
+    L: Drop,
+    C: Ord + Copy + Drop,
     QS: QuorumSet<NID> + Drop,
 >(
     state: &mut RaftStateIn<NID, N, I, L, C>,
@@ -66,15 +65,10 @@ fn commit_granted<
 }
 
 /// A follower takes of a leader's entries those that its log does not have.
-fn lacking<
-    'a,
-    NID: NodeId,
-    N: Node,
-    I: Instant,
-    C: Ord + Copy + Default + Drop + 'static,
-    L: LeaderIdentity<Id = NID, Committed = C> + Drop,
-    Ent: RaftLogId<C>,
->(state: &RaftStateIn<NID, N, I, L, C>, entries: &'a [Ent]) -> &'a [Ent]
+fn lacking<'a, NID: NodeId, N: Node, I: Instant, L: Drop, C: Ord + Copy + Drop, Ent: RaftLogId<C>>(
+    state: &RaftStateIn<NID, N, I, L, C>,
+    entries: &'a [Ent],
+) -> &'a [Ent]
     requires { IsTrue (list_all (λ e. may_ask C.cmp (view_of state.now) (Ent.id_of e))
         entries.now) }
     ensures { IfSome (slice_get result.now 0)

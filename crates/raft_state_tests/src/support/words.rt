@@ -34,22 +34,21 @@ pub fn log_ids<L: LeaderIdentity<Id = u64>>(
     Ok(ids)
 }
 
-/// Makes a call that changes the list, if it may be made: with the log id of a word, or with these.
-fn edit<L: LeaderIdentity<Id = u64>>(
-    list: &mut LogIdListOf<L::Committed>,
+/// Makes a call that changes the list, if it may be made: with the first of these log ids, or all.
+fn edit<C: Ord + Copy>(
+    list: &mut LogIdListOf<C>,
     call: &str,
     argument: &str,
-    ids: &[LogIdOf<L::Committed>],
+    ids: &[LogIdOf<C>],
 ) -> Result<(), AllocError> {
-    let id = log_id::<L>(argument);
-    match call {
-        "append" if list.can_append(id) => list.append(id),
-        "extend" if list.can_extend(ids) => list.extend(ids),
-        "extend_same" if list.can_extend_from_same_leader(ids) => {
+    match (call, ids.first()) {
+        ("append", Some(id)) if list.can_append(*id) => list.append(*id),
+        ("purge", Some(id)) if list.can_purge(id) => list.purge(id),
+        ("extend", _) if list.can_extend(ids) => list.extend(ids),
+        ("extend_same", _) if list.can_extend_from_same_leader(ids) => {
             list.extend_from_same_leader(ids)
         }
-        "purge" if list.can_purge(&id) => list.purge(&id),
-        "truncate" => {
+        ("truncate", _) => {
             list.truncate(number(argument));
             Ok(())
         }
@@ -57,38 +56,36 @@ fn edit<L: LeaderIdentity<Id = u64>>(
     }
 }
 
-/// Whether a log id, or none, is that of the word.
-fn is_id<L: LeaderIdentity<Id = u64>>(id: Option<LogIdOf<L::Committed>>, word: &str) -> bool {
-    match id {
-        Some(id) => word != "-" && id == log_id::<L>(word),
-        None => word == "-",
+/// What a test of a list answers, with the first of these log ids, or all.
+fn answer_of<C: Ord + Copy>(list: &LogIdListOf<C>, test: &str, ids: &[LogIdOf<C>]) -> Option<bool> {
+    match (test, ids.first()) {
+        ("can_append", Some(id)) => Some(list.can_append(*id)),
+        ("can_purge", Some(id)) => Some(list.can_purge(id)),
+        ("can_extend", _) => Some(list.can_extend(ids)),
+        ("can_extend_same", _) => Some(list.can_extend_from_same_leader(ids)),
+        _ => None,
     }
 }
 
-/// Whether the answer of a test is that of the word.
-fn is_said(answer: bool, word: &str) -> bool {
-    answer == (word == "true")
-}
-
 /// Whether a call with these log ids leads to the answer, or the list to these keys.
-fn leads_to<L: LeaderIdentity<Id = u64>>(
-    list: &mut LogIdListOf<L::Committed>,
+fn leads_to<C: Ord + Copy>(
+    list: &mut LogIdListOf<C>,
     call: &str,
-    argument: (&str, &[LogIdOf<L::Committed>]),
-    answer: (&str, &[LogIdOf<L::Committed>]),
+    argument: (&str, &[LogIdOf<C>]),
+    answer: (&str, &[LogIdOf<C>]),
 ) -> bool {
     let (word, ids) = argument;
-    let id = log_id::<L>(word);
+    let (said, wanted) = answer;
     match call {
-        "get" => is_id::<L>(list.get(number(word)), answer.0),
-        "first" => is_id::<L>(list.first().copied(), answer.0),
-        "last" => is_id::<L>(list.last().copied(), answer.0),
-        "by_last_leader" => list.by_last_leader() == answer.1,
-        "can_append" => is_said(list.can_append(id), answer.0),
-        "can_extend" => is_said(list.can_extend(ids), answer.0),
-        "can_extend_same" => is_said(list.can_extend_from_same_leader(ids), answer.0),
-        "can_purge" => is_said(list.can_purge(&id), answer.0),
-        _ => edit::<L>(list, call, word, ids).is_ok() && list.key_log_ids() == answer.1,
+        "get" => list.get(number(word)) == wanted.first().copied(),
+        "first" => list.first() == wanted.first(),
+        "last" => list.last() == wanted.first(),
+        "key_log_ids" => list.key_log_ids() == wanted,
+        "by_last_leader" => list.by_last_leader() == wanted,
+        "append" | "extend" | "extend_same" | "purge" | "truncate" => {
+            edit(list, call, word, ids).is_ok() && list.key_log_ids() == wanted
+        }
+        _ => answer_of(list, call, ids) == Some(said == "true"),
     }
 }
 
@@ -108,5 +105,5 @@ pub fn call_is_right<L: LeaderIdentity<Id = u64>>(
         return Ok(call == "is_key_list" && answer == "false");
     }
     let mut list = LogIdListOf::new(keys);
-    Ok(leads_to::<L>(&mut list, call, (argument, &ids), (answer, &wanted)))
+    Ok(leads_to(&mut list, call, (argument, &ids), (answer, &wanted)))
 }

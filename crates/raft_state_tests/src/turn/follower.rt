@@ -3,22 +3,25 @@
 use super::message::{Logs, Outcome};
 use super::types::State;
 use anyhow::{Result, ensure};
-use raft_base::{LeaderKind, LogStateReader};
+use raft_base::{LeaderIdentity, LogStateReader};
 
 /// Takes a leader's logs: what conflicts is cut off, what is new is appended, and what the leader
 /// has committed of them is committed.
-pub fn take_logs<K: LeaderKind<u64>>(state: &mut State<K>, logs: &Logs<K>) -> Result<Outcome<K>> {
+pub fn take_logs<L: LeaderIdentity<Id = u64> + Drop>(
+    state: &mut State<L, L::Committed>,
+    logs: &Logs<L::Committed>,
+) -> Result<Outcome<L::Committed>> {
     if let Some(prev) = &logs.prev {
-        ensure!(state.can_ask(prev), "{prev} is unheard of");
+        ensure!(state.can_ask(prev), "{} is unheard of", prev.index);
         if !state.has_log_id(prev) {
-            cut::<K>(state, prev.index)?;
+            cut(state, prev.index)?;
             return Ok(Outcome::Conflicts(prev.index));
         }
     }
     ensure!(state.can_ask_all(&logs.entries), "entries are unheard of");
     let new = &logs.entries[state.first_conflicting_index(&logs.entries)..];
     if let Some(first) = new.first() {
-        cut::<K>(state, first.log_id.index)?;
+        cut(state, first.log_id.index)?;
     }
     ensure!(state.can_append_entries(new), "entries do not follow");
     state.append_entries(new)?;
@@ -31,7 +34,7 @@ pub fn take_logs<K: LeaderKind<u64>>(state: &mut State<K>, logs: &Logs<K>) -> Re
 }
 
 /// Cuts a log off from an index on, if it goes so far.
-fn cut<K: LeaderKind<u64>>(state: &mut State<K>, since: u64) -> Result<()> {
+fn cut<L: Drop, C: Ord + Copy + Drop>(state: &mut State<L, C>, since: u64) -> Result<()> {
     if state.get_log_id(since).is_some() {
         ensure!(
             state.can_truncate_log(since),

@@ -1,10 +1,10 @@
 //! A leader's turn with its followers.
 
 use super::message::{Outcome, Response};
-use super::types::{FollowerProgress, Inflight, LogId, Members, State};
+use super::types::{Members, State};
 use anyhow::{Result, ensure};
-use raft_base::{EmptyNode, LeaderKind, LogIdOptionExt};
-use raft_progress::{Progress, ProgressPart, Reply, Tracked};
+use raft_base::{EmptyNode, LeaderIdentity, LogIdOf, LogIdOptionExt, VoteIn};
+use raft_progress::{InflightOf, Progress, ProgressEntryOf, ProgressPart, Reply, Tracked};
 use std::alloc::AllocError;
 use std::slice;
 
@@ -13,23 +13,23 @@ const MAX_ENTRIES: u64 = 4;
 
 /// What a leader knows of its followers, and of itself, and the members that it counts by.
 #[derive(Drop)]
-pub struct Followers<K: LeaderKind<u64>>
+pub struct Followers<C: Ord + Copy>
 where
-    Option<LogId<K>>: Ord,
-    FollowerProgress<K>: ProgressPart<Option<LogId<K>>>,
+    Option<LogIdOf<C>>: Ord,
+    ProgressEntryOf<C>: ProgressPart<Option<LogIdOf<C>>>,
 {
-    tracked: Tracked<u64, EmptyNode, FollowerProgress<K>, Option<LogId<K>>>,
+    tracked: Tracked<u64, EmptyNode, ProgressEntryOf<C>, Option<LogIdOf<C>>>,
 }
 
-impl<K: LeaderKind<u64>> Followers<K> {
+impl<C: Ord + Copy + Drop> Followers<C> {
     /// Nothing is known of the members, but that none has more than a log that ends before an index.
     pub fn new(members: Members, end: u64) -> Result<Self, AllocError> {
-        let tracked = Tracked::new(members, FollowerProgress::<K>::empty(end))?;
+        let tracked = Tracked::new(members, ProgressEntryOf::<C>::empty(end))?;
         Ok(Followers { tracked })
     }
 
     /// What is sent next to a follower, and in flight then: logs, or a snapshot.
-    pub fn next_request(&mut self, state: &State<K>, to: u64) -> Option<Inflight<K>> {
+    pub fn next_request<L: Drop>(&mut self, state: &State<L, C>, to: u64) -> Option<InflightOf<C>> {
         let mut follower = self.get(to)?;
         if !follower.can_send(state) {
             return None;
@@ -40,7 +40,7 @@ impl<K: LeaderKind<u64>> Followers<K> {
     }
 
     /// Takes a follower's response. One to a request that is not in flight is refused.
-    pub fn take_response(&mut self, from: u64, response: &Response<K>) -> Option<()> {
+    pub fn take_response(&mut self, from: u64, response: &Response<C>) -> Option<()> {
         let mut follower = self.get(from)?;
         match response.outcome {
             Outcome::Matches(upto) => follower.update_matching(response.request?, upto).ok()?,
@@ -49,16 +49,6 @@ impl<K: LeaderKind<u64>> Followers<K> {
         }
         self.set(from, follower);
         Some(())
-    }
-
-    /// Commits what a quorum has, once an entry of this leader's own is among it.
-    pub fn commit(&self, state: &mut State<K>) -> Result<()> {
-        let granted = self.granted();
-        if is_own::<K>(state, granted) {
-            ensure!(state.can_commit(&granted), "members are not in turn");
-            state.update_committed(&granted)?;
-        }
-        Ok(())
     }
 
     /// Takes what is in flight to a follower as lost.
@@ -70,48 +60,61 @@ impl<K: LeaderKind<u64>> Followers<K> {
     }
 
     /// Writes what a server has of its own log.
-    pub fn set_own(&mut self, id: u64, last: Option<LogId<K>>) {
+    pub fn set_own(&mut self, id: u64, last: Option<LogIdOf<C>>) {
         if last.has_next_index() {
-            self.set(id, FollowerProgress::<K>::new(last));
+            self.set(id, ProgressEntryOf::<C>::new(last));
         }
     }
 
     /// Goes over to other members. Of a new one no log is known to match. After an error it counts by
     /// the old ones, and is to be asked again before it commits.
     pub fn change_to(&mut self, members: Members, end: u64) -> Result<()> {
-        let unknown = FollowerProgress::<K>::empty(end);
+        let unknown = ProgressEntryOf::<C>::empty(end);
         let reply = self.tracked.change_to(members, unknown);
         ensure!(matches!(&reply, Reply::Granted(_)), "out of memory");
         Ok(())
     }
 
     /// What is known of a member.
-    pub fn get(&self, id: u64) -> Option<FollowerProgress<K>> {
+    pub fn get(&self, id: u64) -> Option<ProgressEntryOf<C>> {
         self.tracked.progress().try_get(&id).copied()
     }
 
     /// The last log id that a quorum has.
-    pub fn granted(&self) -> Option<LogId<K>> {
+    pub fn granted(&self) -> Option<LogIdOf<C>> {
         *self.tracked.progress().granted()
     }
 
     /// What is known of each member.
-    pub fn iter(&self) -> slice::Iter<'_, (u64, FollowerProgress<K>)> {
+    pub fn iter(&self) -> slice::Iter<'_, (u64, ProgressEntryOf<C>)> {
         self.tracked.progress().iter()
     }
 
     /// Writes what is known of a member.
-    fn set(&mut self, id: u64, follower: FollowerProgress<K>) {
+    fn set(&mut self, id: u64, follower: ProgressEntryOf<C>) {
         let _granted = self.tracked.update(&id, follower);
     }
 }
 
+impl<C: Ord + Copy + Default + Drop + 'static> Followers<C> {
+    /// Commits what a quorum has, once an entry of this leader's own is among it.
+    pub fn commit<L: LeaderIdentity<Id = u64, Committed = C> + Drop>(
+        &self,
+        state: &mut State<L, C>,
+    ) -> Result<()> {
+        let granted = self.granted();
+        if is_own(state.vote_ref(), granted) {
+            ensure!(state.can_commit(&granted), "members are not in turn");
+            state.update_committed(&granted)?;
+        }
+        Ok(())
+    }
+}
+
 /// Whether a log id is of the leader that a vote is for.
-fn is_own<K: LeaderKind<u64>>(state: &State<K>, log_id: Option<LogId<K>>) -> bool {
+fn is_own<L: LeaderIdentity>(vote: &VoteIn<L>, log_id: Option<LogIdOf<L::Committed>>) -> bool {
     match log_id {
-        Some(log_id) => state
-            .vote_ref()
-            .is_same_leader(log_id.committed_leader_id()),
+        Some(log_id) => vote.is_same_leader(log_id.committed_leader_id()),
         None => false,
     }
 }

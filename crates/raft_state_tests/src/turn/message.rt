@@ -1,22 +1,22 @@
 //! What a leader sends, and what a follower responds.
 
-use super::types::{Entry, LogId};
-use raft_base::LeaderKind;
+use super::types::Entry;
+use raft_base::LogIdOf;
 
 /// Entries of a leader's log, and how far it has committed.
 #[derive(Drop)]
-pub struct Logs<K: LeaderKind<u64>> {
+pub struct Logs<C> {
     /// The log id before the entries.
-    pub prev: Option<LogId<K>>,
-    pub entries: Vec<Entry<K>>,
-    pub committed: Option<LogId<K>>,
+    pub prev: Option<LogIdOf<C>>,
+    pub entries: Vec<Entry<C>>,
+    pub committed: Option<LogIdOf<C>>,
 }
 
 /// What a follower makes of what a leader sends.
 #[derive(Drop)]
-pub enum Outcome<K: LeaderKind<u64>> {
+pub enum Outcome<C> {
     /// Its log has all up to this log id.
-    Matches(Option<LogId<K>>),
+    Matches(Option<LogIdOf<C>>),
     /// Its log does not have the leader's log id at this index.
     Conflicts(u64),
     /// It has promised a greater vote.
@@ -25,14 +25,14 @@ pub enum Outcome<K: LeaderKind<u64>> {
 
 /// A follower's response to a request; to a heartbeat, which has no number, too.
 #[derive(Drop)]
-pub struct Response<K: LeaderKind<u64>> {
+pub struct Response<C> {
     pub request: Option<u64>,
-    pub outcome: Outcome<K>,
+    pub outcome: Outcome<C>,
 }
 
-impl<K: LeaderKind<u64>> Logs<K> {
+impl<C: Copy> Logs<C> {
     /// The last log id that they tell of.
-    pub fn last(&self) -> Option<LogId<K>> {
+    pub fn last(&self) -> Option<LogIdOf<C>> {
         match self.entries.last() {
             Some(entry) => Some(entry.log_id),
             None => self.prev,
