@@ -111,8 +111,11 @@ impl<S: Duties + Replica> Cluster<S> {
                 Err(failure) => bail!("server {id}: {failure}"),
             }
         }
-        match self.servers.get(place) {
-            Some(server) => self.history.look_after(&self.servers, server),
+        if let Some(server) = self.servers.get(place) {
+            self.history.look_after(&self.servers, server);
+        }
+        match self.history.flaw {
+            Some(flaw) => bail!("{flaw}"),
             None => Ok(()),
         }
     }

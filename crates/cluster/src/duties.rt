@@ -2,21 +2,21 @@
 
 use crate::events::Event;
 use crate::fault::Fault;
-use crate::leader::{last_of_joint, may_campaign, new_followers, next_members};
-use crate::memory::both;
+use crate::leader::{last_of_joint, next_members};
 use crate::message::{Content, Message};
 use crate::replica::{Duties, Seen};
 use crate::server::Server;
-use crate::standing::{Role, Standing};
+use crate::standing::Role;
 use crate::storage;
-use crate::types::{Change, Inflight, Members, Payload, State, Vote, end};
+use crate::types::{Change, Members, Payload, State, end};
 use anyhow::Result;
-use raft_base::{LeaderKind, LogIdRangeOf, LogStateReader, log_id_below};
+use raft_base::{LeaderIdentity, LogIdRangeOf, LogStateReader, VoteIn, log_id_below};
+use raft_progress::InflightOf;
 use raft_state_tests::turn::Response;
 use std::alloc::{AllocError, Global};
 
-impl<K: LeaderKind<u64>> Duties for Server<K> {
-    type Message = Message<K>;
+impl<L: LeaderIdentity<Id = u64> + Drop> Duties for Server<L, L::Committed> {
+    type Message = Message<L, L::Committed>;
 
     fn new(
         alloc: Global,
@@ -24,21 +24,15 @@ impl<K: LeaderKind<u64>> Duties for Server<K> {
         fault: Option<Fault>,
         nobody: &Members,
     ) -> Result<Self, AllocError> {
-        let standing = Standing::new(nobody)?;
-        let followers = new_followers::<K>(nobody, 0);
-        let (followers, state) = both(followers, State::<K>::try_default(alloc))?;
-        Ok(Server {
-            alloc,
-            id,
-            fault,
-            standing,
-            state,
-            disk: Vec::new(alloc),
-            followers,
-        })
+        Server::with_state(alloc, id, fault, nobody, State::try_default(alloc))
     }
 
-    fn receive(&mut self, now: u64, from: u64, message: &Message<K>) -> Option<Message<K>> {
+    fn receive(
+        &mut self,
+        now: u64,
+        from: u64,
+        message: &Message<L, L::Committed>,
+    ) -> Option<Message<L, L::Committed>> {
         let vote = message.vote;
         let content = match &message.content {
             Content::AskVote(last) => Content::Voted(self.votes(now, vote, *last), self.last()),
@@ -89,7 +83,7 @@ impl<K: LeaderKind<u64>> Duties for Server<K> {
         self.reload(now);
         self.standing.follow();
         // One that was removed has its committed vote still.
-        if self.state.is_leader(&self.id) && may_campaign(&self.state.membership_state, self.id) {
+        if self.state.is_leader(&self.id) && self.may_campaign() {
             self.lead();
         }
         self.standing.note(Event::Restarted);
@@ -97,13 +91,12 @@ impl<K: LeaderKind<u64>> Duties for Server<K> {
 
     fn has_waited(&self, now: u64, patience: u64) -> bool {
         let since = self.state.vote_last_modified();
-        may_campaign(&self.state.membership_state, self.id)
-            && self.standing.has_waited(since, now, patience)
+        self.may_campaign() && self.standing.has_waited(since, now, patience)
     }
 
     fn campaign(&mut self, now: u64) {
-        let term = self.seen().vote.0.saturating_add(1);
-        let vote = Vote::<K>::new(term, self.id);
+        let term = L::term(self.state.vote_ref().leader_id()).saturating_add(1);
+        let vote = VoteIn::new(term, self.id);
         self.save_vote(vote);
         self.state.vote.update(now, vote);
         self.standing
@@ -111,13 +104,19 @@ impl<K: LeaderKind<u64>> Duties for Server<K> {
         self.count_vote(self.id);
     }
 
-    fn ask_vote(&self) -> Message<K> {
+    fn ask_vote(&self) -> Message<L, L::Committed> {
         self.message(Content::AskVote(self.last()))
     }
 
     fn propose(&mut self, payload: Payload) {
-        self.write(payload);
-        self.count_own();
+        let leader = L::to_committed(self.state.vote_ref().leader_id());
+        self.write(leader, payload);
+        let last = self.last();
+        self.followers.set_own(self.id, last);
+        if self.state.can_accept() {
+            self.state.update_accepted(last);
+        }
+        self.commit();
     }
 
     fn change(&mut self, change: Change, retain: bool) {
@@ -125,7 +124,7 @@ impl<K: LeaderKind<u64>> Duties for Server<K> {
         let members = handler.apply(change, retain).ok();
         if let Some((to_count_by, members)) = next_members(self.fault, members) {
             // Of a new one nothing is known but that it lacks the entry that adds it.
-            let lacked = end(self.last());
+            let lacked = self.end();
             let is_counting = self.followers.change_to(to_count_by, lacked).is_ok();
             self.standing.check(is_counting, "out of memory");
             self.standing.note(Event::Changed);
@@ -146,7 +145,7 @@ impl<K: LeaderKind<u64>> Duties for Server<K> {
 
     fn is_close(&self, id: u64, lag: u64) -> bool {
         match self.followers.get(id) {
-            Some(follower) => end(follower.matching).saturating_add(lag) >= end(self.last()),
+            Some(follower) => end(follower.matching).saturating_add(lag) >= self.end(),
             None => false,
         }
     }
@@ -155,15 +154,15 @@ impl<K: LeaderKind<u64>> Duties for Server<K> {
         self.followers.give_up(to);
     }
 
-    fn next_message(&mut self, to: u64) -> Option<Message<K>> {
-        match self.followers.next_request(&self.state, to) {
-            Some(Inflight::<K>::Logs { id, log_id_range }) => self.logs(Some(id), log_id_range),
-            Some(Inflight::<K>::Snapshot { id, .. }) => self.snapshot(id),
-            _ => None,
+    fn next_message(&mut self, to: u64) -> Option<Message<L, L::Committed>> {
+        match self.followers.next_request(&self.state, to)? {
+            InflightOf::Logs { id, log_id_range } => self.logs(Some(id), log_id_range),
+            InflightOf::Snapshot { id, .. } => self.snapshot(id),
+            InflightOf::None => None,
         }
     }
 
-    fn heartbeat(&self) -> Option<Message<K>> {
+    fn heartbeat(&self) -> Option<Message<L, L::Committed>> {
         let last = self.last();
         self.logs(None, LogIdRangeOf { prev: last, last })
     }

@@ -3,17 +3,17 @@
 use crate::fault::Fault;
 use crate::memory::{add, copy_of, last_few, renew};
 use crate::message::{Content, Message};
-use crate::replica::{Duties, Seen};
-use crate::server::Server;
+use crate::replica::Duties;
+use crate::server::{Server, new_followers};
 use crate::storage;
-use crate::types::{Change, Entry, Leader, LogId, Members, Payload, end};
-use raft_base::{EmptyNode, LeaderKind, LogIdRangeOf};
-use raft_state::MembershipStateOf;
-use raft_state_tests::turn::{Followers, Logs};
-use std::alloc::{AllocError, Global};
+use crate::types::{Change, Entry, Members, Payload, end};
+use raft_base::{LeaderIdentity, LogIdOf, LogIdRangeOf};
+use raft_state_tests::turn::Logs;
+use std::alloc::Global;
 use std::collections::BTreeSet;
+use std::fmt::{Debug, Display};
 
-impl<K: LeaderKind<u64>> Server<K> {
+impl<L: LeaderIdentity<Id = u64> + Drop> Server<L, L::Committed> {
     /// Counts a vote for it, and leads once a quorum has voted.
     pub fn count_vote(&mut self, from: u64) {
         if self.standing.count(from) {
@@ -23,9 +23,10 @@ impl<K: LeaderKind<u64>> Server<K> {
 
     /// Leads, and begins with a blank entry, if there is memory to know its followers by.
     pub fn lead(&mut self) {
-        let followers = new_followers::<K>(self.members(), end(self.last()));
+        let members = self.state.membership_state.effective().membership();
+        let followers = new_followers(members, self.end());
         if renew(&mut self.followers, followers) {
-            let mut vote = self.vote();
+            let mut vote = *self.state.vote_ref();
             vote.commit();
             self.save_vote(vote);
             self.standing.lead();
@@ -33,38 +34,39 @@ impl<K: LeaderKind<u64>> Server<K> {
         }
     }
 
-    /// Writes an entry of its own, first to disk.
-    pub fn write(&mut self, payload: Payload) {
-        let leader = K::to_committed(self.state.vote_ref().leader_id());
-        let log_id = LogId::<K>::new(leader, end(self.last()));
-        let is_written = add(&mut self.disk, Entry::<K> { log_id, payload });
-        let is_appended = storage::append::<K>(&mut self.state, last_few(&self.disk, 1));
-        self.standing
-            .check(is_written && is_appended, "an entry does not follow");
-    }
-
-    /// Has all of its own log, and commits what a quorum has.
-    pub fn count_own(&mut self) {
-        let last = self.last();
-        self.followers.set_own(self.id, last);
-        if self.state.can_accept() {
-            self.state.update_accepted(last);
-        }
-        self.commit();
-    }
-
     /// Commits what a quorum has.
     pub fn commit(&mut self) {
         let mut is_committed = self.followers.commit(&mut self.state).is_ok();
         if self.fault == Some(Fault::CountAlone) {
             let granted = self.followers.granted();
-            is_committed = is_committed && storage::commit::<K>(&mut self.state, granted);
+            is_committed = is_committed && storage::commit(&mut self.state, granted);
         }
         self.standing.check(is_committed, "members are not in turn");
     }
+}
+
+impl<L: Copy + Drop, C: Ord + Copy + Debug + Display + Drop> Server<L, C> {
+    /// Writes an entry of its own, first to disk.
+    pub fn write(&mut self, leader: C, payload: Payload) {
+        let log_id = LogIdOf::new(leader, self.end());
+        let is_written = add(&mut self.disk, Entry { log_id, payload });
+        let is_appended = storage::append(&mut self.state, last_few(&self.disk, 1));
+        self.standing
+            .check(is_written && is_appended, "an entry does not follow");
+    }
+}
+
+impl<L: Copy + Drop, C: Ord + Copy + Drop> Server<L, C> {
+    /// Whether it may ask for votes: it is a voter, or was one until a change that is not committed,
+    /// which may need it.
+    pub fn may_campaign(&self) -> bool {
+        let memberships = &self.state.membership_state;
+        memberships.is_voter(&self.id)
+            || (memberships.committed().is_voter(&self.id) && memberships.contains(&self.id))
+    }
 
     /// What sends the entries of a range, and what is committed, if there is memory.
-    pub fn logs(&self, request: Option<u64>, range: LogIdRangeOf<Leader<K>>) -> Option<Message<K>> {
+    pub fn logs(&self, request: Option<u64>, range: LogIdRangeOf<C>) -> Option<Message<L, C>> {
         let places = self.place(end(range.prev))..self.place(end(range.last));
         let entries = copy_of(self.alloc, &self.disk, places)?;
         let logs = Logs {
@@ -76,30 +78,10 @@ impl<K: LeaderKind<u64>> Server<K> {
     }
 
     /// What sends the snapshot, if there is memory.
-    pub fn snapshot(&self, request: u64) -> Option<Message<K>> {
-        match self.state.snapshot_meta.try_clone() {
-            Ok(snapshot) => Some(self.message(Content::Install(request, snapshot))),
-            Err(_) => None,
-        }
+    pub fn snapshot(&self, request: u64) -> Option<Message<L, C>> {
+        let snapshot = self.state.snapshot_meta.try_clone().ok()?;
+        Some(self.message(Content::Install(request, snapshot)))
     }
-}
-
-/// Whether a server may ask for votes: it is a voter, or was one until a change that is not
-/// committed, which may need it.
-pub fn may_campaign<C: Ord + Copy + Drop>(
-    memberships: &MembershipStateOf<C, u64, EmptyNode>,
-    id: u64,
-) -> bool {
-    memberships.is_voter(&id)
-        || (memberships.committed().is_voter(&id) && memberships.contains(&id))
-}
-
-/// Followers of which nothing is known but that their logs end before an index.
-pub fn new_followers<K: LeaderKind<u64>>(
-    members: &Members,
-    end: u64,
-) -> Result<Followers<K>, AllocError> {
-    Followers::new(members.try_clone()?, end)
 }
 
 /// The change from a joint membership to its last config. It leaves others as they are.

@@ -34,7 +34,7 @@ use anyhow::{Result, bail, ensure};
 use cluster::Cluster;
 use events::{Counts, Event};
 use fault::Fault;
-use raft_base::{LeaderAdv, LeaderKind, LeaderStd};
+use raft_base::{LeaderAdv, LeaderIdentity, LeaderKind, LeaderStd};
 use replica::{Duties, Replica};
 use server::Server;
 use std::alloc::AllocError;
@@ -42,6 +42,9 @@ use std::env;
 
 /// How many events a cluster has to settle in, once its network is mended.
 const SETTLE: u64 = 4000;
+
+/// The leaders of votes of a kind.
+type LeaderOf<K> = <K as LeaderKind<u64>>::Leader;
 
 /// What is asked for.
 #[derive(Clone, Copy)]
@@ -88,10 +91,13 @@ impl Plan {
 }
 
 /// Runs a cluster of each seed, writes what is to be told, and answers what happened.
-fn run_all<K: LeaderKind<u64>>(text: &mut String, plan: &Plan) -> Result<Counts, AllocError> {
+fn run_all<L: LeaderIdentity<Id = u64> + Drop>(
+    text: &mut String,
+    plan: &Plan,
+) -> Result<Counts, AllocError> {
     let mut total = Counts::new();
     for seed in plan.first..plan.first.saturating_add(plan.count) {
-        run::<Server<K>>(text, plan, seed, &mut total)?;
+        run::<Server<L, L::Committed>>(text, plan, seed, &mut total)?;
     }
     Ok(total)
 }
@@ -141,9 +147,9 @@ fn main(rt: HostRuntime) -> Result<()> {
         text.push_str(chart::LEGEND)?;
     }
     let total = if plan.is_standard {
-        run_all::<LeaderStd>(&mut text, &plan)?
+        run_all::<LeaderOf<LeaderStd>>(&mut text, &plan)?
     } else {
-        run_all::<LeaderAdv>(&mut text, &plan)?
+        run_all::<LeaderOf<LeaderAdv>>(&mut text, &plan)?
     };
     println!(rt; "{text}{total}")?;
     ensure!(

@@ -38,7 +38,7 @@ pub trait Seen {
 }
 
 /// What a server's log is compared by with those of others.
-pub trait Replica: Seen {
+pub trait Replica {
     /// What tells an entry from others at its index.
     type LogId: Eq + Copy;
 
@@ -54,7 +54,7 @@ pub trait Replica: Seen {
     /// The last log id that another server is known to have, where it leads that one.
     fn matching(&self, id: u64) -> Option<Self::LogId>;
 
-    /// What is wrong with it by itself, if anything is.
+    /// What is wrong with it by itself, if anything is, before its id.
     fn flaw(&self) -> Option<&'static str>;
 }
 

@@ -1,12 +1,27 @@
 //! What Raft promises of a whole cluster, looked after at each event.
+//!
+//! What is found to be wrong is noted, as what fails in a server is, and the first of it is told.
 
 use crate::replica::{Glance, Replica, Seen};
 use crate::standing::Role;
-use anyhow::{Result, bail, ensure};
 use std::alloc::Global;
 use std::collections::BTreeMap;
+use std::fmt;
 
-/// Who was elected, and what was committed.
+/// What is wrong, and with which server, in which term or at which index.
+#[derive(Clone, Copy)]
+pub struct Flaw {
+    what: &'static str,
+    at: u64,
+}
+
+impl fmt::Display for Flaw {
+    fn fmt<W: fmt::Write>(&self, f: &mut fmt::Formatter<W>) -> fmt::Result {
+        write!(f, "{} {}", self.what, self.at)
+    }
+}
+
+/// Who was elected, what was committed, and what is wrong.
 #[derive(Drop)]
 pub struct History<I> {
     /// Whether a term has one leader. The default leader ids have the node in them, so two may be of
@@ -16,6 +31,8 @@ pub struct History<I> {
     leaders: BTreeMap<u64, u64>,
     /// The log id at each index, and the vote under which it was first known to be committed.
     committed: Vec<(I, (u64, u64))>,
+    /// The first that was found to be wrong.
+    pub flaw: Option<Flaw>,
 }
 
 impl<I: Eq + Copy> History<I> {
@@ -25,17 +42,22 @@ impl<I: Eq + Copy> History<I> {
             is_standard,
             leaders: BTreeMap::new(alloc),
             committed: Vec::new(alloc),
+            flaw: None,
         }
     }
 
     /// Looks whether all is well after something at a server.
-    pub fn look_after<S: Replica<LogId = I>>(&mut self, servers: &[S], server: &S) -> Result<()> {
+    pub fn look_after<S: Seen + Replica<LogId = I>>(&mut self, servers: &[S], server: &S) {
         if let Some(flaw) = server.flaw() {
-            bail!("server {}: {flaw}", server.seen().id);
+            self.note(flaw, server.seen().id);
         }
-        check_pairs(server, servers)?;
-        self.commit(server)?;
-        self.check_leaders(servers)
+        for other in servers {
+            self.check_match(server, other);
+            self.check_known(server, other);
+            self.check_known(other, server);
+        }
+        self.commit(server);
+        self.check_leaders(servers);
     }
 
     /// How many entries were committed.
@@ -43,98 +65,95 @@ impl<I: Eq + Copy> History<I> {
         self.committed.len() as u64
     }
 
+    /// Notes what is wrong, unless something was before.
+    fn note(&mut self, what: &'static str, at: u64) {
+        self.flaw = self.flaw.or(Some(Flaw { what, at }));
+    }
+
+    /// Two servers have to have the same entries up to the last log id that both have.
+    fn check_match<S: Seen + Replica<LogId = I>>(&mut self, one: &S, other: &S) {
+        let mut is_shared = false;
+        let (here, there) = (one.seen(), other.seen());
+        for index in (here.purged.max(there.purged)..here.end.min(there.end)).rev() {
+            if one.log_id(index) == other.log_id(index) {
+                is_shared = true;
+                if !one.shares_entry(other, index) {
+                    self.note("two entries at", index);
+                }
+            } else if is_shared {
+                self.note("logs meet again after", index);
+            }
+        }
+    }
+
+    /// Another server of a leader's vote has to have what the leader knows to match.
+    fn check_known<S: Seen + Replica<LogId = I>>(&mut self, leader: &S, other: &S) {
+        let (seen, there) = (leader.seen(), other.seen());
+        if seen.role == Role::Leader && seen.vote == there.vote {
+            if let Some(matching) = leader.matching(there.id) {
+                if !other.has(matching) {
+                    self.note(
+                        "what a leader knows to match is not in the log of",
+                        there.id,
+                    );
+                }
+            }
+        }
+    }
+
     /// What a server knows to be committed has to be in its log, and what others know.
-    fn commit<S: Replica<LogId = I>>(&mut self, server: &S) -> Result<()> {
+    fn commit<S: Seen + Replica<LogId = I>>(&mut self, server: &S) {
         let seen = server.seen();
         for index in seen.purged.saturating_sub(1)..seen.committed {
             match (server.log_id(index), self.committed.get(index as usize)) {
-                (Some(log_id), None) => self.committed.push((log_id, seen.vote))?,
+                (Some(log_id), None) => {
+                    if self.committed.push((log_id, seen.vote)).is_err() {
+                        self.note("no memory to note what is committed at", index);
+                    }
+                }
                 (Some(log_id), Some(known)) if known.0 == log_id => {}
-                _ => bail!("{index} is not what was committed"),
+                _ => self.note("another entry was committed at", index),
             }
         }
-        Ok(())
     }
 
     /// Each server that leads has to be the only leader of its id, and to have in its log all that
     /// was committed under lesser ones.
-    fn check_leaders<S: Replica<LogId = I>>(&mut self, servers: &[S]) -> Result<()> {
+    fn check_leaders<S: Seen + Replica<LogId = I>>(&mut self, servers: &[S]) {
         for server in servers {
             let seen = server.seen();
             if seen.role == Role::Leader {
-                self.check_only(&seen)?;
-                self.check_complete(server, seen.vote)?;
+                self.check_only(&seen);
+                if !self.is_complete(server, seen.vote) {
+                    self.note(
+                        "what was committed is not in the log of the leader",
+                        seen.id,
+                    );
+                }
             }
         }
-        Ok(())
     }
 
-    /// Whether a leader is the only one of its id.
-    fn check_only(&mut self, seen: &Glance) -> Result<()> {
+    /// A leader has to be the only one of its id.
+    fn check_only(&mut self, seen: &Glance) {
         if self.is_standard {
-            let before = self.leaders.insert(seen.vote.0, seen.id)?;
-            ensure!(
-                before.unwrap_or(seen.id) == seen.id,
-                "two leaders of term {}",
-                seen.vote.0
-            );
-        }
-        Ok(())
-    }
-
-    /// Whether a leader has what was committed under lesser ones.
-    fn check_complete<S: Replica<LogId = I>>(&self, server: &S, vote: (u64, u64)) -> Result<()> {
-        for (index, (log_id, by)) in self.committed.iter().enumerate() {
-            ensure!(
-                vote <= *by || server.has(*log_id),
-                "the leader of term {} lacks {index}",
-                vote.0
-            );
-        }
-        Ok(())
-    }
-}
-
-/// Whether a server is well together with others: their logs match, and a leader knows of no match
-/// that isn't so.
-fn check_pairs<S: Replica>(server: &S, others: &[S]) -> Result<()> {
-    for other in others {
-        check_match(server, other)?;
-        check_known(server, other)?;
-        check_known(other, server)?;
-    }
-    Ok(())
-}
-
-/// Whether two servers have the same entries up to the last log id that both have.
-fn check_match<S: Replica>(one: &S, other: &S) -> Result<()> {
-    let mut is_shared = false;
-    let (here, there) = (one.seen(), other.seen());
-    for index in (here.purged.max(there.purged)..here.end.min(there.end)).rev() {
-        if one.log_id(index) == other.log_id(index) {
-            is_shared = true;
-            ensure!(one.shares_entry(other, index), "two entries at {index}");
-        } else {
-            ensure!(!is_shared, "logs part at {index} and meet later");
+            match self.leaders.insert(seen.vote.0, seen.id) {
+                Ok(before) if before.unwrap_or(seen.id) == seen.id => {}
+                Ok(_) => self.note("two leaders of term", seen.vote.0),
+                Err(_) => self.note("no memory to note the leader of term", seen.vote.0),
+            }
         }
     }
-    Ok(())
-}
 
-/// Whether another server of a leader's vote has what the leader knows to match.
-fn check_known<S: Replica>(leader: &S, other: &S) -> Result<()> {
-    let (seen, there) = (leader.seen(), other.seen());
-    if seen.role != Role::Leader || seen.vote != there.vote {
-        return Ok(());
+    /// Whether the leader of a vote has what was committed under lesser ones.
+    fn is_complete<S: Replica<LogId = I>>(&self, leader: &S, vote: (u64, u64)) -> bool {
+        for (log_id, by) in &self.committed {
+            if *by < vote && !leader.has(*log_id) {
+                return false;
+            }
+        }
+        true
     }
-    if let Some(matching) = leader.matching(there.id) {
-        ensure!(
-            other.has(matching),
-            "server {} lacks what its leader knows to match",
-            there.id
-        );
-    }
-    Ok(())
 }
 
 /// The leader that was elected last.

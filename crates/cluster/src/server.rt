@@ -1,42 +1,65 @@
 //! A server: its state, what it has on disk, what it is doing, and whom it votes for.
 //!
-//! What fails in it is noted for the one who looks after it, so its functions return no errors.
+//! What fails in it is noted for the one who looks after it, so its functions return no errors. Only
+//! what a vote decides is over leader ids; what goes by the log is over any leaders.
 
 use crate::fault::Fault;
+use crate::memory::both;
 use crate::message::{Content, Message};
 use crate::standing::{Role, Standing};
-use crate::types::{Disk, FollowerProgress, Leader, LogId, State, Vote};
-use raft_base::{LeaderKind, LogStateReader, log_id_at_most, log_id_below};
-use raft_progress::ProgressPart;
+use crate::types::{Disk, Members, State, end};
+use raft_base::{LeaderIdentity, LogIdOf, LogStateReader, VoteIn, log_id_at_most, log_id_below};
+use raft_progress::{ProgressEntryOf, ProgressPart};
 use raft_state_tests::turn::{Followers, Response};
-use std::alloc::Global;
+use std::alloc::{AllocError, Global};
 
 /// A server.
 #[derive(Drop)]
-pub struct Server<K: LeaderKind<u64>>
+pub struct Server<L, C: Ord + Copy>
 where
-    Option<LogId<K>>: Ord,
-    FollowerProgress<K>: ProgressPart<Option<LogId<K>>>,
+    Option<LogIdOf<C>>: Ord,
+    ProgressEntryOf<C>: ProgressPart<Option<LogIdOf<C>>>,
 {
     pub alloc: Global,
     pub id: u64,
     pub fault: Option<Fault>,
     pub standing: Standing,
-    pub state: State<K>,
-    pub disk: Disk<Leader<K>>,
+    pub state: State<L, C>,
+    pub disk: Disk<C>,
     /// What it knows of its followers, while it leads.
-    pub followers: Followers<K>,
+    pub followers: Followers<C>,
 }
 
-impl<K: LeaderKind<u64>> Server<K> {
-    /// Its vote.
-    pub fn vote(&self) -> Vote<K> {
-        *self.state.vote_ref()
+impl<L: Copy + Drop, C: Ord + Copy + Drop> Server<L, C> {
+    /// A server with this state and an empty disk, which knows of no members.
+    pub fn with_state(
+        alloc: Global,
+        id: u64,
+        fault: Option<Fault>,
+        nobody: &Members,
+        state: Result<State<L, C>, AllocError>,
+    ) -> Result<Self, AllocError> {
+        let known = both(new_followers(nobody, 0), Standing::new(nobody));
+        let (state, (followers, standing)) = both(state, known)?;
+        Ok(Server {
+            alloc,
+            id,
+            fault,
+            standing,
+            state,
+            disk: Vec::new(alloc),
+            followers,
+        })
     }
 
     /// Its last log id.
-    pub fn last(&self) -> Option<LogId<K>> {
+    pub fn last(&self) -> Option<LogIdOf<C>> {
         self.state.last_log_id().copied()
+    }
+
+    /// The index after its last log id.
+    pub fn end(&self) -> u64 {
+        end(self.last())
     }
 
     /// The place of an index on its disk.
@@ -45,23 +68,25 @@ impl<K: LeaderKind<u64>> Server<K> {
     }
 
     /// A message with its vote.
-    pub fn message(&self, content: Content<K>) -> Message<K> {
+    pub fn message(&self, content: Content<C>) -> Message<L, C> {
         Message {
-            vote: self.vote(),
+            vote: *self.state.vote_ref(),
             content,
         }
     }
 
     /// Writes a vote, also to disk.
-    pub fn save_vote(&mut self, vote: Vote<K>) {
+    pub fn save_vote(&mut self, vote: VoteIn<L>) {
         *self.state.vote.get_mut() = vote;
         self.state.io_state.update_vote(vote);
     }
+}
 
+impl<L: LeaderIdentity<Id = u64> + Drop> Server<L, L::Committed> {
     /// Takes over a vote that is greater than its own, and follows from then on. False if it is below
     /// the own one or does not compare with it.
-    pub fn learn(&mut self, vote: Vote<K>) -> bool {
-        let own = self.vote();
+    pub fn learn(&mut self, vote: VoteIn<L>) -> bool {
+        let own = *self.state.vote_ref();
         if vote > own {
             self.standing.role = Role::Follower;
             self.save_vote(vote);
@@ -70,13 +95,18 @@ impl<K: LeaderKind<u64>> Server<K> {
     }
 
     /// Learns the vote that an answer tells. True if it is the own one then, so that the answer counts.
-    pub fn takes_answer(&mut self, vote: Vote<K>) -> bool {
-        self.learn(vote) && vote == self.vote()
+    pub fn takes_answer(&mut self, vote: VoteIn<L>) -> bool {
+        self.learn(vote) && vote == *self.state.vote_ref()
     }
 
     /// Whether it votes for a candidate with this last log id: the candidate's log is not behind the
     /// own one.
-    pub fn votes(&mut self, now: u64, vote: Vote<K>, last: Option<LogId<K>>) -> bool {
+    pub fn votes(
+        &mut self,
+        now: u64,
+        vote: VoteIn<L>,
+        last: Option<LogIdOf<L::Committed>>,
+    ) -> bool {
         let is_careless = self.fault == Some(Fault::AnyCandidate);
         let may_be = is_careless || log_id_at_most(self.last(), last);
         may_be && self.promise(now, vote)
@@ -84,7 +114,7 @@ impl<K: LeaderKind<u64>> Server<K> {
 
     /// Promises a vote, unless it is below the own one or does not compare with it, and waits anew for
     /// its leader.
-    pub fn promise(&mut self, now: u64, vote: Vote<K>) -> bool {
+    pub fn promise(&mut self, now: u64, vote: VoteIn<L>) -> bool {
         let is_promised = self.learn(vote);
         if is_promised {
             self.state.vote.update(now, vote);
@@ -94,7 +124,7 @@ impl<K: LeaderKind<u64>> Server<K> {
     }
 
     /// Takes the answer of a voter with this last log id, which has voted for it or not.
-    pub fn take_vote(&mut self, from: u64, is_voted: bool, last: Option<LogId<K>>) {
+    pub fn take_vote(&mut self, from: u64, is_voted: bool, last: Option<LogIdOf<L::Committed>>) {
         if is_voted {
             self.count_vote(from);
         } else if log_id_below(self.last(), last) {
@@ -103,10 +133,18 @@ impl<K: LeaderKind<u64>> Server<K> {
     }
 
     /// Takes a follower's response, as the leader.
-    pub fn take_response(&mut self, from: u64, response: &Response<K>) {
+    pub fn take_response(&mut self, from: u64, response: &Response<L::Committed>) {
         if self.standing.role == Role::Leader {
             let _taken = self.followers.take_response(from, response);
             self.commit();
         }
     }
+}
+
+/// Followers of which nothing is known but that their logs end before an index.
+pub fn new_followers<C: Ord + Copy + Drop>(
+    members: &Members,
+    end: u64,
+) -> Result<Followers<C>, AllocError> {
+    Followers::new(members.try_clone()?, end)
 }

@@ -4,31 +4,48 @@
 use crate::events::Event;
 use crate::memory::{add_last, renew};
 use crate::server::Server;
-use crate::standing::Standing;
-use crate::types::{Disk, Entry, EntryIn, LogId, Snapshot, State, StateIn, end};
+use crate::types::{Disk, Entry, Snapshot, State, end};
 use raft_base::{
-    LeaderKind, LogIdOf, LogIdOptionExt, LogStateReader, log_id_at_most, log_id_below,
+    LeaderIdentity, LogIdOf, LogIdOptionExt, LogStateReader, log_id_at_most, log_id_below,
 };
-use raft_state::AcceptedOf;
+use raft_state::AcceptedIn;
+use std::fmt::{Debug, Display};
 use std::mem;
 
-impl<K: LeaderKind<u64>> Server<K> {
+impl<L: Copy + Drop, C: Ord + Copy + Drop> Server<L, C> {
+    /// Writes to disk those of these entries, the last ones of its log, that it does not have there,
+    /// once what is no longer in the log is removed.
+    pub fn flush(&mut self, entries: &[Entry<C>]) {
+        let before = self.disk.len();
+        cut(&mut self.disk, &self.state);
+        if self.disk.len() < before {
+            self.standing.note(Event::CutBack);
+        }
+        let lacking = self.place(self.end()).saturating_sub(self.disk.len());
+        let is_written = add_last(&mut self.disk, entries, lacking);
+        self.standing.check(is_written, "entries cannot be written");
+    }
+
     /// Purges its log as planned, also on disk. A message has its entries, so none that is on its way
     /// needs them here.
     pub fn purge(&mut self) {
         if let Some(upto) = self.state.purge_upto {
-            let is_purged = purge::<K>(&mut self.state, &upto);
+            let is_purged = self.state.can_purge_log(&upto) && self.state.purge_log(&upto).is_ok();
+            self.state.io_state.purged = Some(upto);
             self.standing.check(is_purged, "a log cannot be purged");
             cut(&mut self.disk, &self.state);
         }
     }
+}
 
+impl<L: LeaderIdentity<Id = u64> + Drop> Server<L, L::Committed> {
     /// Makes its state anew from what is on disk: the vote, the snapshot, the entries after it, and
     /// what is applied. What comes before is purged.
     pub fn reload(&mut self, now: u64) {
-        if let Ok(mut stored) = State::<K>::try_default(self.alloc) {
+        if let Ok(mut stored) = State::<L, L::Committed>::try_default(self.alloc) {
             mem::swap(&mut self.state, &mut stored);
-            let is_restored = restore::<K>(&mut self.state, now, &stored, &self.disk);
+            let is_restored = restore_snapshot(&mut self.state, &stored.snapshot_meta)
+                && restore(&mut self.state, now, &stored, &self.disk);
             drop(stored);
             self.standing
                 .check(is_restored, "a state cannot be restored");
@@ -37,65 +54,41 @@ impl<K: LeaderKind<u64>> Server<K> {
     }
 }
 
-/// Writes to a disk those of these entries, the last ones of a log, that it does not have, once what
-/// is no longer in the log is removed.
-pub fn flush<L: Drop, C: Ord + Copy + Drop>(
-    disk: &mut Disk<C>,
-    state: &StateIn<L, C>,
-    entries: &[EntryIn<C>],
-    standing: &mut Standing,
-) {
-    let before = disk.len();
-    cut(disk, state);
-    if disk.len() < before {
-        standing.note(Event::CutBack);
-    }
-    let length = end(state.last_log_id().copied()).saturating_sub(state.purged_next) as usize;
-    let is_written = add_last(disk, entries, length.saturating_sub(disk.len()));
-    standing.check(is_written, "entries cannot be written");
-}
-
-/// Makes a new state from what is stored.
-fn restore<K: LeaderKind<u64>>(
-    state: &mut State<K>,
-    now: u64,
-    stored: &State<K>,
-    disk: &[Entry<K>],
-) -> bool {
-    let is_restored = restore_snapshot::<K>(state, stored) && restore_log::<K>(state, stored, disk);
-    state.io_state = stored.io_state;
-    state.io_state.purged = stored.snapshot_meta.last_log_id;
-    state.vote.update(now, stored.io_state.vote);
-    is_restored
-}
-
 /// Takes over a stored snapshot. It is installed as a leader's, and then is none's: who leads now is
 /// not known yet.
-fn restore_snapshot<K: LeaderKind<u64>>(state: &mut State<K>, stored: &State<K>) -> bool {
-    if stored.snapshot_meta.last_log_id.is_none() {
+fn restore_snapshot<L: LeaderIdentity<Id = u64> + Drop>(
+    state: &mut State<L, L::Committed>,
+    snapshot: &Snapshot<L::Committed>,
+) -> bool {
+    if snapshot.last_log_id.is_none() {
         return true;
     }
     state.vote.get_mut().commit();
-    let is_installed = install::<K>(state, &stored.snapshot_meta);
-    state.accepted = AcceptedOf::<u64, K>::new(K::Leader::default(), None);
+    let is_installed = install(state, snapshot);
+    state.accepted = AcceptedIn::new(L::default(), None);
     is_installed
 }
 
-/// Takes over the entries that come after the snapshot, and commits what is applied, and what is
-/// known to be committed for its members: each are proposed once those before them are committed.
-fn restore_log<K: LeaderKind<u64>>(
-    state: &mut State<K>,
-    stored: &State<K>,
-    disk: &[Entry<K>],
+/// Takes over what is stored beside the snapshot: the entries that come after it, how far storage has
+/// got, and the vote. It commits what is applied, and what is known to be committed for its members:
+/// each are proposed once those before them are committed.
+fn restore<L: Copy + Drop, C: Ord + Copy + Debug + Display + Drop>(
+    state: &mut State<L, C>,
+    now: u64,
+    stored: &State<L, C>,
+    disk: &[Entry<C>],
 ) -> bool {
     let old = state.purged_next.saturating_sub(stored.purged_next) as usize;
-    let is_appended = append::<K>(state, disk.get(old..).unwrap_or(&[]));
+    let is_appended = append(state, disk.get(old..).unwrap_or(&[]));
     let known = *state.membership_state.committed().log_id();
-    is_appended && commit::<K>(state, known.max(stored.io_state.applied))
+    state.io_state = stored.io_state;
+    state.io_state.purged = stored.snapshot_meta.last_log_id;
+    state.vote.update(now, stored.io_state.vote);
+    is_appended && commit(state, known.max(stored.io_state.applied))
 }
 
 /// Whether a disk has what is in the log of a state.
-pub fn has_log<L: Drop, C: Ord + Copy + Drop>(disk: &[EntryIn<C>], state: &StateIn<L, C>) -> bool {
+pub fn has_log<L: Drop, C: Ord + Copy + Drop>(disk: &[Entry<C>], state: &State<L, C>) -> bool {
     let mut index = state.purged_next;
     for entry in disk {
         if state.get_log_id(index) != Some(entry.log_id) {
@@ -107,19 +100,19 @@ pub fn has_log<L: Drop, C: Ord + Copy + Drop>(disk: &[EntryIn<C>], state: &State
 }
 
 /// Whether a log has an entry, and has not purged it.
-fn has_entry<L: Drop, C: Ord + Copy + Drop>(state: &StateIn<L, C>, entry: &EntryIn<C>) -> bool {
+fn has_entry<L: Drop, C: Ord + Copy + Drop>(state: &State<L, C>, entry: &Entry<C>) -> bool {
     let index = entry.log_id.index;
     state.purged_next <= index && state.get_log_id(index) == Some(entry.log_id)
 }
 
 /// Removes from a disk what a log no longer has.
-pub fn cut<L: Drop, C: Ord + Copy + Drop>(disk: &mut Disk<C>, state: &StateIn<L, C>) {
+pub fn cut<L: Drop, C: Ord + Copy + Drop>(disk: &mut Disk<C>, state: &State<L, C>) {
     disk.retain(|entry| has_entry(state, entry));
 }
 
 /// Builds a snapshot of what is applied, if it has more than the one before, and the effective
 /// members; and plans to purge all but the last few entries of it.
-pub fn build_snapshot<L: Copy + Drop, C: Ord + Copy + Drop>(state: &mut StateIn<L, C>, keep: u64) {
+pub fn build_snapshot<L: Drop, C: Ord + Copy + Drop>(state: &mut State<L, C>, keep: u64) {
     let applied = state.io_state.applied;
     if log_id_below(state.io_state.snapshot, applied) && save_members(state, applied) {
         state.snapshot_meta.last_log_id = applied;
@@ -131,7 +124,7 @@ pub fn build_snapshot<L: Copy + Drop, C: Ord + Copy + Drop>(state: &mut StateIn<
 
 /// Writes the effective members into the snapshot, if they are applied, and there is memory.
 fn save_members<L: Drop, C: Ord + Copy + Drop>(
-    state: &mut StateIn<L, C>,
+    state: &mut State<L, C>,
     applied: Option<LogIdOf<C>>,
 ) -> bool {
     let members = state.membership_state.effective();
@@ -143,7 +136,10 @@ fn save_members<L: Drop, C: Ord + Copy + Drop>(
 }
 
 /// Installs a snapshot, which storage then has, and has applied, with the log purged up to it.
-pub fn install<K: LeaderKind<u64>>(state: &mut State<K>, snapshot: &Snapshot<K>) -> bool {
+pub fn install<L: LeaderIdentity<Id = u64> + Drop>(
+    state: &mut State<L, L::Committed>,
+    snapshot: &Snapshot<L::Committed>,
+) -> bool {
     let upto = snapshot.last_log_id;
     let is_installed = state.can_install_snapshot(snapshot)
         && match snapshot.try_clone() {
@@ -157,18 +153,17 @@ pub fn install<K: LeaderKind<u64>>(state: &mut State<K>, snapshot: &Snapshot<K>)
 }
 
 /// Appends entries to a log.
-pub fn append<K: LeaderKind<u64>>(state: &mut State<K>, entries: &[Entry<K>]) -> bool {
+pub fn append<L: Drop, C: Ord + Copy + Debug + Display + Drop>(
+    state: &mut State<L, C>,
+    entries: &[Entry<C>],
+) -> bool {
     state.can_append_entries(entries) && state.append_entries(entries).is_ok()
 }
 
-/// Purges a log up to a log id.
-fn purge<K: LeaderKind<u64>>(state: &mut State<K>, upto: &LogId<K>) -> bool {
-    let is_purged = state.can_purge_log(upto) && state.purge_log(upto).is_ok();
-    state.io_state.purged = Some(*upto);
-    is_purged
-}
-
 /// Commits up to a log id.
-pub fn commit<K: LeaderKind<u64>>(state: &mut State<K>, upto: Option<LogId<K>>) -> bool {
+pub fn commit<L: Drop, C: Ord + Copy + Drop>(
+    state: &mut State<L, C>,
+    upto: Option<LogIdOf<C>>,
+) -> bool {
     state.can_commit(&upto) && state.update_committed(&upto).is_ok()
 }
