@@ -1,7 +1,7 @@
-//! What a server does with a message, and unasked, as chance has it.
+//! What a server does unasked, as chance has it.
 
 use crate::dice::Dice;
-use crate::network::{Envelope, Network};
+use crate::network::Network;
 use crate::replica::Duties;
 use crate::standing::Role;
 use crate::types::{Change, Payload};
@@ -14,18 +14,6 @@ pub const SERVERS: u64 = 5;
 
 /// How many events a voter waits for a leader at least.
 const TIMEOUT: u64 = 40;
-
-/// A server takes a message, and may answer it.
-pub fn answer<S: Duties>(
-    server: &mut S,
-    now: u64,
-    envelope: &Envelope<S::Message>,
-    network: &mut Network<S::Message>,
-) {
-    if let Some(answer) = server.receive(now, envelope.from, &envelope.message) {
-        network.post(envelope.to, envelope.from, answer);
-    }
-}
 
 /// A server does what a number stands for: 86 and less are requests of a client and the passing of
 /// time.

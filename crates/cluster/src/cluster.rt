@@ -5,7 +5,7 @@ use crate::chart;
 use crate::dice::Dice;
 use crate::events::{Counts, Event, Notes};
 use crate::fault::Fault;
-use crate::memory::add;
+use crate::memory::add_new;
 use crate::network::Network;
 use crate::replica::{Duties, Replica, Seen};
 use crate::safety::{History, last_leader};
@@ -22,31 +22,27 @@ pub struct Cluster<S: Duties + Replica> {
     network: Network<S::Message>,
     dice: Dice,
     pub now: u64,
-    history: History<S::LogId>,
+    history: History,
     notes: Notes,
 }
 
 impl<S: Duties + Replica> Cluster<S> {
-    /// A cluster without servers.
-    pub fn new(alloc: Global, seed: u64, is_standard: bool) -> Self {
+    /// A cluster without servers, where so much has happened before.
+    pub fn new(alloc: Global, seed: u64, is_standard: bool, counts: Counts) -> Self {
         Cluster {
             servers: Vec::new(alloc),
             network: Network::new(alloc),
             dice: Dice::new(seed),
             now: 0,
             history: History::new(alloc, is_standard),
-            notes: Notes::new(alloc),
+            notes: Notes::new(alloc, counts),
         }
     }
 
     /// Starts the servers. The first of them begins a cluster of the first three.
     pub fn start(&mut self, alloc: Global, fault: Option<Fault>) -> Result<(), AllocError> {
-        let nobody = Members::try_default(alloc)?;
         for id in 1..=SERVERS {
-            let server = S::new(alloc, id, fault, &nobody)?;
-            if !add(&mut self.servers, server) {
-                return Err(AllocError);
-            }
+            add_new(&mut self.servers, S::new(alloc, id, fault))?;
         }
         let members = first_members(alloc)?;
         if let Some(first) = self.servers.first_mut() {
@@ -82,13 +78,19 @@ impl<S: Duties + Replica> Cluster<S> {
 
     /// A server takes a message, if one gets through.
     fn deliver(&mut self) -> Result<()> {
-        let Some(envelope) = self.network.deliver(&mut self.dice) else {
+        let Some(envelope) = self.network.take(&mut self.dice) else {
             return Ok(());
         };
-        let place = envelope.to.saturating_sub(1) as usize;
-        if let Some(server) = self.servers.get_mut(place) {
-            acts::answer(server, self.now, &envelope, &mut self.network);
-        }
+        let (from, to) = (envelope.from, envelope.to);
+        let place = to.saturating_sub(1) as usize;
+        let comes_again = self.network.repeats(&mut self.dice);
+        let answer = match self.servers.get_mut(place) {
+            Some(server) if self.network.lets_through(from, to, &mut self.dice) => {
+                server.receive(self.now, from, &envelope.message)
+            }
+            _ => None,
+        };
+        self.network.pass(envelope, comes_again, answer);
         self.look_after(place)
     }
 
@@ -104,20 +106,14 @@ impl<S: Duties + Replica> Cluster<S> {
     /// Looks whether all is well after something at a server, and notes it.
     fn look_after(&mut self, place: usize) -> Result<()> {
         if let Some(server) = self.servers.get_mut(place) {
-            let id = server.seen().id;
-            match server.take_event() {
-                Ok(Some(event)) => self.notes.note(Some(id), event),
-                Ok(None) => {}
-                Err(failure) => bail!("server {id}: {failure}"),
+            if let Some(event) = server.take_event()? {
+                self.notes.note(Some(server.seen().id), event);
             }
         }
         if let Some(server) = self.servers.get(place) {
             self.history.look_after(&self.servers, server);
         }
-        match self.history.flaw {
-            Some(flaw) => bail!("{flaw}"),
-            None => Ok(()),
-        }
+        self.history.ensure_safe()
     }
 
     /// The network is mended, and after some time a leader and all its members have committed the
@@ -157,9 +153,11 @@ fn is_settled<S: Seen>(servers: &[S]) -> bool {
         return false;
     };
     let (members, end) = (leader.members(), leader.seen().end);
-    let is_even = servers.iter().all(|server| {
+    for server in servers {
         let seen = server.seen();
-        !members.contains(&seen.id) || (seen.end == end && seen.committed == end)
-    });
-    is_even && !members.is_in_joint_consensus()
+        if members.contains(&seen.id) && (seen.end != end || seen.committed != end) {
+            return false;
+        }
+    }
+    !members.is_in_joint_consensus()
 }

@@ -10,7 +10,9 @@ use crate::standing::Role;
 use crate::storage;
 use crate::types::{Change, Members, Payload, State, end};
 use anyhow::Result;
-use raft_base::{LeaderIdentity, LogIdRangeOf, LogStateReader, VoteIn, log_id_below};
+use raft_base::{
+    LeaderIdentity, LogIdRangeOf, LogStateReader, VoteIn, log_id_at_most, log_id_below,
+};
 use raft_progress::InflightOf;
 use raft_state_tests::turn::Response;
 use std::alloc::{AllocError, Global};
@@ -22,9 +24,8 @@ impl<L: LeaderIdentity<Id = u64> + Drop> Duties for Server<L, L::Committed> {
         alloc: Global,
         id: u64,
         fault: Option<Fault>,
-        nobody: &Members,
     ) -> Result<Self, AllocError> {
-        Server::with_state(alloc, id, fault, nobody, State::try_default(alloc))
+        Server::with_state(alloc, id, fault, State::try_default(alloc))
     }
 
     fn receive(
@@ -35,7 +36,12 @@ impl<L: LeaderIdentity<Id = u64> + Drop> Duties for Server<L, L::Committed> {
     ) -> Option<Message<L, L::Committed>> {
         let vote = message.vote;
         let content = match &message.content {
-            Content::AskVote(last) => Content::Voted(self.votes(now, vote, *last), self.last()),
+            Content::AskVote(last) => {
+                // The candidate's log may not be behind the own one.
+                let may_be = self.fault == Some(Fault::AnyCandidate)
+                    || log_id_at_most(self.last(), *last);
+                Content::Voted(may_be && self.promise(now, vote), self.last())
+            }
             Content::Append(request, logs) => Content::Responded(Response {
                 request: *request,
                 outcome: self.append(now, vote, logs),
@@ -45,13 +51,17 @@ impl<L: LeaderIdentity<Id = u64> + Drop> Duties for Server<L, L::Committed> {
                 outcome: self.install(now, vote, snapshot),
             }),
             Content::Voted(is_voted, last) => {
-                let is_voted = self.takes_answer(vote) && *is_voted;
-                self.take_vote(from, is_voted, *last);
+                if self.learn(vote) && *is_voted {
+                    self.count_vote(from);
+                } else if log_id_below(self.last(), *last) {
+                    self.standing.is_behind = true;
+                }
                 return None;
             }
             Content::Responded(response) => {
-                if self.takes_answer(vote) {
-                    self.take_response(from, response);
+                if self.learn(vote) && self.standing.role == Role::Leader {
+                    let _taken = self.followers.take_response(from, response);
+                    self.commit();
                 }
                 return None;
             }
@@ -60,7 +70,7 @@ impl<L: LeaderIdentity<Id = u64> + Drop> Duties for Server<L, L::Committed> {
     }
 
     fn take_event(&mut self) -> Result<Option<Event>> {
-        self.standing.take_event()
+        self.standing.take_event(self.id)
     }
 
     fn apply(&mut self, most: u64) {

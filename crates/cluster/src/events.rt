@@ -74,24 +74,17 @@ impl Counts {
         let count = &mut self.counts[event as usize];
         *count = count.saturating_add(more);
     }
-
-    /// All happens that another one has counted.
-    pub fn add_all(&mut self, other: &Counts) {
-        for (count, more) in self.counts.iter_mut().zip(&other.counts) {
-            *count = count.saturating_add(*more);
-        }
-    }
 }
 
 impl fmt::Display for Counts {
     fn fmt<W: fmt::Write>(&self, f: &mut fmt::Formatter<W>) -> fmt::Result {
         for (place, (count, word)) in self.counts.iter().zip(&WORDS).enumerate() {
-            f.write_str(match place {
+            let sign = match place {
                 0 => "",
                 6 => ",\n",
                 _ => ", ",
-            })?;
-            write!(f, "{count} {word}")?;
+            };
+            write!(f, "{sign}{count} {word}")?;
         }
         Ok(())
     }
@@ -105,11 +98,11 @@ pub struct Notes {
 }
 
 impl Notes {
-    /// Nothing has happened.
-    pub fn new(alloc: Global) -> Self {
+    /// Nothing is noted, and so much has happened before.
+    pub fn new(alloc: Global, counts: Counts) -> Self {
         Notes {
             text: String::new(alloc),
-            counts: Counts::new(),
+            counts,
         }
     }
 

@@ -2,11 +2,10 @@
 
 use crate::events::Event;
 use crate::fault::Fault;
-use crate::replica::Replica;
 use crate::server::Server;
 use crate::storage;
 use crate::types::Snapshot;
-use raft_base::{LeaderIdentity, VoteIn, log_id_below};
+use raft_base::{LeaderIdentity, LogStateReader, VoteIn, log_id_below};
 use raft_state_tests::turn::{Logs, Outcome, take_logs};
 
 impl<L: LeaderIdentity<Id = u64> + Drop> Server<L, L::Committed> {
@@ -60,7 +59,10 @@ impl<L: Copy + Drop, C: Ord + Copy + Drop> Server<L, C> {
     fn skips_writing(&self, now: u64, logs: &Logs<C>) -> bool {
         match (self.fault, logs.last()) {
             (Some(Fault::NoWrite), _) => now % 8 == 0,
-            (Some(Fault::NoCut), Some(last)) => last.index < self.end() && !self.has(last),
+            (Some(Fault::NoCut), Some(last)) => {
+                let own = self.state.get_log_id(last.index);
+                own.is_some() && own != Some(last)
+            }
             _ => false,
         }
     }

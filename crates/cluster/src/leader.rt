@@ -4,6 +4,7 @@ use crate::fault::Fault;
 use crate::memory::{add, copy_of, last_few, renew};
 use crate::message::{Content, Message};
 use crate::replica::Duties;
+use crate::replica::Seen;
 use crate::server::{Server, new_followers};
 use crate::storage;
 use crate::types::{Change, Entry, Members, Payload, end};
@@ -23,8 +24,7 @@ impl<L: LeaderIdentity<Id = u64> + Drop> Server<L, L::Committed> {
 
     /// Leads, and begins with a blank entry, if there is memory to know its followers by.
     pub fn lead(&mut self) {
-        let members = self.state.membership_state.effective().membership();
-        let followers = new_followers(members, self.end());
+        let followers = new_followers(self.members().try_clone(), self.end());
         if renew(&mut self.followers, followers) {
             let mut vote = *self.state.vote_ref();
             vote.commit();
@@ -36,11 +36,11 @@ impl<L: LeaderIdentity<Id = u64> + Drop> Server<L, L::Committed> {
 
     /// Commits what a quorum has.
     pub fn commit(&mut self) {
-        let mut is_committed = self.followers.commit(&mut self.state).is_ok();
-        if self.fault == Some(Fault::CountAlone) {
-            let granted = self.followers.granted();
-            is_committed = is_committed && storage::commit(&mut self.state, granted);
-        }
+        let is_committed = if self.fault == Some(Fault::CountAlone) {
+            storage::commit(&mut self.state, self.followers.granted())
+        } else {
+            self.followers.commit(&mut self.state).is_ok()
+        };
         self.standing.check(is_committed, "members are not in turn");
     }
 }

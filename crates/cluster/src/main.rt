@@ -39,6 +39,7 @@ use replica::{Duties, Replica};
 use server::Server;
 use std::alloc::AllocError;
 use std::env;
+use types::Numbered;
 
 /// How many events a cluster has to settle in, once its network is mended.
 const SETTLE: u64 = 4000;
@@ -59,11 +60,11 @@ struct Plan {
 
 impl Plan {
     /// A plan of a program's words.
-    fn of(words: &[String]) -> Result<Plan> {
+    fn of(words: Vec<String>) -> Result<Plan> {
         let mut numbers = [1, 1, 1000, 20];
         let mut places = numbers.iter_mut();
         let (mut is_standard, mut fault) = (false, None);
-        for word in words {
+        for word in &words {
             if let Ok(number) = word.parse::<u64>() {
                 if let Some(place) = places.next() {
                     *place = number;
@@ -94,7 +95,10 @@ impl Plan {
 fn run_all<L: LeaderIdentity<Id = u64> + Drop>(
     text: &mut String,
     plan: &Plan,
-) -> Result<Counts, AllocError> {
+) -> Result<Counts, AllocError>
+where
+    L::Committed: Numbered,
+{
     let mut total = Counts::new();
     for seed in plan.first..plan.first.saturating_add(plan.count) {
         run::<Server<L, L::Committed>>(text, plan, seed, &mut total)?;
@@ -109,9 +113,9 @@ fn run<S: Duties + Replica>(
     seed: u64,
     total: &mut Counts,
 ) -> Result<(), AllocError> {
-    let mut cluster = Cluster::<S>::new(*text.allocator(), seed, plan.is_standard);
+    let mut cluster = Cluster::<S>::new(*text.allocator(), seed, plan.is_standard, *total);
     let outcome = play::<S>(text, plan, &mut cluster);
-    total.add_all(&cluster.counts());
+    *total = cluster.counts();
     tell(text, seed, cluster.now, outcome)
 }
 
@@ -141,16 +145,17 @@ fn tell(text: &mut String, seed: u64, now: u64, outcome: Result<()>) -> Result<(
 
 fn main(rt: HostRuntime) -> Result<()> {
     let words: Vec<String> = env::args(&rt)?.skip(1).collect(rt.alloc())?;
-    let plan = Plan::of(&words)?;
+    let plan = Plan::of(words)?;
     let mut text = String::new(rt.alloc());
     if plan.every > 0 {
         text.push_str(chart::LEGEND)?;
     }
-    let total = if plan.is_standard {
-        run_all::<LeaderOf<LeaderStd>>(&mut text, &plan)?
+    let outcome = if plan.is_standard {
+        run_all::<LeaderOf<LeaderStd>>(&mut text, &plan)
     } else {
-        run_all::<LeaderOf<LeaderAdv>>(&mut text, &plan)?
+        run_all::<LeaderOf<LeaderAdv>>(&mut text, &plan)
     };
+    let total = outcome?;
     println!(rt; "{text}{total}")?;
     ensure!(
         total.of(Event::Settled) == plan.count,

@@ -2,8 +2,8 @@
 
 use crate::dice::Dice;
 use crate::events::Event;
+use crate::memory::add;
 use std::alloc::Global;
-use std::rc::Rc;
 
 /// None of the servers is cut off.
 const WHOLE: [bool; 5] = [false; 5];
@@ -19,7 +19,7 @@ pub struct Envelope<M> {
 /// The messages on their way, and the servers that are cut off.
 #[derive(Drop)]
 pub struct Network<M> {
-    mail: Vec<Rc<Envelope<M>>>,
+    mail: Vec<Envelope<M>>,
     /// Whether messages get lost or come twice.
     pub is_rough: bool,
     /// Whether each server is cut off.
@@ -60,37 +60,44 @@ impl<M: Drop> Network<M> {
         self.is_rough = false;
     }
 
-    /// Sends a message. One for which there is no memory is lost.
-    pub fn post(&mut self, from: u64, to: u64, message: M) {
-        if let Ok(envelope) = Rc::new(self.alloc(), Envelope { from, to, message }) {
-            let _lost = self.mail.push(envelope);
-        }
-    }
-
     /// Where its memory comes from.
     pub fn alloc(&self) -> Global {
         *self.mail.allocator()
     }
 
-    /// One of the messages that are on their way comes in, if it gets through.
-    pub fn deliver(&mut self, dice: &mut Dice) -> Option<Rc<Envelope<M>>> {
+    /// Sends a message. One for which there is no memory is lost.
+    pub fn post(&mut self, from: u64, to: u64, message: M) {
+        let _is_sent = add(&mut self.mail, Envelope { from, to, message });
+    }
+
+    /// One of the messages that are on their way.
+    pub fn take(&mut self, dice: &mut Dice) -> Option<Envelope<M>> {
         let place = dice.below(self.mail.len() as u64) as usize;
         if place >= self.mail.len() {
             return None;
         }
-        let envelope = self.mail.swap_remove(place);
-        if self.is_rough && dice.chance(8) {
-            self.post_again(&envelope);
-        }
-        let is_apart = self.is_cut_off(envelope.from) != self.is_cut_off(envelope.to);
-        let is_lost = is_apart || (self.is_rough && dice.chance(8));
-        (!is_lost).then_some(envelope)
+        Some(self.mail.swap_remove(place))
     }
 
-    /// Sends a message that is coming in once more.
-    fn post_again(&mut self, envelope: &Rc<Envelope<M>>) {
-        if let Ok(second) = envelope.clone() {
-            let _lost = self.mail.push(second);
+    /// Whether a message is to come in once more.
+    pub fn repeats(&self, dice: &mut Dice) -> bool {
+        self.is_rough && dice.chance(8)
+    }
+
+    /// Whether a message gets through.
+    pub fn lets_through(&self, from: u64, to: u64, dice: &mut Dice) -> bool {
+        self.is_cut_off(from) == self.is_cut_off(to) && !(self.is_rough && dice.chance(8))
+    }
+
+    /// A message has passed. It is on its way again if it is to come in once more, and what answers it
+    /// is sent.
+    pub fn pass(&mut self, envelope: Envelope<M>, comes_again: bool, answer: Option<M>) {
+        let (from, to) = (envelope.from, envelope.to);
+        if comes_again {
+            let _is_sent = add(&mut self.mail, envelope);
+        }
+        if let Some(answer) = answer {
+            self.post(to, from, answer);
         }
     }
 }

@@ -4,7 +4,7 @@
 use crate::events::Event;
 use crate::fault::Fault;
 use crate::standing::Role;
-use crate::types::{Change, Members, Payload};
+use crate::types::{Change, Leader, Members, Payload};
 use anyhow::Result;
 use std::alloc::{AllocError, Global};
 
@@ -16,8 +16,8 @@ pub struct Glance {
     pub id: u64,
     /// What it is doing.
     pub role: Role,
-    /// The term of its vote, and the server that its vote is for.
-    pub vote: (u64, u64),
+    /// The leader that its vote is for.
+    pub vote: Leader,
     /// The end of what it has purged.
     pub purged: u64,
     /// The end of what it knows to be committed.
@@ -39,20 +39,17 @@ pub trait Seen {
 
 /// What a server's log is compared by with those of others.
 pub trait Replica {
-    /// What tells an entry from others at its index.
-    type LogId: Eq + Copy;
-
-    /// The log id at an index, if it is in the log.
-    fn log_id(&self, index: u64) -> Option<Self::LogId>;
+    /// The leader of the entry at an index, if that is in the log.
+    fn leader_at(&self, index: u64) -> Option<Leader>;
 
     /// Whether its entry at an index is that of another server.
     fn shares_entry(&self, other: &Self, index: u64) -> bool;
 
-    /// Whether a log id is in the log, or its index is purged.
-    fn has(&self, log_id: Self::LogId) -> bool;
+    /// Whether a leader's entry at an index is in the log, or the index is purged.
+    fn has(&self, index: u64, leader: Leader) -> bool;
 
-    /// The last log id that another server is known to have, where it leads that one.
-    fn matching(&self, id: u64) -> Option<Self::LogId>;
+    /// The last entry that another server is known to have, where it leads that one.
+    fn matching(&self, id: u64) -> Option<(u64, Leader)>;
 
     /// What is wrong with it by itself, if anything is, before its id.
     fn flaw(&self) -> Option<&'static str>;
@@ -69,7 +66,6 @@ pub trait Duties: Seen + Drop {
         alloc: Global,
         id: u64,
         fault: Option<Fault>,
-        nobody: &Members,
     ) -> Result<Self, AllocError>;
 
     /// Takes a message. Some are answered.

@@ -4,38 +4,34 @@
 
 use crate::replica::{Glance, Replica, Seen};
 use crate::standing::Role;
+use crate::types::Leader;
+use anyhow::{Result, bail};
 use std::alloc::Global;
 use std::collections::BTreeMap;
-use std::fmt;
 
 /// What is wrong, and with which server, in which term or at which index.
 #[derive(Clone, Copy)]
-pub struct Flaw {
+struct Flaw {
     what: &'static str,
     at: u64,
 }
 
-impl fmt::Display for Flaw {
-    fn fmt<W: fmt::Write>(&self, f: &mut fmt::Formatter<W>) -> fmt::Result {
-        write!(f, "{} {}", self.what, self.at)
-    }
-}
-
 /// Who was elected, what was committed, and what is wrong.
 #[derive(Drop)]
-pub struct History<I> {
+pub struct History {
     /// Whether a term has one leader. The default leader ids have the node in them, so two may be of
     /// one term.
     is_standard: bool,
     /// The server that leads in each term, if a term has one leader.
     leaders: BTreeMap<u64, u64>,
-    /// The log id at each index, and the vote under which it was first known to be committed.
-    committed: Vec<(I, (u64, u64))>,
+    /// The leader of each entry, and the one whose vote the first server had that knew it to be
+    /// committed.
+    committed: Vec<(Leader, Leader)>,
     /// The first that was found to be wrong.
-    pub flaw: Option<Flaw>,
+    flaw: Option<Flaw>,
 }
 
-impl<I: Eq + Copy> History<I> {
+impl History {
     /// Nothing has happened.
     pub fn new(alloc: Global, is_standard: bool) -> Self {
         History {
@@ -47,7 +43,7 @@ impl<I: Eq + Copy> History<I> {
     }
 
     /// Looks whether all is well after something at a server.
-    pub fn look_after<S: Seen + Replica<LogId = I>>(&mut self, servers: &[S], server: &S) {
+    pub fn look_after<S: Seen + Replica>(&mut self, servers: &[S], server: &S) {
         if let Some(flaw) = server.flaw() {
             self.note(flaw, server.seen().id);
         }
@@ -58,6 +54,14 @@ impl<I: Eq + Copy> History<I> {
         }
         self.commit(server);
         self.check_leaders(servers);
+    }
+
+    /// Nothing was found to be wrong.
+    pub fn ensure_safe(&self) -> Result<()> {
+        match self.flaw {
+            Some(Flaw { what, at }) => bail!("{what} {at}"),
+            None => Ok(()),
+        }
     }
 
     /// How many entries were committed.
@@ -71,11 +75,11 @@ impl<I: Eq + Copy> History<I> {
     }
 
     /// Two servers have to have the same entries up to the last log id that both have.
-    fn check_match<S: Seen + Replica<LogId = I>>(&mut self, one: &S, other: &S) {
+    fn check_match<S: Seen + Replica>(&mut self, one: &S, other: &S) {
         let mut is_shared = false;
         let (here, there) = (one.seen(), other.seen());
         for index in (here.purged.max(there.purged)..here.end.min(there.end)).rev() {
-            if one.log_id(index) == other.log_id(index) {
+            if one.leader_at(index) == other.leader_at(index) {
                 is_shared = true;
                 if !one.shares_entry(other, index) {
                     self.note("two entries at", index);
@@ -87,11 +91,11 @@ impl<I: Eq + Copy> History<I> {
     }
 
     /// Another server of a leader's vote has to have what the leader knows to match.
-    fn check_known<S: Seen + Replica<LogId = I>>(&mut self, leader: &S, other: &S) {
+    fn check_known<S: Seen + Replica>(&mut self, leader: &S, other: &S) {
         let (seen, there) = (leader.seen(), other.seen());
         if seen.role == Role::Leader && seen.vote == there.vote {
-            if let Some(matching) = leader.matching(there.id) {
-                if !other.has(matching) {
+            if let Some((index, by)) = leader.matching(there.id) {
+                if !other.has(index, by) {
                     self.note(
                         "what a leader knows to match is not in the log of",
                         there.id,
@@ -102,16 +106,16 @@ impl<I: Eq + Copy> History<I> {
     }
 
     /// What a server knows to be committed has to be in its log, and what others know.
-    fn commit<S: Seen + Replica<LogId = I>>(&mut self, server: &S) {
+    fn commit<S: Seen + Replica>(&mut self, server: &S) {
         let seen = server.seen();
         for index in seen.purged.saturating_sub(1)..seen.committed {
-            match (server.log_id(index), self.committed.get(index as usize)) {
-                (Some(log_id), None) => {
-                    if self.committed.push((log_id, seen.vote)).is_err() {
+            match (server.leader_at(index), self.committed.get(index as usize)) {
+                (Some(leader), None) => {
+                    if self.committed.push((leader, seen.vote)).is_err() {
                         self.note("no memory to note what is committed at", index);
                     }
                 }
-                (Some(log_id), Some(known)) if known.0 == log_id => {}
+                (Some(leader), Some(known)) if known.0 == leader => {}
                 _ => self.note("another entry was committed at", index),
             }
         }
@@ -119,7 +123,7 @@ impl<I: Eq + Copy> History<I> {
 
     /// Each server that leads has to be the only leader of its id, and to have in its log all that
     /// was committed under lesser ones.
-    fn check_leaders<S: Seen + Replica<LogId = I>>(&mut self, servers: &[S]) {
+    fn check_leaders<S: Seen + Replica>(&mut self, servers: &[S]) {
         for server in servers {
             let seen = server.seen();
             if seen.role == Role::Leader {
@@ -146,11 +150,13 @@ impl<I: Eq + Copy> History<I> {
     }
 
     /// Whether the leader of a vote has what was committed under lesser ones.
-    fn is_complete<S: Replica<LogId = I>>(&self, leader: &S, vote: (u64, u64)) -> bool {
-        for (log_id, by) in &self.committed {
-            if *by < vote && !leader.has(*log_id) {
+    fn is_complete<S: Replica>(&self, leader: &S, vote: Leader) -> bool {
+        let mut index = 0;
+        for (of, by) in &self.committed {
+            if *by < vote && !leader.has(index, *of) {
                 return false;
             }
+            index = index.saturating_add(1);
         }
         true
     }

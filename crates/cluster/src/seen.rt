@@ -3,8 +3,8 @@
 use crate::replica::{Glance, Replica, Seen};
 use crate::server::Server;
 use crate::storage::has_log;
-use crate::types::{Members, end};
-use raft_base::{LeaderIdentity, LogIdOf, LogIdOptionExt, LogStateReader, Validate};
+use crate::types::{Leader, Members, Numbered, end};
+use raft_base::{LeaderIdentity, LogIdOptionExt, LogStateReader, Validate};
 
 impl<L: LeaderIdentity<Id = u64> + Drop> Seen for Server<L, L::Committed> {
     fn seen(&self) -> Glance {
@@ -25,23 +25,23 @@ impl<L: LeaderIdentity<Id = u64> + Drop> Seen for Server<L, L::Committed> {
     }
 }
 
-impl<L: Copy + Drop, C: Ord + Copy + Drop> Replica for Server<L, C> {
-    type LogId = LogIdOf<C>;
-
-    fn log_id(&self, index: u64) -> Option<LogIdOf<C>> {
-        self.state.get_log_id(index)
+impl<L: Copy + Drop, C: Ord + Copy + Drop + Numbered> Replica for Server<L, C> {
+    fn leader_at(&self, index: u64) -> Option<Leader> {
+        let log_id = self.state.get_log_id(index)?;
+        Some(log_id.leader_id.numbers())
     }
 
     fn shares_entry(&self, other: &Self, index: u64) -> bool {
         self.disk.get(self.place(index)) == other.disk.get(other.place(index))
     }
 
-    fn has(&self, log_id: LogIdOf<C>) -> bool {
-        log_id.index < self.state.purged_next || self.state.get_log_id(log_id.index) == Some(log_id)
+    fn has(&self, index: u64, leader: Leader) -> bool {
+        index < self.state.purged_next || self.leader_at(index) == Some(leader)
     }
 
-    fn matching(&self, id: u64) -> Option<LogIdOf<C>> {
-        self.followers.get(id)?.matching
+    fn matching(&self, id: u64) -> Option<(u64, Leader)> {
+        let log_id = self.followers.get(id)?.matching?;
+        Some((log_id.index, log_id.leader_id.numbers()))
     }
 
     fn flaw(&self) -> Option<&'static str> {

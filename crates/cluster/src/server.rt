@@ -8,10 +8,11 @@ use crate::memory::both;
 use crate::message::{Content, Message};
 use crate::standing::{Role, Standing};
 use crate::types::{Disk, Members, State, end};
-use raft_base::{LeaderIdentity, LogIdOf, LogStateReader, VoteIn, log_id_at_most, log_id_below};
+use raft_base::{LeaderIdentity, LogIdOf, LogStateReader, VoteIn};
 use raft_progress::{ProgressEntryOf, ProgressPart};
-use raft_state_tests::turn::{Followers, Response};
+use raft_state_tests::turn::Followers;
 use std::alloc::{AllocError, Global};
+use std::cmp::Ordering;
 
 /// A server.
 #[derive(Drop)]
@@ -36,10 +37,10 @@ impl<L: Copy + Drop, C: Ord + Copy + Drop> Server<L, C> {
         alloc: Global,
         id: u64,
         fault: Option<Fault>,
-        nobody: &Members,
         state: Result<State<L, C>, AllocError>,
     ) -> Result<Self, AllocError> {
-        let known = both(new_followers(nobody, 0), Standing::new(nobody));
+        let followers = new_followers(Members::try_default(alloc), 0);
+        let known = both(followers, Standing::new(alloc));
         let (state, (followers, standing)) = both(state, known)?;
         Ok(Server {
             alloc,
@@ -83,33 +84,17 @@ impl<L: Copy + Drop, C: Ord + Copy + Drop> Server<L, C> {
 }
 
 impl<L: LeaderIdentity<Id = u64> + Drop> Server<L, L::Committed> {
-    /// Takes over a vote that is greater than its own, and follows from then on. False if it is below
-    /// the own one or does not compare with it.
+    /// Takes over a vote that is greater than its own, and follows from then on. True if the vote is
+    /// the own one then: it was not below that, and does compare with it.
     pub fn learn(&mut self, vote: VoteIn<L>) -> bool {
-        let own = *self.state.vote_ref();
-        if vote > own {
-            self.standing.role = Role::Follower;
-            self.save_vote(vote);
+        match vote.partial_cmp(self.state.vote_ref()) {
+            Some(Ordering::Greater) => {
+                self.standing.role = Role::Follower;
+                self.save_vote(vote);
+                true
+            }
+            order => order == Some(Ordering::Equal),
         }
-        vote >= own
-    }
-
-    /// Learns the vote that an answer tells. True if it is the own one then, so that the answer counts.
-    pub fn takes_answer(&mut self, vote: VoteIn<L>) -> bool {
-        self.learn(vote) && vote == *self.state.vote_ref()
-    }
-
-    /// Whether it votes for a candidate with this last log id: the candidate's log is not behind the
-    /// own one.
-    pub fn votes(
-        &mut self,
-        now: u64,
-        vote: VoteIn<L>,
-        last: Option<LogIdOf<L::Committed>>,
-    ) -> bool {
-        let is_careless = self.fault == Some(Fault::AnyCandidate);
-        let may_be = is_careless || log_id_at_most(self.last(), last);
-        may_be && self.promise(now, vote)
     }
 
     /// Promises a vote, unless it is below the own one or does not compare with it, and waits anew for
@@ -122,29 +107,12 @@ impl<L: LeaderIdentity<Id = u64> + Drop> Server<L, L::Committed> {
         }
         is_promised
     }
-
-    /// Takes the answer of a voter with this last log id, which has voted for it or not.
-    pub fn take_vote(&mut self, from: u64, is_voted: bool, last: Option<LogIdOf<L::Committed>>) {
-        if is_voted {
-            self.count_vote(from);
-        } else if log_id_below(self.last(), last) {
-            self.standing.is_behind = true;
-        }
-    }
-
-    /// Takes a follower's response, as the leader.
-    pub fn take_response(&mut self, from: u64, response: &Response<L::Committed>) {
-        if self.standing.role == Role::Leader {
-            let _taken = self.followers.take_response(from, response);
-            self.commit();
-        }
-    }
 }
 
 /// Followers of which nothing is known but that their logs end before an index.
 pub fn new_followers<C: Ord + Copy + Drop>(
-    members: &Members,
+    members: Result<Members, AllocError>,
     end: u64,
 ) -> Result<Followers<C>, AllocError> {
-    Followers::new(members.try_clone()?, end)
+    Followers::new(members?, end)
 }

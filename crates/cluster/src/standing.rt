@@ -1,11 +1,12 @@
 //! What a server is to its cluster, apart from its log.
 
 use crate::events::Event;
+use crate::memory::renew;
 use crate::types::Members;
-use anyhow::{Error, Result};
+use anyhow::{Error, Result, bail};
 use raft_base::EmptyNode;
 use raft_progress::{Progress, Tracked};
-use std::alloc::AllocError;
+use std::alloc::{AllocError, Global};
 
 /// What a server is doing.
 #[derive(Clone, Copy, PartialEq, Eq)]
@@ -35,10 +36,10 @@ pub struct Standing {
 
 impl Standing {
     /// That of a new server, which knows of no members.
-    pub fn new(nobody: &Members) -> Result<Standing, AllocError> {
+    pub fn new(alloc: Global) -> Result<Standing, AllocError> {
         Ok(Standing {
             role: Role::Follower,
-            ballot: ballot(nobody)?,
+            ballot: blank(Members::try_default(alloc))?,
             is_behind: false,
             event: None,
             failure: None,
@@ -53,8 +54,7 @@ impl Standing {
 
     /// It asks these members for their votes, if there is memory to count them.
     pub fn ask(&mut self, members: &Members) {
-        if let Ok(ballot) = ballot(members) {
-            self.ballot = ballot;
+        if renew(&mut self.ballot, blank(members.try_clone())) {
             self.role = Role::Candidate;
         }
     }
@@ -101,16 +101,16 @@ impl Standing {
         }
     }
 
-    /// What has become of it since it was last asked, or what has failed.
-    pub fn take_event(&mut self) -> Result<Option<Event>> {
+    /// What has become of a server since this was last asked, or what has failed.
+    pub fn take_event(&mut self, id: u64) -> Result<Option<Event>> {
         match self.failure.take() {
-            Some(failure) => Err(failure),
+            Some(failure) => bail!("server {id}: {failure}"),
             None => Ok(self.event.take()),
         }
     }
 }
 
-/// A ballot on which nobody has voted.
-fn ballot(members: &Members) -> Result<Ballot, AllocError> {
-    Ballot::new(members.try_clone()?, false)
+/// A ballot on which none of these members has voted.
+fn blank(members: Result<Members, AllocError>) -> Result<Ballot, AllocError> {
+    Ballot::new(members?, false)
 }

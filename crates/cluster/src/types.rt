@@ -1,7 +1,7 @@
 //! The types of the layer as this cluster has them, beside those of the turns. `L` is a leader of
 //! votes, and `C` what is kept of one that a quorum has elected.
 
-use raft_base::{EmptyNode, LogIdOf, LogIdOptionExt};
+use raft_base::{CommittedLeaderId, EmptyNode, LogIdOf, LogIdOptionExt, leader_id_std};
 use raft_members::ChangeMembers;
 use raft_state::{EntryPayload, SnapshotMetaOf};
 pub use raft_state_tests::turn::{Entry, Members, State};
@@ -17,6 +17,27 @@ pub type Disk<C> = Vec<Entry<C>>;
 
 /// What is known of a snapshot.
 pub type Snapshot<C> = SnapshotMetaOf<C, u64, EmptyNode>;
+
+/// A leader, in numbers: its term and its server.
+pub type Leader = (u64, u64);
+
+/// What is kept of leaders, in numbers.
+pub trait Numbered {
+    /// The leader's term and server. Where a term has no more than one leader, its server is 0.
+    fn numbers(&self) -> Leader;
+}
+
+impl Numbered for CommittedLeaderId<u64> {
+    fn numbers(&self) -> Leader {
+        (self.term, self.node_id)
+    }
+}
+
+impl Numbered for leader_id_std::CommittedLeaderId {
+    fn numbers(&self) -> Leader {
+        (self.term, 0)
+    }
+}
 
 /// The index after a log id: 0 after none, and the greatest one where there is none after it.
 pub fn end<C: Copy>(last: Option<LogIdOf<C>>) -> u64 {
