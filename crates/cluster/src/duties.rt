@@ -3,10 +3,11 @@
 use crate::events::Event;
 use crate::fault::Fault;
 use crate::leader::{last_of_joint, next_members};
+use crate::memory::both;
 use crate::message::{Content, Message};
 use crate::replica::{Duties, Seen};
-use crate::server::Server;
-use crate::standing::Role;
+use crate::server::{Server, new_followers};
+use crate::standing::{Role, Standing};
 use crate::storage;
 use crate::types::{Change, Members, Payload, State, end};
 use anyhow::Result;
@@ -20,12 +21,19 @@ use std::alloc::{AllocError, Global};
 impl<L: LeaderIdentity<Id = u64> + Drop> Duties for Server<L, L::Committed> {
     type Message = Message<L, L::Committed>;
 
-    fn new(
-        alloc: Global,
-        id: u64,
-        fault: Option<Fault>,
-    ) -> Result<Self, AllocError> {
-        Server::with_state(alloc, id, fault, State::try_default(alloc))
+    fn new(alloc: Global, id: u64, fault: Option<Fault>) -> Result<Self, AllocError> {
+        let followers = new_followers(Members::try_default(alloc), 0);
+        let known = both(followers, Standing::new(alloc));
+        let (state, (followers, standing)) = both(State::try_default(alloc), known)?;
+        Ok(Server {
+            alloc,
+            id,
+            fault,
+            standing,
+            state,
+            disk: Vec::new(alloc),
+            followers,
+        })
     }
 
     fn receive(

@@ -71,8 +71,9 @@ impl Counts {
 
     /// Something happens so many times more.
     pub fn add(&mut self, event: Event, more: u64) {
-        let count = &mut self.counts[event as usize];
-        *count = count.saturating_add(more);
+        if let Some(count) = self.counts.get_mut(event as usize) {
+            *count = count.saturating_add(more);
+        }
     }
 }
 

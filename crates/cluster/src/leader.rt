@@ -3,8 +3,7 @@
 use crate::fault::Fault;
 use crate::memory::{add, copy_of, last_few, renew};
 use crate::message::{Content, Message};
-use crate::replica::Duties;
-use crate::replica::Seen;
+use crate::replica::{Duties, Seen};
 use crate::server::{Server, new_followers};
 use crate::storage;
 use crate::types::{Change, Entry, Members, Payload, end};
@@ -67,11 +66,10 @@ impl<L: Copy + Drop, C: Ord + Copy + Drop> Server<L, C> {
 
     /// What sends the entries of a range, and what is committed, if there is memory.
     pub fn logs(&self, request: Option<u64>, range: LogIdRangeOf<C>) -> Option<Message<L, C>> {
-        let places = self.place(end(range.prev))..self.place(end(range.last));
-        let entries = copy_of(self.alloc, &self.disk, places)?;
+        let (from, to) = (self.place(end(range.prev)), self.place(end(range.last)));
         let logs = Logs {
             prev: range.prev,
-            entries,
+            entries: copy_of(self.alloc, &self.disk, from, to)?,
             committed: self.state.committed,
         };
         Some(self.message(Content::Append(request, logs)))

@@ -1,7 +1,6 @@
 //! Values and lists of any type, where there may be no memory for more.
 
 use std::alloc::{AllocError, Global};
-use std::ops::Range;
 
 /// Puts a new value in a place, if there was memory for it.
 pub fn renew<T: Drop>(place: &mut T, new: Result<T, AllocError>) -> bool {
@@ -28,10 +27,7 @@ pub fn add<T: Drop>(items: &mut Vec<T>, item: T) -> bool {
 }
 
 /// Adds a new item to others, if there was memory for it, and is for more.
-pub fn add_new<T: Drop>(
-    items: &mut Vec<T>,
-    item: Result<T, AllocError>,
-) -> Result<(), AllocError> {
+pub fn add_new<T: Drop>(items: &mut Vec<T>, item: Result<T, AllocError>) -> Result<(), AllocError> {
     if add(items, item?) {
         Ok(())
     } else {
@@ -44,13 +40,26 @@ pub fn add_last<T: Clone + Drop>(items: &mut Vec<T>, more: &[T], count: usize) -
     items.extend_with_clones(last_few(more, count)).is_ok()
 }
 
-/// A copy of the items at some places, of those that there are, if there is memory.
+/// A copy of the items from a place to another one, of those that there are, if there is memory.
 pub fn copy_of<T: Clone + Drop>(
     alloc: Global,
     items: &[T],
-    places: Range<usize>,
+    from: usize,
+    to: usize,
 ) -> Option<Vec<T>> {
-    items.get(places).unwrap_or(&[]).to_vec(alloc).ok()
+    let mut copy = Vec::new(alloc);
+    let count = to.min(items.len());
+    let is_copied = add_last(
+        &mut copy,
+        items.split_at(count).0,
+        count.saturating_sub(from),
+    );
+    is_copied.then_some(copy)
+}
+
+/// The items after the first few.
+pub fn after<T>(items: &[T], count: usize) -> &[T] {
+    last_few(items, items.len().saturating_sub(count))
 }
 
 /// The last few of some items.

@@ -62,11 +62,7 @@ pub trait Duties: Seen + Drop {
     type Message: Drop;
 
     /// A new server, which knows of no members.
-    fn new(
-        alloc: Global,
-        id: u64,
-        fault: Option<Fault>,
-    ) -> Result<Self, AllocError>;
+    fn new(alloc: Global, id: u64, fault: Option<Fault>) -> Result<Self, AllocError>;
 
     /// Takes a message. Some are answered.
     fn receive(&mut self, now: u64, from: u64, message: &Self::Message) -> Option<Self::Message>;

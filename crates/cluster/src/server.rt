@@ -4,7 +4,6 @@
 //! what a vote decides is over leader ids; what goes by the log is over any leaders.
 
 use crate::fault::Fault;
-use crate::memory::both;
 use crate::message::{Content, Message};
 use crate::standing::{Role, Standing};
 use crate::types::{Disk, Members, State, end};
@@ -32,27 +31,6 @@ where
 }
 
 impl<L: Copy + Drop, C: Ord + Copy + Drop> Server<L, C> {
-    /// A server with this state and an empty disk, which knows of no members.
-    pub fn with_state(
-        alloc: Global,
-        id: u64,
-        fault: Option<Fault>,
-        state: Result<State<L, C>, AllocError>,
-    ) -> Result<Self, AllocError> {
-        let followers = new_followers(Members::try_default(alloc), 0);
-        let known = both(followers, Standing::new(alloc));
-        let (state, (followers, standing)) = both(state, known)?;
-        Ok(Server {
-            alloc,
-            id,
-            fault,
-            standing,
-            state,
-            disk: Vec::new(alloc),
-            followers,
-        })
-    }
-
     /// Its last log id.
     pub fn last(&self) -> Option<LogIdOf<C>> {
         self.state.last_log_id().copied()

@@ -2,7 +2,7 @@
 //! again. What could not be done answers false.
 
 use crate::events::Event;
-use crate::memory::{add_last, renew};
+use crate::memory::{add_last, after, renew};
 use crate::server::Server;
 use crate::types::{Disk, Entry, Snapshot, State, end};
 use raft_base::{
@@ -65,7 +65,7 @@ fn restore_snapshot<L: LeaderIdentity<Id = u64> + Drop>(
     }
     state.vote.get_mut().commit();
     let is_installed = install(state, snapshot);
-    state.accepted = AcceptedIn::new(L::default(), None);
+    state.accepted = AcceptedIn::default();
     is_installed
 }
 
@@ -79,7 +79,7 @@ fn restore<L: Copy + Drop, C: Ord + Copy + Debug + Display + Drop>(
     disk: &[Entry<C>],
 ) -> bool {
     let old = state.purged_next.saturating_sub(stored.purged_next) as usize;
-    let is_appended = append(state, disk.get(old..).unwrap_or(&[]));
+    let is_appended = append(state, after(disk, old));
     let known = *state.membership_state.committed().log_id();
     state.io_state = stored.io_state;
     state.io_state.purged = stored.snapshot_meta.last_log_id;
@@ -110,29 +110,22 @@ pub fn cut<L: Drop, C: Ord + Copy + Drop>(disk: &mut Disk<C>, state: &State<L, C
     disk.retain(|entry| has_entry(state, entry));
 }
 
-/// Builds a snapshot of what is applied, if it has more than the one before, and the effective
-/// members; and plans to purge all but the last few entries of it.
+/// Builds a snapshot of what is applied and the effective members, if these are applied, it has more
+/// than the one before, and there is memory; and plans to purge all but the last few entries of it.
 pub fn build_snapshot<L: Drop, C: Ord + Copy + Drop>(state: &mut State<L, C>, keep: u64) {
     let applied = state.io_state.applied;
-    if log_id_below(state.io_state.snapshot, applied) && save_members(state, applied) {
-        state.snapshot_meta.last_log_id = applied;
-        state.io_state.snapshot = applied;
-        let upto = state.get_log_id(applied.index().unwrap_or(0).saturating_sub(keep));
-        state.purge_upto = state.purge_upto.max(upto);
-    }
-}
-
-/// Writes the effective members into the snapshot, if they are applied, and there is memory.
-fn save_members<L: Drop, C: Ord + Copy + Drop>(
-    state: &mut State<L, C>,
-    applied: Option<LogIdOf<C>>,
-) -> bool {
     let members = state.membership_state.effective();
-    if !log_id_at_most(*members.log_id(), applied) {
-        return false;
+    if log_id_below(state.io_state.snapshot, applied)
+        && log_id_at_most(*members.log_id(), applied)
+    {
+        let members = members.stored_membership().try_clone();
+        if renew(&mut state.snapshot_meta.last_membership, members) {
+            state.snapshot_meta.last_log_id = applied;
+            state.io_state.snapshot = applied;
+            let upto = state.get_log_id(applied.index().unwrap_or(0).saturating_sub(keep));
+            state.purge_upto = state.purge_upto.max(upto);
+        }
     }
-    let members = members.stored_membership().try_clone();
-    renew(&mut state.snapshot_meta.last_membership, members)
 }
 
 /// Installs a snapshot, which storage then has, and has applied, with the log purged up to it.
