@@ -2,7 +2,7 @@
 
 use crate::dice::Dice;
 use crate::network::Network;
-use crate::replica::Duties;
+use crate::replica::{Duties, Seen};
 use crate::standing::Role;
 use crate::types::{Change, Payload};
 use raft_base::EmptyNode;
@@ -17,7 +17,7 @@ const TIMEOUT: u64 = 40;
 
 /// A server does what a number stands for: 86 and less are requests of a client and the passing of
 /// time.
-pub fn act<S: Duties>(
+pub fn act<S: Duties + Seen>(
     server: &mut S,
     what: u64,
     now: u64,
@@ -39,14 +39,14 @@ pub fn act<S: Duties>(
 }
 
 /// A leader is asked for a change of the members, if there is memory for one.
-fn change_some<S: Duties>(server: &mut S, alloc: Global, dice: &mut Dice) {
+fn change_some<S: Duties + Seen>(server: &mut S, alloc: Global, dice: &mut Dice) {
     if let Ok(change) = some_change(server, alloc, dice) {
         server.change(change, dice.chance(50));
     }
 }
 
 /// A change of the members: to add a learner, to go over to other voters, or to remove a learner.
-fn some_change<S: Duties>(
+fn some_change<S: Duties + Seen>(
     server: &S,
     alloc: Global,
     dice: &mut Dice,
@@ -76,23 +76,37 @@ fn removal_of(alloc: Global, id: u64) -> Result<Change, AllocError> {
 }
 
 /// Some of the followers that have all but the last three entries.
-fn some_close<S: Duties>(
+fn some_close<S: Duties + Seen>(
     server: &S,
     alloc: Global,
     dice: &mut Dice,
 ) -> Result<BTreeSet<u64>, AllocError> {
     let mut ids = BTreeSet::new(alloc);
     for id in 1..=SERVERS {
-        if server.is_close(id, 3) && dice.chance(75) {
+        if is_close(server, id) && dice.chance(75) {
             ids.insert(id)?;
         }
     }
     Ok(ids)
 }
 
+/// Whether a follower is known to have all but the last three entries.
+fn is_close<S: Seen>(server: &S, id: u64) -> bool {
+    let matched = match server.matching(id) {
+        Some((index, _)) => index.saturating_add(1),
+        None => 0,
+    };
+    server.members().contains(&id) && server.seen().end <= matched.saturating_add(3)
+}
+
 /// Time passes: a leader sends to its followers, and another server asks for votes, if it has
 /// waited too long.
-fn tick<S: Duties>(server: &mut S, now: u64, network: &mut Network<S::Message>, dice: &mut Dice) {
+fn tick<S: Duties + Seen>(
+    server: &mut S,
+    now: u64,
+    network: &mut Network<S::Message>,
+    dice: &mut Dice,
+) {
     server.apply(dice.below(8));
     if server.seen().role == Role::Leader {
         for id in 1..=SERVERS {
@@ -108,7 +122,7 @@ fn tick<S: Duties>(server: &mut S, now: u64, network: &mut Network<S::Message>, 
 }
 
 /// A candidate asks the other voters for their votes.
-fn ask_votes<S: Duties>(server: &S, network: &mut Network<S::Message>) {
+fn ask_votes<S: Duties + Seen>(server: &S, network: &mut Network<S::Message>) {
     for id in 1..=SERVERS {
         if id != server.seen().id && server.members().is_voter(&id) {
             network.post(server.seen().id, id, server.ask_vote());
@@ -117,7 +131,7 @@ fn ask_votes<S: Duties>(server: &S, network: &mut Network<S::Message>) {
 }
 
 /// A leader sends a follower what comes next, and at times a heartbeat.
-fn replicate<S: Duties>(
+fn replicate<S: Duties + Seen>(
     server: &mut S,
     to: u64,
     network: &mut Network<S::Message>,

@@ -4,8 +4,8 @@ use crate::network::Network;
 use crate::replica::{Glance, Seen};
 use crate::safety::last_leader;
 use crate::standing::Role;
+use crate::text::Text;
 use crate::types::Members;
-use std::alloc::AllocError;
 
 /// How many indexes of a log are shown.
 const WIDTH: u64 = 8;
@@ -19,19 +19,16 @@ event 1           2           3           4           5          has members
 ";
 
 /// Writes what all servers are, what the last leader knows a quorum to have, and its members.
-pub fn line<S: Seen, M: Drop>(
-    text: &mut String,
-    servers: &[S],
-    network: &Network<M>,
-) -> Result<(), AllocError> {
+pub fn line<S: Seen, M: Drop>(text: &mut Text, servers: &[S], network: &Network<M>) {
     let end = longest(servers);
     for server in servers {
-        let is_voter = server.members().is_voter(&server.seen().id);
-        show(text, &server.seen(), network, is_voter, end)?;
+        let seen = server.seen();
+        let is_voter = server.members().is_voter(&seen.id);
+        show(text, &seen, network.is_cut_off(seen.id), is_voter, end);
     }
     match last_leader(servers) {
         Some(leader) => describe(text, leader.seen().granted, leader.members()),
-        None => text.push_str(" -"),
+        None => write!(text, " -"),
     }
 }
 
@@ -45,28 +42,13 @@ fn longest<S: Seen>(servers: &[S]) -> u64 {
 }
 
 /// What a server is, its term, and the last indexes of its log up to an end.
-fn show<M: Drop>(
-    text: &mut String,
-    seen: &Glance,
-    network: &Network<M>,
-    is_voter: bool,
-    end: u64,
-) -> Result<(), AllocError> {
-    let sign = if network.is_cut_off(seen.id) {
-        '*'
-    } else {
-        ' '
-    };
-    write!(
-        text,
-        "{sign}{}{:<2}",
-        letter(seen.role, is_voter),
-        seen.vote.0
-    )?;
+fn show(text: &mut Text, seen: &Glance, is_cut_off: bool, is_voter: bool, end: u64) {
+    let sign = if is_cut_off { '*' } else { ' ' };
+    let letter = letter(seen.role, is_voter);
+    write!(text, "{sign}{letter}{:<2}", seen.vote.0);
     for index in end.saturating_sub(WIDTH)..end {
-        text.push(mark(seen, index))?;
+        write!(text, "{}", mark(seen, index));
     }
-    Ok(())
 }
 
 /// The letter of what a server is.
@@ -93,20 +75,19 @@ fn mark(seen: &Glance, index: u64) -> char {
 }
 
 /// The last index that a quorum has, the configs, and the learners.
-fn describe(text: &mut String, granted: Option<u64>, members: &Members) -> Result<(), AllocError> {
+fn describe(text: &mut Text, granted: Option<u64>, members: &Members) {
     if let Some(granted) = granted {
-        write!(text, " {granted:>3}")?;
+        write!(text, " {granted:>3}");
     }
     let mut sign = ' ';
     for config in members.get_joint_config() {
-        text.push(sign)?;
+        write!(text, "{sign}");
         sign = '/';
         for id in config {
-            write!(text, "{id}")?;
+            write!(text, "{id}");
         }
     }
     for id in members.learner_ids() {
-        write!(text, "+{id}")?;
+        write!(text, "+{id}");
     }
-    Ok(())
 }

@@ -7,8 +7,9 @@ use crate::events::{Counts, Event, Notes};
 use crate::fault::Fault;
 use crate::memory::add_new;
 use crate::network::Network;
-use crate::replica::{Duties, Replica, Seen};
+use crate::replica::{Duties, Seen};
 use crate::safety::{History, last_leader};
+use crate::text::Text;
 use crate::types::{Members, Payload};
 use anyhow::{Result, bail};
 use raft_base::EmptyNode;
@@ -17,7 +18,7 @@ use std::collections::BTreeMap;
 
 /// A cluster.
 #[derive(Drop)]
-pub struct Cluster<S: Duties + Replica> {
+pub struct Cluster<S: Duties + Seen> {
     servers: Vec<S>,
     network: Network<S::Message>,
     dice: Dice,
@@ -26,7 +27,7 @@ pub struct Cluster<S: Duties + Replica> {
     notes: Notes,
 }
 
-impl<S: Duties + Replica> Cluster<S> {
+impl<S: Duties + Seen> Cluster<S> {
     /// A cluster without servers, where so much has happened before.
     pub fn new(alloc: Global, seed: u64, is_standard: bool, counts: Counts) -> Self {
         Cluster {
@@ -51,14 +52,11 @@ impl<S: Duties + Replica> Cluster<S> {
         Ok(())
     }
 
-    /// Writes a line of its chart, if one is due.
-    pub fn draw(&mut self, text: &mut String, is_due: bool) -> Result<(), AllocError> {
-        if !is_due {
-            return Ok(());
-        }
-        write!(text, "{:>4} ", self.now)?;
-        chart::line(text, &self.servers, &self.network)?;
-        self.notes.end_line(text)
+    /// Writes a line of its chart.
+    pub fn draw(&mut self, text: &mut Text) {
+        write!(text, "{:>4} ", self.now);
+        chart::line(text, &self.servers, &self.network);
+        self.notes.end_line(text);
     }
 
     /// Something happens, and all is still well.

@@ -5,7 +5,7 @@ use crate::fault::Fault;
 use crate::leader::{last_of_joint, next_members};
 use crate::memory::both;
 use crate::message::{Content, Message};
-use crate::replica::{Duties, Seen};
+use crate::replica::Duties;
 use crate::server::{Server, new_followers};
 use crate::standing::{Role, Standing};
 use crate::storage;
@@ -107,11 +107,6 @@ impl<L: LeaderIdentity<Id = u64> + Drop> Duties for Server<L, L::Committed> {
         self.standing.note(Event::Restarted);
     }
 
-    fn has_waited(&self, now: u64, patience: u64) -> bool {
-        let since = self.state.vote_last_modified();
-        self.may_campaign() && self.standing.has_waited(since, now, patience)
-    }
-
     fn campaign(&mut self, now: u64) {
         let term = L::term(self.state.vote_ref().leader_id()).saturating_add(1);
         let vote = VoteIn::new(term, self.id);
@@ -153,18 +148,11 @@ impl<L: LeaderIdentity<Id = u64> + Drop> Duties for Server<L, L::Committed> {
     fn end_change(&mut self) {
         let handler = self.state.membership_state.change_handler();
         if handler.ensure_committed().is_ok() {
-            if self.members().is_in_joint_consensus() {
+            if self.effective().is_in_joint_consensus() {
                 self.change(last_of_joint(self.alloc), true);
             } else if !self.state.is_voter(&self.id) {
                 self.standing.role = Role::Follower;
             }
-        }
-    }
-
-    fn is_close(&self, id: u64, lag: u64) -> bool {
-        match self.followers.get(id) {
-            Some(follower) => end(follower.matching).saturating_add(lag) >= self.end(),
-            None => false,
         }
     }
 

@@ -1,6 +1,7 @@
 //! What happens in a cluster: how often, and what a chart notes of it.
 
-use std::alloc::{AllocError, Global};
+use crate::text::Text;
+use std::alloc::Global;
 use std::fmt;
 
 /// How long the notes of a line may be.
@@ -125,9 +126,8 @@ impl Notes {
     }
 
     /// Ends a text's last line with what is noted, and begins anew.
-    pub fn end_line(&mut self, text: &mut String) -> Result<(), AllocError> {
-        writeln!(text, "{}", self.text)?;
+    pub fn end_line(&mut self, text: &mut Text) {
+        writeln!(text, "{}", self.text);
         self.text.clear();
-        Ok(())
     }
 }

@@ -3,7 +3,7 @@
 use crate::fault::Fault;
 use crate::memory::{add, copy_of, last_few, renew};
 use crate::message::{Content, Message};
-use crate::replica::{Duties, Seen};
+use crate::replica::Duties;
 use crate::server::{Server, new_followers};
 use crate::storage;
 use crate::types::{Change, Entry, Members, Payload, end};
@@ -23,7 +23,7 @@ impl<L: LeaderIdentity<Id = u64> + Drop> Server<L, L::Committed> {
 
     /// Leads, and begins with a blank entry, if there is memory to know its followers by.
     pub fn lead(&mut self) {
-        let followers = new_followers(self.members().try_clone(), self.end());
+        let followers = new_followers(self.effective().try_clone(), self.end());
         if renew(&mut self.followers, followers) {
             let mut vote = *self.state.vote_ref();
             vote.commit();

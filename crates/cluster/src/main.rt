@@ -28,6 +28,7 @@ mod seen;
 mod server;
 mod standing;
 mod storage;
+mod text;
 mod types;
 
 use anyhow::{Result, bail, ensure};
@@ -35,10 +36,10 @@ use cluster::Cluster;
 use events::{Counts, Event};
 use fault::Fault;
 use raft_base::{LeaderAdv, LeaderIdentity, LeaderKind, LeaderStd};
-use replica::{Duties, Replica};
+use replica::{Duties, Seen};
 use server::Server;
-use std::alloc::AllocError;
 use std::env;
+use text::Text;
 use types::Numbered;
 
 /// How many events a cluster has to settle in, once its network is mended.
@@ -91,72 +92,57 @@ impl Plan {
     }
 }
 
-/// Runs a cluster of each seed, writes what is to be told, and answers what happened.
-fn run_all<L: LeaderIdentity<Id = u64> + Drop>(
-    text: &mut String,
-    plan: &Plan,
-) -> Result<Counts, AllocError>
+/// Runs a cluster of each seed over a kind's leaders.
+fn run_over<L: LeaderIdentity<Id = u64> + Drop + Numbered>(text: &mut Text, plan: &Plan) -> Counts
 where
     L::Committed: Numbered,
 {
-    let mut total = Counts::new();
-    for seed in plan.first..plan.first.saturating_add(plan.count) {
-        run::<Server<L, L::Committed>>(text, plan, seed, &mut total)?;
-    }
-    Ok(total)
+    run_all::<Server<L, L::Committed>>(text, plan)
 }
 
-/// Runs a cluster of a seed, and adds what happens to what has.
-fn run<S: Duties + Replica>(
-    text: &mut String,
-    plan: &Plan,
-    seed: u64,
-    total: &mut Counts,
-) -> Result<(), AllocError> {
-    let mut cluster = Cluster::<S>::new(*text.allocator(), seed, plan.is_standard, *total);
-    let outcome = play::<S>(text, plan, &mut cluster);
-    *total = cluster.counts();
-    tell(text, seed, cluster.now, outcome)
+/// Runs a cluster of each seed, writes how it has ended, if not well, and answers what happened.
+fn run_all<S: Duties + Seen>(text: &mut Text, plan: &Plan) -> Counts {
+    let mut total = Counts::new();
+    for seed in plan.first..plan.first.saturating_add(plan.count) {
+        let mut cluster = Cluster::<S>::new(text.alloc(), seed, plan.is_standard, total);
+        if let Err(error) = play::<S>(text, plan, &mut cluster) {
+            writeln!(text, "seed {seed}: event {}: {error:#}", cluster.now);
+        }
+        total = cluster.counts();
+    }
+    total
 }
 
 /// Lets the events of a plan happen to a cluster, with a line of its chart every few, and one once it
 /// has settled.
-fn play<S: Duties + Replica>(
-    text: &mut String,
-    plan: &Plan,
-    cluster: &mut Cluster<S>,
-) -> Result<()> {
-    cluster.start(*text.allocator(), plan.fault)?;
+fn play<S: Duties + Seen>(text: &mut Text, plan: &Plan, cluster: &mut Cluster<S>) -> Result<()> {
+    cluster.start(text.alloc(), plan.fault)?;
     for event in 0..plan.events {
-        cluster.draw(text, event.checked_rem(plan.every) == Some(0))?;
+        if event.checked_rem(plan.every) == Some(0) {
+            cluster.draw(text);
+        }
         cluster.step()?;
     }
     cluster.settle(SETTLE)?;
-    Ok(cluster.draw(text, plan.every > 0)?)
-}
-
-/// Writes how a run has ended, if not well.
-fn tell(text: &mut String, seed: u64, now: u64, outcome: Result<()>) -> Result<(), AllocError> {
-    match outcome {
-        Ok(()) => Ok(()),
-        Err(error) => writeln!(text, "seed {seed}: event {now}: {error:#}"),
+    if plan.every > 0 {
+        cluster.draw(text);
     }
+    Ok(())
 }
 
 fn main(rt: HostRuntime) -> Result<()> {
     let words: Vec<String> = env::args(&rt)?.skip(1).collect(rt.alloc())?;
     let plan = Plan::of(words)?;
-    let mut text = String::new(rt.alloc());
+    let mut text = Text::new(rt.alloc());
     if plan.every > 0 {
-        text.push_str(chart::LEGEND)?;
+        write!(text, "{}", chart::LEGEND);
     }
-    let outcome = if plan.is_standard {
-        run_all::<LeaderOf<LeaderStd>>(&mut text, &plan)
+    let total = if plan.is_standard {
+        run_over::<LeaderOf<LeaderStd>>(&mut text, &plan)
     } else {
-        run_all::<LeaderOf<LeaderAdv>>(&mut text, &plan)
+        run_over::<LeaderOf<LeaderAdv>>(&mut text, &plan)
     };
-    let total = outcome?;
-    println!(rt; "{text}{total}")?;
+    println!(rt; "{}{total}", text.whole()?)?;
     ensure!(
         total.of(Event::Settled) == plan.count,
         "not all clusters were safe and settled"

@@ -40,20 +40,16 @@ pub fn add_last<T: Clone + Drop>(items: &mut Vec<T>, more: &[T], count: usize) -
     items.extend_with_clones(last_few(more, count)).is_ok()
 }
 
-/// A copy of the items from a place to another one, of those that there are, if there is memory.
+/// A copy of the items from one place to another, of those that there are, if there is memory.
 pub fn copy_of<T: Clone + Drop>(
     alloc: Global,
     items: &[T],
     from: usize,
     to: usize,
 ) -> Option<Vec<T>> {
+    let before = items.split_at(to.min(items.len())).0;
     let mut copy = Vec::new(alloc);
-    let count = to.min(items.len());
-    let is_copied = add_last(
-        &mut copy,
-        items.split_at(count).0,
-        count.saturating_sub(from),
-    );
+    let is_copied = copy.extend_with_clones(after(before, from)).is_ok();
     is_copied.then_some(copy)
 }
 

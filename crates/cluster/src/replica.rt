@@ -35,21 +35,21 @@ pub trait Seen {
 
     /// The effective members.
     fn members(&self) -> &Members;
-}
 
-/// What a server's log is compared by with those of others.
-pub trait Replica {
+    /// Whether it is to ask for votes, after so long without a leader.
+    fn has_waited(&self, now: u64, patience: u64) -> bool;
+
+    /// The last entry that another server is known to have, where it leads that one.
+    fn matching(&self, id: u64) -> Option<(u64, Leader)>;
+
     /// The leader of the entry at an index, if that is in the log.
     fn leader_at(&self, index: u64) -> Option<Leader>;
-
-    /// Whether its entry at an index is that of another server.
-    fn shares_entry(&self, other: &Self, index: u64) -> bool;
 
     /// Whether a leader's entry at an index is in the log, or the index is purged.
     fn has(&self, index: u64, leader: Leader) -> bool;
 
-    /// The last entry that another server is known to have, where it leads that one.
-    fn matching(&self, id: u64) -> Option<(u64, Leader)>;
+    /// Whether its entry at an index is that of another server.
+    fn shares_entry(&self, other: &Self, index: u64) -> bool;
 
     /// What is wrong with it by itself, if anything is, before its id.
     fn flaw(&self) -> Option<&'static str>;
@@ -57,7 +57,7 @@ pub trait Replica {
 
 /// What a server does when it is told to. What fails in it is kept until it is asked what has become
 /// of it. What there is no memory for, as a message, a change or a campaign, is left undone.
-pub trait Duties: Seen + Drop {
+pub trait Duties: Drop {
     /// What servers send each other.
     type Message: Drop;
 
@@ -79,9 +79,6 @@ pub trait Duties: Seen + Drop {
     /// Starts again.
     fn restart(&mut self, now: u64);
 
-    /// Whether it is to ask for votes, after so long without a leader.
-    fn has_waited(&self, now: u64, patience: u64) -> bool;
-
     /// Votes for itself in the next term.
     fn campaign(&mut self, now: u64);
 
@@ -98,9 +95,6 @@ pub trait Duties: Seen + Drop {
     /// Once a change is committed, goes on from a joint membership to its last config, in which those
     /// who leave are learners; and leads no longer where it is no voter any more.
     fn end_change(&mut self);
-
-    /// Whether a follower is known to have all but so many of its entries.
-    fn is_close(&self, id: u64, lag: u64) -> bool;
 
     /// Takes what is in flight to a follower as lost.
     fn give_up(&mut self, to: u64);

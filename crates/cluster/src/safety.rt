@@ -2,7 +2,7 @@
 //!
 //! What is found to be wrong is noted, as what fails in a server is, and the first of it is told.
 
-use crate::replica::{Glance, Replica, Seen};
+use crate::replica::{Glance, Seen};
 use crate::standing::Role;
 use crate::types::Leader;
 use anyhow::{Result, bail};
@@ -43,7 +43,7 @@ impl History {
     }
 
     /// Looks whether all is well after something at a server.
-    pub fn look_after<S: Seen + Replica>(&mut self, servers: &[S], server: &S) {
+    pub fn look_after<S: Seen>(&mut self, servers: &[S], server: &S) {
         if let Some(flaw) = server.flaw() {
             self.note(flaw, server.seen().id);
         }
@@ -75,7 +75,7 @@ impl History {
     }
 
     /// Two servers have to have the same entries up to the last log id that both have.
-    fn check_match<S: Seen + Replica>(&mut self, one: &S, other: &S) {
+    fn check_match<S: Seen>(&mut self, one: &S, other: &S) {
         let mut is_shared = false;
         let (here, there) = (one.seen(), other.seen());
         for index in (here.purged.max(there.purged)..here.end.min(there.end)).rev() {
@@ -91,7 +91,7 @@ impl History {
     }
 
     /// Another server of a leader's vote has to have what the leader knows to match.
-    fn check_known<S: Seen + Replica>(&mut self, leader: &S, other: &S) {
+    fn check_known<S: Seen>(&mut self, leader: &S, other: &S) {
         let (seen, there) = (leader.seen(), other.seen());
         if seen.role == Role::Leader && seen.vote == there.vote {
             if let Some((index, by)) = leader.matching(there.id) {
@@ -106,7 +106,7 @@ impl History {
     }
 
     /// What a server knows to be committed has to be in its log, and what others know.
-    fn commit<S: Seen + Replica>(&mut self, server: &S) {
+    fn commit<S: Seen>(&mut self, server: &S) {
         let seen = server.seen();
         for index in seen.purged.saturating_sub(1)..seen.committed {
             match (server.leader_at(index), self.committed.get(index as usize)) {
@@ -123,7 +123,7 @@ impl History {
 
     /// Each server that leads has to be the only leader of its id, and to have in its log all that
     /// was committed under lesser ones.
-    fn check_leaders<S: Seen + Replica>(&mut self, servers: &[S]) {
+    fn check_leaders<S: Seen>(&mut self, servers: &[S]) {
         for server in servers {
             let seen = server.seen();
             if seen.role == Role::Leader {
@@ -150,7 +150,7 @@ impl History {
     }
 
     /// Whether the leader of a vote has what was committed under lesser ones.
-    fn is_complete<S: Replica>(&self, leader: &S, vote: Leader) -> bool {
+    fn is_complete<S: Seen>(&self, leader: &S, vote: Leader) -> bool {
         let mut index = 0;
         for (of, by) in &self.committed {
             if *by < vote && !leader.has(index, *of) {

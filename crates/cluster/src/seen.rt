@@ -1,18 +1,17 @@
 //! What is seen of a server.
 
-use crate::replica::{Glance, Replica, Seen};
+use crate::replica::{Glance, Seen};
 use crate::server::Server;
 use crate::storage::has_log;
 use crate::types::{Leader, Members, Numbered, end};
-use raft_base::{LeaderIdentity, LogIdOptionExt, LogStateReader, Validate};
+use raft_base::{LogIdOptionExt, LogStateReader, Validate};
 
-impl<L: LeaderIdentity<Id = u64> + Drop> Seen for Server<L, L::Committed> {
+impl<L: Copy + Drop + Numbered, C: Ord + Copy + Drop + Numbered> Seen for Server<L, C> {
     fn seen(&self) -> Glance {
-        let leader = *self.state.vote_ref().leader_id();
         Glance {
             id: self.id,
             role: self.standing.role,
-            vote: (L::term(&leader), L::voted_for(&leader).unwrap_or(0)),
+            vote: self.state.vote_ref().leader_id.numbers(),
             purged: self.state.purged_next,
             committed: end(self.state.committed),
             end: self.end(),
@@ -21,27 +20,30 @@ impl<L: LeaderIdentity<Id = u64> + Drop> Seen for Server<L, L::Committed> {
     }
 
     fn members(&self) -> &Members {
-        self.state.membership_state.effective().membership()
+        self.effective()
     }
-}
 
-impl<L: Copy + Drop, C: Ord + Copy + Drop + Numbered> Replica for Server<L, C> {
+    fn has_waited(&self, now: u64, patience: u64) -> bool {
+        let since = self.state.vote_last_modified();
+        self.may_campaign() && self.standing.has_waited(since, now, patience)
+    }
+
+    fn matching(&self, id: u64) -> Option<(u64, Leader)> {
+        let log_id = self.followers.get(id)?.matching?;
+        Some((log_id.index, log_id.leader_id.numbers()))
+    }
+
     fn leader_at(&self, index: u64) -> Option<Leader> {
         let log_id = self.state.get_log_id(index)?;
         Some(log_id.leader_id.numbers())
-    }
-
-    fn shares_entry(&self, other: &Self, index: u64) -> bool {
-        self.disk.get(self.place(index)) == other.disk.get(other.place(index))
     }
 
     fn has(&self, index: u64, leader: Leader) -> bool {
         index < self.state.purged_next || self.leader_at(index) == Some(leader)
     }
 
-    fn matching(&self, id: u64) -> Option<(u64, Leader)> {
-        let log_id = self.followers.get(id)?.matching?;
-        Some((log_id.index, log_id.leader_id.numbers()))
+    fn shares_entry(&self, other: &Self, index: u64) -> bool {
+        self.disk.get(self.place(index)) == other.disk.get(other.place(index))
     }
 
     fn flaw(&self) -> Option<&'static str> {

@@ -41,6 +41,11 @@ impl<L: Copy + Drop, C: Ord + Copy + Drop> Server<L, C> {
         end(self.last())
     }
 
+    /// Its effective members.
+    pub fn effective(&self) -> &Members {
+        self.state.membership_state.effective().membership()
+    }
+
     /// The place of an index on its disk.
     pub fn place(&self, index: u64) -> usize {
         index.saturating_sub(self.state.purged_next) as usize

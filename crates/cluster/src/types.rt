@@ -1,7 +1,7 @@
 //! The types of the layer as this cluster has them, beside those of the turns. `L` is a leader of
 //! votes, and `C` what is kept of one that a quorum has elected.
 
-use raft_base::{CommittedLeaderId, EmptyNode, LogIdOf, LogIdOptionExt, leader_id_std};
+use raft_base::{EmptyNode, LeaderId, LogIdOf, LogIdOptionExt, leader_id_std};
 use raft_members::ChangeMembers;
 use raft_state::{EntryPayload, SnapshotMetaOf};
 pub use raft_state_tests::turn::{Entry, Members, State};
@@ -21,15 +21,21 @@ pub type Snapshot<C> = SnapshotMetaOf<C, u64, EmptyNode>;
 /// A leader, in numbers: its term and its server.
 pub type Leader = (u64, u64);
 
-/// What is kept of leaders, in numbers.
+/// Leaders, or what is kept of them, that can be told in numbers.
 pub trait Numbered {
-    /// The leader's term and server. Where a term has no more than one leader, its server is 0.
+    /// The term and the server. It is 0 where that is not kept, since a term has one leader.
     fn numbers(&self) -> Leader;
 }
 
-impl Numbered for CommittedLeaderId<u64> {
+impl Numbered for LeaderId<u64> {
     fn numbers(&self) -> Leader {
         (self.term, self.node_id)
+    }
+}
+
+impl Numbered for leader_id_std::LeaderId<u64> {
+    fn numbers(&self) -> Leader {
+        (self.term, self.voted_for.unwrap_or(0))
     }
 }
 
