@@ -112,17 +112,21 @@ impl Notes {
     /// happened to.
     pub fn note(&mut self, server: Option<u64>, event: Event) {
         self.counts.add(event, 1);
-        let (alloc, word) = (*self.text.allocator(), event.word());
         let sign = if self.text.is_empty() { " " } else { ", " };
-        let more = match server {
-            Some(id) => format!(in alloc; "{sign}{id} {word}"),
-            None => format!(in alloc; "{sign}{word}"),
-        };
-        if let Ok(more) = more {
-            if self.text.len().saturating_add(more.len()) <= NOTES {
-                let _left_out = self.text.push_str(&more);
+        let word = event.word();
+        let length = sign.len().saturating_add(word.len());
+        let _left_out = match server {
+            Some(id) if self.has_room(length.saturating_add(2)) => {
+                write!(self.text, "{sign}{id} {word}")
             }
-        }
+            None if self.has_room(length) => write!(self.text, "{sign}{word}"),
+            _ => Ok(()),
+        };
+    }
+
+    /// Whether the line has room for more.
+    fn has_room(&self, length: usize) -> bool {
+        self.text.len().saturating_add(length) <= NOTES
     }
 
     /// Ends a text's last line with what is noted, and begins anew.

@@ -45,9 +45,6 @@ pub trait Seen {
     /// The leader of the entry at an index, if that is in the log.
     fn leader_at(&self, index: u64) -> Option<Leader>;
 
-    /// Whether a leader's entry at an index is in the log, or the index is purged.
-    fn has(&self, index: u64, leader: Leader) -> bool;
-
     /// Whether its entry at an index is that of another server.
     fn shares_entry(&self, other: &Self, index: u64) -> bool;
 

@@ -95,7 +95,7 @@ impl History {
         let (seen, there) = (leader.seen(), other.seen());
         if seen.role == Role::Leader && seen.vote == there.vote {
             if let Some((index, by)) = leader.matching(there.id) {
-                if !other.has(index, by) {
+                if !has(other, there.purged, index, by) {
                     self.note(
                         "what a leader knows to match is not in the log of",
                         there.id,
@@ -128,7 +128,7 @@ impl History {
             let seen = server.seen();
             if seen.role == Role::Leader {
                 self.check_only(&seen);
-                if !self.is_complete(server, seen.vote) {
+                if !self.is_complete(server, &seen) {
                     self.note(
                         "what was committed is not in the log of the leader",
                         seen.id,
@@ -149,17 +149,22 @@ impl History {
         }
     }
 
-    /// Whether the leader of a vote has what was committed under lesser ones.
-    fn is_complete<S: Seen>(&self, leader: &S, vote: Leader) -> bool {
+    /// Whether a leader has what was committed under lesser votes.
+    fn is_complete<S: Seen>(&self, leader: &S, seen: &Glance) -> bool {
         let mut index = 0;
         for (of, by) in &self.committed {
-            if *by < vote && !leader.has(index, *of) {
+            if *by < seen.vote && !has(leader, seen.purged, index, *of) {
                 return false;
             }
             index = index.saturating_add(1);
         }
         true
     }
+}
+
+/// Whether a leader's entry at an index is in a server's log, or the index is purged.
+fn has<S: Seen>(server: &S, purged: u64, index: u64, leader: Leader) -> bool {
+    index < purged || server.leader_at(index) == Some(leader)
 }
 
 /// The leader that was elected last.

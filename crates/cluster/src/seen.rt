@@ -38,10 +38,6 @@ impl<L: Copy + Drop + Numbered, C: Ord + Copy + Drop + Numbered> Seen for Server
         Some(log_id.leader_id.numbers())
     }
 
-    fn has(&self, index: u64, leader: Leader) -> bool {
-        index < self.state.purged_next || self.leader_at(index) == Some(leader)
-    }
-
     fn shares_entry(&self, other: &Self, index: u64) -> bool {
         self.disk.get(self.place(index)) == other.disk.get(other.place(index))
     }
