@@ -59,10 +59,10 @@ impl<L: Copy + Drop, C: Ord + Copy + Drop> Server<L, C> {
     fn skips_writing(&self, now: u64, logs: &Logs<C>) -> bool {
         match (self.fault, logs.last()) {
             (Some(Fault::NoWrite), _) => now % 8 == 0,
-            (Some(Fault::NoCut), Some(last)) => {
-                let own = self.state.get_log_id(last.index);
-                own.is_some() && own != Some(last)
-            }
+            (Some(Fault::NoCut), Some(last)) => match self.state.get_log_id(last.index) {
+                Some(own) => own != last,
+                None => false,
+            },
             _ => false,
         }
     }

@@ -131,8 +131,7 @@ fn play<S: Duties + Seen>(text: &mut Text, plan: &Plan, cluster: &mut Cluster<S>
 }
 
 fn main(rt: HostRuntime) -> Result<()> {
-    let words: Vec<String> = env::args(&rt)?.skip(1).collect(rt.alloc())?;
-    let plan = Plan::of(words)?;
+    let plan = Plan::of(env::args(&rt)?.skip(1).collect(rt.alloc())?)?;
     let mut text = Text::new(rt.alloc());
     if plan.every > 0 {
         write!(text, "{}", chart::LEGEND);

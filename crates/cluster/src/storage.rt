@@ -16,9 +16,7 @@ impl<L: Copy + Drop, C: Ord + Copy + Drop> Server<L, C> {
     /// Writes to disk those of these entries, the last ones of its log, that it does not have there,
     /// once what is no longer in the log is removed.
     pub fn flush(&mut self, entries: &[Entry<C>]) {
-        let before = self.disk.len();
-        cut(&mut self.disk, &self.state);
-        if self.disk.len() < before {
+        if cut(&mut self.disk, &self.state) {
             self.standing.note(Event::CutBack);
         }
         let lacking = self.place(self.end()).saturating_sub(self.disk.len());
@@ -105,9 +103,11 @@ fn has_entry<L: Drop, C: Ord + Copy + Drop>(state: &State<L, C>, entry: &Entry<C
     state.purged_next <= index && state.get_log_id(index) == Some(entry.log_id)
 }
 
-/// Removes from a disk what a log no longer has.
-pub fn cut<L: Drop, C: Ord + Copy + Drop>(disk: &mut Disk<C>, state: &State<L, C>) {
+/// Removes from a disk what a log no longer has, and answers whether there was any.
+pub fn cut<L: Drop, C: Ord + Copy + Drop>(disk: &mut Disk<C>, state: &State<L, C>) -> bool {
+    let before = disk.len();
     disk.retain(|entry| has_entry(state, entry));
+    disk.len() < before
 }
 
 /// Builds a snapshot of what is applied and the effective members, if these are applied, it has more
