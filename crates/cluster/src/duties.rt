@@ -99,12 +99,13 @@ impl<L: LeaderIdentity<Id = u64> + Drop> Duties for Server<L, L::Committed> {
 
     fn restart(&mut self, now: u64) {
         self.reload(now);
-        self.standing.follow();
+        self.standing.role = Role::Follower;
+        self.standing.is_behind = false;
         // One that was removed has its committed vote still.
         if self.state.is_leader(&self.id) && self.may_campaign() {
             self.lead();
         }
-        self.standing.note(Event::Restarted);
+        self.standing.event = Some(Event::Restarted);
     }
 
     fn campaign(&mut self, now: u64) {
@@ -140,7 +141,7 @@ impl<L: LeaderIdentity<Id = u64> + Drop> Duties for Server<L, L::Committed> {
             let lacked = self.end();
             let is_counting = self.followers.change_to(to_count_by, lacked).is_ok();
             self.standing.check(is_counting, "out of memory");
-            self.standing.note(Event::Changed);
+            self.standing.event = Some(Event::Changed);
             self.propose(Payload::Membership(members));
         }
     }

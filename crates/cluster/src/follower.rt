@@ -28,7 +28,7 @@ impl<L: LeaderIdentity<Id = u64> + Drop> Server<L, L::Committed> {
                 outcome
             }
             Err(failure) => {
-                self.standing.fail(failure);
+                self.standing.failure = Some(failure);
                 Outcome::Refused
             }
         }
@@ -48,7 +48,7 @@ impl<L: LeaderIdentity<Id = u64> + Drop> Server<L, L::Committed> {
             let is_installed = storage::install(&mut self.state, snapshot);
             storage::cut(&mut self.disk, &self.state);
             self.standing.check(is_installed, "a snapshot does not fit");
-            self.standing.note(Event::Installed);
+            self.standing.event = Some(Event::Installed);
         }
         Outcome::Matches(snapshot.last_log_id)
     }

@@ -1,10 +1,12 @@
 //! What a candidate and a leader do.
 
+use crate::events::Event;
 use crate::fault::Fault;
 use crate::memory::{add, copy_of, last_few, renew};
 use crate::message::{Content, Message};
 use crate::replica::Duties;
 use crate::server::{Server, new_followers};
+use crate::standing::Role;
 use crate::storage;
 use crate::types::{Change, Entry, Members, Payload, end};
 use raft_base::{LeaderIdentity, LogIdOf, LogIdRangeOf};
@@ -28,7 +30,9 @@ impl<L: LeaderIdentity<Id = u64> + Drop> Server<L, L::Committed> {
             let mut vote = *self.state.vote_ref();
             vote.commit();
             self.save_vote(vote);
-            self.standing.lead();
+            self.standing.role = Role::Leader;
+            self.standing.is_behind = false;
+            self.standing.event = Some(Event::Elected);
             self.propose(Payload::Blank);
         }
     }

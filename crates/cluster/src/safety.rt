@@ -56,7 +56,7 @@ impl History {
         self.check_leaders(servers);
     }
 
-    /// Nothing was found to be wrong.
+    /// Fails with the first that was found to be wrong, if anything was.
     pub fn ensure_safe(&self) -> Result<()> {
         match self.flaw {
             Some(Flaw { what, at }) => bail!("{what} {at}"),

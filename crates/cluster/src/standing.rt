@@ -30,8 +30,10 @@ pub struct Standing {
     ballot: Ballot,
     /// Whether a voter with a longer log has refused it: it waits longer then, for that one to lead.
     pub is_behind: bool,
-    event: Option<Event>,
-    failure: Option<Error>,
+    /// What has become of it since it was last looked at.
+    pub event: Option<Event>,
+    /// What has failed.
+    pub failure: Option<Error>,
 }
 
 impl Standing {
@@ -44,12 +46,6 @@ impl Standing {
             event: None,
             failure: None,
         })
-    }
-
-    /// It follows, and has heard of a leader.
-    pub fn follow(&mut self) {
-        self.role = Role::Follower;
-        self.is_behind = false;
     }
 
     /// It asks these members for their votes, if there is memory to count them.
@@ -68,13 +64,6 @@ impl Standing {
         *self.ballot.progress().granted()
     }
 
-    /// It leads.
-    pub fn lead(&mut self) {
-        self.role = Role::Leader;
-        self.is_behind = false;
-        self.note(Event::Elected);
-    }
-
     /// Whether it has waited so long for a leader since a moment, if there was one.
     pub fn has_waited(&self, since: Option<u64>, now: u64, patience: u64) -> bool {
         let times = if self.is_behind { 5 } else { 1 };
@@ -84,20 +73,10 @@ impl Standing {
         }
     }
 
-    /// Notes what has become of it.
-    pub fn note(&mut self, event: Event) {
-        self.event = Some(event);
-    }
-
-    /// Notes what has failed.
-    pub fn fail(&mut self, failure: Error) {
-        self.failure = Some(failure);
-    }
-
     /// Notes a failure, unless all is well.
     pub fn check(&mut self, is_well: bool, failure: &'static str) {
         if !is_well {
-            self.fail(Error::msg(failure));
+            self.failure = Some(Error::msg(failure));
         }
     }
 

@@ -17,7 +17,7 @@ impl<L: Copy + Drop, C: Ord + Copy + Drop> Server<L, C> {
     /// once what is no longer in the log is removed.
     pub fn flush(&mut self, entries: &[Entry<C>]) {
         if cut(&mut self.disk, &self.state) {
-            self.standing.note(Event::CutBack);
+            self.standing.event = Some(Event::CutBack);
         }
         let lacking = self.place(self.end()).saturating_sub(self.disk.len());
         let is_written = add_last(&mut self.disk, entries, lacking);
@@ -42,29 +42,18 @@ impl<L: LeaderIdentity<Id = u64> + Drop> Server<L, L::Committed> {
     pub fn reload(&mut self, now: u64) {
         if let Ok(mut stored) = State::<L, L::Committed>::try_default(self.alloc) {
             mem::swap(&mut self.state, &mut stored);
-            let is_restored = restore_snapshot(&mut self.state, &stored.snapshot_meta)
-                && restore(&mut self.state, now, &stored, &self.disk);
+            // A snapshot is installed as a leader's, and then is none's: who leads now is not known.
+            self.state.vote.get_mut().commit();
+            let is_installed = stored.snapshot_meta.last_log_id.is_none()
+                || install(&mut self.state, &stored.snapshot_meta);
+            self.state.accepted = AcceptedIn::default();
+            let is_restored = is_installed && restore(&mut self.state, now, &stored, &self.disk);
             drop(stored);
             self.standing
                 .check(is_restored, "a state cannot be restored");
             cut(&mut self.disk, &self.state);
         }
     }
-}
-
-/// Takes over a stored snapshot. It is installed as a leader's, and then is none's: who leads now is
-/// not known yet.
-fn restore_snapshot<L: LeaderIdentity<Id = u64> + Drop>(
-    state: &mut State<L, L::Committed>,
-    snapshot: &Snapshot<L::Committed>,
-) -> bool {
-    if snapshot.last_log_id.is_none() {
-        return true;
-    }
-    state.vote.get_mut().commit();
-    let is_installed = install(state, snapshot);
-    state.accepted = AcceptedIn::default();
-    is_installed
 }
 
 /// Takes over what is stored beside the snapshot: the entries that come after it, how far storage has
