@@ -38,26 +38,19 @@ pub fn act<S: Duties + Seen>(
     }
 }
 
-/// A leader is asked for a change of the members, if there is memory for one.
+/// A leader is asked for a change of the members, if there is memory for one: to add a learner, to go
+/// over to other voters, or to remove a learner.
 fn change_some<S: Duties + Seen>(server: &mut S, alloc: Global, dice: &mut Dice) {
-    if let Ok(change) = some_change(server, alloc, dice) {
-        server.change(change, dice.chance(50));
-    }
-}
-
-/// A change of the members: to add a learner, to go over to other voters, or to remove a learner.
-fn some_change<S: Duties + Seen>(
-    server: &S,
-    alloc: Global,
-    dice: &mut Dice,
-) -> Result<Change, AllocError> {
     let id = dice.below(SERVERS).saturating_add(1);
-    if !server.members().contains(&id) {
+    let change = if !server.members().contains(&id) {
         addition_of(alloc, id)
     } else if dice.chance(80) {
-        Ok(Change::ReplaceAllVoters(some_close(server, alloc, dice)?))
+        replacement(server, alloc, dice)
     } else {
         removal_of(alloc, id)
+    };
+    if let Ok(change) = change {
+        server.change(change, dice.chance(50));
     }
 }
 
@@ -75,19 +68,15 @@ fn removal_of(alloc: Global, id: u64) -> Result<Change, AllocError> {
     Ok(Change::RemoveNodes(ids))
 }
 
-/// Some of the followers that have all but the last three entries.
-fn some_close<S: Duties + Seen>(
-    server: &S,
-    alloc: Global,
-    dice: &mut Dice,
-) -> Result<BTreeSet<u64>, AllocError> {
+/// The change to some of the followers that have all but the last three entries.
+fn replacement<S: Seen>(server: &S, alloc: Global, dice: &mut Dice) -> Result<Change, AllocError> {
     let mut ids = BTreeSet::new(alloc);
     for id in 1..=SERVERS {
         if is_close(server, id) && dice.chance(75) {
             ids.insert(id)?;
         }
     }
-    Ok(ids)
+    Ok(Change::ReplaceAllVoters(ids))
 }
 
 /// Whether a follower is known to have all but the last three entries.

@@ -70,7 +70,13 @@ impl<S: Duties + Seen> Cluster<S> {
                 self.notes.note(None, self.network.part(&mut self.dice));
                 Ok(())
             }
-            what => self.act(what),
+            what => {
+                let place = self.dice.below(SERVERS) as usize;
+                if let Some(server) = self.servers.get_mut(place) {
+                    acts::act(server, what, self.now, &mut self.network, &mut self.dice);
+                }
+                self.look_after(place)
+            }
         }
     }
 
@@ -89,15 +95,6 @@ impl<S: Duties + Seen> Cluster<S> {
             _ => None,
         };
         self.network.pass(envelope, comes_again, answer);
-        self.look_after(place)
-    }
-
-    /// A server does something unasked.
-    fn act(&mut self, what: u64) -> Result<()> {
-        let place = self.dice.below(SERVERS) as usize;
-        if let Some(server) = self.servers.get_mut(place) {
-            acts::act(server, what, self.now, &mut self.network, &mut self.dice);
-        }
         self.look_after(place)
     }
 

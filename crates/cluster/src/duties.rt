@@ -43,7 +43,7 @@ impl<L: LeaderIdentity<Id = u64> + Drop> Duties for Server<L, L::Committed> {
         message: &Message<L, L::Committed>,
     ) -> Option<Message<L, L::Committed>> {
         let vote = message.vote;
-        let content = match &message.content {
+        let answer = match &message.content {
             Content::AskVote(last) => {
                 // The candidate's log may not be behind the own one.
                 let may_be = self.fault == Some(Fault::AnyCandidate)
@@ -74,7 +74,7 @@ impl<L: LeaderIdentity<Id = u64> + Drop> Duties for Server<L, L::Committed> {
                 return None;
             }
         };
-        Some(self.message(content))
+        Some(self.message(answer))
     }
 
     fn take_event(&mut self) -> Result<Option<Event>> {
@@ -109,7 +109,7 @@ impl<L: LeaderIdentity<Id = u64> + Drop> Duties for Server<L, L::Committed> {
     }
 
     fn campaign(&mut self, now: u64) {
-        let term = L::term(self.state.vote_ref().leader_id()).saturating_add(1);
+        let term = L::term(&self.state.vote_ref().leader_id).saturating_add(1);
         let vote = VoteIn::new(term, self.id);
         self.save_vote(vote);
         self.state.vote.update(now, vote);
@@ -123,7 +123,7 @@ impl<L: LeaderIdentity<Id = u64> + Drop> Duties for Server<L, L::Committed> {
     }
 
     fn propose(&mut self, payload: Payload) {
-        let leader = L::to_committed(self.state.vote_ref().leader_id());
+        let leader = L::to_committed(&self.state.vote_ref().leader_id);
         self.write(leader, payload);
         let last = self.last();
         self.followers.set_own(self.id, last);
