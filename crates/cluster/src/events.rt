@@ -72,9 +72,8 @@ impl Counts {
 
     /// Something happens so many times more.
     pub fn add(&mut self, event: Event, more: u64) {
-        if let Some(count) = self.counts.get_mut(event as usize) {
-            *count = count.saturating_add(more);
-        }
+        let count = &mut self.counts[event as usize];
+        *count = count.saturating_add(more);
     }
 }
 
@@ -116,6 +115,7 @@ impl Notes {
         let word = event.word();
         let length = sign.len().saturating_add(word.len());
         let _left_out = match server {
+            // An id has one digit, and a space after it.
             Some(id) if self.has_room(length.saturating_add(2)) => {
                 write!(self.text, "{sign}{id} {word}")
             }

@@ -4,7 +4,7 @@
 use crate::events::Event;
 use crate::fault::Fault;
 use crate::standing::Role;
-use crate::types::{Change, Leader, Members, Payload};
+use crate::types::{Change, LeaderNumbers, Members, Payload};
 use anyhow::Result;
 use std::alloc::{AllocError, Global};
 
@@ -17,7 +17,7 @@ pub struct Glance {
     /// What it is doing.
     pub role: Role,
     /// The leader that its vote is for.
-    pub vote: Leader,
+    pub vote: LeaderNumbers,
     /// The end of what it has purged.
     pub purged: u64,
     /// The end of what it knows to be committed.
@@ -40,10 +40,10 @@ pub trait Seen {
     fn has_waited(&self, now: u64, patience: u64) -> bool;
 
     /// The last entry that another server is known to have, where it leads that one.
-    fn matching(&self, id: u64) -> Option<(u64, Leader)>;
+    fn matching(&self, id: u64) -> Option<(u64, LeaderNumbers)>;
 
     /// The leader of the entry at an index, if that is in the log.
-    fn leader_at(&self, index: u64) -> Option<Leader>;
+    fn leader_at(&self, index: u64) -> Option<LeaderNumbers>;
 
     /// Whether its entry at an index is that of another server.
     fn shares_entry(&self, other: &Self, index: u64) -> bool;

@@ -4,7 +4,7 @@
 
 use crate::replica::{Glance, Seen};
 use crate::standing::Role;
-use crate::types::Leader;
+use crate::types::LeaderNumbers;
 use anyhow::{Result, bail};
 use std::alloc::Global;
 use std::collections::BTreeMap;
@@ -24,9 +24,8 @@ pub struct History {
     is_standard: bool,
     /// The server that leads in each term, if a term has one leader.
     leaders: BTreeMap<u64, u64>,
-    /// The leader of each entry, and the one whose vote the first server had that knew it to be
-    /// committed.
-    committed: Vec<(Leader, Leader)>,
+    /// The leader of each committed entry, and the vote under which it was first known to be.
+    committed: Vec<(LeaderNumbers, LeaderNumbers)>,
     /// The first that was found to be wrong.
     flaw: Option<Flaw>,
 }
@@ -163,7 +162,7 @@ impl History {
 }
 
 /// Whether a leader's entry at an index is in a server's log, or the index is purged.
-fn has<S: Seen>(server: &S, purged: u64, index: u64, leader: Leader) -> bool {
+fn has<S: Seen>(server: &S, purged: u64, index: u64, leader: LeaderNumbers) -> bool {
     index < purged || server.leader_at(index) == Some(leader)
 }
 

@@ -3,7 +3,7 @@
 use crate::replica::{Glance, Seen};
 use crate::server::Server;
 use crate::storage::has_log;
-use crate::types::{Leader, Members, Numbered, end};
+use crate::types::{LeaderNumbers, Members, Numbered, end};
 use raft_base::{LogIdOptionExt, LogStateReader, Validate};
 
 impl<L: Copy + Drop + Numbered, C: Ord + Copy + Drop + Numbered> Seen for Server<L, C> {
@@ -28,12 +28,12 @@ impl<L: Copy + Drop + Numbered, C: Ord + Copy + Drop + Numbered> Seen for Server
         self.may_campaign() && self.standing.has_waited(since, now, patience)
     }
 
-    fn matching(&self, id: u64) -> Option<(u64, Leader)> {
+    fn matching(&self, id: u64) -> Option<(u64, LeaderNumbers)> {
         let log_id = self.followers.get(id)?.matching?;
         Some((log_id.index, log_id.leader_id.numbers()))
     }
 
-    fn leader_at(&self, index: u64) -> Option<Leader> {
+    fn leader_at(&self, index: u64) -> Option<LeaderNumbers> {
         let log_id = self.state.get_log_id(index)?;
         Some(log_id.leader_id.numbers())
     }

@@ -19,28 +19,28 @@ pub type Disk<C> = Vec<Entry<C>>;
 pub type Snapshot<C> = SnapshotMetaOf<C, u64, EmptyNode>;
 
 /// A leader, in numbers: its term and its server.
-pub type Leader = (u64, u64);
+pub type LeaderNumbers = (u64, u64);
 
 /// Leaders, or what is kept of them, that can be told in numbers.
 pub trait Numbered {
     /// The term and the server. It is 0 where that is not kept, since a term has one leader.
-    fn numbers(&self) -> Leader;
+    fn numbers(&self) -> LeaderNumbers;
 }
 
 impl Numbered for LeaderId<u64> {
-    fn numbers(&self) -> Leader {
+    fn numbers(&self) -> LeaderNumbers {
         (self.term, self.node_id)
     }
 }
 
 impl Numbered for leader_id_std::LeaderId<u64> {
-    fn numbers(&self) -> Leader {
+    fn numbers(&self) -> LeaderNumbers {
         (self.term, self.voted_for.unwrap_or(0))
     }
 }
 
 impl Numbered for leader_id_std::CommittedLeaderId {
-    fn numbers(&self) -> Leader {
+    fn numbers(&self) -> LeaderNumbers {
         (self.term, 0)
     }
 }

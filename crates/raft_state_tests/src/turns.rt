@@ -16,17 +16,17 @@ use std::collections::{BTreeMap, BTreeSet};
 use std::test::Fail;
 
 /// What is kept of a leader that a quorum has elected.
-type Leader<K> = <K as LeaderKind<u64>>::Committed;
+type Committed<K> = <K as LeaderKind<u64>>::Committed;
 
 /// The whole state of a node.
-type StateOf<K> = State<<K as LeaderKind<u64>>::Leader, Leader<K>>;
+type StateOf<K> = State<<K as LeaderKind<u64>>::Leader, Committed<K>>;
 
 /// Takes a follower's response. False where it is refused.
 fn take<K: LeaderKind<u64>>(
-    known: &mut Followers<Leader<K>>,
+    known: &mut Followers<Committed<K>>,
     from: u64,
     request: u64,
-    outcome: Outcome<Leader<K>>,
+    outcome: Outcome<Committed<K>>,
 ) -> bool {
     let request = Some(request);
     known
@@ -37,7 +37,7 @@ fn take<K: LeaderKind<u64>>(
 /// A turn with a follower that acks all that it is sent. True where that commits more.
 fn turn<K: LeaderKind<u64>>(
     state: &mut StateOf<K>,
-    known: &mut Followers<Leader<K>>,
+    known: &mut Followers<Committed<K>>,
     to: u64,
 ) -> Result<bool> {
     let (request, last) = match known.next_request(state, to) {
@@ -78,7 +78,7 @@ fn members(alloc: Global) -> Result<Members, AllocError> {
 /// Whether turns with 2 and with 3 commit nothing, and then up to this row, if up to any.
 fn commits<K: LeaderKind<u64>>(
     state: &mut StateOf<K>,
-    known: &mut Followers<Leader<K>>,
+    known: &mut Followers<Committed<K>>,
     upto: Row,
 ) -> Result<bool> {
     let first = turn::<K>(state, known, 2)?;
@@ -87,14 +87,14 @@ fn commits<K: LeaderKind<u64>>(
 }
 
 /// Whether this is granted.
-fn grants<K: LeaderKind<u64>>(known: &Followers<Leader<K>>, granted: Row) -> bool {
+fn grants<K: LeaderKind<u64>>(known: &Followers<Committed<K>>, granted: Row) -> bool {
     known.granted() == id::<K>(granted)
 }
 
 /// Whether an earlier leader's log is committed with one of this leader's own, and not without.
 fn commits_with_own<K: LeaderKind<u64>>(
     state: &mut StateOf<K>,
-    known: &mut Followers<Leader<K>>,
+    known: &mut Followers<Committed<K>>,
 ) -> Result<bool> {
     let without = commits::<K>(state, known, None)? && grants::<K>(known, Some((1, 3)));
     let own = log_id::<K>(2, 4);
@@ -106,7 +106,7 @@ fn commits_with_own<K: LeaderKind<u64>>(
 
 /// Whether that holds of a new leader.
 fn own_commits<K: LeaderKind<u64>>(alloc: Global) -> Result<bool> {
-    let known = Followers::<Leader<K>>::new(members(alloc)?, 4);
+    let known = Followers::<Committed<K>>::new(members(alloc)?, 4);
     let (mut state, mut known) = both(leader::<K>(alloc, &[(1, 0), (1, 3)]), known)?;
     commits_with_own::<K>(&mut state, &mut known)
 }
@@ -127,7 +127,7 @@ fn members_with_4(alloc: Global) -> Result<Members> {
 fn changes<K: LeaderKind<u64>>(
     alloc: Global,
     state: &mut StateOf<K>,
-    known: &mut Followers<Leader<K>>,
+    known: &mut Followers<Committed<K>>,
 ) -> Result<bool> {
     let is_committed = commits::<K>(state, known, Some((2, 3)))?;
     known.change_to(members_with_4(alloc)?, 4)?;
@@ -139,7 +139,7 @@ fn changes<K: LeaderKind<u64>>(
 /// Whether that holds of a new leader. Of the learner 4 nothing is known: two of the four voters have
 /// the log.
 fn third_is_asked<K: LeaderKind<u64>>(alloc: Global) -> Result<bool> {
-    let known = Followers::<Leader<K>>::new(members(alloc)?, 4);
+    let known = Followers::<Committed<K>>::new(members(alloc)?, 4);
     let (mut state, mut known) = both(leader::<K>(alloc, &[(1, 0), (2, 2), (2, 3)]), known)?;
     changes::<K>(alloc, &mut state, &mut known)
 }
@@ -153,7 +153,7 @@ fn a_change_of_members_asks_for_a_third(rt: HostRuntime) -> Result<(), Fail> {
 /// Whether a snapshot up to (2, 7) is what is sent next in a request.
 fn sends_snapshot<K: LeaderKind<u64>>(
     state: &StateOf<K>,
-    known: &mut Followers<Leader<K>>,
+    known: &mut Followers<Committed<K>>,
     request: u64,
 ) -> bool {
     let last_log_id = id::<K>(Some((2, 7)));
@@ -167,7 +167,7 @@ fn sends_snapshot<K: LeaderKind<u64>>(
 /// Whether the logs after a row up to (2, 9) are what is sent next in a request.
 fn sends_logs<K: LeaderKind<u64>>(
     state: &StateOf<K>,
-    known: &mut Followers<Leader<K>>,
+    known: &mut Followers<Committed<K>>,
     request: u64,
     after: Row,
 ) -> bool {
@@ -183,7 +183,7 @@ fn sends_logs<K: LeaderKind<u64>>(
 /// and again once it is lost, and goes on with logs.
 fn goes_on_past_a_purge<K: LeaderKind<u64>>(
     state: &mut StateOf<K>,
-    known: &mut Followers<Leader<K>>,
+    known: &mut Followers<Committed<K>>,
 ) -> bool {
     let snapshot = id::<K>(Some((2, 7)));
     let last = id::<K>(Some((2, 9)));
@@ -209,7 +209,7 @@ fn goes_on_past_a_purge<K: LeaderKind<u64>>(
 /// Whether that holds, and the leader commits once a second voter has its log.
 fn grants_past_a_purge<K: LeaderKind<u64>>(
     state: &mut StateOf<K>,
-    known: &mut Followers<Leader<K>>,
+    known: &mut Followers<Committed<K>>,
 ) -> Result<bool> {
     let goes_on = goes_on_past_a_purge::<K>(state, known) && grants::<K>(known, None);
     Ok(turn::<K>(state, known, 3)? && goes_on)
@@ -217,7 +217,7 @@ fn grants_past_a_purge<K: LeaderKind<u64>>(
 
 /// Whether that holds of a new leader.
 fn snapshot_is_sent_again<K: LeaderKind<u64>>(alloc: Global) -> Result<bool> {
-    let known = Followers::<Leader<K>>::new(members(alloc)?, 10);
+    let known = Followers::<Committed<K>>::new(members(alloc)?, 10);
     let (mut state, mut known) = both(leader::<K>(alloc, &[(1, 5), (2, 6), (2, 9)]), known)?;
     grants_past_a_purge::<K>(&mut state, &mut known)
 }
@@ -235,10 +235,10 @@ fn logs<K: LeaderKind<u64>>(
     prev: Row,
     rows: &[(u64, u64)],
     committed: Row,
-) -> Result<Logs<Leader<K>>, AllocError> {
+) -> Result<Logs<Committed<K>>, AllocError> {
     let mut entries = Vec::new(alloc);
     for row in rows {
-        entries.push(Entry::<Leader<K>> {
+        entries.push(Entry::<Committed<K>> {
             log_id: log_id::<K>(row.0, row.1),
             payload: EntryPayload::Blank,
         })?;
@@ -260,7 +260,7 @@ fn is_at<K: LeaderKind<u64>>(state: &StateOf<K>, last: (u64, u64), committed: Ro
 /// Whether logs after a row match up to another one.
 fn matches_upto<K: LeaderKind<u64>>(
     state: &mut StateOf<K>,
-    logs: &Logs<Leader<K>>,
+    logs: &Logs<Committed<K>>,
     upto: (u64, u64),
 ) -> Result<bool> {
     match take_logs::<K::Leader>(state, logs)? {
