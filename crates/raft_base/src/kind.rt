@@ -23,7 +23,7 @@ pub trait LeaderIdentity: Eq + Copy + Default + 'static {
     /// The id of a node.
     type Id: NodeId;
     /// What is kept of a leader once a quorum has elected it.
-    type Committed: Ord + Copy + Default + Debug + Display + 'static;
+    type Committed: Ord + Copy + Default + 'static;
 
     /// How two leaders compare, if they do.
     ghost order: { Self → Self → Option Ordering };

@@ -9,11 +9,11 @@ ghost use Rattle.raft_state.specs.LogReads.{last_id};
 ghost use Rattle.raft_state.specs.Valid.{broken_relation};
 ghost use Rattle.raft_members.specs.Stored.{log_id_of};
 
-use crate::entry::RaftEntry;
+use crate::entry::RaftPayload;
 use crate::membership_state::MembershipStateOf;
 use crate::raft_state::RaftStateIn;
 use raft_base::order::{index_below, log_id_below};
-use raft_base::{Instant, LogIdOf, LogIdOptionExt, Node, NodeId};
+use raft_base::{Instant, LogIdOf, LogIdOptionExt, Node, NodeId, RaftLogId};
 use raft_members::{EffectiveMembershipOf, Membership};
 use std::alloc::AllocError;
 
@@ -21,7 +21,10 @@ impl<NID: NodeId, N: Node, I: Instant, L: Drop, C: Ord + Copy + Drop> RaftStateI
     /// Whether `append_entries` may be called with entries: `log_ids.can_extend` is true of them,
     /// the first one of an empty log has index 0, and each that stores a membership comes after the
     /// effective one.
-    pub fn can_append_entries<Ent: RaftEntry<C, Membership<NID, N>>>(&self, entries: &[Ent]) -> bool
+    pub fn can_append_entries<Ent: RaftLogId<C> + RaftPayload<Membership<NID, N>>>(
+        &self,
+        entries: &[Ent],
+    ) -> bool
         ensures { result
             ≡ may_append_entries C.cmp Ent.id_of Ent.membership entries.now self.now }
     {
@@ -35,7 +38,7 @@ impl<NID: NodeId, N: Node, I: Instant, L: Drop, C: Ord + Copy + Drop> RaftStateI
     /// are clones. A valid state stays valid.
     ///
     /// After an error nothing has changed.
-    pub fn append_entries<Ent: RaftEntry<C, Membership<NID, N>>>(
+    pub fn append_entries<Ent: RaftLogId<C> + RaftPayload<Membership<NID, N>>>(
         &mut self,
         entries: &[Ent],
     ) -> Result<(), AllocError>
@@ -64,7 +67,10 @@ impl<NID: NodeId, N: Node, I: Instant, L: Drop, C: Ord + Copy + Drop> RaftStateI
     }
 
     /// Whether entries begin at index 0, if the log is empty.
-    fn may_begin<Ent: RaftEntry<C, Membership<NID, N>>>(&self, entries: &[Ent]) -> bool
+    fn may_begin<Ent: RaftLogId<C> + RaftPayload<Membership<NID, N>>>(
+        &self,
+        entries: &[Ent],
+    ) -> bool
         ensures { result
             ≡ begins_at_zero (full_log self.now.log_ids) (map Ent.id_of entries.now) }
     {
@@ -75,7 +81,7 @@ impl<NID: NodeId, N: Node, I: Instant, L: Drop, C: Ord + Copy + Drop> RaftStateI
     }
 
     /// The memberships once those of entries are effective.
-    fn memberships_after<Ent: RaftEntry<C, Membership<NID, N>>>(
+    fn memberships_after<Ent: RaftLogId<C> + RaftPayload<Membership<NID, N>>>(
         &self,
         entries: &[Ent],
     ) -> Result<MembershipStateOf<C, NID, N>, AllocError>
@@ -100,10 +106,12 @@ impl<NID: NodeId, N: Node, I: Instant, L: Drop, C: Ord + Copy + Drop> RaftStateI
 
 /// Whether each entry with a membership comes after the one before it, the first one after a log
 /// id.
-fn can_follow<C: Ord + Copy, NID: NodeId, N: Node, Ent: RaftEntry<C, Membership<NID, N>>>(
-    effective: Option<LogIdOf<C>>,
-    entries: &[Ent],
-) -> bool
+fn can_follow<
+    C: Ord + Copy,
+    NID: NodeId,
+    N: Node,
+    Ent: RaftLogId<C> + RaftPayload<Membership<NID, N>>,
+>(effective: Option<LogIdOf<C>>, entries: &[Ent]) -> bool
     ensures { result ≡ memberships_follow C.cmp Ent.id_of (λ e. is_some (Ent.membership e))
         effective entries.now }
 {
