@@ -1,8 +1,8 @@
 //! What a server does unasked, as chance has it.
 
 use crate::dice::Dice;
+use crate::interface::{Duties, Protocol, Seen};
 use crate::network::Network;
-use crate::replica::{Duties, Seen};
 use crate::standing::Role;
 use crate::types::{Change, Payload};
 use raft_base::EmptyNode;
@@ -17,7 +17,7 @@ const TIMEOUT: u64 = 40;
 
 /// A server does what a number stands for: 86 and less are requests of a client and the passing of
 /// time.
-pub fn act<S: Duties + Seen>(
+pub fn act<S: Protocol + Seen>(
     server: &mut S,
     what: u64,
     now: u64,
@@ -40,7 +40,7 @@ pub fn act<S: Duties + Seen>(
 
 /// A leader is asked for a change of the members, if there is memory for one: to add a learner, to go
 /// over to other voters, or to remove a learner.
-fn change_some<S: Duties + Seen>(server: &mut S, alloc: Global, dice: &mut Dice) {
+fn change_some<S: Protocol + Seen>(server: &mut S, alloc: Global, dice: &mut Dice) {
     let id = dice.below(SERVERS).saturating_add(1);
     let change = if !server.members().contains(&id) {
         addition_of(alloc, id)
@@ -90,7 +90,7 @@ fn is_close<S: Seen>(server: &S, id: u64) -> bool {
 
 /// Time passes: a leader sends to its followers, and another server asks for votes, if it has
 /// waited too long.
-fn tick<S: Duties + Seen>(
+fn tick<S: Protocol + Seen>(
     server: &mut S,
     now: u64,
     network: &mut Network<S::Message>,

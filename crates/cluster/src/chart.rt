@@ -1,7 +1,7 @@
 //! A chart of a cluster, a line at a time.
 
+use crate::interface::{Glance, Seen};
 use crate::network::Network;
-use crate::replica::{Glance, Seen};
 use crate::safety::last_leader;
 use crate::standing::Role;
 use crate::text::Text;

@@ -5,9 +5,9 @@ use crate::chart;
 use crate::dice::Dice;
 use crate::events::{Counts, Event, Notes};
 use crate::fault::Fault;
+use crate::interface::{Protocol, Seen};
 use crate::memory::add_new;
 use crate::network::Network;
-use crate::replica::{Duties, Seen};
 use crate::safety::{History, last_leader};
 use crate::text::Text;
 use crate::types::{Members, Payload};
@@ -18,7 +18,7 @@ use std::collections::BTreeMap;
 
 /// A cluster.
 #[derive(Drop)]
-pub struct Cluster<S: Duties + Seen> {
+pub struct Cluster<S: Protocol + Seen> {
     servers: Vec<S>,
     network: Network<S::Message>,
     dice: Dice,
@@ -27,7 +27,7 @@ pub struct Cluster<S: Duties + Seen> {
     notes: Notes,
 }
 
-impl<S: Duties + Seen> Cluster<S> {
+impl<S: Protocol + Seen> Cluster<S> {
     /// A cluster without servers, where so much has happened before.
     pub fn new(alloc: Global, seed: u64, is_standard: bool, counts: Counts) -> Self {
         Cluster {

@@ -2,9 +2,9 @@
 
 use crate::events::Event;
 use crate::fault::Fault;
+use crate::interface::Protocol;
 use crate::memory::{add, copy_of, last_few, renew};
 use crate::message::{Content, Message};
-use crate::replica::Duties;
 use crate::server::{Server, new_followers};
 use crate::standing::Role;
 use crate::storage;
@@ -13,9 +13,12 @@ use raft_base::{LeaderIdentity, LogIdOf, LogIdRangeOf};
 use raft_state_tests::turn::Logs;
 use std::alloc::Global;
 use std::collections::BTreeSet;
-use std::fmt::{Debug, Display};
+use std::fmt::Debug;
 
-impl<L: LeaderIdentity<Id = u64> + Drop> Server<L, L::Committed> {
+impl<L: LeaderIdentity<Id = u64> + Drop> Server<L, L::Committed>
+where
+    L::Committed: Debug,
+{
     /// Counts a vote for it, and leads once a quorum has voted.
     pub fn count_vote(&mut self, from: u64) {
         if self.standing.count(from) {
@@ -25,9 +28,10 @@ impl<L: LeaderIdentity<Id = u64> + Drop> Server<L, L::Committed> {
 
     /// Leads, and begins with a blank entry, if there is memory to know its followers by.
     pub fn lead(&mut self) {
-        let followers = new_followers(self.effective().try_clone(), self.end());
+        let mut vote = *self.state.vote_ref();
+        let leader = L::to_committed(&vote.leader_id);
+        let followers = new_followers(leader, self.effective().try_clone(), self.end());
         if renew(&mut self.followers, followers) {
-            let mut vote = *self.state.vote_ref();
             vote.commit();
             self.save_vote(vote);
             self.standing.role = Role::Leader;
@@ -35,6 +39,17 @@ impl<L: LeaderIdentity<Id = u64> + Drop> Server<L, L::Committed> {
             self.standing.event = Some(Event::Elected);
             self.propose(Payload::Blank);
         }
+    }
+}
+
+impl<L: Copy + Drop, C: Ord + Copy + Drop> Server<L, C> {
+    /// Writes an entry of its own, first to disk.
+    pub fn write(&mut self, payload: Payload) {
+        let log_id = LogIdOf::new(self.followers.leader, self.end());
+        let is_written = add(&mut self.disk, Entry { log_id, payload });
+        let is_appended = storage::append(&mut self.state, last_few(&self.disk, 1));
+        self.standing
+            .check(is_written && is_appended, "an entry does not follow");
     }
 
     /// Commits what a quorum has.
@@ -46,20 +61,7 @@ impl<L: LeaderIdentity<Id = u64> + Drop> Server<L, L::Committed> {
         };
         self.standing.check(is_committed, "members are not in turn");
     }
-}
 
-impl<L: Copy + Drop, C: Ord + Copy + Debug + Display + Drop> Server<L, C> {
-    /// Writes an entry of its own, first to disk.
-    pub fn write(&mut self, leader: C, payload: Payload) {
-        let log_id = LogIdOf::new(leader, self.end());
-        let is_written = add(&mut self.disk, Entry { log_id, payload });
-        let is_appended = storage::append(&mut self.state, last_few(&self.disk, 1));
-        self.standing
-            .check(is_written && is_appended, "an entry does not follow");
-    }
-}
-
-impl<L: Copy + Drop, C: Ord + Copy + Drop> Server<L, C> {
     /// Whether it may ask for votes: it is a voter, or was one until a change that is not committed,
     /// which may need it.
     pub fn may_campaign(&self) -> bool {

@@ -18,11 +18,12 @@ mod duties;
 mod events;
 mod fault;
 mod follower;
+mod interface;
 mod leader;
 mod memory;
 mod message;
 mod network;
-mod replica;
+mod protocol;
 mod safety;
 mod seen;
 mod server;
@@ -35,10 +36,11 @@ use anyhow::{Result, bail, ensure};
 use cluster::Cluster;
 use events::{Counts, Event};
 use fault::Fault;
+use interface::{Protocol, Seen};
 use raft_base::{LeaderAdv, LeaderIdentity, LeaderKind, LeaderStd};
-use replica::{Duties, Seen};
 use server::Server;
 use std::env;
+use std::fmt::Debug;
 use text::Text;
 use types::Numbered;
 
@@ -95,13 +97,13 @@ impl Plan {
 /// Runs a cluster of each seed over a kind's leaders.
 fn run_over<L: LeaderIdentity<Id = u64> + Drop + Numbered>(text: &mut Text, plan: &Plan) -> Counts
 where
-    L::Committed: Numbered,
+    L::Committed: Debug + Numbered,
 {
     run_all::<Server<L, L::Committed>>(text, plan)
 }
 
 /// Runs a cluster of each seed, writes how it has ended, if not well, and answers what happened.
-fn run_all<S: Duties + Seen>(text: &mut Text, plan: &Plan) -> Counts {
+fn run_all<S: Protocol + Seen>(text: &mut Text, plan: &Plan) -> Counts {
     let mut total = Counts::new();
     for seed in plan.first..plan.first.saturating_add(plan.count) {
         let mut cluster = Cluster::<S>::new(text.alloc(), seed, plan.is_standard, total);
@@ -115,7 +117,7 @@ fn run_all<S: Duties + Seen>(text: &mut Text, plan: &Plan) -> Counts {
 
 /// Lets the events of a plan happen to a cluster, with a line of its chart every few, and one once it
 /// has settled.
-fn play<S: Duties + Seen>(text: &mut Text, plan: &Plan, cluster: &mut Cluster<S>) -> Result<()> {
+fn play<S: Protocol + Seen>(text: &mut Text, plan: &Plan, cluster: &mut Cluster<S>) -> Result<()> {
     cluster.start(text.alloc(), plan.fault)?;
     for event in 0..plan.events {
         if event.checked_rem(plan.every) == Some(0) {

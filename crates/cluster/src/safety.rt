@@ -2,7 +2,7 @@
 //!
 //! What is found to be wrong is noted, as what fails in a server is, and the first of it is told.
 
-use crate::replica::{Glance, Seen};
+use crate::interface::{Glance, Seen};
 use crate::standing::Role;
 use crate::types::LeaderNumbers;
 use anyhow::{Result, bail};

@@ -1,6 +1,6 @@
 //! What is seen of a server.
 
-use crate::replica::{Glance, Seen};
+use crate::interface::{Glance, Seen};
 use crate::server::Server;
 use crate::storage::has_log;
 use crate::types::{LeaderNumbers, Members, Numbered, end};

@@ -11,7 +11,6 @@ use raft_base::{LeaderIdentity, LogIdOf, LogStateReader, VoteIn};
 use raft_progress::{ProgressEntryOf, ProgressPart};
 use raft_state_tests::turn::Followers;
 use std::alloc::{AllocError, Global};
-use std::cmp::Ordering;
 
 /// A server.
 #[derive(Drop)]
@@ -70,14 +69,11 @@ impl<L: LeaderIdentity<Id = u64> + Drop> Server<L, L::Committed> {
     /// Takes over a vote that is greater than its own, and follows from then on. True if the vote is
     /// the own one then: it was not below that, and does compare with it.
     pub fn learn(&mut self, vote: VoteIn<L>) -> bool {
-        match vote.partial_cmp(self.state.vote_ref()) {
-            Some(Ordering::Greater) => {
-                self.standing.role = Role::Follower;
-                self.save_vote(vote);
-                true
-            }
-            order => order == Some(Ordering::Equal),
+        if vote > *self.state.vote_ref() {
+            self.standing.role = Role::Follower;
+            self.save_vote(vote);
         }
+        vote == *self.state.vote_ref()
     }
 
     /// Promises a vote, unless it is below the own one or does not compare with it, and waits anew for
@@ -94,8 +90,9 @@ impl<L: LeaderIdentity<Id = u64> + Drop> Server<L, L::Committed> {
 
 /// Followers of which nothing is known but that their logs end before an index.
 pub fn new_followers<C: Ord + Copy + Drop>(
+    leader: C,
     members: Result<Members, AllocError>,
     end: u64,
 ) -> Result<Followers<C>, AllocError> {
-    Followers::new(members?, end)
+    Followers::new(leader, members?, end)
 }

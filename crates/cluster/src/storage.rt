@@ -9,7 +9,6 @@ use raft_base::{
     LeaderIdentity, LogIdOf, LogIdOptionExt, LogStateReader, log_id_at_most, log_id_below,
 };
 use raft_state::AcceptedIn;
-use std::fmt::{Debug, Display};
 use std::mem;
 
 impl<L: Copy + Drop, C: Ord + Copy + Drop> Server<L, C> {
@@ -59,7 +58,7 @@ impl<L: LeaderIdentity<Id = u64> + Drop> Server<L, L::Committed> {
 /// Takes over what is stored beside the snapshot: the entries that come after it, how far storage has
 /// got, and the vote. It commits what is applied, and what is known to be committed for its members:
 /// each are proposed once those before them are committed.
-fn restore<L: Copy + Drop, C: Ord + Copy + Debug + Display + Drop>(
+fn restore<L: Copy + Drop, C: Ord + Copy + Drop>(
     state: &mut State<L, C>,
     now: u64,
     stored: &State<L, C>,
@@ -135,7 +134,7 @@ pub fn install<L: LeaderIdentity<Id = u64> + Drop>(
 }
 
 /// Appends entries to a log.
-pub fn append<L: Drop, C: Ord + Copy + Debug + Display + Drop>(
+pub fn append<L: Drop, C: Ord + Copy + Drop>(
     state: &mut State<L, C>,
     entries: &[Entry<C>],
 ) -> bool {

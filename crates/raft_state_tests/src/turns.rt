@@ -106,7 +106,7 @@ fn commits_with_own<K: LeaderKind<u64>>(
 
 /// Whether that holds of a new leader.
 fn own_commits<K: LeaderKind<u64>>(alloc: Global) -> Result<bool> {
-    let known = Followers::<Committed<K>>::new(members(alloc)?, 4);
+    let known = Followers::<Committed<K>>::new(K::new_committed(2, 1), members(alloc)?, 4);
     let (mut state, mut known) = both(leader::<K>(alloc, &[(1, 0), (1, 3)]), known)?;
     commits_with_own::<K>(&mut state, &mut known)
 }
@@ -139,7 +139,7 @@ fn changes<K: LeaderKind<u64>>(
 /// Whether that holds of a new leader. Of the learner 4 nothing is known: two of the four voters have
 /// the log.
 fn third_is_asked<K: LeaderKind<u64>>(alloc: Global) -> Result<bool> {
-    let known = Followers::<Committed<K>>::new(members(alloc)?, 4);
+    let known = Followers::<Committed<K>>::new(K::new_committed(2, 1), members(alloc)?, 4);
     let (mut state, mut known) = both(leader::<K>(alloc, &[(1, 0), (2, 2), (2, 3)]), known)?;
     changes::<K>(alloc, &mut state, &mut known)
 }
@@ -217,7 +217,7 @@ fn grants_past_a_purge<K: LeaderKind<u64>>(
 
 /// Whether that holds of a new leader.
 fn snapshot_is_sent_again<K: LeaderKind<u64>>(alloc: Global) -> Result<bool> {
-    let known = Followers::<Committed<K>>::new(members(alloc)?, 10);
+    let known = Followers::<Committed<K>>::new(K::new_committed(2, 1), members(alloc)?, 10);
     let (mut state, mut known) = both(leader::<K>(alloc, &[(1, 5), (2, 6), (2, 9)]), known)?;
     grants_past_a_purge::<K>(&mut state, &mut known)
 }

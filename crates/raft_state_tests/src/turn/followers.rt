@@ -3,7 +3,7 @@
 use super::message::{Outcome, Response};
 use super::types::{Members, State};
 use anyhow::{Result, ensure};
-use raft_base::{EmptyNode, LeaderIdentity, LogIdOf, LogIdOptionExt, VoteIn};
+use raft_base::{EmptyNode, LogIdOf, LogIdOptionExt};
 use raft_progress::{InflightOf, Progress, ProgressEntryOf, ProgressPart, Reply, Tracked};
 use std::alloc::AllocError;
 use std::slice;
@@ -18,14 +18,17 @@ where
     Option<LogIdOf<C>>: Ord,
     ProgressEntryOf<C>: ProgressPart<Option<LogIdOf<C>>>,
 {
+    /// What is kept of the leader: its own entries are those of this one.
+    pub leader: C,
     tracked: Tracked<u64, EmptyNode, ProgressEntryOf<C>, Option<LogIdOf<C>>>,
 }
 
 impl<C: Ord + Copy + Drop> Followers<C> {
-    /// Nothing is known of the members, but that none has more than a log that ends before an index.
-    pub fn new(members: Members, end: u64) -> Result<Self, AllocError> {
+    /// Those of a leader. Nothing is known of the members, but that none has more than a log that ends
+    /// before an index.
+    pub fn new(leader: C, members: Members, end: u64) -> Result<Self, AllocError> {
         let tracked = Tracked::new(members, ProgressEntryOf::<C>::empty(end))?;
-        Ok(Followers { tracked })
+        Ok(Followers { leader, tracked })
     }
 
     /// What is sent next to a follower, and in flight then: logs, or a snapshot.
@@ -66,6 +69,16 @@ impl<C: Ord + Copy + Drop> Followers<C> {
         }
     }
 
+    /// Commits what a quorum has, once an entry of this leader's own is among it.
+    pub fn commit<L: Drop>(&self, state: &mut State<L, C>) -> Result<()> {
+        let granted = self.granted();
+        if self.is_own(granted) {
+            ensure!(state.can_commit(&granted), "members are not in turn");
+            state.update_committed(&granted)?;
+        }
+        Ok(())
+    }
+
     /// Goes over to other members. Of a new one no log is known to match. After an error it counts by
     /// the old ones, and is to be asked again before it commits.
     pub fn change_to(&mut self, members: Members, end: u64) -> Result<()> {
@@ -90,31 +103,16 @@ impl<C: Ord + Copy + Drop> Followers<C> {
         self.tracked.progress().iter()
     }
 
+    /// Whether a log id is of this leader.
+    fn is_own(&self, log_id: Option<LogIdOf<C>>) -> bool {
+        match log_id {
+            Some(log_id) => log_id.leader_id == self.leader,
+            None => false,
+        }
+    }
+
     /// Writes what is known of a member.
     fn set(&mut self, id: u64, follower: ProgressEntryOf<C>) {
         let _granted = self.tracked.update(&id, follower);
-    }
-}
-
-impl<C: Ord + Copy + Default + Drop + 'static> Followers<C> {
-    /// Commits what a quorum has, once an entry of this leader's own is among it.
-    pub fn commit<L: LeaderIdentity<Id = u64, Committed = C> + Drop>(
-        &self,
-        state: &mut State<L, C>,
-    ) -> Result<()> {
-        let granted = self.granted();
-        if is_own(state.vote_ref(), granted) {
-            ensure!(state.can_commit(&granted), "members are not in turn");
-            state.update_committed(&granted)?;
-        }
-        Ok(())
-    }
-}
-
-/// Whether a log id is of the leader that a vote is for.
-fn is_own<L: LeaderIdentity>(vote: &VoteIn<L>, log_id: Option<LogIdOf<L::Committed>>) -> bool {
-    match log_id {
-        Some(log_id) => vote.is_same_leader(log_id.committed_leader_id()),
-        None => false,
     }
 }

@@ -52,17 +52,12 @@ pub trait Seen {
     fn flaw(&self) -> Option<&'static str>;
 }
 
-/// What a server does when it is told to. What fails in it is kept until it is asked what has become
-/// of it. What there is no memory for, as a message, a change or a campaign, is left undone.
+/// What a server does beside: it applies and compacts, and sends. Its vote stays as it is. What fails
+/// in it is kept until it is asked what has become of it, and what there is no memory for, as a
+/// message, is left undone.
 pub trait Duties: Drop {
     /// What servers send each other.
     type Message: Drop;
-
-    /// A new server, which knows of no members.
-    fn new(alloc: Global, id: u64, fault: Option<Fault>) -> Result<Self, AllocError>;
-
-    /// Takes a message. Some are answered.
-    fn receive(&mut self, now: u64, from: u64, message: &Self::Message) -> Option<Self::Message>;
 
     /// What has become of it since it was last asked, or what has failed.
     fn take_event(&mut self) -> Result<Option<Event>>;
@@ -73,14 +68,33 @@ pub trait Duties: Drop {
     /// Builds a snapshot, and purges all but the last few entries of it.
     fn compact(&mut self, keep: u64);
 
+    /// What asks a voter for its vote.
+    fn ask_vote(&self) -> Self::Message;
+
+    /// Takes what is in flight to a follower as lost.
+    fn give_up(&mut self, to: u64);
+
+    /// What is sent next to a follower, if nothing is in flight to it.
+    fn next_message(&mut self, to: u64) -> Option<Self::Message>;
+
+    /// What tells a follower that it leads, and what is committed.
+    fn heartbeat(&self) -> Option<Self::Message>;
+}
+
+/// The steps of the protocol: what changes a server's vote, or goes by it. A campaign or a change for
+/// which there is no memory is left undone.
+pub trait Protocol: Duties {
+    /// A new server, which knows of no members.
+    fn new(alloc: Global, id: u64, fault: Option<Fault>) -> Result<Self, AllocError>;
+
+    /// Takes a message. Some are answered.
+    fn receive(&mut self, now: u64, from: u64, message: &Self::Message) -> Option<Self::Message>;
+
     /// Starts again.
     fn restart(&mut self, now: u64);
 
     /// Votes for itself in the next term.
     fn campaign(&mut self, now: u64);
-
-    /// What asks a voter for its vote.
-    fn ask_vote(&self) -> Self::Message;
 
     /// Appends an entry and counts it as its own, as the leader. The first one of a cluster is of term
     /// 0, which nobody has to grant.
@@ -92,13 +106,4 @@ pub trait Duties: Drop {
     /// Once a change is committed, goes on from a joint membership to its last config, in which those
     /// who leave are learners; and leads no longer where it is no voter any more.
     fn end_change(&mut self);
-
-    /// Takes what is in flight to a follower as lost.
-    fn give_up(&mut self, to: u64);
-
-    /// What is sent next to a follower, if nothing is in flight to it.
-    fn next_message(&mut self, to: u64) -> Option<Self::Message>;
-
-    /// What tells a follower that it leads, and what is committed.
-    fn heartbeat(&self) -> Option<Self::Message>;
 }
