@@ -27,7 +27,7 @@ pub fn act<S: Protocol + Seen>(
     let leads = server.seen().role == Role::Leader;
     match what {
         81..=86 if leads => server.propose(Payload::Normal(now)),
-        87..=90 if leads => change_some(server, network.alloc(), dice),
+        87..=90 if leads => change_some(server, network.alloc, dice),
         81..=90 => {}
         91..=95 => {
             server.apply(4);

@@ -5,13 +5,13 @@ use crate::chart;
 use crate::dice::Dice;
 use crate::events::{Counts, Event, Notes};
 use crate::fault::Fault;
+use crate::flaw::Flaw;
 use crate::interface::{Protocol, Seen};
 use crate::memory::add_new;
 use crate::network::Network;
 use crate::safety::{History, last_leader};
 use crate::text::Text;
 use crate::types::{Members, Payload};
-use anyhow::{Result, bail};
 use raft_base::EmptyNode;
 use std::alloc::{AllocError, Global};
 use std::collections::BTreeMap;
@@ -23,7 +23,7 @@ pub struct Cluster<S: Protocol + Seen> {
     network: Network<S::Message>,
     dice: Dice,
     pub now: u64,
-    history: History,
+    pub history: History,
     notes: Notes,
 }
 
@@ -40,16 +40,18 @@ impl<S: Protocol + Seen> Cluster<S> {
         }
     }
 
-    /// Starts the servers. The first of them begins a cluster of the first three.
-    pub fn start(&mut self, alloc: Global, fault: Option<Fault>) -> Result<(), AllocError> {
+    /// Starts the servers. The first of them begins a cluster of the first three, if there is memory.
+    pub fn start(&mut self, alloc: Global, fault: Option<Fault>) {
         for id in 1..=SERVERS {
-            add_new(&mut self.servers, S::new(alloc, id, fault))?;
+            if !add_new(&mut self.servers, S::new(alloc, id, fault)) {
+                self.history.note(Flaw::NoMemory, id);
+            }
         }
-        let members = first_members(alloc)?;
         if let Some(first) = self.servers.first_mut() {
-            first.propose(Payload::Membership(members));
+            if let Ok(members) = first_members(alloc) {
+                first.propose(Payload::Membership(members));
+            }
         }
-        Ok(())
     }
 
     /// Writes a line of its chart.
@@ -59,76 +61,74 @@ impl<S: Protocol + Seen> Cluster<S> {
         self.notes.end_line(text);
     }
 
-    /// Something happens, and all is still well.
-    pub fn step(&mut self) -> Result<()> {
+    /// Something happens.
+    pub fn step(&mut self) {
         self.now = self.now.saturating_add(1);
         self.notes.counts.add(Event::Any, 1);
         let bound = if self.network.is_rough { 100 } else { 81 };
         match self.dice.below(bound) {
             0..=55 => self.deliver(),
-            97..=99 => {
-                self.notes.note(None, self.network.part(&mut self.dice));
-                Ok(())
-            }
+            97..=99 => self.notes.note(None, self.network.part(&mut self.dice)),
             what => {
                 let place = self.dice.below(SERVERS) as usize;
                 if let Some(server) = self.servers.get_mut(place) {
                     acts::act(server, what, self.now, &mut self.network, &mut self.dice);
                 }
-                self.look_after(place)
+                self.look_after(place);
             }
         }
     }
 
     /// A server takes a message, if one gets through.
-    fn deliver(&mut self) -> Result<()> {
-        let Some(envelope) = self.network.take(&mut self.dice) else {
-            return Ok(());
-        };
-        let (from, to) = (envelope.from, envelope.to);
-        let place = to.saturating_sub(1) as usize;
-        let comes_again = self.network.repeats(&mut self.dice);
-        let answer = match self.servers.get_mut(place) {
-            Some(server) if self.network.lets_through(from, to, &mut self.dice) => {
-                server.receive(self.now, from, &envelope.message)
-            }
-            _ => None,
-        };
-        self.network.pass(envelope, comes_again, answer);
-        self.look_after(place)
+    fn deliver(&mut self) {
+        if let Some(envelope) = self.network.take(&mut self.dice) {
+            let (from, to) = (envelope.from, envelope.to);
+            let place = to.saturating_sub(1) as usize;
+            let comes_again = self.network.is_rough && self.dice.chance(8);
+            let answer = match self.servers.get_mut(place) {
+                Some(server) if self.network.lets_through(from, to, &mut self.dice) => {
+                    server.receive(self.now, from, &envelope.message)
+                }
+                _ => None,
+            };
+            self.network.pass(envelope, comes_again, answer);
+            self.look_after(place);
+        }
     }
 
-    /// Looks whether all is well after something at a server, and notes it.
-    fn look_after(&mut self, place: usize) -> Result<()> {
+    /// Notes what has become of a server, and looks whether all is well.
+    fn look_after(&mut self, place: usize) {
         if let Some(server) = self.servers.get_mut(place) {
-            if let Some(event) = server.take_event()? {
+            if let Some(event) = server.take_event() {
                 self.notes.note(Some(server.seen().id), event);
             }
         }
         if let Some(server) = self.servers.get(place) {
             self.history.look_after(&self.servers, server);
         }
-        self.history.ensure_safe()
     }
 
-    /// The network is mended, and after some time a leader and all its members have committed the
-    /// same log, or it fails.
-    pub fn settle(&mut self, events: u64) -> Result<()> {
+    /// The network is mended, and after some time a leader and all its members have to have committed
+    /// the same log.
+    pub fn settle(&mut self, events: u64) {
         self.network.mend();
         for _ in 0..events {
+            if self.history.flaw.is_some() {
+                return;
+            }
             if is_settled(&self.servers) {
                 self.notes.counts.add(Event::Settled, 1);
-                return Ok(());
+                return;
             }
-            self.step()?;
+            self.step();
         }
-        bail!("it does not settle")
+        self.history.note(Flaw::Unsettled, events);
     }
 
     /// How often things have happened.
     pub fn counts(&self) -> Counts {
         let mut counts = self.notes.counts;
-        counts.add(Event::Committed, self.history.commits());
+        counts.add(Event::Committed, self.history.committed.len() as u64);
         counts
     }
 }

@@ -6,15 +6,14 @@ use crate::message::{Content, Message};
 use crate::server::Server;
 use crate::storage;
 use crate::types::end;
-use anyhow::Result;
 use raft_base::{LogIdRangeOf, LogStateReader, log_id_below};
 use raft_progress::InflightOf;
 
 impl<L: Copy + Drop, C: Ord + Copy + Drop> Duties for Server<L, C> {
     type Message = Message<L, C>;
 
-    fn take_event(&mut self) -> Result<Option<Event>> {
-        self.standing.take_event(self.id)
+    fn take_event(&mut self) -> Option<Event> {
+        self.standing.event.take()
     }
 
     fn apply(&mut self, most: u64) {
@@ -44,7 +43,10 @@ impl<L: Copy + Drop, C: Ord + Copy + Drop> Duties for Server<L, C> {
     fn next_message(&mut self, to: u64) -> Option<Message<L, C>> {
         match self.followers.next_request(&self.state, to)? {
             InflightOf::Logs { id, log_id_range } => self.logs(Some(id), log_id_range),
-            InflightOf::Snapshot { id, .. } => self.snapshot(id),
+            InflightOf::Snapshot { id, .. } => {
+                let snapshot = self.state.snapshot_meta.try_clone().ok()?;
+                Some(self.message(Content::Install(id, snapshot)))
+            }
             InflightOf::None => None,
         }
     }

@@ -8,7 +8,7 @@ use std::fmt;
 const NOTES: usize = 19;
 
 /// Something that happens.
-#[derive(Clone, Copy, PartialEq, Eq)]
+#[derive(Clone, Copy)]
 pub enum Event {
     /// Anything.
     Any,
@@ -52,13 +52,6 @@ pub struct Counts {
     counts: [u64; 10],
 }
 
-impl Event {
-    /// The word for it.
-    pub fn word(self) -> &'static str {
-        WORDS[self as usize]
-    }
-}
-
 impl Counts {
     /// Nothing has happened.
     pub fn new() -> Self {
@@ -79,7 +72,8 @@ impl Counts {
 
 impl fmt::Display for Counts {
     fn fmt<W: fmt::Write>(&self, f: &mut fmt::Formatter<W>) -> fmt::Result {
-        for (place, (count, word)) in self.counts.iter().zip(&WORDS).enumerate() {
+        for (place, word) in WORDS.iter().enumerate() {
+            let count = self.counts[place];
             let sign = match place {
                 0 => "",
                 6 => ",\n",
@@ -112,7 +106,7 @@ impl Notes {
     pub fn note(&mut self, server: Option<u64>, event: Event) {
         self.counts.add(event, 1);
         let sign = if self.text.is_empty() { " " } else { ", " };
-        let word = event.word();
+        let word = WORDS[event as usize];
         let length = sign.len().saturating_add(word.len());
         let _left_out = match server {
             // An id has one digit, and a space after it.

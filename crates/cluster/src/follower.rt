@@ -2,6 +2,7 @@
 
 use crate::events::Event;
 use crate::fault::Fault;
+use crate::flaw::Flaw;
 use crate::server::Server;
 use crate::storage;
 use crate::types::Snapshot;
@@ -27,8 +28,8 @@ impl<L: LeaderIdentity<Id = u64> + Drop> Server<L, L::Committed> {
                 self.flush(&logs.entries);
                 outcome
             }
-            Err(failure) => {
-                self.standing.failure = Some(failure);
+            Err(_) => {
+                self.standing.failure = Some(Flaw::Logs);
                 Outcome::Refused
             }
         }
@@ -46,23 +47,23 @@ impl<L: LeaderIdentity<Id = u64> + Drop> Server<L, L::Committed> {
         }
         if log_id_below(self.state.committed, snapshot.last_log_id) {
             let is_installed = storage::install(&mut self.state, snapshot);
-            storage::cut(&mut self.disk, &self.state);
-            self.standing.check(is_installed, "a snapshot does not fit");
+            self.cut_disk();
+            self.standing.check(is_installed, Flaw::Snapshot);
             self.standing.event = Some(Event::Installed);
         }
         Outcome::Matches(snapshot.last_log_id)
     }
 }
 
-impl<L: Copy + Drop, C: Ord + Copy + Drop> Server<L, C> {
+impl<L: Drop, C: Ord + Copy + Drop> Server<L, C> {
     /// Whether a planted fault keeps entries from being written.
     fn skips_writing(&self, now: u64, logs: &Logs<C>) -> bool {
         match (self.fault, logs.last()) {
             (Some(Fault::NoWrite), _) => now % 8 == 0,
-            (Some(Fault::NoCut), Some(last)) => match self.state.get_log_id(last.index) {
-                Some(own) => own != last,
-                None => false,
-            },
+            (Some(Fault::NoCut), Some(last)) => {
+                let own = self.state.get_log_id(last.index);
+                own.is_some() && own != Some(last)
+            }
             _ => false,
         }
     }

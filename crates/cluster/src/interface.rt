@@ -3,9 +3,9 @@
 
 use crate::events::Event;
 use crate::fault::Fault;
+use crate::flaw::Flaw;
 use crate::standing::Role;
-use crate::types::{Change, LeaderNumbers, Members, Payload};
-use anyhow::Result;
+use crate::types::{Change, LeaderNumbers, LogNumbers, Members, Payload};
 use std::alloc::{AllocError, Global};
 
 /// What is seen of a server at a glance. A log is told by its indexes: an end is the index after the
@@ -39,28 +39,27 @@ pub trait Seen {
     /// Whether it is to ask for votes, after so long without a leader.
     fn has_waited(&self, now: u64, patience: u64) -> bool;
 
-    /// The last entry that another server is known to have, where it leads that one.
-    fn matching(&self, id: u64) -> Option<(u64, LeaderNumbers)>;
+    /// The last log id that another server is known to have, where it leads that one.
+    fn matching(&self, id: u64) -> Option<LogNumbers>;
 
-    /// The leader of the entry at an index, if that is in the log.
-    fn leader_at(&self, index: u64) -> Option<LeaderNumbers>;
+    /// The log id at an index, if that is in the log.
+    fn log_at(&self, index: u64) -> Option<LogNumbers>;
 
     /// Whether its entry at an index is that of another server.
     fn shares_entry(&self, other: &Self, index: u64) -> bool;
 
-    /// What is wrong with it by itself, if anything is, before its id.
-    fn flaw(&self) -> Option<&'static str>;
+    /// What has failed in it, or is wrong with it by itself, if anything has or is.
+    fn flaw(&self) -> Option<Flaw>;
 }
 
 /// What a server does beside: it applies and compacts, and sends. Its vote stays as it is. What fails
-/// in it is kept until it is asked what has become of it, and what there is no memory for, as a
-/// message, is left undone.
+/// in it is kept, and what there is no memory for, as a message, is left undone.
 pub trait Duties: Drop {
     /// What servers send each other.
     type Message: Drop;
 
-    /// What has become of it since it was last asked, or what has failed.
-    fn take_event(&mut self) -> Result<Option<Event>>;
+    /// What has become of it since it was last asked.
+    fn take_event(&mut self) -> Option<Event>;
 
     /// Applies what is committed, no more than so many entries.
     fn apply(&mut self, most: u64);

@@ -2,6 +2,7 @@
 
 use crate::events::Event;
 use crate::fault::Fault;
+use crate::flaw::Flaw;
 use crate::interface::Protocol;
 use crate::memory::{add, copy_of, last_few, renew};
 use crate::message::{Content, Message};
@@ -42,14 +43,13 @@ where
     }
 }
 
-impl<L: Copy + Drop, C: Ord + Copy + Drop> Server<L, C> {
+impl<L: Drop, C: Ord + Copy + Drop> Server<L, C> {
     /// Writes an entry of its own, first to disk.
     pub fn write(&mut self, payload: Payload) {
         let log_id = LogIdOf::new(self.followers.leader, self.end());
         let is_written = add(&mut self.disk, Entry { log_id, payload });
         let is_appended = storage::append(&mut self.state, last_few(&self.disk, 1));
-        self.standing
-            .check(is_written && is_appended, "an entry does not follow");
+        self.standing.check(is_written && is_appended, Flaw::Entry);
     }
 
     /// Commits what a quorum has.
@@ -59,7 +59,7 @@ impl<L: Copy + Drop, C: Ord + Copy + Drop> Server<L, C> {
         } else {
             self.followers.commit(&mut self.state).is_ok()
         };
-        self.standing.check(is_committed, "members are not in turn");
+        self.standing.check(is_committed, Flaw::Commit);
     }
 
     /// Whether it may ask for votes: it is a voter, or was one until a change that is not committed,
@@ -69,7 +69,9 @@ impl<L: Copy + Drop, C: Ord + Copy + Drop> Server<L, C> {
         memberships.is_voter(&self.id)
             || (memberships.committed().is_voter(&self.id) && memberships.contains(&self.id))
     }
+}
 
+impl<L: Copy + Drop, C: Ord + Copy + Drop> Server<L, C> {
     /// What sends the entries of a range, and what is committed, if there is memory.
     pub fn logs(&self, request: Option<u64>, range: LogIdRangeOf<C>) -> Option<Message<L, C>> {
         let (from, to) = (self.place(end(range.prev)), self.place(end(range.last)));
@@ -79,12 +81,6 @@ impl<L: Copy + Drop, C: Ord + Copy + Drop> Server<L, C> {
             committed: self.state.committed,
         };
         Some(self.message(Content::Append(request, logs)))
-    }
-
-    /// What sends the snapshot, if there is memory.
-    pub fn snapshot(&self, request: u64) -> Option<Message<L, C>> {
-        let snapshot = self.state.snapshot_meta.try_clone().ok()?;
-        Some(self.message(Content::Install(request, snapshot)))
     }
 }
 

@@ -17,6 +17,7 @@ mod dice;
 mod duties;
 mod events;
 mod fault;
+mod flaw;
 mod follower;
 mod interface;
 mod leader;
@@ -102,34 +103,39 @@ where
     run_all::<Server<L, L::Committed>>(text, plan)
 }
 
-/// Runs a cluster of each seed, writes how it has ended, if not well, and answers what happened.
+/// Runs a cluster of each seed, writes what is wrong with it, if anything is, and answers what
+/// happened.
 fn run_all<S: Protocol + Seen>(text: &mut Text, plan: &Plan) -> Counts {
     let mut total = Counts::new();
     for seed in plan.first..plan.first.saturating_add(plan.count) {
-        let mut cluster = Cluster::<S>::new(text.alloc(), seed, plan.is_standard, total);
-        if let Err(error) = play::<S>(text, plan, &mut cluster) {
-            writeln!(text, "seed {seed}: event {}: {error:#}", cluster.now);
+        let mut cluster = Cluster::<S>::new(text.alloc, seed, plan.is_standard, total);
+        play::<S>(text, plan, &mut cluster);
+        if let Some((flaw, at)) = cluster.history.flaw {
+            let (event, words) = (cluster.now, flaw.words());
+            writeln!(text, "seed {seed}: event {event}: {words} {at}");
         }
         total = cluster.counts();
     }
     total
 }
 
-/// Lets the events of a plan happen to a cluster, with a line of its chart every few, and one once it
-/// has settled.
-fn play<S: Protocol + Seen>(text: &mut Text, plan: &Plan, cluster: &mut Cluster<S>) -> Result<()> {
-    cluster.start(text.alloc(), plan.fault)?;
+/// Lets the events of a plan happen to a cluster, while all is well, with a line of its chart every
+/// few, and one at the end.
+fn play<S: Protocol + Seen>(text: &mut Text, plan: &Plan, cluster: &mut Cluster<S>) {
+    cluster.start(text.alloc, plan.fault);
     for event in 0..plan.events {
+        if cluster.history.flaw.is_some() {
+            return;
+        }
         if event.checked_rem(plan.every) == Some(0) {
             cluster.draw(text);
         }
-        cluster.step()?;
+        cluster.step();
     }
-    cluster.settle(SETTLE)?;
+    cluster.settle(SETTLE);
     if plan.every > 0 {
         cluster.draw(text);
     }
-    Ok(())
 }
 
 fn main(rt: HostRuntime) -> Result<()> {

@@ -27,17 +27,11 @@ pub fn add<T: Drop>(items: &mut Vec<T>, item: T) -> bool {
 }
 
 /// Adds a new item to others, if there was memory for it, and is for more.
-pub fn add_new<T: Drop>(items: &mut Vec<T>, item: Result<T, AllocError>) -> Result<(), AllocError> {
-    if add(items, item?) {
-        Ok(())
-    } else {
-        Err(AllocError)
+pub fn add_new<T: Drop>(items: &mut Vec<T>, item: Result<T, AllocError>) -> bool {
+    match item {
+        Ok(item) => add(items, item),
+        Err(_) => false,
     }
-}
-
-/// Adds copies of the last few of some items to others, if there is memory.
-pub fn add_last<T: Clone + Drop>(items: &mut Vec<T>, more: &[T], count: usize) -> bool {
-    items.extend_with_clones(last_few(more, count)).is_ok()
 }
 
 /// A copy of the items from one place to another, of those that there are, if there is memory.

@@ -19,6 +19,8 @@ pub struct Envelope<M> {
 /// The messages on their way, and the servers that are cut off.
 #[derive(Drop)]
 pub struct Network<M> {
+    /// Where its memory comes from.
+    pub alloc: Global,
     mail: Vec<Envelope<M>>,
     /// Whether messages get lost or come twice.
     pub is_rough: bool,
@@ -30,6 +32,7 @@ impl<M: Drop> Network<M> {
     /// A rough network without a cut.
     pub fn new(alloc: Global) -> Self {
         Network {
+            alloc,
             mail: Vec::new(alloc),
             is_rough: true,
             cut: WHOLE,
@@ -60,11 +63,6 @@ impl<M: Drop> Network<M> {
         self.is_rough = false;
     }
 
-    /// Where its memory comes from.
-    pub fn alloc(&self) -> Global {
-        *self.mail.allocator()
-    }
-
     /// Sends a message. One for which there is no memory is lost.
     pub fn post(&mut self, from: u64, to: u64, message: M) {
         let _is_sent = add(&mut self.mail, Envelope { from, to, message });
@@ -77,11 +75,6 @@ impl<M: Drop> Network<M> {
             return None;
         }
         Some(self.mail.swap_remove(place))
-    }
-
-    /// Whether a message is to come in once more.
-    pub fn repeats(&self, dice: &mut Dice) -> bool {
-        self.is_rough && dice.chance(8)
     }
 
     /// Whether a message gets through.

@@ -2,19 +2,12 @@
 //!
 //! What is found to be wrong is noted, as what fails in a server is, and the first of it is told.
 
+use crate::flaw::Flaw;
 use crate::interface::{Glance, Seen};
 use crate::standing::Role;
-use crate::types::LeaderNumbers;
-use anyhow::{Result, bail};
+use crate::types::{LeaderNumbers, LogNumbers};
 use std::alloc::Global;
 use std::collections::BTreeMap;
-
-/// What is wrong, and with which server, in which term or at which index.
-#[derive(Clone, Copy)]
-struct Flaw {
-    what: &'static str,
-    at: u64,
-}
 
 /// Who was elected, what was committed, and what is wrong.
 #[derive(Drop)]
@@ -24,10 +17,10 @@ pub struct History {
     is_standard: bool,
     /// The server that leads in each term, if a term has one leader.
     leaders: BTreeMap<u64, u64>,
-    /// The leader of each committed entry, and the vote under which it was first known to be.
-    committed: Vec<(LeaderNumbers, LeaderNumbers)>,
-    /// The first that was found to be wrong.
-    flaw: Option<Flaw>,
+    /// The log id of each committed entry, and the vote under which it was first known to be.
+    pub committed: Vec<(LogNumbers, LeaderNumbers)>,
+    /// The first that was found to be wrong, and with which server, in which term or at which index.
+    pub flaw: Option<(Flaw, u64)>,
 }
 
 impl History {
@@ -55,22 +48,9 @@ impl History {
         self.check_leaders(servers);
     }
 
-    /// Fails with the first that was found to be wrong, if anything was.
-    pub fn ensure_safe(&self) -> Result<()> {
-        match self.flaw {
-            Some(Flaw { what, at }) => bail!("{what} {at}"),
-            None => Ok(()),
-        }
-    }
-
-    /// How many entries were committed.
-    pub fn commits(&self) -> u64 {
-        self.committed.len() as u64
-    }
-
     /// Notes what is wrong, unless something was before.
-    fn note(&mut self, what: &'static str, at: u64) {
-        self.flaw = self.flaw.or(Some(Flaw { what, at }));
+    pub fn note(&mut self, flaw: Flaw, at: u64) {
+        self.flaw = self.flaw.or(Some((flaw, at)));
     }
 
     /// Two servers have to have the same entries up to the last log id that both have.
@@ -78,13 +58,13 @@ impl History {
         let mut is_shared = false;
         let (here, there) = (one.seen(), other.seen());
         for index in (here.purged.max(there.purged)..here.end.min(there.end)).rev() {
-            if one.leader_at(index) == other.leader_at(index) {
+            if one.log_at(index) == other.log_at(index) {
                 is_shared = true;
                 if !one.shares_entry(other, index) {
-                    self.note("two entries at", index);
+                    self.note(Flaw::TwoEntries, index);
                 }
             } else if is_shared {
-                self.note("logs meet again after", index);
+                self.note(Flaw::LogsMeet, index);
             }
         }
     }
@@ -93,12 +73,9 @@ impl History {
     fn check_known<S: Seen>(&mut self, leader: &S, other: &S) {
         let (seen, there) = (leader.seen(), other.seen());
         if seen.role == Role::Leader && seen.vote == there.vote {
-            if let Some((index, by)) = leader.matching(there.id) {
-                if !has(other, there.purged, index, by) {
-                    self.note(
-                        "what a leader knows to match is not in the log of",
-                        there.id,
-                    );
+            if let Some(log) = leader.matching(there.id) {
+                if !has(other, there.purged, log) {
+                    self.note(Flaw::NoMatch, there.id);
                 }
             }
         }
@@ -108,14 +85,14 @@ impl History {
     fn commit<S: Seen>(&mut self, server: &S) {
         let seen = server.seen();
         for index in seen.purged.saturating_sub(1)..seen.committed {
-            match (server.leader_at(index), self.committed.get(index as usize)) {
-                (Some(leader), None) => {
-                    if self.committed.push((leader, seen.vote)).is_err() {
-                        self.note("no memory to note what is committed at", index);
+            match (server.log_at(index), self.committed.get(index as usize)) {
+                (Some(log), None) => {
+                    if self.committed.push((log, seen.vote)).is_err() {
+                        self.note(Flaw::NotNoted, index);
                     }
                 }
-                (Some(leader), Some(known)) if known.0 == leader => {}
-                _ => self.note("another entry was committed at", index),
+                (Some(log), Some(known)) if known.0 == log => {}
+                _ => self.note(Flaw::OtherCommitted, index),
             }
         }
     }
@@ -128,10 +105,7 @@ impl History {
             if seen.role == Role::Leader {
                 self.check_only(&seen);
                 if !self.is_complete(server, &seen) {
-                    self.note(
-                        "what was committed is not in the log of the leader",
-                        seen.id,
-                    );
+                    self.note(Flaw::LacksCommitted, seen.id);
                 }
             }
         }
@@ -142,28 +116,26 @@ impl History {
         if self.is_standard {
             match self.leaders.insert(seen.vote.0, seen.id) {
                 Ok(before) if before.unwrap_or(seen.id) == seen.id => {}
-                Ok(_) => self.note("two leaders of term", seen.vote.0),
-                Err(_) => self.note("no memory to note the leader of term", seen.vote.0),
+                Ok(_) => self.note(Flaw::TwoLeaders, seen.vote.0),
+                Err(_) => self.note(Flaw::NotNoted, seen.vote.0),
             }
         }
     }
 
     /// Whether a leader has what was committed under lesser votes.
     fn is_complete<S: Seen>(&self, leader: &S, seen: &Glance) -> bool {
-        let mut index = 0;
-        for (of, by) in &self.committed {
-            if *by < seen.vote && !has(leader, seen.purged, index, *of) {
+        for (log, by) in &self.committed {
+            if *by < seen.vote && !has(leader, seen.purged, *log) {
                 return false;
             }
-            index = index.saturating_add(1);
         }
         true
     }
 }
 
-/// Whether a leader's entry at an index is in a server's log, or the index is purged.
-fn has<S: Seen>(server: &S, purged: u64, index: u64, leader: LeaderNumbers) -> bool {
-    index < purged || server.leader_at(index) == Some(leader)
+/// Whether a log id is in a server's log, or its index is purged.
+fn has<S: Seen>(server: &S, purged: u64, log: LogNumbers) -> bool {
+    log.0 < purged || server.log_at(log.0) == Some(log)
 }
 
 /// The leader that was elected last.

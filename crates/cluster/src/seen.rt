@@ -1,12 +1,12 @@
 //! What is seen of a server.
 
+use crate::flaw::Flaw;
 use crate::interface::{Glance, Seen};
 use crate::server::Server;
-use crate::storage::has_log;
-use crate::types::{LeaderNumbers, Members, Numbered, end};
+use crate::types::{LogNumbers, Members, Numbered, end, numbers_of};
 use raft_base::{LogIdOptionExt, LogStateReader, Validate};
 
-impl<L: Copy + Drop + Numbered, C: Ord + Copy + Drop + Numbered> Seen for Server<L, C> {
+impl<L: Drop + Numbered, C: Ord + Copy + Drop + Numbered> Seen for Server<L, C> {
     fn seen(&self) -> Glance {
         Glance {
             id: self.id,
@@ -28,29 +28,32 @@ impl<L: Copy + Drop + Numbered, C: Ord + Copy + Drop + Numbered> Seen for Server
         self.may_campaign() && self.standing.has_waited(since, now, patience)
     }
 
-    fn matching(&self, id: u64) -> Option<(u64, LeaderNumbers)> {
-        let log_id = self.followers.get(id)?.matching?;
-        Some((log_id.index, log_id.leader_id.numbers()))
+    fn matching(&self, id: u64) -> Option<LogNumbers> {
+        match self.followers.get(id) {
+            Some(follower) => numbers_of(follower.matching),
+            None => None,
+        }
     }
 
-    fn leader_at(&self, index: u64) -> Option<LeaderNumbers> {
-        let log_id = self.state.get_log_id(index)?;
-        Some(log_id.leader_id.numbers())
+    fn log_at(&self, index: u64) -> Option<LogNumbers> {
+        numbers_of(self.state.get_log_id(index))
     }
 
     fn shares_entry(&self, other: &Self, index: u64) -> bool {
         self.disk.get(self.place(index)) == other.disk.get(other.place(index))
     }
 
-    fn flaw(&self) -> Option<&'static str> {
-        if self.state.validate().is_err() {
-            Some("no valid state of")
+    fn flaw(&self) -> Option<Flaw> {
+        if self.standing.failure.is_some() {
+            self.standing.failure
+        } else if self.state.validate().is_err() {
+            Some(Flaw::InvalidState)
         } else if !self.state.purge_upto_is_logged() {
-            Some("a purge point is not in the log of")
+            Some(Flaw::LostPurgePoint)
         } else if !self.state.committed_is_logged() {
-            Some("what is committed is not in the log of")
-        } else if !has_log(&self.disk, &self.state) {
-            Some("another log is on the disk of")
+            Some(Flaw::LostCommitted)
+        } else if !self.has_log_on_disk() {
+            Some(Flaw::OtherDisk)
         } else {
             None
         }

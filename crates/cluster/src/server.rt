@@ -29,7 +29,7 @@ where
     pub followers: Followers<C>,
 }
 
-impl<L: Copy + Drop, C: Ord + Copy + Drop> Server<L, C> {
+impl<L: Drop, C: Ord + Copy + Drop> Server<L, C> {
     /// Its last log id.
     pub fn last(&self) -> Option<LogIdOf<C>> {
         self.state.last_log_id().copied()
@@ -49,7 +49,9 @@ impl<L: Copy + Drop, C: Ord + Copy + Drop> Server<L, C> {
     pub fn place(&self, index: u64) -> usize {
         index.saturating_sub(self.state.purged_next) as usize
     }
+}
 
+impl<L: Copy + Drop, C: Ord + Copy + Drop> Server<L, C> {
     /// A message with its vote.
     pub fn message(&self, content: Content<C>) -> Message<L, C> {
         Message {
@@ -69,11 +71,12 @@ impl<L: LeaderIdentity<Id = u64> + Drop> Server<L, L::Committed> {
     /// Takes over a vote that is greater than its own, and follows from then on. True if the vote is
     /// the own one then: it was not below that, and does compare with it.
     pub fn learn(&mut self, vote: VoteIn<L>) -> bool {
-        if vote > *self.state.vote_ref() {
+        let own = *self.state.vote_ref();
+        if vote > own {
             self.standing.role = Role::Follower;
             self.save_vote(vote);
         }
-        vote == *self.state.vote_ref()
+        vote >= own
     }
 
     /// Promises a vote, unless it is below the own one or does not compare with it, and waits anew for

@@ -1,9 +1,9 @@
 //! What a server is to its cluster, apart from its log.
 
 use crate::events::Event;
+use crate::flaw::Flaw;
 use crate::memory::renew;
 use crate::types::Members;
-use anyhow::{Error, Result, bail};
 use raft_base::EmptyNode;
 use raft_progress::{Progress, Tracked};
 use std::alloc::{AllocError, Global};
@@ -32,8 +32,8 @@ pub struct Standing {
     pub is_behind: bool,
     /// What has become of it since it was last looked at.
     pub event: Option<Event>,
-    /// What has failed.
-    pub failure: Option<Error>,
+    /// What has failed, if anything has.
+    pub failure: Option<Flaw>,
 }
 
 impl Standing {
@@ -74,17 +74,9 @@ impl Standing {
     }
 
     /// Notes a failure, unless all is well.
-    pub fn check(&mut self, is_well: bool, failure: &'static str) {
+    pub fn check(&mut self, is_well: bool, failure: Flaw) {
         if !is_well {
-            self.failure = Some(Error::msg(failure));
-        }
-    }
-
-    /// What has become of a server since this was last asked, or what has failed.
-    pub fn take_event(&mut self, id: u64) -> Result<Option<Event>> {
-        match self.failure.take() {
-            Some(failure) => bail!("server {id}: {failure}"),
-            None => Ok(self.event.take()),
+            self.failure = Some(failure);
         }
     }
 }

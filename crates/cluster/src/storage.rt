@@ -2,25 +2,27 @@
 //! again. What could not be done answers false.
 
 use crate::events::Event;
-use crate::memory::{add_last, after, renew};
+use crate::flaw::Flaw;
+use crate::memory::{after, last_few, renew};
 use crate::server::Server;
-use crate::types::{Disk, Entry, Snapshot, State, end};
+use crate::types::{Entry, Snapshot, State};
 use raft_base::{
     LeaderIdentity, LogIdOf, LogIdOptionExt, LogStateReader, log_id_at_most, log_id_below,
 };
-use raft_state::AcceptedIn;
+use raft_state::{AcceptedIn, LogIdListOf};
 use std::mem;
 
-impl<L: Copy + Drop, C: Ord + Copy + Drop> Server<L, C> {
+impl<L: Drop, C: Ord + Copy + Drop> Server<L, C> {
     /// Writes to disk those of these entries, the last ones of its log, that it does not have there,
     /// once what is no longer in the log is removed.
     pub fn flush(&mut self, entries: &[Entry<C>]) {
-        if cut(&mut self.disk, &self.state) {
+        if self.cut_disk() {
             self.standing.event = Some(Event::CutBack);
         }
         let lacking = self.place(self.end()).saturating_sub(self.disk.len());
-        let is_written = add_last(&mut self.disk, entries, lacking);
-        self.standing.check(is_written, "entries cannot be written");
+        let lacking = last_few(entries, lacking);
+        let is_written = self.disk.extend_with_clones(lacking).is_ok();
+        self.standing.check(is_written, Flaw::NoMemory);
     }
 
     /// Purges its log as planned, also on disk. A message has its entries, so none that is on its way
@@ -29,9 +31,29 @@ impl<L: Copy + Drop, C: Ord + Copy + Drop> Server<L, C> {
         if let Some(upto) = self.state.purge_upto {
             let is_purged = self.state.can_purge_log(&upto) && self.state.purge_log(&upto).is_ok();
             self.state.io_state.purged = Some(upto);
-            self.standing.check(is_purged, "a log cannot be purged");
-            cut(&mut self.disk, &self.state);
+            self.standing.check(is_purged, Flaw::Purge);
+            self.cut_disk();
         }
+    }
+
+    /// Removes from disk what is no longer in its log, and answers whether there was any.
+    pub fn cut_disk(&mut self) -> bool {
+        let before = self.disk.len();
+        let (log_ids, purged) = (&self.state.log_ids, self.state.purged_next);
+        self.disk.retain(|entry| has_entry(log_ids, purged, entry));
+        self.disk.len() < before
+    }
+
+    /// Whether it has on disk what is in its log.
+    pub fn has_log_on_disk(&self) -> bool {
+        let mut index = self.state.purged_next;
+        for entry in &self.disk {
+            if self.state.get_log_id(index) != Some(entry.log_id) {
+                return false;
+            }
+            index = index.saturating_add(1);
+        }
+        index == self.end()
     }
 }
 
@@ -48,9 +70,8 @@ impl<L: LeaderIdentity<Id = u64> + Drop> Server<L, L::Committed> {
             self.state.accepted = AcceptedIn::default();
             let is_restored = is_installed && restore(&mut self.state, now, &stored, &self.disk);
             drop(stored);
-            self.standing
-                .check(is_restored, "a state cannot be restored");
-            cut(&mut self.disk, &self.state);
+            self.standing.check(is_restored, Flaw::Restore);
+            self.cut_disk();
         }
     }
 }
@@ -73,29 +94,10 @@ fn restore<L: Copy + Drop, C: Ord + Copy + Drop>(
     is_appended && commit(state, known.max(stored.io_state.applied))
 }
 
-/// Whether a disk has what is in the log of a state.
-pub fn has_log<L: Drop, C: Ord + Copy + Drop>(disk: &[Entry<C>], state: &State<L, C>) -> bool {
-    let mut index = state.purged_next;
-    for entry in disk {
-        if state.get_log_id(index) != Some(entry.log_id) {
-            return false;
-        }
-        index = index.saturating_add(1);
-    }
-    index == end(state.last_log_id().copied())
-}
-
-/// Whether a log has an entry, and has not purged it.
-fn has_entry<L: Drop, C: Ord + Copy + Drop>(state: &State<L, C>, entry: &Entry<C>) -> bool {
+/// Whether a log, purged before an index, has an entry.
+fn has_entry<C: Ord + Copy>(log_ids: &LogIdListOf<C>, purged: u64, entry: &Entry<C>) -> bool {
     let index = entry.log_id.index;
-    state.purged_next <= index && state.get_log_id(index) == Some(entry.log_id)
-}
-
-/// Removes from a disk what a log no longer has, and answers whether there was any.
-pub fn cut<L: Drop, C: Ord + Copy + Drop>(disk: &mut Disk<C>, state: &State<L, C>) -> bool {
-    let before = disk.len();
-    disk.retain(|entry| has_entry(state, entry));
-    disk.len() < before
+    purged <= index && log_ids.get(index) == Some(entry.log_id)
 }
 
 /// Builds a snapshot of what is applied and the effective members, if these are applied, it has more

@@ -6,6 +6,8 @@ use std::fmt::Display;
 /// A text, as far as there is memory for it.
 #[derive(Drop)]
 pub struct Text {
+    /// Where its memory comes from.
+    pub alloc: Global,
     text: String,
     is_whole: bool,
 }
@@ -14,14 +16,10 @@ impl Text {
     /// An empty text.
     pub fn new(alloc: Global) -> Text {
         Text {
+            alloc,
             text: String::new(alloc),
             is_whole: true,
         }
-    }
-
-    /// Where its memory comes from.
-    pub fn alloc(&self) -> Global {
-        *self.text.allocator()
     }
 
     /// Adds how a value is written: what `write!` and `writeln!` call.

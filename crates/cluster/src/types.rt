@@ -21,6 +21,9 @@ pub type Snapshot<C> = SnapshotMetaOf<C, u64, EmptyNode>;
 /// A leader, in numbers: its term and its server.
 pub type LeaderNumbers = (u64, u64);
 
+/// A log id, in numbers: its index, and its leader.
+pub type LogNumbers = (u64, LeaderNumbers);
+
 /// Leaders, or what is kept of them, that can be told in numbers.
 pub trait Numbered {
     /// The term and the server. It is 0 where that is not kept, since a term has one leader.
@@ -42,6 +45,14 @@ impl Numbered for leader_id_std::LeaderId<u64> {
 impl Numbered for leader_id_std::CommittedLeaderId {
     fn numbers(&self) -> LeaderNumbers {
         (self.term, 0)
+    }
+}
+
+/// A log id, in numbers, if there is one.
+pub fn numbers_of<C: Copy + Numbered>(log_id: Option<LogIdOf<C>>) -> Option<LogNumbers> {
+    match log_id {
+        Some(log_id) => Some((log_id.index, log_id.leader_id.numbers())),
+        None => None,
     }
 }
 
