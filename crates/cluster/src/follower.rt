@@ -29,7 +29,7 @@ impl<L: LeaderIdentity<Id = u64> + Drop> Server<L, L::Committed> {
                 outcome
             }
             Err(_) => {
-                self.standing.failure = Some(Flaw::Logs);
+                self.standing.check(false, Flaw::LogsNotTaken);
                 Outcome::Refused
             }
         }
@@ -48,7 +48,7 @@ impl<L: LeaderIdentity<Id = u64> + Drop> Server<L, L::Committed> {
         if log_id_below(self.state.committed, snapshot.last_log_id) {
             let is_installed = storage::install(&mut self.state, snapshot);
             self.cut_disk();
-            self.standing.check(is_installed, Flaw::Snapshot);
+            self.standing.check(is_installed, Flaw::NotInstalled);
             self.standing.event = Some(Event::Installed);
         }
         Outcome::Matches(snapshot.last_log_id)

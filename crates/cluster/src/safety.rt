@@ -1,4 +1,4 @@
-//! What Raft promises of a whole cluster, looked after at each event.
+//! What Raft promises of a whole cluster, checked at each event.
 //!
 //! What is found to be wrong is noted, as what fails in a server is, and the first of it is told.
 
@@ -19,7 +19,8 @@ pub struct History {
     leaders: BTreeMap<u64, u64>,
     /// The log id of each committed entry, and the vote under which it was first known to be.
     pub committed: Vec<(LogNumbers, LeaderNumbers)>,
-    /// The first that was found to be wrong, and with which server, in which term or at which index.
+    /// The first that was found to be wrong, and with which server, in which term, at which index or
+    /// after how many events.
     pub flaw: Option<(Flaw, u64)>,
 }
 
@@ -34,8 +35,8 @@ impl History {
         }
     }
 
-    /// Looks whether all is well after something at a server.
-    pub fn look_after<S: Seen>(&mut self, servers: &[S], server: &S) {
+    /// Checks whether all is well after something at a server.
+    pub fn check<S: Seen>(&mut self, servers: &[S], server: &S) {
         if let Some(flaw) = server.flaw() {
             self.note(flaw, server.seen().id);
         }
@@ -44,7 +45,7 @@ impl History {
             self.check_known(server, other);
             self.check_known(other, server);
         }
-        self.commit(server);
+        self.check_committed(server);
         self.check_leaders(servers);
     }
 
@@ -82,7 +83,7 @@ impl History {
     }
 
     /// What a server knows to be committed has to be in its log, and what others know.
-    fn commit<S: Seen>(&mut self, server: &S) {
+    fn check_committed<S: Seen>(&mut self, server: &S) {
         let seen = server.seen();
         for index in seen.purged.saturating_sub(1)..seen.committed {
             match (server.log_at(index), self.committed.get(index as usize)) {
@@ -97,8 +98,8 @@ impl History {
         }
     }
 
-    /// Each server that leads has to be the only leader of its id, and to have in its log all that
-    /// was committed under lesser ones.
+    /// Each server that leads has to be the only leader of its term, if a term has one, and to have in
+    /// its log all that was committed under votes up to its own.
     fn check_leaders<S: Seen>(&mut self, servers: &[S]) {
         for server in servers {
             let seen = server.seen();
@@ -111,7 +112,7 @@ impl History {
         }
     }
 
-    /// A leader has to be the only one of its id.
+    /// A leader has to be the only one of its term, if a term has one.
     fn check_only(&mut self, seen: &Glance) {
         if self.is_standard {
             match self.leaders.insert(seen.vote.0, seen.id) {
@@ -122,10 +123,10 @@ impl History {
         }
     }
 
-    /// Whether a leader has what was committed under lesser votes.
+    /// Whether a leader has what was committed under votes up to its own.
     fn is_complete<S: Seen>(&self, leader: &S, seen: &Glance) -> bool {
         for (log, by) in &self.committed {
-            if *by < seen.vote && !has(leader, seen.purged, *log) {
+            if *by <= seen.vote && !has(leader, seen.purged, *log) {
                 return false;
             }
         }

@@ -23,7 +23,7 @@ impl<L: Drop + Numbered, C: Ord + Copy + Drop + Numbered> Seen for Server<L, C> 
         self.effective()
     }
 
-    fn has_waited(&self, now: u64, patience: u64) -> bool {
+    fn is_to_campaign(&self, now: u64, patience: u64) -> bool {
         let since = self.state.vote_last_modified();
         self.may_campaign() && self.standing.has_waited(since, now, patience)
     }
@@ -44,8 +44,8 @@ impl<L: Drop + Numbered, C: Ord + Copy + Drop + Numbered> Seen for Server<L, C> 
     }
 
     fn flaw(&self) -> Option<Flaw> {
-        if self.standing.failure.is_some() {
-            self.standing.failure
+        if self.standing.flaw.is_some() {
+            self.standing.flaw
         } else if self.state.validate().is_err() {
             Some(Flaw::InvalidState)
         } else if !self.state.purge_upto_is_logged() {

@@ -30,10 +30,10 @@ pub struct Standing {
     ballot: Ballot,
     /// Whether a voter with a longer log has refused it: it waits longer then, for that one to lead.
     pub is_behind: bool,
-    /// What has become of it since it was last looked at.
+    /// What has become of it since this was last taken.
     pub event: Option<Event>,
-    /// What has failed, if anything has.
-    pub failure: Option<Flaw>,
+    /// The first that has failed, if anything has.
+    pub flaw: Option<Flaw>,
 }
 
 impl Standing {
@@ -44,15 +44,18 @@ impl Standing {
             ballot: blank(Members::try_default(alloc))?,
             is_behind: false,
             event: None,
-            failure: None,
+            flaw: None,
         })
     }
 
-    /// It asks these members for their votes, if there is memory to count them.
+    /// It asks these members for their votes. Without memory to count them it is no candidate.
     pub fn ask(&mut self, members: &Members) {
-        if renew(&mut self.ballot, blank(members.try_clone())) {
-            self.role = Role::Candidate;
-        }
+        let is_counting = renew(&mut self.ballot, blank(members.try_clone()));
+        self.role = if is_counting {
+            Role::Candidate
+        } else {
+            Role::Follower
+        };
     }
 
     /// Counts a vote for it. True if it is a candidate for which a quorum has voted now.
@@ -73,10 +76,10 @@ impl Standing {
         }
     }
 
-    /// Notes a failure, unless all is well.
-    pub fn check(&mut self, is_well: bool, failure: Flaw) {
+    /// Notes what has failed, unless all is well, or something has failed before.
+    pub fn check(&mut self, is_well: bool, flaw: Flaw) {
         if !is_well {
-            self.failure = Some(failure);
+            self.flaw = self.flaw.or(Some(flaw));
         }
     }
 }
