@@ -104,7 +104,7 @@ fn tick<S: Protocol + Seen>(
             }
         }
         server.end_change();
-    } else if server.has_waited(now, dice.below(TIMEOUT).saturating_add(TIMEOUT)) {
+    } else if server.is_to_campaign(now, dice.below(TIMEOUT).saturating_add(TIMEOUT)) {
         server.campaign(now);
         ask_votes(server, network);
     }

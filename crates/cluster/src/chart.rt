@@ -44,8 +44,8 @@ fn longest<S: Seen>(servers: &[S]) -> u64 {
 /// What a server is, its term, and the last indexes of its log up to an end.
 fn show(text: &mut Text, seen: &Glance, is_cut_off: bool, is_voter: bool, end: u64) {
     let sign = if is_cut_off { '*' } else { ' ' };
-    let letter = letter(seen.role, is_voter);
-    write!(text, "{sign}{letter}{:<2}", seen.vote.0);
+    let role = letter(seen.role, is_voter);
+    write!(text, "{sign}{role}{:<2}", seen.vote.0);
     for index in end.saturating_sub(WIDTH)..end {
         write!(text, "{}", mark(seen, index));
     }

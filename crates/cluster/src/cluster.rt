@@ -40,7 +40,7 @@ impl<S: Protocol + Seen> Cluster<S> {
         }
     }
 
-    /// Starts the servers. The first of them begins a cluster of the first three, if there is memory.
+    /// Starts the servers. The first of them begins a cluster of the first three.
     pub fn start(&mut self, alloc: Global, fault: Option<Fault>) {
         for id in 1..=SERVERS {
             if !add_new(&mut self.servers, S::new(alloc, id, fault)) {
@@ -48,8 +48,9 @@ impl<S: Protocol + Seen> Cluster<S> {
             }
         }
         if let Some(first) = self.servers.first_mut() {
-            if let Ok(members) = first_members(alloc) {
-                first.propose(Payload::Membership(members));
+            match first_members(alloc) {
+                Ok(members) => first.propose(Payload::Membership(members)),
+                Err(_) => self.history.note(Flaw::NoMemory, 1),
             }
         }
     }
@@ -65,6 +66,7 @@ impl<S: Protocol + Seen> Cluster<S> {
     pub fn step(&mut self) {
         self.now = self.now.saturating_add(1);
         self.notes.counts.add(Event::Any, 1);
+        // Once the network is mended messages come in and time passes, and no more.
         let bound = if self.network.is_rough { 100 } else { 81 };
         match self.dice.below(bound) {
             0..=55 => self.deliver(),
@@ -74,7 +76,7 @@ impl<S: Protocol + Seen> Cluster<S> {
                 if let Some(server) = self.servers.get_mut(place) {
                     acts::act(server, what, self.now, &mut self.network, &mut self.dice);
                 }
-                self.look_after(place);
+                self.check(place);
             }
         }
     }
@@ -92,19 +94,19 @@ impl<S: Protocol + Seen> Cluster<S> {
                 _ => None,
             };
             self.network.pass(envelope, comes_again, answer);
-            self.look_after(place);
+            self.check(place);
         }
     }
 
-    /// Notes what has become of a server, and looks whether all is well.
-    fn look_after(&mut self, place: usize) {
+    /// Notes what has become of a server, and checks whether all is well.
+    fn check(&mut self, place: usize) {
         if let Some(server) = self.servers.get_mut(place) {
             if let Some(event) = server.take_event() {
                 self.notes.note(Some(server.seen().id), event);
             }
         }
         if let Some(server) = self.servers.get(place) {
-            self.history.look_after(&self.servers, server);
+            self.history.check(&self.servers, server);
         }
     }
 

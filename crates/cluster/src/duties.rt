@@ -42,7 +42,7 @@ impl<L: Copy + Drop, C: Ord + Copy + Drop> Duties for Server<L, C> {
 
     fn next_message(&mut self, to: u64) -> Option<Message<L, C>> {
         match self.followers.next_request(&self.state, to)? {
-            InflightOf::Logs { id, log_id_range } => self.logs(Some(id), log_id_range),
+            InflightOf::Logs { id, log_id_range } => self.append_message(Some(id), log_id_range),
             InflightOf::Snapshot { id, .. } => {
                 let snapshot = self.state.snapshot_meta.try_clone().ok()?;
                 Some(self.message(Content::Install(id, snapshot)))
@@ -53,6 +53,6 @@ impl<L: Copy + Drop, C: Ord + Copy + Drop> Duties for Server<L, C> {
 
     fn heartbeat(&self) -> Option<Message<L, C>> {
         let last = self.last();
-        self.logs(None, LogIdRangeOf { prev: last, last })
+        self.append_message(None, LogIdRangeOf { prev: last, last })
     }
 }

@@ -10,7 +10,7 @@ pub enum Fault {
     /// A change goes to the new config without the joint one.
     NoJoint,
     /// A follower keeps its own entries where a leader sends others that go no further than its log,
-    /// and acks these. Where it lacks what comes before them it cuts, as it should.
+    /// and acks these. Those that go further it takes, and cuts, as it should.
     NoCut,
     /// A follower acks some entries that it has not written.
     NoWrite,

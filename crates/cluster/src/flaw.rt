@@ -1,6 +1,6 @@
 //! What may be wrong in a cluster.
 
-/// What is wrong, or has failed.
+/// What is wrong, or has failed, be it for want of memory.
 #[derive(Clone, Copy)]
 pub enum Flaw {
     /// There was no memory for what a server has to do.
@@ -17,18 +17,18 @@ pub enum Flaw {
     LostCommitted,
     /// The disk has another log.
     OtherDisk,
-    /// An entry of a leader's own does not follow its log.
-    Entry,
-    /// What is to be committed has members that are not in turn.
-    Commit,
-    /// A leader's logs do not fit.
-    Logs,
-    /// A leader's snapshot does not fit.
-    Snapshot,
+    /// An entry of a leader's own cannot be written.
+    EntryNotWritten,
+    /// What a quorum has cannot be committed.
+    NotCommitted,
+    /// A leader's logs cannot be taken.
+    LogsNotTaken,
+    /// A leader's snapshot cannot be installed.
+    NotInstalled,
     /// A log cannot be purged as planned.
-    Purge,
+    NotPurged,
     /// A state cannot be made of what is on disk.
-    Restore,
+    NotRestored,
     /// A term has two leaders.
     TwoLeaders,
     /// Two servers have other entries at an index, under one log id.
@@ -43,20 +43,20 @@ pub enum Flaw {
     LacksCommitted,
 }
 
-/// The words for all that may be wrong, in the order of `Flaw`. A server's id comes after them, a term
-/// or an index.
+/// The words for all that may be wrong, in the order of `Flaw`. A server's id comes after them, a
+/// term, an index, or how many events.
 const WORDS: [&str; 19] = [
     "no memory at server",
     "no memory to note what has happened at",
-    "it does not settle within events:",
+    "it does not settle, events given:",
     "no valid state of",
     "a purge point is not in the log of",
     "what is committed is not in the log of",
     "another log is on the disk of",
-    "an entry does not follow at",
-    "members are not in turn at",
-    "logs do not fit at",
-    "a snapshot does not fit at",
+    "an entry cannot be written at",
+    "what a quorum has cannot be committed at",
+    "logs cannot be taken at",
+    "a snapshot cannot be installed at",
     "a log cannot be purged at",
     "a state cannot be restored at",
     "two leaders of term",

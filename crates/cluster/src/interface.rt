@@ -37,7 +37,7 @@ pub trait Seen {
     fn members(&self) -> &Members;
 
     /// Whether it is to ask for votes, after so long without a leader.
-    fn has_waited(&self, now: u64, patience: u64) -> bool;
+    fn is_to_campaign(&self, now: u64, patience: u64) -> bool;
 
     /// The last log id that another server is known to have, where it leads that one.
     fn matching(&self, id: u64) -> Option<LogNumbers>;
@@ -80,8 +80,8 @@ pub trait Duties: Drop {
     fn heartbeat(&self) -> Option<Self::Message>;
 }
 
-/// The steps of the protocol: what changes a server's vote, or goes by it. A campaign or a change for
-/// which there is no memory is left undone.
+/// The steps of the protocol: what changes a server's vote, or goes by it. A change for which there
+/// is no memory is left undone.
 pub trait Protocol: Duties {
     /// A new server, which knows of no members.
     fn new(alloc: Global, id: u64, fault: Option<Fault>) -> Result<Self, AllocError>;
@@ -92,7 +92,7 @@ pub trait Protocol: Duties {
     /// Starts again.
     fn restart(&mut self, now: u64);
 
-    /// Votes for itself in the next term.
+    /// Votes for itself in the next term. Without memory to count votes it is no candidate then.
     fn campaign(&mut self, now: u64);
 
     /// Appends an entry and counts it as its own, as the leader. The first one of a cluster is of term

@@ -16,6 +16,7 @@ use std::alloc::Global;
 use std::collections::BTreeSet;
 use std::fmt::Debug;
 
+// `Protocol` asks for the `Debug`.
 impl<L: LeaderIdentity<Id = u64> + Drop> Server<L, L::Committed>
 where
     L::Committed: Debug,
@@ -49,7 +50,8 @@ impl<L: Drop, C: Ord + Copy + Drop> Server<L, C> {
         let log_id = LogIdOf::new(self.followers.leader, self.end());
         let is_written = add(&mut self.disk, Entry { log_id, payload });
         let is_appended = storage::append(&mut self.state, last_few(&self.disk, 1));
-        self.standing.check(is_written && is_appended, Flaw::Entry);
+        self.standing
+            .check(is_written && is_appended, Flaw::EntryNotWritten);
     }
 
     /// Commits what a quorum has.
@@ -59,7 +61,7 @@ impl<L: Drop, C: Ord + Copy + Drop> Server<L, C> {
         } else {
             self.followers.commit(&mut self.state).is_ok()
         };
-        self.standing.check(is_committed, Flaw::Commit);
+        self.standing.check(is_committed, Flaw::NotCommitted);
     }
 
     /// Whether it may ask for votes: it is a voter, or was one until a change that is not committed,
@@ -73,7 +75,11 @@ impl<L: Drop, C: Ord + Copy + Drop> Server<L, C> {
 
 impl<L: Copy + Drop, C: Ord + Copy + Drop> Server<L, C> {
     /// What sends the entries of a range, and what is committed, if there is memory.
-    pub fn logs(&self, request: Option<u64>, range: LogIdRangeOf<C>) -> Option<Message<L, C>> {
+    pub fn append_message(
+        &self,
+        request: Option<u64>,
+        range: LogIdRangeOf<C>,
+    ) -> Option<Message<L, C>> {
         let (from, to) = (self.place(end(range.prev)), self.place(end(range.last)));
         let logs = Logs {
             prev: range.prev,

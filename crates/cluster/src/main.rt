@@ -1,4 +1,4 @@
-//! A simulated Raft cluster over the layer, which looks after each event whether it is still safe.
+//! A simulated Raft cluster over the layer, which checks after each event whether it is still safe.
 //!
 //! It is an example for callers and a trial of the layer, and no Raft to use: storage is prompt,
 //! time is a count of events, a message is a value, a snapshot comes whole, one request at a time
@@ -111,8 +111,8 @@ fn run_all<S: Protocol + Seen>(text: &mut Text, plan: &Plan) -> Counts {
         let mut cluster = Cluster::<S>::new(text.alloc, seed, plan.is_standard, total);
         play::<S>(text, plan, &mut cluster);
         if let Some((flaw, at)) = cluster.history.flaw {
-            let (event, words) = (cluster.now, flaw.words());
-            writeln!(text, "seed {seed}: event {event}: {words} {at}");
+            let words = flaw.words();
+            writeln!(text, "seed {seed}: event {}: {words} {at}", cluster.now);
         }
         total = cluster.counts();
     }
@@ -120,7 +120,7 @@ fn run_all<S: Protocol + Seen>(text: &mut Text, plan: &Plan) -> Counts {
 }
 
 /// Lets the events of a plan happen to a cluster, while all is well, with a line of its chart every
-/// few, and one at the end.
+/// few, and one once it has had time to settle.
 fn play<S: Protocol + Seen>(text: &mut Text, plan: &Plan, cluster: &mut Cluster<S>) {
     cluster.start(text.alloc, plan.fault);
     for event in 0..plan.events {

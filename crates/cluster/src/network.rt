@@ -5,7 +5,7 @@ use crate::events::Event;
 use crate::memory::add;
 use std::alloc::Global;
 
-/// None of the servers is cut off.
+/// None of the five servers is cut off.
 const WHOLE: [bool; 5] = [false; 5];
 
 /// A message on its way.
@@ -57,7 +57,7 @@ impl<M: Drop> Network<M> {
         Event::Parted
     }
 
-    /// From now on no message is lost.
+    /// From now on no message is lost or comes twice.
     pub fn mend(&mut self) {
         self.cut = WHOLE;
         self.is_rough = false;

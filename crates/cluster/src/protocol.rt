@@ -15,6 +15,7 @@ use raft_state_tests::turn::Response;
 use std::alloc::{AllocError, Global};
 use std::fmt::Debug;
 
+// The refusal of a change is an error that has log ids, so these are `Debug`.
 impl<L: LeaderIdentity<Id = u64> + Drop> Protocol for Server<L, L::Committed>
 where
     L::Committed: Debug,

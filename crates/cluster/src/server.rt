@@ -1,6 +1,6 @@
 //! A server: its state, what it has on disk, what it is doing, and whom it votes for.
 //!
-//! What fails in it is noted for the one who looks after it, so its functions return no errors. Only
+//! What fails in it is noted for the one who checks it, so its functions return no errors. Only
 //! what a vote decides is over leader ids; what goes by the log is over any leaders.
 
 use crate::fault::Fault;
@@ -91,7 +91,7 @@ impl<L: LeaderIdentity<Id = u64> + Drop> Server<L, L::Committed> {
     }
 }
 
-/// Followers of which nothing is known but that their logs end before an index.
+/// A leader's followers, of which nothing is known but that their logs end before an index.
 pub fn new_followers<C: Ord + Copy + Drop>(
     leader: C,
     members: Result<Members, AllocError>,

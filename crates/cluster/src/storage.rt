@@ -1,5 +1,5 @@
 //! What a server does with its log and its disk: it writes, builds snapshots, purges, and starts
-//! again. What could not be done answers false.
+//! again. A step on a state answers false where it could not be done, and the server notes it.
 
 use crate::events::Event;
 use crate::flaw::Flaw;
@@ -19,8 +19,8 @@ impl<L: Drop, C: Ord + Copy + Drop> Server<L, C> {
         if self.cut_disk() {
             self.standing.event = Some(Event::CutBack);
         }
-        let lacking = self.place(self.end()).saturating_sub(self.disk.len());
-        let lacking = last_few(entries, lacking);
+        let count = self.place(self.end()).saturating_sub(self.disk.len());
+        let lacking = last_few(entries, count);
         let is_written = self.disk.extend_with_clones(lacking).is_ok();
         self.standing.check(is_written, Flaw::NoMemory);
     }
@@ -31,7 +31,7 @@ impl<L: Drop, C: Ord + Copy + Drop> Server<L, C> {
         if let Some(upto) = self.state.purge_upto {
             let is_purged = self.state.can_purge_log(&upto) && self.state.purge_log(&upto).is_ok();
             self.state.io_state.purged = Some(upto);
-            self.standing.check(is_purged, Flaw::Purge);
+            self.standing.check(is_purged, Flaw::NotPurged);
             self.cut_disk();
         }
     }
@@ -70,7 +70,7 @@ impl<L: LeaderIdentity<Id = u64> + Drop> Server<L, L::Committed> {
             self.state.accepted = AcceptedIn::default();
             let is_restored = is_installed && restore(&mut self.state, now, &stored, &self.disk);
             drop(stored);
-            self.standing.check(is_restored, Flaw::Restore);
+            self.standing.check(is_restored, Flaw::NotRestored);
             self.cut_disk();
         }
     }

@@ -1,8 +1,8 @@
 //! The kinds of leader ids that a Raft log may use.
 //!
-//! Votes, and all that holds a vote, are generic over the kind. A leader type says by
-//! `LeaderIdentity` what votes have to know of it, and a kind names the leader type that goes with
-//! a type of node ids.
+//! Votes are generic over their leaders. A leader type says by `LeaderIdentity` what votes have to
+//! know of it, and a kind names the leader type that goes with a type of node ids, of which it asks
+//! for texts as well.
 ghost use Rattle.std.specs.Prelude.{◌≡◌, ◌≢◌, ◌&&◌, ℕ, Bool, Some, IsTrue, nat_eq, refl};
 ghost use Rattle.std.specs.declared.option.Option.{Option};
 ghost use Rattle.std.specs.declared.cmp.Ordering.{Ordering};

@@ -18,7 +18,7 @@ where
     Option<LogIdOf<C>>: Ord,
     ProgressEntryOf<C>: ProgressPart<Option<LogIdOf<C>>>,
 {
-    /// What is kept of the leader: its own entries are those of this one.
+    /// What is kept of the leader, as its own entries have it in their log ids.
     pub leader: C,
     tracked: Tracked<u64, EmptyNode, ProgressEntryOf<C>, Option<LogIdOf<C>>>,
 }
