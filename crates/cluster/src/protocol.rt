@@ -2,7 +2,6 @@
 
 use crate::events::Event;
 use crate::fault::Fault;
-use crate::flaw::Flaw;
 use crate::interface::Protocol;
 use crate::leader::{last_of_joint, next_members};
 use crate::memory::both;
@@ -114,10 +113,10 @@ where
         if let Some((to_count_by, members)) = next_members(self.fault, members) {
             // Of a new one nothing is known but that it lacks the entry that adds it.
             let lacked = self.end();
-            let is_counting = self.followers.change_to(to_count_by, lacked).is_ok();
-            self.standing.check(is_counting, Flaw::NoMemory);
-            self.standing.event = Some(Event::Changed);
-            self.propose(Payload::Membership(members));
+            if self.followers.change_to(to_count_by, lacked).is_ok() {
+                self.standing.event = Some(Event::Changed);
+                self.propose(Payload::Membership(members));
+            }
         }
     }
 
