@@ -1,6 +1,6 @@
 #!/usr/bin/env bash
 # Runs the simulated cluster that the gate has built: 2,000 seeds over each kind of leader ids, of which each has to be
-# safe and to settle; and the first of them with each planted fault, which some have to show.
+# safe and to settle; and the first of them with each planted fault, which some have to show. No kind is the default one.
 set -u -o pipefail
 cd "$(dirname "$0")/.."
 program=crates/cluster/out/cluster
@@ -20,11 +20,11 @@ run() {
     fi
 }
 
-for kind in default standard; do
-    run 0 0 0 1 2000 1500 0 "$kind"
-    run 1 1 2000 1 2000 1500 0 "$kind" count-alone
+for kind in "" standard; do
+    run 0 0 0 1 2000 1500 0 $kind
+    run 1 1 2000 1 2000 1500 0 $kind count-alone
     for fault in any-candidate no-joint no-cut no-write; do
-        run 1 1 300 1 300 1500 0 "$kind" "$fault"
+        run 1 1 300 1 300 1500 0 $kind "$fault"
     done
 done
 echo "seeds: $failed runs are wrong"

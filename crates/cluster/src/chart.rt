@@ -1,11 +1,12 @@
 //! A chart of a cluster, a line at a time.
 
-use crate::interface::{Glance, Seen};
-use crate::network::Network;
-use crate::safety::last_leader;
-use crate::standing::Role;
+use crate::cluster::Cluster;
+use crate::protocol::Protocol;
+use crate::server::{Role, Server};
 use crate::text::Text;
-use crate::types::Members;
+use crate::types::end;
+use raft_base::LogIdOptionExt;
+use raft_state_tests::turn::Members;
 
 /// How many indexes of a log are shown.
 const WIDTH: u64 = 8;
@@ -18,63 +19,63 @@ index that a quorum has, the voters (of both configs of joint members), +learner
 event 1           2           3           4           5          has members
 ";
 
-/// Writes what all servers are, what the last leader knows a quorum to have, and its members.
-pub fn line<S: Seen, M: Drop>(text: &mut Text, servers: &[S], network: &Network<M>) {
-    let end = longest(servers);
-    for server in servers {
-        let seen = server.seen();
-        let is_voter = server.members().is_voter(&seen.id);
-        show(text, &seen, network.is_cut_off(seen.id), is_voter, end);
-    }
-    match last_leader(servers) {
-        Some(leader) => describe(text, leader.seen().granted, leader.members()),
-        None => write!(text, " -"),
-    }
-}
-
-/// The end of the longest log, or that of the first few indexes.
-fn longest<S: Seen>(servers: &[S]) -> u64 {
-    let mut end = WIDTH;
-    for server in servers {
-        end = end.max(server.seen().end);
-    }
-    end
-}
-
-/// What a server is, its term, and the last indexes of its log up to an end.
-fn show(text: &mut Text, seen: &Glance, is_cut_off: bool, is_voter: bool, end: u64) {
-    let sign = if is_cut_off { '*' } else { ' ' };
-    let role = letter(seen.role, is_voter);
-    write!(text, "{sign}{role}{:<2}", seen.vote.0);
-    for index in end.saturating_sub(WIDTH)..end {
-        write!(text, "{}", mark(seen, index));
+impl<L: Copy + Eq + Drop, C: Ord + Copy + Drop> Cluster<L, C>
+where
+    Server<L, C>: Protocol<L, C>,
+{
+    /// Draws a line: what all servers are, with their terms and logs, what the last leader knows a
+    /// quorum to have, its members, and what has happened since the last line.
+    pub fn draw(&mut self, text: &mut Text) {
+        let mut end = WIDTH;
+        for server in &self.servers {
+            end = end.max(server.end());
+        }
+        write!(text, "{:>4} ", self.now);
+        for server in &self.servers {
+            let is_cut_off = self.network.is_cut_off(server.id);
+            let sign = if is_cut_off { '*' } else { ' ' };
+            write!(text, "{sign}{}{:<2}", server.letter(), server.term());
+            server.show(text, end);
+        }
+        match self.last_leader() {
+            Some(leader) => describe(text, leader.granted().index(), leader.members()),
+            None => write!(text, " -"),
+        }
+        writeln!(text, "{}", self.notes.line);
+        self.notes.line.clear();
     }
 }
 
-/// The letter of what a server is.
-fn letter(role: Role, is_voter: bool) -> char {
-    match role {
-        Role::Leader => 'L',
-        Role::Candidate => 'C',
-        Role::Follower if is_voter => 'F',
-        Role::Follower => 'l',
+impl<L: Copy + Drop, C: Ord + Copy + Drop> Server<L, C> {
+    /// The letter of what it is.
+    fn letter(&self) -> char {
+        match &self.role {
+            Role::Leader(_) => 'L',
+            Role::Candidate(_) => 'C',
+            Role::Follower if self.members().is_voter(&self.id) => 'F',
+            Role::Follower => 'l',
+        }
+    }
+
+    /// Shows the last indexes of its log up to an end.
+    fn show(&self, text: &mut Text, end: u64) {
+        for index in end.saturating_sub(WIDTH)..end {
+            write!(text, "{}", self.sign(index));
+        }
+    }
+
+    /// The sign of an index of its log.
+    fn sign(&self, index: u64) -> char {
+        match index {
+            _ if index < self.state.purged_next => '=',
+            _ if index < end(self.state.committed) => '#',
+            _ if index < self.end() => '+',
+            _ => ' ',
+        }
     }
 }
 
-/// The sign of an index of a server's log.
-fn mark(seen: &Glance, index: u64) -> char {
-    if index < seen.purged {
-        '='
-    } else if index < seen.committed {
-        '#'
-    } else if index < seen.end {
-        '+'
-    } else {
-        ' '
-    }
-}
-
-/// The last index that a quorum has, the configs, and the learners.
+/// The last index that a leader knows a quorum to have, the configs, and the learners.
 fn describe(text: &mut Text, granted: Option<u64>, members: &Members) {
     if let Some(granted) = granted {
         write!(text, " {granted:>3}");

@@ -1,69 +1,96 @@
 //! A cluster: its servers, the network between them, and what happens to both.
 
-use crate::acts::{self, SERVERS};
-use crate::chart;
-use crate::dice::Dice;
 use crate::events::{Counts, Event, Notes};
 use crate::fault::Fault;
-use crate::flaw::Flaw;
-use crate::interface::{Protocol, Seen};
-use crate::memory::add_new;
-use crate::network::Network;
-use crate::safety::{History, last_leader};
+use crate::network::{Dice, Network};
+use crate::protocol::Protocol;
+use crate::safety::History;
+use crate::server::Server;
 use crate::text::Text;
-use crate::types::{Members, Payload};
-use raft_base::EmptyNode;
+use crate::types::{Payload, end};
+use raft_base::{EmptyNode, LogIdOf};
+use raft_progress::{ProgressEntryOf, ProgressPart};
+use raft_state_tests::turn::Members;
+use rand_pcg::Pcg32;
 use std::alloc::{AllocError, Global};
 use std::collections::BTreeMap;
 
+/// How many servers there are. The first three are the first voters.
+pub const SERVERS: u64 = 5;
+
+/// How many events a cluster has to settle in, once its network is mended.
+const SETTLE: u64 = 4000;
+
 /// A cluster.
 #[derive(Drop)]
-pub struct Cluster<S: Protocol + Seen> {
-    servers: Vec<S>,
-    network: Network<S::Message>,
-    dice: Dice,
+pub struct Cluster<L, C: Ord + Copy>
+where
+    Option<LogIdOf<C>>: Ord,
+    ProgressEntryOf<C>: ProgressPart<Option<LogIdOf<C>>>,
+{
+    pub servers: Vec<Server<L, C>>,
+    pub network: Network<L, C>,
+    pub dice: Dice,
+    seed: u64,
     pub now: u64,
-    pub history: History,
-    notes: Notes,
+    history: History<C>,
+    pub notes: Notes,
 }
 
-impl<S: Protocol + Seen> Cluster<S> {
-    /// A cluster without servers, where so much has happened before.
-    pub fn new(alloc: Global, seed: u64, is_standard: bool, counts: Counts) -> Self {
-        Cluster {
-            servers: Vec::new(alloc),
+impl<L: Copy + Eq + Drop, C: Ord + Copy + Drop> Cluster<L, C>
+where
+    Server<L, C>: Protocol<L, C>,
+{
+    /// A cluster whose counts go on from these. The first server begins it with the first three
+    /// as its members.
+    pub fn new(
+        alloc: Global,
+        seed: u64,
+        fault: Option<Fault>,
+        counts: Counts,
+    ) -> Result<Self, AllocError> {
+        let members = Members::from_nodes(alloc, nodes_of(alloc, &[1, 2, 3])?)?;
+        let ids = 1..=SERVERS;
+        let new = ids.map(|id| Server::new(alloc, id, fault));
+        let mut servers: Vec<Server<L, C>> = new.try_collect(alloc)?;
+        if let Some(first) = servers.first_mut() {
+            first.propose(Payload::Membership(members));
+        }
+        Ok(Cluster {
+            servers,
             network: Network::new(alloc),
-            dice: Dice::new(seed),
+            dice: Dice(Pcg32::new(seed, 54)),
+            seed,
             now: 0,
-            history: History::new(alloc, is_standard),
+            history: History::new(alloc),
             notes: Notes::new(alloc, counts),
-        }
+        })
     }
 
-    /// Starts the servers. The first of them begins a cluster of the first three.
-    pub fn start(&mut self, alloc: Global, fault: Option<Fault>) {
-        for id in 1..=SERVERS {
-            if !add_new(&mut self.servers, S::new(alloc, id, fault)) {
-                self.history.note(Flaw::NoMemory, id);
+    /// Lets so many events happen, while all is well, with a line of its chart every few; and then some
+    /// more once the network is mended, until a leader and all its members have committed the same log.
+    /// What is wrong with it, if anything is, comes last.
+    pub fn play(&mut self, text: &mut Text, events: u64, every: u64) {
+        for event in 0..events.saturating_add(SETTLE) {
+            if event == events {
+                self.network.mend();
             }
-        }
-        if let Some(first) = self.servers.first_mut() {
-            match first_members(alloc) {
-                Ok(members) => first.propose(Payload::Membership(members)),
-                Err(_) => self.history.note(Flaw::NoMemory, 1),
+            if !self.history.is_safe || (event >= events && self.is_settled()) {
+                break;
             }
+            if event < events && event.checked_rem(every) == Some(0) {
+                self.draw(text);
+            }
+            self.step();
         }
-    }
-
-    /// Writes a line of its chart.
-    pub fn draw(&mut self, text: &mut Text) {
-        write!(text, "{:>4} ", self.now);
-        chart::line(text, &self.servers, &self.network);
-        self.notes.end_line(text);
+        if every > 0 {
+            self.draw(text);
+        }
+        self.conclude(text);
     }
 
     /// Something happens.
-    pub fn step(&mut self) {
+    fn step(&mut self) {
         self.now = self.now.saturating_add(1);
         self.notes.counts.add(Event::Any, 1);
         // Once the network is mended messages come in and time passes, and no more.
@@ -73,9 +100,7 @@ impl<S: Protocol + Seen> Cluster<S> {
             97..=99 => self.notes.note(None, self.network.part(&mut self.dice)),
             what => {
                 let place = self.dice.below(SERVERS) as usize;
-                if let Some(server) = self.servers.get_mut(place) {
-                    acts::act(server, what, self.now, &mut self.network, &mut self.dice);
-                }
+                self.act(place, what);
                 self.check(place);
             }
         }
@@ -83,17 +108,17 @@ impl<S: Protocol + Seen> Cluster<S> {
 
     /// A server takes a message, if one gets through.
     fn deliver(&mut self) {
-        if let Some(envelope) = self.network.take(&mut self.dice) {
-            let (from, to) = (envelope.from, envelope.to);
-            let place = to.saturating_sub(1) as usize;
+        if let Some(message) = self.network.take(&mut self.dice) {
+            let place = message.to.saturating_sub(1) as usize;
             let comes_again = self.network.is_rough && self.dice.chance(8);
             let answer = match self.servers.get_mut(place) {
-                Some(server) if self.network.lets_through(from, to, &mut self.dice) => {
-                    server.receive(self.now, from, &envelope.message)
+                Some(server) if self.network.lets_through(&message, &mut self.dice) => {
+                    server.receive(self.now, &message)
                 }
                 _ => None,
             };
-            self.network.pass(envelope, comes_again, answer);
+            self.network.post(comes_again.then_some(message));
+            self.network.post(answer);
             self.check(place);
         }
     }
@@ -101,60 +126,63 @@ impl<S: Protocol + Seen> Cluster<S> {
     /// Notes what has become of a server, and checks whether all is well.
     fn check(&mut self, place: usize) {
         if let Some(server) = self.servers.get_mut(place) {
-            if let Some(event) = server.take_event() {
-                self.notes.note(Some(server.seen().id), event);
+            if let Some(event) = server.event.take() {
+                self.notes.note(Some(server.id), event);
             }
+            let is_well = server.leads_by_its_vote();
+            self.history
+                .require(is_well, "it does not lead by its vote:", server.id);
+            self.history.check(&self.servers, place);
         }
-        if let Some(server) = self.servers.get(place) {
-            self.history.check(&self.servers, server);
-        }
-    }
-
-    /// The network is mended, and after some time a leader and all its members have to have committed
-    /// the same log.
-    pub fn settle(&mut self, events: u64) {
-        self.network.mend();
-        for _ in 0..events {
-            if self.history.flaw.is_some() {
-                return;
-            }
-            if is_settled(&self.servers) {
-                self.notes.counts.add(Event::Settled, 1);
-                return;
-            }
-            self.step();
-        }
-        self.history.note(Flaw::Unsettled, events);
-    }
-
-    /// How often things have happened.
-    pub fn counts(&self) -> Counts {
-        let mut counts = self.notes.counts;
-        counts.add(Event::Committed, self.history.committed.len() as u64);
-        counts
     }
 }
 
-/// The members that a cluster begins with: the first three servers.
-fn first_members(alloc: Global) -> Result<Members, AllocError> {
-    let mut nodes = BTreeMap::new(alloc);
-    for id in 1..=3 {
-        nodes.insert(id, EmptyNode::new())?;
+impl<L: Copy + Drop, C: Ord + Copy + Drop> Cluster<L, C> {
+    /// Counts what was committed, and whether it has settled, and writes what is wrong, if anything is.
+    fn conclude(&mut self, text: &mut Text) {
+        let is_settled = self.is_settled();
+        let (history, counts) = (&mut self.history, &mut self.notes.counts);
+        history.require(is_settled, "it does not settle, events given:", SETTLE);
+        counts.add(Event::Committed, history.committed.len() as u64);
+        counts.add(Event::Settled, u64::from(history.is_safe));
+        if !history.is_safe {
+            let (seed, now, flaw) = (self.seed, self.now, &history.flaw);
+            writeln!(text, "seed {seed}: event {now}: {flaw}");
+        }
     }
-    Members::from_nodes(alloc, nodes)
-}
 
-/// Whether a leader and all its members have committed its whole log, and no change is half done.
-fn is_settled<S: Seen>(servers: &[S]) -> bool {
-    let Some(leader) = last_leader(servers) else {
-        return false;
-    };
-    let (members, end) = (leader.members(), leader.seen().end);
-    for server in servers {
-        let seen = server.seen();
-        if members.contains(&seen.id) && (seen.end != end || seen.committed != end) {
+    /// Whether a leader and all its members have committed its whole log, and no change is half done.
+    fn is_settled(&self) -> bool {
+        let Some(leader) = self.last_leader() else {
             return false;
+        };
+        let (members, last) = (leader.members(), leader.end());
+        for server in &self.servers {
+            let is_done = server.end() == last && end(server.state.committed) == last;
+            if members.contains(&server.id) && !is_done {
+                return false;
+            }
         }
+        !members.is_in_joint_consensus()
     }
-    !members.is_in_joint_consensus()
+
+    /// The leader that was elected last.
+    pub fn last_leader(&self) -> Option<&Server<L, C>> {
+        let mut last: Option<&Server<L, C>> = None;
+        let mut leader = None;
+        for server in &self.servers {
+            if let Some(followers) = server.followers() {
+                if leader < Some(followers.leader) {
+                    last = Some(server);
+                    leader = Some(followers.leader);
+                }
+            }
+        }
+        last
+    }
+}
+
+/// Some servers, by their ids.
+pub fn nodes_of(alloc: Global, ids: &[u64]) -> Result<BTreeMap<u64, EmptyNode>, AllocError> {
+    ids.iter().map(|id| (*id, EmptyNode::new())).collect(alloc)
 }

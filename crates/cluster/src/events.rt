@@ -1,11 +1,10 @@
-//! What happens in a cluster: how often, and what a chart notes of it.
+//! What happens in a cluster, how often, and what is noted of it.
 
-use crate::text::Text;
 use std::alloc::Global;
 use std::fmt;
 
-/// How long the notes of a line may be.
-const NOTES: usize = 19;
+/// How long the notes of a line and the next word may be, without the sign and id before the word.
+const ROOM: usize = 15;
 
 /// Something that happens.
 #[derive(Clone, Copy)]
@@ -48,24 +47,12 @@ const WORDS: [&str; 10] = [
 
 /// How often things happened, in the order of `Event`.
 #[derive(Clone, Copy)]
-pub struct Counts {
-    counts: [u64; 10],
-}
+pub struct Counts(pub [u64; 10]);
 
 impl Counts {
-    /// Nothing has happened.
-    pub fn new() -> Self {
-        Counts { counts: [0; 10] }
-    }
-
-    /// How often something happened.
-    pub fn of(&self, event: Event) -> u64 {
-        self.counts[event as usize]
-    }
-
     /// Something happens so many times more.
     pub fn add(&mut self, event: Event, more: u64) {
-        let count = &mut self.counts[event as usize];
+        let count = &mut self.0[event as usize];
         *count = count.saturating_add(more);
     }
 }
@@ -73,13 +60,8 @@ impl Counts {
 impl fmt::Display for Counts {
     fn fmt<W: fmt::Write>(&self, f: &mut fmt::Formatter<W>) -> fmt::Result {
         for (place, word) in WORDS.iter().enumerate() {
-            let count = self.counts[place];
-            let sign = match place {
-                0 => "",
-                6 => ",\n",
-                _ => ", ",
-            };
-            write!(f, "{sign}{count} {word}")?;
+            let sign = if place % 5 == 0 { "\n" } else { ", " };
+            write!(f, "{sign}{} {word}", self.0[place])?;
         }
         Ok(())
     }
@@ -88,44 +70,27 @@ impl fmt::Display for Counts {
 /// How often things happened, and what is noted of them at the end of a line.
 #[derive(Drop)]
 pub struct Notes {
-    text: String,
+    pub line: String,
     pub counts: Counts,
 }
 
 impl Notes {
     /// Nothing is noted, and so much has happened before.
     pub fn new(alloc: Global, counts: Counts) -> Self {
-        Notes {
-            text: String::new(alloc),
-            counts,
-        }
+        let line = String::new(alloc);
+        Notes { line, counts }
     }
 
-    /// Counts something, and notes it, if there is room and memory, with the server that it has
-    /// happened to.
+    /// Counts something, and notes it with the server that it has happened to, if the line has room.
     pub fn note(&mut self, server: Option<u64>, event: Event) {
         self.counts.add(event, 1);
-        let sign = if self.text.is_empty() { " " } else { ", " };
+        let sign = if self.line.is_empty() { " " } else { ", " };
         let word = WORDS[event as usize];
-        let length = sign.len().saturating_add(word.len());
-        let _left_out = match server {
-            // An id has one digit, and a space after it.
-            Some(id) if self.has_room(length.saturating_add(2)) => {
-                write!(self.text, "{sign}{id} {word}")
-            }
-            None if self.has_room(length) => write!(self.text, "{sign}{word}"),
-            _ => Ok(()),
-        };
-    }
-
-    /// Whether the line has room for more.
-    fn has_room(&self, length: usize) -> bool {
-        self.text.len().saturating_add(length) <= NOTES
-    }
-
-    /// Ends a text's last line with what is noted, and begins anew.
-    pub fn end_line(&mut self, text: &mut Text) {
-        writeln!(text, "{}", self.text);
-        self.text.clear();
+        if self.line.len().saturating_add(word.len()) <= ROOM {
+            let _is_noted = match server {
+                Some(id) => write!(self.line, "{sign}{id} {word}"),
+                None => write!(self.line, "{sign}{word}"),
+            };
+        }
     }
 }

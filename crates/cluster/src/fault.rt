@@ -1,5 +1,7 @@
 //! Faults that may be planted, to see that the cluster's checks would find them.
 
+use anyhow::{Result, bail};
+
 /// What all servers do wrong.
 #[derive(Clone, Copy, PartialEq, Eq)]
 pub enum Fault {
@@ -18,14 +20,14 @@ pub enum Fault {
 
 impl Fault {
     /// The fault that a word names.
-    pub fn named(word: &str) -> Option<Fault> {
+    pub fn named(word: &str) -> Result<Fault> {
         match word {
-            "count-alone" => Some(Fault::CountAlone),
-            "any-candidate" => Some(Fault::AnyCandidate),
-            "no-joint" => Some(Fault::NoJoint),
-            "no-cut" => Some(Fault::NoCut),
-            "no-write" => Some(Fault::NoWrite),
-            _ => None,
+            "count-alone" => Ok(Fault::CountAlone),
+            "any-candidate" => Ok(Fault::AnyCandidate),
+            "no-joint" => Ok(Fault::NoJoint),
+            "no-cut" => Ok(Fault::NoCut),
+            "no-write" => Ok(Fault::NoWrite),
+            _ => bail!("no such word as {word}"),
         }
     }
 }

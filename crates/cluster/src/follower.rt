@@ -2,67 +2,72 @@
 
 use crate::events::Event;
 use crate::fault::Fault;
-use crate::flaw::Flaw;
+use crate::message::Sent;
 use crate::server::Server;
-use crate::storage;
-use crate::types::Snapshot;
-use raft_base::{LeaderIdentity, LogStateReader, VoteIn, log_id_below};
-use raft_state_tests::turn::{Logs, Outcome, take_logs};
+use crate::types::Leader;
+use raft_base::{LogStateReader, VoteIn, log_id_below};
+use raft_state_tests::turn::{Entry, Logs, Outcome, take_logs};
 
-impl<L: LeaderIdentity<Id = u64> + Drop> Server<L, L::Committed> {
-    /// Takes a leader's logs, unless it has promised a greater vote.
-    pub fn append(
+impl<L: Leader> Server<L, L::Committed> {
+    /// Takes what a leader sends, unless it has promised a greater vote.
+    pub fn follow(
         &mut self,
         now: u64,
         vote: VoteIn<L>,
-        logs: &Logs<L::Committed>,
+        sent: &Sent<L::Committed>,
     ) -> Outcome<L::Committed> {
         if !self.promise(now, vote) {
             return Outcome::Refused;
         }
+        let outcome = match sent {
+            Sent::Snapshot(snapshot) => {
+                if log_id_below(self.state.committed, snapshot.last_log_id) {
+                    self.install(snapshot);
+                    self.event = Some(Event::Installed);
+                }
+                Outcome::Matches(snapshot.last_log_id)
+            }
+            Sent::Logs(logs) => self.append(now, logs),
+        };
+        if self.is_well {
+            outcome
+        } else {
+            Outcome::Refused
+        }
+    }
+
+    /// Appends a leader's logs.
+    fn append(&mut self, now: u64, logs: &Logs<L::Committed>) -> Outcome<L::Committed> {
         if self.skips_writing(now, logs) {
             return Outcome::Matches(logs.last());
         }
-        match take_logs(&mut self.state, logs) {
-            Ok(outcome) => {
-                self.flush(&logs.entries);
-                outcome
-            }
-            Err(_) => {
-                self.standing.check(false, Flaw::LogsNotTaken);
-                Outcome::Refused
-            }
-        }
-    }
-
-    /// Takes a leader's snapshot, unless it has promised a greater vote or there is nothing new.
-    pub fn install(
-        &mut self,
-        now: u64,
-        vote: VoteIn<L>,
-        snapshot: &Snapshot<L::Committed>,
-    ) -> Outcome<L::Committed> {
-        if !self.promise(now, vote) {
+        let Ok(outcome) = take_logs(&mut self.state, logs) else {
+            self.is_well = false;
             return Outcome::Refused;
-        }
-        if log_id_below(self.state.committed, snapshot.last_log_id) {
-            let is_installed = storage::install(&mut self.state, snapshot);
-            self.cut_disk();
-            self.standing.check(is_installed, Flaw::NotInstalled);
-            self.standing.event = Some(Event::Installed);
-        }
-        Outcome::Matches(snapshot.last_log_id)
+        };
+        self.flush(&logs.entries);
+        outcome
     }
 }
 
-impl<L: Drop, C: Ord + Copy + Drop> Server<L, C> {
+impl<L: Copy + Drop, C: Ord + Copy + Drop> Server<L, C> {
+    /// Writes to disk those of these entries, the last ones of its log, that it does not have there,
+    /// once what is no longer in the log is removed.
+    fn flush(&mut self, entries: &[Entry<C>]) {
+        if self.cut_disk() {
+            self.event = Some(Event::CutBack);
+        }
+        let count = self.place(self.end()).saturating_sub(self.disk.len());
+        let (_, lacking) = entries.split_at(entries.len().saturating_sub(count));
+        self.is_well &= self.disk.extend_with_clones(lacking).is_ok();
+    }
+
     /// Whether a planted fault keeps entries from being written.
     fn skips_writing(&self, now: u64, logs: &Logs<C>) -> bool {
         match (self.fault, logs.last()) {
             (Some(Fault::NoWrite), _) => now % 8 == 0,
             (Some(Fault::NoCut), Some(last)) => {
-                let own = self.state.get_log_id(last.index);
-                own.is_some() && own != Some(last)
+                (self.state.get_log_id(last.index)).is_some_and(|own| own != last)
             }
             _ => false,
         }

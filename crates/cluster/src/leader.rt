@@ -2,66 +2,23 @@
 
 use crate::events::Event;
 use crate::fault::Fault;
-use crate::flaw::Flaw;
-use crate::interface::Protocol;
-use crate::memory::{add, copy_of, last_few, renew};
-use crate::message::{Content, Message};
-use crate::server::{Server, new_followers};
-use crate::standing::Role;
-use crate::storage;
-use crate::types::{Change, Entry, Members, Payload, end};
-use raft_base::{LeaderIdentity, LogIdOf, LogIdRangeOf};
-use raft_state_tests::turn::Logs;
-use std::alloc::Global;
-use std::collections::BTreeSet;
-use std::fmt::Debug;
+use crate::message::{Content, Message, Sent};
+use crate::protocol::Protocol;
+use crate::server::{Role, Server};
+use crate::types::{Leader, Payload, end};
+use raft_base::LogIdRangeOf;
+use raft_progress::{InflightOf, Progress};
+use raft_state_tests::turn::{Followers, Logs, Members};
 
-// `Protocol` asks for the `Debug`.
-impl<L: LeaderIdentity<Id = u64> + Drop> Server<L, L::Committed>
-where
-    L::Committed: Debug,
-{
-    /// Counts a vote for it, and leads once a quorum has voted.
-    pub fn count_vote(&mut self, from: u64) {
-        if self.standing.count(from) {
-            self.lead();
-        }
-    }
-
-    /// Leads, and begins with a blank entry, if there is memory to know its followers by.
-    pub fn lead(&mut self) {
-        let mut vote = *self.state.vote_ref();
-        let leader = L::to_committed(&vote.leader_id);
-        let followers = new_followers(leader, self.effective().try_clone(), self.end());
-        if renew(&mut self.followers, followers) {
-            vote.commit();
-            self.save_vote(vote);
-            self.standing.role = Role::Leader;
-            self.standing.is_behind = false;
-            self.standing.event = Some(Event::Elected);
-            self.propose(Payload::Blank);
-        }
-    }
-}
-
-impl<L: Drop, C: Ord + Copy + Drop> Server<L, C> {
-    /// Writes an entry of its own, first to disk.
-    pub fn write(&mut self, payload: Payload) {
-        let log_id = LogIdOf::new(self.followers.leader, self.end());
-        let is_written = add(&mut self.disk, Entry { log_id, payload });
-        let is_appended = storage::append(&mut self.state, last_few(&self.disk, 1));
-        self.standing
-            .check(is_written && is_appended, Flaw::EntryNotWritten);
-    }
-
-    /// Commits what a quorum has.
-    pub fn commit(&mut self) {
-        let is_committed = if self.fault == Some(Fault::CountAlone) {
-            storage::commit(&mut self.state, self.followers.granted())
-        } else {
-            self.followers.commit(&mut self.state).is_ok()
+impl<L: Copy + Drop, C: Ord + Copy + Drop> Server<L, C> {
+    /// Whether it is to ask for votes, after so long without a leader.
+    pub fn is_to_campaign(&self, now: u64, patience: u64) -> bool {
+        let waited = match self.state.vote_last_modified() {
+            Some(since) => now.saturating_sub(since),
+            None => u64::MAX,
         };
-        self.standing.check(is_committed, Flaw::NotCommitted);
+        let times = if self.is_behind { 5 } else { 1 };
+        self.may_campaign() && patience.saturating_mul(times) <= waited
     }
 
     /// Whether it may ask for votes: it is a voter, or was one until a change that is not committed,
@@ -71,37 +28,96 @@ impl<L: Drop, C: Ord + Copy + Drop> Server<L, C> {
         memberships.is_voter(&self.id)
             || (memberships.committed().is_voter(&self.id) && memberships.contains(&self.id))
     }
-}
 
-impl<L: Copy + Drop, C: Ord + Copy + Drop> Server<L, C> {
-    /// What sends the entries of a range, and what is committed, if there is memory.
-    pub fn append_message(
-        &self,
-        request: Option<u64>,
-        range: LogIdRangeOf<C>,
-    ) -> Option<Message<L, C>> {
-        let (from, to) = (self.place(end(range.prev)), self.place(end(range.last)));
-        let logs = Logs {
-            prev: range.prev,
-            entries: copy_of(self.alloc, &self.disk, from, to)?,
-            committed: self.state.committed,
+    /// Counts by other members from now on, as the leader, if there is memory. Of a new one nothing is
+    /// known but that it lacks the entry that adds it.
+    pub fn count_by(&mut self, members: Members) -> bool {
+        let lacked = self.end();
+        match &mut self.role {
+            Role::Leader(followers) => followers.change_to(members, lacked).is_ok(),
+            _ => false,
+        }
+    }
+
+    /// Commits what a quorum has, as the leader.
+    pub fn commit(&mut self) {
+        if let Role::Leader(followers) = &self.role {
+            if self.fault == Some(Fault::CountAlone) {
+                let granted = followers.granted();
+                self.commit_to(granted);
+            } else {
+                self.is_well &= followers.commit(&mut self.state).is_ok();
+            }
+        }
+    }
+
+    /// Takes what is in flight to a follower as lost.
+    pub fn give_up(&mut self, to: u64) {
+        if let Role::Leader(followers) = &mut self.role {
+            followers.give_up(to);
+        }
+    }
+
+    /// What it sends next to a follower, if nothing is in flight to it, and there is memory.
+    pub fn next_message(&mut self, to: u64) -> Option<Message<L, C>> {
+        let Role::Leader(followers) = &mut self.role else {
+            return None;
         };
-        Some(self.message(Content::Append(request, logs)))
+        let (id, sent) = match followers.next_request(&self.state, to)? {
+            InflightOf::Logs { id, log_id_range } => (id, Sent::Logs(self.logs(log_id_range)?)),
+            InflightOf::Snapshot { id, .. } => {
+                let snapshot = self.state.snapshot_meta.try_clone().ok()?;
+                (id, Sent::Snapshot(snapshot))
+            }
+            InflightOf::None => return None,
+        };
+        Some(self.message(to, Content::Append(Some(id), sent)))
+    }
+
+    /// What tells a follower that this server leads, and what is committed.
+    pub fn heartbeat(&self, to: u64) -> Option<Message<L, C>> {
+        let last = self.last();
+        let logs = self.logs(LogIdRangeOf { prev: last, last })?;
+        Some(self.message(to, Content::Append(None, Sent::Logs(logs))))
+    }
+
+    /// The entries of a range, and what is committed, if there is memory.
+    fn logs(&self, range: LogIdRangeOf<C>) -> Option<Logs<C>> {
+        let places = self.place(end(range.prev))..self.place(end(range.last));
+        let mut entries = Vec::new(self.alloc);
+        entries.extend_with_clones(self.disk.get(places)?).ok()?;
+        Some(Logs {
+            prev: range.prev,
+            entries,
+            committed: self.state.committed,
+        })
     }
 }
 
-/// The change from a joint membership to its last config. It leaves others as they are.
-pub fn last_of_joint(alloc: Global) -> Change {
-    Change::AddVoterIds(BTreeSet::new(alloc))
-}
-
-/// The members to count by and those to propose: the same ones, or where that fault is planted those
-/// of their last config. None without members, or memory.
-pub fn next_members(fault: Option<Fault>, members: Option<Members>) -> Option<(Members, Members)> {
-    let mut members = members?;
-    if fault == Some(Fault::NoJoint) {
-        let alloc = *members.get_joint_config().allocator();
-        members = members.change(last_of_joint(alloc), true).ok()?;
+impl<L: Leader> Server<L, L::Committed> {
+    /// Counts a vote for it as a candidate, and leads once a quorum has voted.
+    pub fn count_vote(&mut self, from: u64) {
+        if let Role::Candidate(ballot) = &mut self.role {
+            let _granted = ballot.update(&from, true);
+            if *ballot.progress().granted() {
+                self.lead();
+            }
+        }
     }
-    Some((members.try_clone().ok()?, members))
+
+    /// Leads, and begins with a blank entry, if there is memory to know its followers by. Nothing is
+    /// known of them but that they match no further than its own log.
+    pub fn lead(&mut self) {
+        let mut vote = self.vote();
+        let (leader, end) = (L::to_committed(&vote.leader_id), self.end());
+        let members = self.members().try_clone();
+        if let Ok(followers) = members.and_then(|members| Followers::new(leader, members, end)) {
+            vote.commit();
+            self.save_vote(vote);
+            self.set_role(Role::Leader(followers));
+            self.is_behind = false;
+            self.event = Some(Event::Elected);
+            self.propose(Payload::Blank);
+        }
+    }
 }

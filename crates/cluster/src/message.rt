@@ -4,9 +4,11 @@ use crate::types::Snapshot;
 use raft_base::{LogIdOf, VoteIn};
 use raft_state_tests::turn::{Logs, Response};
 
-/// A message, with its sender's vote.
+/// A message on its way, with its sender's vote.
 #[derive(Drop)]
 pub struct Message<L, C> {
+    pub from: u64,
+    pub to: u64,
     pub vote: VoteIn<L>,
     pub content: Content<C>,
 }
@@ -16,12 +18,17 @@ pub struct Message<L, C> {
 pub enum Content<C> {
     /// A candidate with this last log id asks for a vote.
     AskVote(Option<LogIdOf<C>>),
-    /// The answer of a voter with this last log id.
+    /// A voter's answer, whether it has voted for the candidate, and its own last log id.
     Voted(bool, Option<LogIdOf<C>>),
-    /// A leader sends entries, or with no request's number a heartbeat.
-    Append(Option<u64>, Logs<C>),
-    /// A leader sends its snapshot.
-    Install(u64, Snapshot<C>),
-    /// A follower responds to both.
+    /// A leader sends what comes next, or with no request's number a heartbeat.
+    Append(Option<u64>, Sent<C>),
+    /// A follower responds to that.
     Responded(Response<C>),
+}
+
+/// What a leader sends.
+#[derive(Drop)]
+pub enum Sent<C> {
+    Logs(Logs<C>),
+    Snapshot(Snapshot<C>),
 }

@@ -1,54 +1,56 @@
 //! The network: messages get lost, come twice and out of order, and a cut keeps some servers apart.
 
-use crate::dice::Dice;
 use crate::events::Event;
-use crate::memory::add;
+use crate::message::Message;
+use rand_core::Rng;
+use rand_pcg::Pcg32;
 use std::alloc::Global;
 
-/// None of the five servers is cut off.
-const WHOLE: [bool; 5] = [false; 5];
-
-/// A message on its way.
+/// What chance decides, the same for each run of a seed.
 #[derive(Drop)]
-pub struct Envelope<M> {
-    pub from: u64,
-    pub to: u64,
-    pub message: M,
+pub struct Dice(pub Pcg32);
+
+impl Dice {
+    /// A number below a bound, and 0 where the bound is 0.
+    pub fn below(&mut self, bound: u64) -> u64 {
+        u64::from(self.0.next_u32()).checked_rem(bound).unwrap_or(0)
+    }
+
+    /// True in so many of a hundred cases.
+    pub fn chance(&mut self, percent: u64) -> bool {
+        self.below(100) < percent
+    }
 }
 
 /// The messages on their way, and the servers that are cut off.
 #[derive(Drop)]
-pub struct Network<M> {
-    /// Where its memory comes from.
-    pub alloc: Global,
-    mail: Vec<Envelope<M>>,
+pub struct Network<L, C> {
+    messages: Vec<Message<L, C>>,
     /// Whether messages get lost or come twice.
     pub is_rough: bool,
     /// Whether each server is cut off.
     cut: [bool; 5],
 }
 
-impl<M: Drop> Network<M> {
+impl<L: Drop, C: Drop> Network<L, C> {
     /// A rough network without a cut.
     pub fn new(alloc: Global) -> Self {
         Network {
-            alloc,
-            mail: Vec::new(alloc),
+            messages: Vec::new(alloc),
             is_rough: true,
-            cut: WHOLE,
+            cut: [false; 5],
         }
     }
 
     /// Whether a server is cut off from those that aren't.
     pub fn is_cut_off(&self, id: u64) -> bool {
-        let place = id.saturating_sub(1) as usize;
-        self.cut.get(place) == Some(&true)
+        self.cut.get(id.saturating_sub(1) as usize) == Some(&true)
     }
 
     /// It is cut in two, or a cut ends.
     pub fn part(&mut self, dice: &mut Dice) -> Event {
         if self.cut.contains(&true) {
-            self.cut = WHOLE;
+            self.cut = [false; 5];
             return Event::Healed;
         }
         for is_cut_off in &mut self.cut {
@@ -59,38 +61,24 @@ impl<M: Drop> Network<M> {
 
     /// From now on no message is lost or comes twice.
     pub fn mend(&mut self) {
-        self.cut = WHOLE;
+        self.cut = [false; 5];
         self.is_rough = false;
     }
 
-    /// Sends a message. One for which there is no memory is lost.
-    pub fn post(&mut self, from: u64, to: u64, message: M) {
-        let _is_sent = add(&mut self.mail, Envelope { from, to, message });
+    /// Sends a message, if there is one. It is lost where there is no memory for it.
+    pub fn post(&mut self, message: Option<Message<L, C>>) {
+        let _is_sent = self.messages.extend(message).is_ok();
     }
 
-    /// One of the messages that are on their way.
-    pub fn take(&mut self, dice: &mut Dice) -> Option<Envelope<M>> {
-        let place = dice.below(self.mail.len() as u64) as usize;
-        if place >= self.mail.len() {
-            return None;
-        }
-        Some(self.mail.swap_remove(place))
+    /// One of the messages that are on their way, if there are any.
+    pub fn take(&mut self, dice: &mut Dice) -> Option<Message<L, C>> {
+        let place = dice.below(self.messages.len() as u64) as usize;
+        (place < self.messages.len()).then(|| self.messages.swap_remove(place))
     }
 
     /// Whether a message gets through.
-    pub fn lets_through(&self, from: u64, to: u64, dice: &mut Dice) -> bool {
-        self.is_cut_off(from) == self.is_cut_off(to) && !(self.is_rough && dice.chance(8))
-    }
-
-    /// A message has passed. It is on its way again if it is to come in once more, and what answers it
-    /// is sent.
-    pub fn pass(&mut self, envelope: Envelope<M>, comes_again: bool, answer: Option<M>) {
-        let (from, to) = (envelope.from, envelope.to);
-        if comes_again {
-            let _is_sent = add(&mut self.mail, envelope);
-        }
-        if let Some(answer) = answer {
-            self.post(to, from, answer);
-        }
+    pub fn lets_through(&self, message: &Message<L, C>, dice: &mut Dice) -> bool {
+        self.is_cut_off(message.from) == self.is_cut_off(message.to)
+            && !(self.is_rough && dice.chance(8))
     }
 }

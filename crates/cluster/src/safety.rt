@@ -1,154 +1,137 @@
 //! What Raft promises of a whole cluster, checked at each event.
-//!
-//! What is found to be wrong is noted, as what fails in a server is, and the first of it is told.
 
-use crate::flaw::Flaw;
-use crate::interface::{Glance, Seen};
-use crate::standing::Role;
-use crate::types::{LeaderNumbers, LogNumbers};
+use crate::server::Server;
+use crate::types::end;
+use raft_base::{LogIdOf, LogStateReader, Validate};
 use std::alloc::Global;
 use std::collections::BTreeMap;
 
-/// Who was elected, what was committed, and what is wrong.
+/// Who has led, what was committed, and what is wrong.
 #[derive(Drop)]
-pub struct History {
-    /// Whether a term has one leader. The default leader ids have the node in them, so two may be of
-    /// one term.
-    is_standard: bool,
-    /// The server that leads in each term, if a term has one leader.
-    leaders: BTreeMap<u64, u64>,
-    /// The log id of each committed entry, and the vote under which it was first known to be.
-    pub committed: Vec<(LogNumbers, LeaderNumbers)>,
-    /// The first that was found to be wrong, and with which server, in which term, at which index or
-    /// after how many events.
-    pub flaw: Option<(Flaw, u64)>,
+pub struct History<C: Ord> {
+    /// The server of each leader id that has led.
+    leaders: BTreeMap<C, u64>,
+    /// The log id of each committed entry, and the leader that was the first to commit it.
+    pub committed: Vec<(LogIdOf<C>, C)>,
+    /// Whether nothing was found to be wrong.
+    pub is_safe: bool,
+    /// The first that was, and at which server or index, or after how many events.
+    pub flaw: String,
 }
 
-impl History {
+impl<C: Ord + Copy + Drop> History<C> {
     /// Nothing has happened.
-    pub fn new(alloc: Global, is_standard: bool) -> Self {
+    pub fn new(alloc: Global) -> Self {
         History {
-            is_standard,
             leaders: BTreeMap::new(alloc),
             committed: Vec::new(alloc),
-            flaw: None,
+            is_safe: true,
+            flaw: String::new(alloc),
         }
     }
 
     /// Checks whether all is well after something at a server.
-    pub fn check<S: Seen>(&mut self, servers: &[S], server: &S) {
-        if let Some(flaw) = server.flaw() {
-            self.note(flaw, server.seen().id);
-        }
+    pub fn check<L: Copy + Eq + Drop>(&mut self, servers: &[Server<L, C>], place: usize) {
+        let Some(server) = servers.get(place) else {
+            return;
+        };
+        self.check_alone(server);
         for other in servers {
             self.check_match(server, other);
             self.check_known(server, other);
             self.check_known(other, server);
         }
         self.check_committed(server);
-        self.check_leaders(servers);
+        for server in servers {
+            if let Some(followers) = server.followers() {
+                self.check_leader(server, followers.leader);
+            }
+        }
     }
 
-    /// Notes what is wrong, unless something was before.
-    pub fn note(&mut self, flaw: Flaw, at: u64) {
-        self.flaw = self.flaw.or(Some((flaw, at)));
+    /// Notes what is wrong, unless all is well, or something was wrong before.
+    pub fn require(&mut self, is_well: bool, flaw: &str, at: u64) {
+        if self.is_safe && !is_well {
+            self.is_safe = false;
+            let _is_noted = write!(self.flaw, "{flaw} {at}");
+        }
+    }
+
+    /// A server by itself has to have done what it had to do, and to be in order.
+    fn check_alone<L: Copy + Drop>(&mut self, server: &Server<L, C>) {
+        let state = &server.state;
+        let checks = [
+            (server.is_well, "a step failed at"),
+            (state.validate().is_ok(), "no valid state of"),
+            (state.purge_upto_is_logged(), "the purge point is lost at"),
+            (state.committed_is_logged(), "a committed entry is lost at"),
+            (server.has_log_on_disk(), "another log is on the disk of"),
+        ];
+        for (is_well, flaw) in checks {
+            self.require(is_well, flaw, server.id);
+        }
     }
 
     /// Two servers have to have the same entries up to the last log id that both have.
-    fn check_match<S: Seen>(&mut self, one: &S, other: &S) {
+    fn check_match<L: Copy + Drop>(&mut self, one: &Server<L, C>, other: &Server<L, C>) {
         let mut is_shared = false;
-        let (here, there) = (one.seen(), other.seen());
-        for index in (here.purged.max(there.purged)..here.end.min(there.end)).rev() {
-            if one.log_at(index) == other.log_at(index) {
+        let first = one.state.purged_next.max(other.state.purged_next);
+        for index in (first..one.end().min(other.end())).rev() {
+            if one.state.get_log_id(index) == other.state.get_log_id(index) {
                 is_shared = true;
-                if !one.shares_entry(other, index) {
-                    self.note(Flaw::TwoEntries, index);
-                }
-            } else if is_shared {
-                self.note(Flaw::LogsMeet, index);
+                let is_same = one.disk.get(one.place(index)) == other.disk.get(other.place(index));
+                self.require(is_same, "two entries at", index);
+            } else {
+                self.require(!is_shared, "logs meet again after", index);
             }
         }
     }
 
     /// Another server of a leader's vote has to have what the leader knows to match.
-    fn check_known<S: Seen>(&mut self, leader: &S, other: &S) {
-        let (seen, there) = (leader.seen(), other.seen());
-        if seen.role == Role::Leader && seen.vote == there.vote {
-            if let Some(log) = leader.matching(there.id) {
-                if !has(other, there.purged, log) {
-                    self.note(Flaw::NoMatch, there.id);
+    fn check_known<L: Copy + Eq + Drop>(&mut self, leader: &Server<L, C>, other: &Server<L, C>) {
+        if leader.vote().leader_id == other.vote().leader_id {
+            if let Some(known) = leader.matching(other.id) {
+                self.require(has(other, known), "a match is not in the log of", other.id);
+            }
+        }
+    }
+
+    /// What a server knows to be committed has to be in its log, and to be what others know. A leader
+    /// is the first to know it. There has to be memory to note it.
+    fn check_committed<L: Copy + Drop>(&mut self, server: &Server<L, C>) {
+        let state = &server.state;
+        for index in state.purged_next.saturating_sub(1)..end(state.committed) {
+            let log_id = state.get_log_id(index);
+            let known = self.committed.get(index as usize);
+            let is_well = match (known, log_id, server.followers()) {
+                (Some((known, _)), _, _) => log_id == Some(*known),
+                (None, Some(log_id), Some(followers)) => {
+                    self.committed.push((log_id, followers.leader)).is_ok()
                 }
-            }
+                _ => false,
+            };
+            self.require(is_well, "another entry was committed at", index);
         }
     }
 
-    /// What a server knows to be committed has to be in its log, and what others know.
-    fn check_committed<S: Seen>(&mut self, server: &S) {
-        let seen = server.seen();
-        for index in seen.purged.saturating_sub(1)..seen.committed {
-            match (server.log_at(index), self.committed.get(index as usize)) {
-                (Some(log), None) => {
-                    if self.committed.push((log, seen.vote)).is_err() {
-                        self.note(Flaw::NotNoted, index);
-                    }
-                }
-                (Some(log), Some(known)) if known.0 == log => {}
-                _ => self.note(Flaw::OtherCommitted, index),
-            }
+    /// No other server may have led under a leader's id, and it has to have in its log all that was
+    /// committed by leaders up to it.
+    fn check_leader<L: Drop>(&mut self, server: &Server<L, C>, leader: C) {
+        let is_only = match self.leaders.insert(leader, server.id) {
+            Ok(before) => before.unwrap_or(server.id) == server.id,
+            Err(_) => false,
+        };
+        self.require(is_only, "there were two of one leader id:", server.id);
+        let mut has_all = true;
+        for (log_id, by) in &self.committed {
+            has_all &= leader < *by || has(server, *log_id);
         }
-    }
-
-    /// Each server that leads has to be the only leader of its term, if a term has one, and to have in
-    /// its log all that was committed under votes up to its own.
-    fn check_leaders<S: Seen>(&mut self, servers: &[S]) {
-        for server in servers {
-            let seen = server.seen();
-            if seen.role == Role::Leader {
-                self.check_only(&seen);
-                if !self.is_complete(server, &seen) {
-                    self.note(Flaw::LacksCommitted, seen.id);
-                }
-            }
-        }
-    }
-
-    /// A leader has to be the only one of its term, if a term has one.
-    fn check_only(&mut self, seen: &Glance) {
-        if self.is_standard {
-            match self.leaders.insert(seen.vote.0, seen.id) {
-                Ok(before) if before.unwrap_or(seen.id) == seen.id => {}
-                Ok(_) => self.note(Flaw::TwoLeaders, seen.vote.0),
-                Err(_) => self.note(Flaw::NotNoted, seen.vote.0),
-            }
-        }
-    }
-
-    /// Whether a leader has what was committed under votes up to its own.
-    fn is_complete<S: Seen>(&self, leader: &S, seen: &Glance) -> bool {
-        for (log, by) in &self.committed {
-            if *by <= seen.vote && !has(leader, seen.purged, *log) {
-                return false;
-            }
-        }
-        true
+        self.require(has_all, "a commit is not in the log of leader", server.id);
     }
 }
 
 /// Whether a log id is in a server's log, or its index is purged.
-fn has<S: Seen>(server: &S, purged: u64, log: LogNumbers) -> bool {
-    log.0 < purged || server.log_at(log.0) == Some(log)
-}
-
-/// The leader that was elected last.
-pub fn last_leader<S: Seen>(servers: &[S]) -> Option<&S> {
-    let mut last: Option<&S> = None;
-    let mut vote = (0, 0);
-    for server in servers {
-        let seen = server.seen();
-        if seen.role == Role::Leader && vote < seen.vote {
-            last = Some(server);
-            vote = seen.vote;
-        }
-    }
-    last
+fn has<L: Drop, C: Ord + Copy + Drop>(server: &Server<L, C>, log_id: LogIdOf<C>) -> bool {
+    let state = &server.state;
+    log_id.index < state.purged_next || state.get_log_id(log_id.index) == Some(log_id)
 }

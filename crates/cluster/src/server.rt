@@ -1,18 +1,27 @@
 //! A server: its state, what it has on disk, what it is doing, and whom it votes for.
-//!
-//! What fails in it is noted for the one who checks it, so its functions return no errors. Only
-//! what a vote decides is over leader ids; what goes by the log is over any leaders.
 
+use crate::events::Event;
 use crate::fault::Fault;
 use crate::message::{Content, Message};
-use crate::standing::{Role, Standing};
-use crate::types::{Disk, Members, State, end};
-use raft_base::{LeaderIdentity, LogIdOf, LogStateReader, VoteIn};
-use raft_progress::{ProgressEntryOf, ProgressPart};
-use raft_state_tests::turn::Followers;
-use std::alloc::{AllocError, Global};
+use crate::types::{Leader, end};
+use raft_base::{EmptyNode, LogIdOf, LogStateReader, VoteIn};
+use raft_progress::{ProgressEntryOf, ProgressPart, Tracked};
+use raft_state_tests::turn::{Entry, Followers, Members, State};
+use std::alloc::Global;
+use std::mem;
 
-/// A server.
+/// What a server is doing, with what it knows of its followers while it leads.
+#[derive(Drop)]
+pub enum Role<F> {
+    /// It waits for a leader.
+    Follower,
+    /// It asks for votes, and knows who has voted for it.
+    Candidate(Tracked<u64, EmptyNode, bool, bool>),
+    /// It leads.
+    Leader(F),
+}
+
+/// A server. `L` is the leader id of a vote, and `C` what log ids keep of it.
 #[derive(Drop)]
 pub struct Server<L, C: Ord + Copy>
 where
@@ -21,15 +30,27 @@ where
 {
     pub alloc: Global,
     pub id: u64,
+    /// What it does wrong, where that is planted.
     pub fault: Option<Fault>,
-    pub standing: Standing,
+    pub role: Role<Followers<C>>,
+    /// Whether a voter with a greater last log id has refused it: it waits longer then, for that one to
+    /// lead.
+    pub is_behind: bool,
     pub state: State<L, C>,
-    pub disk: Disk<C>,
-    /// What it knows of its followers, while it leads.
-    pub followers: Followers<C>,
+    /// The entries of its log that are not purged, in their order.
+    pub disk: Vec<Entry<C>>,
+    /// What has become of it since this was last taken.
+    pub event: Option<Event>,
+    /// Whether all that it had to do could be done.
+    pub is_well: bool,
 }
 
-impl<L: Drop, C: Ord + Copy + Drop> Server<L, C> {
+impl<L: Copy + Drop, C: Ord + Copy + Drop> Server<L, C> {
+    /// The vote that it has promised.
+    pub fn vote(&self) -> VoteIn<L> {
+        *self.state.vote_ref()
+    }
+
     /// Its last log id.
     pub fn last(&self) -> Option<LogIdOf<C>> {
         self.state.last_log_id().copied()
@@ -40,22 +61,45 @@ impl<L: Drop, C: Ord + Copy + Drop> Server<L, C> {
         end(self.last())
     }
 
-    /// Its effective members.
-    pub fn effective(&self) -> &Members {
+    /// The effective members.
+    pub fn members(&self) -> &Members {
         self.state.membership_state.effective().membership()
+    }
+
+    /// What it knows of its followers, if it leads.
+    pub fn followers(&self) -> Option<&Followers<C>> {
+        match &self.role {
+            Role::Leader(followers) => Some(followers),
+            _ => None,
+        }
+    }
+
+    /// The last log id that a member is known to have, if it leads.
+    pub fn matching(&self, id: u64) -> Option<LogIdOf<C>> {
+        self.followers()?.get(id)?.matching
+    }
+
+    /// The last log id that a quorum is known to have, if it leads.
+    pub fn granted(&self) -> Option<LogIdOf<C>> {
+        self.followers()?.granted()
     }
 
     /// The place of an index on its disk.
     pub fn place(&self, index: u64) -> usize {
         index.saturating_sub(self.state.purged_next) as usize
     }
-}
 
-impl<L: Copy + Drop, C: Ord + Copy + Drop> Server<L, C> {
+    /// Takes another role.
+    pub fn set_role(&mut self, role: Role<Followers<C>>) {
+        drop(mem::replace(&mut self.role, role));
+    }
+
     /// A message with its vote.
-    pub fn message(&self, content: Content<C>) -> Message<L, C> {
+    pub fn message(&self, to: u64, content: Content<C>) -> Message<L, C> {
         Message {
-            vote: *self.state.vote_ref(),
+            from: self.id,
+            to,
+            vote: self.vote(),
             content,
         }
     }
@@ -67,13 +111,13 @@ impl<L: Copy + Drop, C: Ord + Copy + Drop> Server<L, C> {
     }
 }
 
-impl<L: LeaderIdentity<Id = u64> + Drop> Server<L, L::Committed> {
+impl<L: Leader> Server<L, L::Committed> {
     /// Takes over a vote that is greater than its own, and follows from then on. True if the vote is
     /// the own one then: it was not below that, and does compare with it.
     pub fn learn(&mut self, vote: VoteIn<L>) -> bool {
-        let own = *self.state.vote_ref();
+        let own = self.vote();
         if vote > own {
-            self.standing.role = Role::Follower;
+            self.set_role(Role::Follower);
             self.save_vote(vote);
         }
         vote >= own
@@ -85,17 +129,8 @@ impl<L: LeaderIdentity<Id = u64> + Drop> Server<L, L::Committed> {
         let is_promised = self.learn(vote);
         if is_promised {
             self.state.vote.update(now, vote);
-            self.standing.is_behind = false;
+            self.is_behind = false;
         }
         is_promised
     }
-}
-
-/// A leader's followers, of which nothing is known but that their logs end before an index.
-pub fn new_followers<C: Ord + Copy + Drop>(
-    leader: C,
-    members: Result<Members, AllocError>,
-    end: u64,
-) -> Result<Followers<C>, AllocError> {
-    Followers::new(leader, members?, end)
 }

@@ -24,17 +24,13 @@ impl Text {
 
     /// Adds how a value is written: what `write!` and `writeln!` call.
     pub fn write_fmt<D: Display + Drop>(&mut self, value: D) {
-        if self.text.write_fmt(value).is_err() {
-            self.is_whole = false;
-        }
+        self.is_whole &= self.text.write_fmt(value).is_ok();
     }
 
     /// The text, if there was memory for all of it.
     pub fn whole(&self) -> Result<&str, AllocError> {
-        if self.is_whole {
-            Ok(&self.text)
-        } else {
-            Err(AllocError)
-        }
+        self.is_whole
+            .then_some(self.text.as_str())
+            .ok_or(AllocError)
     }
 }
