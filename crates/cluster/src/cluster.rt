@@ -50,9 +50,10 @@ where
         counts: Counts,
     ) -> Result<Self, AllocError> {
         let members = Members::from_nodes(alloc, nodes_of(alloc, &[1, 2, 3])?)?;
-        let ids = 1..=SERVERS;
-        let new = ids.map(|id| Server::new(alloc, id, fault));
-        let mut servers: Vec<Server<L, C>> = new.try_collect(alloc)?;
+        let mut servers = Vec::new(alloc);
+        for id in 1..=SERVERS {
+            servers.push(Server::new(alloc, id, fault)?)?;
+        }
         if let Some(first) = servers.first_mut() {
             first.propose(Payload::Membership(members));
         }

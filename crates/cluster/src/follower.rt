@@ -67,7 +67,8 @@ impl<L: Copy + Drop, C: Ord + Copy + Drop> Server<L, C> {
         match (self.fault, logs.last()) {
             (Some(Fault::NoWrite), _) => now % 8 == 0,
             (Some(Fault::NoCut), Some(last)) => {
-                (self.state.get_log_id(last.index)).is_some_and(|own| own != last)
+                let own = self.state.get_log_id(last.index);
+                own.is_some() && own != Some(last)
             }
             _ => false,
         }

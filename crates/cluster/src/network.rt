@@ -73,7 +73,10 @@ impl<L: Drop, C: Drop> Network<L, C> {
     /// One of the messages that are on their way, if there are any.
     pub fn take(&mut self, dice: &mut Dice) -> Option<Message<L, C>> {
         let place = dice.below(self.messages.len() as u64) as usize;
-        (place < self.messages.len()).then(|| self.messages.swap_remove(place))
+        if place >= self.messages.len() {
+            return None;
+        }
+        Some(self.messages.swap_remove(place))
     }
 
     /// Whether a message gets through.
