@@ -1,6 +1,7 @@
 #!/usr/bin/env bash
 # Runs the simulated cluster that the gate has built: 2,000 seeds over each kind of leader ids, of which each has to be
-# safe and to settle; and the first of them with each planted fault, which some have to show. No kind is the default one.
+# safe and to settle; and the first of them with each planted fault, which some have to show.
+# Without a word for the kind it is the default one.
 set -u -o pipefail
 cd "$(dirname "$0")/.."
 program=crates/cluster/out/cluster

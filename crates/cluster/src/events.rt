@@ -50,6 +50,11 @@ const WORDS: [&str; 10] = [
 pub struct Counts(pub [u64; 10]);
 
 impl Counts {
+    /// How often something happened.
+    pub fn of(&self, event: Event) -> u64 {
+        self.0[event as usize]
+    }
+
     /// Something happens so many times more.
     pub fn add(&mut self, event: Event, more: u64) {
         let count = &mut self.0[event as usize];

@@ -9,7 +9,8 @@ use raft_base::{LogStateReader, VoteIn, log_id_below};
 use raft_state_tests::turn::{Entry, Logs, Outcome, take_logs};
 
 impl<L: Leader> Server<L, L::Committed> {
-    /// Takes what a leader sends, unless it has promised a greater vote.
+    /// Takes what a leader sends, unless it has promised a greater vote. It refuses, too, once a step of
+    /// its own has failed, so that it acks nothing that it does not have.
     pub fn follow(
         &mut self,
         now: u64,

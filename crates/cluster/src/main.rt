@@ -83,7 +83,7 @@ fn main(rt: HostRuntime) -> Result<()> {
         run::<LeaderId<u64>>(&mut text, numbers, fault)?
     };
     println!(rt; "{}{counts}", text.whole()?)?;
-    let settled = counts.0[Event::Settled as usize];
+    let settled = counts.of(Event::Settled);
     ensure!(settled == count, "not all were safe and settled");
     Ok(())
 }

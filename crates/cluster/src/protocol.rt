@@ -13,7 +13,7 @@ use std::collections::BTreeSet;
 use std::mem;
 
 /// What changes a server's vote, or goes by it. A change for which there is no memory is left undone.
-/// What is over these steps is over any `L` and `C`, and half as dear to prove as they are.
+/// What calls these steps is over any `L` and `C`, and so is cheaper to prove than they are.
 pub trait Protocol<L, C>: Drop {
     /// A new server, which knows of no members.
     fn new(alloc: Global, id: u64, fault: Option<Fault>) -> Result<Self, AllocError>;
