@@ -21,7 +21,7 @@ use std::fmt::{Debug, Display};
 /// compare, no more than one of them can be elected.
 pub trait LeaderIdentity: Eq + Copy + Default + 'static {
     /// The id of a node.
-    type Id: NodeId;
+    type Id: Eq + Copy + 'static;
     /// What is kept of a leader once a quorum has elected it.
     type Committed: Ord + Copy + Default + 'static;
 
