@@ -123,17 +123,19 @@ fn members_with_4(alloc: Global) -> Result<Members> {
     Ok(members(alloc)?.change(change, true)?)
 }
 
-/// Whether a learner that becomes a voter has to have the log too, as the third of four.
+/// Whether a learner that becomes a voter has to have the log too, as the third of four, and does so only
+/// once an entry of the leader's own is granted.
 fn changes<K: LeaderKind<u64>>(
     alloc: Global,
     state: &mut StateOf<K>,
     known: &mut Followers<Committed<K>>,
 ) -> Result<bool> {
+    let is_early = known.change_to(members_with_4(alloc)?, 4).is_ok();
     let is_committed = commits::<K>(state, known, Some((2, 3)))?;
     known.change_to(members_with_4(alloc)?, 4)?;
     let is_taken = grants::<K>(known, None);
     let _is_more = turn::<K>(state, known, 4)?;
-    Ok(is_committed && is_taken && grants::<K>(known, Some((2, 3))))
+    Ok(!is_early && is_committed && is_taken && grants::<K>(known, Some((2, 3))))
 }
 
 /// Whether that holds of a new leader. Of the learner 4 nothing is known: two of the four voters have

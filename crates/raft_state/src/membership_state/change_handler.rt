@@ -38,6 +38,10 @@ impl<'m, C: Ord + Copy + Default + Debug + Drop, NID: NodeId, N: Node> ChangeHan
     ///
     /// With `retain` voters that go stay as learners. Nothing becomes effective: that is for
     /// `append`, once the answer stands in the log.
+    ///
+    /// A leader asks only once an entry of its own is committed, which nothing here can tell. From one
+    /// joint membership two leaders, one after the other, may else go over to either config, and
+    /// quorums of the two need not meet.
     pub fn apply(
         &self,
         change: ChangeMembers<NID, N>,

@@ -79,9 +79,15 @@ impl<C: Ord + Copy + Drop> Followers<C> {
         Ok(())
     }
 
-    /// Goes over to other members. Of a new one no log is known to match. After an error it counts by
-    /// the old ones, and is to be asked again before it commits.
+    /// Goes over to other members, before these are appended. Of a new one no log is known to match.
+    /// After an error it counts by the old ones, and none are to be appended.
+    ///
+    /// It is refused until an entry of this leader's own is granted. From joint members two leaders may
+    /// go over to either config, and quorums of the two need not meet. But once an entry of the later
+    /// one's own is granted, each quorum of either config has a voter with it, which does not vote for
+    /// the earlier one any more.
     pub fn change_to(&mut self, members: Members, end: u64) -> Result<()> {
+        ensure!(self.is_own(self.granted()), "nothing of its own is granted");
         let unknown = ProgressEntryOf::<C>::empty(end);
         let reply = self.tracked.change_to(members, unknown);
         ensure!(matches!(&reply, Reply::Granted(_)), "out of memory");
