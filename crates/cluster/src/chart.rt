@@ -1,12 +1,11 @@
 //! A chart of a cluster, a line at a time.
 
 use crate::cluster::Cluster;
-use crate::protocol::Protocol;
-use crate::server::{Role, Server};
-use crate::text::Text;
-use crate::types::end;
+use crate::message;
+use crate::report::Report;
+use crate::server::{Leader, Role, Server};
 use raft_base::LogIdOptionExt;
-use raft_state_tests::turn::Members;
+use raft_state_tests::turn::Followers;
 
 /// How many indexes of a log are shown.
 const WIDTH: u64 = 8;
@@ -19,30 +18,22 @@ index that a quorum has, the voters (of both configs of joint members), +learner
 event 1           2           3           4           5          has members
 ";
 
-impl<L: Copy + Eq + Drop, C: Ord + Copy + Drop> Cluster<L, C>
-where
-    Server<L, C>: Protocol<L, C>,
-{
+impl<L: Leader> Cluster<L, L::Committed> {
     /// Draws a line: what all servers are, with their terms and logs, what the last leader knows a
     /// quorum to have, its members, and what has happened since the last line.
-    pub fn draw(&mut self, text: &mut Text) {
-        let mut end = WIDTH;
-        for server in &self.servers {
-            end = end.max(server.end());
-        }
-        write!(text, "{:>4} ", self.now);
-        for server in &self.servers {
-            let is_cut_off = self.network.is_cut_off(server.id);
-            let sign = if is_cut_off { '*' } else { ' ' };
-            write!(text, "{sign}{}{:<2}", server.letter(), server.term());
-            server.show(text, end);
+    pub fn draw(&self, report: &mut Report) {
+        let end = self.servers.iter().map(Server::end).fold(WIDTH, u64::max);
+        write!(report, "{:>4} ", self.now);
+        for (server, is_cut_off) in self.servers.iter().zip(&self.cut) {
+            let sign = if *is_cut_off { '*' } else { ' ' };
+            write!(report, "{sign}{}{:<2}", server.letter(), server.term());
+            server.show(report, end);
         }
         match self.last_leader() {
-            Some(leader) => describe(text, leader.granted().index(), leader.members()),
-            None => write!(text, " -"),
+            Some(leader) => leader.describe(report),
+            None => write!(report, " -"),
         }
-        writeln!(text, "{}", self.notes.line);
-        self.notes.line.clear();
+        report.end_line();
     }
 }
 
@@ -58,37 +49,33 @@ impl<L: Copy + Drop, C: Ord + Copy + Drop> Server<L, C> {
     }
 
     /// Shows the last indexes of its log up to an end.
-    fn show(&self, text: &mut Text, end: u64) {
+    fn show(&self, report: &mut Report, end: u64) {
         for index in end.saturating_sub(WIDTH)..end {
-            write!(text, "{}", self.sign(index));
+            let sign = match index {
+                _ if index < self.state.purged_next => '=',
+                _ if index < message::end(self.state.committed) => '#',
+                _ if index < self.end() => '+',
+                _ => ' ',
+            };
+            write!(report, "{sign}");
         }
     }
 
-    /// The sign of an index of its log.
-    fn sign(&self, index: u64) -> char {
-        match index {
-            _ if index < self.state.purged_next => '=',
-            _ if index < end(self.state.committed) => '#',
-            _ if index < self.end() => '+',
-            _ => ' ',
+    /// Shows the last index that it knows a quorum to have, as a leader, the configs, and the learners.
+    fn describe(&self, report: &mut Report) {
+        if let Some(granted) = self.followers().and_then(Followers::granted).index() {
+            write!(report, " {granted:>3}");
         }
-    }
-}
-
-/// The last index that a leader knows a quorum to have, the configs, and the learners.
-fn describe(text: &mut Text, granted: Option<u64>, members: &Members) {
-    if let Some(granted) = granted {
-        write!(text, " {granted:>3}");
-    }
-    let mut sign = ' ';
-    for config in members.get_joint_config() {
-        write!(text, "{sign}");
-        sign = '/';
-        for id in config {
-            write!(text, "{id}");
+        let mut sign = ' ';
+        for config in self.members().get_joint_config() {
+            write!(report, "{sign}");
+            sign = '/';
+            for id in config {
+                write!(report, "{id}");
+            }
         }
-    }
-    for id in members.learner_ids() {
-        write!(text, "+{id}");
+        for id in self.members().learner_ids() {
+            write!(report, "+{id}");
+        }
     }
 }

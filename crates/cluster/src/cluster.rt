@@ -1,27 +1,41 @@
 //! A cluster: its servers, the network between them, and what happens to both.
 
-use crate::events::{Counts, Event, Notes};
 use crate::fault::Fault;
-use crate::network::{Dice, Network};
-use crate::protocol::Protocol;
+use crate::message::{Change, Message, Payload, end};
+use crate::report::{Event, Report};
 use crate::safety::History;
-use crate::server::Server;
-use crate::text::Text;
-use crate::types::{Payload, end};
+use crate::server::{Leader, Server, TIMEOUT};
 use raft_base::{EmptyNode, LogIdOf};
 use raft_progress::{ProgressEntryOf, ProgressPart};
 use raft_state_tests::turn::Members;
+use rand_core::Rng;
 use rand_pcg::Pcg32;
 use std::alloc::{AllocError, Global};
-use std::collections::BTreeMap;
+use std::collections::{BTreeMap, BTreeSet};
 
 /// How many servers there are. The first three are the first voters.
 pub const SERVERS: u64 = 5;
 
 /// How many events a cluster has to settle in, once its network is mended.
-const SETTLE: u64 = 4000;
+const SETTLE: u64 = 10_000;
 
-/// A cluster.
+/// What chance decides, the same for each run of a seed.
+#[derive(Drop)]
+pub struct Dice(Pcg32);
+
+impl Dice {
+    /// A number below a bound, and 0 where the bound is 0.
+    pub fn below(&mut self, bound: u64) -> u64 {
+        u64::from(self.0.next_u32()).checked_rem(bound).unwrap_or(0)
+    }
+
+    /// True in so many of a hundred cases.
+    pub fn chance(&mut self, percent: u64) -> bool {
+        self.below(100) < percent
+    }
+}
+
+/// Servers, and a network.
 #[derive(Drop)]
 pub struct Cluster<L, C: Ord + Copy>
 where
@@ -29,26 +43,21 @@ where
     ProgressEntryOf<C>: ProgressPart<Option<LogIdOf<C>>>,
 {
     pub servers: Vec<Server<L, C>>,
-    pub network: Network<L, C>,
+    /// The messages that are on their way.
+    pub messages: Vec<Message<L, C>>,
+    /// How many of a hundred messages get lost, and how many come again.
+    pub loss: u64,
+    /// Whether each server is cut off from those that aren't.
+    pub cut: [bool; 5],
     pub dice: Dice,
     seed: u64,
     pub now: u64,
     history: History<C>,
-    pub notes: Notes,
 }
 
-impl<L: Copy + Eq + Drop, C: Ord + Copy + Drop> Cluster<L, C>
-where
-    Server<L, C>: Protocol<L, C>,
-{
-    /// A cluster whose counts go on from these. The first server begins it with the first three
-    /// as its members.
-    pub fn new(
-        alloc: Global,
-        seed: u64,
-        fault: Option<Fault>,
-        counts: Counts,
-    ) -> Result<Self, AllocError> {
+impl<L: Leader> Cluster<L, L::Committed> {
+    /// A cluster, which the first server begins with the first three as its members.
+    pub fn new(alloc: Global, seed: u64, fault: Option<Fault>) -> Result<Self, AllocError> {
         let members = Members::from_nodes(alloc, nodes_of(alloc, &[1, 2, 3])?)?;
         let mut servers = Vec::new(alloc);
         for id in 1..=SERVERS {
@@ -59,96 +68,130 @@ where
         }
         Ok(Cluster {
             servers,
-            network: Network::new(alloc),
+            messages: Vec::new(alloc),
+            loss: 8,
+            cut: [false; 5],
             dice: Dice(Pcg32::new(seed, 54)),
             seed,
             now: 0,
             history: History::new(alloc),
-            notes: Notes::new(alloc, counts),
         })
     }
 
     /// Lets so many events happen, while all is well, with a line of its chart every few; and then some
     /// more once the network is mended, until a leader and all its members have committed the same log.
     /// What is wrong with it, if anything is, comes last.
-    pub fn play(&mut self, text: &mut Text, events: u64, every: u64) {
+    pub fn play(&mut self, report: &mut Report, events: u64, every: u64) {
         for event in 0..events.saturating_add(SETTLE) {
             if event == events {
-                self.network.mend();
+                (self.loss, self.cut) = (0, [false; 5]);
             }
             if !self.history.is_safe || (event >= events && self.is_settled()) {
                 break;
             }
             if event < events && event.checked_rem(every) == Some(0) {
-                self.draw(text);
+                self.draw(report);
             }
-            self.step();
+            self.step(report);
         }
         if every > 0 {
-            self.draw(text);
+            self.draw(report);
         }
-        self.conclude(text);
+        self.conclude(report);
     }
 
-    /// Something happens.
-    fn step(&mut self) {
+    /// Something happens: a message comes in, a server does something, or the network is cut in two or
+    /// whole again. Once it is mended messages come in and time passes, and no more.
+    fn step(&mut self, report: &mut Report) {
         self.now = self.now.saturating_add(1);
-        self.notes.counts.add(Event::Any, 1);
-        // Once the network is mended messages come in and time passes, and no more.
-        let bound = if self.network.is_rough { 100 } else { 81 };
+        report.count(Event::Any, 1);
+        let bound = if self.loss > 0 { 100 } else { 81 };
         match self.dice.below(bound) {
-            0..=55 => self.deliver(),
-            97..=99 => self.notes.note(None, self.network.part(&mut self.dice)),
+            0..=55 => self.deliver(report),
+            97..=99 => report.note(None, self.part()),
             what => {
                 let place = self.dice.below(SERVERS) as usize;
-                self.act(place, what);
-                self.check(place);
-            }
-        }
-    }
-
-    /// A server takes a message, if one gets through.
-    fn deliver(&mut self) {
-        if let Some(message) = self.network.take(&mut self.dice) {
-            let place = message.to.saturating_sub(1) as usize;
-            let comes_again = self.network.is_rough && self.dice.chance(8);
-            let answer = match self.servers.get_mut(place) {
-                Some(server) if self.network.lets_through(&message, &mut self.dice) => {
-                    server.receive(self.now, &message)
+                if let Some(server) = self.servers.get_mut(place) {
+                    server.now = self.now;
+                    server.act(what, &mut self.dice);
                 }
-                _ => None,
-            };
-            self.network.post(comes_again.then_some(message));
-            self.network.post(answer);
-            self.check(place);
-        }
-    }
-
-    /// Notes what has become of a server, and checks whether all is well.
-    fn check(&mut self, place: usize) {
-        if let Some(server) = self.servers.get_mut(place) {
-            if let Some(event) = server.event.take() {
-                self.notes.note(Some(server.id), event);
+                self.check(place, report);
             }
-            let is_well = server.leads_by_its_vote();
-            self.history
-                .require(is_well, "it does not lead by its vote:", server.id);
-            self.history.check(&self.servers, place);
         }
     }
 }
 
-impl<L: Copy + Drop, C: Ord + Copy + Drop> Cluster<L, C> {
+impl<L: Leader> Server<L, L::Committed> {
+    /// It does what a number stands for: up to 80 time passes for it, and after that it is asked for an
+    /// entry (to 86) or a change (to 90), applies what is committed (to 92), builds a snapshot (to 95), or
+    /// starts again (96).
+    fn act(&mut self, what: u64, dice: &mut Dice) {
+        let leads = self.leader().is_some();
+        match what {
+            81..=86 if leads => self.propose(Payload::Normal(self.now)),
+            87..=90 if leads => {
+                if let Ok(change) = self.some_change(dice) {
+                    let _changed = self.change(change, dice.chance(50));
+                }
+            }
+            81..=90 => {}
+            91..=92 => self.state.io_state.applied = self.state.committed,
+            93..=95 => self.compact(dice.below(4)),
+            96 => self.restart(),
+            _ if leads => {
+                self.replicate(dice);
+                self.end_change();
+            }
+            _ => self.campaign(dice.below(TIMEOUT)),
+        }
+    }
+}
+
+impl<L: Copy + Drop, C: Ord + Copy + Drop> Server<L, C> {
+    /// A change of the members: to add a learner, to remove one, or to go over to some of the followers
+    /// that have all but the last three entries.
+    fn some_change(&self, dice: &mut Dice) -> Result<Change, AllocError> {
+        let mut ids = BTreeSet::new(self.alloc);
+        let id = dice.below(SERVERS).saturating_add(1);
+        if !self.members().contains(&id) {
+            return Ok(Change::AddNodes(nodes_of(self.alloc, &[id])?));
+        }
+        if dice.chance(20) {
+            ids.insert(id)?;
+            return Ok(Change::RemoveNodes(ids));
+        }
+        for id in 1..=SERVERS {
+            let is_close = self.end() <= end(self.matching(id)).saturating_add(3);
+            if self.members().contains(&id) && is_close && dice.chance(75) {
+                ids.insert(id)?;
+            }
+        }
+        Ok(Change::ReplaceAllVoters(ids))
+    }
+}
+
+impl<L: Copy + Eq + Drop, C: Ord + Copy + Drop> Cluster<L, C> {
+    /// Takes what a server sends, notes what has become of it, and checks whether all is well.
+    pub fn check(&mut self, place: usize, report: &mut Report) {
+        if let Some(server) = self.servers.get_mut(place) {
+            let _are_sent = self.messages.append(&mut server.outbox).is_ok();
+            if let Some(event) = server.event.take() {
+                report.note(Some(server.id), event);
+            }
+            self.history.check(&self.servers, place);
+        }
+    }
+
     /// Counts what was committed, and whether it has settled, and writes what is wrong, if anything is.
-    fn conclude(&mut self, text: &mut Text) {
+    fn conclude(&mut self, report: &mut Report) {
         let is_settled = self.is_settled();
-        let (history, counts) = (&mut self.history, &mut self.notes.counts);
+        let history = &mut self.history;
         history.require(is_settled, "it does not settle, events given:", SETTLE);
-        counts.add(Event::Committed, history.committed.len() as u64);
-        counts.add(Event::Settled, u64::from(history.is_safe));
+        report.count(Event::Committed, history.committed.len() as u64);
+        report.count(Event::Settled, u64::from(history.is_safe));
         if !history.is_safe {
             let (seed, now, flaw) = (self.seed, self.now, &history.flaw);
-            writeln!(text, "seed {seed}: event {now}: {flaw}");
+            writeln!(report, "seed {seed}: event {now}: {flaw}");
         }
     }
 
@@ -170,13 +213,9 @@ impl<L: Copy + Drop, C: Ord + Copy + Drop> Cluster<L, C> {
     /// The leader that was elected last.
     pub fn last_leader(&self) -> Option<&Server<L, C>> {
         let mut last: Option<&Server<L, C>> = None;
-        let mut leader = None;
         for server in &self.servers {
-            if let Some(followers) = server.followers() {
-                if leader < Some(followers.leader) {
-                    last = Some(server);
-                    leader = Some(followers.leader);
-                }
+            if last.and_then(Server::leader) < server.leader() {
+                last = Some(server);
             }
         }
         last
@@ -184,6 +223,6 @@ impl<L: Copy + Drop, C: Ord + Copy + Drop> Cluster<L, C> {
 }
 
 /// Some servers, by their ids.
-pub fn nodes_of(alloc: Global, ids: &[u64]) -> Result<BTreeMap<u64, EmptyNode>, AllocError> {
+fn nodes_of(alloc: Global, ids: &[u64]) -> Result<BTreeMap<u64, EmptyNode>, AllocError> {
     ids.iter().map(|id| (*id, EmptyNode::new())).collect(alloc)
 }

@@ -1,45 +1,24 @@
 //! What a candidate and a leader do.
 
-use crate::events::Event;
+use crate::cluster::{Dice, SERVERS};
 use crate::fault::Fault;
-use crate::message::{Content, Message, Sent};
-use crate::protocol::Protocol;
-use crate::server::{Role, Server};
-use crate::types::{Leader, Payload, end};
-use raft_base::LogIdRangeOf;
-use raft_progress::{InflightOf, Progress};
-use raft_state_tests::turn::{Followers, Logs, Members};
+use crate::message::{Change, Content, Payload, Sent, end};
+use crate::report::Event;
+use crate::server::{Leader, Role, Server};
+use raft_base::{LogIdOf, LogIdRangeOf, VoteIn};
+use raft_progress::{InflightOf, Progress, Tracked};
+use raft_state_tests::turn::{Entry, Followers, Logs};
+use std::collections::BTreeSet;
 
 impl<L: Copy + Drop, C: Ord + Copy + Drop> Server<L, C> {
-    /// Whether it is to ask for votes, after so long without a leader.
-    pub fn is_to_campaign(&self, now: u64, patience: u64) -> bool {
-        let waited = match self.state.vote_last_modified() {
-            Some(since) => now.saturating_sub(since),
-            None => u64::MAX,
-        };
-        let times = if self.is_behind { 5 } else { 1 };
-        self.may_campaign() && patience.saturating_mul(times) <= waited
-    }
-
-    /// Whether it may ask for votes: it is a voter, or was one until a change that is not committed,
-    /// which may need it.
-    pub fn may_campaign(&self) -> bool {
+    /// Whether it is a voter, or was one before a change that is not known to be committed, and may need
+    /// its log.
+    pub fn may_lead(&self) -> bool {
         let memberships = &self.state.membership_state;
-        memberships.is_voter(&self.id)
-            || (memberships.committed().is_voter(&self.id) && memberships.contains(&self.id))
+        memberships.is_voter(&self.id) || memberships.committed().is_voter(&self.id)
     }
 
-    /// Counts by other members from now on, as the leader, if there is memory. Of a new one nothing is
-    /// known but that it lacks the entry that adds it.
-    pub fn count_by(&mut self, members: Members) -> bool {
-        let lacked = self.end();
-        match &mut self.role {
-            Role::Leader(followers) => followers.change_to(members, lacked).is_ok(),
-            _ => false,
-        }
-    }
-
-    /// Commits what a quorum has, as the leader.
+    /// Commits what a quorum has, once an entry of its own is among it, as the leader.
     pub fn commit(&mut self) {
         if let Role::Leader(followers) = &self.role {
             if self.fault == Some(Fault::CountAlone) {
@@ -51,34 +30,38 @@ impl<L: Copy + Drop, C: Ord + Copy + Drop> Server<L, C> {
         }
     }
 
-    /// Takes what is in flight to a follower as lost.
-    pub fn give_up(&mut self, to: u64) {
-        if let Role::Leader(followers) = &mut self.role {
-            followers.give_up(to);
+    /// Sends its followers what comes next, or a heartbeat. What is in flight to one is given up at
+    /// times, as lost.
+    pub fn replicate(&mut self, dice: &mut Dice) {
+        for id in 1..=SERVERS {
+            if id != self.id && self.members().contains(&id) {
+                let next = self.next(id, dice.chance(15));
+                self.send(id, next);
+            }
         }
     }
 
-    /// What it sends next to a follower, if nothing is in flight to it, and there is memory.
-    pub fn next_message(&mut self, to: u64) -> Option<Message<L, C>> {
+    /// What comes next for a follower, if there is memory, or while something is in flight and where
+    /// nothing comes next a heartbeat. What is in flight may be taken as lost.
+    fn next(&mut self, to: u64, is_lost: bool) -> Option<Content<C>> {
+        let nothing = LogIdRangeOf::new(self.last(), self.last());
         let Role::Leader(followers) = &mut self.role else {
             return None;
         };
-        let (id, sent) = match followers.next_request(&self.state, to)? {
-            InflightOf::Logs { id, log_id_range } => (id, Sent::Logs(self.logs(log_id_range)?)),
-            InflightOf::Snapshot { id, .. } => {
-                let snapshot = self.state.snapshot_meta.try_clone().ok()?;
-                (id, Sent::Snapshot(snapshot))
+        if is_lost {
+            followers.give_up(to);
+        }
+        let (request, sent) = match followers.next_request(&self.state, to) {
+            Some(InflightOf::Logs { id, log_id_range }) => {
+                (Some(id), Sent::Logs(self.logs(log_id_range)?))
             }
-            InflightOf::None => return None,
+            Some(InflightOf::Snapshot { id, .. }) => {
+                let snapshot = self.state.snapshot_meta.try_clone().ok()?;
+                (Some(id), Sent::Snapshot(snapshot))
+            }
+            _ => (None, Sent::Logs(self.logs(nothing)?)),
         };
-        Some(self.message(to, Content::Append(Some(id), sent)))
-    }
-
-    /// What tells a follower that this server leads, and what is committed.
-    pub fn heartbeat(&self, to: u64) -> Option<Message<L, C>> {
-        let last = self.last();
-        let logs = self.logs(LogIdRangeOf { prev: last, last })?;
-        Some(self.message(to, Content::Append(None, Sent::Logs(logs))))
+        Some(Content::Append(request, sent))
     }
 
     /// The entries of a range, and what is committed, if there is memory.
@@ -95,6 +78,31 @@ impl<L: Copy + Drop, C: Ord + Copy + Drop> Server<L, C> {
 }
 
 impl<L: Leader> Server<L, L::Committed> {
+    /// The term of its vote.
+    pub fn term(&self) -> u64 {
+        L::term(&self.vote().leader_id)
+    }
+
+    /// Votes for itself in the next term, and asks the others, if it may lead, has waited so much longer
+    /// than it does at least, and there is memory to count votes.
+    pub fn campaign(&mut self, patience: u64) {
+        let members = self.members().try_clone();
+        if self.waits_until.saturating_add(patience) <= self.now
+            && self.may_lead()
+            && let Ok(ballot) = members.and_then(|members| Tracked::new(members, false))
+        {
+            self.save_vote(VoteIn::new(self.term().saturating_add(1), self.id));
+            self.wait(1);
+            self.set_role(Role::Candidate(ballot));
+            for id in 1..=SERVERS {
+                if id != self.id && self.members().is_voter(&id) {
+                    self.send(id, Some(Content::AskVote(self.last())));
+                }
+            }
+            self.count_vote(self.id);
+        }
+    }
+
     /// Counts a vote for it as a candidate, and leads once a quorum has voted.
     pub fn count_vote(&mut self, from: u64) {
         if let Role::Candidate(ballot) = &mut self.role {
@@ -115,9 +123,56 @@ impl<L: Leader> Server<L, L::Committed> {
             vote.commit();
             self.save_vote(vote);
             self.set_role(Role::Leader(followers));
-            self.is_behind = false;
             self.event = Some(Event::Elected);
             self.propose(Payload::Blank);
+        }
+    }
+
+    /// Appends an entry, and counts it as its own, as the leader. The first one of a cluster is of
+    /// term 0, which nobody has to grant.
+    pub fn propose(&mut self, payload: Payload) {
+        let leader = L::to_committed(&self.vote().leader_id);
+        let log_id = LogIdOf::new(leader, self.end());
+        let place = self.disk.len();
+        self.is_well &= self.disk.extend(Some(Entry { log_id, payload })).is_ok();
+        self.append_from(place);
+        let last = self.last();
+        if self.state.can_accept() {
+            self.state.update_accepted(last);
+        }
+        if let Role::Leader(followers) = &mut self.role {
+            followers.set_own(self.id, last);
+        }
+        self.commit();
+    }
+
+    /// Proposes a change of the members, as the leader, and counts by them from now on, unless it is
+    /// refused, or there is no memory. Of a new one nothing is known but that it lacks the entry that
+    /// adds it.
+    pub fn change(&mut self, change: Change, retain: bool) -> Option<()> {
+        let handler = self.state.membership_state.change_handler();
+        let mut members = handler.apply(change, retain).ok()?;
+        if self.fault == Some(Fault::NoJoint) {
+            let to_last = Change::AddVoterIds(BTreeSet::new(self.alloc));
+            members = members.change(to_last, true).ok()?;
+        }
+        let (counted, lacked) = (members.try_clone().ok()?, self.end());
+        if let Role::Leader(followers) = &mut self.role {
+            followers.change_to(counted, lacked).ok()?;
+            self.event = Some(Event::Changed);
+            self.propose(Payload::Membership(members));
+        }
+        Some(())
+    }
+
+    /// Goes on from a joint membership to its last config, in which those who leave are learners, as
+    /// soon as it is not refused; and leads no longer once it is no voter any more.
+    pub fn end_change(&mut self) {
+        if self.members().is_in_joint_consensus() {
+            let to_last = Change::AddVoterIds(BTreeSet::new(self.alloc));
+            let _changed = self.change(to_last, true);
+        } else if !self.may_lead() {
+            self.set_role(Role::Follower);
         }
     }
 }

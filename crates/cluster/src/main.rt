@@ -11,35 +11,38 @@
 //! where a cluster did not settle once its network was mended.
 #![tactic(auto)]
 
-mod acts;
 mod chart;
 mod cluster;
-mod events;
 mod fault;
 mod follower;
 mod leader;
 mod message;
 mod network;
-mod protocol;
+mod report;
 mod safety;
 mod server;
 mod storage;
-mod text;
-mod types;
 
 use anyhow::{Result, ensure};
 use cluster::Cluster;
-use events::{Counts, Event};
 use fault::Fault;
 use raft_base::{LeaderId, leader_id_std};
-use std::alloc::AllocError;
+use report::{Event, Report};
+use server::Leader;
 use std::env;
-use text::Text;
-use types::Leader;
 
-/// What a program's words ask for: its numbers, which come first, whether leader ids are those of
-/// standard Raft, and the planted fault.
-fn read(words: &[String]) -> Result<([u64; 4], bool, Option<Fault>)> {
+/// Runs a cluster of each seed over a type of leader ids.
+fn run<L: Leader>(report: &mut Report, numbers: [u64; 4], fault: Option<Fault>) -> Result<()> {
+    let [first, count, events, every] = numbers;
+    for seed in first..first.saturating_add(count) {
+        let mut cluster = Cluster::<L, L::Committed>::new(report.alloc, seed, fault)?;
+        cluster.play(report, events, every);
+    }
+    Ok(())
+}
+
+fn main(rt: HostRuntime) -> Result<()> {
+    let words: Vec<String> = env::args(&rt)?.skip(1).collect(rt.alloc())?;
     let (mut numbers, mut is_standard, mut fault) = ([1, 1, 1000, 20], false, None);
     for (place, word) in words.iter().enumerate() {
         if let (Some(number), Ok(given)) = (numbers.get_mut(place), word.parse()) {
@@ -50,40 +53,19 @@ fn read(words: &[String]) -> Result<([u64; 4], bool, Option<Fault>)> {
             fault = Some(Fault::named(word)?);
         }
     }
-    Ok((numbers, is_standard, fault))
-}
-
-/// Runs a cluster of each seed over a type of leader ids, and answers what happened.
-fn run<L: Leader>(
-    text: &mut Text,
-    numbers: [u64; 4],
-    fault: Option<Fault>,
-) -> Result<Counts, AllocError> {
-    let [first, count, events, every] = numbers;
-    let mut counts = Counts([0; 10]);
-    for seed in first..first.saturating_add(count) {
-        let mut cluster = Cluster::<L, L::Committed>::new(text.alloc, seed, fault, counts)?;
-        cluster.play(text, events, every);
-        counts = cluster.notes.counts;
+    let mut report = Report::new(rt.alloc());
+    if numbers[3] > 0 {
+        write!(report, "{}", chart::LEGEND);
     }
-    Ok(counts)
-}
-
-fn main(rt: HostRuntime) -> Result<()> {
-    let words: Vec<String> = env::args(&rt)?.skip(1).collect(rt.alloc())?;
-    let (numbers, is_standard, fault) = read(&words)?;
-    let [_, count, _, every] = numbers;
-    let mut text = Text::new(rt.alloc());
-    if every > 0 {
-        write!(text, "{}", chart::LEGEND);
-    }
-    let counts = if is_standard {
-        run::<leader_id_std::LeaderId<u64>>(&mut text, numbers, fault)?
+    if is_standard {
+        run::<leader_id_std::LeaderId<u64>>(&mut report, numbers, fault)?;
     } else {
-        run::<LeaderId<u64>>(&mut text, numbers, fault)?
-    };
-    println!(rt; "{}{counts}", text.whole()?)?;
-    let settled = counts.of(Event::Settled);
-    ensure!(settled == count, "not all were safe and settled");
+        run::<LeaderId<u64>>(&mut report, numbers, fault)?;
+    }
+    report.sum_up();
+    println!(rt; "{}", report.text)?;
+    ensure!(report.is_whole, "out of memory");
+    let settled = report.counts[Event::Settled as usize];
+    ensure!(settled == numbers[1], "not all were safe and settled");
     Ok(())
 }

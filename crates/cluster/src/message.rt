@@ -1,8 +1,18 @@
-//! What servers send each other.
+//! What servers send each other, and the layer's types as they have them.
 
-use crate::types::Snapshot;
-use raft_base::{LogIdOf, VoteIn};
+use raft_base::{EmptyNode, LogIdOf, VoteIn};
+use raft_members::ChangeMembers;
+use raft_state::{EntryPayload, SnapshotMetaOf};
 use raft_state_tests::turn::{Logs, Response};
+
+/// What a log entry holds.
+pub type Payload = EntryPayload<u64, EmptyNode, u64>;
+
+/// A change of the members.
+pub type Change = ChangeMembers<u64, EmptyNode>;
+
+/// What is known of a snapshot.
+pub type Snapshot<C> = SnapshotMetaOf<C, u64, EmptyNode>;
 
 /// A message on its way, with its sender's vote.
 #[derive(Drop)]
@@ -31,4 +41,12 @@ pub enum Content<C> {
 pub enum Sent<C> {
     Logs(Logs<C>),
     Snapshot(Snapshot<C>),
+}
+
+/// The index after a log id: 0 after none, and the greatest one where there is none after it.
+pub fn end<C: Copy>(last: Option<LogIdOf<C>>) -> u64 {
+    match last {
+        Some(log_id) => log_id.index.saturating_add(1),
+        None => 0,
+    }
 }

@@ -1,7 +1,7 @@
 //! What Raft promises of a whole cluster, checked at each event.
 
+use crate::message::end;
 use crate::server::Server;
-use crate::types::end;
 use raft_base::{LogIdOf, LogStateReader, Validate};
 use std::alloc::Global;
 use std::collections::BTreeMap;
@@ -32,19 +32,14 @@ impl<C: Ord + Copy + Drop> History<C> {
 
     /// Checks whether all is well after something at a server.
     pub fn check<L: Copy + Eq + Drop>(&mut self, servers: &[Server<L, C>], place: usize) {
-        let Some(server) = servers.get(place) else {
-            return;
-        };
-        self.check_alone(server);
-        for other in servers {
-            self.check_match(server, other);
-            self.check_known(server, other);
-            self.check_known(other, server);
-        }
-        self.check_committed(server);
-        for server in servers {
-            if let Some(followers) = server.followers() {
-                self.check_leader(server, followers.leader);
+        if let Some(server) = servers.get(place) {
+            self.check_alone(server);
+            self.check_committed(server);
+            for other in servers {
+                self.check_match(server, other);
+                self.check_known(server, other);
+                self.check_known(other, server);
+                self.check_leader(other);
             }
         }
     }
@@ -59,40 +54,33 @@ impl<C: Ord + Copy + Drop> History<C> {
 
     /// A server by itself has to have done what it had to do, and to be in order.
     fn check_alone<L: Copy + Drop>(&mut self, server: &Server<L, C>) {
-        let state = &server.state;
-        let checks = [
-            (server.is_well, "a step failed at"),
-            (state.validate().is_ok(), "no valid state of"),
-            (state.purge_upto_is_logged(), "the purge point is lost at"),
-            (state.committed_is_logged(), "a committed entry is lost at"),
-            (server.has_log_on_disk(), "another log is on the disk of"),
-        ];
-        for (is_well, flaw) in checks {
-            self.require(is_well, flaw, server.id);
-        }
+        let (state, id) = (&server.state, server.id);
+        let is_whole = server.disk.len() == server.place(server.end());
+        self.require(server.is_well, "a step failed at", id);
+        self.require(state.validate().is_ok(), "no valid state of", id);
+        self.require(state.purge_upto_is_logged(), "no purge point at", id);
+        self.require(state.committed_is_logged(), "a commit is lost at", id);
+        self.require(is_whole, "another log is on the disk of", id);
     }
 
-    /// Two servers have to have the same entries up to the last log id that both have.
+    /// Two servers have to have the same entries, on their disks, up to the last log id that both have.
     fn check_match<L: Copy + Drop>(&mut self, one: &Server<L, C>, other: &Server<L, C>) {
         let mut is_shared = false;
         let first = one.state.purged_next.max(other.state.purged_next);
         for index in (first..one.end().min(other.end())).rev() {
-            if one.state.get_log_id(index) == other.state.get_log_id(index) {
-                is_shared = true;
-                let is_same = one.disk.get(one.place(index)) == other.disk.get(other.place(index));
-                self.require(is_same, "two entries at", index);
-            } else {
-                self.require(!is_shared, "logs meet again after", index);
-            }
+            is_shared |= one.state.get_log_id(index) == other.state.get_log_id(index);
+            let (entry, same) = (one.entry(index), other.entry(index));
+            let is_well = !is_shared || (entry.is_some() && entry == same);
+            self.require(is_well, "logs do not match at", index);
         }
     }
 
     /// Another server of a leader's vote has to have what the leader knows to match.
     fn check_known<L: Copy + Eq + Drop>(&mut self, leader: &Server<L, C>, other: &Server<L, C>) {
-        if leader.vote().leader_id == other.vote().leader_id {
-            if let Some(known) = leader.matching(other.id) {
-                self.require(has(other, known), "a match is not in the log of", other.id);
-            }
+        if let Some(known) = leader.matching(other.id)
+            && leader.vote().leader_id == other.vote().leader_id
+        {
+            self.require(has(other, known), "a match is not in the log of", other.id);
         }
     }
 
@@ -103,25 +91,28 @@ impl<C: Ord + Copy + Drop> History<C> {
         for index in state.purged_next.saturating_sub(1)..end(state.committed) {
             let log_id = state.get_log_id(index);
             let known = self.committed.get(index as usize);
-            let is_well = match (known, log_id, server.followers()) {
+            let is_well = match (known, log_id, server.leader()) {
                 (Some((known, _)), _, _) => log_id == Some(*known),
-                (None, Some(log_id), Some(followers)) => {
-                    self.committed.push((log_id, followers.leader)).is_ok()
-                }
+                (None, Some(log_id), Some(by)) => self.committed.push((log_id, by)).is_ok(),
                 _ => false,
             };
             self.require(is_well, "another entry was committed at", index);
         }
     }
 
-    /// No other server may have led under a leader's id, and it has to have in its log all that was
-    /// committed by leaders up to it.
-    fn check_leader<L: Drop>(&mut self, server: &Server<L, C>, leader: C) {
+    /// No other server may have led under a leader's id. Its last entry has to be its own, and it has to
+    /// have in its log all that was committed by leaders up to it.
+    fn check_leader<L: Copy + Drop>(&mut self, server: &Server<L, C>) {
+        let Some(leader) = server.leader() else {
+            return;
+        };
         let is_only = match self.leaders.insert(leader, server.id) {
             Ok(before) => before.unwrap_or(server.id) == server.id,
             Err(_) => false,
         };
         self.require(is_only, "there were two of one leader id:", server.id);
+        let is_own = matches!(server.last(), Some(last) if last.leader_id == leader);
+        self.require(is_own, "another leader's entry is the last of", server.id);
         let mut has_all = true;
         for (log_id, by) in &self.committed {
             has_all &= leader < *by || has(server, *log_id);

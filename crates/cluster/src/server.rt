@@ -1,14 +1,24 @@
-//! A server: its state, what it has on disk, what it is doing, and whom it votes for.
+//! A server: its state, what it has on disk, what it is doing, and the messages that it takes.
 
-use crate::events::Event;
 use crate::fault::Fault;
-use crate::message::{Content, Message};
-use crate::types::{Leader, end};
-use raft_base::{EmptyNode, LogIdOf, LogStateReader, VoteIn};
+use crate::message::{Content, Message, end};
+use crate::report::Event;
+use raft_base::{
+    EmptyNode, LeaderIdentity, LogIdOf, LogStateReader, VoteIn, log_id_at_most, log_id_below,
+};
 use raft_progress::{ProgressEntryOf, ProgressPart, Tracked};
-use raft_state_tests::turn::{Entry, Followers, Members, State};
-use std::alloc::Global;
+use raft_state_tests::turn::{Entry, Followers, Members, Response, State};
+use std::alloc::{AllocError, Global};
+use std::fmt::Debug;
 use std::mem;
+
+/// How many events a voter waits for a leader at least.
+pub const TIMEOUT: u64 = 24;
+
+/// The leader id of a vote, and what log ids keep of it.
+pub trait Leader: LeaderIdentity<Id = u64, Committed: Debug> + Drop {}
+
+impl<L: LeaderIdentity<Id = u64, Committed: Debug> + Drop> Leader for L {}
 
 /// What a server is doing, with what it knows of its followers while it leads.
 #[derive(Drop)]
@@ -33,12 +43,15 @@ where
     /// What it does wrong, where that is planted.
     pub fault: Option<Fault>,
     pub role: Role<Followers<C>>,
-    /// Whether a voter with a greater last log id has refused it: it waits longer then, for that one to
-    /// lead.
-    pub is_behind: bool,
+    /// Its clock, a count of events.
+    pub now: u64,
+    /// Until when it waits for a leader at least.
+    pub waits_until: u64,
     pub state: State<L, C>,
     /// The entries of its log that are not purged, in their order.
     pub disk: Vec<Entry<C>>,
+    /// The messages that it sends.
+    pub outbox: Vec<Message<L, C>>,
     /// What has become of it since this was last taken.
     pub event: Option<Event>,
     /// Whether all that it had to do could be done.
@@ -74,19 +87,14 @@ impl<L: Copy + Drop, C: Ord + Copy + Drop> Server<L, C> {
         }
     }
 
+    /// What log ids keep of its leader id, if it leads.
+    pub fn leader(&self) -> Option<C> {
+        Some(self.followers()?.leader)
+    }
+
     /// The last log id that a member is known to have, if it leads.
     pub fn matching(&self, id: u64) -> Option<LogIdOf<C>> {
         self.followers()?.get(id)?.matching
-    }
-
-    /// The last log id that a quorum is known to have, if it leads.
-    pub fn granted(&self) -> Option<LogIdOf<C>> {
-        self.followers()?.granted()
-    }
-
-    /// The place of an index on its disk.
-    pub fn place(&self, index: u64) -> usize {
-        index.saturating_sub(self.state.purged_next) as usize
     }
 
     /// Takes another role.
@@ -94,14 +102,10 @@ impl<L: Copy + Drop, C: Ord + Copy + Drop> Server<L, C> {
         drop(mem::replace(&mut self.role, role));
     }
 
-    /// A message with its vote.
-    pub fn message(&self, to: u64, content: Content<C>) -> Message<L, C> {
-        Message {
-            from: self.id,
-            to,
-            vote: self.vote(),
-            content,
-        }
+    /// Waits for a leader for so many times as long as it does at least.
+    pub fn wait(&mut self, times: u64) {
+        let until = self.now.saturating_add(TIMEOUT.saturating_mul(times));
+        self.waits_until = self.waits_until.max(until);
     }
 
     /// Writes a vote, also to disk.
@@ -109,28 +113,86 @@ impl<L: Copy + Drop, C: Ord + Copy + Drop> Server<L, C> {
         *self.state.vote.get_mut() = vote;
         self.state.io_state.update_vote(vote);
     }
+
+    /// Sends what there is to say, with its vote, if there is memory; and no more once a step of its own
+    /// has failed, so that it acks nothing that it does not have.
+    pub fn send(&mut self, to: u64, content: Option<Content<C>>) {
+        if let (Some(content), true) = (content, self.is_well) {
+            let message = Message {
+                from: self.id,
+                to,
+                vote: self.vote(),
+                content,
+            };
+            let _is_sent = self.outbox.extend(Some(message)).is_ok();
+        }
+    }
 }
 
 impl<L: Leader> Server<L, L::Committed> {
-    /// Takes over a vote that is greater than its own, and follows from then on. True if the vote is
-    /// the own one then: it was not below that, and does compare with it.
-    pub fn learn(&mut self, vote: VoteIn<L>) -> bool {
+    /// A new server, which knows of no members.
+    pub fn new(alloc: Global, id: u64, fault: Option<Fault>) -> Result<Self, AllocError> {
+        Ok(Server {
+            alloc,
+            id,
+            fault,
+            now: 0,
+            waits_until: 0,
+            state: State::try_default(alloc)?,
+            role: Role::Follower,
+            disk: Vec::new(alloc),
+            outbox: Vec::new(alloc),
+            event: None,
+            is_well: true,
+        })
+    }
+
+    /// Takes a message. Some are answered.
+    pub fn receive(&mut self, message: &Message<L, L::Committed>) {
+        let (from, vote) = (message.from, message.vote);
+        match &message.content {
+            Content::AskVote(last) => {
+                // The candidate's log may not be behind the own one.
+                let may_be = self.fault == Some(Fault::AnyCandidate)
+                    || log_id_at_most(self.last(), *last);
+                let is_voted = may_be && self.promise(vote);
+                self.send(from, Some(Content::Voted(is_voted, self.last())));
+            }
+            Content::Voted(is_voted, last) => {
+                if self.promise(vote) && *is_voted {
+                    self.count_vote(from);
+                } else if log_id_below(self.last(), *last) {
+                    // That voter may rather lead.
+                    self.wait(5);
+                }
+            }
+            Content::Append(request, sent) => {
+                let (request, outcome) = (*request, self.follow(vote, sent));
+                let response = Response { request, outcome };
+                self.send(from, Some(Content::Responded(response)));
+            }
+            Content::Responded(response) => {
+                if self.promise(vote)
+                    && let Role::Leader(followers) = &mut self.role
+                {
+                    let _taken = followers.take_response(from, response);
+                    self.commit();
+                }
+            }
+        }
+    }
+
+    /// Promises a vote, unless it is below the own one or does not compare with it: it follows one that
+    /// is greater, and waits anew for its leader.
+    pub fn promise(&mut self, vote: VoteIn<L>) -> bool {
         let own = self.vote();
         if vote > own {
             self.set_role(Role::Follower);
             self.save_vote(vote);
         }
-        vote >= own
-    }
-
-    /// Promises a vote, unless it is below the own one or does not compare with it, and waits anew for
-    /// its leader.
-    pub fn promise(&mut self, now: u64, vote: VoteIn<L>) -> bool {
-        let is_promised = self.learn(vote);
-        if is_promised {
-            self.state.vote.update(now, vote);
-            self.is_behind = false;
+        if vote >= own {
+            self.wait(1);
         }
-        is_promised
+        vote >= own
     }
 }

@@ -1,13 +1,26 @@
-//! What a server does with its log and its disk: it writes, applies, builds snapshots, purges, and
+//! What a server does with its log and its disk: it writes, builds and installs snapshots, purges, and
 //! starts again.
 
-use crate::server::Server;
-use crate::types::{Leader, Snapshot, end};
+use crate::message::Snapshot;
+use crate::report::Event;
+use crate::server::{Leader, Server};
 use raft_base::{LogIdOf, LogIdOptionExt, LogStateReader, log_id_at_most, log_id_below};
 use raft_state::AcceptedIn;
+use raft_state_tests::turn::Entry;
 use std::mem;
 
 impl<L: Copy + Drop, C: Ord + Copy + Drop> Server<L, C> {
+    /// The place of an index on its disk.
+    pub fn place(&self, index: u64) -> usize {
+        index.saturating_sub(self.state.purged_next) as usize
+    }
+
+    /// The entry of an index, if it is in its log and on its disk.
+    pub fn entry(&self, index: u64) -> Option<&Entry<C>> {
+        let entry = self.disk.get(self.place(index))?;
+        (self.state.get_log_id(index) == Some(entry.log_id)).then_some(entry)
+    }
+
     /// Appends to its log what is on disk from a place on.
     pub fn append_from(&mut self, place: usize) {
         let (_, entries) = self.disk.split_at(place.min(self.disk.len()));
@@ -30,26 +43,11 @@ impl<L: Copy + Drop, C: Ord + Copy + Drop> Server<L, C> {
         self.disk.len() < before
     }
 
-    /// Whether it has on disk what is in its log.
-    pub fn has_log_on_disk(&self) -> bool {
-        let mut index = self.state.purged_next;
-        for entry in &self.disk {
-            if self.state.get_log_id(index) != Some(entry.log_id) {
-                return false;
-            }
-            index = index.saturating_add(1);
-        }
-        index == self.end()
-    }
-
-    /// Applies what is committed, no more than so many entries.
-    pub fn apply(&mut self, most: u64) {
-        let applied = self.state.io_state.applied;
-        let last = end(self.state.committed).min(end(applied).saturating_add(most));
-        let upto = self.state.prev_log_id(last);
-        if log_id_below(applied, upto) {
-            self.state.io_state.update_applied(upto);
-        }
+    /// Writes to disk those of these entries, the last ones of its log, that it does not have there.
+    pub fn write(&mut self, entries: &[Entry<C>]) {
+        let lacking = self.place(self.end()).saturating_sub(self.disk.len());
+        let (_, new) = entries.split_at(entries.len().saturating_sub(lacking));
+        self.is_well &= self.disk.extend_with_clones(new).is_ok();
     }
 
     /// Builds a snapshot of what is applied and the effective members, if these are applied, it has
@@ -58,21 +56,16 @@ impl<L: Copy + Drop, C: Ord + Copy + Drop> Server<L, C> {
     pub fn compact(&mut self, keep: u64) {
         let (applied, before) = (self.state.io_state.applied, self.state.io_state.snapshot);
         let members = self.state.membership_state.effective();
-        if log_id_below(before, applied) && log_id_at_most(*members.log_id(), applied) {
-            if let Ok(members) = members.stored_membership().try_clone() {
-                drop(mem::replace(&mut self.state.snapshot_meta.last_membership, members));
-                self.state.snapshot_meta.last_log_id = applied;
-                self.state.io_state.snapshot = applied;
-                let last = applied.index().unwrap_or(0).saturating_sub(keep);
-                let upto = self.state.get_log_id(last);
-                self.purge(upto);
-            }
+        if log_id_below(before, applied)
+            && log_id_at_most(*members.log_id(), applied)
+            && let Ok(members) = members.stored_membership().try_clone()
+        {
+            drop(mem::replace(&mut self.state.snapshot_meta.last_membership, members));
+            self.state.snapshot_meta.last_log_id = applied;
+            self.state.io_state.snapshot = applied;
+            let last = applied.index().unwrap_or(0).saturating_sub(keep);
+            self.state.purge_upto = self.state.purge_upto.max(self.state.get_log_id(last));
         }
-    }
-
-    /// Purges its log up to a log id, if there is one, also on disk.
-    fn purge(&mut self, upto: Option<LogIdOf<C>>) {
-        self.state.purge_upto = self.state.purge_upto.max(upto);
         if let Some(upto) = self.state.purge_upto {
             self.is_well &= self.state.can_purge_log(&upto) && self.state.purge_log(&upto).is_ok();
             self.state.io_state.purged = Some(upto);
@@ -98,12 +91,18 @@ impl<L: Leader> Server<L, L::Committed> {
         self.cut_disk();
     }
 
-    /// Takes over the snapshot, the entries that come after it, the vote, and how far storage has got.
-    /// It commits what is applied, and what is known to be committed for its members: each are
-    /// proposed once those before them are committed.
-    pub fn restore(&mut self, now: u64, stored: &mut Server<L, L::Committed>) {
-        // To install one wants a committed vote. What is accepted by that is forgotten again: who leads
-        // now is not known.
+    /// Starts again, if there is memory to, with the snapshot, the entries that come after it, the
+    /// vote, and how far storage has got. It commits what is applied, and what is known to be
+    /// committed for its members: each are proposed once those before them are committed.
+    pub fn restart(&mut self) {
+        let Ok(new) = Server::new(self.alloc, self.id, self.fault) else {
+            return;
+        };
+        let mut stored = mem::replace(self, new);
+        self.now = stored.now;
+        self.wait(1);
+        // To install a snapshot takes a committed vote. What is accepted by that is forgotten again: who
+        // leads now is not known.
         self.state.vote.get_mut().commit();
         if stored.state.snapshot_meta.last_log_id.is_some() {
             self.install(&stored.state.snapshot_meta);
@@ -113,13 +112,17 @@ impl<L: Leader> Server<L, L::Committed> {
         mem::swap(&mut self.disk, &mut stored.disk);
         self.append_from(old);
         self.cut_disk();
+        mem::swap(&mut self.state.io_state, &mut stored.state.io_state);
+        self.state.io_state.purged = self.state.snapshot_meta.last_log_id;
+        self.save_vote(self.state.io_state.vote);
         let known = *self.state.membership_state.committed().log_id();
-        self.state.io_state = stored.state.io_state;
-        self.state.io_state.purged = stored.state.snapshot_meta.last_log_id;
-        self.state.vote.update(now, stored.state.io_state.vote);
-        if self.is_well {
-            self.commit_to(known.max(stored.state.io_state.applied));
-        }
+        self.commit_to(known.max(self.state.io_state.applied));
         self.is_well &= stored.is_well;
+        drop(stored);
+        // One that is known to be removed has its committed vote still.
+        if self.state.is_leader(&self.id) && self.may_lead() {
+            self.lead();
+        }
+        self.event = Some(Event::Restarted);
     }
 }
