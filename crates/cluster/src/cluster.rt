@@ -51,6 +51,7 @@ where
     pub cut: [bool; 5],
     pub dice: Dice,
     seed: u64,
+    /// How many events there were.
     pub now: u64,
     history: History<C>,
 }

@@ -86,11 +86,11 @@ impl<L: Leader> Server<L, L::Committed> {
     /// Votes for itself in the next term, and asks the others, if it may lead, has waited so much longer
     /// than it does at least, and there is memory to count votes.
     pub fn campaign(&mut self, patience: u64) {
+        if self.waits_until.saturating_add(patience) > self.now || !self.may_lead() {
+            return;
+        }
         let members = self.members().try_clone();
-        if self.waits_until.saturating_add(patience) <= self.now
-            && self.may_lead()
-            && let Ok(ballot) = members.and_then(|members| Tracked::new(members, false))
-        {
+        if let Ok(ballot) = members.and_then(|members| Tracked::new(members, false)) {
             self.save_vote(VoteIn::new(self.term().saturating_add(1), self.id));
             self.wait(1);
             self.set_role(Role::Candidate(ballot));
@@ -146,9 +146,9 @@ impl<L: Leader> Server<L, L::Committed> {
         self.commit();
     }
 
-    /// Proposes a change of the members, as the leader, and counts by them from now on, unless it is
-    /// refused, or there is no memory. Of a new one nothing is known but that it lacks the entry that
-    /// adds it.
+    /// Proposes a change of the members, as the leader, and counts by them from now on. None where it is
+    /// refused, or there is no memory. Of a new one nothing is known but that it lacks the entry that adds
+    /// it.
     pub fn change(&mut self, change: Change, retain: bool) -> Option<()> {
         let handler = self.state.membership_state.change_handler();
         let mut members = handler.apply(change, retain).ok()?;

@@ -9,6 +9,7 @@ const ROOM: usize = 15;
 /// Something that happens.
 #[derive(Clone, Copy)]
 pub enum Event {
+    /// An event of whatever kind.
     Any,
     Elected,
     /// A change of the members was proposed.
@@ -35,7 +36,9 @@ const WORDS: [&str; 10] = [
 /// The chart, with the counts at its end.
 #[derive(Drop)]
 pub struct Report {
+    /// Where memory comes from.
     pub alloc: Global,
+    /// The chart, as far as there is memory for it.
     pub text: String,
     /// Whether there was memory for all of the chart.
     pub is_whole: bool,

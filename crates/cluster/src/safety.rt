@@ -55,12 +55,12 @@ impl<C: Ord + Copy + Drop> History<C> {
     /// A server by itself has to have done what it had to do, and to be in order.
     fn check_alone<L: Copy + Drop>(&mut self, server: &Server<L, C>) {
         let (state, id) = (&server.state, server.id);
-        let is_whole = server.disk.len() == server.place(server.end());
+        let is_as_long = server.disk.len() == server.place(server.end());
         self.require(server.is_well, "a step failed at", id);
         self.require(state.validate().is_ok(), "no valid state of", id);
         self.require(state.purge_upto_is_logged(), "no purge point at", id);
         self.require(state.committed_is_logged(), "a commit is lost at", id);
-        self.require(is_whole, "another log is on the disk of", id);
+        self.require(is_as_long, "another log is on the disk of", id);
     }
 
     /// Two servers have to have the same entries, on their disks, up to the last log id that both have.
