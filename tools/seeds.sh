@@ -14,7 +14,7 @@ run() {
     said=$(timeout 120 "$program" "$@" 2>&1)
     status=$?
     told=$(grep -cE '^seed .*(committed at|not in the log of|does not settle)' <<< "$said")
-    echo "seeds $*: $told failed; $(grep ' events, ' <<< "$said")"
+    echo "seeds $*: $told failed; $(grep ' settled$' <<< "$said")"
     if [ "$status" != "$due" ] || [ "$told" -lt "$least" ] || [ "$told" -gt "$most" ]; then
         failed=$((failed + 1))
         echo "seeds: wrong: status $status, $(tail -n 1 <<< "$said")"

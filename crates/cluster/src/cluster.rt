@@ -1,39 +1,19 @@
 //! A cluster: its servers, the network between them, and what happens to both.
 
-use crate::fault::Fault;
 use crate::message::{Change, Message, Payload, end};
 use crate::report::{Event, Report};
 use crate::safety::History;
-use crate::server::{Leader, Server, TIMEOUT};
+use crate::server::{Fault, Leader, SERVERS, Server, TIMEOUT};
 use raft_base::{EmptyNode, LogIdOf};
 use raft_progress::{ProgressEntryOf, ProgressPart};
 use raft_state_tests::turn::Members;
-use rand_core::Rng;
+use rand::RngExt;
 use rand_pcg::Pcg32;
 use std::alloc::{AllocError, Global};
 use std::collections::{BTreeMap, BTreeSet};
 
-/// How many servers there are. The first three are the first voters.
-pub const SERVERS: u64 = 5;
-
 /// How many events a cluster has to settle in, once its network is mended.
 const SETTLE: u64 = 10_000;
-
-/// What chance decides, the same for each run of a seed.
-#[derive(Drop)]
-pub struct Dice(Pcg32);
-
-impl Dice {
-    /// A number below a bound, and 0 where the bound is 0.
-    pub fn below(&mut self, bound: u64) -> u64 {
-        u64::from(self.0.next_u32()).checked_rem(bound).unwrap_or(0)
-    }
-
-    /// True in so many of a hundred cases.
-    pub fn chance(&mut self, percent: u64) -> bool {
-        self.below(100) < percent
-    }
-}
 
 /// Servers, and a network.
 #[derive(Drop)]
@@ -45,11 +25,12 @@ where
     pub servers: Vec<Server<L, C>>,
     /// The messages that are on their way.
     pub messages: Vec<Message<L, C>>,
-    /// How many of a hundred messages get lost, and how many come again.
-    pub loss: u64,
+    /// Whether messages come in and time passes, and no more: none gets lost or comes again.
+    pub is_mended: bool,
     /// Whether each server is cut off from those that aren't.
     pub cut: [bool; 5],
-    pub dice: Dice,
+    /// What chance decides, the same for each run of a seed.
+    pub dice: Pcg32,
     seed: u64,
     /// How many events there were.
     pub now: u64,
@@ -59,20 +40,21 @@ where
 impl<L: Leader> Cluster<L, L::Committed> {
     /// A cluster, which the first server begins with the first three as its members.
     pub fn new(alloc: Global, seed: u64, fault: Option<Fault>) -> Result<Self, AllocError> {
-        let members = Members::from_nodes(alloc, nodes_of(alloc, &[1, 2, 3])?)?;
         let mut servers = Vec::new(alloc);
         for id in 1..=SERVERS {
             servers.push(Server::new(alloc, id, fault)?)?;
         }
+        let nodes = (1..=3).map(|id| (id, EmptyNode::new())).collect(alloc)?;
+        let members = Members::from_nodes(alloc, nodes)?;
         if let Some(first) = servers.first_mut() {
             first.propose(Payload::Membership(members));
         }
         Ok(Cluster {
             servers,
             messages: Vec::new(alloc),
-            loss: 8,
+            is_mended: false,
             cut: [false; 5],
-            dice: Dice(Pcg32::new(seed, 54)),
+            dice: Pcg32::new(seed, 54),
             seed,
             now: 0,
             history: History::new(alloc),
@@ -81,37 +63,36 @@ impl<L: Leader> Cluster<L, L::Committed> {
 
     /// Lets so many events happen, while all is well, with a line of its chart every few; and then some
     /// more once the network is mended, until a leader and all its members have committed the same log.
-    /// What is wrong with it, if anything is, comes last.
+    /// Before the last line it says what is wrong, if anything is.
     pub fn play(&mut self, report: &mut Report, events: u64, every: u64) {
         for event in 0..events.saturating_add(SETTLE) {
             if event == events {
-                (self.loss, self.cut) = (0, [false; 5]);
+                (self.is_mended, self.cut) = (true, [false; 5]);
             }
-            if !self.history.is_safe || (event >= events && self.is_settled()) {
+            if !self.history.is_safe || (self.is_mended && self.is_settled()) {
                 break;
             }
-            if event < events && event.checked_rem(every) == Some(0) {
+            if !self.is_mended && event.checked_rem(every) == Some(0) {
                 self.draw(report);
             }
             self.step(report);
         }
+        self.conclude(report);
         if every > 0 {
             self.draw(report);
         }
-        self.conclude(report);
     }
 
     /// Something happens: a message comes in, a server does something, or the network is cut in two or
     /// whole again. Once it is mended messages come in and time passes, and no more.
     fn step(&mut self, report: &mut Report) {
         self.now = self.now.saturating_add(1);
-        report.count(Event::Any, 1);
-        let bound = if self.loss > 0 { 100 } else { 81 };
-        match self.dice.below(bound) {
+        let bound = if self.is_mended { 81 } else { 100 };
+        match self.dice.random_range(0..bound) {
             0..=55 => self.deliver(report),
-            97..=99 => report.note(None, self.part()),
+            97..=99 => self.part(report),
             what => {
-                let place = self.dice.below(SERVERS) as usize;
+                let place = self.dice.random_range(0..SERVERS) as usize;
                 if let Some(server) = self.servers.get_mut(place) {
                     server.now = self.now;
                     server.act(what, &mut self.dice);
@@ -126,48 +107,24 @@ impl<L: Leader> Server<L, L::Committed> {
     /// It does what a number stands for: up to 80 time passes for it, and after that it is asked for an
     /// entry (to 86) or a change (to 90), applies what is committed (to 92), builds a snapshot (to 95), or
     /// starts again (96).
-    fn act(&mut self, what: u64, dice: &mut Dice) {
+    fn act(&mut self, what: u64, dice: &mut Pcg32) {
         let leads = self.leader().is_some();
         match what {
             81..=86 if leads => self.propose(Payload::Normal(self.now)),
             87..=90 if leads => {
-                if let Ok(change) = self.some_change(dice) {
-                    let _changed = self.change(change, dice.chance(50));
-                }
+                let change = some_change(self.alloc, self.members(), dice);
+                let _changed = self.change(change, dice.random());
             }
             81..=90 => {}
             91..=92 => self.state.io_state.applied = self.state.committed,
-            93..=95 => self.compact(dice.below(4)),
+            93..=95 => self.compact(dice.random_range(0..4)),
             96 => self.restart(),
             _ if leads => {
-                self.replicate(dice);
+                self.replicate();
                 self.end_change();
             }
-            _ => self.campaign(dice.below(TIMEOUT)),
+            _ => self.campaign(dice.random_range(0..TIMEOUT)),
         }
-    }
-}
-
-impl<L: Copy + Drop, C: Ord + Copy + Drop> Server<L, C> {
-    /// A change of the members: to add a learner, to remove one, or to go over to some of the followers
-    /// that have all but the last three entries.
-    fn some_change(&self, dice: &mut Dice) -> Result<Change, AllocError> {
-        let mut ids = BTreeSet::new(self.alloc);
-        let id = dice.below(SERVERS).saturating_add(1);
-        if !self.members().contains(&id) {
-            return Ok(Change::AddNodes(nodes_of(self.alloc, &[id])?));
-        }
-        if dice.chance(20) {
-            ids.insert(id)?;
-            return Ok(Change::RemoveNodes(ids));
-        }
-        for id in 1..=SERVERS {
-            let is_close = self.end() <= end(self.matching(id)).saturating_add(3);
-            if self.members().contains(&id) && is_close && dice.chance(75) {
-                ids.insert(id)?;
-            }
-        }
-        Ok(Change::ReplaceAllVoters(ids))
     }
 }
 
@@ -183,14 +140,14 @@ impl<L: Copy + Eq + Drop, C: Ord + Copy + Drop> Cluster<L, C> {
         }
     }
 
-    /// Counts what was committed, and whether it has settled, and writes what is wrong, if anything is.
+    /// Notes that it has settled, or writes what is wrong.
     fn conclude(&mut self, report: &mut Report) {
         let is_settled = self.is_settled();
         let history = &mut self.history;
         history.require(is_settled, "it does not settle, events given:", SETTLE);
-        report.count(Event::Committed, history.committed.len() as u64);
-        report.count(Event::Settled, u64::from(history.is_safe));
-        if !history.is_safe {
+        if history.is_safe {
+            report.note(None, Event::Settled);
+        } else {
             let (seed, now, flaw) = (self.seed, self.now, &history.flaw);
             writeln!(report, "seed {seed}: event {now}: {flaw}");
         }
@@ -202,28 +159,35 @@ impl<L: Copy + Eq + Drop, C: Ord + Copy + Drop> Cluster<L, C> {
             return false;
         };
         let (members, last) = (leader.members(), leader.end());
+        let mut is_settled = !members.is_in_joint_consensus();
         for server in &self.servers {
             let is_done = server.end() == last && end(server.state.committed) == last;
-            if members.contains(&server.id) && !is_done {
-                return false;
-            }
+            is_settled &= is_done || !members.contains(&server.id);
         }
-        !members.is_in_joint_consensus()
+        is_settled
     }
 
     /// The leader that was elected last.
     pub fn last_leader(&self) -> Option<&Server<L, C>> {
-        let mut last: Option<&Server<L, C>> = None;
-        for server in &self.servers {
-            if last.and_then(Server::leader) < server.leader() {
-                last = Some(server);
-            }
-        }
-        last
+        let last = self.servers.iter().max_by_key(|one| one.leader())?;
+        last.leader().is_some().then_some(last)
     }
 }
 
-/// Some servers, by their ids.
-fn nodes_of(alloc: Global, ids: &[u64]) -> Result<BTreeMap<u64, EmptyNode>, AllocError> {
-    ids.iter().map(|id| (*id, EmptyNode::new())).collect(alloc)
+/// A change of these members, which the layer may refuse: to add some servers, to take some away, or to
+/// make some the voters.
+fn some_change(alloc: Global, members: &Members, dice: &mut Pcg32) -> Change {
+    let (mut ids, mut nodes) = (BTreeSet::new(alloc), BTreeMap::new(alloc));
+    for id in 1..=SERVERS {
+        if dice.random() && members.contains(&id) {
+            let _is_in = ids.insert(id).is_ok();
+        } else if dice.random() && !members.contains(&id) {
+            let _is_in = nodes.insert(id, EmptyNode::new()).is_ok();
+        }
+    }
+    match dice.random_range(0..5) {
+        0..=1 if !nodes.is_empty() => Change::AddNodes(nodes),
+        2 => Change::RemoveNodes(ids),
+        _ => Change::ReplaceAllVoters(ids),
+    }
 }

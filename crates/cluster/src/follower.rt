@@ -1,9 +1,8 @@
 //! What a follower makes of a leader's logs and snapshots.
 
-use crate::fault::Fault;
-use crate::message::Sent;
+use crate::message::{Sent, end};
 use crate::report::Event;
-use crate::server::{Leader, Server};
+use crate::server::{Fault, Leader, Server};
 use raft_base::{LogStateReader, VoteIn, log_id_below};
 use raft_state_tests::turn::{Logs, Outcome, take_logs};
 
@@ -25,25 +24,19 @@ impl<L: Leader> Server<L, L::Committed> {
             Sent::Logs(logs) => {
                 let taken = take_logs(&mut self.state, logs);
                 self.is_well &= taken.is_ok();
-                if self.cut_disk() {
-                    self.event = Some(Event::CutBack);
-                }
+                self.event = self.cut_disk().then_some(Event::CutBack).or(self.event);
                 self.write(&logs.entries);
                 taken.unwrap_or(Outcome::Refused)
             }
         }
     }
-}
 
-impl<L: Copy + Drop, C: Ord + Copy + Drop> Server<L, C> {
     /// Whether a planted fault keeps entries from being written.
-    fn skips_writing(&self, logs: &Logs<C>) -> bool {
-        match (self.fault, logs.last()) {
-            (Some(Fault::NoWrite), _) => self.now % 8 == 0,
-            (Some(Fault::NoCut), Some(last)) => {
-                let own = self.state.get_log_id(last.index);
-                own.is_some() && own != Some(last)
-            }
+    fn skips_writing(&self, logs: &Logs<L::Committed>) -> bool {
+        let own = self.state.get_log_id(end(logs.last()).saturating_sub(1));
+        match self.fault {
+            Some(Fault::NoWrite) => self.now % 8 == 0,
+            Some(Fault::NoCut) => own.is_some() && own != logs.last(),
             _ => false,
         }
     }

@@ -1,10 +1,8 @@
 //! What a candidate and a leader do.
 
-use crate::cluster::{Dice, SERVERS};
-use crate::fault::Fault;
 use crate::message::{Change, Content, Payload, Sent, end};
 use crate::report::Event;
-use crate::server::{Leader, Role, Server};
+use crate::server::{Fault, Leader, Role, SERVERS, Server};
 use raft_base::{LogIdOf, LogIdRangeOf, VoteIn};
 use raft_progress::{InflightOf, Progress, Tracked};
 use raft_state_tests::turn::{Entry, Followers, Logs};
@@ -18,37 +16,38 @@ impl<L: Copy + Drop, C: Ord + Copy + Drop> Server<L, C> {
         memberships.is_voter(&self.id) || memberships.committed().is_voter(&self.id)
     }
 
-    /// Commits what a quorum has, once an entry of its own is among it, as the leader.
+    /// Counts what it has itself, and commits what a quorum has, once an entry of its own is among it, as
+    /// the leader.
     pub fn commit(&mut self) {
-        if let Role::Leader(followers) = &self.role {
+        let last = self.last();
+        if let Role::Leader(followers) = &mut self.role {
+            followers.set_own(self.id, last);
+            self.is_well &= followers.commit(&mut self.state).is_ok();
+            let granted = followers.granted();
             if self.fault == Some(Fault::CountAlone) {
-                let granted = followers.granted();
                 self.commit_to(granted);
-            } else {
-                self.is_well &= followers.commit(&mut self.state).is_ok();
             }
         }
     }
 
-    /// Sends its followers what comes next, or a heartbeat. What is in flight to one is given up at
-    /// times, as lost.
-    pub fn replicate(&mut self, dice: &mut Dice) {
+    /// Sends its followers what comes next, or a heartbeat.
+    pub fn replicate(&mut self) {
         for id in 1..=SERVERS {
             if id != self.id && self.members().contains(&id) {
-                let next = self.next(id, dice.chance(15));
+                let next = self.next(id);
                 self.send(id, next);
             }
         }
     }
 
     /// What comes next for a follower, if there is memory, or while something is in flight and where
-    /// nothing comes next a heartbeat. What is in flight may be taken as lost.
-    fn next(&mut self, to: u64, is_lost: bool) -> Option<Content<C>> {
+    /// nothing comes next a heartbeat. What is in flight is taken as lost at one moment of seven.
+    fn next(&mut self, to: u64) -> Option<Content<C>> {
         let nothing = LogIdRangeOf::new(self.last(), self.last());
         let Role::Leader(followers) = &mut self.role else {
             return None;
         };
-        if is_lost {
+        if self.now.saturating_add(to) % 7 == 0 {
             followers.give_up(to);
         }
         let (request, sent) = match followers.next_request(&self.state, to) {
@@ -67,8 +66,7 @@ impl<L: Copy + Drop, C: Ord + Copy + Drop> Server<L, C> {
     /// The entries of a range, and what is committed, if there is memory.
     fn logs(&self, range: LogIdRangeOf<C>) -> Option<Logs<C>> {
         let places = self.place(end(range.prev))..self.place(end(range.last));
-        let mut entries = Vec::new(self.alloc);
-        entries.extend_with_clones(self.disk.get(places)?).ok()?;
+        let entries = self.disk.get(places)?.to_vec(self.alloc).ok()?;
         Some(Logs {
             prev: range.prev,
             entries,
@@ -86,13 +84,13 @@ impl<L: Leader> Server<L, L::Committed> {
     /// Votes for itself in the next term, and asks the others, if it may lead, has waited so much longer
     /// than it does at least, and there is memory to count votes.
     pub fn campaign(&mut self, patience: u64) {
-        if self.waits_until.saturating_add(patience) > self.now || !self.may_lead() {
-            return;
-        }
-        let members = self.members().try_clone();
-        if let Ok(ballot) = members.and_then(|members| Tracked::new(members, false)) {
-            self.save_vote(VoteIn::new(self.term().saturating_add(1), self.id));
-            self.wait(1);
+        if self.waits_until.saturating_add(patience) <= self.now
+            && self.may_lead()
+            && let Ok(members) = self.members().try_clone()
+            && let Ok(ballot) = Tracked::new(members, false)
+        {
+            let vote = VoteIn::new(self.term().saturating_add(1), self.id);
+            let _promised = self.promise(vote);
             self.set_role(Role::Candidate(ballot));
             for id in 1..=SERVERS {
                 if id != self.id && self.members().is_voter(&id) {
@@ -139,9 +137,6 @@ impl<L: Leader> Server<L, L::Committed> {
         let last = self.last();
         if self.state.can_accept() {
             self.state.update_accepted(last);
-        }
-        if let Role::Leader(followers) = &mut self.role {
-            followers.set_own(self.id, last);
         }
         self.commit();
     }

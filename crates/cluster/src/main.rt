@@ -7,13 +7,12 @@
 //!
 //! Its words: the first seed, how many seeds, how many events each, every how many events a line of
 //! its chart is printed (0: never); then `standard` for the leader ids of standard Raft, and the name
-//! of a fault that is planted, as in `fault.rt`. It ends with status 1 where a run was not safe, or
+//! of a fault that is planted, as in `server.rt`. It ends with status 1 where a run was not safe, or
 //! where a cluster did not settle once its network was mended.
 #![tactic(auto)]
 
 mod chart;
 mod cluster;
-mod fault;
 mod follower;
 mod leader;
 mod message;
@@ -25,10 +24,9 @@ mod storage;
 
 use anyhow::{Result, ensure};
 use cluster::Cluster;
-use fault::Fault;
 use raft_base::{LeaderId, leader_id_std};
 use report::{Event, Report};
-use server::Leader;
+use server::{Fault, Leader};
 use std::env;
 
 /// Runs a cluster of each seed over a type of leader ids.

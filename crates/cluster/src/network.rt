@@ -3,23 +3,25 @@
 use crate::cluster::Cluster;
 use crate::report::{Event, Report};
 use crate::server::Leader;
+use rand::RngExt;
 
 impl<L: Leader> Cluster<L, L::Committed> {
-    /// A message comes in, unless it is lost. It may come again.
+    /// A message comes in, unless it is lost, as eight in a hundred are until the network is mended. As
+    /// many come again.
     pub fn deliver(&mut self, report: &mut Report) {
-        let at = self.dice.below(self.messages.len() as u64) as usize;
-        if at < self.messages.len() {
+        if !self.messages.is_empty() {
+            let at = self.dice.random_range(0..self.messages.len());
             let message = &self.messages[at];
             let from = message.from.saturating_sub(1) as usize;
             let to = message.to.saturating_sub(1) as usize;
             if self.cut.get(from) == self.cut.get(to)
-                && !self.dice.chance(self.loss)
+                && (self.is_mended || self.dice.random_ratio(92, 100))
                 && let Some(server) = self.servers.get_mut(to)
             {
                 server.now = self.now;
                 server.receive(message);
             }
-            if !self.dice.chance(self.loss) {
+            if self.is_mended || self.dice.random_ratio(92, 100) {
                 drop(self.messages.swap_remove(at));
             }
             self.check(to, report);
@@ -27,14 +29,11 @@ impl<L: Leader> Cluster<L, L::Committed> {
     }
 
     /// Cuts the network in two, or ends a cut.
-    pub fn part(&mut self) -> Event {
-        if self.cut.contains(&true) {
-            self.cut = [false; 5];
-            return Event::Healed;
-        }
+    pub fn part(&mut self, report: &mut Report) {
+        let is_whole = !self.cut.contains(&true);
         for is_cut_off in &mut self.cut {
-            *is_cut_off = self.dice.chance(40);
+            *is_cut_off = is_whole && self.dice.random_ratio(40, 100);
         }
-        Event::Parted
+        report.note(None, if is_whole { Event::Cut } else { Event::Healed });
     }
 }

@@ -9,28 +9,24 @@ const ROOM: usize = 15;
 /// Something that happens.
 #[derive(Clone, Copy)]
 pub enum Event {
-    /// An event of whatever kind.
-    Any,
     Elected,
     /// A change of the members was proposed.
     Changed,
-    Committed,
     /// A server has cut off some of its log, which conflicts with the leader's.
     CutBack,
     /// A server has installed a snapshot.
     Installed,
     Restarted,
     /// The network was cut in two.
-    Parted,
+    Cut,
     Healed,
     /// A cluster has settled once its network was mended.
     Settled,
 }
 
 /// The words for all that happens, in the order of `Event`.
-const WORDS: [&str; 10] = [
-    "events", "elected", "changes", "commits", "cut back", "installs", "restarts", "cut", "healed",
-    "settled",
+const WORDS: [&str; 8] = [
+    "elected", "changes", "cut back", "installs", "restarts", "cut", "healed", "settled",
 ];
 
 /// The chart, with the counts at its end.
@@ -45,7 +41,7 @@ pub struct Report {
     /// What is noted for the end of the chart's next line.
     notes: String,
     /// How often things happened, in the order of `Event`.
-    pub counts: [u64; 10],
+    pub counts: [u64; 8],
 }
 
 impl Report {
@@ -56,21 +52,15 @@ impl Report {
             text: String::new(alloc),
             is_whole: true,
             notes: String::new(alloc),
-            counts: [0; 10],
+            counts: [0; 8],
         }
-    }
-
-    /// Something happens so many times more.
-    pub fn count(&mut self, event: Event, more: u64) {
-        let count = &mut self.counts[event as usize];
-        *count = count.saturating_add(more);
     }
 
     /// Counts something, and notes it with the server that it has happened to, if the line has room.
     pub fn note(&mut self, server: Option<u64>, event: Event) {
-        self.count(event, 1);
+        let (count, word) = (&mut self.counts[event as usize], WORDS[event as usize]);
+        *count = count.saturating_add(1);
         let sign = if self.notes.is_empty() { " " } else { ", " };
-        let word = WORDS[event as usize];
         if self.notes.len().saturating_add(word.len()) <= ROOM {
             let _is_noted = match server {
                 Some(id) => write!(self.notes, "{sign}{id} {word}"),
@@ -92,10 +82,8 @@ impl Report {
 
     /// Adds how often things happened.
     pub fn sum_up(&mut self) {
-        for (place, word) in WORDS.iter().enumerate() {
-            let sign = if place % 5 == 0 { "\n" } else { ", " };
-            let count = self.counts[place];
-            write!(self, "{sign}{count} {word}");
+        for (word, count) in WORDS.iter().zip(self.counts) {
+            write!(self, "  {count} {word}");
         }
     }
 }

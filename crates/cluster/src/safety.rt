@@ -12,7 +12,7 @@ pub struct History<C: Ord> {
     /// The server of each leader id that has led.
     leaders: BTreeMap<C, u64>,
     /// The log id of each committed entry, and the leader that was the first to commit it.
-    pub committed: Vec<(LogIdOf<C>, C)>,
+    committed: Vec<(LogIdOf<C>, C)>,
     /// Whether nothing was found to be wrong.
     pub is_safe: bool,
     /// The first that was, and at which server or index, or after how many events.
@@ -77,7 +77,9 @@ impl<C: Ord + Copy + Drop> History<C> {
 
     /// Another server of a leader's vote has to have what the leader knows to match.
     fn check_known<L: Copy + Eq + Drop>(&mut self, leader: &Server<L, C>, other: &Server<L, C>) {
-        if let Some(known) = leader.matching(other.id)
+        if let Some(followers) = leader.followers()
+            && let Some(follower) = followers.get(other.id)
+            && let Some(known) = follower.matching
             && leader.vote().leader_id == other.vote().leader_id
         {
             self.require(has(other, known), "a match is not in the log of", other.id);
@@ -103,19 +105,15 @@ impl<C: Ord + Copy + Drop> History<C> {
     /// No other server may have led under a leader's id. Its last entry has to be its own, and it has to
     /// have in its log all that was committed by leaders up to it.
     fn check_leader<L: Copy + Drop>(&mut self, server: &Server<L, C>) {
-        let Some(leader) = server.leader() else {
-            return;
-        };
-        let is_only = match self.leaders.insert(leader, server.id) {
-            Ok(before) => before.unwrap_or(server.id) == server.id,
-            Err(_) => false,
-        };
+        let Some(own) = server.leader() else { return };
+        let before = self.leaders.insert(own, server.id);
+        let is_only = matches!(before, Ok(id) if id.unwrap_or(server.id) == server.id);
         self.require(is_only, "there were two of one leader id:", server.id);
-        let is_own = matches!(server.last(), Some(last) if last.leader_id == leader);
+        let is_own = matches!(server.last(), Some(last) if last.leader_id == own);
         self.require(is_own, "another leader's entry is the last of", server.id);
         let mut has_all = true;
         for (log_id, by) in &self.committed {
-            has_all &= leader < *by || has(server, *log_id);
+            has_all &= own < *by || has(server, *log_id);
         }
         self.require(has_all, "a commit is not in the log of leader", server.id);
     }

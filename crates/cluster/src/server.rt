@@ -1,16 +1,18 @@
-//! A server: its state, what it has on disk, what it is doing, and the messages that it takes.
+//! A server: its state, what it has on disk, what it does and may do wrong, and the messages that it
+//! takes.
 
-use crate::fault::Fault;
 use crate::message::{Content, Message, end};
 use crate::report::Event;
-use raft_base::{
-    EmptyNode, LeaderIdentity, LogIdOf, LogStateReader, VoteIn, log_id_at_most, log_id_below,
-};
+use anyhow::{Result, bail};
+use raft_base::{EmptyNode, LeaderIdentity, LogIdOf, LogStateReader, VoteIn, log_id_below};
 use raft_progress::{ProgressEntryOf, ProgressPart, Tracked};
 use raft_state_tests::turn::{Entry, Followers, Members, Response, State};
 use std::alloc::{AllocError, Global};
 use std::fmt::Debug;
 use std::mem;
+
+/// How many servers there are. The first three are the first voters.
+pub const SERVERS: u64 = 5;
 
 /// How many events a voter waits for a leader at least.
 pub const TIMEOUT: u64 = 24;
@@ -29,6 +31,36 @@ pub enum Role<F> {
     Candidate(Tracked<u64, EmptyNode, bool, bool>),
     /// It leads.
     Leader(F),
+}
+
+/// What all servers do wrong.
+#[derive(Clone, Copy, PartialEq, Eq)]
+pub enum Fault {
+    /// A leader commits what a quorum has, also if it is all of earlier leaders.
+    CountAlone,
+    /// A voter votes for a candidate whose log is behind its own.
+    AnyCandidate,
+    /// A change goes to the new config without the joint one.
+    NoJoint,
+    /// A follower keeps its own entries where a leader sends others that go no further than its log,
+    /// and acks these. Those that go further it takes, and cuts, as it should.
+    NoCut,
+    /// A follower acks some entries that it has not written.
+    NoWrite,
+}
+
+impl Fault {
+    /// The fault that a word names.
+    pub fn named(word: &str) -> Result<Fault> {
+        match word {
+            "count-alone" => Ok(Fault::CountAlone),
+            "any-candidate" => Ok(Fault::AnyCandidate),
+            "no-joint" => Ok(Fault::NoJoint),
+            "no-cut" => Ok(Fault::NoCut),
+            "no-write" => Ok(Fault::NoWrite),
+            _ => bail!("no such word as {word}"),
+        }
+    }
 }
 
 /// A server. `L` is the leader id of a vote, and `C` what log ids keep of it.
@@ -92,11 +124,6 @@ impl<L: Copy + Drop, C: Ord + Copy + Drop> Server<L, C> {
         Some(self.followers()?.leader)
     }
 
-    /// The last log id that a member is known to have, if it leads.
-    pub fn matching(&self, id: u64) -> Option<LogIdOf<C>> {
-        self.followers()?.get(id)?.matching
-    }
-
     /// Takes another role.
     pub fn set_role(&mut self, role: Role<Followers<C>>) {
         drop(mem::replace(&mut self.role, role));
@@ -154,7 +181,7 @@ impl<L: Leader> Server<L, L::Committed> {
             Content::AskVote(last) => {
                 // The candidate's log may not be behind the own one.
                 let may_be = self.fault == Some(Fault::AnyCandidate)
-                    || log_id_at_most(self.last(), *last);
+                    || !log_id_below(*last, self.last());
                 let is_voted = may_be && self.promise(vote);
                 self.send(from, Some(Content::Voted(is_voted, self.last())));
             }
@@ -182,8 +209,8 @@ impl<L: Leader> Server<L, L::Committed> {
         }
     }
 
-    /// Promises a vote, unless it is below the own one or does not compare with it: it follows one that
-    /// is greater, and waits anew for its leader.
+    /// Promises a vote, unless it is below the own one or does not compare with it. With a greater one it
+    /// does no longer what it did, and it waits anew for that leader.
     pub fn promise(&mut self, vote: VoteIn<L>) -> bool {
         let own = self.vote();
         if vote > own {
