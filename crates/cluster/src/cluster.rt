@@ -1,7 +1,6 @@
-//! A cluster: its servers, the network between them, and what happens to both.
+//! A cluster: its servers, and what happens to them.
 
 use crate::message::{Change, Message, Payload, end};
-use crate::report::{Event, Report};
 use crate::safety::History;
 use crate::server::{Fault, Leader, SERVERS, Server, TIMEOUT};
 use raft_base::{EmptyNode, LogIdOf};
@@ -9,11 +8,14 @@ use raft_progress::{ProgressEntryOf, ProgressPart};
 use raft_state_tests::turn::Members;
 use rand::RngExt;
 use rand_pcg::Pcg32;
-use std::alloc::{AllocError, Global};
+use std::alloc::Global;
 use std::collections::{BTreeMap, BTreeSet};
 
 /// How many events a cluster has to settle in, once its network is mended.
 const SETTLE: u64 = 10_000;
+
+/// How long the notes of a line of the chart may be, before one more is added.
+const ROOM: usize = 12;
 
 /// Servers, and a network.
 #[derive(Drop)]
@@ -25,131 +27,120 @@ where
     pub servers: Vec<Server<L, C>>,
     /// The messages that are on their way.
     pub messages: Vec<Message<L, C>>,
-    /// Whether messages come in and time passes, and no more: none gets lost or comes again.
-    pub is_mended: bool,
     /// Whether each server is cut off from those that aren't.
     pub cut: [bool; 5],
     /// What chance decides, the same for each run of a seed.
     pub dice: Pcg32,
-    seed: u64,
     /// How many events there were.
     pub now: u64,
-    history: History<C>,
+    /// What has happened since the last line of the chart.
+    pub notes: String,
+    pub history: History<C>,
 }
 
 impl<L: Leader> Cluster<L, L::Committed> {
-    /// A cluster, which the first server begins with the first three as its members.
-    pub fn new(alloc: Global, seed: u64, fault: Option<Fault>) -> Result<Self, AllocError> {
+    /// A cluster, which its first server begins with the first three as its members.
+    pub fn new(alloc: Global, seed: u64, fault: Option<Fault>) -> Self {
         let mut servers = Vec::new(alloc);
         for id in 1..=SERVERS {
-            servers.push(Server::new(alloc, id, fault)?)?;
+            let _is_there = servers.extend(Server::new(alloc, id, fault).ok()).is_ok();
         }
-        let nodes = (1..=3).map(|id| (id, EmptyNode::new())).collect(alloc)?;
-        let members = Members::from_nodes(alloc, nodes)?;
-        if let Some(first) = servers.first_mut() {
+        if let Some(first) = servers.first_mut()
+            && let Ok(nodes) = (1..=3).map(|id| (id, EmptyNode::new())).collect(alloc)
+            && let Ok(members) = Members::from_nodes(alloc, nodes)
+        {
             first.propose(Payload::Membership(members));
         }
-        Ok(Cluster {
+        let mut history = History::new(alloc);
+        history.require(servers.len() == 5, "no memory for servers of seed", seed);
+        Cluster {
             servers,
             messages: Vec::new(alloc),
-            is_mended: false,
             cut: [false; 5],
             dice: Pcg32::new(seed, 54),
-            seed,
             now: 0,
-            history: History::new(alloc),
-        })
+            notes: String::new(alloc),
+            history,
+        }
     }
 
-    /// Lets so many events happen, while all is well, with a line of its chart every few; and then some
-    /// more once the network is mended, until a leader and all its members have committed the same log.
-    /// Before the last line it says what is wrong, if anything is.
-    pub fn play(&mut self, report: &mut Report, events: u64, every: u64) {
+    /// Lets so many events happen, with a line of its chart every few. Then nobody asks it for anything,
+    /// its network is mended, and it has to settle. Answers whether it was safe and does.
+    pub fn play(&mut self, chart: &mut String, events: u64, every: u64) -> bool {
         for event in 0..events.saturating_add(SETTLE) {
-            if event == events {
-                (self.is_mended, self.cut) = (true, [false; 5]);
-            }
-            if !self.history.is_safe || (self.is_mended && self.is_settled()) {
+            let is_asked = event < events;
+            if !self.history.is_safe || (!is_asked && self.is_settled()) {
                 break;
             }
-            if !self.is_mended && event.checked_rem(every) == Some(0) {
-                self.draw(report);
+            if !is_asked {
+                self.cut = [false; 5];
+                self.notes.clear();
+            } else if event.checked_rem(every) == Some(0) {
+                self.draw(chart);
             }
-            self.step(report);
+            self.step(is_asked);
         }
-        self.conclude(report);
+        let is_settled = self.is_settled();
+        self.history
+            .require(is_settled, "it does not settle, events given:", SETTLE);
         if every > 0 {
-            self.draw(report);
+            self.draw(chart);
         }
+        self.history.is_safe
     }
 
-    /// Something happens: a message comes in, a server does something, or the network is cut in two or
-    /// whole again. Once it is mended messages come in and time passes, and no more.
-    fn step(&mut self, report: &mut Report) {
+    /// Something happens by chance: a message comes in, a server does something, or the network is cut
+    /// in two or whole again. Where nobody asks it for anything messages come in and time passes.
+    fn step(&mut self, is_asked: bool) {
         self.now = self.now.saturating_add(1);
-        let bound = if self.is_mended { 81 } else { 100 };
-        match self.dice.random_range(0..bound) {
-            0..=55 => self.deliver(report),
-            97..=99 => self.part(report),
-            what => {
-                let place = self.dice.random_range(0..SERVERS) as usize;
-                if let Some(server) = self.servers.get_mut(place) {
-                    server.now = self.now;
-                    server.act(what, &mut self.dice);
-                }
-                self.check(place, report);
-            }
+        let what = self.dice.random_range(0..100);
+        match what {
+            56..=80 => self.act(what),
+            81..=96 if is_asked => self.act(what),
+            97..=99 if is_asked => self.part(),
+            _ => self.deliver(is_asked && what % 12 == 0, is_asked && what % 12 == 1),
         }
     }
-}
 
-impl<L: Leader> Server<L, L::Committed> {
-    /// It does what a number stands for: up to 80 time passes for it, and after that it is asked for an
-    /// entry (to 86) or a change (to 90), applies what is committed (to 92), builds a snapshot (to 95), or
-    /// starts again (96).
-    fn act(&mut self, what: u64, dice: &mut Pcg32) {
-        let leads = self.leader().is_some();
-        match what {
-            81..=86 if leads => self.propose(Payload::Normal(self.now)),
-            87..=90 if leads => {
-                let change = some_change(self.alloc, self.members(), dice);
-                let _changed = self.change(change, dice.random());
+    /// A server does what a number stands for: time passes for it (up to 80); as the leader it is asked for
+    /// an entry (86) or a change (90); it applies what is committed (92), builds a snapshot (95), or starts
+    /// again.
+    fn act(&mut self, what: u64) {
+        let place = self.dice.random_range(0..SERVERS) as usize;
+        if let Some(server) = self.servers.get_mut(place) {
+            server.now = self.now;
+            let leads = server.leader().is_some();
+            match what {
+                0..=80 if leads => {
+                    server.replicate();
+                    server.end_change();
+                }
+                0..=80 => server.campaign(self.dice.random_range(0..TIMEOUT)),
+                81..=86 if leads => server.propose(Payload::Normal(self.now)),
+                87..=90 if leads => {
+                    let change = some_change(server.alloc, &mut self.dice);
+                    server.change(change, self.dice.random());
+                }
+                81..=90 => {}
+                91..=92 => server.state.io_state.applied = server.state.committed,
+                93..=95 => server.compact(self.dice.random_range(1..5)),
+                _ => server.restart(),
             }
-            81..=90 => {}
-            91..=92 => self.state.io_state.applied = self.state.committed,
-            93..=95 => self.compact(dice.random_range(0..4)),
-            96 => self.restart(),
-            _ if leads => {
-                self.replicate();
-                self.end_change();
-            }
-            _ => self.campaign(dice.random_range(0..TIMEOUT)),
         }
+        self.check(place);
     }
 }
 
 impl<L: Copy + Eq + Drop, C: Ord + Copy + Drop> Cluster<L, C> {
     /// Takes what a server sends, notes what has become of it, and checks whether all is well.
-    pub fn check(&mut self, place: usize, report: &mut Report) {
+    pub fn check(&mut self, place: usize) {
         if let Some(server) = self.servers.get_mut(place) {
             let _are_sent = self.messages.append(&mut server.outbox).is_ok();
-            if let Some(event) = server.event.take() {
-                report.note(Some(server.id), event);
+            if self.notes.len() < ROOM {
+                let _are_noted = self.notes.push_str(&server.notes).is_ok();
             }
+            server.notes.clear();
             self.history.check(&self.servers, place);
-        }
-    }
-
-    /// Notes that it has settled, or writes what is wrong.
-    fn conclude(&mut self, report: &mut Report) {
-        let is_settled = self.is_settled();
-        let history = &mut self.history;
-        history.require(is_settled, "it does not settle, events given:", SETTLE);
-        if history.is_safe {
-            report.note(None, Event::Settled);
-        } else {
-            let (seed, now, flaw) = (self.seed, self.now, &history.flaw);
-            writeln!(report, "seed {seed}: event {now}: {flaw}");
         }
     }
 
@@ -169,24 +160,25 @@ impl<L: Copy + Eq + Drop, C: Ord + Copy + Drop> Cluster<L, C> {
 
     /// The leader that was elected last.
     pub fn last_leader(&self) -> Option<&Server<L, C>> {
-        let last = self.servers.iter().max_by_key(|one| one.leader())?;
+        let mut last = self.servers.first()?;
+        for server in &self.servers {
+            if server.leader() > last.leader() {
+                last = server;
+            }
+        }
         last.leader().is_some().then_some(last)
     }
 }
 
-/// A change of these members, which the layer may refuse: to add some servers, to take some away, or to
-/// make some the voters.
-fn some_change(alloc: Global, members: &Members, dice: &mut Pcg32) -> Change {
+/// A change of members by chance, which the layer may refuse.
+fn some_change(alloc: Global, dice: &mut Pcg32) -> Change {
     let (mut ids, mut nodes) = (BTreeSet::new(alloc), BTreeMap::new(alloc));
     for id in 1..=SERVERS {
-        if dice.random() && members.contains(&id) {
-            let _is_in = ids.insert(id).is_ok();
-        } else if dice.random() && !members.contains(&id) {
-            let _is_in = nodes.insert(id, EmptyNode::new()).is_ok();
-        }
+        let _is_in = dice.random() && ids.insert(id).is_ok();
+        let _is_in = dice.random() && nodes.insert(id, EmptyNode::new()).is_ok();
     }
     match dice.random_range(0..5) {
-        0..=1 if !nodes.is_empty() => Change::AddNodes(nodes),
+        0..=1 => Change::AddNodes(nodes),
         2 => Change::RemoveNodes(ids),
         _ => Change::ReplaceAllVoters(ids),
     }

@@ -1,7 +1,6 @@
 //! What a follower makes of a leader's logs and snapshots.
 
 use crate::message::{Sent, end};
-use crate::report::Event;
 use crate::server::{Fault, Leader, Server};
 use raft_base::{LogStateReader, VoteIn, log_id_below};
 use raft_state_tests::turn::{Logs, Outcome, take_logs};
@@ -16,7 +15,8 @@ impl<L: Leader> Server<L, L::Committed> {
             Sent::Snapshot(snapshot) => {
                 if log_id_below(self.state.committed, snapshot.last_log_id) {
                     self.install(snapshot);
-                    self.event = Some(Event::Installed);
+                    self.cut_disk();
+                    self.note("installs");
                 }
                 Outcome::Matches(snapshot.last_log_id)
             }
@@ -24,15 +24,19 @@ impl<L: Leader> Server<L, L::Committed> {
             Sent::Logs(logs) => {
                 let taken = take_logs(&mut self.state, logs);
                 self.is_well &= taken.is_ok();
-                self.event = self.cut_disk().then_some(Event::CutBack).or(self.event);
+                if self.cut_disk() {
+                    self.note("cut back");
+                }
                 self.write(&logs.entries);
                 taken.unwrap_or(Outcome::Refused)
             }
         }
     }
+}
 
+impl<L: Copy + Eq + Drop, C: Ord + Copy + Drop> Server<L, C> {
     /// Whether a planted fault keeps entries from being written.
-    fn skips_writing(&self, logs: &Logs<L::Committed>) -> bool {
+    fn skips_writing(&self, logs: &Logs<C>) -> bool {
         let own = self.state.get_log_id(end(logs.last()).saturating_sub(1));
         match self.fault {
             Some(Fault::NoWrite) => self.now % 8 == 0,

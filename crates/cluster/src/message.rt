@@ -45,5 +45,8 @@ pub enum Sent<C> {
 
 /// The index after a log id: 0 after none, and the greatest one where there is none after it.
 pub fn end<C: Copy>(last: Option<LogIdOf<C>>) -> u64 {
-    last.map_or(0, |log_id| log_id.index.saturating_add(1))
+    match last {
+        Some(log_id) => log_id.index.saturating_add(1),
+        None => 0,
+    }
 }

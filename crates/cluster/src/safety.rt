@@ -53,7 +53,7 @@ impl<C: Ord + Copy + Drop> History<C> {
     }
 
     /// A server by itself has to have done what it had to do, and to be in order.
-    fn check_alone<L: Copy + Drop>(&mut self, server: &Server<L, C>) {
+    fn check_alone<L: Copy + Eq + Drop>(&mut self, server: &Server<L, C>) {
         let (state, id) = (&server.state, server.id);
         let is_as_long = server.disk.len() == server.place(server.end());
         self.require(server.is_well, "a step failed at", id);
@@ -64,7 +64,7 @@ impl<C: Ord + Copy + Drop> History<C> {
     }
 
     /// Two servers have to have the same entries, on their disks, up to the last log id that both have.
-    fn check_match<L: Copy + Drop>(&mut self, one: &Server<L, C>, other: &Server<L, C>) {
+    fn check_match<L: Copy + Eq + Drop>(&mut self, one: &Server<L, C>, other: &Server<L, C>) {
         let mut is_shared = false;
         let first = one.state.purged_next.max(other.state.purged_next);
         for index in (first..one.end().min(other.end())).rev() {
@@ -82,13 +82,13 @@ impl<C: Ord + Copy + Drop> History<C> {
             && let Some(known) = follower.matching
             && leader.vote().leader_id == other.vote().leader_id
         {
-            self.require(has(other, known), "a match is not in the log of", other.id);
+            self.require(other.has(known), "a match is not in the log of", other.id);
         }
     }
 
     /// What a server knows to be committed has to be in its log, and to be what others know. A leader
     /// is the first to know it. There has to be memory to note it.
-    fn check_committed<L: Copy + Drop>(&mut self, server: &Server<L, C>) {
+    fn check_committed<L: Copy + Eq + Drop>(&mut self, server: &Server<L, C>) {
         let state = &server.state;
         for index in state.purged_next.saturating_sub(1)..end(state.committed) {
             let log_id = state.get_log_id(index);
@@ -104,7 +104,7 @@ impl<C: Ord + Copy + Drop> History<C> {
 
     /// No other server may have led under a leader's id. Its last entry has to be its own, and it has to
     /// have in its log all that was committed by leaders up to it.
-    fn check_leader<L: Copy + Drop>(&mut self, server: &Server<L, C>) {
+    fn check_leader<L: Copy + Eq + Drop>(&mut self, server: &Server<L, C>) {
         let Some(own) = server.leader() else { return };
         let before = self.leaders.insert(own, server.id);
         let is_only = matches!(before, Ok(id) if id.unwrap_or(server.id) == server.id);
@@ -113,14 +113,8 @@ impl<C: Ord + Copy + Drop> History<C> {
         self.require(is_own, "another leader's entry is the last of", server.id);
         let mut has_all = true;
         for (log_id, by) in &self.committed {
-            has_all &= own < *by || has(server, *log_id);
+            has_all &= own < *by || server.has(*log_id);
         }
         self.require(has_all, "a commit is not in the log of leader", server.id);
     }
-}
-
-/// Whether a log id is in a server's log, or its index is purged.
-fn has<L: Drop, C: Ord + Copy + Drop>(server: &Server<L, C>, log_id: LogIdOf<C>) -> bool {
-    let state = &server.state;
-    log_id.index < state.purged_next || state.get_log_id(log_id.index) == Some(log_id)
 }

@@ -1,9 +1,6 @@
-//! A server: its state, what it has on disk, what it does and may do wrong, and the messages that it
-//! takes.
+//! A server: its state and its disk, what it does and may do wrong, and the messages that it takes.
 
 use crate::message::{Content, Message, end};
-use crate::report::Event;
-use anyhow::{Result, bail};
 use raft_base::{EmptyNode, LeaderIdentity, LogIdOf, LogStateReader, VoteIn, log_id_below};
 use raft_progress::{ProgressEntryOf, ProgressPart, Tracked};
 use raft_state_tests::turn::{Entry, Followers, Members, Response, State};
@@ -22,14 +19,12 @@ pub trait Leader: LeaderIdentity<Id = u64, Committed: Debug> + Drop {}
 
 impl<L: LeaderIdentity<Id = u64, Committed: Debug> + Drop> Leader for L {}
 
-/// What a server is doing, with what it knows of its followers while it leads.
+/// What a server is doing: it waits for a leader; asks for votes, and knows who has voted for it; or
+/// leads, and knows what its followers have.
 #[derive(Drop)]
 pub enum Role<F> {
-    /// It waits for a leader.
     Follower,
-    /// It asks for votes, and knows who has voted for it.
     Candidate(Tracked<u64, EmptyNode, bool, bool>),
-    /// It leads.
     Leader(F),
 }
 
@@ -42,25 +37,10 @@ pub enum Fault {
     AnyCandidate,
     /// A change goes to the new config without the joint one.
     NoJoint,
-    /// A follower keeps its own entries where a leader sends others that go no further than its log,
-    /// and acks these. Those that go further it takes, and cuts, as it should.
+    /// A follower acks entries that conflict with its own and go no further, and keeps its own.
     NoCut,
     /// A follower acks some entries that it has not written.
     NoWrite,
-}
-
-impl Fault {
-    /// The fault that a word names.
-    pub fn named(word: &str) -> Result<Fault> {
-        match word {
-            "count-alone" => Ok(Fault::CountAlone),
-            "any-candidate" => Ok(Fault::AnyCandidate),
-            "no-joint" => Ok(Fault::NoJoint),
-            "no-cut" => Ok(Fault::NoCut),
-            "no-write" => Ok(Fault::NoWrite),
-            _ => bail!("no such word as {word}"),
-        }
-    }
 }
 
 /// A server. `L` is the leader id of a vote, and `C` what log ids keep of it.
@@ -79,18 +59,20 @@ where
     pub now: u64,
     /// Until when it waits for a leader at least.
     pub waits_until: u64,
+    /// The term of its vote.
+    pub term: u64,
     pub state: State<L, C>,
     /// The entries of its log that are not purged, in their order.
     pub disk: Vec<Entry<C>>,
     /// The messages that it sends.
     pub outbox: Vec<Message<L, C>>,
-    /// What has become of it since this was last taken.
-    pub event: Option<Event>,
+    /// What it has done, for the chart.
+    pub notes: String,
     /// Whether all that it had to do could be done.
     pub is_well: bool,
 }
 
-impl<L: Copy + Drop, C: Ord + Copy + Drop> Server<L, C> {
+impl<L: Copy + Eq + Drop, C: Ord + Copy + Drop> Server<L, C> {
     /// The vote that it has promised.
     pub fn vote(&self) -> VoteIn<L> {
         *self.state.vote_ref()
@@ -129,10 +111,9 @@ impl<L: Copy + Drop, C: Ord + Copy + Drop> Server<L, C> {
         drop(mem::replace(&mut self.role, role));
     }
 
-    /// Waits for a leader for so many times as long as it does at least.
-    pub fn wait(&mut self, times: u64) {
-        let until = self.now.saturating_add(TIMEOUT.saturating_mul(times));
-        self.waits_until = self.waits_until.max(until);
+    /// Waits for a leader for so many events at least.
+    pub fn wait(&mut self, events: u64) {
+        self.waits_until = self.waits_until.max(self.now.saturating_add(events));
     }
 
     /// Writes a vote, also to disk.
@@ -141,10 +122,15 @@ impl<L: Copy + Drop, C: Ord + Copy + Drop> Server<L, C> {
         self.state.io_state.update_vote(vote);
     }
 
-    /// Sends what there is to say, with its vote, if there is memory; and no more once a step of its own
-    /// has failed, so that it acks nothing that it does not have.
-    pub fn send(&mut self, to: u64, content: Option<Content<C>>) {
-        if let (Some(content), true) = (content, self.is_well) {
+    /// Notes what it has done.
+    pub fn note(&mut self, what: &str) {
+        let _is_noted = write!(self.notes, " | {} {what}", self.id).is_ok();
+    }
+
+    /// Sends something, if there is memory; and no more once a step of its own has failed, so that it
+    /// acks nothing that it does not have.
+    pub fn send(&mut self, to: u64, content: Content<C>) {
+        if self.is_well {
             let message = Message {
                 from: self.id,
                 to,
@@ -165,38 +151,38 @@ impl<L: Leader> Server<L, L::Committed> {
             fault,
             now: 0,
             waits_until: 0,
+            term: 0,
             state: State::try_default(alloc)?,
             role: Role::Follower,
             disk: Vec::new(alloc),
             outbox: Vec::new(alloc),
-            event: None,
+            notes: String::new(alloc),
             is_well: true,
         })
     }
 
-    /// Takes a message. Some are answered.
+    /// Takes a message, and answers some.
     pub fn receive(&mut self, message: &Message<L, L::Committed>) {
         let (from, vote) = (message.from, message.vote);
         match &message.content {
             Content::AskVote(last) => {
-                // The candidate's log may not be behind the own one.
+                // A candidate's log may not be behind the own one.
                 let may_be = self.fault == Some(Fault::AnyCandidate)
                     || !log_id_below(*last, self.last());
                 let is_voted = may_be && self.promise(vote);
-                self.send(from, Some(Content::Voted(is_voted, self.last())));
+                self.send(from, Content::Voted(is_voted, self.last()));
             }
             Content::Voted(is_voted, last) => {
                 if self.promise(vote) && *is_voted {
                     self.count_vote(from);
                 } else if log_id_below(self.last(), *last) {
                     // That voter may rather lead.
-                    self.wait(5);
+                    self.wait(5 * TIMEOUT);
                 }
             }
             Content::Append(request, sent) => {
                 let (request, outcome) = (*request, self.follow(vote, sent));
-                let response = Response { request, outcome };
-                self.send(from, Some(Content::Responded(response)));
+                self.send(from, Content::Responded(Response { request, outcome }));
             }
             Content::Responded(response) => {
                 if self.promise(vote)
@@ -209,16 +195,17 @@ impl<L: Leader> Server<L, L::Committed> {
         }
     }
 
-    /// Promises a vote, unless it is below the own one or does not compare with it. With a greater one it
-    /// does no longer what it did, and it waits anew for that leader.
+    /// Promises a vote, unless it is below the own one or does not compare with it, and waits anew for
+    /// that leader. With a greater one it does no longer what it did.
     pub fn promise(&mut self, vote: VoteIn<L>) -> bool {
         let own = self.vote();
         if vote > own {
             self.set_role(Role::Follower);
             self.save_vote(vote);
+            self.term = L::term(&vote.leader_id);
         }
         if vote >= own {
-            self.wait(1);
+            self.wait(TIMEOUT);
         }
         vote >= own
     }

@@ -1,15 +1,20 @@
-//! What a server does with its log and its disk: it writes, builds and installs snapshots, purges, and
+//! What a server does with its log and its disk: it appends, builds and installs snapshots, purges, and
 //! starts again.
 
-use crate::message::Snapshot;
-use crate::report::Event;
-use crate::server::{Leader, Server};
-use raft_base::{LogIdOf, LogIdOptionExt, LogStateReader, log_id_at_most, log_id_below};
+use crate::message::{Snapshot, end};
+use crate::server::{Leader, Role, Server, TIMEOUT};
+use raft_base::{LogIdOf, LogStateReader, log_id_below};
 use raft_state::AcceptedIn;
-use raft_state_tests::turn::Entry;
+use raft_state_tests::turn::{Entry, State};
 use std::mem;
 
-impl<L: Copy + Drop, C: Ord + Copy + Drop> Server<L, C> {
+impl<L: Copy + Eq + Drop, C: Ord + Copy + Drop> Server<L, C> {
+    /// Whether a log id is in its log, or its index is purged.
+    pub fn has(&self, log_id: LogIdOf<C>) -> bool {
+        let own = self.state.get_log_id(log_id.index);
+        log_id.index < self.state.purged_next || own == Some(log_id)
+    }
+
     /// The place of an index on its disk.
     pub fn place(&self, index: u64) -> usize {
         index.saturating_sub(self.state.purged_next) as usize
@@ -26,11 +31,6 @@ impl<L: Copy + Drop, C: Ord + Copy + Drop> Server<L, C> {
         let (_, entries) = self.disk.split_at(place.min(self.disk.len()));
         self.is_well &= self.state.can_append_entries(entries)
             && self.state.append_entries(entries).is_ok();
-    }
-
-    /// Commits up to a log id.
-    pub fn commit_to(&mut self, upto: Option<LogIdOf<C>>) {
-        self.is_well &= self.state.can_commit(&upto) && self.state.update_committed(&upto).is_ok();
     }
 
     /// Removes from disk what is no longer in its log, and answers whether there was any.
@@ -50,21 +50,25 @@ impl<L: Copy + Drop, C: Ord + Copy + Drop> Server<L, C> {
         self.is_well &= self.disk.extend_with_clones(new).is_ok();
     }
 
-    /// Builds a snapshot of what is applied and the effective members, if these are applied, it has
-    /// more than the one before, and there is memory; and purges all but the last few entries of it,
-    /// also on disk. Messages carry their entries, so none on its way needs these.
+    /// Commits up to a log id.
+    pub fn commit_to(&mut self, upto: Option<LogIdOf<C>>) {
+        self.is_well &= self.state.can_commit(&upto) && self.state.update_committed(&upto).is_ok();
+    }
+
+    /// Applies what is committed and builds a snapshot of it, if there is memory; and purges all but its
+    /// last few entries, also on disk. Messages carry theirs, so none on its way needs these.
     pub fn compact(&mut self, keep: u64) {
-        let (applied, before) = (self.state.io_state.applied, self.state.io_state.snapshot);
-        let members = self.state.membership_state.effective();
-        if log_id_below(before, applied)
-            && log_id_at_most(*members.log_id(), applied)
+        let upto = self.state.committed;
+        let members = self.state.membership_state.committed();
+        if log_id_below(self.state.io_state.snapshot, upto)
             && let Ok(members) = members.stored_membership().try_clone()
         {
             drop(mem::replace(&mut self.state.snapshot_meta.last_membership, members));
-            self.state.snapshot_meta.last_log_id = applied;
-            self.state.io_state.snapshot = applied;
-            let last = applied.index().unwrap_or(0).saturating_sub(keep);
-            self.state.purge_upto = self.state.purge_upto.max(self.state.get_log_id(last));
+            self.state.snapshot_meta.last_log_id = upto;
+            self.state.io_state.applied = upto;
+            self.state.io_state.snapshot = upto;
+            let kept = end(upto).saturating_sub(keep);
+            self.state.purge_upto = self.state.purge_upto.max(self.state.get_log_id(kept));
         }
         if let Some(upto) = self.state.purge_upto {
             self.is_well &= self.state.can_purge_log(&upto) && self.state.purge_log(&upto).is_ok();
@@ -75,54 +79,48 @@ impl<L: Copy + Drop, C: Ord + Copy + Drop> Server<L, C> {
 }
 
 impl<L: Leader> Server<L, L::Committed> {
-    /// Installs a snapshot: storage then has it, and has applied it, and the log is purged up to it,
-    /// also on disk.
+    /// Installs a snapshot: storage then has it, and has applied it, and the log is purged up to it.
     pub fn install(&mut self, snapshot: &Snapshot<L::Committed>) {
         self.is_well &= self.state.can_install_snapshot(snapshot)
             && match snapshot.try_clone() {
                 Ok(snapshot) => self.state.install_snapshot(snapshot).is_ok(),
                 Err(_) => false,
             };
-        if self.is_well {
-            self.state.io_state.applied = snapshot.last_log_id;
-            self.state.io_state.snapshot = snapshot.last_log_id;
-            self.state.io_state.purged = snapshot.last_log_id;
-        }
-        self.cut_disk();
+        self.state.io_state.applied = snapshot.last_log_id;
+        self.state.io_state.snapshot = snapshot.last_log_id;
+        self.state.io_state.purged = snapshot.last_log_id;
     }
 
     /// Starts again, if there is memory to, with the snapshot, the entries that come after it, the
     /// vote, and how far storage has got. It commits what is applied, and what is known to be
     /// committed for its members: each are proposed once those before them are committed.
     pub fn restart(&mut self) {
-        let Ok(new) = Server::new(self.alloc, self.id, self.fault) else {
+        let Ok(new) = State::try_default(self.alloc) else {
             return;
         };
-        let mut stored = mem::replace(self, new);
-        self.now = stored.now;
-        self.wait(1);
+        let mut stored = mem::replace(&mut self.state, new);
+        self.set_role(Role::Follower);
+        self.wait(TIMEOUT);
         // To install a snapshot takes a committed vote. What is accepted by that is forgotten again: who
         // leads now is not known.
         self.state.vote.get_mut().commit();
-        if stored.state.snapshot_meta.last_log_id.is_some() {
-            self.install(&stored.state.snapshot_meta);
+        if stored.snapshot_meta.last_log_id.is_some() {
+            self.install(&stored.snapshot_meta);
         }
         self.state.accepted = AcceptedIn::default();
-        let old = stored.place(self.state.purged_next);
-        mem::swap(&mut self.disk, &mut stored.disk);
-        self.append_from(old);
+        let old = self.state.purged_next.saturating_sub(stored.purged_next);
+        self.append_from(old as usize);
         self.cut_disk();
-        mem::swap(&mut self.state.io_state, &mut stored.state.io_state);
+        mem::swap(&mut self.state.io_state, &mut stored.io_state);
+        drop(stored);
         self.state.io_state.purged = self.state.snapshot_meta.last_log_id;
         self.save_vote(self.state.io_state.vote);
         let known = *self.state.membership_state.committed().log_id();
         self.commit_to(known.max(self.state.io_state.applied));
-        self.is_well &= stored.is_well;
-        drop(stored);
+        self.note("restarts");
         // One that is known to be removed has its committed vote still.
         if self.state.is_leader(&self.id) && self.may_lead() {
             self.lead();
         }
-        self.event = Some(Event::Restarted);
     }
 }
