@@ -125,6 +125,10 @@ impl<L: Leader> Server<L, L::Committed> {
         let place = self.disk.len();
         self.is_well &= self.disk.extend(Some(Entry { log_id, payload })).is_ok();
         self.append_from(place);
+        let last = self.last();
+        if self.state.can_accept() {
+            self.state.update_accepted(last);
+        }
         self.commit();
     }
 
