@@ -18,12 +18,9 @@ event 1           2           3           4           5          has members | w
 
 impl<L: Copy + Eq + Drop, C: Ord + Copy + Drop> Cluster<L, C> {
     /// Draws a line: what all servers are, with their terms and logs, what the last leader knows a
-    /// quorum to have, its members, and what has happened since the last line.
+    /// quorum to have, its members, and what each has done last since the last line.
     pub fn draw(&mut self, chart: &mut String) {
-        let mut longest = WIDTH;
-        for server in &self.servers {
-            longest = longest.max(server.end());
-        }
+        let first = (self.history.committed.len() as u64).saturating_sub(WIDTH / 2);
         let _ = write!(chart, "{:>4} ", self.now);
         for (server, is_cut_off) in self.servers.iter().zip(&self.cut) {
             let sign = if *is_cut_off { '*' } else { ' ' };
@@ -34,27 +31,25 @@ impl<L: Copy + Eq + Drop, C: Ord + Copy + Drop> Cluster<L, C> {
                 Role::Follower => 'l',
             };
             let _ = write!(chart, "{sign}{letter}{:<2}", server.term);
-            let ends = [
-                server.state.purged_next,
-                end(server.state.committed),
-                server.end(),
-            ];
-            show_log(chart, longest, ends);
+            let (purged, committed) = (server.state.purged_next, end(server.state.committed));
+            show_log(chart, first, [purged, committed, server.end()]);
         }
         if let Some(leader) = self.last_leader()
             && let Some(followers) = leader.followers()
         {
             show_members(chart, end(followers.granted()), leader.members());
         }
-        let _ = writeln!(chart, "{}", self.notes);
-        self.notes.clear();
+        for server in &mut self.servers {
+            let _ = chart.push_str(&server.note);
+            server.note.clear();
+        }
+        let _ = chart.push('\n');
     }
 }
 
-/// Shows the last indexes of the longest log, for one whose purged, committed and last parts end there.
-fn show_log(chart: &mut String, longest: u64, ends: [u64; 3]) {
-    let [purged, committed, end] = ends;
-    for index in longest.saturating_sub(WIDTH)..longest {
+/// Shows some indexes of a log whose purged, committed and last parts end there.
+fn show_log(chart: &mut String, first: u64, [purged, committed, end]: [u64; 3]) {
+    for index in first..first.saturating_add(WIDTH) {
         let _ = chart.push(match index {
             _ if index < purged => '=',
             _ if index < committed => '#',

@@ -1,23 +1,22 @@
 //! What a candidate and a leader do.
 
-use crate::message::{Change, Content, Payload, Sent, end};
-use crate::server::{Fault, Leader, Role, SERVERS, Server};
-use raft_base::{LogIdOf, LogIdRangeOf, VoteIn};
+use crate::message::{Content, Sent, end};
+use crate::server::{Fault, Leader, PATIENCE, Role, Server};
+use raft_base::{EmptyNode, LogIdOf, LogIdRangeOf, VoteIn};
+use raft_members::ChangeMembers;
 use raft_progress::{InflightOf, Progress, Tracked};
-use raft_state_tests::turn::{Entry, Followers, Logs};
-use std::alloc::Global;
+use raft_state::EntryPayload;
+use raft_state_tests::turn::{Entry, Followers, Logs, Response};
 use std::collections::BTreeSet;
 
 impl<L: Copy + Eq + Drop, C: Ord + Copy + Drop> Server<L, C> {
-    /// Whether it is a voter, or was one before a change that is not known to be committed, and may need
-    /// its log.
+    /// Whether it is a voter, or was one before a change that may need its log to be committed.
     pub fn may_lead(&self) -> bool {
         let memberships = &self.state.membership_state;
         memberships.is_voter(&self.id) || memberships.committed().is_voter(&self.id)
     }
 
-    /// Counts what it has itself, and commits what a quorum has, once an entry of its own is among it, as
-    /// the leader.
+    /// Counts what it has itself, and commits what a quorum has, as the leader.
     pub fn commit(&mut self) {
         let last = self.last();
         if let Role::Leader(followers) = &mut self.role {
@@ -30,28 +29,29 @@ impl<L: Copy + Eq + Drop, C: Ord + Copy + Drop> Server<L, C> {
         }
     }
 
-    /// Sends its followers what comes next, as the leader.
-    pub fn replicate(&mut self) {
-        for id in 1..=SERVERS {
-            if id != self.id
-                && let Some(next) = self.next(id)
-            {
-                self.send(id, next);
+    /// Takes a response, as the leader. After one to a heartbeat what is in flight is taken as lost.
+    pub fn take_response(&mut self, from: u64, response: &Response<C>) {
+        if let Role::Leader(followers) = &mut self.role {
+            let _taken = followers.take_response(from, response);
+            if response.request.is_none() {
+                followers.give_up(from);
             }
+            self.commit();
         }
     }
 
-    /// What comes next for a follower, if there is memory, or while something is in flight and where
-    /// nothing comes next a heartbeat. What is in flight is taken as lost at one moment of seven.
-    fn next(&mut self, to: u64) -> Option<Content<C>> {
+    /// What it sends to another server next, if there is memory: a candidate asks for a vote; the leader
+    /// sends logs, a snapshot, or while one is in flight and where nothing comes next a heartbeat.
+    pub fn next(&mut self, to: u64) -> Option<Content<C>> {
         let last = self.last();
+        if let Role::Candidate(_) = &self.role {
+            let is_asked = self.waits == PATIENCE && self.members().is_voter(&to);
+            return is_asked.then_some(Content::AskVote(last));
+        }
         let Role::Leader(followers) = &mut self.role else {
             return None;
         };
         followers.get(to)?;
-        if self.now.saturating_add(to) % 7 == 0 {
-            followers.give_up(to);
-        }
         let (request, range) = match followers.next_request(&self.state, to) {
             Some(InflightOf::Logs { id, log_id_range }) => (Some(id), log_id_range),
             Some(InflightOf::Snapshot { id, .. }) => {
@@ -63,7 +63,7 @@ impl<L: Copy + Eq + Drop, C: Ord + Copy + Drop> Server<L, C> {
         let places = self.place(end(range.prev))..self.place(end(range.last));
         let logs = Logs {
             prev: range.prev,
-            entries: self.disk.get(places)?.to_vec(self.alloc).ok()?,
+            entries: self.disk.entries.get(places)?.to_vec(self.alloc).ok()?,
             committed: self.state.committed,
         };
         Some(Content::Append(request, Sent::Logs(logs)))
@@ -71,101 +71,86 @@ impl<L: Copy + Eq + Drop, C: Ord + Copy + Drop> Server<L, C> {
 }
 
 impl<L: Leader> Server<L, L::Committed> {
-    /// Votes for itself in the next term, and asks the others, if it may lead, has waited so much longer
-    /// than it does at least, and there is memory to count votes.
-    pub fn campaign(&mut self, patience: u64) {
-        if self.waits_until.saturating_add(patience) <= self.now
+    /// Votes for itself, if it may lead, waits no longer, and there is memory to count votes.
+    pub fn campaign(&mut self) {
+        self.waits = self.waits.saturating_sub(1);
+        if self.waits == 0
             && self.may_lead()
             && let Ok(members) = self.members().try_clone()
             && let Ok(ballot) = Tracked::new(members, false)
         {
-            let vote = VoteIn::new(self.term.saturating_add(1), self.id);
-            let _promised = self.promise(vote);
+            self.term = self.term.saturating_add(1);
+            let _promised = self.promise(VoteIn::new(self.term, self.id));
             self.set_role(Role::Candidate(ballot));
-            for id in 1..=SERVERS {
-                if id != self.id && self.members().is_voter(&id) {
-                    self.send(id, Content::AskVote(self.last()));
-                }
-            }
-            self.count_vote(self.id);
+            self.count_vote(self.id, true);
         }
     }
 
-    /// Counts a vote for it as a candidate, and leads once a quorum has voted.
-    pub fn count_vote(&mut self, from: u64) {
+    /// Counts whether one has voted for it as a candidate, and leads once a quorum has.
+    pub fn count_vote(&mut self, from: u64, is_voted: bool) {
         if let Role::Candidate(ballot) = &mut self.role {
-            let _granted = ballot.update(&from, true);
+            let _granted = ballot.update(&from, is_voted);
             if *ballot.progress().granted() {
                 self.lead();
             }
         }
     }
 
-    /// Leads, and begins with a blank entry, if there is memory to know its followers by. Nothing is
-    /// known of them but that they match no further than its own log.
+    /// Leads, and begins with a blank entry, if there is memory to know its followers by.
     pub fn lead(&mut self) {
-        let (mut vote, end) = (self.vote(), self.end());
-        let leader = L::to_committed(&vote.leader_id);
+        let (leader, end) = (L::to_committed(&self.vote().leader_id), self.end());
         if let Ok(members) = self.members().try_clone()
             && let Ok(followers) = Followers::new(leader, members, end)
         {
-            vote.commit();
-            self.save_vote(vote);
+            self.state.vote.get_mut().commit();
             self.set_role(Role::Leader(followers));
             self.note("elected");
-            self.propose(Payload::Blank);
+            self.propose(EntryPayload::Blank);
         }
     }
 
-    /// Appends an entry, and counts it as its own, as the leader. The first one of a cluster is of term 0,
-    /// in which nobody has to be elected.
-    pub fn propose(&mut self, payload: Payload) {
+    /// Appends an entry, as the leader. The first one of a cluster is of term 0, which has none.
+    pub fn propose(&mut self, payload: EntryPayload<u64, EmptyNode, u64>) {
         let leader = L::to_committed(&self.vote().leader_id);
         let log_id = LogIdOf::new(leader, self.end());
-        let place = self.disk.len();
-        self.is_well &= self.disk.extend(Some(Entry { log_id, payload })).is_ok();
-        self.append_from(place);
-        let last = self.last();
+        let (place, disk) = (self.disk.entries.len(), &mut self.disk.entries);
+        self.is_well &= disk.extend(Some(Entry { log_id, payload })).is_ok();
+        let (_, new) = disk.split_at(place.min(disk.len()));
+        self.is_well &= self.state.can_append_entries(new)
+            && self.state.append_entries(new).is_ok();
         if self.state.can_accept() {
-            self.state.update_accepted(last);
+            self.state.update_accepted(Some(log_id));
         }
         self.commit();
     }
 
-    /// Proposes a change of the members, as the leader, and counts by them from now on; unless it is
-    /// refused, or there is no memory. Of a new one nothing is known but that it lacks the entry that
-    /// adds it.
-    pub fn change(&mut self, change: Change, retain: bool) {
-        let handler = self.state.membership_state.change_handler();
+    /// Proposes a change of the members, as the leader, and counts by them, unless that is refused.
+    pub fn change(&mut self, change: ChangeMembers<u64, EmptyNode>, retain: bool) {
+        let (end, handler) = (self.end(), self.state.membership_state.change_handler());
         let mut members = handler.apply(change, retain).ok();
         if self.fault == Some(Fault::NoJoint)
             && let Some(joint) = members
         {
-            members = joint.change(to_last(self.alloc), true).ok();
+            let to_last = ChangeMembers::AddVoterIds(BTreeSet::new(self.alloc));
+            members = joint.change(to_last, true).ok();
         }
-        let end = self.end();
         if let Some(members) = members
             && let Ok(counted) = members.try_clone()
             && let Role::Leader(followers) = &mut self.role
             && followers.change_to(counted, end).is_ok()
         {
             self.note("changes");
-            self.propose(Payload::Membership(members));
+            self.propose(EntryPayload::Membership(members));
         }
     }
 
-    /// Goes on from a joint membership to its last config, in which those who leave are learners, as
-    /// soon as it is not refused; and leads no longer once it is no voter any more.
+    /// Goes on from a joint membership to its last config, in which those who leave are learners, or
+    /// leads no longer once it is no voter any more.
     pub fn end_change(&mut self) {
         if self.members().is_in_joint_consensus() {
-            self.change(to_last(self.alloc), true);
+            self.change(ChangeMembers::AddVoterIds(BTreeSet::new(self.alloc)), true);
         } else if !self.may_lead() {
             self.set_role(Role::Follower);
         }
     }
-}
-
-/// The change that leads from a joint membership to its last config.
-fn to_last(alloc: Global) -> Change {
-    Change::AddVoterIds(BTreeSet::new(alloc))
 }

@@ -57,9 +57,7 @@ fn main(rt: HostRuntime) -> Result<()> {
         }
     }
     let mut chart = String::new(rt.alloc());
-    if numbers[3] > 0 {
-        chart.push_str(chart::LEGEND)?;
-    }
+    chart.push_str(chart::LEGEND)?;
     let settled = if is_standard {
         run::<leader_id_std::LeaderId<u64>>(&mut chart, numbers, fault)
     } else {

@@ -1,18 +1,7 @@
-//! What servers send each other, and the layer's types as they have them.
+//! What servers send each other.
 
-use raft_base::{EmptyNode, LogIdOf, VoteIn};
-use raft_members::ChangeMembers;
-use raft_state::{EntryPayload, SnapshotMetaOf};
-use raft_state_tests::turn::{Logs, Response};
-
-/// What a log entry holds.
-pub type Payload = EntryPayload<u64, EmptyNode, u64>;
-
-/// A change of the members.
-pub type Change = ChangeMembers<u64, EmptyNode>;
-
-/// What is known of a snapshot.
-pub type Snapshot<C> = SnapshotMetaOf<C, u64, EmptyNode>;
+use raft_base::{LogIdOf, VoteIn};
+use raft_state_tests::turn::{Logs, Response, Snapshot};
 
 /// A message on its way, with its sender's vote.
 #[derive(Drop)]
@@ -28,8 +17,8 @@ pub struct Message<L, C> {
 pub enum Content<C> {
     /// A candidate with this last log id asks for a vote.
     AskVote(Option<LogIdOf<C>>),
-    /// A voter's answer, whether it has voted for the candidate, and its own last log id.
-    Voted(bool, Option<LogIdOf<C>>),
+    /// A voter answers whether it has voted for the candidate.
+    Voted(bool),
     /// A leader sends what comes next, or with no request's number a heartbeat.
     Append(Option<u64>, Sent<C>),
     /// A follower responds to that.

@@ -16,25 +16,21 @@ impl<L: Leader> Cluster<L, L::Committed> {
                 && self.cut.get(from) == self.cut.get(to)
                 && let Some(server) = self.servers.get_mut(to)
             {
-                server.now = self.now;
-                server.receive(message);
+                let (id, answer) = (message.from, server.receive(message));
+                let _is_sent = self.messages.extend(server.message(id, answer)).is_ok();
             }
             if !comes_again {
                 drop(self.messages.swap_remove(at));
             }
-            self.check(to);
+            self.history.check(&self.servers, to);
         }
     }
-}
 
-impl<L: Copy + Eq + Drop, C: Ord + Copy + Drop> Cluster<L, C> {
     /// Cuts the network in two, or ends a cut.
     pub fn part(&mut self) {
         let is_whole = !self.cut.contains(&true);
         for is_cut_off in &mut self.cut {
             *is_cut_off = is_whole && self.dice.random_ratio(40, 100);
         }
-        let what = if is_whole { " | cut" } else { " | healed" };
-        let _is_noted = self.notes.push_str(what).is_ok();
     }
 }

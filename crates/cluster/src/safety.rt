@@ -12,7 +12,7 @@ pub struct History<C: Ord> {
     /// The server of each leader id that has led.
     leaders: BTreeMap<C, u64>,
     /// The log id of each committed entry, and the leader that was the first to commit it.
-    committed: Vec<(LogIdOf<C>, C)>,
+    pub committed: Vec<(LogIdOf<C>, C)>,
     /// Whether nothing was found to be wrong.
     pub is_safe: bool,
     /// The first that was, and at which server or index, or after how many events.
@@ -37,9 +37,7 @@ impl<C: Ord + Copy + Drop> History<C> {
             self.check_committed(server);
             for other in servers {
                 self.check_match(server, other);
-                self.check_known(server, other);
-                self.check_known(other, server);
-                self.check_leader(other);
+                self.check_leader(other, servers);
             }
         }
     }
@@ -55,11 +53,11 @@ impl<C: Ord + Copy + Drop> History<C> {
     /// A server by itself has to have done what it had to do, and to be in order.
     fn check_alone<L: Copy + Eq + Drop>(&mut self, server: &Server<L, C>) {
         let (state, id) = (&server.state, server.id);
-        let is_as_long = server.disk.len() == server.place(server.end());
+        let is_logged = state.purge_upto_is_logged() && state.committed_is_logged();
+        let is_as_long = server.disk.entries.len() == server.place(server.end());
         self.require(server.is_well, "a step failed at", id);
         self.require(state.validate().is_ok(), "no valid state of", id);
-        self.require(state.purge_upto_is_logged(), "no purge point at", id);
-        self.require(state.committed_is_logged(), "a commit is lost at", id);
+        self.require(is_logged, "a purge point or a commit is lost at", id);
         self.require(is_as_long, "another log is on the disk of", id);
     }
 
@@ -72,17 +70,6 @@ impl<C: Ord + Copy + Drop> History<C> {
             let (entry, same) = (one.entry(index), other.entry(index));
             let is_well = !is_shared || (entry.is_some() && entry == same);
             self.require(is_well, "logs do not match at", index);
-        }
-    }
-
-    /// Another server of a leader's vote has to have what the leader knows to match.
-    fn check_known<L: Copy + Eq + Drop>(&mut self, leader: &Server<L, C>, other: &Server<L, C>) {
-        if let Some(followers) = leader.followers()
-            && let Some(follower) = followers.get(other.id)
-            && let Some(known) = follower.matching
-            && leader.vote().leader_id == other.vote().leader_id
-        {
-            self.require(other.has(known), "a match is not in the log of", other.id);
         }
     }
 
@@ -103,18 +90,30 @@ impl<C: Ord + Copy + Drop> History<C> {
     }
 
     /// No other server may have led under a leader's id. Its last entry has to be its own, and it has to
-    /// have in its log all that was committed by leaders up to it.
-    fn check_leader<L: Copy + Eq + Drop>(&mut self, server: &Server<L, C>) {
-        let Some(own) = server.leader() else { return };
-        let before = self.leaders.insert(own, server.id);
-        let is_only = matches!(before, Ok(id) if id.unwrap_or(server.id) == server.id);
-        self.require(is_only, "there were two of one leader id:", server.id);
-        let is_own = matches!(server.last(), Some(last) if last.leader_id == own);
-        self.require(is_own, "another leader's entry is the last of", server.id);
+    /// have in its log all that was committed by leaders up to it. Servers that have promised its vote
+    /// have to have what it knows to match.
+    fn check_leader<L: Copy + Eq + Drop>(&mut self, leader: &Server<L, C>, all: &[Server<L, C>]) {
+        let Some(followers) = leader.followers() else {
+            return;
+        };
+        let (id, own) = (leader.id, followers.leader);
+        let before = self.leaders.insert(own, id);
+        let is_only = matches!(before, Ok(led) if led.unwrap_or(id) == id);
+        self.require(is_only, "there were two of one leader id:", id);
+        let is_own = matches!(leader.last(), Some(last) if last.leader_id == own);
+        self.require(is_own, "another leader's entry is the last of", id);
         let mut has_all = true;
         for (log_id, by) in &self.committed {
-            has_all &= own < *by || server.has(*log_id);
+            has_all &= own < *by || leader.has(*log_id);
         }
-        self.require(has_all, "a commit is not in the log of leader", server.id);
+        self.require(has_all, "a commit is not in the log of leader", id);
+        for server in all {
+            if let Some(follower) = followers.get(server.id)
+                && let Some(known) = follower.matching
+                && leader.vote().leader_id == server.vote().leader_id
+            {
+                self.require(server.has(known), "a match is not in the log of", server.id);
+            }
+        }
     }
 }

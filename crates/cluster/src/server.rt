@@ -2,8 +2,8 @@
 
 use crate::message::{Content, Message, end};
 use raft_base::{EmptyNode, LeaderIdentity, LogIdOf, LogStateReader, VoteIn, log_id_below};
-use raft_progress::{ProgressEntryOf, ProgressPart, Tracked};
-use raft_state_tests::turn::{Entry, Followers, Members, Response, State};
+use raft_progress::Tracked;
+use raft_state_tests::turn::{Followers, Logs, Members, Response, State};
 use std::alloc::{AllocError, Global};
 use std::fmt::Debug;
 use std::mem;
@@ -11,16 +11,15 @@ use std::mem;
 /// How many servers there are. The first three are the first voters.
 pub const SERVERS: u64 = 5;
 
-/// How many events a voter waits for a leader at least.
-pub const TIMEOUT: u64 = 24;
+/// For how many of its turns a server waits for a leader.
+pub const PATIENCE: u64 = 4;
 
 /// The leader id of a vote, and what log ids keep of it.
 pub trait Leader: LeaderIdentity<Id = u64, Committed: Debug> + Drop {}
 
 impl<L: LeaderIdentity<Id = u64, Committed: Debug> + Drop> Leader for L {}
 
-/// What a server is doing: it waits for a leader; asks for votes, and knows who has voted for it; or
-/// leads, and knows what its followers have.
+/// What a server does: it follows, asks for votes and counts them, or leads and knows its followers.
 #[derive(Drop)]
 pub enum Role<F> {
     Follower,
@@ -45,29 +44,21 @@ pub enum Fault {
 
 /// A server. `L` is the leader id of a vote, and `C` what log ids keep of it.
 #[derive(Drop)]
-pub struct Server<L, C: Ord + Copy>
-where
-    Option<LogIdOf<C>>: Ord,
-    ProgressEntryOf<C>: ProgressPart<Option<LogIdOf<C>>>,
-{
+pub struct Server<L, C: Ord + Copy, F = Followers<C>> {
     pub alloc: Global,
     pub id: u64,
     /// What it does wrong, where that is planted.
     pub fault: Option<Fault>,
-    pub role: Role<Followers<C>>,
-    /// Its clock, a count of events.
-    pub now: u64,
-    /// Until when it waits for a leader at least.
-    pub waits_until: u64,
-    /// The term of its vote.
+    pub role: Role<F>,
+    /// For how many more of its turns it waits for a leader.
+    pub waits: u64,
+    /// The greatest term that it has heard of.
     pub term: u64,
     pub state: State<L, C>,
-    /// The entries of its log that are not purged, in their order.
-    pub disk: Vec<Entry<C>>,
-    /// The messages that it sends.
-    pub outbox: Vec<Message<L, C>>,
-    /// What it has done, for the chart.
-    pub notes: String,
+    /// The entries of its log that are not purged.
+    pub disk: Logs<C>,
+    /// What it has done last, for the chart.
+    pub note: String,
     /// Whether all that it had to do could be done.
     pub is_well: bool,
 }
@@ -111,34 +102,20 @@ impl<L: Copy + Eq + Drop, C: Ord + Copy + Drop> Server<L, C> {
         drop(mem::replace(&mut self.role, role));
     }
 
-    /// Waits for a leader for so many events at least.
-    pub fn wait(&mut self, events: u64) {
-        self.waits_until = self.waits_until.max(self.now.saturating_add(events));
-    }
-
-    /// Writes a vote, also to disk.
-    pub fn save_vote(&mut self, vote: VoteIn<L>) {
-        *self.state.vote.get_mut() = vote;
-        self.state.io_state.update_vote(vote);
-    }
-
     /// Notes what it has done.
     pub fn note(&mut self, what: &str) {
-        let _is_noted = write!(self.notes, " | {} {what}", self.id).is_ok();
+        self.note.clear();
+        let _is_noted = write!(self.note, " | {} {what}", self.id).is_ok();
     }
 
-    /// Sends something, if there is memory; and no more once a step of its own has failed, so that it
-    /// acks nothing that it does not have.
-    pub fn send(&mut self, to: u64, content: Content<C>) {
-        if self.is_well {
-            let message = Message {
-                from: self.id,
-                to,
-                vote: self.vote(),
-                content,
-            };
-            let _is_sent = self.outbox.extend(Some(message)).is_ok();
-        }
+    /// A message to another server, if there is something to say.
+    pub fn message(&self, to: u64, content: Option<Content<C>>) -> Option<Message<L, C>> {
+        Some(Message {
+            from: self.id,
+            to,
+            vote: self.vote(),
+            content: content?,
+        })
     }
 }
 
@@ -149,50 +126,40 @@ impl<L: Leader> Server<L, L::Committed> {
             alloc,
             id,
             fault,
-            now: 0,
-            waits_until: 0,
+            role: Role::Follower,
+            waits: 0,
             term: 0,
             state: State::try_default(alloc)?,
-            role: Role::Follower,
-            disk: Vec::new(alloc),
-            outbox: Vec::new(alloc),
-            notes: String::new(alloc),
+            disk: Logs {
+                prev: None,
+                entries: Vec::new(alloc),
+                committed: None,
+            },
+            note: String::new(alloc),
             is_well: true,
         })
     }
 
-    /// Takes a message, and answers some.
-    pub fn receive(&mut self, message: &Message<L, L::Committed>) {
+    /// Takes a message, and may answer it.
+    pub fn receive(&mut self, message: &Message<L, L::Committed>) -> Option<Content<L::Committed>> {
         let (from, vote) = (message.from, message.vote);
+        self.term = self.term.max(L::term(&vote.leader_id));
         match &message.content {
             Content::AskVote(last) => {
                 // A candidate's log may not be behind the own one.
                 let may_be = self.fault == Some(Fault::AnyCandidate)
                     || !log_id_below(*last, self.last());
-                let is_voted = may_be && self.promise(vote);
-                self.send(from, Content::Voted(is_voted, self.last()));
-            }
-            Content::Voted(is_voted, last) => {
-                if self.promise(vote) && *is_voted {
-                    self.count_vote(from);
-                } else if log_id_below(self.last(), *last) {
-                    // That voter may rather lead.
-                    self.wait(5 * TIMEOUT);
-                }
+                return Some(Content::Voted(may_be && self.promise(vote)));
             }
             Content::Append(request, sent) => {
                 let (request, outcome) = (*request, self.follow(vote, sent));
-                self.send(from, Content::Responded(Response { request, outcome }));
+                return Some(Content::Responded(Response { request, outcome }));
             }
-            Content::Responded(response) => {
-                if self.promise(vote)
-                    && let Role::Leader(followers) = &mut self.role
-                {
-                    let _taken = followers.take_response(from, response);
-                    self.commit();
-                }
-            }
+            _ if !self.promise(vote) => {}
+            Content::Voted(is_voted) => self.count_vote(from, *is_voted),
+            Content::Responded(response) => self.take_response(from, response),
         }
+        None
     }
 
     /// Promises a vote, unless it is below the own one or does not compare with it, and waits anew for
@@ -201,11 +168,10 @@ impl<L: Leader> Server<L, L::Committed> {
         let own = self.vote();
         if vote > own {
             self.set_role(Role::Follower);
-            self.save_vote(vote);
-            self.term = L::term(&vote.leader_id);
+            *self.state.vote.get_mut() = vote;
         }
         if vote >= own {
-            self.wait(TIMEOUT);
+            self.waits = PATIENCE;
         }
         vote >= own
     }

@@ -5,7 +5,7 @@ mod followers;
 mod message;
 mod types;
 
-pub use follower::take_logs;
+pub use follower::{take_logs, take_snapshot};
 pub use followers::Followers;
 pub use message::{Logs, Outcome, Response};
-pub use types::{Entry, Members, State};
+pub use types::{Entry, Members, Snapshot, State};

@@ -1,6 +1,8 @@
 //! A leader's turns with its followers, and a follower's with what it is sent.
 
-use super::turn::{Entry, Followers, Logs, Members, Outcome, Response, State, take_logs};
+use super::turn::{
+    Entry, Followers, Logs, Members, Outcome, Response, Snapshot, State, take_logs, take_snapshot,
+};
 use crate::support::memory::both;
 use crate::support::rows::{Row, id, ids, log_id};
 use anyhow::Result;
@@ -293,9 +295,27 @@ fn replaces<K: LeaderKind<u64>>(alloc: Global, state: &mut StateOf<K>) -> Result
     Ok(is_taken && is_committed && is_matched && is_at::<K>(state, (2, 3), Some((2, 3))))
 }
 
+/// Whether a snapshot takes the place of the log that it goes past, and an older one is acked alone.
+fn takes_snapshots<K: LeaderKind<u64>>(alloc: Global, state: &mut StateOf<K>) -> Result<bool> {
+    let mut sent = Snapshot::<Committed<K>>::try_default(alloc)?;
+    for row in [(2, 6), (1, 1)] {
+        sent.last_log_id = id::<K>(Some(row));
+        let outcome = take_snapshot::<K::Leader>(state, &sent)?;
+        let is_acked = matches!(outcome, Outcome::Matches(last) if last == sent.last_log_id);
+        if !is_acked || !is_at::<K>(state, (2, 6), Some((2, 6))) {
+            return Ok(false);
+        }
+    }
+    Ok(true)
+}
+
 /// Whether a follower with an earlier leader's log takes what this leader sends.
 fn follows<K: LeaderKind<u64>>(alloc: Global, state: &mut StateOf<K>) -> Result<bool> {
-    Ok(conflicts::<K>(alloc, state)? && replaces::<K>(alloc, state)?)
+    Ok(
+        conflicts::<K>(alloc, state)?
+            && replaces::<K>(alloc, state)?
+            && takes_snapshots::<K>(alloc, state)?,
+    )
 }
 
 /// Whether that holds of a follower with entries of an earlier leader alone.

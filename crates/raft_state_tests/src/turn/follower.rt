@@ -1,9 +1,9 @@
 //! A follower's turn with what a leader sends.
 
 use super::message::{Logs, Outcome};
-use super::types::State;
+use super::types::{Snapshot, State};
 use anyhow::{Result, ensure};
-use raft_base::{LeaderIdentity, LogStateReader};
+use raft_base::{LeaderIdentity, LogStateReader, log_id_below};
 
 /// Takes a leader's logs: what conflicts is cut off, what is new is appended, and what the leader
 /// has committed of them is committed.
@@ -31,6 +31,18 @@ pub fn take_logs<L: LeaderIdentity<Id = u64> + Drop>(
     ensure!(state.can_commit(&committed), "members are not in turn");
     state.update_committed(&committed)?;
     Ok(Outcome::Matches(logs.last()))
+}
+
+/// Takes a leader's snapshot in place of the log up to there, unless all of it is committed.
+pub fn take_snapshot<L: LeaderIdentity<Id = u64> + Drop>(
+    state: &mut State<L, L::Committed>,
+    snapshot: &Snapshot<L::Committed>,
+) -> Result<Outcome<L::Committed>> {
+    if log_id_below(state.committed, snapshot.last_log_id) {
+        ensure!(state.can_install_snapshot(snapshot), "it does not fit");
+        state.install_snapshot(snapshot.try_clone()?)?;
+    }
+    Ok(Outcome::Matches(snapshot.last_log_id))
 }
 
 /// Cuts a log off from an index on, if it goes so far.

@@ -4,10 +4,13 @@
 
 use raft_base::EmptyNode;
 use raft_members::Membership;
-use raft_state::{EntryOf, RaftStateIn};
+use raft_state::{EntryOf, RaftStateIn, SnapshotMetaOf};
 
 /// A log entry.
 pub type Entry<C> = EntryOf<C, u64, EmptyNode, u64>;
+
+/// What is known of a snapshot.
+pub type Snapshot<C> = SnapshotMetaOf<C, u64, EmptyNode>;
 
 /// The whole state of a node.
 pub type State<L, C> = RaftStateIn<u64, EmptyNode, u64, L, C>;
