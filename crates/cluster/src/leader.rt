@@ -61,11 +61,8 @@ impl<L: Copy + Eq + Drop, C: Ord + Copy + Drop> Server<L, C> {
             _ => (None, LogIdRangeOf::new(last, last)),
         };
         let places = self.place(end(range.prev))..self.place(end(range.last));
-        let logs = Logs {
-            prev: range.prev,
-            entries: self.disk.entries.get(places)?.to_vec(self.alloc).ok()?,
-            committed: self.state.committed,
-        };
+        let entries = self.disk.entries.get(places)?.to_vec(self.alloc).ok()?;
+        let logs = Logs::new(range.prev, entries, self.state.committed);
         Some(Content::Append(request, Sent::Logs(logs)))
     }
 }

@@ -1,14 +1,12 @@
-//! A simulated Raft cluster over the crates of the layer, which checks after each event whether it is
-//! still safe.
+//! A simulated Raft cluster over the crates of the layer, which is checked after each event.
 //!
 //! It is an example for callers and a trial of these crates, and no Raft to use: storage is prompt,
 //! time is a count of events, a message is a value, a snapshot comes whole, one request at a time is in
 //! flight to a follower, and there are no pre-votes, leases and reads of clients.
 //!
 //! Its words: the first seed, how many seeds, how many events each, every how many events a line of
-//! its chart is printed (0: never); then `standard` for the leader ids of standard Raft, and the name
-//! of a fault of `server.rt` that is planted. It ends with status 1 where a cluster was not safe, or did
-//! not settle once its network was mended.
+//! its chart is printed (0: never); then `standard` for the leader ids of standard Raft, and a fault of
+//! `server.rt` that is planted. It ends with status 1 unless all clusters were safe and settled.
 #![tactic(auto)]
 
 mod chart;
@@ -19,7 +17,6 @@ mod message;
 mod network;
 mod safety;
 mod server;
-mod storage;
 
 use anyhow::{Context, Result, ensure};
 use cluster::Cluster;

@@ -130,11 +130,7 @@ impl<L: Leader> Server<L, L::Committed> {
             waits: 0,
             term: 0,
             state: State::try_default(alloc)?,
-            disk: Logs {
-                prev: None,
-                entries: Vec::new(alloc),
-                committed: None,
-            },
+            disk: Logs::new(None, Vec::new(alloc), None),
             note: String::new(alloc),
             is_well: true,
         })

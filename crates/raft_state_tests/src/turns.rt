@@ -247,11 +247,7 @@ fn logs<K: LeaderKind<u64>>(
             payload: EntryPayload::Blank,
         })?;
     }
-    Ok(Logs {
-        prev: id::<K>(prev),
-        entries,
-        committed: id::<K>(committed),
-    })
+    Ok(Logs::new(id::<K>(prev), entries, id::<K>(committed)))
 }
 
 /// Whether a state is valid, and has this last log id and this committed one.

@@ -31,6 +31,19 @@ pub struct Response<C> {
 }
 
 impl<C: Copy> Logs<C> {
+    /// The entries after a log id, and how far the leader has committed.
+    pub fn new(
+        prev: Option<LogIdOf<C>>,
+        entries: Vec<Entry<C>>,
+        committed: Option<LogIdOf<C>>,
+    ) -> Self {
+        Logs {
+            prev,
+            entries,
+            committed,
+        }
+    }
+
     /// The last log id that they tell of.
     pub fn last(&self) -> Option<LogIdOf<C>> {
         match self.entries.last() {
