@@ -10,9 +10,9 @@ const WIDTH: u64 = 8;
 
 /// What its signs mean, and the head of its columns.
 pub const LEGEND: &str = "\
-L leader, C candidate, F follower, l learner, with its term and the last indexes of the longest log:
-= purged, # committed, + in the log. A * is cut off from those without. Then, if one leads, how many
-entries a quorum has, and its members: the voters (of both configs, if it has two), +learners.
+L leader, C candidate, F follower, l learner, with its term, and its log up to four indexes past the
+last commit: = purged, # committed, + in the log. A * is cut off from those without. Then, if one
+leads, how many entries a quorum has, and its members: voters (of each config, if two), +learners.
 event 1           2           3           4           5          has members | what happened
 ";
 
@@ -47,7 +47,7 @@ impl<L: Copy + Eq + Drop, C: Ord + Copy + Drop> Cluster<L, C> {
     }
 }
 
-/// Shows some indexes of a log whose purged, committed and last parts end there.
+/// Shows some indexes of a log, of which the purged, the committed and all end there.
 fn show_log(chart: &mut String, first: u64, [purged, committed, end]: [u64; 3]) {
     for index in first..first.saturating_add(WIDTH) {
         let _ = chart.push(match index {

@@ -88,20 +88,21 @@ impl<L: Leader> Cluster<L, L::Committed> {
     }
 
     /// A server does what a number stands for: what is due as time passes (up to 80), what it is asked for
-    /// as the leader, an entry (86) or a change (91), a snapshot (95), or a restart.
+    /// as the leader, an entry (84) or a change (91), a snapshot (95), or a restart.
     fn act(&mut self, what: u64) {
         let place = self.dice.random_range(0..SERVERS) as usize;
         if let Some(server) = self.servers.get_mut(place) {
-            match what {
-                96.. => server.restart(),
-                92.. => server.compact(self.dice.random_range(1..5)),
-                _ if server.leader().is_none() => server.campaign(),
-                87.. => {
+            match (what, server.leader()) {
+                (96.., _) => server.restart(),
+                (92.., _) => server.compact(self.dice.random_range(1..5)),
+                (85.., Some(_)) => {
                     let change = some_change(server.alloc, &mut self.dice);
                     server.change(change, self.dice.random());
                 }
-                81.. => server.propose(EntryPayload::Normal(self.now)),
-                _ => server.end_change(),
+                (81.., Some(_)) => server.propose(EntryPayload::Normal(self.now)),
+                (81.., None) => {}
+                (_, Some(_)) => server.end_change(),
+                (_, None) => server.campaign(),
             }
             for to in 1..=SERVERS {
                 if what <= 80 && to != server.id {

@@ -89,9 +89,8 @@ impl<C: Ord + Copy + Drop> History<C> {
         }
     }
 
-    /// No other server may have led under a leader's id. Its last entry has to be its own, and it has to
-    /// have in its log all that was committed by leaders up to it. Servers that have promised its vote
-    /// have to have what it knows to match.
+    /// A leader is the only one of its id, its last entry is its own, and it has all that was committed by
+    /// leaders up to it. Those that have promised its vote have what it knows to match.
     fn check_leader<L: Copy + Eq + Drop>(&mut self, leader: &Server<L, C>, all: &[Server<L, C>]) {
         let Some(followers) = leader.followers() else {
             return;
