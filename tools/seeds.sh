@@ -13,7 +13,7 @@ run() {
     shift 3
     said=$(timeout 120 "$program" "$@" 2>&1)
     status=$?
-    told=$(grep -cE '^seed .*(committed at|not in the log of|does not settle)' <<< "$said")
+    told=$(grep -cE '^seed .*(committed at|not in the log of|unsettled by)' <<< "$said")
     echo "seeds $*: $told failed; $(grep ' settled$' <<< "$said")"
     if [ "$status" != "$due" ] || [ "$told" -lt "$least" ] || [ "$told" -gt "$most" ]; then
         failed=$((failed + 1))

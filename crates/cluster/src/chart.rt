@@ -10,15 +10,14 @@ const WIDTH: u64 = 8;
 
 /// What its signs mean, and the head of its columns.
 pub const LEGEND: &str = "\
-L leader, C candidate, F follower, l learner, with its term, and its log up to four indexes past the
-last commit: = purged, # committed, + in the log. A * is cut off from those without. Then, if one
-leads, how many entries a quorum has, and its members: voters (of each config, if two), +learners.
+L leader, C candidate, F follower, l no voter, with the greatest term that it knows of, and its log
+about the last commit: = purged, # committed, + in the log. A * is cut off from those without. Then,
+if one leads, how many entries a quorum has, and its members: voters (/ of two configs), +learners.
 event 1           2           3           4           5          has members | what happened
 ";
 
 impl<L: Copy + Eq + Drop, C: Ord + Copy + Drop> Cluster<L, C> {
-    /// Draws a line: what all servers are, with their terms and logs, what the last leader knows a
-    /// quorum to have, its members, and what each has done last since the last line.
+    /// Draws a line: what each server is and has, what the last leader counts, and what each did last.
     pub fn draw(&mut self, chart: &mut String) {
         let first = (self.history.committed.len() as u64).saturating_sub(WIDTH / 2);
         let _ = write!(chart, "{:>4} ", self.now);

@@ -61,26 +61,23 @@ impl<L: Leader> Cluster<L, L::Committed> {
         }
         self.cut = [false; 5];
         for _ in 0..10_000 {
-            if !self.is_settled() {
-                self.step(false);
-            }
+            self.step(false);
         }
-        let (is_settled, now) = (self.is_settled(), self.now);
-        self.history.require(is_settled, "does not settle by", now);
+        let is_settled = self.is_settled();
+        self.history.require(is_settled, "unsettled by", self.now);
         if every > 0 {
             self.draw(chart);
         }
         self.history.is_safe
     }
 
-    /// Something happens by chance, as long as all is well: a message comes in or time passes, and where
-    /// it is asked for more a server does something else, or the network is cut in two or whole again.
+    /// Something happens by chance, as long as all is well: a message comes in, time passes or, where more
+    /// is asked for than to settle, a server does something else, or the network is cut or whole again.
     fn step(&mut self, is_asked: bool) {
-        if self.history.is_safe {
+        if self.history.is_safe && (is_asked || !self.is_settled()) {
             self.now = self.now.saturating_add(1);
             match self.dice.random_range(0..100) {
-                what @ 56..=80 => self.act(what),
-                what @ 81..=96 if is_asked => self.act(what),
+                what @ 56..=96 if is_asked || what <= 80 => self.act(what),
                 97..=99 if is_asked => self.part(),
                 what => self.deliver(is_asked && what % 12 == 0, is_asked && what % 12 == 1),
             }
@@ -92,17 +89,18 @@ impl<L: Leader> Cluster<L, L::Committed> {
     fn act(&mut self, what: u64) {
         let place = self.dice.random_range(0..SERVERS) as usize;
         if let Some(server) = self.servers.get_mut(place) {
-            match (what, server.leader()) {
-                (96.., _) => server.restart(),
-                (92.., _) => server.compact(self.dice.random_range(1..5)),
-                (85.., Some(_)) => {
+            let leads = server.leader().is_some();
+            match what {
+                ..=80 if leads => server.end_change(),
+                ..=80 => server.campaign(),
+                81..=84 if leads => server.propose(EntryPayload::Normal(self.now)),
+                85..=91 if leads => {
                     let change = some_change(server.alloc, &mut self.dice);
                     server.change(change, self.dice.random());
                 }
-                (81.., Some(_)) => server.propose(EntryPayload::Normal(self.now)),
-                (81.., None) => {}
-                (_, Some(_)) => server.end_change(),
-                (_, None) => server.campaign(),
+                92..=95 => server.compact(self.dice.random_range(1..5)),
+                96.. => server.restart(),
+                _ => {}
             }
             for to in 1..=SERVERS {
                 if what <= 80 && to != server.id {
@@ -122,9 +120,11 @@ impl<L: Copy + Eq + Drop, C: Ord + Copy + Drop> Cluster<L, C> {
             return false;
         };
         let (members, last) = (leader.members(), leader.last());
-        let mut is_settled = self.servers.len() == 5 && !members.is_in_joint_consensus();
+        let mut is_settled = self.servers.len() as u64 == SERVERS
+            && !members.is_in_joint_consensus();
         for server in &self.servers {
-            is_settled &= server.state.committed == last || !members.contains(&server.id);
+            let is_done = server.last() == last && server.state.committed == last;
+            is_settled &= is_done || !members.contains(&server.id);
         }
         is_settled
     }

@@ -1,7 +1,7 @@
-//! What a follower makes of a leader's logs and snapshots, and what a server does at its log and disk.
+//! What a follower makes of a leader's logs and snapshots, and what a server does with log and disk.
 
 use crate::message::{Sent, end};
-use crate::server::{Fault, Leader, Role, Server};
+use crate::server::{Fault, Leader, Role, Server, TIMEOUT};
 use raft_base::{LogIdOf, LogStateReader, VoteIn, log_id_below};
 use raft_state::AcceptedIn;
 use raft_state_tests::turn::{Entry, Logs, Outcome, State, take_logs, take_snapshot};
@@ -19,11 +19,10 @@ impl<L: Leader> Server<L, L::Committed> {
             Sent::Logs(logs) if self.skips_writing(logs) => Ok(Outcome::Matches(logs.last())),
             Sent::Logs(logs) => take_logs(&mut self.state, logs),
         };
-        let is_cut = self.cut_disk();
-        if self.state.purged_next > purged_next {
-            self.note("installs");
-        } else if is_cut {
-            self.note("cut back");
+        match (self.cut_disk(), self.state.purged_next > purged_next) {
+            (_, true) => self.note("installs"),
+            (true, _) => self.note("cut back"),
+            _ => {}
         }
         if let Sent::Logs(logs) = sent {
             self.write(&logs.entries);
@@ -32,13 +31,13 @@ impl<L: Leader> Server<L, L::Committed> {
         taken.unwrap_or(Outcome::Refused)
     }
 
-    /// Starts again, if there is memory to, with its vote, and with what is on disk as if a leader sent
-    /// it. Its committed members tell what is committed: members are proposed once those before are.
+    /// Starts again, if there is memory to, with its vote and term, and takes what is on disk as if a
+    /// leader sent it. What is committed its members tell: they are proposed once those before are.
     pub fn restart(&mut self) {
         let Ok(mut state) = State::try_default(self.alloc) else {
             return;
         };
-        // That takes a committed vote. Who leads now is not known, so nothing is accepted.
+        // Both turns take a committed vote. Who leads now is not known, so nothing is accepted.
         state.vote.get_mut().commit();
         self.is_well &= take_snapshot(&mut state, &self.state.snapshot_meta).is_ok()
             && take_logs(&mut state, &self.disk).is_ok();
@@ -47,6 +46,7 @@ impl<L: Leader> Server<L, L::Committed> {
         drop(mem::replace(&mut self.state, state));
         self.cut_disk();
         self.set_role(Role::Follower);
+        self.waits = TIMEOUT;
         let known = *self.state.membership_state.committed().log_id();
         self.commit_to(known);
         // One that is known to be removed has its committed vote still.
@@ -78,7 +78,7 @@ impl<L: Copy + Eq + Drop, C: Ord + Copy + Drop> Server<L, C> {
     /// Whether a planted fault keeps entries from being written.
     fn skips_writing(&self, logs: &Logs<C>) -> bool {
         match (self.fault, logs.last()) {
-            (Some(Fault::NoWrite), _) => self.end() % 8 == 0,
+            (Some(Fault::NoWrite), Some(last)) => last.index % 8 == 7,
             (Some(Fault::NoCut), Some(last)) => last.index < self.end() && !self.has(last),
             _ => false,
         }

@@ -1,7 +1,7 @@
 //! What a candidate and a leader do.
 
 use crate::message::{Content, Sent, end};
-use crate::server::{Fault, Leader, PATIENCE, Role, Server};
+use crate::server::{Fault, Leader, Role, Server, TIMEOUT};
 use raft_base::{EmptyNode, LogIdOf, LogIdRangeOf, VoteIn};
 use raft_members::ChangeMembers;
 use raft_progress::{InflightOf, Progress, Tracked};
@@ -40,12 +40,12 @@ impl<L: Copy + Eq + Drop, C: Ord + Copy + Drop> Server<L, C> {
         }
     }
 
-    /// What it sends to another server next, if there is memory: a candidate asks for a vote; the leader
-    /// sends logs, a snapshot, or while one is in flight and where nothing comes next a heartbeat.
+    /// What it sends to another server next, if there is memory: as it begins a candidate asks for a vote;
+    /// a leader sends logs, a snapshot or, where nothing comes next or one is in flight, a heartbeat.
     pub fn next(&mut self, to: u64) -> Option<Content<C>> {
         let last = self.last();
-        if let Role::Candidate(_) = &self.role {
-            let is_asked = self.waits == PATIENCE && self.members().is_voter(&to);
+        if matches!(self.role, Role::Candidate(_)) {
+            let is_asked = self.waits == TIMEOUT && self.members().is_voter(&to);
             return is_asked.then_some(Content::AskVote(last));
         }
         let Role::Leader(followers) = &mut self.role else {
@@ -106,7 +106,7 @@ impl<L: Leader> Server<L, L::Committed> {
         }
     }
 
-    /// Appends an entry, as the leader. The first one of a cluster is of term 0, which has none.
+    /// Appends an entry, as the leader. The first one of a cluster is of term 0, which has no leader.
     pub fn propose(&mut self, payload: EntryPayload<u64, EmptyNode, u64>) {
         let leader = L::to_committed(&self.vote().leader_id);
         let log_id = LogIdOf::new(leader, self.end());

@@ -1,8 +1,8 @@
 //! A simulated Raft cluster over the crates of the layer, which is checked after each event.
 //!
 //! It is an example for callers and a trial of these crates, and no Raft to use: storage is prompt,
-//! time is a count of events, a message is a value, a snapshot comes whole, one request at a time is in
-//! flight to a follower, and there are no pre-votes, leases and reads of clients.
+//! time is a count of turns, a message is a value, a snapshot comes whole, one request at a time is in
+//! flight to a follower, and there are no pre-votes, leases or reads of clients.
 //!
 //! Its words: the first seed, how many seeds, how many events each, every how many events a line of
 //! its chart is printed (0: never); then `standard` for the leader ids of standard Raft, and a fault of
@@ -54,7 +54,8 @@ fn main(rt: HostRuntime) -> Result<()> {
         }
     }
     let mut chart = String::new(rt.alloc());
-    chart.push_str(chart::LEGEND)?;
+    let legend = if numbers[3] > 0 { chart::LEGEND } else { "" };
+    chart.push_str(legend)?;
     let settled = if is_standard {
         run::<leader_id_std::LeaderId<u64>>(&mut chart, numbers, fault)
     } else {

@@ -5,7 +5,7 @@ use crate::server::Leader;
 use rand::RngExt;
 
 impl<L: Leader> Cluster<L, L::Committed> {
-    /// A message comes in, unless it is lost. It may come again.
+    /// A message comes in, unless it is lost, and its answer goes out. It may come again.
     pub fn deliver(&mut self, is_lost: bool, comes_again: bool) {
         if !self.messages.is_empty() {
             let at = self.dice.random_range(0..self.messages.len());

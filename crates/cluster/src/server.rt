@@ -12,7 +12,7 @@ use std::mem;
 pub const SERVERS: u64 = 5;
 
 /// For how many of its turns a server waits for a leader.
-pub const PATIENCE: u64 = 4;
+pub const TIMEOUT: u64 = 4;
 
 /// The leader id of a vote, and what log ids keep of it.
 pub trait Leader: LeaderIdentity<Id = u64, Committed: Debug> + Drop {}
@@ -42,7 +42,7 @@ pub enum Fault {
     NoWrite,
 }
 
-/// A server. `L` is the leader id of a vote, and `C` what log ids keep of it.
+/// A server. `L` is the leader id of a vote, `C` what log ids keep of it, and `F` always its default.
 #[derive(Drop)]
 pub struct Server<L, C: Ord + Copy, F = Followers<C>> {
     pub alloc: Global,
@@ -52,10 +52,10 @@ pub struct Server<L, C: Ord + Copy, F = Followers<C>> {
     pub role: Role<F>,
     /// For how many more of its turns it waits for a leader.
     pub waits: u64,
-    /// The greatest term that it has heard of.
+    /// The greatest term that it has heard of, its vote's at least, and on disk as that is.
     pub term: u64,
     pub state: State<L, C>,
-    /// The entries of its log that are not purged.
+    /// The entries of its log that are not purged, on its disk, as logs after no log id.
     pub disk: Logs<C>,
     /// What it has done last, for the chart.
     pub note: String,
@@ -140,26 +140,26 @@ impl<L: Leader> Server<L, L::Committed> {
     pub fn receive(&mut self, message: &Message<L, L::Committed>) -> Option<Content<L::Committed>> {
         let (from, vote) = (message.from, message.vote);
         self.term = self.term.max(L::term(&vote.leader_id));
-        match &message.content {
-            Content::AskVote(last) => {
-                // A candidate's log may not be behind the own one.
-                let may_be = self.fault == Some(Fault::AnyCandidate)
-                    || !log_id_below(*last, self.last());
-                return Some(Content::Voted(may_be && self.promise(vote)));
-            }
+        let (own, content) = (self.last(), &message.content);
+        // A candidate's log may not be behind a voter's.
+        let is_behind = matches!(content, Content::AskVote(last) if log_id_below(*last, own));
+        let may_promise = !is_behind || self.fault == Some(Fault::AnyCandidate);
+        let is_promised = may_promise && self.promise(vote);
+        match content {
+            Content::AskVote(_) => return Some(Content::Voted(is_promised)),
             Content::Append(request, sent) => {
                 let (request, outcome) = (*request, self.follow(vote, sent));
                 return Some(Content::Responded(Response { request, outcome }));
             }
-            _ if !self.promise(vote) => {}
-            Content::Voted(is_voted) => self.count_vote(from, *is_voted),
-            Content::Responded(response) => self.take_response(from, response),
+            Content::Voted(is_voted) if is_promised => self.count_vote(from, *is_voted),
+            Content::Responded(response) if is_promised => self.take_response(from, response),
+            _ => {}
         }
         None
     }
 
-    /// Promises a vote, unless it is below the own one or does not compare with it, and waits anew for
-    /// that leader. With a greater one it does no longer what it did.
+    /// Promises a vote, unless it is below its own or does not compare with it, and waits anew for that
+    /// leader. With a greater one it does no longer what it did.
     pub fn promise(&mut self, vote: VoteIn<L>) -> bool {
         let own = self.vote();
         if vote > own {
@@ -167,7 +167,7 @@ impl<L: Leader> Server<L, L::Committed> {
             *self.state.vote.get_mut() = vote;
         }
         if vote >= own {
-            self.waits = PATIENCE;
+            self.waits = TIMEOUT;
         }
         vote >= own
     }

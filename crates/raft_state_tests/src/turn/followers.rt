@@ -6,7 +6,6 @@ use anyhow::{Result, ensure};
 use raft_base::{EmptyNode, LogIdOf, LogIdOptionExt};
 use raft_progress::{InflightOf, Progress, ProgressEntryOf, ProgressPart, Reply, Tracked};
 use std::alloc::AllocError;
-use std::slice;
 
 /// How many entries are sent at once.
 const MAX_ENTRIES: u64 = 4;
@@ -102,11 +101,6 @@ impl<C: Ord + Copy + Drop> Followers<C> {
     /// The last log id that a quorum has.
     pub fn granted(&self) -> Option<LogIdOf<C>> {
         *self.tracked.progress().granted()
-    }
-
-    /// What is known of each member.
-    pub fn iter(&self) -> slice::Iter<'_, (u64, ProgressEntryOf<C>)> {
-        self.tracked.progress().iter()
     }
 
     /// Whether a log id is of this leader.
