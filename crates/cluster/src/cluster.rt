@@ -71,8 +71,8 @@ impl<L: Leader> Cluster<L, L::Committed> {
         self.history.is_safe
     }
 
-    /// Something happens by chance, as long as all is well: a message comes in, time passes or, where more
-    /// is asked for than to settle, a server does something else, or the network is cut or whole again.
+    /// Something happens by chance, while all is safe and, where nothing is asked for, not settled: a
+    /// message comes in or time passes; if it is asked for, a server does more or the network is cut.
     fn step(&mut self, is_asked: bool) {
         if self.history.is_safe && (is_asked || !self.is_settled()) {
             self.now = self.now.saturating_add(1);

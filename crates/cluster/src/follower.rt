@@ -2,15 +2,15 @@
 
 use crate::message::{Sent, end};
 use crate::server::{Fault, Leader, Role, Server, TIMEOUT};
-use raft_base::{LogIdOf, LogStateReader, VoteIn, log_id_below};
+use raft_base::{LogIdOf, LogStateReader, log_id_below};
 use raft_state::AcceptedIn;
 use raft_state_tests::turn::{Entry, Logs, Outcome, State, take_logs, take_snapshot};
 use std::mem;
 
 impl<L: Leader> Server<L, L::Committed> {
-    /// Takes what a leader sends, unless it has promised a greater vote.
-    pub fn follow(&mut self, vote: VoteIn<L>, sent: &Sent<L::Committed>) -> Outcome<L::Committed> {
-        if !self.promise(vote) {
+    /// Takes what a leader sends, if it may follow that one, as it has promised its vote.
+    pub fn follow(&mut self, may_follow: bool, sent: &Sent<L::Committed>) -> Outcome<L::Committed> {
+        if !may_follow {
             return Outcome::Refused;
         }
         let purged_next = self.state.purged_next;

@@ -140,15 +140,15 @@ impl<L: Leader> Server<L, L::Committed> {
     pub fn receive(&mut self, message: &Message<L, L::Committed>) -> Option<Content<L::Committed>> {
         let (from, vote) = (message.from, message.vote);
         self.term = self.term.max(L::term(&vote.leader_id));
-        let (own, content) = (self.last(), &message.content);
+        let (own_last, content) = (self.last(), &message.content);
         // A candidate's log may not be behind a voter's.
-        let is_behind = matches!(content, Content::AskVote(last) if log_id_below(*last, own));
+        let is_behind = matches!(content, Content::AskVote(last) if log_id_below(*last, own_last));
         let may_promise = !is_behind || self.fault == Some(Fault::AnyCandidate);
         let is_promised = may_promise && self.promise(vote);
         match content {
             Content::AskVote(_) => return Some(Content::Voted(is_promised)),
             Content::Append(request, sent) => {
-                let (request, outcome) = (*request, self.follow(vote, sent));
+                let (request, outcome) = (*request, self.follow(is_promised, sent));
                 return Some(Content::Responded(Response { request, outcome }));
             }
             Content::Voted(is_voted) if is_promised => self.count_vote(from, *is_voted),
