@@ -1,10 +1,14 @@
 #!/usr/bin/env python3
-"""Writes the reference of each library, docs/reference/NAME.md, from its sources.
+"""Writes the pages of docs/reference: one for each library, and two for the definitions.
 
-A page has each public item by its shortest path: its first sentence, its signature with cases and
-fields, and its clauses as they stand. The pages for callers, CALLING.md, get a link for
-each call in the first column of their contracts. With `--check` nothing is written: a page that would
-change is refused, and so is a link of any document to a file or a heading that is not there.
+The page of a library has each public item by its shortest path: its first sentence, its signature
+with cases and fields, and its clauses as they are in the source. The page theorem.md has the
+definitions that the main theorem uses, and words.md has the meaning of each word of a contract. The
+pages for callers, CALLING.md, get a link for each call in the first column of their contracts.
+
+With `--check` the tool writes nothing. It refuses a page that would change, a link of any document
+to a file or a heading that is not there, and counts of the theorem's definitions that are not those
+of its page.
 """
 import collections
 import pathlib
@@ -13,6 +17,7 @@ import sys
 
 sys.dont_write_bytecode = True
 
+import definitions
 from sources import NOT_CODE, body_of, indent_of, is_there, public_paths, read_crates, resolve, split
 
 ROOT = pathlib.Path(__file__).resolve().parent.parent
@@ -31,11 +36,12 @@ TOLD = {"eq", "partial_cmp", "cmp", "is_clone", "is_default", "Value", "view", "
 
 TOP = """# Reference: `{crate}`
 
-Each public item by its shortest path: what it is for, its signature, what it asks of its caller (`requires`) and
-what it promises (`ensures`), as the sources have it. [CALLING.md](../../crates/{crate}/CALLING.md) is the way in, and
-has a first caller. What clauses name is defined in [specs](../../crates/{crate}/specs), and in words in
-[DEFINITIONS.md](../DEFINITIONS.md). A star marks a name of this project's own, which the original has not got.
-`tools/reference.py` writes this page.
+On this page you can look up each public item of the crate, by its shortest path: what it is for, its
+signature, its preconditions (`requires`) and its postconditions (`ensures`), as the source has them.
+[CALLING.md](../../crates/{crate}/CALLING.md) is the page to begin with, and has a first caller.
+[words.md](words.md) says what each word of a clause means, and
+[DEFINITIONS.md](../DEFINITIONS.md#how-a-clause-reads) how a clause is read. A star marks a name that
+this project adds to those of the original. `tools/reference.py` writes this page.
 """
 
 Impl = collections.namedtuple("Impl", "item trait_text type_text trait target")
@@ -312,6 +318,15 @@ class Reference:
         return "\n".join(lines) + "\n"
 
 
+NAMED = re.compile(r"\[`([^`]*)`\]\([^)]*\)|`([^`]*)`")
+
+
+def name_in(part):
+    """The name that a part of a cell is, as a link or as it is, if it is one."""
+    found = NAMED.fullmatch(part)
+    return (found[1] or found[2] or "") if found else ""
+
+
 class Linker:
     """What links the calls that a crate's page for callers names to their places in the reference."""
 
@@ -327,37 +342,45 @@ class Linker:
                     self.aliases[title] = reference.title(meant)
 
     def title_of(self, name, context):
-        """The item or call that a name means beside the type that was named last, if it means one."""
+        """The item or call that a name means beside the type or module that was named last, if it means one."""
         plain = re.sub(r"\(.*|<.*?>", "", name.strip())
         owner, mark, call = plain.rpartition("::")
         while mark and owner in self.aliases:
             owner = self.aliases[owner]
         plain = owner + mark + call
-        places = ["", *[f"{type_name}::" for type_name in [context, *self.traits.get(context, [])]]]
+        nearest = [context, *self.traits.get(context, []), context.rpartition("::")[0]]
+        places = [*[f"{place}::" for place in nearest if place], ""]
         within = [place + plain for place in places if place + plain in self.titles]
         alone = [title for title in self.titles if title.endswith(f"::{plain}")]
         return within[0] if within else alone[0] if len(alone) == 1 else None
 
-    def linked_name(self, name, context):
-        """A name as a link, or as it is."""
+    def linked_name(self, name, context, part=""):
+        """A name as a link, or as the part of a cell that it is."""
         title = self.title_of(name, context)
-        return f"[`{name.strip()}`]({self.page}#{anchor(title)})" if title else f"`{name.strip()}`"
+        return f"[`{name.strip()}`]({self.page}#{anchor(title)})" if title else part or f"`{name.strip()}`"
+
+    def context_after(self, title):
+        """The type or module beside which the names after an item or a call are read."""
+        owner = title.rpartition("::")[0]
+        return owner if owner in self.traits else title
 
     def linked_cell(self, cell):
         """A cell of a table with each of its names as a link."""
         context = ""
         parts = re.split(r"(\[`[^`]*`\]\([^)]*\)|`[^`]*`)", cell)
         for at, part in enumerate(parts):
-            name = part.strip("`") if part.startswith("`") else ""
+            name = name_in(part)
             if found := re.fullmatch(r"(.*)::\{(.*)\}", name):
                 context = self.title_of(found[1], "") or found[1]
                 first, *others = found[2].split(", ")
                 links = [self.linked_name(f"{found[1]}::{first}", "")]
                 parts[at] = ", ".join(links + [self.linked_name(other, context) for other in others])
             elif name:
-                title = self.title_of(name, context)
-                parts[at] = self.linked_name(name, context)
-                context = title.rpartition("::")[0] or title if title else context
+                owner = name_in(parts[at + 2]) if parts[at + 1] == " of " else ""
+                beside = self.title_of(owner, "") if owner else context
+                title = self.title_of(name, beside or "")
+                parts[at] = self.linked_name(name, beside or "", part)
+                context = self.context_after(title) if title else context
         return "".join(parts)
 
     def linked(self, text):
@@ -407,6 +430,8 @@ def main():
     """Writes the pages, or compares them with what the sources give."""
     reference = Reference(read_crates(ROOT), own_names((ROOT / "docs" / "DIFFERENCES.md").read_text()))
     pages = {PAGES / f"{crate}.md": reference.page(crate) for crate in reference.paths}
+    pages[PAGES / "theorem.md"], counts = definitions.page(ROOT)
+    pages[PAGES / "words.md"] = definitions.index(ROOT)
     for path in sorted(ROOT.glob("crates/*/CALLING.md")):
         pages[path] = Linker(reference, path.parts[-2]).linked(path.read_text())
     if "--check" not in sys.argv:
@@ -419,7 +444,10 @@ def main():
         if not path.exists() or path.read_text() != text
     ]
     faults += [f"{path.relative_to(ROOT)}: of no library" for path in PAGES.glob("*.md") if path not in pages]
-    faults += [f"a link leads nowhere: {link}" for link in broken_links(read_documents())]
+    documents = read_documents()
+    faults += [f"a link leads nowhere: {link}" for link in broken_links(documents)]
+    for path, claimed in definitions.wrong_counts(documents, counts):
+        faults.append(f"{path.relative_to(ROOT)}: not the counts of the theorem's page: {claimed}")
     for fault in faults:
         print(f"reference: {fault}")
     print(f"reference: {len(pages)} pages, {len(faults)} faults")

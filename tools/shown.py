@@ -1,17 +1,28 @@
 #!/usr/bin/env python3
-"""Compares the programs and scripts that documents show with the files of the crates.
+"""Compares what documents show with the files of the crates, and checks the examples of the tests.
 
 Each block of Rust in a document stands in one file of the crates: its `use` lines name what that
 file uses, and its other parts, from one empty line to the next, stand there as they are printed.
 Only clauses may be left out, and on a page for callers no `use` of a name that the program has. Each
 table of a script has the lines and replies of a script's files.
+
+An example is some calls with the results that they must have, worked out before the code was
+written. A test says in its docs which examples it runs, each in a paragraph that begins with
+`/// Example progress 14. `: the crate without `raft_`, and a number. Each number must be found.
+
+    python3 tools/shown.py              compares and checks
+    python3 tools/shown.py --examples   lists the examples, each with its test
 """
+import itertools
 import pathlib
 import re
 import sys
 
 ROOT = pathlib.Path(__file__).resolve().parent.parent
 USE = re.compile(r"\s*(?:pub )?((?:ghost )?use) (.*);")
+EXAMPLE = re.compile(r"\s*/// Example (\w+) (\d+)\. (.*)")
+# How many examples each crate has: `raft_base` and so on, without `raft_`.
+EXAMPLES = {"base": 6, "members": 10, "progress": 22, "state": 8, "script": 6}
 
 
 def names_of(line):
@@ -94,8 +105,47 @@ def scripts_of(text):
         yield [line for line, _ in rows], [reply for _, reply in rows if reply]
 
 
+def test_below(lines, at):
+    """The test whose docs a line is in, if it is in those of a test."""
+    head = list(itertools.takewhile(lambda line: line.lstrip().startswith(("///", "#[")), lines[at:]))
+    name = re.match(r"\s*fn (\w+)", lines[at + len(head)]) if "#[test]" in map(str.strip, head) else None
+    return name and name[1]
+
+
+def examples():
+    """The examples of the tests: crate and number of each, its place, its test and how it begins."""
+    for path in sorted([*ROOT.glob("crates/*_tests/src/**/*.rt"), *ROOT.glob("crates/raft_*/src/tests/**/*.rt")]):
+        lines = path.read_text().splitlines()
+        for at, line in enumerate(lines):
+            if example := EXAMPLE.match(line):
+                place = f"{path.relative_to(ROOT)}:{at + 1}"
+                yield (example[1], int(example[2])), place, test_below(lines, at), example[3]
+
+
+def example_faults():
+    """The numbers of examples that no test has, and the examples that are not above a test or have no number."""
+    due = {(crate, number) for crate, count in EXAMPLES.items() for number in range(1, count + 1)}
+    found = list(examples())
+    for crate, number in sorted(due - {key for key, _, test, _ in found if test}):
+        yield f"no test has example {crate} {number}"
+    for (crate, number), place, test, _ in found:
+        if not test:
+            yield f"{place}: example {crate} {number} is not above a test"
+        if (crate, number) not in due:
+            yield f"{place}: example {crate} {number} is not among the numbers of EXAMPLES"
+
+
+def list_examples():
+    """Prints the examples in the order of their crates and numbers."""
+    order = list(EXAMPLES)
+    for (crate, number), place, test, text in sorted(examples(), key=lambda one: (order.index(one[0][0]), one[0][1])):
+        print(f"{crate} {number}: {place} {test}: {text}")
+
+
 def main():
-    """Looks each shown program up, and tells of those that stand nowhere."""
+    """Looks up each program that a document shows, and prints those that no file has, and wrong examples."""
+    if "--examples" in sys.argv:
+        return list_examples()
     crates = ROOT / "crates"
     files = [path.read_text() for path in sorted(crates.glob("*/src/**/*.rt"))]
     scripts = [
@@ -118,8 +168,11 @@ def main():
         for place, stands in enumerate(shown, 1):
             if not stands:
                 print(f"shown: {document.relative_to(ROOT)}: the program {place} stands in no file")
-    print(f"shown: {found} stand in the crates, {failed} do not")
-    return failed > 0
+    faults = list(example_faults())
+    for fault in faults:
+        print(f"shown: {fault}")
+    print(f"shown: {found} stand in the crates, {failed} do not; {sum(EXAMPLES.values())} examples, {len(faults)} faults")
+    return failed + len(faults) > 0
 
 
 if __name__ == "__main__":

@@ -36,6 +36,9 @@ fn leaders_compare_as(a: &Vote<u64>, b: &Vote<u64>, want: Option<Ordering>) -> b
     compare_standard_leader_ids(a.leader_id(), b.leader_id()) == want
 }
 
+/// Example base 2. Of standard Raft, leader and vote (2, 2) are above (1, 2) and (2, none), and
+/// do not compare with (2, 3). Committed votes (2, 1) and (2, 2) are above (2, 2), and do not
+/// compare with committed (2, 3).
 #[test]
 fn votes_of_one_term_need_not_compare(rt: HostRuntime) -> Result<(), Fail> {
     let greater = Some(Ordering::Greater);

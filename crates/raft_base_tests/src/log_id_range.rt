@@ -49,6 +49,8 @@ fn display(alloc: Global) -> Result<bool, AllocError> {
     )
 }
 
+/// Example base 4. A range from index 5 to no index or to 4 breaks `RangeOrder`.
+/// Example base 6. The texts of ranges.
 #[test]
 fn ranges(rt: HostRuntime) -> Result<(), Fail> {
     refuse_each(rt.alloc());

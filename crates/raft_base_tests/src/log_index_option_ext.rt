@@ -32,6 +32,8 @@ fn indexes_read(id: &LogIdOf<CommittedLeaderId>) -> bool {
         && (there.has_next_index() && absent.has_next_index() && Some(id).has_next_index())
 }
 
+/// Example base 3. No index and 0 more is no index, and 3 more is 2. Index 7 and 0 more is 7.
+/// Nothing is before index 0.
 #[test]
 fn indexes_may_be_absent(rt: HostRuntime) -> Result<(), Fail> {
     assert!(rt; steps_lead());

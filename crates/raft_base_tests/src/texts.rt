@@ -105,6 +105,8 @@ fn invalid_displays(alloc: Global) -> Result<bool, AllocError> {
     Ok(true)
 }
 
+/// Example base 6. The texts of leaders, votes, log ids, nodes, stamped values and broken
+/// relations.
 #[test]
 fn texts(rt: HostRuntime) -> Result<(), Fail> {
     assert!(rt; display(rt.alloc())?);

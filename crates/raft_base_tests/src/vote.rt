@@ -98,6 +98,8 @@ fn votes_compare(a: Voted, b: Voted, want: Ordering) -> bool {
         && (a.2 != b.2 || leaders_agree)
 }
 
+/// Example base 1. Leader and vote (2, 2) are above (1, 2) and (2, 1), and equal themselves.
+/// The vote is below itself committed.
 #[test]
 fn a_term_decides_then_the_node_then_being_committed(rt: HostRuntime) -> Result<(), Fail> {
     let rows: [(Voted, Voted, Ordering); 8] = [

@@ -20,6 +20,7 @@ fn is_enough(alloc: Global, given: Given<'_>, need: usize, ids: &[u64]) -> Resul
 }
 
 // What is given and shown, how many are needed, the ids asked, and whether they are a quorum.
+/// Example members 6. Two of 0 to 4: {0, 1} and {2, 3} are quorums that share no voter.
 #[test]
 fn a_quorum_has_as_many_as_needed(rt: HostRuntime) -> Result<(), Fail> {
     let three: Given<'static> = (&[3, 1, 2, 1], &[1, 2, 3]);

@@ -35,6 +35,8 @@ const ROWS: &str = "
 5,7/4,9/3 3=3,5=5 replace-nodes 3=3 retain err LearnerNotFound 4
 ";
 
+/// Example members 7. Configs {1, 2} and nodes 1 to 3: each change of voters and of nodes, with
+/// and without `retain`, and each refusal. Two steps lead from {1, 2} to {1, 3} by {2, 3}.
 #[test]
 fn changes_have_their_worked_answers(rt: HostRuntime) -> Result<(), Fail> {
     for line in ROWS.trim().lines() {
@@ -55,6 +57,7 @@ fn is_accepted(alloc: Global, kind: &str) -> Result<bool, AllocError> {
 }
 
 // A change that always lacks memory fails here: each kind is accepted in ample memory.
+/// Example members 9. Each kind of change is accepted if there is memory.
 #[test]
 fn each_kind_is_accepted(rt: HostRuntime) -> Result<(), Fail> {
     for kind in KINDS {

@@ -15,6 +15,8 @@ fn leads_to(
     Ok(from.find_coherent(alloc, goal.to_vec(alloc)?)? == *want)
 }
 
+/// Example members 5. From two configs the step to a third one gives the second and the third,
+/// and the step to the first gives the first alone. From no config it gives the goal.
 #[test]
 fn the_next_joint_shares_a_child(rt: HostRuntime) -> Result<(), Fail> {
     let rows: [(&[&[u64]], &[u64], &[&[u64]]); 3] = [

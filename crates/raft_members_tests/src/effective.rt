@@ -21,6 +21,8 @@ fn answers(shared: &Rc<Effective>, ids: &[u64], want: bool) -> Result<bool, Allo
 }
 
 // Configs, ids, whether they are a quorum; a repeated id counts as often as it comes.
+/// Example members 1. An effective membership of {1, 2, 3, 4, 5} and {6, 7, 8} has the quorums
+/// of their joint.
 #[test]
 fn configs_are_a_quorum_set(rt: HostRuntime) -> Result<(), Fail> {
     let rows: [(&str, &[u64], bool); 9] = [

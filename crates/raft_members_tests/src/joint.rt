@@ -23,6 +23,8 @@ pub fn joint_answers(shared: &Rc<Sets>, ids: &[u64], want: bool) -> bool {
 }
 
 // A repeated id is counted as often as it comes, in each child.
+/// Example members 1. The joint of {1, 2, 3, 4, 5} and {6, 7, 8}: neither [1, 2, 3] nor [6, 7]
+/// is a quorum, and [1, 2, 3, 6, 7] is one.
 #[test]
 fn a_joint_asks_each_child(rt: HostRuntime) -> Result<(), Fail> {
     let rows: [(&[u64], bool); 6] = [
@@ -65,6 +67,7 @@ fn takes_every_set(joint: &Configs) -> bool {
     joint.is_quorum(&[]) && joint.is_quorum(&[1]) && borrowed.is_quorum(&[])
 }
 
+/// Example members 4. Without children each list of ids is a quorum.
 #[test]
 fn without_children_every_set_is_a_quorum(rt: HostRuntime) -> Result<(), Fail> {
     let joint: Configs = Joint::try_default(rt.alloc())?;

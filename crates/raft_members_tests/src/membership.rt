@@ -66,6 +66,7 @@ pub fn each_answers(lacking: &Members, empty: &Members) -> bool {
         && empty.ensure_non_empty_config() == Err(EmptyMembership {})
 }
 
+/// Example members 8. Config {1, 2} and node 1: `ensure_voter_nodes` reports 2.
 #[test]
 fn each_test_answers_by_itself(rt: HostRuntime) -> Result<(), Fail> {
     let lacking = members(rt.alloc(), "1,2", "1=1")?;

@@ -15,6 +15,8 @@ pub fn each_answers(vector: &Vec<u64>, set: &BTreeSet<u64>, ids: &[u64], want: b
 }
 
 // Voters, ids, whether they are a quorum. No contract speaks of repeated ids: each is counted.
+/// Example members 2. Of an empty list [1] is no quorum.
+/// Example members 3. Of the list [1, 2, 3] the ids [1, 1] are a quorum.
 #[test]
 fn a_quorum_is_more_than_half(rt: HostRuntime) -> Result<(), Fail> {
     let rows: [(&[u64], &[u64], bool); 9] = [
@@ -39,6 +41,7 @@ fn a_quorum_is_more_than_half(rt: HostRuntime) -> Result<(), Fail> {
     Ok(())
 }
 
+/// Example members 2. Of the list [1, 1, 1, 1, 2] the ids [1, 2] are no quorum.
 #[test]
 fn a_list_measures_by_its_length(rt: HostRuntime) -> Result<(), Fail> {
     let voters = [1u64, 1, 1, 1, 2].to_vec(rt.alloc())?;

@@ -78,6 +78,7 @@ fn addresses_print(alloc: Global) -> Result<bool, AllocError> {
     displays(alloc, &membership, text)
 }
 
+/// Example members 10. The texts of memberships.
 #[test]
 fn memberships_print(rt: HostRuntime) -> Result<(), Fail> {
     let rows = [
@@ -267,6 +268,7 @@ fn initialize_errors_are_cloned(alloc: Global) -> Result<bool, AllocError> {
     Ok(equals_its_clones(&refused, &outside)? && equals_its_clones(&outside, &refused)?)
 }
 
+/// Example members 10. The texts of errors.
 #[test]
 fn errors_print(rt: HostRuntime) -> Result<(), Fail> {
     assert!(rt; change_errors_print(rt.alloc())?);
@@ -311,6 +313,7 @@ fn progress_displays(
     displays(alloc, &progress, text.as_str())
 }
 
+/// Example members 10. The texts of refusals.
 #[test]
 fn refusals_print(rt: HostRuntime) -> Result<(), Fail> {
     assert!(rt; refusals_display(rt.alloc())?);

@@ -36,6 +36,7 @@ const FIVE_OF_FIVE: Updates<'static> = &[(0, 5, 0), (1, 3, 0), (2, 4, 0), (3, 6,
 
 const SIX_OF_FIVE: Updates<'static> = &[(0, 5, 0), (1, 3, 0), (2, 4, 0), (3, 6, 0), (4, 2, 0)];
 
+/// Example progress 16. Quorums of two, five and six of 0 to 4.
 #[test]
 fn as_many_as_needed_grant(rt: HostRuntime) -> Result<(), Fail> {
     let alloc = rt.alloc();
@@ -46,6 +47,7 @@ fn as_many_as_needed_grant(rt: HostRuntime) -> Result<(), Fail> {
     Ok(())
 }
 
+/// Example progress 16. An upgrade from two to three of 0 to 4: granted is 5.
 #[test]
 fn an_upgrade_may_need_more(rt: HostRuntime) -> Result<(), Fail> {
     let alloc = rt.alloc();

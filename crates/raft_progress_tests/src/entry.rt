@@ -310,6 +310,9 @@ fn is_as_worked<C: Numbered>(alloc: Global) -> Result<bool, AllocError> {
     )
 }
 
+/// Example progress 18. The search by probes at 47 and 15, and the search that ends at purge
+/// point 4; sends after the match, without limit, of no entries and past the end; heartbeats;
+/// responses that nobody asked for; states in which no send is allowed.
 #[test]
 fn responses_and_sends_are_as_worked(rt: HostRuntime) -> Result<(), Fail> {
     assert!(rt; is_as_worked::<LeaderId<u64>>(rt.alloc())?);
@@ -363,6 +366,8 @@ pub fn reads_back<C: Numbered>() -> bool {
         && starts::<C>(&at(id(1, 4), 4, 7, InflightOf::None)) == None
 }
 
+/// Example progress 19. `sending_start` of entries that end at 32, 15 and 0, and the relations
+/// that an entry must keep.
 #[test]
 fn entries_read_back_and_are_validated(rt: HostRuntime) -> Result<(), Fail> {
     assert!(rt; is_validated::<LeaderId<u64>>() && reads_back::<LeaderId<u64>>());

@@ -280,6 +280,8 @@ fn any_events_are_answered(alloc: Global) -> Result<bool, AllocError> {
     Ok(has_each(&met) && met_as_by_the_table(&logs, 10_000, 10_000).is_some())
 }
 
+/// Example progress 21. Ten thousand random events, against a table: ten events for each of a
+/// thousand entries, and all events for one entry.
 #[test]
 fn any_events_are_answered_as_by_the_table(rt: HostRuntime) -> Result<(), Fail> {
     assert!(rt; any_events_are_answered(rt.alloc())?);

@@ -115,6 +115,8 @@ pub fn others_read_back() -> bool {
         && logs::<LeaderId<u64>>(1, id(1, 5), id(1, 4)).validate() == Err(Invalid::RangeOrder)
 }
 
+/// Example progress 17. Logs from (1, 5) to (3, 10) and a snapshot in flight: each ack and each
+/// conflict.
 #[test]
 fn responses_are_answered_case_by_case(rt: HostRuntime) -> Result<(), Fail> {
     assert!(rt; acks_are_answered::<LeaderId<u64>>() && acks_are_answered::<CommittedLeaderId>());

@@ -47,6 +47,8 @@ fn make_noted(rt: &HostRuntime, part: u64, text: &str) -> Result<Noted, AllocErr
     })
 }
 
+/// Example progress 13. Values of a number and a text, compared by the number: granted is 0, 0,
+/// 2, 2.
 #[test]
 fn values_hold_a_text(rt: HostRuntime) -> Result<(), Fail> {
     let alloc = rt.alloc();
@@ -146,6 +148,8 @@ fn tracked_grants(alloc: Global) -> Result<bool, AllocError> {
     Ok(replies.as_slice() == GRANTED.as_slice())
 }
 
+/// Example progress 15. Voters 1 to 3 over log ids of standard Raft, updates (1, 5), (2, 3),
+/// (2, 1): granted is none, (1, 5), (2, 1).
 #[test]
 fn log_ids_are_granted_by_term_then_index(rt: HostRuntime) -> Result<(), Fail> {
     assert!(rt; grants(&rt, rt.alloc())? && tracked_grants(rt.alloc())?);

@@ -128,6 +128,8 @@ const UPGRADE: Script = Script {
 };
 
 // An upgrade that always lacks memory fails here.
+/// Example progress 6. Voters 0 to 2, updates (0, 5), (1, 6), then voters 2 to 4 with learner
+/// 1: granted is 0, 5, 0. Id 1 keeps 6.
 #[test]
 fn an_upgrade_is_made(rt: HostRuntime) -> Result<(), Fail> {
     assert!(rt; plays(&rt, rt.alloc(), &[0, 1, 2], &[], &UPGRADE)?);
@@ -171,6 +173,8 @@ fn may_upgrade(alloc: Global, progress: &Numbers) -> Result<bool, AllocError> {
     )
 }
 
+/// Example progress 5. After three updates an upgrade to the same voters: with default 1 the
+/// reply is `BelowDefault(2)`, with learners 5, 5 it is `BadLearners`.
 #[test]
 fn upgrades_are_refused(rt: HostRuntime) -> Result<(), Fail> {
     let alloc = rt.alloc();
@@ -195,6 +199,8 @@ const UPDATES: Script = Script {
 };
 
 // A replay goes on after a refused step, and one that always lacks memory fails here.
+/// Example progress 7. Voters 1 to 3, updates (1, 4), (2, 6), (2, 5), (7, 1): granted 0,
+/// granted 4, would fall, unknown id with granted 4.
 #[test]
 fn a_replay_goes_on_after_a_refused_step(rt: HostRuntime) -> Result<(), Fail> {
     assert!(rt; plays(&rt, rt.alloc(), &[1, 2, 3], &[], &UPDATES)?);

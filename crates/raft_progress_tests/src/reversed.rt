@@ -73,6 +73,8 @@ fn lacking(alloc: Global) -> Result<Membership<Reversed, EmptyNode>, AllocError>
     Membership::new_unchecked(configs, ())
 }
 
+/// Example progress 14. If the order of ids is reversed, voter 2 is the first that lacks its
+/// node.
 #[test]
 fn the_first_voter_without_a_node_is_the_greatest_number(rt: HostRuntime) -> Result<(), Fail> {
     let lacking = lacking(rt.alloc())?;
@@ -91,6 +93,7 @@ fn walks(progress: &Progress, want: &[u64]) -> bool {
         .eq(want.iter().copied())
 }
 
+/// Example progress 14. If the order of ids is reversed, a new progress has 2 before 1.
 #[test]
 fn a_new_progress_walks_the_greatest_number_first(rt: HostRuntime) -> Result<(), Fail> {
     let alloc = rt.alloc();
@@ -99,6 +102,7 @@ fn a_new_progress_walks_the_greatest_number_first(rt: HostRuntime) -> Result<(),
     Ok(())
 }
 
+/// Example progress 1. If the order of ids is reversed, granted is the same.
 #[test]
 fn the_order_of_ids_grants_nothing(rt: HostRuntime) -> Result<(), Fail> {
     let alloc = rt.alloc();

@@ -104,6 +104,9 @@ fn is_as_worked<C: Numbered>(alloc: Global) -> Result<bool, AllocError> {
     Ok(halves(&hundred) && ends_with_a_snapshot(&purged, &whole))
 }
 
+/// Example progress 20. The searches of `entry.rt` as lists of events: 2, 2, 1 and 1 conflicts
+/// are accepted. The searching end is 7 after a heartbeat of 30. A send is skipped after its
+/// purge point has gone back.
 #[test]
 fn searches_are_as_worked(rt: HostRuntime) -> Result<(), Fail> {
     assert!(rt; is_as_worked::<LeaderId<u64>>(rt.alloc())?);

@@ -218,6 +218,11 @@ fn compare(rt: &impl Abort, alloc: Global, row: &Row<'_>) -> Result<(), AllocErr
     Ok(())
 }
 
+/// Example progress 1. Voters 0 to 4, learner 6, ten updates: granted is 0, 0, 0, 1, 2, 3, 3,
+/// 3, 4, and then the id is unknown.
+/// Example progress 2. Voters 0 to 4, by updates and by replays: granted, the order of the
+/// entries, the updates, the moves and the quorum tests. There are at most as many tests as the
+/// number of voters has binary digits.
 #[test]
 fn updates_answer_as_worked(rt: HostRuntime) -> Result<(), Fail> {
     for row in &ROWS {
@@ -226,6 +231,8 @@ fn updates_answer_as_worked(rt: HostRuntime) -> Result<(), Fail> {
     Ok(())
 }
 
+/// Example progress 3. Voters 0 to 99, updates (i, i + 1) for i from 0 to 50: granted is 0
+/// fifty times, then 1.
 #[test]
 fn a_hundred_voters(rt: HostRuntime) -> Result<(), Fail> {
     let mut risen = [(0, 0, Ok(0)); 51];
@@ -246,6 +253,8 @@ fn counts_are(stat: &Stat, moves: u64, tests: u64) -> bool {
 /// and the walk that it leaves.
 type UpgradeRow<'a> = (&'a [u64], &'a [u64], u64, u64, &'a [(u64, u64)]);
 
+/// Example progress 6. The upgrade from voters 0 to 2 to voters 2 to 4, over a quorum set that
+/// counts its calls.
 #[test]
 fn an_upgrade_counts_its_calls(rt: HostRuntime) -> Result<(), Fail> {
     let alloc = rt.alloc();

@@ -12,6 +12,7 @@ use raft_progress::progress::VecProgress;
 use std::alloc::{AllocError, Global};
 use std::test::Fail;
 
+/// Example progress 22. The text of a progress.
 #[test]
 fn a_progress_prints(rt: HostRuntime) -> Result<(), Fail> {
     let alloc = rt.alloc();
@@ -40,6 +41,7 @@ fn entries_display(alloc: Global) -> Result<bool, AllocError> {
     )
 }
 
+/// Example progress 22. The texts of entries.
 #[test]
 fn entries_print(rt: HostRuntime) -> Result<(), Fail> {
     assert!(rt; entries_display(rt.alloc())?);
@@ -112,6 +114,7 @@ fn refusals_display(alloc: Global) -> Result<bool, AllocError> {
     Ok(true)
 }
 
+/// Example progress 22. The texts of what is in flight and of its refusals.
 #[test]
 fn what_is_in_flight_prints(rt: HostRuntime) -> Result<(), Fail> {
     assert!(rt; in_flight_displays(rt.alloc())?);

@@ -109,6 +109,8 @@ fn has_equal_clone(cluster: &TrackedNumbers) -> Result<bool, AllocError> {
     Ok(cluster.try_clone()? == *cluster)
 }
 
+/// Example progress 8. Voters 1 and 2, learner 3: ten steps in one list, of which half are
+/// refused. The replies and the end.
 #[test]
 fn a_replay_goes_on_after_each_refusal(rt: HostRuntime) -> Result<(), Fail> {
     let alloc = rt.alloc();

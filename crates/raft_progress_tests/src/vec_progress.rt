@@ -41,6 +41,8 @@ pub fn writes(progress: &mut Numbers, id: u64, value: u64) -> bool {
     }
 }
 
+/// Example progress 12. Voters 0 to 4, learners 6 and 7: who is a voter; the value of 6 is 5,
+/// and 10 after `get_mut`; 9 is unknown.
 #[test]
 fn reads(rt: HostRuntime) -> Result<(), Fail> {
     let alloc = rt.alloc();
@@ -52,6 +54,8 @@ fn reads(rt: HostRuntime) -> Result<(), Fail> {
     Ok(())
 }
 
+/// Example progress 9. Voters 0 to 2, learner 5: writes of 9 and 0 in place lose the order and
+/// restore it.
 #[test]
 fn order_is_lost_by_a_write_and_found_again(rt: HostRuntime) -> Result<(), Fail> {
     let alloc = rt.alloc();
@@ -84,6 +88,8 @@ fn has_learner_eight(progress: &Numbers) -> Result<bool, AllocError> {
     )
 }
 
+/// Example progress 10. Voters 0 to 2, learner 5: `iter_mut` makes the learner 8, at position
+/// 3. Then 5 is unknown, and `update` of 8 returns 0.
 #[test]
 fn an_id_is_changed_through_iter_mut(rt: HostRuntime) -> Result<(), Fail> {
     let alloc = rt.alloc();
@@ -119,6 +125,8 @@ fn is_fit(alloc: Global, learners: &[u64], want: bool) -> Result<bool, AllocErro
     Ok(Numbers::learners_fit(alloc, &voters, learners)? == want)
 }
 
+/// Example progress 11. Voters 0 to 2: learners 6, 6 and learner 0 do not fit, and no learners
+/// fit.
 #[test]
 fn learners_stand_once_and_are_no_voters(rt: HostRuntime) -> Result<(), Fail> {
     let rows: [(&[u64], bool); 3] = [(&[6, 6], false), (&[0], false), (&[], true)];
@@ -198,6 +206,11 @@ type UpgradeRow<'a> = (
     &'a [(u64, u64, u64)],
 );
 
+/// Example progress 4. {0, 1, 2} with learner 5, then {0, 1, 2} and {3, 4, 5} with learner 6,
+/// then {3, 4, 5} with learner 1: granted is 0, 5, 5, 0, 5, 5, 8. Id 5 keeps 9 and id 1 keeps
+/// 6.
+/// Example progress 5. Over a joint, after three updates, an upgrade to the same voters: with
+/// default 1 the reply is `BelowDefault(2)`, with learners 5, 5 it is `BadLearners`.
 #[test]
 fn upgrades_through_a_joint(rt: HostRuntime) -> Result<(), Fail> {
     let alloc = rt.alloc();

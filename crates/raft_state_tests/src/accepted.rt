@@ -65,6 +65,8 @@ fn takes_accepted<K: LeaderKind<u64>>(alloc: Global) -> Result<bool, AllocError>
     Ok(accepts::<K>(&mut state) && is_of_its_node::<K>())
 }
 
+/// Example state 5. Leader (5, 10) has sent the log id of leader (6, 2) at index 3: accepted is
+/// this log id for leader (5, 10), and none for (6, 10) and (4, 10).
 #[test]
 fn what_is_accepted_is_of_its_leader(rt: HostRuntime) -> Result<(), Fail> {
     assert!(rt; takes_accepted::<LeaderAdv>(rt.alloc())?);

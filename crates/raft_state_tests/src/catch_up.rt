@@ -74,6 +74,9 @@ pub fn is_as_worked<K: LeaderKind<u64>>(
     Ok(rounds_right::<K>(&state, &mut progress) && catches_up_right::<K>(&state, &purged))
 }
 
+/// Example state 7. A log from 0 to 99: a follower that agrees up to 70 takes 1 conflict and 6
+/// acks, and one that agrees up to 0 takes 2 and 10. Two rounds of voters 1 to 3 and learner 4:
+/// granted is none, then (1, 99).
 #[test]
 fn followers_are_caught_up(rt: HostRuntime) -> Result<(), Fail> {
     assert!(rt; is_as_worked::<LeaderAdv>(&rt, rt.alloc())?);

@@ -87,6 +87,8 @@ is_key_list 2.1,1.2 - false
 is_key_list 1.1,3.2,2.3 - false
 ";
 
+/// Example state 1. Keys (1, 1), (2, 3), (2, 9) and others: `truncate`, `purge`, `append`,
+/// `extend`, `get`, the keys of the last leader, and the tests of preconditions.
 #[test]
 fn calls_are_right(rt: HostRuntime) -> Result<(), Fail> {
     for line in ROWS.trim().lines() {

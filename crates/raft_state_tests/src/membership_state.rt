@@ -171,6 +171,8 @@ fn memberships_right<K: LeaderKind<u64>>(alloc: Global) -> Result<bool, AllocErr
     Ok(move_right::<K>(&from) && from == same && holds(apply_right::<K>(alloc, &mut from)))
 }
 
+/// Example state 2. Committed at (1, 1), effective at (2, 10): the membership of a snapshot at
+/// (10, 5) up to 4 and up to 10, truncations at 10 and 11, and a change in progress.
 #[test]
 fn memberships_move(rt: HostRuntime) -> Result<(), Fail> {
     let alloc = rt.alloc();

@@ -77,6 +77,8 @@ fn written_log_prints(alloc: Global) -> Result<bool, AllocError> {
     )
 }
 
+/// Example state 8. The texts of entries, of the memberships of a node, of a written log, and
+/// of the error that forwards.
 #[test]
 fn texts(rt: HostRuntime) -> Result<(), Fail> {
     let alloc = rt.alloc();
@@ -136,6 +138,7 @@ fn forwards(alloc: Global) -> Result<bool, AllocError> {
     )
 }
 
+/// Example state 8. The text of a new state.
 #[test]
 fn a_new_state_prints(rt: HostRuntime) -> Result<(), Fail> {
     assert!(rt; print(rt.alloc())? && forwards(rt.alloc())?);

@@ -346,6 +346,10 @@ fn state_right<K: LeaderKind<u64>>(alloc: Global) -> Result<bool, AllocError> {
     )
 }
 
+/// Example state 3. Keys (1, 1), (3, 4), the valid state; `purged_next` 3; purge point (3, 0),
+/// and (3, 0) committed too, which is valid and not in the log.
+/// Example state 4. Vote (1, 3) committed, voters {1, 2}, nodes 1 => 4, 2 => 5, 3 => 6:
+/// requests are forwarded to node 3 at 6. A standard vote for nobody forwards them to nobody.
 #[test]
 fn a_state_validates_reads_and_moves(rt: HostRuntime) -> Result<(), Fail> {
     let alloc = rt.alloc();
@@ -433,6 +437,8 @@ fn sends_and_commits_right<K: LeaderKind<u64>>(
     sends_and_commits::<K>(rt, alloc, &mut valid_state::<K>(alloc)?)
 }
 
+/// Example state 6. The valid state sends logs from (1, 1) to (3, 4), takes the conflict at 1,
+/// and sends an absent snapshot.
 #[test]
 fn a_leader_sends_and_commits(rt: HostRuntime) -> Result<(), Fail> {
     let alloc = rt.alloc();

@@ -65,6 +65,8 @@ change add-ids 4 retain -
 change add-voters 4 retain 0
 change Add 4 retain 0";
 
+/// Example script 3. Odd numbers, lists, words and bytes; lines that are incomplete or have a
+/// word too many.
 #[test]
 fn names_bad_lines(rt: HostRuntime) -> Result<(), Fail> {
     for line in BAD_LINES.split(|byte| *byte == b'\n') {

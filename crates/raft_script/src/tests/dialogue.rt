@@ -101,6 +101,7 @@ fn assert_read_fault<R: Abort>(rt: &R, alloc: Global, bad: u64) -> bool {
     true
 }
 
+/// Example script 5. A read that fails, at each turn.
 #[test]
 fn tells_of_a_failing_reader(rt: HostRuntime) {
     let mut faults = 0;
@@ -130,6 +131,7 @@ fn assert_write_fault<R: Abort>(rt: &R, alloc: Global, bad: u64) -> bool {
     true
 }
 
+/// Example script 5. A write that fails, at each turn.
 #[test]
 fn tells_of_a_failing_writer(rt: HostRuntime) {
     let mut faults = 0;
@@ -179,6 +181,7 @@ fn answers_cut<R: Read + Drop>(
     Ok(status == 2 && out == replies)
 }
 
+/// Example script 5. The twelve lines, ended after each byte.
 #[test]
 fn answers_a_cut_script(rt: HostRuntime) -> Result<(), Fail> {
     for cut in 0..=SCRIPT.len() {

@@ -79,12 +79,18 @@ fn assert_rows<R: Abort>(rt: &R, alloc: Global, rows: &[u8], status: u8) -> Resu
     Ok(())
 }
 
+/// Example script 1. Twelve lines from `init 0 1,2 3` on, and no input.
+/// Example script 2. Voters come and go; an empty config beside another one and alone; repeated
+/// ids; the examples of updates as scripts.
+/// Example script 4. Leading zeros, spaces, the greatest number, and a last line without a line
+/// feed.
 #[test]
 fn answers_scripts(rt: HostRuntime) -> Result<(), Fail> {
     assert_rows(&rt, rt.alloc(), ANSWERED, 0)?;
     assert_rows(&rt, rt.alloc(), ENDED, 2)
 }
 
+/// Example script 1. The script ends at a bad line.
 #[test]
 fn ends_at_a_bad_line(rt: HostRuntime) -> Result<(), Fail> {
     let mut out = Vec::new(rt.alloc());
@@ -93,6 +99,7 @@ fn ends_at_a_bad_line(rt: HostRuntime) -> Result<(), Fail> {
     Ok(())
 }
 
+/// Example script 6. 51 updates of a hundred voters.
 #[test]
 fn counts_a_hundred_voters(rt: HostRuntime) -> Result<(), Fail> {
     let mut script = b"init 0 0".as_slice().to_vec(rt.alloc())?;
