@@ -422,7 +422,7 @@ def broken_links(documents):
 
 def read_documents():
     """The documents of the repository, each with its text."""
-    paths = [ROOT / "README.md", *ROOT.glob("docs/**/*.md"), *ROOT.glob("crates/*/*.md")]
+    paths = [*ROOT.glob("*.md"), *ROOT.glob("docs/**/*.md"), *ROOT.glob("crates/*/*.md")]
     return {path: path.read_text() for path in sorted(paths)}
 
 

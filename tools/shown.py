@@ -152,7 +152,7 @@ def main():
         (path.read_text().splitlines(), path.with_name(path.name.replace("stdin", "stdout")).read_text().splitlines())
         for path in sorted(crates.glob("*/*stdin*"))
     ]
-    documents = [ROOT / "README.md", *sorted(ROOT.glob("docs/*.md")), *sorted(crates.glob("*/*.md"))]
+    documents = [*sorted(ROOT.glob("*.md")), *sorted(ROOT.glob("docs/*.md")), *sorted(crates.glob("*/*.md"))]
     found = failed = 0
     for document in documents:
         text = document.read_text()
