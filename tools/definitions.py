@@ -14,7 +14,7 @@ CLAUSES = ("granted", "quorums", "changed_quorums")
 IMPORT = re.compile(r"^(?:pub |ghost )*use ([\w.]+)\.\{(.*?)\}", re.M | re.S)
 HEAD = re.compile(r"( *)(?:abbrev pub|pub record|pub) (\S+)")
 MODULE = re.compile(r"module _ .*?where$", re.M | re.S)
-CLAIMED = re.compile(r"(\d+) definitions[^.;|]{0,20}?\s(\d+)\slines\sin\s(\d+)\sfiles")
+CLAIMED = re.compile(r"(\d+) definitions\W[^.;|]{0,30}?(\d+)\s+lines\W+(?:in\s+)?(\d+)\s+files")
 
 TOP = """# The main theorem, word by word: {count} definitions, {lines} lines in {files} files
 

@@ -242,7 +242,7 @@ class Reference:
                     blocks += ["", "```rust", *block([flat(header(impl.item))], inside), "```"]
                 else:
                     named.append(f"`{name}`")
-        word = "For" if is_trait else "Has"
+        word = "Implemented by" if is_trait else "Implements"
         return ["", f"{word} {', '.join(dict.fromkeys(named))}."] * bool(named) + blocks
 
     def traits(self, target):
@@ -253,12 +253,12 @@ class Reference:
     def imported(self, target, crate):
         """What a page says of the calls that a type has by traits."""
         links = [self.link(trait, crate) for trait in self.traits(target)]
-        return [f"Where these traits are imported, their calls too: {', '.join(links)}."] if links else []
+        return [f"If you import these traits, it has their calls too: {', '.join(links)}."] if links else []
 
     def other_paths(self, target):
         """The other paths of an item."""
         paths = sorted({"::".join(path) for path in self.paths[target[0]][target]} - {self.title(target)})
-        return [f"Also `{'`, `'.join(paths)}`."] if paths else []
+        return [f"Also found as `{'`, `'.join(paths)}`."] if paths else []
 
     def meant(self, target):
         """What an alias is an alias of, where that is an item of the pages."""
@@ -269,7 +269,7 @@ class Reference:
     def alias_of(self, target, crate):
         """What a page says of an alias."""
         meant = self.meant(target)
-        return [f"Its calls are those of {self.link(meant, crate)}."] if meant else []
+        return [f"An alias: its calls are at {self.link(meant, crate)}."] if meant else []
 
     def entry(self, target, crate):
         """What a page says of an item."""
@@ -294,7 +294,7 @@ class Reference:
             f"[`{call.name}`](#{anchor(title + '::' + call.name)}){self.star(target, call.name)}"
             for _, call in self.calls(target)
         ]
-        calls += [f"those of {self.link(trait, target[0])}" for trait in self.traits(target)]
+        calls += [f"all of {self.link(trait, target[0])}" for trait in self.traits(target)]
         name = f"[`{title}`](#{anchor(title)}){self.star(target)}"
         return f"| {name} | {sentence(self.item(target).docs)} | {', '.join(calls)} |"
 
@@ -302,7 +302,7 @@ class Reference:
         """The items of other crates that a crate shows too."""
         links = [f"`{crate}::{'::'.join(min(paths, key=len))}` is {self.link(target, crate)}"
                  for target, paths in self.paths[crate].items() if target[0] != crate]
-        return ["", "Of the crates below: " + "; ".join(links) + "."] if links else []
+        return ["", "Items of the crates below: " + "; ".join(links) + "."] if links else []
 
     def page(self, crate):
         """The whole page of a crate."""
