@@ -12,6 +12,7 @@ import re
 CRATE, CALL = "raft_progress", "replay"
 CLAUSES = ("granted", "quorums", "changed_quorums")
 IMPORT = re.compile(r"^(?:pub |ghost )*use ([\w.]+)\.\{(.*?)\}", re.M | re.S)
+RENAMED = re.compile(r"^(?:pub |ghost )*use ([\w.]+) as (\w+)", re.M)
 HEAD = re.compile(r"( *)(?:abbrev pub|pub record|pub) (\S+)")
 MODULE = re.compile(r"module _ .*?where$", re.M | re.S)
 CLAIMED = re.compile(r"(\d+) definitions\W[^.;|]{0,30}?(\d+)\s+lines\W+(?:in\s+)?(\d+)\s+files")
@@ -52,13 +53,21 @@ class Definition:
     lines: tuple
     module: str
 
-    def words(self):
-        """The words of its lines, in order, each once."""
-        return dict.fromkeys(re.findall(r"[\w']+", "\n".join(line for line in self.lines if "-- " not in line)))
+    def code(self):
+        """Its lines without comments."""
+        return [line for line in self.lines if not line.lstrip().startswith("-- ")]
+
+
+def words_of(text):
+    """The words of a text in order, each once: names, names with a field, and operators as they are declared."""
+    found = re.findall(r"(?<![\w.'])([\w']+)(\.\w+)?|(?<= )([^\w\s(){}.,;]+)(?= )", text)
+    parts = [(name, name + field) if name else (f"◌{sign}◌",) for name, field, sign in found]
+    return dict.fromkeys(word for part in parts for word in part)
 
 
 def imports_of(text):
-    """What a file imports: for each name the path and the name there."""
+    """What a file imports: for each name the path and the name there. A renamed module has the name ""."""
+    yield from ((name, (place, "")) for place, name in RENAMED.findall(text))
     for place, names in IMPORT.findall(text):
         for name in filter(None, (name.strip() for name in names.split(","))):
             there, _, here = name.partition(" as ")
@@ -94,8 +103,10 @@ class Specs:
 
     def resolve(self, imports, path, name):
         """The definition that a name means in a file with these imports, if it is one of these crates'."""
-        while (path, name) not in self.definitions and name in imports:
-            place, name = imports[name]
+        while (path, name) not in self.definitions and name.partition(".")[0] in imports:
+            name, _, field = name.partition(".")
+            place, there = imports[name]
+            name = there or field
             _, crate, folder, *rest = [*place.split("."), "", ""]
             path = (self.root / "crates" / crate / folder).joinpath(*rest[:-2]).with_suffix(".antt")
             imports = self.imports.get(path, {})
@@ -104,7 +115,8 @@ class Specs:
     def used_by(self, definition):
         """The definitions that a definition uses, in the order of its words."""
         imports = self.imports[definition.path]
-        found = [self.resolve(imports, definition.path, word) for word in definition.words()]
+        words = words_of("\n".join(definition.code()))
+        found = [self.resolve(imports, definition.path, word) for word in words]
         return [one for one in dict.fromkeys(found) if one and one != definition]
 
     def reading_order(self, first, seen):
@@ -121,7 +133,7 @@ def anchor(definition):
 
 
 def shown(specs, definition):
-    """What the page says about a definition, with its lines as they stand in its file."""
+    """What the page says about a definition, with its lines as its file has them."""
     path = definition.path.relative_to(specs.root)
     used = ", ".join(f"[`{one.name}`](#{anchor(one)})" for one in specs.used_by(definition))
     lines = [definition.module] * bool(definition.module) + [*definition.comment, *definition.lines]
@@ -139,12 +151,12 @@ def page(root):
     imports, seen, order, lines = dict(imports_of(text)), set(), [], []
     for name in CLAUSES:
         clause = re.search(rf"^    ensures {name} \{{.*?\}}$", head, re.M | re.S)[0]
-        begun = [specs.resolve(imports, path, word) for word in dict.fromkeys(re.findall(r"[\w']+", clause))]
+        begun = [specs.resolve(imports, path, word) for word in words_of(clause)]
         found = [one for start in begun if start for one in specs.reading_order(start, seen)]
         order += found
         lines += ["", f"## The clause `{name}`", "", "```rust", clause, "```"]
         lines += [line for definition in found for line in shown(specs, definition)]
-    counts = len(order), sum(len(one.lines) for one in order), len({one.path for one in order})
+    counts = len(order), sum(len(one.code()) for one in order), len({one.path for one in order})
     top = TOP.format(count=counts[0], lines=counts[1], files=counts[2], crate=CRATE, call=CALL)
     return top + "\n".join(lines) + "\n", counts
 
