@@ -1,10 +1,10 @@
 #!/usr/bin/env python3
 """Compares what documents show with the files of the crates, and checks the examples of the tests.
 
-Each block of Rust in a document stands in one file of the crates: its `use` lines name what that
-file uses, and its other parts, from one empty line to the next, stand there as they are printed.
-Only clauses may be left out, and on a page for callers no `use` of a name that the program has. Each
-table of a script has the lines and replies of a script's files.
+Each block of Rust in a document is in one file of the crates: its `use` lines name what that file
+uses, and its other parts, from one empty line to the next, are in the file as the document has them.
+Only clauses may be missing. On a page for callers a program has each `use` that it needs. Each table
+of a script has the lines and replies of the files of that script.
 
 An example is some calls with the results that they must have, worked out before the code was
 written. A test says in its docs which examples it runs, each in a paragraph that begins with
@@ -52,7 +52,7 @@ def are_clauses(lines):
 
 
 def stands_at(part, lines, marks, at):
-    """Whether a part stands in a file from a line on, but for clauses that it leaves out."""
+    """Whether a part is in a file from a line on, but for clauses that the part does not have."""
     for line in part:
         while at < len(lines) and lines[at] != line and marks[at]:
             at += 1
@@ -80,7 +80,7 @@ def lacks(block, text):
 
 
 def stands_in(block, text):
-    """Whether a block of Rust stands in a file."""
+    """Whether a block of Rust is in a file."""
     uses = [line for line in block if USE.match(line)]
     rest = "\n".join(line for line in block if not USE.match(line)).strip("\n")
     used = used_in(text)
@@ -167,11 +167,11 @@ def main():
         failed += len(shown) - sum(shown)
         for place, stands in enumerate(shown, 1):
             if not stands:
-                print(f"shown: {document.relative_to(ROOT)}: the program {place} stands in no file")
+                print(f"shown: {document.relative_to(ROOT)}: the program {place} is in no file")
     faults = list(example_faults())
     for fault in faults:
         print(f"shown: {fault}")
-    print(f"shown: {found} stand in the crates, {failed} do not")
+    print(f"shown: {found} programs and scripts are in the crates, {failed} are not")
     print(f"shown: {sum(EXAMPLES.values())} examples, {len(faults)} faults")
     return failed + len(faults) > 0
 
