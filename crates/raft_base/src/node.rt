@@ -67,6 +67,9 @@ impl NodeDefault for u64 {
 }
 
 /// A node of which nothing is known but its id.
+///
+/// It is not `Copy`. A map of such nodes is made from ids:
+/// `(1..=3).map(|id| (id, EmptyNode::new())).collect(alloc)?`.
 #[derive(Debug, Clone, Default, PartialEq, Eq, Drop)]
 pub struct EmptyNode {}
 

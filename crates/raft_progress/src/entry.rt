@@ -213,10 +213,13 @@ impl<C: Ord + Copy> ProgressEntryOf<C> {
 
     /// Puts in flight what is sent next, if anything is: logs up to so many entries, or a snapshot.
     ///
-    /// Logs start half of the way from the match to the end of the search, so that each response
-    /// tells much of where they part; close to it they start at the match. Where the logs that a
-    /// probe needs are purged, it is a snapshot. `Err` has what is in flight already, or nothing
-    /// where there is no log to send. `Ok` has nothing in flight where the log's ids do not rise.
+    /// Let `matched` be the index after the match, and `end` the end of the search. Logs start at
+    /// `matched + (end - matched) / 16 * 8`, so that each response tells much of where the two logs
+    /// part; if fewer than 16 indexes are open, they start at the match. They start at no index that
+    /// is to be purged. If the logs that a probe needs are purged, a snapshot is sent.
+    ///
+    /// `Err` has what is in flight already, or `Inflight::None` if there is no log to send. `Ok` has
+    /// `Inflight::None` if the log's ids do not rise: then there is nothing to send.
     #[inline(always)]
     pub fn next_send<L: LogStateReader<C>>(
         &mut self,
@@ -274,7 +277,9 @@ impl<C: Ord + Copy> ProgressEntryOf<C> {
         ends_by(self.matching, self.searching_end)
     }
 
-    /// Where the next probe starts, and where the search ends; where `can_start` is true.
+    /// Returns where the next probe starts, `matched + (end - matched) / 16 * 8`, and where the
+    /// search ends, which is `end`; `matched` is the index after the match, and `can_start` has to be
+    /// true.
     pub fn sending_start(&self) -> (u64, u64)
         requires { next_index self.now.matching ≤ self.now.searching_end }
         ensures { result ≡ (

@@ -49,11 +49,12 @@ pub struct RaftStateIn<NID: NodeId, N: Node, I: Instant, L, C: Ord + Copy> {
     pub membership_state: MembershipStateOf<C, NID, N>,
     /// The last snapshot.
     pub snapshot_meta: SnapshotMetaOf<C, NID, N>,
-    /// What the node is, as it was last calculated.
+    /// What the node is, as it was last calculated. Only a caller writes it, by `calc_server_state`,
+    /// when the vote or a membership has changed.
     pub server_state: ServerState,
     /// What the node has accepted of the leader's log.
     pub accepted: AcceptedIn<L, C>,
-    /// How far storage has got.
+    /// How far storage has got. Only a caller writes it, when storage has done something.
     pub io_state: IOStateIn<L, C>,
     /// The log id up to which the log is to be purged, as soon as nobody reads it.
     pub purge_upto: Option<LogIdOf<C>>,

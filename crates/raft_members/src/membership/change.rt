@@ -38,7 +38,11 @@ impl<NID: NodeId, N: Node> Membership<NID, N> {
         Ok(Membership { configs, nodes })
     }
 
-    /// The membership that a change makes of this one, which stays as it is.
+    /// Returns the membership that a change makes of this one, in which a voter that is in no config
+    /// any more stays as a learner with `retain`, and loses its node without it.
+    ///
+    /// This membership stays as it is. While two configs count, the voters of both stay in either
+    /// case. Changes of nodes ignore `retain`.
     ///
     /// # Errors
     ///

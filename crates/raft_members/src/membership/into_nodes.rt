@@ -9,7 +9,8 @@ use raft_base::{Node, NodeId};
 use std::alloc::{AllocError, Global};
 use std::collections::{BTreeMap, BTreeSet};
 
-/// A source of nodes: none, a set of ids with default nodes, or the nodes themselves.
+/// A source of nodes: `()` for none, a `BTreeSet` of ids with default nodes, which may be optional,
+/// or a `BTreeMap` of the nodes themselves.
 pub trait IntoNodes<NID: NodeId, N: Node>: Sized {
     /// Whether these are the nodes, as entries in the order of their ids.
     ghost gives: { Self → List (NID × N) → Type 0 };

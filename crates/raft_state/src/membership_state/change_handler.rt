@@ -36,8 +36,9 @@ impl<'m, C: Ord + Copy + Default + Debug + Drop, NID: NodeId, N: Node> ChangeHan
     /// What a change makes of the effective membership, as `Membership::change` says. It is refused
     /// as long as an earlier change is in progress.
     ///
-    /// With `retain` voters that go stay as learners. Nothing becomes effective: that is for
-    /// `append`, once the answer stands in the log.
+    /// With `retain`, a voter that is in no config any more stays as a learner; without it, the
+    /// voter loses its node. Nothing becomes effective: that is for `append_entries` of an entry
+    /// with this membership, or for `append`.
     ///
     /// A leader asks only once an entry of its own is committed, which nothing here can tell. From one
     /// joint membership two leaders, one after the other, may else go over to either config, and
