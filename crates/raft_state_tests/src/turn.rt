@@ -1,4 +1,4 @@
-//! A leader's and a follower's turn, as the README shows them and the simulated cluster takes them.
+//! The turns of a leader and of a follower, as docs/GUIDE.md shows and the cluster uses them.
 
 mod follower;
 mod followers;
