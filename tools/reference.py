@@ -3,8 +3,7 @@
 
 The page of a library has each public item by its shortest path: its first sentence, its signature
 with cases and fields, and its clauses as they are in the source. The page theorem.md has the
-definitions that the main theorem uses, and words.md has the meaning of each word of a contract. The
-pages for callers, CALLING.md, get a link for each call in the first column of their contracts.
+definitions that the main theorem uses, and words.md has the meaning of each word of a contract.
 
 With `--check` the tool writes nothing. It refuses a page that would change, a link of any document
 to a file or a heading that is not there, and counts of the theorem's definitions that are not those
@@ -318,78 +317,6 @@ class Reference:
         return "\n".join(lines) + "\n"
 
 
-NAMED = re.compile(r"\[`([^`]*)`\]\([^)]*\)|`([^`]*)`")
-
-
-def name_in(part):
-    """The name that a part of a cell is, as a link or as it is, if it is one."""
-    found = NAMED.fullmatch(part)
-    return (found[1] or found[2] or "") if found else ""
-
-
-class Linker:
-    """What links the calls that a crate's page for callers names to their places in the reference."""
-
-    def __init__(self, reference, crate):
-        self.page = f"../../docs/reference/{crate}.md"
-        self.titles, self.traits, self.aliases = set(), {}, {}
-        for target in reference.paths[crate]:
-            title = reference.title(target)
-            if target[0] == crate:
-                self.titles |= {title, *(f"{title}::{call.name}" for _, call in reference.calls(target))}
-                self.traits[title] = [reference.title(trait) for trait in reference.traits(target)]
-                if meant := reference.meant(target):
-                    self.aliases[title] = reference.title(meant)
-
-    def title_of(self, name, context):
-        """The item or call that a name means beside the type or module that was named last, if it means one."""
-        plain = re.sub(r"\(.*|<.*?>", "", name.strip())
-        owner, mark, call = plain.rpartition("::")
-        while mark and owner in self.aliases:
-            owner = self.aliases[owner]
-        plain = owner + mark + call
-        nearest = [context, *self.traits.get(context, []), context.rpartition("::")[0]]
-        places = [*[f"{place}::" for place in nearest if place], ""]
-        within = [place + plain for place in places if place + plain in self.titles]
-        alone = [title for title in self.titles if title.endswith(f"::{plain}")]
-        return within[0] if within else alone[0] if len(alone) == 1 else None
-
-    def linked_name(self, name, context, part=""):
-        """A name as a link, or as the part of a cell that it is."""
-        title = self.title_of(name, context)
-        return f"[`{name.strip()}`]({self.page}#{anchor(title)})" if title else part or f"`{name.strip()}`"
-
-    def context_after(self, title):
-        """The type or module beside which the names after an item or a call are read."""
-        owner = title.rpartition("::")[0]
-        return owner if owner in self.traits else title
-
-    def linked_cell(self, cell):
-        """A cell of a table with each of its names as a link."""
-        context = ""
-        parts = re.split(r"(\[`[^`]*`\]\([^)]*\)|`[^`]*`)", cell)
-        for at, part in enumerate(parts):
-            name = name_in(part)
-            if found := re.fullmatch(r"(.*)::\{(.*)\}", name):
-                context = self.title_of(found[1], "") or found[1]
-                first, *others = found[2].split(", ")
-                links = [self.linked_name(f"{found[1]}::{first}", "")]
-                parts[at] = ", ".join(links + [self.linked_name(other, context) for other in others])
-            elif name:
-                owner = name_in(parts[at + 2]) if parts[at + 1] == " of " else ""
-                beside = self.title_of(owner, "") if owner else context
-                title = self.title_of(name, beside or "")
-                parts[at] = self.linked_name(name, beside or "", part)
-                context = self.context_after(title) if title else context
-        return "".join(parts)
-
-    def linked(self, text):
-        """A page for callers, with links in the first column of its table of contracts."""
-        top, mark, rest = text.partition("## Contracts\n")
-        first_cell = re.compile(r"^\| (.*?) \|", re.M)
-        return top + mark + first_cell.sub(lambda row: f"| {self.linked_cell(row[1])} |", rest)
-
-
 def own_names(text):
     """For each crate the names of what is this project's own, as docs/DIFFERENCES.md lists them.
 
@@ -398,7 +325,7 @@ def own_names(text):
     own = {}
     for crate, section in re.findall(r"^## `(\w+)`\n(.*?)(?=^## |\Z)", text, re.M | re.S):
         listed = " ".join(re.findall(r"^Own items:.*?(?=\n\n|\Z)", section, re.M | re.S))
-        listed = re.sub(r"\b[oO]f (?:(?:a|an|the|the trait) )?`[^`]*`", "", listed)
+        listed = re.sub(r"\b[oO]f\s+(?:(?:a|an|the|the\s+trait)\s+)?`[^`]*`", "", listed)
         own[crate] = {name.split("::")[-1] for name in re.findall(r"`([\w:]+)`", listed)}
     return collections.defaultdict(set, own)
 
@@ -432,8 +359,6 @@ def main():
     pages = {PAGES / f"{crate}.md": reference.page(crate) for crate in reference.paths}
     pages[PAGES / "theorem.md"], counts = definitions.page(ROOT)
     pages[PAGES / "words.md"] = definitions.index(ROOT)
-    for path in sorted(ROOT.glob("crates/*/CALLING.md")):
-        pages[path] = Linker(reference, path.parts[-2]).linked(path.read_text())
     if "--check" not in sys.argv:
         PAGES.mkdir(exist_ok=True)
         for path, text in pages.items():
