@@ -1,9 +1,9 @@
 #!/usr/bin/env python3
 """Writes the pages of docs/reference: one for each library, and two for the definitions.
 
-The page of a library has each public item by its shortest path: its first sentence, its signature
-with cases and fields, and its clauses as they are in the source. The page theorem.md has the
-definitions that the main theorem uses, and words.md has the meaning of each word of a contract.
+The page of a library has each public item by its shortest path: its doc comment, its signature with
+cases and fields, and its clauses as they are in the source. The page theorem.md has the definitions
+that the main theorem uses, and words.md has the meaning of each word of a contract.
 
 With `--check` the tool writes nothing. It refuses a page that would change, a link of any document
 to a file or a heading that is not there, and counts of the theorem's definitions that are not those
@@ -50,6 +50,11 @@ def sentence(docs):
     """The first sentence of some docs."""
     paragraph = " ".join(docs[: docs.index("")] if "" in docs else docs)
     return re.split(r"(?<=[.!?])\s", paragraph)[0]
+
+
+def whole(docs):
+    """All of some docs, with a heading as a bold word before the paragraph below it."""
+    return re.sub(r"^#+ (.*)\n+", r"**\1**: ", "\n".join(docs).strip(), flags=re.M).splitlines()
 
 
 def anchor(heading):
@@ -273,16 +278,16 @@ class Reference:
     def entry(self, target, crate):
         """What a page says of an item."""
         item, title = self.item(target), self.title(target)
-        said = [sentence(item.docs), *self.alias_of(target, crate), *self.imported(target, crate)]
-        said += self.other_paths(target)
-        lines = [f"### `{title}`{self.star(target)}", "", " ".join(said), "", "```rust", *code_of(item), "```"]
+        said = [*self.alias_of(target, crate), *self.imported(target, crate), *self.other_paths(target)]
+        lines = [f"### `{title}`{self.star(target)}", "", *whole(item.docs), ""]
+        lines += [" ".join(said), ""] * bool(said) + ["```rust", *code_of(item), "```"]
         lines += self.implementations(target, crate)
         last = ""
         for head, call in self.calls(target):
             if head and head != last:
                 lines += ["", f"In `{head}`:"]
             last = head
-            lines += ["", f"#### `{title}::{call.name}`{self.star(target, call.name)}", "", sentence(call.docs), ""]
+            lines += ["", f"#### `{title}::{call.name}`{self.star(target, call.name)}", "", *whole(call.docs), ""]
             lines += ["```rust", *header(call), "```"]
         return lines
 
