@@ -178,7 +178,7 @@ def index(root):
 
 
 def wrong_counts(documents, counts):
-    """Where documents claim other counts than the page has: each document with its words."""
+    """The documents that claim other counts than the page has, each with its words."""
     for path, text in documents.items():
         for claimed in CLAIMED.finditer(text):
             if tuple(map(int, claimed.groups())) != counts:

@@ -1,7 +1,7 @@
 #!/usr/bin/env python3
 """Runs the gate and prints what each of its phases took: tools/gate_time.py [COMMAND ..].
 
-The command is `rt ci` where none is given. Its output passes through, and its status is this
+The command is `rt ci` if none is given. Its output passes through, and its status is this
 program's. A phase is the proof of a crate, of its tests, the trying of its edits, or what is left.
 The wall time of a phase goes from its first process to its last, and its processor time is that of
 all its processes, read from /proc until each has ended.
@@ -38,7 +38,7 @@ def processes():
 
 
 def phase_of(words, where):
-    """The phase that a process works for, if its words tell."""
+    """The phase that a process works for, if its arguments say so."""
     if "--crate-name" not in words:
         return None
     crate = words[words.index("--crate-name") + 1]
@@ -77,7 +77,7 @@ class Times:
             self.last[phase] = now
 
     def of(self, phase):
-        """The processor time of a phase: what its processes had when they were last seen."""
+        """The processor time of a phase: the last known times of its processes."""
         return sum(spent for (its, _, kind), (spent, _) in self.spent.items() if its == phase and kind == "whole")
 
     def table(self):

@@ -1,13 +1,13 @@
 #!/usr/bin/env python3
-"""Compares docs/ARCHITECTURE.md with the sources: its pictures with what they import, its tables with their files.
+"""Compares docs/ARCHITECTURE.md with the sources: its pictures with the imports, its tables with the files.
 
-A box begins with the names of modules; it stands for these and for what is below them, in the crate that its part of the
-picture or the heading above it names. An arrow goes from what stands below to what stands on it: some module of the
-second has to import something of the first, and of an import between two boxes there has to be a way along the arrows.
-No modules of a crate may import each other in a circle.
+A box begins with the names of modules. It means these modules and all below them, in the crate that its part of the
+picture or the heading above it names. An arrow points from a box to one that is built on it: some module of the second
+box has to import something of the first. If a module of a box imports something of another box, a path of arrows has to
+connect the two. No modules of a crate may import each other in a circle.
 
-In the tables of *Where to change what* each name stands for a file in the folder at the head of its column, or for all in
-a folder, and each file of code and of definitions has to be named.
+In the tables of *Where to change what* a name means a file in the folder at the head of its column, or all files of a
+folder. Each file of code and of definitions has to be named.
 """
 import pathlib
 import re
@@ -32,7 +32,7 @@ def module_of(modules, place):
 
 
 def imports_among(modules):
-    """Which module imports something of which, but for what it only passes on."""
+    """Pairs of modules of which the second imports something of the first, and not only to pass it on."""
     found = set()
     for place, module in modules.items():
         for name, path in module.imports.items():
@@ -64,7 +64,7 @@ def pictures():
 
 
 def boxes_of(modules, boxes, faults):
-    """The box in which each module stands: that of the nearest one above it which a box names."""
+    """The box of each module: the box that names it or the nearest module above it."""
     named = {}
     for box, (crate, names) in boxes.items():
         for name in names:
@@ -108,7 +108,7 @@ def tables():
 
 
 def file_faults():
-    """What the tables name and is not there, and what is there and not named."""
+    """The names in the tables without a file, and the files that no table names."""
     named = {}
     for crate, folder, cell in tables():
         above = ROOT / "crates" / crate / folder
@@ -138,7 +138,7 @@ def main():
         between = {(at[one], at[other]) for one, other in imports if one in at and other in at} - {(b, b) for b in boxes}
         count += len(arrows)
         faults += [f"line {number}: {a} --> {b}: no such import" for a, b in arrows if (a, b) not in between]
-        faults += [f"line {number}: no way from {a} to {b}" for a, b in sorted(between) if b not in reached(arrows, a)]
+        faults += [f"line {number}: no path of arrows from {a} to {b}" for a, b in sorted(between) if b not in reached(arrows, a)]
         faults += [f"line {number}: {box} reaches itself" for box in boxes if box in reached(arrows, box)]
     faults += file_faults()
     for fault in faults:

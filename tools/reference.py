@@ -30,7 +30,7 @@ ORDER = {
     "raft_state": "log_id_list entry membership_state raft_state vote_state_reader accepted io_state snapshot_meta",
 }
 
-# What an implementation of one of std's traits tells.
+# What a page shows of an implementation of one of std's traits.
 TOLD = {"eq", "partial_cmp", "cmp", "is_clone", "is_default", "Value", "view", "next_gives"}
 
 TOP = """# Reference: `{crate}`
@@ -69,7 +69,7 @@ def flat(lines):
 
 
 def outside_of_generics(text):
-    """A text in which all that stands in angle brackets is blank."""
+    """A text with blanks in place of what is in angle brackets."""
     marks, depth = "", 0
     for mark in text.replace("->", "  "):
         depth += mark == "<"
@@ -200,7 +200,7 @@ class Reference:
         return [(module, sorted(found[module], key=turn)) for module in sorted(found, key=rank)]
 
     def calls(self, target):
-        """The public calls of an item, each with the head of the impl that it stands in."""
+        """The public calls of an item, each with the head of its impl."""
         item = self.item(target)
         calls = [("", member) for member in item.members if member.kind == "fn"]
         for impl in self.impls:
@@ -265,7 +265,7 @@ class Reference:
         return [f"Also found as `{'`, `'.join(paths)}`."] if paths else []
 
     def meant(self, target):
-        """What an alias is an alias of, where that is an item of the pages."""
+        """What an alias is an alias of, if that is an item of the pages."""
         item = self.item(target)
         path = re.match(r"[\w:]+", flat(item.lines).partition(" = ")[2]) if item.kind == "type" else None
         return resolve(self.modules, target[:-1], path[0].split("::")) if path else None
@@ -325,7 +325,7 @@ class Reference:
 def own_names(text):
     """For each crate the names of what is this project's own, as docs/DIFFERENCES.md lists them.
 
-    A name after `of` says where another one stands, and is not listed by that.
+    A name after `of` only says what another name belongs to, and is not listed by that.
     """
     own = {}
     for crate, section in re.findall(r"^## `(\w+)`\n(.*?)(?=^## |\Z)", text, re.M | re.S):

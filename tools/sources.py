@@ -14,7 +14,7 @@ NOT_CODE = re.compile(r'"(?:\\.|[^"\\])*"|\'(?:\\.|[^\'\\])\'|//.*')
 
 @dataclasses.dataclass
 class Item:
-    """An item: its docs, its attributes, its lines without these, and what stands inside it."""
+    """An item: its docs, its attributes, its lines without these, and the items inside it."""
 
     kind: str
     name: str
@@ -135,7 +135,7 @@ def read_crates(root, roots=("lib.rt",)):
 
 
 def is_there(modules, place):
-    """Whether a path is that of a module or of an item where it is declared."""
+    """Whether a path is that of a module, or of an item in the module that declares it."""
     *module, name = place
     return place in modules or any(item.name == name for item in getattr(modules.get(tuple(module)), "items", []))
 
