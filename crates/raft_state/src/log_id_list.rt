@@ -109,8 +109,8 @@ impl<C: Ord + Copy> LogIdListOf<C> {
         self.can_extend(new_ids) && keys::share_leader(new_ids)
     }
 
-    /// Appends log ids, one after the other, where `can_extend` is true. Room for a key each is
-    /// taken first.
+    /// Appends log ids, one after the other, where `can_extend` is true. Room is taken first: for
+    /// two keys at most if the log ids have one leader, otherwise for a key each.
     pub fn extend<LID: RaftLogId<C>>(&mut self, new_ids: &[LID]) -> Result<(), AllocError>
         requires { IsTrue (all_follow C.cmp (last_id (full_log self.old))
             (map LID.id_of new_ids.now)) }

@@ -92,8 +92,26 @@ pub fn append<C: Ord + Copy>(keys: &mut Vec<LogIdOf<C>>, id: LogIdOf<C>) -> Resu
     Ok(())
 }
 
-/// Appends log ids one after the other. Room is taken first, so that none is refused after another.
+/// Appends log ids that may come one after the other, those of one leader by the first and the last.
 pub fn extend<C: Ord + Copy, LID: RaftLogId<C>>(
+    keys: &mut Vec<LogIdOf<C>>,
+    ids: &[LID],
+) -> Result<(), AllocError>
+    requires { IsTrue (all_follow C.cmp (last_id keys.old.items) (map LID.id_of ids.now)) }
+    ensures ok { OnOk result
+        (keys.new.items ≡ keys_after_extend C.eq keys.old.items (map LID.id_of ids.now)) }
+    ensures err { OnErr result (keys.new.items ≡ keys.old.items) }
+    ensures no_memory { ids.now ≡ [] → IsOk result }
+{
+    if share_leader(ids) {
+        extend_by_ends(keys, ids)
+    } else {
+        extend_by_each(keys, ids)
+    }
+}
+
+/// Appends log ids one after the other. Room is taken first, so that none is refused after another.
+fn extend_by_each<C: Ord + Copy, LID: RaftLogId<C>>(
     keys: &mut Vec<LogIdOf<C>>,
     ids: &[LID],
 ) -> Result<(), AllocError>

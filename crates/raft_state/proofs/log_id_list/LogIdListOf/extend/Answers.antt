@@ -1,12 +1,18 @@
 use Rattle.std.proofs.Common.{map}
 use Rattle.raft_state.specs.FullLog.{first_index, full_log}
 use Rattle.raft_state.specs.LogReads.{last_id}
+use Rattle.raft_state.proofs.lemmas.log_id_list.CutLemmas.{last_full}
 use Rattle.raft_state.proofs.lemmas.log_id_list.ListLemmas.{extend_ends, extend_fills, extend_keeps}
 use Rattle.raft_state.proofs.lemmas.log_id_list.ExtendLemmas.{extend_raises, is_key_list}
 use Rattle.raft_state.proofs.lemmas.log_id_list.FrontLemmas.{from_first}
 use Rattle.raft_state.proofs.lemmas.log_id_list.KeptLemmas.{ends_there, extend_has_ids, extend_keeps_ids}
 use Rattle.raft_state.specs.Inner.KeyEdits.{keys_after_extend}
 use Rattle.raft_state.proofs.log_id_list.LogIdListOf.extend.Goals as goal
+
+pub extend-requires : goal.extend-requires
+extend-requires g c =
+    let keys = c.self.inside.key_log_ids.items in
+    rw (← c.self.view_is, last_full g.C.Ord.cmp keys (is_key_list g.C.Ord.cmp keys c.self.invariant)) at c.requires
 
 pub invariant_of-self-2 : goal.invariant_of-self-2
 invariant_of-self-2 g c =

@@ -1,7 +1,7 @@
 use Rattle.std.proofs.Common.{◌≡◌, ◌≤◌, ◌+◌, ◌-◌, drop, length, map}
 use Rattle.std.specs.Vec.{vec_capacity, vec_len}
 use Rattle.raft_state.specs.Inner.KeyEdits.{keys_after_extend}
-use Rattle.raft_state.proofs.log_id_list.keys.extend.Given as goal
+use Rattle.raft_state.proofs.log_id_list.keys.extend_by_each.Given as goal
 
 abbrev pub invariant-loop-id : goal.invariant-loop-id
 invariant-loop-id g l = record {
