@@ -1,5 +1,6 @@
 //! Appending log entries, with the memberships that they store.
 ghost use Rattle.std.specs.Prelude.{◌≡◌, None, IsTrue, IfOk, OnOk, OnErr, map, is_some};
+ghost use Rattle.std.specs.List.{list_any};
 ghost use Rattle.std.specs.Option.{option_or};
 ghost use Rattle.std.specs.Set.{ClonesAreEqual};
 ghost use Rattle.raft_state.specs.Appended.{may_append_entries, memberships_follow, begins_at_zero, AppendsMemberships};
@@ -60,6 +61,9 @@ impl<NID: NodeId, N: Node, I: Instant, L: Drop, C: Ord + Copy + Drop> RaftStateI
         ensures valid { broken_relation C.cmp self.old ≡ None →
             broken_relation C.cmp self.new ≡ None }
     {
+        if !store_membership(entries) {
+            return self.extend_log_ids(entries);
+        }
         let membership_state = self.memberships_after(entries)?;
         self.log_ids.extend(entries)?;
         self.membership_state = membership_state;
@@ -102,6 +106,15 @@ impl<NID: NodeId, N: Node, I: Instant, L: Drop, C: Ord + Copy + Drop> RaftStateI
         }
         Ok(memberships)
     }
+}
+
+/// Whether an entry stores a membership.
+fn store_membership<NID: NodeId, N: Node, Ent: RaftPayload<Membership<NID, N>>>(
+    entries: &[Ent],
+) -> bool
+    ensures { result ≡ list_any (λ e. is_some (Ent.membership e)) entries.now }
+{
+    entries.iter().any(|entry| entry.get_membership().is_some())
 }
 
 /// Whether each entry with a membership comes after the one before it, the first one after a log

@@ -1,7 +1,8 @@
 -- Entries whose memberships follow one another, and what they leave.
-use Rattle.std.proofs.Common.{◌≡◌, Bool, true, ◌&&◌, List, [], ◌∷◌, Option, Some, None, is_some, refl}
+use Rattle.std.proofs.Common.{◌≡◌, Bool, true, false, ◌&&◌, List, [], ◌∷◌, Option, Some, None, is_some, refl}
 use Rattle.std.proofs.lemmas.Bool.{and_parts}
 use Rattle.std.specs.declared.cmp.Ordering.{Ordering}
+use Rattle.std.specs.List.{list_any}
 use Rattle.std.specs.Option.{option_cmp}
 use Rattle.std.specs.Ordering.{nat_cmp}
 use Rattle.raft_base.specs.LogId.{id_le, id_lt, index_of, log_id_cmp}
@@ -44,6 +45,18 @@ module _ {C K N E : Type 0} (eq : K → K → Bool) (same : N → N → Bool) (i
   pub none_appended : (e : E) (es : List E) (old new : Memberships C K N) → membership e ≡ None
       → AppendsMemberships eq same id_of membership es old new → AppendsMemberships eq same id_of membership (e ∷ es) old new
   none_appended e es old new stores rest = rw stores rest
+
+  -- where no entry stores a membership all stay as they are
+  pub none_stored : (es : List E) (m : Memberships C K N) → list_any (λ e. is_some (membership e)) es ≡ false
+      → AppendsMemberships eq same id_of membership es m m
+  none_stored [] m none = refl
+  none_stored (e ∷ es) m none = by (membership e) refl (none_stored es m)
+    where
+      by : (o : Option (MemberList K N)) → membership e ≡ o
+          → (list_any (λ x. is_some (membership x)) es ≡ false → AppendsMemberships eq same id_of membership es m m)
+          → AppendsMemberships eq same id_of membership (e ∷ es) m m
+      by None stores later = none_appended e es m m stores (later (rw stores at none))
+      by (Some w) stores later = let some : true ≡ false = rw stores at none in cc
 
 -- a membership under a greater log id and index, after the effective one
 one_stays : {C K N : Type 0} (cmp : C → C → Ordering) (id : LogIdOf C) (stored : StoredMembershipOf C K N) (m : Memberships C K N)
