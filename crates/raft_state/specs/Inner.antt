@@ -1,4 +1,5 @@
 -- Words that only private functions and invariants cite.
 pub mod KeyList
 pub mod KeyEdits
+pub mod LeaderRange
 pub mod Refusal

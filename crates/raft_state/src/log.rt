@@ -1,20 +1,22 @@
 //! The edits and the look-ups of a state's log: what is appended, committed and purged, and where
 //! entries conflict.
-ghost use Rattle.std.specs.Prelude.{◌≡◌, ◌+◌, ◌≤◌, true, false, IsTrue, IfOk, IfSome, IsOk, OnOk, OnErr, None, Some, [], map, length, take, slice_get};
+ghost use Rattle.std.specs.Prelude.{◌≡◌, ◌+◌, ◌≤◌, true, false, IsTrue, IfOk, IfNone, IfSome, nat_lt, IsOk, OnOk, OnErr, None, Some, [], map, length, take, slice_get};
 ghost use Rattle.std.specs.List.{list_all, prefix_len};
 ghost use Rattle.std.specs.Option.{option_or};
-ghost use Rattle.raft_base.specs.LogId.{id_le};
+ghost use Rattle.raft_base.specs.LogId.{id_le, next_index};
 ghost use Rattle.raft_base.specs.LogView.{has_id, may_ask};
 ghost use Rattle.raft_state.specs.Appended.{begins_at_zero};
 ghost use Rattle.raft_state.specs.Commit.{state_after_commit, committed_before, state_commits, state_may_commit};
 ghost use Rattle.raft_state.specs.FullLog.{full_log, same_log};
+ghost use Rattle.raft_state.specs.Inner.LeaderRange.{HasOneLeader};
 ghost use Rattle.raft_state.specs.LogConditions.{all_follow, all_follow_of_one_leader};
 ghost use Rattle.raft_state.specs.LogEdits.{log_after_extend, log_after_purge};
-ghost use Rattle.raft_state.specs.LogReads.{last_id};
+ghost use Rattle.raft_state.specs.LogReads.{id_at, last_id};
 ghost use Rattle.raft_state.specs.Purge.{first_after_purge, may_purge};
 ghost use Rattle.raft_state.specs.StateView.{view_of};
 ghost use Rattle.raft_state.specs.Valid.{broken_relation};
 
+use crate::log_id_list::LeaderRange;
 use crate::raft_state::RaftStateIn;
 use raft_base::order::log_id_below;
 use raft_base::{Instant, LogIdOf, LogStateReader, Node, NodeId, RaftLogId};
@@ -145,8 +147,9 @@ impl<NID: NodeId, N: Node, I: Instant, L: Drop, C: Ord + Copy + Drop> RaftStateI
         ensures at { IfSome (slice_get entries.now result)
             (λ e. has_id C.eq (view_of self.now) (Ent.id_of e) ≡ false) }
     {
+        let mut range = None;
         for (place, entry) in entries.iter().enumerate() {
-            if !self.has_entry(entry) {
+            if !self.has_entry(entry, &mut range) {
                 return place;
             }
         }
@@ -154,11 +157,51 @@ impl<NID: NodeId, N: Node, I: Instant, L: Drop, C: Ord + Copy + Drop> RaftStateI
     }
 
     /// Whether the log has the id of an entry.
-    fn has_entry<Ent: RaftLogId<C>>(&self, entry: &Ent) -> bool
-        requires { IsTrue (may_ask C.cmp (view_of self.now) (Ent.id_of entry.now)) }
-        ensures { result ≡ has_id C.eq (view_of self.now) (Ent.id_of entry.now) }
+    ///
+    /// The range is that of an earlier look-up, if there was one, and then that of this one: most
+    /// entries share their leader with the entry before, and need no look-up of their own.
+    fn has_entry<Ent: RaftLogId<C>>(&self, entry: &Ent, range: &mut Option<LeaderRange<C>>) -> bool
+        requires { IfSome range.old
+            (λ r. HasOneLeader (full_log self.now.log_ids) r.leader_id r.first r.last) }
+        ensures answer { result ≡ has_id C.eq (view_of self.now) (Ent.id_of entry.now) }
+        ensures range { IfSome range.new
+            (λ r. HasOneLeader (full_log self.now.log_ids) r.leader_id r.first r.last) }
     {
-        self.has_log_id(entry.get_log_id())
+        let id = entry.get_log_id();
+        if self.is_committed(id.index) {
+            return true;
+        }
+        *range = self.range_of(id.index, *range);
+        match range {
+            Some(found) => found.leader_id == id.leader_id,
+            None => false,
+        }
+    }
+
+    /// Whether an index is committed.
+    fn is_committed(&self, index: u64) -> bool
+        ensures { result ≡ nat_lt index (next_index self.now.committed) }
+    {
+        match self.committed {
+            Some(committed) => index <= committed.index,
+            None => false,
+        }
+    }
+
+    /// Returns a range of indexes with one leader that has this index, if there is a log id at it:
+    /// the range that was found before, or another one of the log.
+    fn range_of(&self, index: u64, found: Option<LeaderRange<C>>) -> Option<LeaderRange<C>>
+        requires { IfSome found
+            (λ r. HasOneLeader (full_log self.now.log_ids) r.leader_id r.first r.last) }
+        ensures none { IfNone result (id_at (full_log self.now.log_ids) index ≡ None) }
+        ensures within { IfSome result (λ r. (r.first ≤ index) × (index ≤ r.last)) }
+        ensures ids { IfSome result
+            (λ r. HasOneLeader (full_log self.now.log_ids) r.leader_id r.first r.last) }
+    {
+        match found {
+            Some(range) if range.contains(index) => Some(range),
+            _ => self.log_ids.range_at(index),
+        }
     }
 
     /// Whether `purge_log` may be called with a log id: the list may be purged to it, its index is

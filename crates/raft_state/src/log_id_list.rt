@@ -1,5 +1,5 @@
 //! The log ids of a whole log, kept by few of them.
-ghost use Rattle.std.specs.Prelude.{◌≡◌, ℕ, ◌+◌, ◌≤◌, ◌<◌, ◌&&◌, min, max, length, map, [], Some, IsOkAnd, IfOk, IfSome, IsOk, OnOk, OnErr, IsTrue, nat_eq, nat_le, nat_lt, if◌then◌else◌};
+ghost use Rattle.std.specs.Prelude.{◌≡◌, ℕ, ◌+◌, ◌≤◌, ◌<◌, ◌&&◌, min, max, length, map, [], None, Some, IsOkAnd, IfOk, IfNone, IfSome, IsOk, OnOk, OnErr, IsTrue, nat_eq, nat_le, nat_lt, if◌then◌else◌};
 ghost use Rattle.std.specs.Option.{is_some, option_copied, option_or};
 ghost use Rattle.raft_base.specs.LogId.{id_le};
 ghost use Rattle.raft_base.specs.LogView.{prev_id};
@@ -9,10 +9,12 @@ ghost use Rattle.raft_state.specs.LogEdits.{log_after_append, log_after_extend, 
 ghost use Rattle.raft_state.specs.LogKept.{HasIds, KeepsIds};
 ghost use Rattle.raft_state.specs.LogConditions.{follows, all_follow, all_follow_of_one_leader, may_be_purged_to};
 ghost use Rattle.raft_state.specs.Keys.{may_be_keys, by_last_leader};
+ghost use Rattle.raft_state.specs.Inner.LeaderRange.{HasOneLeader};
 
 mod keys;
 pub mod laws;
 
+pub(crate) use keys::LeaderRange;
 pub use keys::is_key_list;
 use raft_base::{CommittedLeaderId, LogIdOf, RaftLogId};
 use std::alloc::{AllocError, Global};
@@ -228,6 +230,16 @@ impl<C: Ord + Copy> LogIdListOf<C> {
             && nat_lt index (end_index (full_log self.now))) }
     {
         keys::get(&self.key_log_ids, index)
+    }
+
+    /// Returns a range of indexes with one leader that has this index, if there is a log id at it.
+    pub(crate) fn range_at(&self, index: u64) -> Option<LeaderRange<C>>
+        ensures none { IfNone result (id_at (full_log self.now) index ≡ None) }
+        ensures within { IfSome result (λ r. (r.first ≤ index) × (index ≤ r.last)) }
+        ensures ids { IfSome result
+            (λ r. HasOneLeader (full_log self.now) r.leader_id r.first r.last) }
+    {
+        keys::range_at(&self.key_log_ids, index)
     }
 
     /// The first log id, if there is one.

@@ -1,11 +1,12 @@
 //! The work of a list over plain keys. The list keeps them in order.
-ghost use Rattle.std.specs.Prelude.{◌≡◌, ◌+◌, ◌<◌, ◌≤◌, length, map, nat_le, if◌then◌else◌, IsOk, OnOk, OnErr, IsTrue, [], vec_len};
+ghost use Rattle.std.specs.Prelude.{◌≡◌, ◌+◌, ◌<◌, ◌≤◌, ◌&&◌, length, map, nat_le, if◌then◌else◌, None, IfSome, IfNone, IsOk, OnOk, OnErr, IsTrue, [], vec_len};
 ghost use Rattle.std.specs.Vec.{vec_capacity};
 ghost use Rattle.raft_state.specs.FullLog.{full_log, end_index};
 ghost use Rattle.raft_state.specs.LogReads.{id_at, last_id, last_two_share_leader};
 ghost use Rattle.raft_state.specs.LogConditions.{follows, all_follow, ends_share_leader};
 ghost use Rattle.raft_state.specs.Keys.{key_follows, may_be_keys, by_last_leader as last_leader_keys};
 ghost use Rattle.raft_state.specs.Inner.KeyList.{Rises, keys_to};
+ghost use Rattle.raft_state.specs.Inner.LeaderRange.{HasOneLeader};
 ghost use Rattle.raft_state.specs.Inner.KeyEdits.{keys_after_append, keys_after_extend, keys_below, keys_after_purge};
 
 use raft_base::{LogIdOf, RaftLogId};
@@ -219,6 +220,55 @@ pub fn get<C: Ord + Copy>(keys: &[LogIdOf<C>], index: u64) -> Option<LogIdOf<C>>
         return None;
     }
     Some(LogIdOf::new(key.leader_id, index))
+}
+
+/// A range of indexes at which a log has log ids of one leader.
+#[derive(Clone, Copy)]
+pub struct LeaderRange<C> {
+    /// The leader.
+    pub leader_id: C,
+    /// The first index.
+    pub first: u64,
+    /// The last index.
+    pub last: u64,
+}
+
+impl<C: Copy> LeaderRange<C> {
+    /// Whether an index is in the range.
+    pub fn contains(self, index: u64) -> bool
+        ensures { result ≡ (nat_le self.first index && nat_le index self.last) }
+    {
+        self.first <= index && index <= self.last
+    }
+}
+
+/// Returns the range from the last key that is not past an index up to before the next key, if the
+/// log has a log id at that index.
+pub fn range_at<C: Ord + Copy>(keys: &[LogIdOf<C>], index: u64) -> Option<LeaderRange<C>>
+    requires { IsTrue (may_be_keys C.cmp keys.now) }
+    ensures none { IfNone result (id_at (full_log keys.now) index ≡ None) }
+    ensures within { IfSome result (λ r. (r.first ≤ index) × (index ≤ r.last)) }
+    ensures ids { IfSome result
+        (λ r. HasOneLeader (full_log keys.now) r.leader_id r.first r.last) }
+{
+    let covered = count_to(keys, index);
+    if covered == 0 {
+        return None;
+    }
+    let key = keys[covered - 1];
+    let last = if covered < keys.len() {
+        keys[covered].index - 1
+    } else {
+        key.index
+    };
+    if last < index {
+        return None;
+    }
+    Some(LeaderRange {
+        leader_id: key.leader_id,
+        first: key.index,
+        last,
+    })
 }
 
 /// How many keys are not past an index: by halving down to a few, which are counted.

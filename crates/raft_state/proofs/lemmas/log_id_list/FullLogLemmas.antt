@@ -230,6 +230,43 @@ some_found {C} cmp ks j (suc n) key s some b e place h =
     let below = below_next cmp ks j key s (omega arith) (omega arith) last in
     rw (← here) at (some_here cmp ks j n key s (sym e) below)
 
+-- the last of the keys that are not past j is not, and the next key is
+pub last_counted : {C : Type 0} (cmp : C → C → Ordering) (ks : List (LogIdOf C)) (j n : ℕ) (key : LogIdOf C) → IsKeyList cmp ks
+    → (n ≡ 0 → ⊥) → n ≤ length ks → n ≡ keys_to ks j → key ≡ get_or ks (n - 1) key → key.index ≤ j
+last_counted cmp ks j n key s some b counted place =
+    let here = rw (← place) at (counted_by_place 0 ks _ j (n - 1) key (key_list_rises_zero cmp ks s) (omega arith)) in
+    grind (arith, nat_tests)
+
+pub next_past : {C : Type 0} (cmp : C → C → Ordering) (ks : List (LogIdOf C)) (j n : ℕ) (key : LogIdOf C) → IsKeyList cmp ks
+    → n < length ks → n ≡ keys_to ks j → j < (get_or ks n key).index
+next_past cmp ks j n key s more counted =
+    let here = counted_by_place 0 ks _ j n key (key_list_rises_zero cmp ks s) more in
+    grind (arith, nat_tests)
+
+-- from a key on, up to before the next key or to the last one, the log ids are of its leader
+pub one_leader_from_key : {C : Type 0} (cmp : C → C → Ordering) (ks : List (LogIdOf C)) (n last i : ℕ) (key : LogIdOf C)
+    → IsKeyList cmp ks → (n ≡ 0 → ⊥) → n ≤ length ks → key ≡ get_or ks (n - 1) key
+    → ((next : LogIdOf C) × (n < length ks) × (last < (get_or ks n next).index)) ⊎ ((length ks ≤ n) × (last ≡ key.index))
+    → key.index ≤ i → i ≤ last
+    → id_at (full_log ks) i ≡ Some (record { leader_id = key.leader_id; index = i })
+one_leader_from_key {C} cmp ks n last i key s some b place next from to =
+    let rises = key_list_rises_zero cmp ks s in
+    let here = rw (← place) at (counted_by_place 0 ks _ i (n - 1) key rises (omega arith)) in
+    let within = counts_within ks i in
+    elim next [
+      | inl before ↦ (
+          let end = counted_by_place 0 ks _ i n before.0 rises before.1 in
+          let past = before.2 in
+          let more = before.1 in
+          let counted : n ≡ keys_to ks i = grind (arith, nat_tests) in
+          some_found cmp ks i n key s some b counted place (inr (λ all. omega arith)))
+      | inr last_one ↦ (
+          let all = last_one.0 in
+          let is = last_one.1 in
+          let counted : n ≡ keys_to ks i = grind (arith, nat_tests) in
+          some_found cmp ks i n key s some b counted place (inl (omega arith, omega arith)))
+    ]
+
 -- a key covers each index from the first on
 pub covers : {C : Type 0} (k : LogIdOf C) (ks : List (LogIdOf C)) (j : ℕ) → k.index ≤ j → (c : LogIdOf C) × (covering (k ∷ ks) j ≡ Some c)
 covers {C} k ks j le = let t : nat_le k.index j ≡ true = grind (arith, nat_tests) in let q = either (covering ks j) in (q.0, rw t q.1)

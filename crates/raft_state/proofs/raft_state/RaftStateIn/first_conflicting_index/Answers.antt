@@ -15,7 +15,7 @@ pub returns-then-not-has_entry-clause-place : goal.returns-then-not-has_entry-cl
 returns-then-not-has_entry-clause-place g c =
     fails_here (λ e. has_id g.C.PartialEq.eq (view_of c.args.self.now) (g.Ent.RaftLogId.id_of e)) c.args.entries.now c.loop-place.place
     c.index-entries-place.result c.loop-place-test.true c.index-entries-place.is
-    (sym c.has_entry.ensures ∙ c.if-not-has_entry.true) c.loop-place.invariant
+    (sym c.has_entry.ensures.answer ∙ c.if-not-has_entry.true) c.loop-place.invariant.passed
 
 pub returns-then-not-has_entry-clause-within : goal.returns-then-not-has_entry-clause-within
 returns-then-not-has_entry-clause-within g c =
@@ -33,21 +33,23 @@ returns-then-not-has_entry-clause-at g c =
     (returns-then-not-has_entry-clause-place g c)
 
 pub loop-place-preserved : goal.loop-place-preserved
-loop-place-preserved g c =
-    passes_here (λ e. has_id g.C.PartialEq.eq (view_of c.args.self.now) (g.Ent.RaftLogId.id_of e)) c.args.entries.now c.loop-place.place
-    c.index-entries-place.result c.loop-place-test.true c.index-entries-place.is
-    (sym c.has_entry.ensures ∙ c.if-not-has_entry.false) c.loop-place.invariant
+loop-place-preserved g c = record {
+  passed = passes_here (λ e. has_id g.C.PartialEq.eq (view_of c.args.self.now) (g.Ent.RaftLogId.id_of e)) c.args.entries.now
+      c.loop-place.place c.index-entries-place.result c.loop-place-test.true c.index-entries-place.is
+      (sym c.has_entry.ensures.answer ∙ c.if-not-has_entry.false) c.loop-place.invariant.passed;
+  range = c.has_entry.ensures.range;
+}
 
 pub returns-clause-before : goal.returns-clause-before
 returns-clause-before g c =
     let xs = c.args.entries.now in
     place_passes (λ e. has_id g.C.PartialEq.eq (view_of c.args.self.now) (g.Ent.RaftLogId.id_of e)) xs (length xs)
     (passes_all (λ e. has_id g.C.PartialEq.eq (view_of c.args.self.now) (g.Ent.RaftLogId.id_of e)) xs c.loop-place.place
-    c.loop-place-test.false c.loop-place.invariant)
+    c.loop-place-test.false c.loop-place.invariant.passed)
 
 pub returns-clause-at : goal.returns-clause-at
 returns-clause-at g c =
     let xs = c.args.entries.now in
     place_fails (λ e. has_id g.C.PartialEq.eq (view_of c.args.self.now) (g.Ent.RaftLogId.id_of e)) xs (length xs)
     (passes_all (λ e. has_id g.C.PartialEq.eq (view_of c.args.self.now) (g.Ent.RaftLogId.id_of e)) xs c.loop-place.place
-    c.loop-place-test.false c.loop-place.invariant)
+    c.loop-place-test.false c.loop-place.invariant.passed)
