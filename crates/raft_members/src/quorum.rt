@@ -12,5 +12,5 @@ mod quorum_set_impl;
 pub use at_least::AtLeast;
 pub use coherent::{Coherent, FindCoherent};
 pub use joint::{AsJoint, Joint};
-pub(crate) use joint_impl::ids_of_each;
+pub(crate) use joint_impl::{ids_of_each, least_of_each};
 pub use quorum_set::QuorumSet;

@@ -17,7 +17,8 @@ use std::cell::Cell;
 use std::process::Abort;
 use std::test::Fail;
 
-/// A list of voters that counts how often it is asked.
+/// A list of voters that counts how often it is asked. It writes the two calls of a quorum set that
+/// have no body, and nothing else.
 #[derive(Drop)]
 struct Asked {
     voters: Vec<u64>,
@@ -34,10 +35,6 @@ impl QuorumSet<u64> for Asked {
     fn is_quorum(&self, ids: &[u64]) -> bool {
         self.calls.set(self.calls.get().saturating_add(1));
         self.voters.is_quorum(ids)
-    }
-
-    fn least_quorum_size(&self) -> usize {
-        0
     }
 
     fn ids(&self, alloc: Global) -> Result<Vec<u64>, AllocError> {

@@ -17,7 +17,7 @@ ghost use Rattle.raft_members.specs.Stored.{log_id_of, membership_of};
 use super::learner_ids::LearnerIds;
 use super::stored::StoredMembershipOf;
 use super::{Membership, configs, ids};
-use crate::quorum::{Joint, QuorumSet};
+use crate::quorum::{Joint, QuorumSet, least_of_each};
 use raft_base::{CommittedLeaderId, LogIdOf, MessageSummary, Node, NodeId, RaftLogId};
 use std::alloc::{AllocError, Global};
 use std::collections::{BTreeSet, btree_map, btree_set};
@@ -218,11 +218,11 @@ impl<C: Copy + Drop, NID: NodeId, N: Node> EffectiveMembershipOf<C, NID, N> {
 
     /// How many ids a quorum of each config has at least.
     fn least_size_of_quorums(&self) -> usize
-        ensures told { result ≡ greatest majority_size (membership_of self.now).configs }
+        ensures exact { result ≡ greatest majority_size (membership_of self.now).configs }
         ensures least { QuorumsHaveAtLeast NID.eq
             (is_joint_majority NID.eq (membership_of self.now).configs) result }
     {
-        self.quorum_set.least_quorum_size()
+        least_of_each(self.get_joint_config(), |config| config.least_quorum_size())
     }
 }
 
@@ -232,15 +232,17 @@ impl<C: Copy + Drop, NID: NodeId, N: Node> QuorumSet<NID> for EffectiveMembershi
 
     ghost is_voter = { λ e id. is_voter_of NID.eq (membership_of e).configs id };
 
-    ghost least_size = { λ e. greatest majority_size (membership_of e).configs };
-
     ghost superset = { λ e. is_joint_majority-superset NID.eq (membership_of e).configs };
 
     fn is_quorum(&self, ids: &[NID]) -> bool {
         self.has_quorum(ids)
     }
 
-    fn least_quorum_size(&self) -> usize {
+    fn least_quorum_size(&self) -> usize
+        ensures exact { result ≡ greatest majority_size (membership_of self.now).configs }
+        ensures least { QuorumsHaveAtLeast NID.eq
+            (is_joint_majority NID.eq (membership_of self.now).configs) result }
+    {
         self.least_size_of_quorums()
     }
 

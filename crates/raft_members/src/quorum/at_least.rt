@@ -6,6 +6,7 @@ ghost use Rattle.std.proofs.lemmas.Map.Keys.{IsStrictlySortedBy-prop};
 ghost use Rattle.raft_members.specs.Majority.{has_at_least};
 ghost use Rattle.raft_members.specs.MajorityLawful.{has_at_least-superset};
 ghost use Rattle.raft_members.specs.Meeting.{RespectsEquality};
+ghost use Rattle.raft_members.specs.QuorumSize.{QuorumsHaveAtLeast};
 
 use super::quorum_set::QuorumSet;
 use super::quorum_set_impl::{exceeds, has, sorted_copies};
@@ -74,8 +75,6 @@ impl<ID: Copy + Ord> QuorumSet<ID> for AtLeast<ID> {
 
     ghost is_voter = { λ q. is_member ID.eq (ids_of q) };
 
-    ghost least_size = { need_of };
-
     ghost superset = { λ q. has_at_least-superset ID.eq (ids_of q) (need_of q) };
 
     #[inline(always)]
@@ -84,7 +83,11 @@ impl<ID: Copy + Ord> QuorumSet<ID> for AtLeast<ID> {
         exceeds(ids, self.need - 1, |id| has(voters, id))
     }
 
-    fn least_quorum_size(&self) -> usize {
+    fn least_quorum_size(&self) -> usize
+        ensures exact { result ≡ need_of self.now }
+        ensures least { QuorumsHaveAtLeast ID.eq
+            (has_at_least ID.eq (ids_of self.now) (need_of self.now)) result }
+    {
         self.need
     }
 

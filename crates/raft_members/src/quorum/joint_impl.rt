@@ -1,5 +1,7 @@
 //! A joint as a quorum set: a quorum is a quorum in every child.
-ghost use Rattle.std.specs.Prelude.{◌≡◌, ◌||◌, IfOk, OnOk};
+ghost use Rattle.std.specs.Borrow.{Bor};
+ghost use Rattle.std.specs.Fn.{AnyResult};
+ghost use Rattle.std.specs.Prelude.{◌≡◌, ◌||◌, ℕ, IfOk, OnOk};
 ghost use Rattle.std.specs.List.{IsDistinct, list_any, list_all};
 ghost use Rattle.std.specs.List.Sorted.{IsStrictlySortedBy};
 ghost use Rattle.std.specs.Set.{is_member};
@@ -17,8 +19,6 @@ impl<ID: Copy + Ord, QS: QuorumSet<ID>> QuorumSet<ID> for Joint<ID, QS, Vec<QS>>
 
     ghost is_voter = { λ j x. list_any (λ c. QS.is_voter c x) j.items };
 
-    ghost least_size = { λ j. greatest (λ c. QS.least_size c) j.items };
-
     ghost superset = { λ j s t h.
         list_all-weaker (λ c. QS.has_quorum c s) (λ c. QS.has_quorum c t)
         (λ c. QS.superset c s t h) j.items };
@@ -30,7 +30,7 @@ impl<ID: Copy + Ord, QS: QuorumSet<ID>> QuorumSet<ID> for Joint<ID, QS, Vec<QS>>
 
     #[inline(always)]
     fn least_quorum_size(&self) -> usize {
-        least_of_each(self.children())
+        least_of_each(self.children(), |child| child.least_quorum_size())
     }
 
     fn ids(&self, alloc: Global) -> Result<Vec<ID>, AllocError> {
@@ -44,8 +44,6 @@ impl<'a, ID: Copy + Ord, QS: QuorumSet<ID>> QuorumSet<ID> for Joint<ID, QS, &'a 
 
     ghost is_voter = { λ j x. list_any (λ c. QS.is_voter c x) j.now };
 
-    ghost least_size = { λ j. greatest (λ c. QS.least_size c) j.now };
-
     ghost superset = { λ j s t h.
         list_all-weaker (λ c. QS.has_quorum c s) (λ c. QS.has_quorum c t)
         (λ c. QS.superset c s t h) j.now };
@@ -57,7 +55,7 @@ impl<'a, ID: Copy + Ord, QS: QuorumSet<ID>> QuorumSet<ID> for Joint<ID, QS, &'a 
 
     #[inline(always)]
     fn least_quorum_size(&self) -> usize {
-        least_of_each(self.children())
+        least_of_each(self.children(), |child| child.least_quorum_size())
     }
 
     fn ids(&self, alloc: Global) -> Result<Vec<ID>, AllocError> {
@@ -79,20 +77,30 @@ fn is_quorum_of_each<ID: Copy + Ord, QS: QuorumSet<ID>>(children: &[QS], ids: &[
     true
 }
 
-/// The greatest bound of the children: a quorum of all has as many ids as one of each.
+/// The greatest answer of the children, and 0 of none: a quorum of all has as many ids as a quorum
+/// of each.
+// The call is given as a closure, so that a clause can say which answer is returned: the contract
+// of a quorum set's own call says no more than a bound.
 #[inline(always)]
-fn least_of_each<ID: Copy + Ord, QS: QuorumSet<ID>>(children: &[QS]) -> usize
-    ensures told { result ≡ greatest (λ c. QS.least_size c) children.now }
-    ensures least { QuorumsHaveAtLeast ID.eq
-        (λ s. list_all (λ c. QS.has_quorum c s) children.now) result }
+pub(crate) fn least_of_each<ID: Copy + Ord, QS: QuorumSet<ID>, F: Fn(&QS) -> usize>(
+    children: &[QS],
+    size_of: F,
+) -> usize
+    requires { F.IsAlwaysCallable size_of }
+    ensures exact { (size : QS → ℕ) →
+        ((c : Bor QS) → AnyResult F.Fn size_of (c, tt) (λ n. n ≡ size c.now)) →
+        result ≡ greatest size children.now }
+    ensures least { ((c : Bor QS) → AnyResult F.Fn size_of (c, tt)
+        (QuorumsHaveAtLeast ID.eq (QS.has_quorum c.now))) →
+        QuorumsHaveAtLeast ID.eq (λ s. list_all (λ c. QS.has_quorum c s) children.now) result }
 {
     // Two lists, as a change of voters has, are asked without a loop.
     if let [old, new] = children {
-        return old.least_quorum_size().max(new.least_quorum_size());
+        return size_of(old).max(size_of(new));
     }
     let mut greatest = 0;
     for child in children {
-        greatest = child.least_quorum_size().max(greatest);
+        greatest = size_of(child).max(greatest);
     }
     greatest
 }

@@ -1,5 +1,5 @@
 //! What a quorum set is.
-ghost use Rattle.std.specs.Prelude.{◌≡◌, ℕ, Bool, true, IfOk};
+ghost use Rattle.std.specs.Prelude.{◌≡◌, Bool, true, IfOk};
 ghost use Rattle.std.specs.List.{IsDistinct};
 ghost use Rattle.std.specs.Set.{is_member};
 ghost use Rattle.std.specs.List.Sorted.{IsStrictlySortedBy};
@@ -12,15 +12,16 @@ use std::alloc::{AllocError, Global};
 /// Nothing is asked of a family but that whatever contains a quorum is a quorum: an id more never
 /// turns a decision round. In contracts a set of ids is a test, `ID → Bool`, so that neither an
 /// order of ids nor repeated ids can matter.
+///
+/// To write a quorum set of your own, write the two calls `is_quorum` and `ids`, state what they
+/// compute as `has_quorum` and `is_voter`, and prove `superset`. The third call,
+/// `least_quorum_size`, has a body.
 pub trait QuorumSet<ID: Copy + Ord> {
     /// Whether a set of ids is a quorum.
     ghost has_quorum: { Self → (ID → Bool) → Bool };
 
     /// Whether an id is one of the voters.
     ghost is_voter: { Self → ID → Bool };
-
-    /// How many ids a quorum has at least, as far as the quorum set tells: 0 where it does not.
-    ghost least_size: { Self → ℕ } = { λ q. 0 };
 
     /// Whether the ids are a quorum.
     ///
@@ -30,12 +31,18 @@ pub trait QuorumSet<ID: Copy + Ord> {
         ensures quorum { IsDistinct ID.eq ids.now →
             result ≡ has_quorum self.now (is_member ID.eq ids.now) };
 
-    /// How many ids a quorum has at least, as far as the quorum set tells: 0 where it does not.
+    /// Returns a number of ids that each quorum has at least. The body here returns 0, which each
+    /// quorum has.
     ///
-    /// A caller that has fewer ids need not ask. Nothing is allocated.
+    /// A caller that has fewer ids need not ask `is_quorum`, so a greater number saves a progress
+    /// quorum tests. A list or a set of voters, an `AtLeast` and an `EffectiveMembership` say which
+    /// number they return, and a joint returns the greatest one of its children. Nothing is
+    /// allocated.
     fn least_quorum_size(&self) -> usize
-        ensures told { result ≡ least_size self.now }
-        ensures least { QuorumsHaveAtLeast ID.eq (has_quorum self.now) result };
+        ensures least { QuorumsHaveAtLeast ID.eq (has_quorum self.now) result }
+    {
+        0
+    }
 
     /// The voters, each once, ascending.
     fn ids(&self, alloc: Global) -> Result<Vec<ID>, AllocError>

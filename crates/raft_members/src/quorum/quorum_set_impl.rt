@@ -7,7 +7,7 @@ ghost use Rattle.std.specs.Fn.{AnyResult};
 ghost use Rattle.std.specs.List.Sorted.{IsStrictlySortedBy};
 ghost use Rattle.raft_members.specs.Majority.{is_majority};
 ghost use Rattle.raft_members.specs.MajorityLawful.{is_majority-superset};
-ghost use Rattle.raft_members.specs.QuorumSize.{majority_size};
+ghost use Rattle.raft_members.specs.QuorumSize.{QuorumsHaveAtLeast, majority_size};
 
 use super::quorum_set::QuorumSet;
 use std::alloc::{AllocError, Global};
@@ -23,8 +23,6 @@ impl<ID: Copy + Ord> QuorumSet<ID> for Vec<ID> {
 
     ghost is_voter = { λ c. is_member ID.eq c.items };
 
-    ghost least_size = { λ c. majority_size c.items };
-
     ghost superset = { λ c. is_majority-superset ID.eq c.items };
 
     #[inline(always)]
@@ -32,7 +30,10 @@ impl<ID: Copy + Ord> QuorumSet<ID> for Vec<ID> {
         has_majority(self, ids)
     }
 
-    fn least_quorum_size(&self) -> usize {
+    fn least_quorum_size(&self) -> usize
+        ensures exact { result ≡ majority_size self.now.items }
+        ensures least { QuorumsHaveAtLeast ID.eq (is_majority ID.eq self.now.items) result }
+    {
         self.as_slice().least_quorum_size()
     }
 
@@ -47,8 +48,6 @@ impl<'a, ID: Copy + Ord> QuorumSet<ID> for &'a [ID] {
 
     ghost is_voter = { λ c. is_member ID.eq c.now };
 
-    ghost least_size = { λ c. majority_size c.now };
-
     ghost superset = { λ c. is_majority-superset ID.eq c.now };
 
     #[inline(always)]
@@ -56,7 +55,10 @@ impl<'a, ID: Copy + Ord> QuorumSet<ID> for &'a [ID] {
         has_majority(self, ids)
     }
 
-    fn least_quorum_size(&self) -> usize {
+    fn least_quorum_size(&self) -> usize
+        ensures exact { result ≡ majority_size self.now.now }
+        ensures least { QuorumsHaveAtLeast ID.eq (is_majority ID.eq self.now.now) result }
+    {
         self.len() / 2 + 1
     }
 
@@ -71,15 +73,16 @@ impl<ID: Copy + Ord> QuorumSet<ID> for BTreeSet<ID> {
 
     ghost is_voter = { λ c. is_member ID.eq c.keys };
 
-    ghost least_size = { λ c. majority_size c.keys };
-
     ghost superset = { λ c. is_majority-superset ID.eq c.keys };
 
     fn is_quorum(&self, ids: &[ID]) -> bool {
         exceeds(ids, self.len() / 2, |id| self.contains(&id))
     }
 
-    fn least_quorum_size(&self) -> usize {
+    fn least_quorum_size(&self) -> usize
+        ensures exact { result ≡ majority_size self.now.keys }
+        ensures least { QuorumsHaveAtLeast ID.eq (is_majority ID.eq self.now.keys) result }
+    {
         self.len() / 2 + 1
     }
 
@@ -93,8 +96,6 @@ impl<ID: Copy + Ord, T: QuorumSet<ID> + Drop> QuorumSet<ID> for Rc<T> {
     ghost has_quorum = { λ q s. T.has_quorum q.value s };
 
     ghost is_voter = { λ q x. T.is_voter q.value x };
-
-    ghost least_size = { λ q. T.least_size q.value };
 
     ghost superset = { λ q. T.superset q.value };
 

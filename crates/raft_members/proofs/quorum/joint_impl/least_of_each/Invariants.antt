@@ -1,8 +1,14 @@
-use Rattle.std.proofs.Common.{◌≡◌, take}
+use Rattle.std.proofs.Common.{◌≡◌, ℕ, take}
+use Rattle.std.specs.Borrow.{Bor}
+use Rattle.std.specs.Fn.{AnyResult}
 use Rattle.std.specs.List.{list_all}
 use Rattle.raft_members.specs.QuorumSize.{QuorumsHaveAtLeast, greatest}
 use Rattle.raft_members.proofs.quorum.joint_impl.least_of_each.Given as goal
 
 abbrev pub invariant-loop-child : goal.invariant-loop-child
-invariant-loop-child g l = (l.greatest ≡ greatest g.QS.QuorumSet.least_size (take l.child-index l.children))
-    × QuorumsHaveAtLeast g.ID.PartialEq.eq (λ s. list_all (λ c. g.QS.QuorumSet.has_quorum c s) l.children) l.greatest
+invariant-loop-child g l = ((size : g.row.QS.Denot → ℕ)
+    → ((c : Bor g.row.QS.Denot) → AnyResult g.F.Fn l.size_of (c, tt) (λ n. n ≡ size c.now))
+    → l.greatest ≡ greatest size (take l.child-index l.children))
+    × (((c : Bor g.row.QS.Denot)
+    → AnyResult g.F.Fn l.size_of (c, tt) (QuorumsHaveAtLeast g.ID.PartialEq.eq (g.QS.QuorumSet.has_quorum c.now)))
+    → QuorumsHaveAtLeast g.ID.PartialEq.eq (λ s. list_all (λ c. g.QS.QuorumSet.has_quorum c s) l.children) l.greatest)

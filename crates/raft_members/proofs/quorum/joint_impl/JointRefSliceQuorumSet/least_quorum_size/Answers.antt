@@ -1,4 +1,7 @@
+use Rattle.std.proofs.Common.{rules}
 use Rattle.raft_members.proofs.quorum.joint_impl.JointRefSliceQuorumSet.least_quorum_size.Goals as goal
 
 pub returns : goal.returns
-returns g c = rw c.children.ensures at c.least_of_each.ensures
+returns g c =
+    let least = c.least_of_each.ensures.least (λ child n answered. search rules) in
+    record { least = rw c.children.ensures at least }
