@@ -2,4 +2,5 @@
 pub mod EntryTable
 pub mod EntryValid
 pub mod Send
+pub mod Sendable
 pub mod LateResponse

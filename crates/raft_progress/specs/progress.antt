@@ -20,4 +20,5 @@ pub mod ShownSteps
 pub mod Equal
 pub mod EqualLawful
 pub mod Threshold
+pub mod LoggedMatches
 pub mod Calls

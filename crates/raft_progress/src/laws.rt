@@ -1,8 +1,12 @@
 //! What holds of every progress, as contracts: a caller that needs one of these facts calls its
 //! function, which does nothing.
-ghost use Rattle.raft_progress.specs.progress.Calls.{IncreasesAreSteps, RunsCompose, UpdatesAreSteps, UpgradesAreSteps};
-ghost use Rattle.raft_progress.specs.progress.Comparisons.{comparisons};
+ghost use Rattle.std.specs.Prelude.{Option};
+ghost use Rattle.std.specs.declared.cmp.Ordering.{Ordering};
+ghost use Rattle.raft_progress.specs.entry.Sendable.{AckKeepsSendable, BeginsSendable, ConflictKeepsSendable, GiveUpKeepsSendable, GrowthKeepsSendable, SendKeepsSendable, SendableCanSend};
+ghost use Rattle.raft_progress.specs.progress.Calls.{IncreasesAreSteps, RunsAreRunsOfValues, RunsCompose, RunsNeverFall, UpdatesAreSteps, UpgradesAreSteps};
+ghost use Rattle.raft_progress.specs.progress.Comparisons.{comparisons_ordered};
 ghost use Rattle.raft_progress.specs.progress.CountedValue.{IsCounted};
+ghost use Rattle.raft_progress.specs.progress.LoggedMatches.{GrantedIsLogged};
 ghost use Rattle.raft_progress.specs.progress.Kept.{ClonesKeepOrder, KeptPartsKeepOrder, SamePartKeepsParts};
 ghost use Rattle.raft_progress.specs.progress.Shown.{state};
 ghost use Rattle.raft_progress.specs.progress.Threshold.{CountedValuesTie, GrantedIsThreshold, MeetingQuorumsKnowGranted};
@@ -12,12 +16,12 @@ ghost use Rattle.raft_progress.specs.tracked.Headline.{ChangedQuorumsKnowGranted
 ghost use Rattle.raft_progress.specs.tracked.Headline.{QuorumsKnowGranted};
 ghost use Rattle.raft_progress.specs.tracked.Known.{ChangeKeepsGranted, KnownOverChanges, KnownStays};
 ghost use Rattle.raft_progress.specs.tracked.Tracked.{tracked};
-ghost use Rattle.raft_progress.specs.tracked.TrackedCalls.{ReplaysCompose, TrackedChangesAreSteps, TrackedUpdatesAreSteps};
+ghost use Rattle.raft_progress.specs.tracked.TrackedCalls.{ReplaysAreRunsOfValues, ReplaysCompose, ReplaysNeverFall, TrackedChangesAreSteps, TrackedUpdatesAreSteps};
 ghost use Rattle.raft_progress.specs.tracked.TrackedState.{IsReady, has_quorum};
 
 use crate::progress::ProgressPart;
 use crate::tracked::Tracked;
-use raft_base::{LogStateReader, Node, NodeId};
+use raft_base::{LogIdOf, LogStateReader, Node, NodeId};
 use raft_members::quorum::QuorumSet;
 
 /// A progress that was in order is in order once values have been written through `get_mut` or
@@ -66,6 +70,18 @@ pub fn meeting_quorums_know_granted<
     ensures { MeetingQuorumsKnowGranted ID V P QS ID.eq P.cmp V.part_of QS.has_quorum }
 {}
 
+/// If each match is in the leader's log, or purged from the log, then so is what is granted.
+///
+/// So a leader need not look up what it commits, once each match that it has taken is in its log.
+pub fn granted_is_logged<
+    ID: Copy + Ord,
+    V: ProgressPart<Option<LogIdOf<C>>>,
+    C: Ord + Copy,
+    QS: QuorumSet<ID>,
+>()
+    ensures { GrantedIsLogged ID V C QS ID.eq C.eq C.cmp V.part_of QS.has_quorum }
+{}
+
 /// There is one counted value of a state: two that are counted tie, and what ties is counted.
 pub fn counted_values_tie<ID: Copy + Ord, V: ProgressPart<P>, P: Copy + Ord, QS: QuorumSet<ID>>()
     ensures { CountedValuesTie ID V P QS P.cmp V.part_of QS.has_quorum }
@@ -82,37 +98,58 @@ pub fn clones_keep_order<
 {}
 
 /// Calls that are made are steps of a run, and two runs, one from where the other has left, are
-/// one. So what is said of a replay holds of any list of calls.
+/// one. So what is said of a replay holds of any list of calls: replies and values are a run of the
+/// steps, and without an upgrade granted never falls.
+///
+/// Values need no order: only an increase compares them. So the law holds of a leader's followers
+/// too, for whom `replay_any` can't be called, and it holds for each order that values may have.
 pub fn calls_are_runs<
     ID: Copy + Ord,
-    V: ProgressPart<P> + PartialOrd + Clone,
+    V: ProgressPart<P> + Clone,
     P: Copy + Ord,
     QS: QuorumSet<ID>,
 >()
-    ensures compose { let by = comparisons ID.Ord P.Ord V.PartialOrd V.ProgressPart V.Clone in
+    ensures compose { (order : V → V → Option Ordering) →
+        let by = comparisons_ordered ID.Ord P.Ord order V.ProgressPart V.Clone in
         RunsCompose ID V P QS by QS.has_quorum QS.is_voter }
-    ensures updates { let by = comparisons ID.Ord P.Ord V.PartialOrd V.ProgressPart V.Clone in
+    ensures values { (order : V → V → Option Ordering) →
+        let by = comparisons_ordered ID.Ord P.Ord order V.ProgressPart V.Clone in
+        RunsAreRunsOfValues ID V P QS by QS.has_quorum QS.is_voter }
+    ensures never_falls { (order : V → V → Option Ordering) →
+        let by = comparisons_ordered ID.Ord P.Ord order V.ProgressPart V.Clone in
+        RunsNeverFall ID V P QS by QS.has_quorum QS.is_voter }
+    ensures updates { (order : V → V → Option Ordering) →
+        let by = comparisons_ordered ID.Ord P.Ord order V.ProgressPart V.Clone in
         UpdatesAreSteps ID V P QS by QS.has_quorum QS.is_voter }
-    ensures increases { let by = comparisons ID.Ord P.Ord V.PartialOrd V.ProgressPart V.Clone in
+    ensures increases { (order : V → V → Option Ordering) →
+        let by = comparisons_ordered ID.Ord P.Ord order V.ProgressPart V.Clone in
         IncreasesAreSteps ID V P QS by QS.has_quorum QS.is_voter }
-    ensures upgrades { let by = comparisons ID.Ord P.Ord V.PartialOrd V.ProgressPart V.Clone in
+    ensures upgrades { (order : V → V → Option Ordering) →
+        let by = comparisons_ordered ID.Ord P.Ord order V.ProgressPart V.Clone in
         UpgradesAreSteps ID V P QS by QS.has_quorum QS.is_voter }
 {}
 
 /// Calls of a `Tracked` that are made are steps of a replay, and two replays, one from where the
 /// other has left, are one. The calls are an update, and going over to what a change makes of the
-/// membership.
-pub fn tracked_calls_are_runs<
-    NID: NodeId,
-    N: Node,
-    V: ProgressPart<P> + PartialOrd + Clone,
-    P: Copy + Ord,
->()
-    ensures compose { let by = comparisons NID.Ord P.Ord V.PartialOrd V.ProgressPart V.Clone in
+/// membership. Over a replay, replies, membership and values are a run of the steps, and without a
+/// change granted never falls.
+///
+/// Values need no order, as for `calls_are_runs`.
+pub fn tracked_calls_are_runs<NID: NodeId, N: Node, V: ProgressPart<P> + Clone, P: Copy + Ord>()
+    ensures compose { (order : V → V → Option Ordering) →
+        let by = comparisons_ordered NID.Ord P.Ord order V.ProgressPart V.Clone in
         ReplaysCompose NID N V P by N.eq }
-    ensures updates { let by = comparisons NID.Ord P.Ord V.PartialOrd V.ProgressPart V.Clone in
+    ensures values { (order : V → V → Option Ordering) →
+        let by = comparisons_ordered NID.Ord P.Ord order V.ProgressPart V.Clone in
+        ReplaysAreRunsOfValues NID N V P by N.eq }
+    ensures never_falls { (order : V → V → Option Ordering) →
+        let by = comparisons_ordered NID.Ord P.Ord order V.ProgressPart V.Clone in
+        ReplaysNeverFall NID N V P by N.eq }
+    ensures updates { (order : V → V → Option Ordering) →
+        let by = comparisons_ordered NID.Ord P.Ord order V.ProgressPart V.Clone in
         TrackedUpdatesAreSteps NID N V P by N.eq }
-    ensures changes { let by = comparisons NID.Ord P.Ord V.PartialOrd V.ProgressPart V.Clone in
+    ensures changes { (order : V → V → Option Ordering) →
+        let by = comparisons_ordered NID.Ord P.Ord order V.ProgressPart V.Clone in
         TrackedChangesAreSteps NID N V P by N.eq }
 {}
 
@@ -128,10 +165,14 @@ pub fn change_keeps_granted<NID: NodeId, N: Node, V: ProgressPart<P> + Clone, P:
 ///
 /// So over several changes: what was granted is known for as long as before each further change
 /// what is granted has reached it again.
-pub fn known_stays<NID: NodeId, N: Node, V: ProgressPart<P> + PartialOrd + Clone, P: Copy + Ord>()
-    ensures without_change { let by = comparisons NID.Ord P.Ord V.PartialOrd V.ProgressPart V.Clone
-        in KnownStays NID N V P by N.eq }
-    ensures over_changes { let by = comparisons NID.Ord P.Ord V.PartialOrd V.ProgressPart V.Clone in
+///
+/// Values need no order, as for `calls_are_runs`.
+pub fn known_stays<NID: NodeId, N: Node, V: ProgressPart<P> + Clone, P: Copy + Ord>()
+    ensures without_change { (order : V → V → Option Ordering) →
+        let by = comparisons_ordered NID.Ord P.Ord order V.ProgressPart V.Clone in
+        KnownStays NID N V P by N.eq }
+    ensures over_changes { (order : V → V → Option Ordering) →
+        let by = comparisons_ordered NID.Ord P.Ord order V.ProgressPart V.Clone in
         KnownOverChanges NID N V P by N.eq }
 {}
 
@@ -156,4 +197,20 @@ pub fn granted_meet<
 /// it there: the premise of the sharper bound of `search_run`, from its events alone.
 pub fn none_purged_past<C: Ord + Copy, L: LogStateReader<C>>()
     ensures { PurgedWithinStays L C C.cmp L.log_view }
+{}
+
+/// Once `can_send` has been true for a follower to whom nothing was in flight, it stays true while
+/// the log only grows: `IsSendable` holds from then on, over sends, over responses that are accepted
+/// and over `give_up`, until a request id or an index is the greatest u64.
+///
+/// The premises: an ack of a snapshot is not past the leader's log, which an ack of logs can't be,
+/// and the log has what its snapshot has.
+pub fn can_send_stays<C: Ord + Copy, L: LogStateReader<C>>()
+    ensures begins { BeginsSendable C }
+    ensures sends { (log : L) → SendKeepsSendable C C.cmp (L.log_view log) }
+    ensures acks { AckKeepsSendable C C.cmp }
+    ensures conflicts { ConflictKeepsSendable C }
+    ensures gives_up { GiveUpKeepsSendable C }
+    ensures grows { GrowthKeepsSendable C }
+    ensures can_send { SendableCanSend C }
 {}

@@ -1,3 +1,4 @@
 pub mod AckLemmas
 pub mod EntryLemmas
 pub mod LateResponseLemmas
+pub mod SendableLemmas

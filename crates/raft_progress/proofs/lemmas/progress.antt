@@ -8,6 +8,7 @@ pub mod GrantedLemmas
 pub mod InOrderLemmas
 pub mod KeptLemmas
 pub mod LentLemmas
+pub mod LoggedLemmas
 pub mod NewProgressLemmas
 pub mod OutcomeLemmas
 pub mod RefusalLemmas

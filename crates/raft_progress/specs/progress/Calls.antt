@@ -1,16 +1,20 @@
 -- Calls of a progress as steps of a run, and how runs compose.
-use Rattle.std.specs.Prelude.{◌≡◌, Bool, List, ◌++◌, None, Some}
+use Rattle.std.specs.List.{list_any}
+use Rattle.std.specs.Prelude.{◌≡◌, Bool, List, ◌++◌, None, Some, false}
 use Rattle.std.proofs.Common.{Global, Vec}
 use Rattle.raft_progress.specs.progress.Comparisons.{Comparisons}
+use Rattle.raft_progress.specs.progress.CountedValue.{AtMost}
 use Rattle.raft_progress.specs.progress.InOrder.{IsInOrder}
 use Rattle.raft_progress.specs.progress.NewProgress.{LearnersFit}
 use Rattle.raft_progress.specs.progress.Run.{Runs}
 use Rattle.raft_progress.specs.progress.Shown.{Shown, state}
-use Rattle.raft_progress.specs.progress.ShownSteps.{IsDone, IsShownStep}
+use Rattle.raft_progress.specs.progress.ShownSteps.{IsDone, IsShownRun, IsShownStep, is_upgrade}
+use Rattle.raft_progress.specs.progress.Steps.{IsRun}
 use Rattle.raft_progress.specs.progress.Updated.{IsNotLower, IsNotLowerIfGreater}
 use Rattle.raft_progress.specs.progress.Upgrade.{CanUpgrade, IsUpgraded}
 use Rattle.raft_progress.specs.declared.progress.steps.AnyStep.{AnyStep}
 use Rattle.raft_progress.specs.declared.progress.steps.AnyStep.TheVariants.{IncreaseTo, Update, Upgrade}
+use Rattle.raft_progress.specs.declared.progress.steps.Reply.{Reply}
 use Rattle.raft_progress.specs.declared.progress.steps.Reply.TheVariants.{Granted, Unknown}
 
 -- two runs, one from where the other has left, are one
@@ -26,6 +30,20 @@ module _ (ID V P QS : Type 0) (by : Comparisons ID V P) (has_quorum : QS → (ID
   -- runs of a progress compose
   abbrev pub RunsCompose : Type 0
   RunsCompose = Compose (IsShownStep {QS = QS} by has_quorum is_voter)
+
+  -- over a run the values go on as a run of the values says
+  abbrev pub RunsAreRunsOfValues : Type 0
+  RunsAreRunsOfValues =
+      (old new : Shown ID V P QS) (steps : List (AnyStep ID V QS)) (replies : List (Reply ID P))
+      → IsShownRun by has_quorum is_voter old steps replies new
+      → IsRun by has_quorum is_voter (state by.eq old) steps replies (state by.eq new)
+
+  -- over a run without an upgrade granted never falls
+  abbrev pub RunsNeverFall : Type 0
+  RunsNeverFall =
+      (old new : Shown ID V P QS) (steps : List (AnyStep ID V QS)) (replies : List (Reply ID P))
+      → IsShownRun by has_quorum is_voter old steps replies new → list_any is_upgrade steps ≡ false
+      → AtMost by.cmp old.granted new.granted
 
   -- the step was made: of a known id it is answered by what is granted, and of an unknown one by
   -- what is granted and that the id is unknown

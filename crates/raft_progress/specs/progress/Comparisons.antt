@@ -23,6 +23,19 @@ pub record Comparisons (ID V P : Type 0) : Type 1 where
   pub part : V → P
   pub IsClone : V → V → Type 0
 
+-- those of the traits of ids and parts, with values ordered so
+abbrev pub comparisons_ordered : {ID V P : Type 0} → OrdMembers ID → OrdMembers P
+    → (V → V → Option Ordering) → part_ghosts.Ghosts V P → clone_ghosts.Ghosts V → Comparisons ID V P
+comparisons_ordered ids parts order value clones =
+    record {
+      eq = ids.eq;
+      id_cmp = ids.cmp;
+      cmp = parts.cmp;
+      partial_cmp = order;
+      part = value.part_of;
+      IsClone = clones.is_clone;
+    }
+
 -- those of the traits of ids, parts and values
 abbrev pub comparisons : {ID V P : Type 0} → OrdMembers ID → OrdMembers P → PartialOrdMembers V
     → part_ghosts.Ghosts V P → clone_ghosts.Ghosts V → Comparisons ID V P

@@ -1,21 +1,39 @@
 -- Calls of a membership and its progress as steps of a replay, and how replays compose.
-use Rattle.std.specs.Prelude.{Bool}
+use Rattle.std.specs.List.{list_any}
+use Rattle.std.specs.Prelude.{◌≡◌, Bool, List, false}
 use Rattle.raft_members.specs.Change.{changed}
 use Rattle.raft_members.specs.Members.{MemberList, Says, members_of}
 use Rattle.raft_members.specs.Valid.{IsValid}
 use Rattle.raft_members.specs.declared.change_members.ChangeMembers.{ChangeMembers}
 use Rattle.raft_progress.specs.progress.Calls.{Compose}
 use Rattle.raft_progress.specs.progress.Comparisons.{Comparisons}
+use Rattle.raft_progress.specs.progress.CountedValue.{AtMost}
 use Rattle.raft_progress.specs.tracked.SingleSteps.{IsTrackedChangeTo, IsTrackedUpdate}
-use Rattle.raft_progress.specs.tracked.TrackedShownSteps.{IsTrackedShownStep}
-use Rattle.raft_progress.specs.tracked.TrackedState.{IsReady, TrackedShown}
+use Rattle.raft_progress.specs.tracked.TrackedShownSteps.{IsTrackedShownRun, IsTrackedShownStep, is_change}
+use Rattle.raft_progress.specs.tracked.TrackedState.{IsReady, TrackedShown, tracked_state}
+use Rattle.raft_progress.specs.tracked.TrackedSteps.{IsTrackedRun}
 use Rattle.raft_progress.specs.declared.progress.steps.Reply.{Reply}
+use Rattle.raft_progress.specs.declared.tracked.step.Step.{Step}
 use Rattle.raft_progress.specs.declared.tracked.step.Step.TheVariants.{Change, Update}
 
 module _ (K N V P : Type 0) (by : Comparisons K V P) (same : N → N → Bool) where
   -- replays compose
   abbrev pub ReplaysCompose : Type 0
   ReplaysCompose = Compose (IsTrackedShownStep {V = V} {P = P} by same)
+
+  -- over a replay membership and values go on as a run of them says
+  abbrev pub ReplaysAreRunsOfValues : Type 0
+  ReplaysAreRunsOfValues =
+      (old new : TrackedShown K N V P) (steps : List (Step K N V)) (replies : List (Reply K P))
+      → IsTrackedShownRun by same old steps replies new
+      → IsTrackedRun by same (tracked_state by.eq old) steps replies (tracked_state by.eq new)
+
+  -- over a replay without a change granted never falls
+  abbrev pub ReplaysNeverFall : Type 0
+  ReplaysNeverFall =
+      (old new : TrackedShown K N V P) (steps : List (Step K N V)) (replies : List (Reply K P))
+      → IsTrackedShownRun by same old steps replies new → list_any is_change steps ≡ false
+      → AtMost by.cmp old.progress.granted new.progress.granted
 
   -- an update, however it was answered, is a step
   abbrev pub TrackedUpdatesAreSteps : Type 0
