@@ -5,7 +5,7 @@ ghost use Rattle.raft_progress.specs.declared.progress.steps.AnyStep.TheVariants
 ghost use Rattle.raft_progress.specs.declared.progress.steps.Reply.TheVariants.{Granted};
 ghost use Rattle.raft_progress.specs.declared.progress.steps.Reply.{Reply};
 ghost use Rattle.raft_progress.specs.declared.tracked.step.Step.TheVariants.{Change, Update as TrackedUpdate};
-ghost use Rattle.raft_progress.specs.progress.Comparisons.{comparisons};
+ghost use Rattle.raft_progress.specs.progress.Comparisons.{comparisons, comparisons_ordered};
 ghost use Rattle.raft_progress.specs.progress.CountedValue.{AtMost};
 ghost use Rattle.raft_progress.specs.progress.InOrder.{IsInOrder};
 ghost use Rattle.raft_progress.specs.progress.NewProgress.{LearnersFit};
@@ -25,7 +25,8 @@ ghost use Rattle.raft_progress.specs.tracked.Tracked.{tracked};
 ghost use Rattle.raft_progress.specs.tracked.TrackedShownSteps.{IsTrackedShownRun, IsTrackedShownStep, is_change};
 ghost use Rattle.std.specs.List.{AllByRecursion, list_any};
 ghost use Rattle.std.specs.Ordering.{bool_cmp, nat_cmp};
-ghost use Rattle.std.specs.Prelude.{◌++◌, ◌/◌, ◌<◌, ◌^◌, ◌↔◌, ◌∷◌, ◌≡◌, ◌≤◌, ◌⊎◌, Bool, IfOk, IsTrue, Some, false, length, true, ℕ};
+ghost use Rattle.std.specs.declared.cmp.Ordering.{Ordering};
+ghost use Rattle.std.specs.Prelude.{◌++◌, ◌/◌, ◌<◌, ◌^◌, ◌↔◌, ◌∷◌, ◌≡◌, ◌≤◌, ◌⊎◌, Bool, IfOk, IsTrue, Option, Some, false, length, true, ℕ};
 ghost use Rattle.std.specs.Set.{ClonesAreEqual};
 
 use crate::support::steps::{first_ids, made};
@@ -60,16 +61,17 @@ fn is_granted<ID: Copy + Ord, V: ProgressPart<P> + Drop, P: Copy + Ord, QS: Quor
     part.cmp(progress.granted()).is_le()
 }
 
-/// Takes an ack, which is a step of a run.
-fn acked<
+/// Takes an ack, which is a step of a run: also of a follower, whose values have no order.
+pub fn acked<
     ID: Copy + Ord,
-    V: ProgressPart<P> + PartialOrd + Clone + Drop,
+    V: ProgressPart<P> + Clone + Drop,
     P: Copy + Ord,
     QS: QuorumSet<ID> + Drop,
 >(progress: &mut VecProgress<ID, V, P, QS>, id: &ID, value: V)
     requires ordered { IsInOrder ID.eq P.cmp V.part_of QS.has_quorum (shown progress.old) }
     requires not_lower { IsNotLower ID.eq P.cmp V.part_of (shown progress.old) id.now value }
-    ensures { let by = comparisons ID.Ord P.Ord V.PartialOrd V.ProgressPart V.Clone in
+    ensures { (order : V → V → Option Ordering) →
+        let by = comparisons_ordered ID.Ord P.Ord order V.ProgressPart V.Clone in
         (reply : Reply ID P) × IsShownStep by QS.has_quorum QS.is_voter (shown progress.old)
         (Update id.now value) reply (shown progress.new) }
 {
@@ -174,12 +176,7 @@ fn acked_before_turn<
 
 /// Goes over to what a change makes of the members, once it has come through the log, which is a
 /// step of a replay.
-fn gone_over_to<
-    NID: NodeId,
-    N: Node,
-    V: ProgressPart<P> + PartialOrd + Clone + Drop,
-    P: Copy + Ord,
->(
+fn gone_over_to<NID: NodeId, N: Node, V: ProgressPart<P> + Clone + Drop, P: Copy + Ord>(
     cluster: &mut Tracked<NID, N, V, P>,
     change: ChangeMembers<NID, N>,
     retain: bool,
@@ -187,7 +184,8 @@ fn gone_over_to<
 ) -> Result<Reply<NID, P>, ChangeMembershipError<NID>>
     requires nodes { ClonesAreEqual N.eq N.is_clone }
     requires values { (v w : V) → V.is_clone v w → V.part_of w ≡ V.part_of v }
-    ensures { let by = comparisons NID.Ord P.Ord V.PartialOrd V.ProgressPart V.Clone in
+    ensures { (order : V → V → Option Ordering) →
+        let by = comparisons_ordered NID.Ord P.Ord order V.ProgressPart V.Clone in
         IfOk result (λ reply. IsTrackedShownStep by N.eq (tracked cluster.old)
         (Change change retain default) reply (tracked cluster.new)) }
 {
@@ -198,12 +196,7 @@ fn gone_over_to<
 
 /// Goes over to what a change makes of the members: where it is made, each quorum of the new members
 /// has a voter that has what was granted before, also where less is granted now.
-fn gone_over_known<
-    NID: NodeId,
-    N: Node,
-    V: ProgressPart<P> + PartialOrd + Clone + Drop,
-    P: Copy + Ord,
->(
+fn gone_over_known<NID: NodeId, N: Node, V: ProgressPart<P> + Clone + Drop, P: Copy + Ord>(
     cluster: &mut Tracked<NID, N, V, P>,
     change: ChangeMembers<NID, N>,
     retain: bool,

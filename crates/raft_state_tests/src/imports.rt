@@ -150,10 +150,10 @@ mod progress {
 
     mod laws {
         pub use raft_progress::laws::{
-            calls_are_runs, change_keeps_granted, clones_keep_order, counted_values_tie,
-            granted_is_threshold, granted_meet, kept_parts_keep_order, known_stays,
-            meeting_quorums_know_granted, none_purged_past, quorums_know_granted,
-            tracked_calls_are_runs,
+            calls_are_runs, can_send_stays, change_keeps_granted, clones_keep_order,
+            counted_values_tie, granted_is_logged, granted_is_threshold, granted_meet,
+            kept_parts_keep_order, known_stays, meeting_quorums_know_granted, none_purged_past,
+            quorums_know_granted, tracked_calls_are_runs,
         };
     }
 

@@ -1,0 +1,164 @@
+//! Callers of the laws over a leader's followers, whose values are progress entries and have no order.
+ghost use Rattle.raft_base.specs.LogId.{log_id_cmp, next_index};
+ghost use Rattle.raft_progress.specs.progress.CountedValue.{AtMost};
+ghost use Rattle.raft_progress.specs.progress.InOrder.{IsInOrder};
+ghost use Rattle.raft_progress.specs.progress.LoggedMatches.{MatchesAreLogged, is_logged_or_purged};
+ghost use Rattle.raft_progress.specs.progress.VecProgress.{shown};
+ghost use Rattle.raft_progress.specs.tracked.Known.{QuorumsKnow};
+ghost use Rattle.raft_progress.specs.tracked.Tracked.{tracked};
+ghost use Rattle.std.specs.Option.{option_cmp};
+ghost use Rattle.std.specs.Prelude.{◌≡◌, ◌<◌, ◌≤◌, ◌^◌, IsTrue, true};
+
+use crate::laws::acked;
+use crate::support::steps::{first_ids, made};
+use raft_base::{
+    EmptyNode, LeaderId, LogId, LogIdOf, LogIdOptionExt, LogStateReader, Node, NodeId,
+};
+use raft_base_tests::support::plain_log::{PlainLog, id, log_below};
+use raft_members::Membership;
+use raft_members::quorum::QuorumSet;
+use raft_progress::entry::{ProgressEntry, ProgressEntryOf};
+use raft_progress::inflight::InflightOf;
+use raft_progress::laws::{can_send_stays, granted_is_logged, known_stays, tracked_calls_are_runs};
+use raft_progress::progress::{Progress as _, ProgressPart, VecProgress};
+use raft_progress::tracked::Tracked;
+use std::alloc::{AllocError, Global};
+use std::collections::BTreeMap;
+use std::test::Fail;
+
+/// A leader's followers, with the membership that they are of.
+type Followers = Tracked<u64, EmptyNode, ProgressEntry<u64>, Option<LogId<u64>>>;
+
+/// Takes what followers have acknowledged, one call after another. Together the calls are one
+/// replay, so granted never falls, and each quorum knows what it knew.
+fn take_responses<NID: NodeId, N: Node, V: ProgressPart<P> + Clone + Drop, P: Copy + Ord>(
+    cluster: &mut Tracked<NID, N, V, P>,
+    responses: Vec<(NID, V)>,
+)
+    ensures never_falls { AtMost P.cmp
+        (tracked cluster.old).progress.granted (tracked cluster.new).progress.granted }
+    ensures known { (p : P) → QuorumsKnow NID.eq P.cmp V.part_of (tracked cluster.old) p →
+        QuorumsKnow NID.eq P.cmp V.part_of (tracked cluster.new) p }
+{
+    tracked_calls_are_runs::<NID, N, V, P>();
+    known_stays::<NID, N, V, P>();
+    for (id, value) in responses {
+        let _ = cluster.update(&id, value);
+    }
+}
+
+/// What is granted of followers whose matches are in the log, which then has it too.
+fn commit_upto<
+    ID: Copy + Ord,
+    C: Ord + Copy + Drop,
+    QS: QuorumSet<ID> + Drop,
+    L: LogStateReader<C>,
+>(
+    followers: &VecProgress<ID, ProgressEntryOf<C>, Option<LogIdOf<C>>, QS>,
+    log: &L,
+) -> Option<LogIdOf<C>>
+    requires ordered { IsInOrder ID.eq (option_cmp (log_id_cmp C.cmp)) (λ e. e.matching)
+        QS.has_quorum (shown followers.now) }
+    requires logged { MatchesAreLogged ID.eq C.eq (λ e. e.matching) (L.log_view log.now)
+        (shown followers.now) }
+    ensures { is_logged_or_purged C.eq (L.log_view log.now) result ≡ true }
+{
+    granted_is_logged::<ID, ProgressEntryOf<C>, C, QS>();
+    *followers.granted()
+}
+
+/// Whether a log has the index of a log id, or a later one.
+fn reaches<C: Ord + Copy, L: LogStateReader<C>>(log: &L, id: Option<LogIdOf<C>>) -> bool
+    ensures { IsTrue result → next_index id ≤ next_index (L.log_view log.now).last }
+{
+    id.index() <= log.last_log_id().copied().index()
+}
+
+/// Whether a log has grown, and its indexes are below the greatest u64.
+fn has_grown<C: Ord + Copy, L: LogStateReader<C>>(log: &L, later: &L) -> bool
+    ensures more { IsTrue result → next_index (L.log_view log.now).last
+        ≤ next_index (L.log_view later.now).last }
+    ensures last { IsTrue result → next_index (L.log_view later.now).last < 2 ^ 64 }
+    ensures purged { IsTrue result → next_index (L.log_view later.now).purge_upto < 2 ^ 64 }
+{
+    reaches(later, log.last_log_id().copied())
+        && later.last_log_id().copied().has_next_index()
+        && later.purge_upto().copied().has_next_index()
+}
+
+/// Sends, takes an ack and sends again, once the log has grown. It asks only once whether it can.
+fn sends_twice<C: Ord + Copy, L: LogStateReader<C>>(
+    follower: &mut ProgressEntryOf<C>,
+    log: &L,
+    acked: Option<LogIdOf<C>>,
+    later: &L,
+) -> bool {
+    can_send_stays::<C, L>();
+    if !follower.inflight.is_none() || !follower.can_send(log) || follower.curr_inflight_id > 99 {
+        return false;
+    }
+    if !reaches(log, acked) || !reaches(log, log.snapshot_last_log_id().copied()) {
+        return false;
+    }
+    if follower.next_send(log, 8).is_err() {
+        return false;
+    }
+    let request = follower.curr_inflight_id;
+    if follower.update_matching(request, acked).is_err() || !has_grown(log, later) {
+        return false;
+    }
+    follower.next_send(later, 8).is_ok()
+}
+
+/// Followers 0 to 2, of whom nothing is known but that their logs end below 9.
+fn followers(alloc: Global) -> Result<Followers, AllocError> {
+    let mut nodes = BTreeMap::new(alloc);
+    for id in 0..3u64 {
+        nodes.insert(id, EmptyNode::new())?;
+    }
+    Tracked::new(
+        Membership::from_nodes(alloc, nodes)?,
+        ProgressEntry::empty(9),
+    )
+}
+
+#[test]
+fn responses_of_followers_are_one_replay(rt: HostRuntime) -> Result<(), Fail> {
+    let mut followers = followers(rt.alloc())?;
+    let responses = vec![in rt.alloc();
+        (0, ProgressEntry::new(id(1, 4))),
+        (1, ProgressEntry::new(id(1, 6))),
+        (7, ProgressEntry::new(id(1, 8))),
+    ]?;
+    take_responses(&mut followers, responses);
+    assert_eq!(rt; *followers.progress().granted(), id(1, 4));
+    Ok(())
+}
+
+#[test]
+fn an_ack_of_a_follower_is_a_step(rt: HostRuntime) -> Result<(), Fail> {
+    let alloc = rt.alloc();
+    let mut followers = made(
+        &rt,
+        alloc,
+        first_ids(alloc, 1)?,
+        &[],
+        ProgressEntry::empty(9),
+    )?;
+    let matched = ProgressEntry::new(id(1, 6));
+    let falls = followers.would_fall(&0, &matched);
+    assert!(rt; !falls);
+    acked(&mut followers, &0, matched);
+    assert_eq!(rt; *followers.granted(), id(1, 6));
+    Ok(())
+}
+
+#[test]
+fn a_follower_is_sent_to_again(rt: HostRuntime) -> Result<(), Fail> {
+    let log: PlainLog<LeaderId<u64>> = log_below(rt.alloc(), 9, None)?;
+    let later = log_below(rt.alloc(), 20, None)?;
+    let mut follower = ProgressEntry::empty(9);
+    assert!(rt; sends_twice(&mut follower, &log, id(1, 7), &later));
+    assert!(rt; follower.inflight == InflightOf::logs(id(1, 7), id(1, 15)).with_id(2));
+    Ok(())
+}
