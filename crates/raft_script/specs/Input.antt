@@ -1,17 +1,17 @@
 -- The lines of an input.
 use Rattle.std.specs.Prelude.{◌≡◌, ◌==◌, ℕ, Bool, true, false, List, [], ◌∷◌, Option, Some, None, ⊤}
 use Rattle.std.specs.List.{list_any, slice_split}
-use Rattle.std.specs.Io.Buffered.{reader_remaining, writer_contents}
-use Rattle.std.specs.Io.KnownBytes.{Consumes}
+use Rattle.std.specs.Io.Buffered.{reader_remaining}
+use Rattle.std.specs.Io.KnownBytes.{Consumes, append_known}
 use Rattle.raft_script.specs.declared.script.dialogue.Dialogue.{Dialogue}
 
 -- what is not read yet, where that is known
-abbrev pub unread : {R W : Type 0} → (R → Option (List ℕ)) → Dialogue R W → Option (List ℕ)
+abbrev pub unread : {R : Type 0} → (R → Option (List ℕ)) → Dialogue R → Option (List ℕ)
 unread remaining dialogue = reader_remaining remaining dialogue.input
 
--- what is written or held back to be written, where that is known
-abbrev pub contents : {R W : Type 0} → (W → Option (List ℕ)) → Dialogue R W → Option (List ℕ)
-contents written dialogue = writer_contents written dialogue.replies
+-- what is written, and then what is held back to be written, where that is known
+abbrev pub contents : {R : Type 0} → Option (List ℕ) → Dialogue R → Option (List ℕ)
+contents written dialogue = append_known written dialogue.replies.items
 
 -- whether a line ends in these bytes
 abbrev pub has_line_feed : List ℕ → Bool

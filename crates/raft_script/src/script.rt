@@ -13,7 +13,7 @@ ghost use Rattle.raft_script.specs.LineRun.{AnswersLine, IsLeftByFault, IsStepTo
 ghost use Rattle.raft_script.specs.Script.{BreaksOff, HasStatus, RunsScript};
 
 use command::{Command, LineError};
-use dialogue::Dialogue;
+use dialogue::{Dialogue, write_out};
 use engine::Engine;
 use raft_progress::progress::Reply;
 use std::alloc::Global;
@@ -25,7 +25,9 @@ use std::io::{self, Read, Write};
 /// is named and ends the script, and 1 after a fault of input or output or for want of memory.
 /// Replies are written together, but each before more input is waited for.
 pub fn run<R: Read + Drop, W: Write>(alloc: Global, reader: R, writer: &mut W) -> u8
-    ensures { result ≢ 1 → HasStatus (R.remaining reader) result }
+    ensures status { result ≢ 1 → HasStatus (R.remaining reader) result }
+    ensures prints { result ≢ 1 → Prints (W.contents writer.old) (W.contents writer.new)
+        (RunsScript (R.remaining reader) result) }
 {
     match run_lines(alloc, reader, writer) {
         Ok(status) => status,
@@ -33,31 +35,37 @@ pub fn run<R: Read + Drop, W: Write>(alloc: Global, reader: R, writer: &mut W) -
     }
 }
 
+/// Runs the lines of the reader, and writes their replies.
 fn run_lines<R: Read + Drop, W: Write>(alloc: Global, reader: R, writer: &mut W) -> io::Result<u8>
-    ensures { IfOk result (HasStatus (R.remaining reader)) }
+    ensures { IfOk result (λ status. Prints (W.contents writer.old) (W.contents writer.new)
+        (RunsScript (R.remaining reader) status)) }
 {
-    let mut dialogue = Dialogue::new(alloc, reader, writer)?;
-    let status = answer_lines(alloc, &mut dialogue)?;
-    dialogue.replies.flush()?;
-    Ok(status)
+    let mut dialogue = Dialogue::new(alloc, reader)?;
+    let ended = answer_lines(alloc, &mut dialogue, writer);
+    // After a fault too, what was answered is written.
+    write_out(&mut dialogue.replies, writer)?;
+    ended
 }
 
 /// Answers one line after another, and gives the status.
-fn answer_lines<R: Read, W: Write + Drop>(
+fn answer_lines<R: Read, W: Write>(
     alloc: Global,
-    dialogue: &mut Dialogue<R, W>,
+    dialogue: &mut Dialogue<R>,
+    writer: &mut W,
 ) -> io::Result<u8>
-    ensures ok { IfOk result (λ status.
-        Prints (contents W.contents dialogue.old) (contents W.contents dialogue.new)
+    ensures ok { IfOk result (λ status. Prints
+        (contents (W.contents writer.old) dialogue.old)
+        (contents (W.contents writer.new) dialogue.new)
         (RunsScript (unread R.remaining dialogue.old) status)) }
     ensures err { OnErr result (BreaksOff
         (unread R.remaining dialogue.old) (unread R.remaining dialogue.new)
-        (contents W.contents dialogue.old) (contents W.contents dialogue.new)) }
+        (contents (W.contents writer.old) dialogue.old)
+        (contents (W.contents writer.new) dialogue.new)) }
 {
     let mut line = Vec::new(alloc);
     let mut engine = Engine::new();
     for passed in 0..u64::MAX {
-        let is_last = dialogue.read_line(&mut line)?;
+        let is_last = dialogue.read_line(&mut line, writer)?;
         let replies = &mut dialogue.replies;
         if !answer_line(alloc, &mut engine, passed + 1, &line, replies)? {
             return Ok(2);

@@ -1,6 +1,6 @@
 -- Lines that are run one after another.
 use Rattle.std.specs.Prelude.{◌≡◌, ◌+◌, ◌<◌, ◌==◌, ◌^◌, ℕ, Bool, true, false, List, [], ◌∷◌, ◌++◌, Option, Some, None, IsNone, length}
-use Rattle.std.specs.Io.KnownBytes.{Appends, Keeps}
+use Rattle.std.specs.Io.KnownBytes.{Appends, Keeps, append_known}
 use Rattle.std.proofs.Common.{arith, refl, sym, subst, ap, ◌∙◌, inl, inr, append_assoc, true≢false}
 use Rattle.std.proofs.lemmas.List.{append-nil}
 use Rattle.std.proofs.lemmas.List.Splits.{length-slice_split}
@@ -201,3 +201,35 @@ passed_all script before unread now passed held (replies, prints, is) used = (
   out : (ls : List (List ℕ)) → 0 < length ls → RunsLines (passed + 1) held ls 1 []
   out [] some = absurd (omega arith)
   out (line ∷ others) some = inr (inl (refl, used, refl))
+
+-- what is printed to what is held back is printed behind what is written
+pub held_back : (written : Option (List ℕ)) (old new : List ℕ) (Fits : List ℕ → Type 0) → Prints (Some old) (Some new) Fits
+    → Prints (append_known written old) (append_known written new) Fits
+held_back None old new Fits (text, more, fits) = (text, tt, fits)
+held_back (Some xs) old new Fits (text, more, fits) = (text, ap (λ l. xs ++ l) more ∙ sym (append_assoc xs old text), fits)
+
+-- what is printed and then written out, from nothing held back to nothing held back, is written
+written_out : (before now after : Option (List ℕ)) (replies : List ℕ) → Appends (append_known before []) now replies
+    → Keeps now (append_known after []) → Appends before after replies
+written_out None now after replies all kept = tt
+written_out (Some xs) None after replies all kept = absurd all
+written_out (Some xs) (Some ys) None replies all kept = absurd kept
+written_out (Some xs) (Some ys) (Some zs) replies all kept =
+    sym (append-nil zs) ∙ kept ∙ all ∙ ap (λ l. l ++ replies) (append-nil xs)
+
+same_script : (script unread : Option (List ℕ)) (status : ℕ) (replies : List ℕ) → Keeps script unread → RunsScript unread status replies
+    → RunsScript script status replies
+same_script None unread status replies kept (said, is, runs) = (said, tt, runs)
+same_script (Some text) None status replies kept (said, is, runs) = absurd kept
+same_script (Some text) (Some rest) status replies kept (said, is, runs) = (said, is ∙ ap lines kept, runs)
+
+-- a script that is run, once its replies are written out, is run by its reader and its writer
+pub run_whole : (script unread before now after : Option (List ℕ)) (status : ℕ) (first last : List ℕ) → Keeps script unread
+    → first ≡ [] → last ≡ [] → Prints (append_known before first) now (RunsScript unread status) → Keeps now (append_known after last)
+    → Prints before after (RunsScript script status)
+run_whole script unread before now after status first last same none all (replies, prints, runs) kept = (
+  replies,
+  written_out before now after replies (subst (λ (l : List ℕ). Appends (append_known before l) now replies) none prints)
+      (subst (λ (l : List ℕ). Keeps now (append_known after l)) all kept),
+  same_script script unread status replies same runs,
+)

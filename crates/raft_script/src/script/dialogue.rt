@@ -1,53 +1,82 @@
 //! The input and the output of a program that someone may talk to.
 ghost use Rattle.std.specs.Prelude.{◌≡◌, [], false, IfOk, OnErr, OnOk};
-ghost use Rattle.std.specs.Io.Buffered.{reader_buffer, writer_buffer};
-ghost use Rattle.std.specs.Io.KnownBytes.{Consumes, Keeps};
+ghost use Rattle.std.specs.Io.Buffered.{reader_buffer};
+ghost use Rattle.std.specs.Io.KnownBytes.{Consumes, Keeps, append_known};
 ghost use Rattle.raft_script.specs.Input.{TakesLine, TakesPart, contents, has_line_feed, unread};
 
 use std::alloc::Global;
-use std::io::{self, BufRead, BufReader, BufWriter, Read, Write};
+use std::io::{self, BufRead, BufReader, ErrorKind, Read, Write};
 
 /// The room for what is read ahead, and for replies that are not yet written.
 const BUFFER_SIZE: usize = 65536;
 
+/// From so many bytes on, replies are held back no longer. One reply has less than that many, so
+/// that the room never grows.
+const MOST_HELD_BACK: usize = BUFFER_SIZE / 2;
+
 /// An input, with the replies to what it has given.
 ///
 /// Replies are held back and written together, but each of them before more input is waited for.
+// The writer is lent to each call. No contract of std says that a `BufWriter` keeps the reference
+// that it is made of, so nothing would be known at the end of what the writer behind it holds.
 #[derive(Drop)]
-pub struct Dialogue<R, W: Write + Drop> {
+pub struct Dialogue<R> {
     pub input: BufReader<R>,
-    pub replies: BufWriter<W>,
+    pub replies: Vec<u8>,
 }
 
-impl<R: Read, W: Write + Drop> Dialogue<R, W> {
-    /// A dialogue of which nothing is read or written.
-    pub fn new(alloc: Global, reader: R, writer: W) -> io::Result<Dialogue<R, W>>
+impl<R: Read> Dialogue<R> {
+    /// A dialogue of which nothing is read or answered.
+    pub fn new(alloc: Global, reader: R) -> io::Result<Dialogue<R>>
     where
         R: Drop,
         ensures unread { IfOk result (λ new. Keeps (R.remaining reader) (unread R.remaining new)) }
-        ensures contents { IfOk result (λ new. Keeps (W.contents writer) (contents W.contents new)) }
+        ensures silent { IfOk result (λ new. new.replies.items ≡ []) }
     {
-        let replies = BufWriter::with_capacity(alloc, BUFFER_SIZE, writer)?;
+        let replies = Vec::with_capacity(alloc, BUFFER_SIZE)?;
         let input = BufReader::with_capacity(alloc, BUFFER_SIZE, reader)?;
         Ok(Dialogue { input, replies })
     }
 
     /// Reads a line without its line feed, and answers whether it is the last one.
-    pub fn read_line(&mut self, line: &mut Vec<u8>) -> io::Result<bool>
+    pub fn read_line<W: Write>(&mut self, line: &mut Vec<u8>, writer: &mut W) -> io::Result<bool>
         ensures line { IfOk result (λ is_last. TakesLine
             (unread R.remaining self.old) line.new.items is_last (unread R.remaining self.new)) }
         ensures none_lost { OnErr result
             (TakesPart (unread R.remaining self.old) (unread R.remaining self.new)) }
-        ensures contents { Keeps (contents W.contents self.old) (contents W.contents self.new) }
+        ensures contents { Keeps (contents (W.contents writer.old) self.old)
+            (contents (W.contents writer.new) self.new) }
         ensures nothing_held_back { OnOk result (has_line_feed (reader_buffer self.old.input) ≡ false
-            → writer_buffer self.new.replies ≡ []) }
+            → self.new.replies.items ≡ []) }
     {
         // Where no whole line has been read ahead, more input is waited for.
-        if !self.input.buffer().contains(&b'\n') {
-            self.replies.flush()?;
+        if self.replies.len() >= MOST_HELD_BACK || !self.input.buffer().contains(&b'\n') {
+            write_out(&mut self.replies, writer)?;
         }
         read_line(&mut self.input, line)
     }
+}
+
+/// Writes the bytes, and takes those away that are written: all of them, unless a write fails.
+pub fn write_out<W: Write>(bytes: &mut Vec<u8>, writer: &mut W) -> io::Result<()>
+    ensures contents { Keeps (append_known (W.contents writer.old) bytes.old.items)
+        (append_known (W.contents writer.new) bytes.new.items) }
+    ensures ok { OnOk result (bytes.new.items ≡ []) }
+{
+    for _ in 0..u64::MAX {
+        if bytes.is_empty() {
+            return writer.flush();
+        }
+        match writer.write(bytes) {
+            Ok(0) => return Err(io::Error::from(ErrorKind::WriteZero)),
+            Ok(written) => {
+                bytes.drain(..written);
+            }
+            Err(error) if error.kind() == ErrorKind::Interrupted => {}
+            Err(error) => return Err(error),
+        }
+    }
+    Err(io::Error::from(ErrorKind::Interrupted))
 }
 
 /// Reads a line without its line feed, and answers whether it is the last one.

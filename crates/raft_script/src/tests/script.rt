@@ -1,4 +1,6 @@
 //! Scripts, line by line.
+ghost use Rattle.raft_script.specs.Script.{RunsScript};
+ghost use Rattle.std.specs.Prelude.{◌≢◌, Some};
 
 use crate::script::run;
 use crate::tests::support::{REPLIES, SCRIPT, assert_answers, push_times};
@@ -90,12 +92,22 @@ fn answers_scripts(rt: HostRuntime) -> Result<(), Fail> {
     assert_rows(&rt, rt.alloc(), ENDED, 2)
 }
 
+/// The replies to a script, and its status. Unless the status is 1, they are the replies of a run of
+/// the whole script.
+fn replies_to(alloc: Global, script: &[u8]) -> (Vec<u8>, u8)
+    ensures { result.1 ≢ 1 → RunsScript (Some script.now) result.1 result.0.items }
+{
+    let mut out = Vec::new(alloc);
+    let status = run(alloc, script, &mut out);
+    (out, status)
+}
+
 /// Example script 1. The script ends at a bad line.
 #[test]
 fn ends_at_a_bad_line(rt: HostRuntime) -> Result<(), Fail> {
-    let mut out = Vec::new(rt.alloc());
-    assert_eq!(rt; run(rt.alloc(), SCRIPT, &mut out), 2);
-    assert_eq!(rt; out.as_slice(), REPLIES);
+    let (replies, status) = replies_to(rt.alloc(), SCRIPT);
+    assert_eq!(rt; status, 2);
+    assert_eq!(rt; replies.as_slice(), REPLIES);
     Ok(())
 }
 
