@@ -94,9 +94,12 @@ pub(crate) fn least_of_each<ID: Copy + Ord, QS: QuorumSet<ID>, F: Fn(&QS) -> usi
         (QuorumsHaveAtLeast ID.eq (QS.has_quorum c.now))) →
         QuorumsHaveAtLeast ID.eq (λ s. list_all (λ c. QS.has_quorum c s) children.now) result }
 {
-    // Two lists, as a change of voters has, are asked without a loop.
+    // One list or two, as a membership has, are asked without a loop.
     if let [old, new] = children {
         return size_of(old).max(size_of(new));
+    }
+    if let [only] = children {
+        return only.least_quorum_size();
     }
     let mut greatest = 0;
     for child in children {
