@@ -1,9 +1,9 @@
 //! Effective memberships.
-ghost use Rattle.std.specs.Prelude.{◌≡◌, IfOk, map, Some, None, []};
+ghost use Rattle.std.specs.Prelude.{◌≡◌, IfOk, length, map, Some, None, []};
 ghost use Rattle.std.specs.List.{IsDistinct};
 ghost use Rattle.std.specs.List.Sorted.{IsStrictlySortedBy};
 ghost use Rattle.std.specs.Map.{keys_of};
-ghost use Rattle.std.specs.Option.{option_copied};
+ghost use Rattle.std.specs.Option.{ForSome, option_copied};
 ghost use Rattle.std.specs.Set.{is_member};
 ghost use Rattle.std.specs.Cmp.{partial_equiv_from_equiv};
 ghost use Rattle.raft_members.specs.StoredLawful.{same_stored-equiv};
@@ -27,14 +27,15 @@ use std::rc::Rc;
 
 /// The effective membership: the last one that a node has seen, committed or not.
 ///
-/// Beside the stored membership stand its configs as a quorum set and its voters as a set, so that
-/// a test of a quorum takes no memory. In contracts it is its stored membership. Two are equal if
-/// their stored memberships are, since the rest follows from it.
+/// Beside the stored membership stand its configs as a quorum set and, if there are several, their
+/// voters as one set, so that a test of a quorum takes no memory. In contracts it is its stored
+/// membership. Two are equal if their stored memberships are, since the rest follows from it.
 #[derive(Drop)]
 pub struct EffectiveMembershipOf<C, NID: NodeId, N: Node> {
     stored_membership: Rc<StoredMembershipOf<C, NID, N>>,
     quorum_set: Joint<NID, Vec<NID>, Vec<Vec<NID>>>,
-    voter_ids: BTreeSet<NID>,
+    // No set is kept beside a single config, which is the set of all voters itself.
+    voter_ids: Option<BTreeSet<NID>>,
 }
 
 /// The effective membership, with the default leader ids.
@@ -51,8 +52,8 @@ impl<C, NID: NodeId, N: Node> Model for EffectiveMembershipOf<C, NID, N> {
     ghost view = { λ a. a.stored_membership.value };
 
     ghost invariant = { λ a.
-        AgreesWith NID.eq NID.cmp (membership_of a.stored_membership.value)
-        (map (λ c. c.items) a.quorum_set.items) a.voter_ids.keys };
+        AgreesWith NID.eq (membership_of a.stored_membership.value)
+        (map (λ c. c.items) a.quorum_set.items) a.voter_ids };
 }
 
 impl<C: Copy + Drop, NID: NodeId, N: Node> EffectiveMembershipOf<C, NID, N> {
@@ -76,7 +77,7 @@ impl<C: Copy + Drop, NID: NodeId, N: Node> EffectiveMembershipOf<C, NID, N> {
         let membership = stored.membership();
         let alloc = *membership.get_joint_config().allocator();
         let quorum_set = membership.to_quorum_set()?;
-        let voter_ids = ids::set_of(alloc, &membership.voter_ids()?)?;
+        let voter_ids = voters_beside_configs(alloc, membership)?;
         Ok(EffectiveMembershipOf {
             stored_membership: stored,
             quorum_set,
@@ -173,7 +174,7 @@ impl<C: Copy + Drop, NID: NodeId, N: Node> EffectiveMembershipOf<C, NID, N> {
         ensures voters { (id : NID) →
             is_member NID.eq result id ≡ is_voter_of NID.eq (membership_of self.now).configs id }
     {
-        self.voter_ids.iter()
+        self.voter_set().iter()
     }
 
     /// The learners, each once, ascending: the nodes that are in no config.
@@ -223,6 +224,35 @@ impl<C: Copy + Drop, NID: NodeId, N: Node> EffectiveMembershipOf<C, NID, N> {
             (is_joint_majority NID.eq (membership_of self.now).configs) result }
     {
         least_of_each(self.get_joint_config(), |config| config.least_quorum_size())
+    }
+}
+
+/// The set of the voters of all configs. A single config is this set itself: then none is made.
+fn voters_beside_configs<NID: NodeId, N: Node>(
+    alloc: Global,
+    membership: &Membership<NID, N>,
+) -> Result<Option<BTreeSet<NID>>, AllocError>
+    ensures some { IfOk result (λ made. ForSome made (λ set. (id : NID) →
+        is_member NID.eq set.keys id ≡ is_voter_of NID.eq membership.now.configs id)) }
+    ensures none { IfOk result (λ made. made ≡ None → length membership.now.configs ≡ 1) }
+{
+    if membership.get_joint_config().len() == 1 {
+        return Ok(None);
+    }
+    let voters = ids::set_of(alloc, &membership.voter_ids()?)?;
+    Ok(Some(voters))
+}
+
+impl<C, NID: NodeId, N: Node> EffectiveMembershipOf<C, NID, N> {
+    /// The set of the voters of all configs.
+    fn voter_set(&self) -> &BTreeSet<NID>
+        ensures { (id : NID) → is_member NID.eq result.now.keys id
+            ≡ is_voter_of NID.eq (membership_of self.now).configs id }
+    {
+        match &self.voter_ids {
+            Some(voter_ids) => voter_ids,
+            None => &self.stored_membership.membership.configs[0],
+        }
     }
 }
 
@@ -280,7 +310,7 @@ impl<C: fmt::Debug, NID: NodeId, N: Node> fmt::Debug for EffectiveMembershipOf<C
         f.debug_struct("EffectiveMembership")
             .field("log_id", &self.stored_membership.log_id)
             .field("membership", &self.stored_membership.membership)
-            .field("voter_ids", &self.voter_ids)
+            .field("voter_ids", self.voter_set())
             .finish()
     }
 }

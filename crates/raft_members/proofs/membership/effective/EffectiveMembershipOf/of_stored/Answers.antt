@@ -1,5 +1,4 @@
-use Rattle.std.proofs.Common.{◌≡◌, ◌∙◌, ap}
-use Rattle.std.specs.Set.{is_member}
+use Rattle.std.proofs.Common.{◌≡◌, ◌∙◌, ap, length, sym}
 use Rattle.raft_members.specs.Majority.{is_voter_of}
 use Rattle.raft_members.specs.Stored.{membership_of}
 use Rattle.raft_members.proofs.membership.effective.EffectiveMembershipOf.of_stored.Goals as goal
@@ -10,10 +9,6 @@ invariant_of-result g c =
     c.membership-membership.ensures ∙ ap membership_of c.deref.ensures in
     record {
       configs = c.in_ok-quorum_set.ensures.configs ∙ ap (λ m. m.configs) stored_is;
-      ascending = c.in_ok-voter_ids-2.ensures.ascending;
-      voters = λ id.
-          c.in_ok-voter_ids-2.ensures.members id
-          ∙ ap (λ ids. is_member g.NID.PartialEq.eq ids id) c.deref-2.ensures.value
-          ∙ c.in_ok-voter_ids.ensures.voters id
-          ∙ ap (λ m. is_voter_of g.NID.PartialEq.eq m.configs id) stored_is;
+      some = λ set is id. c.in_ok-voter_ids.ensures.some set is id ∙ ap (λ m. is_voter_of g.NID.PartialEq.eq m.configs id) stored_is;
+      none = λ is. ap (λ m. length m.configs) (sym stored_is) ∙ c.in_ok-voter_ids.ensures.none is;
     }
