@@ -91,7 +91,7 @@ impl<
         ensures { result ≡ (among ID.eq voters.now learners.now id.now
             && is_value_below P.cmp V.part_of part ((state ID.eq (shown self.now)).value id.now)) }
     {
-        is_among(voters, learners, id) && self.is_value_below(part, id)
+        self.is_value_below(part, id) && is_among(voters, learners, id)
     }
 
     /// Whether an id has a value that is below a part.
