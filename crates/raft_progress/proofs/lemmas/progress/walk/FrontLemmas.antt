@@ -1,5 +1,6 @@
 -- Fronts of the voters.
 use Rattle.std.specs.Prelude.{◌≡◌, ℕ, ◌+◌, ◌-◌, ◌/◌, ◌^◌, ◌<◌, ◌≤◌, Bool, true, false, ◌||◌, Some, None, List, [], ◌∷◌, length, min, take}
+use Rattle.std.specs.Bool.{then_some}
 use Rattle.std.specs.Cmp.{IsEquivalence}
 use Rattle.std.specs.List.{IsDistinct}
 use Rattle.std.specs.Map.{keys_of}
@@ -143,6 +144,32 @@ module _ {ID V : Type 0} (eq : ID → ID → Bool) (is_quorum : (ID → Bool) �
         tested = λ k e. cc;
         few = few_all;
       }
+
+  fewest : (k : ℕ) → 1 ≤ length voters → length voters < 2 ^ k → 1 ≤ k
+  fewest zero one l = absurd (omega arith)
+  fewest (suc k) one l = omega arith
+
+  -- where a single front is left, one test tells
+  pub single_front : high ≡ low + 1 → high ≤ length voters → (passed : Bool) → passed ≡ front_test eq is_quorum voters high
+      → IsLeastFront eq is_quorum voters low high (then_some passed high) 1
+  single_front single fits true is = record {
+    none = λ e. cc;
+    above = λ k e. let same : high ≡ k = cc in omega arith;
+    within = λ k e. let same : high ≡ k = cc in omega arith;
+    holds = λ k e. let same : high ≡ k = cc in ap (front_test eq is_quorum voters) (sym same) ∙ sym is;
+    least = λ k l e m n. let same : high ≡ k = cc in absurd (omega arith);
+    tested = λ k e. omega arith;
+    few = λ k l. fewest k (omega arith) l;
+  }
+  single_front single fits false is = record {
+    none = λ e k l m. let same : k ≡ high = omega arith in ap (front_test eq is_quorum voters) same ∙ sym is;
+    above = λ k e. cc;
+    within = λ k e. cc;
+    holds = λ k e. cc;
+    least = λ k l e. cc;
+    tested = λ k e. cc;
+    few = λ k l. fewest k (omega arith) l;
+  }
 
 -- the first of the ids that were gathered
 front_of : {ID V : Type 0} (voters : List (ID × V)) (room : List ID) (high k : ℕ) → k ≤ high → take high room ≡ keys_of (take high voters)

@@ -1,17 +1,23 @@
 -- Fronts that are too short to be a quorum need no test.
-use Rattle.std.specs.Prelude.{◌≡◌, ℕ, ◌+◌, ◌-◌, ◌^◌, ◌<◌, ◌≤◌, Bool, true, false, cond, None, List, [], ◌∷◌, max, take}
+use Rattle.std.specs.Prelude.{◌≡◌, ℕ, ◌+◌, ◌-◌, ◌^◌, ◌<◌, ◌≤◌, Bool, true, false, cond, None, Some, List, [], ◌∷◌, max, slice_get, take}
+use Rattle.std.specs.Bool.{then_some}
 use Rattle.std.specs.declared.cmp.Ordering.{Ordering}
 use Rattle.std.specs.Cmp.{IsEquivalence}
+use Rattle.std.specs.Ordering.{is_lt}
+use Rattle.std.specs.Set.{is_member}
 use Rattle.std.specs.List.{IsDistinct, prefix_len}
 use Rattle.std.specs.Map.{keys_of}
-use Rattle.std.proofs.Common.{arith, refl, suc, zero, get_or, ltb, ltb-true, ltb-false}
+use Rattle.std.proofs.Common.{ap, arith, refl, subst, suc, sym, zero, get_or, ltb, ltb-true, ltb-false, ◌∙◌}
 use Rattle.std.proofs.lemmas.Map.Entries.{length-keys_of}
 use Rattle.raft_members.specs.QuorumSize.{QuorumsHaveAtLeast}
 use Rattle.raft_progress.specs.Inner.Recount.{exceeds, front_test}
-use Rattle.raft_progress.specs.Inner.Settled.{IsScanned}
+use Rattle.raft_progress.specs.Inner.Rises.{IsLeastFront}
+use Rattle.raft_progress.specs.Inner.Settled.{IsSameGroup, IsScanned}
 use Rattle.raft_progress.specs.progress.Shown.{Shown}
+use Rattle.raft_progress.specs.progress.Statistics.{count_after}
 use Rattle.raft_progress.proofs.lemmas.progress.UpdateLemmas.{IsDistinct-voters}
-use Rattle.raft_progress.proofs.lemmas.ListLemmas.{length_take_le}
+use Rattle.raft_progress.proofs.lemmas.ListLemmas.{length_take_le, some_inside}
+use Rattle.raft_progress.proofs.lemmas.progress.walk.FrontLemmas.{single_front}
 
 -- entries that pass a test lead up to one that doesn't at most
 pub lead_ends : {X : Type 0} (p : X → Bool) (xs : List X) (n : ℕ) (d : X) → p (get_or xs n d) ≡ false → prefix_len p xs ≤ n
@@ -93,3 +99,54 @@ module _ {ID V P QS : Type 0} {eq : ID → ID → Bool} (laws : IsEquivalence eq
     stays = λ e. refl;
     rises = λ k e. cc;
   }
+
+-- the scan of the only voter is one test
+module _ {ID V P QS : Type 0} (eq : ID → ID → Bool) (cmp : P → P → Ordering) (part : V → P) (has_quorum : QS → (ID → Bool) → Bool)
+    (old new : Shown ID V P QS) (only : old.voter_count ≡ 1) (e : ID × V) (at : slice_get old.walk 0 ≡ Some e)
+    (leads : is_lt (cmp old.granted (part e.1)) ≡ true) (passed : Bool)
+    (tells : IsDistinct eq (e.0 ∷ []) → passed ≡ has_quorum old.quorum_set (is_member eq (e.0 ∷ []))) where
+  first_alone : (ws : List (ID × V)) → slice_get ws 0 ≡ Some e → take 1 ws ≡ e ∷ []
+  first_alone [] h = cc
+  first_alone (f ∷ fs) h = ap (λ g. g ∷ []) (some_inside f e h)
+
+  voters_are : take old.voter_count old.walk ≡ e ∷ []
+  voters_are = ap (λ n. take n old.walk) only ∙ first_alone old.walk at
+
+  alone : IsDistinct eq (e.0 ∷ [])
+  unfolding IsDistinct
+  alone = (tt, tt)
+
+  tested : IsLeastFront eq (has_quorum old.quorum_set) (take old.voter_count old.walk) 0
+      (prefix_len (exceeds cmp part old.granted) (take old.voter_count old.walk)) (then_some {T = ℕ} passed 1) 1
+  tested =
+      subst (λ (vs : List (ID × V)). IsLeastFront eq (has_quorum old.quorum_set) vs 0 (prefix_len (exceeds cmp part old.granted) vs)
+      (then_some {T = ℕ} passed 1) 1) (sym voters_are)
+      (rw leads (single_front eq (has_quorum old.quorum_set) (e ∷ []) 0 1 refl (omega arith) passed (tells alone)))
+
+  pub only_scanned : IsSameGroup old new → new.walk ≡ old.walk → new.stat.move_count ≡ old.stat.move_count
+      → new.stat.is_quorum_count ≡ count_after old.stat.is_quorum_count 1 → (passed ≡ false → new.granted ≡ old.granted)
+      → (passed ≡ true → new.granted ≡ part e.1) → IsScanned eq cmp part has_quorum old 0 new
+  only_scanned group walk moves counts stays rises = record {
+    group = group;
+    same_walk = walk;
+    moves = moves;
+    found = then_some {T = ℕ} passed 1;
+    tests = 1;
+    scanned = tested;
+    counts = counts;
+    stays = λ none. by_none passed stays none;
+    rises = λ k some. let h = by_some passed rises k some in (
+      e,
+      ap (λ n. get_or (e ∷ []) n e) (sym h.0) ∙ ap (λ (vs : List (ID × V)). get_or vs (k - 1) e) (sym voters_are),
+      h.1,
+    );
+  }
+    where
+      by_none : (b : Bool) → (b ≡ false → new.granted ≡ old.granted) → then_some {T = ℕ} b 1 ≡ None → new.granted ≡ old.granted
+      by_none true f h = cc
+      by_none false f h = f refl
+
+      by_some : (b : Bool) → (b ≡ true → new.granted ≡ part e.1) → (k : ℕ) → then_some {T = ℕ} b 1 ≡ Some k
+          → (k - 1 ≡ 0) × (new.granted ≡ part e.1)
+      by_some true f k h = let same : 1 ≡ k = cc in (omega arith, f refl)
+      by_some false f k h = cc

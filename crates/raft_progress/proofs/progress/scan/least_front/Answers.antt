@@ -6,6 +6,7 @@ use Rattle.raft_progress.proofs.lemmas.progress.walk.FrontLemmas.{
   halves_missed,
   halves_none,
   halves_passed,
+  single_front,
   tests_fit,
 }
 use Rattle.raft_progress.proofs.progress.scan.least_front.Goals as goal
@@ -64,3 +65,12 @@ pub returns-else-end-high : goal.returns-else-end-high
 returns-else-end-high g c = halves_missed g.ID.PartialEq.eq (g.QS.QuorumSet.has_quorum c.args.quorum_set.now) c.args.voters.now c.args.low
     c.args.high c.loop-failed.failed c.loop-failed.end c.loop-failed.left c.loop-failed.tests c.loop-failed.invariant.halves (omega arith)
     c.if-end-high.false
+
+pub returns-then-fronts-eq1 : goal.returns-then-fronts-eq1
+returns-then-fronts-eq1 g c =
+    let is_quorum = g.QS.QuorumSet.has_quorum c.args.quorum_set.now in
+    let tested = front_tested g.met.ID.Eq.laws is_quorum c.args.voters.now c.requires.distinct c.args.room.now c.args.high c.args.high
+    (omega arith) c.requires.gathered c.test_front-passed.result c.test_front-passed.ensures.quorum in
+    rw (c.then_some-front.ensures, c.test_front-passed.ensures.counted)
+    (single_front g.ID.PartialEq.eq is_quorum c.args.voters.now c.args.low c.args.high (omega arith) c.requires.within
+    c.test_front-passed.result tested)

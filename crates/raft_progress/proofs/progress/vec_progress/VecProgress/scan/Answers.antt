@@ -1,6 +1,6 @@
 use Rattle.std.specs.Prelude.{max}
 use Rattle.std.specs.List.{prefix_len}
-use Rattle.std.proofs.Common.{ap, arith, is_lt, refl, sym, take, ◌∙◌, ◌≡◌, ◌-◌, ◌^◌, ◌<◌, ◌≤◌, false}
+use Rattle.std.proofs.Common.{ap, arith, is_lt, refl, sym, take, ◌∙◌, ◌≡◌, ◌-◌, ◌^◌, ◌<◌, ◌≤◌, true, false}
 use Rattle.std.proofs.lemmas.List.Sums.{prefix_len-le-length}
 use Rattle.raft_progress.specs.Inner.Recount.{exceeds}
 use Rattle.raft_progress.specs.progress.VecProgress.{shown}
@@ -13,6 +13,15 @@ use Rattle.raft_progress.proofs.progress.vec_progress.VecProgress.scan.Goals.{
   else-short-self-via-else-short-self,
 }
 use Rattle.std.proofs.lemmas.List.{get_or-take}
+use Rattle.std.proofs.lemmas.Option.{get_or_from_slice_get}
+
+pub test_from-requires-clause-leads : goal.test_from-requires-clause-leads
+test_from-requires-clause-leads g c = λ f is.
+    let p = c.args.self.now in
+    let e = c.index.result.now in
+    let same = c.index.ensures ∙ get_or_from_slice_get p.walk.items c.max-short.result f e is in
+    let leads : is_lt (g.P.Ord.cmp p.granted (g.V.ProgressPart.part_of e.1)) ≡ true = cc in
+    ap (λ (h : g.row.ID.Denot × g.row.V.Denot). is_lt (g.P.Ord.cmp p.granted (g.V.ProgressPart.part_of h.1))) (sym same) ∙ leads
 
 pub returns-then-is_below-clause-scanned : goal.returns-then-is_below-clause-scanned
 returns-then-is_below-clause-scanned g c =
@@ -21,8 +30,8 @@ returns-then-is_below-clause-scanned g c =
     rw (c.max-short.ensures, c.saturating_sub.ensures) refl in
     scanned_from g.met.ID.Eq.laws g.P.Ord.cmp g.V.ProgressPart.part_of g.QS.QuorumSet.has_quorum (shown p)
     (IsDistinct-voters g.met.ID.Eq.laws p.voter_count p.walk.items c.requires.distinct) c.least_quorum_size-least.result
-    c.least_quorum_size-least.ensures.least c.args.place c.max-short.result short_is (shown c.test_fronts.new.self)
-    c.test_fronts.ensures.scanned
+    c.least_quorum_size-least.ensures.least c.args.place c.max-short.result short_is (shown c.test_from.new.self)
+    c.test_from.ensures.scanned
 
 pub returns-else-short-self-clause-scanned : goal.returns-else-short-self-clause-scanned
 returns-else-short-self-clause-scanned g c =
