@@ -8,7 +8,7 @@ ghost use Rattle.raft_progress.specs.progress.InOrder.{IsInOrder};
 ghost use Rattle.raft_progress.specs.progress.NewProgress.{LearnersFit};
 ghost use Rattle.raft_progress.specs.progress.Upgrade.{CanUpgrade};
 ghost use Rattle.raft_progress.specs.Inner.Refusal.{RefusesUpgrade};
-ghost use Rattle.raft_progress.specs.Inner.ShownAnswers.{IsShownIncrease, IsShownUpgrade, IsShownWrite};
+ghost use Rattle.raft_progress.specs.Inner.ShownAnswers.{IsShownIncrease, IsShownUpgrade};
 ghost use Rattle.raft_progress.specs.progress.Shown.{state};
 ghost use Rattle.raft_progress.specs.progress.ShownSteps.{IsShownRun, IsShownStep, is_upgrade};
 ghost use Rattle.raft_progress.specs.progress.VecProgress.{shown};
@@ -37,7 +37,7 @@ fn answer<
     ensures ordered { IsInOrder ID.eq P.cmp V.part_of QS.has_quorum (shown progress.new) }
 {
     match step {
-        AnyStep::Update(id, value) => write(progress, &id, value),
+        AnyStep::Update(id, value) => progress.write(&id, value),
         AnyStep::IncreaseTo(id, value) => increase(progress, &id, value),
         AnyStep::Upgrade {
             quorum_set,
@@ -158,27 +158,6 @@ fn upgrade_unless_refused<
             *progress = upgraded;
             Ok(Reply::Granted(*progress.granted()))
         }
-    }
-}
-
-/// Writes a value where its part isn't below the present one.
-pub(crate) fn write<
-    ID: Copy + Ord,
-    V: ProgressPart<P> + Drop,
-    P: Copy + Ord,
-    QS: QuorumSet<ID> + Drop,
->(progress: &mut VecProgress<ID, V, P, QS>, id: &ID, value: V) -> Reply<ID, P>
-    requires { IsInOrder ID.eq P.cmp V.part_of QS.has_quorum (shown progress.old) }
-    ensures step { IsShownWrite ID.eq P.cmp V.part_of QS.has_quorum
-        (shown progress.old) id.now value result (shown progress.new) }
-    ensures ordered { IsInOrder ID.eq P.cmp V.part_of QS.has_quorum (shown progress.new) }
-{
-    if progress.would_fall(id, &value) {
-        return Reply::WouldFall;
-    }
-    match progress.update(id, value) {
-        Ok(granted) => Reply::Granted(*granted),
-        Err(granted) => Reply::Unknown(*granted),
     }
 }
 

@@ -15,7 +15,7 @@ ghost use Rattle.raft_progress.specs.tracked.TrackedState.{IsReady, has_quorum};
 ghost use Rattle.raft_progress.specs.declared.progress.steps.Reply.TheVariants.{BelowDefault};
 
 use super::{Tracked, learners_of};
-use crate::progress::{Progress, ProgressPart, Reply, write};
+use crate::progress::{Progress, ProgressPart, Reply};
 use raft_base::{Node, NodeId};
 use raft_members::membership::Membership;
 use raft_members::quorum::Joint;
@@ -40,7 +40,7 @@ impl<NID: NodeId, N: Node, V: ProgressPart<P> + Drop, P: Copy + Ord> Tracked<NID
         ensures changed_quorums { ChangedQuorumsKnowGranted NID.eq NID.cmp P.cmp V.part_of
             (tracked self.new) }
     {
-        write(&mut self.progress, id, value)
+        self.progress.write(id, value)
     }
 
     /// Goes over to a membership that is given, as one that has come through a leader's log, and

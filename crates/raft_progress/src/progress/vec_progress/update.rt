@@ -8,6 +8,7 @@ ghost use Rattle.std.specs.Option.{ForSome, option_copied_mut};
 ghost use Rattle.std.specs.Ordering.{is_lt};
 ghost use Rattle.raft_progress.specs.Inner.Lent.{LendsUnmarked};
 ghost use Rattle.raft_progress.specs.Inner.Settled.{IsPutInOrder, IsRisen, IsScanned};
+ghost use Rattle.raft_progress.specs.Inner.ShownAnswers.{IsShownWrite};
 ghost use Rattle.raft_progress.specs.progress.CountedValue.{AtMost};
 ghost use Rattle.raft_progress.specs.progress.InOrder.{IsInOrder};
 ghost use Rattle.raft_progress.specs.progress.Lends.{Leaves};
@@ -19,6 +20,7 @@ use super::VecProgress;
 use crate::progress::move_up::move_up;
 use crate::progress::part::{ProgressPart, is_at_most, is_below};
 use crate::progress::scan::{gather_leading, least_front};
+use crate::progress::steps::Reply;
 use crate::progress::walk::write_at;
 use raft_members::quorum::QuorumSet;
 
@@ -64,6 +66,34 @@ impl<
         }
         let found = self.places.get(id);
         self.apply_at(found, f)
+    }
+
+    /// Writes the value of an id, unless its part is below the present one.
+    // One look-up serves the test and the write. The value is moved once, and the closure of an
+    // update would move it twice.
+    #[inline(always)]
+    pub(crate) fn write(&mut self, id: &ID, value: V) -> Reply<ID, P>
+        requires { IsInOrder ID.eq P.cmp V.part_of QS.has_quorum (shown self.old) }
+        ensures step { IsShownWrite ID.eq P.cmp V.part_of QS.has_quorum
+            (shown self.old) id.now value result (shown self.new) }
+        ensures ordered { IsInOrder ID.eq P.cmp V.part_of QS.has_quorum (shown self.new) }
+    {
+        // Read for the proof alone: it knows from then on that each of them fits a u64.
+        let _counts = (self.stat.move_count, self.stat.is_quorum_count);
+        let Some(place) = self.index(id) else {
+            self.stat.update_count = self.stat.update_count.saturating_add(1);
+            return Reply::Unknown(self.granted);
+        };
+        let entry = &mut self.walk[place];
+        let before = entry.1.part();
+        let after = value.part();
+        if is_below(&after, &before) {
+            return Reply::WouldFall;
+        }
+        entry.1 = value;
+        self.stat.update_count = self.stat.update_count.saturating_add(1);
+        self.settle(place, before, after);
+        Reply::Granted(self.granted)
     }
 
     /// The same for an id whose place is searched for in the walk.
