@@ -1,9 +1,9 @@
 -- Entries that are copied one by one, in order.
-use Rattle.std.specs.Prelude.{◌≡◌, Bool, true, false, cond, Some, List, [], ◌∷◌, ◌++◌, IsTrue, refl, not, ◌||◌}
+use Rattle.std.specs.Prelude.{◌≡◌, Bool, true, false, cond, Some, List, [], ◌∷◌, ◌++◌, IsTrue, refl, not, ◌&&◌, ◌||◌}
 use Rattle.std.proofs.Common.{◌∙◌, ap, sym, append_assoc, append-nil}
 use Rattle.std.specs.declared.cmp.Ordering.{Ordering}
 use Rattle.std.specs.declared.cmp.Ordering.TheVariants.{Less, Greater}
-use Rattle.std.specs.Cmp.{IsTotalOrder, IsEquivalence}
+use Rattle.std.specs.Cmp.{IsTotalOrder, IsEquivalence, first_so, second_so}
 use Rattle.std.specs.Cmp.Lexicographic.{lists_equiv}
 use Rattle.std.specs.Ordering.{ordering_reverse}
 use Rattle.std.specs.List.{filter}
@@ -133,6 +133,24 @@ module _ {K N : Type 0} {eq : K → K → Bool} {same : N → N → Bool} (e : I
   same_entries (x ∷ xs) [] h = absurd h
   same_entries (x ∷ xs) (y ∷ ys) h =
       both_true (both_true (rw h.0 (e.refl y.0)) (s.symm y.1 x.1 ∙ h.1)) (same_entries xs ys h.2)
+
+-- a query that equal ids pass alike finds equal nodes
+module _ {K N : Type 0} {eq : K → K → Bool} {same : N → N → Bool} (s : IsEquivalence same) (t : K → Bool)
+    (alike : (x y : K) → eq x y ≡ true → t x ≡ t y) where
+  pub equal_lookup : (xs ys : List (K × N)) → IsTrue (same_nodes eq same xs ys) → IsTrue (option_eq same (lookup t ys) (lookup t xs))
+  equal_lookup [] [] h = refl
+  equal_lookup [] (y ∷ ys) h = cc
+  equal_lookup (x ∷ xs) [] h = cc
+  equal_lookup (x ∷ xs) (y ∷ ys) h = by (t y.0) refl (equal_lookup xs ys (second_so (eq x.0 y.0 && same x.1 y.1) (same_nodes eq same xs ys) h))
+    where
+      first : (eq x.0 y.0 && same x.1 y.1) ≡ true
+      first = first_so (eq x.0 y.0 && same x.1 y.1) (same_nodes eq same xs ys) h
+
+      by : (b : Bool) → t y.0 ≡ b → IsTrue (option_eq same (lookup t ys) (lookup t xs))
+          → IsTrue (option_eq same (cond (t y.0) (Some y.1) (lookup t ys)) (cond (t x.0) (Some x.1) (lookup t xs)))
+      by true e r = rw (alike x.0 y.0 (first_so (eq x.0 y.0) (same x.1 y.1) first), e)
+          (s.symm y.1 x.1 ∙ second_so (eq x.0 y.0) (same x.1 y.1) first)
+      by false e r = rw (alike x.0 y.0 (first_so (eq x.0 y.0) (same x.1 y.1) first), e) r
 
 -- the same configs and equal nodes make equal memberships
 pub equal_members : {K N : Type 0} {eq : K → K → Bool} (same : N → N → Bool) → IsEquivalence eq → (m w : MemberList K N)
