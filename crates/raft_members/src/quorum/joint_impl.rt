@@ -99,7 +99,7 @@ pub(crate) fn least_of_each<ID: Copy + Ord, QS: QuorumSet<ID>, F: Fn(&QS) -> usi
         return size_of(old).max(size_of(new));
     }
     if let [only] = children {
-        return only.least_quorum_size();
+        return size_of(only);
     }
     let mut greatest = 0;
     for child in children {
