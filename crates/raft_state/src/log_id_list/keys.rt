@@ -299,18 +299,20 @@ fn count_bounds<C: Ord + Copy>(keys: &[LogIdOf<C>], index: u64) -> (usize, usize
     let mut size = keys.len();
     while size > 8 {
         let half = size / 2;
-        least += half * one_if_at_most(keys[least + half].index, index);
+        let middle = least + half;
+        least = middle - half_if_past(half, keys[middle].index, index);
         size -= half;
     }
     (least, least + size)
 }
 
-/// 1 where a key's index is not past another, else 0: the carry of their difference. Of a
-/// comparison the compiler makes a branch, which in halving is mispredicted every other time.
-fn one_if_at_most(key: u64, index: u64) -> usize
-    ensures { result ≡ (if nat_le key index then 1 else 0) }
+/// Returns the half if a key's index is past another, otherwise 0. The mask is the upper half of
+/// the difference of both, which is all ones if the difference is below 0. Of a comparison the
+/// compiler makes a branch, which in halving is mispredicted every other time.
+fn half_if_past(half: usize, key: u64, index: u64) -> usize
+    ensures { result ≡ (if nat_le key index then 0 else half) }
 {
-    (((1u128 << 64) + index as u128 - key as u128) >> 64) as usize
+    half & ((index as u128).wrapping_sub(key as u128) >> 64) as usize
 }
 
 /// The last two keys where they share a leader, else the last one.

@@ -1,4 +1,4 @@
-use Rattle.std.proofs.Common.{◌≡◌, ◌+◌, ◌-◌, ◌*◌, ◌/◌, ◌<◌, ◌≤◌, ℕ, if◌then◌else◌, nat_lt, length, arith}
+use Rattle.std.proofs.Common.{◌≡◌, ◌+◌, ◌-◌, ◌/◌, ◌<◌, ◌≤◌, ℕ, if◌then◌else◌, nat_lt, length, arith}
 use Rattle.std.proofs.Common.{inl, inr}
 use Rattle.std.proofs.lemmas.Bool.{cases_lt}
 use Rattle.std.proofs.lemmas.Bool.Decides.{nat_tests}
@@ -10,17 +10,17 @@ pub loop-size-init : goal.loop-size-init
 loop-size-init g c = let h = counts_within c.args.keys.now c.args.index in (omega arith, omega arith, omega arith)
 
 -- of what is open of a count n of l keys, half goes by the key in the middle
-halved : (least size n l one : ℕ) → 8 < size → least ≤ n → n ≤ least + size → least + size ≤ l
-    → one ≡ (if nat_lt (least + size / 2) n then 1 else 0)
-    → (least + size / 2 * one ≤ n) × (n ≤ least + size / 2 * one + (size - size / 2)) × (least + size / 2 * one + (size - size / 2) ≤ l)
-halved least size n l one s at_least at_most within e = elim (cases_lt (least + size / 2) n) [
-  | inl below ↦ (let o : one ≡ 1 = grind (arith, nat_tests) in rw o (omega arith, omega arith, omega arith))
-  | inr past ↦ (let o : one ≡ 0 = grind (arith, nat_tests) in rw o (omega arith, omega arith, omega arith))
+halved : (least size n l back : ℕ) → 8 < size → least ≤ n → n ≤ least + size → least + size ≤ l
+    → back ≡ (if nat_lt (least + size / 2) n then 0 else size / 2)
+    → (least + size / 2 - back ≤ n) × (n ≤ least + size / 2 - back + (size - size / 2)) × (least + size / 2 - back + (size - size / 2) ≤ l)
+halved least size n l back s at_least at_most within e = elim (cases_lt (least + size / 2) n) [
+  | inl below ↦ (let o : back ≡ 0 = grind (arith, nat_tests) in rw o (omega arith, omega arith, omega arith))
+  | inr past ↦ (let o : back ≡ size / 2 = grind (arith, nat_tests) in rw o (omega arith, omega arith, omega arith))
 ]
 
 pub loop-size-preserved : goal.loop-size-preserved
 loop-size-preserved g c =
-    let place = counted_by_place 0 c.args.keys.now _ c.args.index (c.loop-size.least + c.loop-size.size / 2) c.index-keys-least.result
+    let place = counted_by_place 0 c.args.keys.now _ c.args.index (c.loop-size.least + c.loop-size.size / 2) c.index-keys-middle.result
     c.requires (omega arith) in
     halved _ _ (keys_to c.args.keys.now c.args.index) (length c.args.keys.now) _ c.loop-size-test.true c.loop-size.invariant.0
-    c.loop-size.invariant.1 c.loop-size.invariant.2 (rw (← place) c.one_if_at_most.ensures)
+    c.loop-size.invariant.1 c.loop-size.invariant.2 (rw (← place) c.half_if_past.ensures)
