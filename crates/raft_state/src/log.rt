@@ -158,8 +158,8 @@ impl<NID: NodeId, N: Node, I: Instant, L: Drop, C: Ord + Copy + Drop> RaftStateI
 
     /// Whether the log has the id of an entry.
     ///
-    /// The range is that of an earlier look-up, if there was one, and then that of this one: most
-    /// entries share their leader with the entry before, and need no look-up of their own.
+    /// The range is the one that an earlier look-up found, and is replaced if this one finds another.
+    /// Most entries have the leader of the entry before them, so they need no look-up.
     fn has_entry<Ent: RaftLogId<C>>(&self, entry: &Ent, range: &mut Option<LeaderRange<C>>) -> bool
         requires { IfSome range.old
             (λ r. HasOneLeader (full_log self.now.log_ids) r.leader_id r.first r.last) }

@@ -93,7 +93,8 @@ pub fn append<C: Ord + Copy>(keys: &mut Vec<LogIdOf<C>>, id: LogIdOf<C>) -> Resu
     Ok(())
 }
 
-/// Appends log ids that may come one after the other, those of one leader by the first and the last.
+/// Appends log ids that may come one after the other. If they have one leader, the first and the
+/// last one make their keys.
 pub fn extend<C: Ord + Copy, LID: RaftLogId<C>>(
     keys: &mut Vec<LogIdOf<C>>,
     ids: &[LID],
