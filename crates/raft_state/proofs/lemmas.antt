@@ -1,6 +1,7 @@
 pub mod log_id_list
 pub mod membership_state
 pub mod validate
+pub mod sound
 pub mod log
 pub mod catch_up
 pub mod AppendedLemmas

@@ -1,7 +1,7 @@
 -- When log entries may be appended with the memberships that they store, and what they leave.
-use Rattle.std.specs.Prelude.{◌≡◌, Bool, true, ◌&&◌, List, [], ◌∷◌, Option, Some, None, IsTrue, map, is_some, if◌then◌else◌}
+use Rattle.std.specs.Prelude.{◌≡◌, Bool, true, ◌&&◌, List, [], ◌∷◌, Option, Some, None, IsTrue, map, is_some, nat_eq, if◌then◌else◌}
 use Rattle.std.specs.declared.cmp.Ordering.{Ordering}
-use Rattle.raft_base.specs.LogId.{id_lt, index_of}
+use Rattle.raft_base.specs.LogId.{id_lt, index_of, next_index}
 use Rattle.raft_base.specs.LogIndex.{index_le, index_lt}
 use Rattle.raft_base.specs.declared.log_id.LogIdOf.{LogIdOf}
 use Rattle.raft_members.specs.Members.{MemberList, same_members}
@@ -30,13 +30,26 @@ abbrev pub begins_at_zero : {C : Type 0} → List (LogIdOf C) → List (LogIdOf 
 begins_at_zero [] ids = index_le (index_of (first_id ids)) (Some 0)
 begins_at_zero (id ∷ log) ids = true
 
--- entries may be appended: their log ids follow one another and the log, from index 0 on where it is
--- empty, and so do their memberships
+-- log ids have consecutive indexes, the first one the index after a log id, or 0 after none
+abbrev pub are_consecutive : {C : Type 0} → Option (LogIdOf C) → List (LogIdOf C) → Bool
+are_consecutive last [] = true
+are_consecutive last (id ∷ ids) =
+    nat_eq id.index (next_index last) && are_consecutive (Some id) ids
+
+-- the log id of the last of these entries that stores a membership, or another one if none does
+abbrev pub last_stored : {C E : Type 0} → (E → LogIdOf C) → (E → Bool) → Option (LogIdOf C)
+    → List E → Option (LogIdOf C)
+last_stored id_of stores last [] = last
+last_stored id_of stores last (e ∷ es) =
+    last_stored id_of stores (if stores e then Some (id_of e) else last) es
+
+-- entries may be appended: their log ids may come after one another and after the log, no index is
+-- missing between them and the log's end, and their memberships follow the effective one
 abbrev pub may_append_entries : {K N I L C E : Type 0} → (C → C → Ordering) → (E → LogIdOf C)
     → (E → Option (MemberList K N)) → List E → RaftStateIn K N I L C → Bool
 may_append_entries cmp id_of membership es s =
     all_follow cmp (last_id (full_log s.log_ids)) (map id_of es)
-    && begins_at_zero (full_log s.log_ids) (map id_of es)
+    && are_consecutive (last_id (full_log s.log_ids)) (map id_of es)
     && memberships_follow cmp id_of (λ e. is_some (membership e))
     (log_id_of s.membership_state.effective) es
 

@@ -3,3 +3,4 @@ pub mod KeyList
 pub mod KeyEdits
 pub mod LeaderRange
 pub mod Refusal
+pub mod SoundTest

@@ -1,6 +1,7 @@
 pub mod Accepted
 pub mod Appended
 pub mod Apply
+pub mod BuiltSnapshot
 pub mod CatchUp
 pub mod Commit
 pub mod FullLog
@@ -28,6 +29,7 @@ pub mod Sending
 pub mod Round
 pub mod SameLog
 pub mod SnapshotMeta
+pub mod Sound
 pub mod StateView
 pub mod Truncate
 pub mod Valid

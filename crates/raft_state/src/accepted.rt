@@ -2,6 +2,7 @@
 ghost use Rattle.std.specs.Prelude.{◌≡◌};
 ghost use Rattle.std.specs.Option.{option_copied};
 
+use raft_base::order::log_id_at_most;
 use raft_base::{LeaderAdv, LeaderKind, LogIdOf};
 use std::fmt;
 
@@ -63,6 +64,20 @@ impl<L: Eq + Copy, C: Ord + Copy> AcceptedIn<L, C> {
     {
         if log_id.as_ref() > self.last_accepted_log_id(&leader_id) {
             *self = AcceptedIn::new(leader_id, log_id);
+        }
+    }
+}
+
+impl<L, C: Ord + Copy> AcceptedIn<L, C> {
+    ghost use Rattle.raft_state.specs.Accepted.{accepted_upto};
+
+    /// Keeps no more than a log that ends with this log id has: where the accepted one is above it,
+    /// this one takes its place.
+    pub(crate) fn keep_upto(&mut self, last: Option<LogIdOf<C>>)
+        ensures { self.new ≡ accepted_upto C.cmp self.old last }
+    {
+        if !log_id_at_most(self.log_id, last) {
+            self.log_id = last;
         }
     }
 }

@@ -1,13 +1,15 @@
 //! Appending log entries, with the memberships that they store.
-ghost use Rattle.std.specs.Prelude.{◌≡◌, None, IsTrue, IfOk, OnOk, OnErr, map, is_some};
+ghost use Rattle.std.specs.Prelude.{◌≡◌, ◌++◌, [], None, false, IsTrue, IsOk, IfOk, OnOk, OnErr, map, is_some, nat_eq};
 ghost use Rattle.std.specs.List.{list_any};
 ghost use Rattle.std.specs.Option.{option_or};
 ghost use Rattle.std.specs.Set.{ClonesAreEqual};
-ghost use Rattle.raft_state.specs.Appended.{may_append_entries, memberships_follow, begins_at_zero, AppendsMemberships};
+ghost use Rattle.raft_state.specs.Appended.{are_consecutive, last_stored, may_append_entries, memberships_follow, AppendsMemberships};
 ghost use Rattle.raft_state.specs.FullLog.{full_log, same_log};
-ghost use Rattle.raft_state.specs.LogEdits.{log_after_extend};
+ghost use Rattle.raft_state.specs.LogKept.{HasIds, KeepsIds};
 ghost use Rattle.raft_state.specs.LogReads.{last_id};
+ghost use Rattle.raft_state.specs.Sound.{IsSound};
 ghost use Rattle.raft_state.specs.Valid.{broken_relation};
+ghost use Rattle.raft_base.specs.LogId.{next_index};
 ghost use Rattle.raft_members.specs.Stored.{log_id_of};
 
 use crate::entry::RaftPayload;
@@ -20,8 +22,8 @@ use std::alloc::AllocError;
 
 impl<NID: NodeId, N: Node, I: Instant, L: Drop, C: Ord + Copy + Drop> RaftStateIn<NID, N, I, L, C> {
     /// Whether `append_entries` may be called with entries: `log_ids.can_extend` is true of them,
-    /// the first one of an empty log has index 0, and each that stores a membership comes after the
-    /// effective one.
+    /// their indexes are consecutive from the end of the log on, which is 0 for an empty log, and each
+    /// that stores a membership comes after the effective one.
     pub fn can_append_entries<Ent: RaftLogId<C> + RaftPayload<Membership<NID, N>>>(
         &self,
         entries: &[Ent],
@@ -30,13 +32,14 @@ impl<NID: NodeId, N: Node, I: Instant, L: Drop, C: Ord + Copy + Drop> RaftStateI
             ≡ may_append_entries C.cmp Ent.id_of Ent.membership entries.now self.now }
     {
         self.log_ids.can_extend(entries)
-            && self.may_begin(entries)
+            && are_consecutive(self.log_ids.last().copied(), entries)
             && can_follow(*self.membership_state.effective().log_id(), entries)
     }
 
-    /// Appends entries to the log, as `extend_log_ids` does, and makes the memberships that they
-    /// store effective, one after the other; where `can_append_entries` is true. The memberships
-    /// are clones. A valid state stays valid.
+    /// Appends entries to the log, and makes the memberships that they store effective, one after the
+    /// other. It may be called if `can_append_entries` is true, so the log then is the log before and
+    /// the log ids of the entries after it. The memberships are clones. A valid state stays valid, and
+    /// a sound one sound.
     ///
     /// After an error nothing has changed.
     pub fn append_entries<Ent: RaftLogId<C> + RaftPayload<Membership<NID, N>>>(
@@ -47,12 +50,21 @@ impl<NID: NodeId, N: Node, I: Instant, L: Drop, C: Ord + Copy + Drop> RaftStateI
         requires may { IsTrue
             (may_append_entries C.cmp Ent.id_of Ent.membership entries.now self.old) }
         ensures log { OnOk result (IsTrue (same_log C.eq (full_log self.new.log_ids)
-            (log_after_extend (full_log self.old.log_ids) (map Ent.id_of entries.now)))) }
+            (full_log self.old.log_ids ++ map Ent.id_of entries.now))) }
         ensures last { OnOk result (last_id (full_log self.new.log_ids)
             ≡ option_or (last_id (map Ent.id_of entries.now))
             (last_id (full_log self.old.log_ids))) }
+        ensures kept { OnOk result
+            (KeepsIds C.eq (full_log self.old.log_ids) (full_log self.new.log_ids)) }
+        ensures own { OnOk result
+            (HasIds C.eq (map Ent.id_of entries.now) (full_log self.new.log_ids)) }
         ensures memberships { OnOk result (AppendsMemberships NID.eq N.eq Ent.id_of Ent.membership
             entries.now self.old.membership_state self.new.membership_state) }
+        ensures no_membership { list_any (λ e. is_some (Ent.membership e)) entries.now ≡ false →
+            self.new.membership_state ≡ self.old.membership_state }
+        ensures effective { OnOk result (log_id_of self.new.membership_state.effective
+            ≡ last_stored Ent.id_of (λ e. is_some (Ent.membership e))
+            (log_id_of self.old.membership_state.effective) entries.now) }
         ensures rest { self.new ≡ record self.old {
           log_ids = self.new.log_ids;
           membership_state = self.new.membership_state;
@@ -60,7 +72,11 @@ impl<NID: NodeId, N: Node, I: Instant, L: Drop, C: Ord + Copy + Drop> RaftStateI
         ensures err { OnErr result (self.new ≡ self.old) }
         ensures valid { broken_relation C.cmp self.old ≡ None →
             broken_relation C.cmp self.new ≡ None }
+        ensures sound { IsSound C.eq C.cmp self.old → IsSound C.eq C.cmp self.new }
+        ensures no_memory { entries.now ≡ [] → IsOk result }
     {
+        // Read for the proof alone: by its contract the keys are in order.
+        let _keys = self.log_ids.key_log_ids();
         if !store_membership(entries) {
             return self.extend_log_ids(entries);
         }
@@ -68,20 +84,6 @@ impl<NID: NodeId, N: Node, I: Instant, L: Drop, C: Ord + Copy + Drop> RaftStateI
         self.log_ids.extend(entries)?;
         self.membership_state = membership_state;
         Ok(())
-    }
-
-    /// Whether entries begin at index 0, if the log is empty.
-    fn may_begin<Ent: RaftLogId<C> + RaftPayload<Membership<NID, N>>>(
-        &self,
-        entries: &[Ent],
-    ) -> bool
-        ensures { result
-            ≡ begins_at_zero (full_log self.now.log_ids) (map Ent.id_of entries.now) }
-    {
-        match (self.log_ids.first(), entries.first()) {
-            (None, Some(first)) => first.get_log_id().index == 0,
-            _ => true,
-        }
     }
 
     /// The memberships once those of entries are effective.
@@ -115,6 +117,31 @@ fn store_membership<NID: NodeId, N: Node, Ent: RaftPayload<Membership<NID, N>>>(
     ensures { result ≡ list_any (λ e. is_some (Ent.membership e)) entries.now }
 {
     entries.iter().any(|entry| entry.get_membership().is_some())
+}
+
+/// Whether entries have consecutive indexes, the first one the index after a log id, or 0 after none.
+fn are_consecutive<C: Copy, Ent: RaftLogId<C>>(last: Option<LogIdOf<C>>, entries: &[Ent]) -> bool
+    ensures { result ≡ are_consecutive last (map Ent.id_of entries.now) }
+{
+    let mut last = last;
+    for entry in entries {
+        let log_id = *entry.get_log_id();
+        if !is_next(last, log_id.index) {
+            return false;
+        }
+        last = Some(log_id);
+    }
+    true
+}
+
+/// Whether an index is the one after a log id, or 0 after none.
+fn is_next<C: Copy>(last: Option<LogIdOf<C>>, index: u64) -> bool
+    ensures { result ≡ nat_eq index (next_index last) }
+{
+    match last {
+        None => index == 0,
+        Some(last) => last.index < index && index - last.index == 1,
+    }
 }
 
 /// Whether each entry with a membership comes after the one before it, the first one after a log

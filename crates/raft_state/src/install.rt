@@ -1,22 +1,24 @@
 //! Installing a leader's snapshot in place of the log up to its last log id.
-ghost use Rattle.std.specs.Prelude.{◌≡◌, None, IsTrue, IfOk, IfSome, OnOk, OnErr};
+ghost use Rattle.std.specs.Prelude.{◌≡◌, ◌&&◌, None, Some, IsTrue, IfOk, IfSome, OnOk, OnErr};
 ghost use Rattle.std.specs.Set.{ClonesAreEqual};
 ghost use Rattle.raft_state.specs.FullLog.{full_log};
-ghost use Rattle.raft_state.specs.Install.{is_logged, is_not_past, is_past_committed, may_go_over, may_install, log_to_keep, log_after_install, memberships_to_keep, state_after_install};
+ghost use Rattle.raft_base.specs.LogId.{id_le, same_ids};
+ghost use Rattle.raft_base.specs.LogIndex.{index_le};
+ghost use Rattle.raft_members.specs.Stored.{log_id_of};
+ghost use Rattle.raft_state.specs.Install.{is_logged, is_not_past, is_past_committed, keeps_committed, keeps_effective, may_install, log_to_keep, log_after_install, memberships_after_install, state_after_install};
 ghost use Rattle.raft_state.specs.LogConditions.{may_be_purged_to};
 ghost use Rattle.raft_state.specs.LogReads.{last_id};
-ghost use Rattle.raft_state.specs.MembershipMoves.{after_update_committed};
+ghost use Rattle.raft_state.specs.Memberships.{index_at};
 ghost use Rattle.raft_state.specs.SnapshotMeta.{IsSnapshotCopy};
-ghost use Rattle.raft_state.specs.Valid.{broken_relation};
+ghost use Rattle.raft_state.specs.Sound.{IsSound};
+ghost use Rattle.raft_state.specs.StateView.{view_of};
+ghost use Rattle.raft_state.specs.Valid.{broken_relation, none_or_logged};
 
 use crate::log_id_list::LogIdListOf;
 use crate::membership_state::MembershipStateOf;
 use crate::raft_state::RaftStateIn;
 use crate::snapshot_meta::SnapshotMetaOf;
-use crate::truncate::last_below;
-use raft_base::order::{
-    index_at_most, index_below, log_id_at_most, log_id_below, same_optional_log_ids,
-};
+use raft_base::order::{index_at_most, index_below, log_id_at_most, log_id_below};
 use raft_base::{Instant, LeaderIdentity, LogIdOf, LogIdOptionExt, Node, NodeId};
 use raft_members::{EffectiveMembershipOf, StoredMembershipOf};
 use std::alloc::AllocError;
@@ -31,12 +33,13 @@ impl<
 > RaftStateIn<NID, N, I, L, C> {
     /// Whether `install_snapshot` may be called with a snapshot:
     ///
-    /// - its last log id is past what is committed, by log id and by index, and an index is after it;
-    /// - its membership is not past it, by log id and by index;
-    /// - `can_accept` is true;
-    /// - where the log has that log id, an effective membership past it is not below the snapshot's
-    ///   own; else all past what is committed may be cut off, and what stays ends at no greater log
-    ///   id.
+    /// - Its last log id is past what is committed, by log id and by index, and an index is after it.
+    /// - Its membership is not past its last log id, by log id and by index.
+    /// - `can_accept` is true.
+    /// - The committed membership is not above the snapshot's, by log id and by index, unless the log
+    ///   has the snapshot's last log id and the committed membership is in the log past it.
+    /// - If the log has the snapshot's last log id and the effective membership is past it, the
+    ///   effective membership is not below the snapshot's.
     ///
     /// A snapshot that is not past what is committed has nothing new.
     pub fn can_install_snapshot(&self, meta: &SnapshotMetaOf<C, NID, N>) -> bool
@@ -48,21 +51,22 @@ impl<
                 self.is_past_committed(upto)
                     && is_not_past(&meta.last_membership, upto)
                     && self.can_accept()
-                    && self.can_go_over(upto, &meta.last_membership)
+                    && self.keeps_committed(upto, &meta.last_membership)
+                    && self.keeps_effective(upto, &meta.last_membership)
             }
         }
     }
 
-    /// Takes a leader's snapshot in place of the log up to its last log id, where
-    /// `can_install_snapshot` is true. That log id is committed, accepted of the vote's leader and
-    /// the purge point, the snapshot's membership is committed, and the log is purged to it. Where
-    /// the log does not have it, all past what is committed is cut off first: a log that ends before
-    /// it, at a log id of a greater leader that was never committed, could not be purged to it. A
-    /// valid state stays valid.
+    /// Installs a leader's snapshot in place of the log up to its last log id. It may be called if
+    /// `can_install_snapshot` is true. That log id is then committed, accepted from the vote's leader,
+    /// and the purge point, and the log is purged to it. The snapshot's membership is the committed
+    /// one, unless one past it in the log is already known to be committed. If the log does not have
+    /// that log id, all of the log is dropped, with its memberships: all that was committed is in the
+    /// snapshot. A valid state stays valid, and a sound one sound.
     ///
-    /// How far storage has got is left as it is. Once storage has the snapshot, the caller writes to
-    /// `io_state_mut`, by `update_applied` and `update_snapshot` where its log id is above theirs,
-    /// and by `update_purged`.
+    /// The progress of storage is left as it is. Once storage has the snapshot, the caller writes to
+    /// `io_state_mut`, by `update_applied` and `update_snapshot` if its log id is above theirs, and by
+    /// `update_purged`.
     ///
     /// After an error nothing has changed.
     pub fn install_snapshot(&mut self, meta: SnapshotMetaOf<C, NID, N>) -> Result<(), AllocError>
@@ -80,6 +84,18 @@ impl<
         ensures err { OnErr result (self.new ≡ self.old) }
         ensures valid { broken_relation C.cmp self.old ≡ None →
             broken_relation C.cmp self.new ≡ None }
+        ensures sound { IsSound C.eq C.cmp self.old → IsSound C.eq C.cmp self.new }
+        ensures committed { OnOk result (self.new.committed ≡ meta.last_log_id) }
+        ensures purge_point { OnOk result (self.new.purge_upto ≡ meta.last_log_id) }
+        ensures logged { OnOk result
+            (IsTrue (none_or_logged C.eq (view_of self.new) meta.last_log_id)) }
+        ensures own_membership { OnOk result (IfSome meta.last_log_id (λ upto. IsTrue
+            (index_le (index_at self.old.membership_state.committed) (Some upto.index)) →
+            IsTrue (same_ids C.eq (log_id_of self.new.membership_state.committed)
+            (log_id_of meta.last_membership)))) }
+        ensures membership_not_lowered { OnOk result (broken_relation C.cmp self.old ≡ None →
+            IsTrue (id_le C.cmp (log_id_of self.old.membership_state.committed)
+            (log_id_of self.new.membership_state.committed))) }
     {
         let last_log_id = meta.last_log_id;
         let Some(upto) = last_log_id else {
@@ -94,6 +110,7 @@ impl<
         self.committed = Some(upto);
         self.purged_next = upto.index + 1;
         self.log_ids = log_ids;
+        self.accepted.keep_upto(self.log_ids.last().copied());
         self.membership_state = membership_state;
         self.snapshot_meta = snapshot_meta;
         self.purge_upto = Some(upto);
@@ -109,31 +126,30 @@ impl<
             && upto.index != u64::MAX
     }
 
-    /// Whether the log may stay past a log id where it has it, and else be cut to what is committed.
-    fn can_go_over(&self, upto: LogIdOf<C>, stored: &StoredMembershipOf<C, NID, N>) -> bool
-        requires { IsTrue (is_past_committed C.cmp upto self.now) }
-        ensures { result ≡ may_go_over C.cmp C.eq upto stored.now self.now }
+    /// Whether no committed membership is lost for a snapshot with this membership.
+    fn keeps_committed(&self, upto: LogIdOf<C>, stored: &StoredMembershipOf<C, NID, N>) -> bool
+        ensures { result ≡ keeps_committed C.cmp C.eq upto stored.now self.now }
     {
-        if self.is_logged(upto) {
-            let effective = *self.membership_state.effective().log_id();
-            return index_at_most(effective.index(), Some(upto.index))
-                || log_id_at_most(*stored.log_id(), effective);
-        }
-        let since = self.committed.next_index();
-        self.can_truncate_log(since) && log_id_at_most(last_below(&self.log_ids, since), Some(upto))
+        let committed = *self.membership_state.committed().log_id();
+        let new = *stored.log_id();
+        (log_id_at_most(committed, new) && index_at_most(committed.index(), new.index()))
+            || (self.is_logged(&Some(upto)) && index_below(Some(upto.index), committed.index()))
     }
 
-    /// Whether the log has a log id.
-    fn is_logged(&self, log_id: LogIdOf<C>) -> bool
-        ensures { result ≡ is_logged C.eq log_id self.now }
+    /// Whether the effective membership is not below a snapshot's, if it is in the log past the
+    /// snapshot.
+    fn keeps_effective(&self, upto: LogIdOf<C>, stored: &StoredMembershipOf<C, NID, N>) -> bool
+        ensures { result ≡ keeps_effective C.cmp C.eq upto stored.now self.now }
     {
-        same_optional_log_ids(self.log_ids.get(log_id.index), Some(log_id))
+        let effective = *self.membership_state.effective().log_id();
+        !self.is_logged(&Some(upto))
+            || index_at_most(effective.index(), Some(upto.index))
+            || log_id_at_most(*stored.log_id(), effective)
     }
 
     /// The log ids from the last one of a snapshot on.
     fn log_ids_from(&self, upto: LogIdOf<C>) -> Result<LogIdListOf<C>, AllocError>
-        requires past { IsTrue (is_past_committed C.cmp upto self.now) }
-        requires may_purge { IsTrue
+        requires { IsTrue
             (may_be_purged_to C.cmp (last_id (log_to_keep C.eq upto self.now)) upto) }
         ensures { IfOk result (λ log_ids.
             full_log log_ids ≡ log_after_install C.eq upto self.now) }
@@ -145,50 +161,33 @@ impl<
 
     /// The log ids that stay for a snapshot.
     fn log_to_keep(&self, upto: LogIdOf<C>) -> Result<LogIdListOf<C>, AllocError>
-        requires { IsTrue (is_past_committed C.cmp upto self.now) }
         ensures { IfOk result (λ log_ids. full_log log_ids ≡ log_to_keep C.eq upto self.now) }
     {
         let mut log_ids = self.log_ids.try_clone()?;
-        if self.is_logged(upto) {
+        if self.is_logged(&Some(upto)) {
             return Ok(log_ids);
         }
-        log_ids.truncate(self.committed.next_index());
+        log_ids.truncate(0);
         Ok(log_ids)
     }
 
-    /// The memberships once the one of a snapshot is committed.
+    /// The memberships once a snapshot with this membership is installed.
     fn memberships_with(
         &self,
         upto: LogIdOf<C>,
         stored: StoredMembershipOf<C, NID, N>,
     ) -> Result<MembershipStateOf<C, NID, N>, AllocError>
-        requires { IsTrue (is_past_committed C.cmp upto self.now) }
         ensures { IfOk result (λ memberships. memberships
-            ≡ after_update_committed C.cmp stored upto.index
-            (memberships_to_keep C.eq upto self.now)) }
+            ≡ memberships_after_install C.cmp C.eq upto stored self.now) }
     {
         let alloc = *stored.membership().get_joint_config().allocator();
         let effective = EffectiveMembershipOf::new_from_stored_membership(stored)?;
         let membership = Rc::new(alloc, effective)?;
-        let mut memberships = self.memberships_to_keep(upto)?;
-        memberships.take_over(membership, upto.index)?;
-        Ok(memberships)
-    }
-
-    /// The memberships of the log that stays for a snapshot.
-    fn memberships_to_keep(
-        &self,
-        upto: LogIdOf<C>,
-    ) -> Result<MembershipStateOf<C, NID, N>, AllocError>
-        requires { IsTrue (is_past_committed C.cmp upto self.now) }
-        ensures { IfOk result (λ memberships.
-            memberships ≡ memberships_to_keep C.eq upto self.now) }
-    {
-        let mut memberships = self.membership_state.try_clone()?;
-        if self.is_logged(upto) {
-            return Ok(memberships);
+        if !self.is_logged(&Some(upto)) {
+            return Ok(MembershipStateOf::new(membership.clone()?, membership));
         }
-        memberships.revert(self.committed.next_index())?;
+        let mut memberships = self.membership_state.try_clone()?;
+        memberships.take_over(membership, upto.index)?;
         Ok(memberships)
     }
 }

@@ -3,20 +3,22 @@
 #![tactic(auto)]
 
 pub mod accepted;
-pub mod append;
+mod append;
 pub mod catch_up;
 pub mod entry;
-pub mod install;
+mod install;
 pub mod io_state;
 pub mod laws;
-pub mod leads;
-pub mod log;
+mod leads;
+mod log;
 pub mod log_id_list;
 pub mod membership_state;
 pub mod raft_state;
+mod snapshot;
 pub mod snapshot_meta;
-pub mod truncate;
-pub mod validate;
+mod sound;
+mod truncate;
+mod validate;
 pub mod vote_state_reader;
 
 pub use accepted::{Accepted, AcceptedIn, AcceptedOf};

@@ -1,20 +1,23 @@
 //! The edits and the look-ups of a state's log: what is appended, committed and purged, and where
 //! entries conflict.
-ghost use Rattle.std.specs.Prelude.{◌≡◌, ◌+◌, ◌≤◌, true, false, IsTrue, IfOk, IfNone, IfSome, nat_lt, IsOk, OnOk, OnErr, None, Some, [], map, length, take, slice_get};
+ghost use Rattle.std.specs.Prelude.{◌≡◌, ◌+◌, ◌<◌, ◌≤◌, ℕ, true, false, IsTrue, IfOk, IfNone, IfSome, IsOk, OnOk, OnErr, None, Some, [], map, max, length, take, slice_get, nat_le, nat_lt, if◌then◌else◌};
 ghost use Rattle.std.specs.List.{list_all, prefix_len};
 ghost use Rattle.std.specs.Option.{option_or};
-ghost use Rattle.raft_base.specs.LogId.{id_le, next_index};
+ghost use Rattle.raft_base.specs.LogId.{id_le, index_of, next_index};
+ghost use Rattle.raft_base.specs.LogIndex.{index_le};
 ghost use Rattle.raft_base.specs.LogView.{has_id, may_ask};
 ghost use Rattle.raft_state.specs.Appended.{begins_at_zero};
 ghost use Rattle.raft_state.specs.Commit.{state_after_commit, committed_before, state_commits, state_may_commit};
-ghost use Rattle.raft_state.specs.FullLog.{full_log, same_log};
+ghost use Rattle.raft_state.specs.FullLog.{end_index, full_log, same_log};
 ghost use Rattle.raft_state.specs.Inner.LeaderRange.{HasOneLeader};
 ghost use Rattle.raft_state.specs.LogConditions.{all_follow, all_follow_of_one_leader};
 ghost use Rattle.raft_state.specs.LogEdits.{log_after_extend, log_after_purge};
+ghost use Rattle.raft_state.specs.LogKept.{HasIds, KeepsIds};
 ghost use Rattle.raft_state.specs.LogReads.{id_at, last_id};
 ghost use Rattle.raft_state.specs.Purge.{first_after_purge, may_purge};
+ghost use Rattle.raft_state.specs.Sound.{IsSound};
 ghost use Rattle.raft_state.specs.StateView.{view_of};
-ghost use Rattle.raft_state.specs.Valid.{broken_relation};
+ghost use Rattle.raft_state.specs.Valid.{broken_relation, none_or_logged};
 
 use crate::log_id_list::LeaderRange;
 use crate::raft_state::RaftStateIn;
@@ -26,9 +29,10 @@ impl<NID: NodeId, N: Node, I: Instant, L: Drop, C: Ord + Copy + Drop> RaftStateI
     /// Appends log ids of one leader to the log, as `LogIdListOf::extend_from_same_leader`;
     /// `log_ids.can_extend_from_same_leader` tests them.
     ///
-    /// A valid state stays valid, but an empty log has to begin at index 0. Memberships stay as they
-    /// are: whoever appends entries that store memberships makes these effective too, as
-    /// `append_entries` does; else the state is valid, and counts by old quorums.
+    /// A valid state stays valid, and a sound one sound, if an empty log begins at index 0. Missing
+    /// indexes are given to the last leader before them. Memberships stay as they are: if the entries
+    /// store memberships, call `append_entries` instead, which makes these effective too. Otherwise
+    /// the state counts by old quorums.
     pub fn extend_log_ids_from_same_leader<LID: RaftLogId<C>>(
         &mut self,
         new_log_ids: &[LID],
@@ -40,20 +44,29 @@ impl<NID: NodeId, N: Node, I: Instant, L: Drop, C: Ord + Copy + Drop> RaftStateI
         ensures last { OnOk result (last_id (full_log self.new.log_ids)
             ≡ option_or (last_id (map LID.id_of new_log_ids.now))
             (last_id (full_log self.old.log_ids))) }
+        ensures kept { OnOk result
+            (KeepsIds C.eq (full_log self.old.log_ids) (full_log self.new.log_ids)) }
+        ensures own { OnOk result
+            (HasIds C.eq (map LID.id_of new_log_ids.now) (full_log self.new.log_ids)) }
         ensures rest { self.new ≡ record self.old { log_ids = self.new.log_ids } }
         ensures err { OnErr result (self.new ≡ self.old) }
         ensures valid { broken_relation C.cmp self.old ≡ None → IsTrue
             (begins_at_zero (full_log self.old.log_ids) (map LID.id_of new_log_ids.now)) →
             broken_relation C.cmp self.new ≡ None }
+        ensures sound { IsSound C.eq C.cmp self.old → IsTrue
+            (begins_at_zero (full_log self.old.log_ids) (map LID.id_of new_log_ids.now)) →
+            IsSound C.eq C.cmp self.new }
         ensures no_memory { new_log_ids.now ≡ [] → IsOk result }
     {
+        // Read for the proof alone: by its contract the keys are in order.
+        let _keys = self.log_ids.key_log_ids();
         self.log_ids.extend_from_same_leader(new_log_ids)?;
         Ok(())
     }
 
     /// Appends log ids to the log, as `LogIdListOf::extend`; `log_ids.can_extend` tests them.
     ///
-    /// Memberships stay as they are, and a valid state valid, as with
+    /// Memberships stay as they are, a valid state valid, and a sound state sound, as with
     /// `extend_log_ids_from_same_leader`.
     pub fn extend_log_ids<LID: RaftLogId<C>>(
         &mut self,
@@ -66,13 +79,22 @@ impl<NID: NodeId, N: Node, I: Instant, L: Drop, C: Ord + Copy + Drop> RaftStateI
         ensures last { OnOk result (last_id (full_log self.new.log_ids)
             ≡ option_or (last_id (map LID.id_of new_log_ids.now))
             (last_id (full_log self.old.log_ids))) }
+        ensures kept { OnOk result
+            (KeepsIds C.eq (full_log self.old.log_ids) (full_log self.new.log_ids)) }
+        ensures own { OnOk result
+            (HasIds C.eq (map LID.id_of new_log_ids.now) (full_log self.new.log_ids)) }
         ensures rest { self.new ≡ record self.old { log_ids = self.new.log_ids } }
         ensures err { OnErr result (self.new ≡ self.old) }
         ensures valid { broken_relation C.cmp self.old ≡ None → IsTrue
             (begins_at_zero (full_log self.old.log_ids) (map LID.id_of new_log_ids.now)) →
             broken_relation C.cmp self.new ≡ None }
+        ensures sound { IsSound C.eq C.cmp self.old → IsTrue
+            (begins_at_zero (full_log self.old.log_ids) (map LID.id_of new_log_ids.now)) →
+            IsSound C.eq C.cmp self.new }
         ensures no_memory { new_log_ids.now ≡ [] → IsOk result }
     {
+        // Read for the proof alone: by its contract the keys are in order.
+        let _keys = self.log_ids.key_log_ids();
         self.log_ids.extend(new_log_ids)?;
         Ok(())
     }
@@ -89,11 +111,11 @@ impl<NID: NodeId, N: Node, I: Instant, L: Drop, C: Ord + Copy + Drop> RaftStateI
         }
     }
 
-    /// Takes a greater committed log id, commits the effective membership if it is not past it, and
-    /// answers the log id of before. Another log id changes nothing, and nothing is answered. Only
-    /// where a membership is committed can the answer be want of memory, though sharing takes none.
-    /// Where the log id is not past the log, a valid state stays valid. It may be called where
-    /// `can_commit` is true.
+    /// Takes a greater committed log id, commits the effective membership if that is not past it, and
+    /// returns the log id that was committed before. Another log id changes nothing, and nothing is
+    /// returned. It may be called if `can_commit` is true. Memory may be allocated only if a
+    /// membership is committed. If the log id is not past the log, a valid state stays valid. If
+    /// `is_logged` is true of the log id, a sound state stays sound.
     ///
     /// After an error nothing has changed.
     pub fn update_committed(
@@ -108,8 +130,17 @@ impl<NID: NodeId, N: Node, I: Instant, L: Drop, C: Ord + Copy + Drop> RaftStateI
         ensures valid { broken_relation C.cmp self.old ≡ None →
             IsTrue (id_le C.cmp committed.now (last_id (full_log self.old.log_ids))) →
             broken_relation C.cmp self.new ≡ None }
+        ensures sound { IsSound C.eq C.cmp self.old →
+            IsTrue (none_or_logged C.eq (view_of self.old) committed.now) →
+            IsSound C.eq C.cmp self.new }
+        ensures stays_logged { OnOk result
+            (none_or_logged C.eq (view_of self.old) self.old.committed ≡ true →
+            none_or_logged C.eq (view_of self.old) committed.now ≡ true →
+            none_or_logged C.eq (view_of self.new) self.new.committed ≡ true) }
         ensures no_memory { state_commits C.cmp committed.now self.old ≡ false → IsOk result }
     {
+        // Read for the proof alone: by its contract the keys are in order.
+        let _keys = self.log_ids.key_log_ids();
         if log_id_below(self.committed, *committed) {
             let before = self.committed;
             self.membership_state.commit(committed)?;
@@ -134,8 +165,11 @@ impl<NID: NodeId, N: Node, I: Instant, L: Drop, C: Ord + Copy + Drop> RaftStateI
         true
     }
 
-    /// The place of the first entry that the log does not have, and how many entries there are
-    /// where it has them all; where `can_ask_all` is true. What is committed each log has.
+    /// Returns the place of the first entry that the log does not have, or the number of entries if
+    /// it has them all. It may be called if `can_ask_all` is true.
+    ///
+    /// Log ids up to the committed index are not compared, as in `has_log_id`: what is committed,
+    /// each log has. Use `is_purged_or_logged` to compare a log id with all that is not purged.
     pub fn first_conflicting_index<Ent: RaftLogId<C>>(&self, entries: &[Ent]) -> usize
         requires { IsTrue (list_all (λ e. may_ask C.cmp (view_of self.now) (Ent.id_of e))
             entries.now) }
@@ -218,9 +252,10 @@ impl<NID: NodeId, N: Node, I: Instant, L: Drop, C: Ord + Copy + Drop> RaftStateI
         }
     }
 
-    /// Takes the log as purged up to a log id, where `can_purge_log` is true. Only an empty log
-    /// wants memory. Where the log id at that index is at most the purge point, a valid state stays
-    /// valid.
+    /// Takes the log as purged up to a log id. It may be called if `can_purge_log` is true. Memory is
+    /// allocated only for an empty log. If the log id at that index is at most the purge point, a
+    /// valid state stays valid. If that index is at most the purge point's, a sound state stays
+    /// sound.
     ///
     /// After an error nothing has changed.
     pub fn purge_log(&mut self, upto: &LogIdOf<C>) -> Result<(), AllocError>
@@ -231,11 +266,22 @@ impl<NID: NodeId, N: Node, I: Instant, L: Drop, C: Ord + Copy + Drop> RaftStateI
           purged_next = upto.now.index + 1;
           log_ids = self.new.log_ids;
         }) }
+        ensures last { OnOk result (last_id (full_log self.new.log_ids)
+            ≡ (if nat_le (end_index (full_log self.old.log_ids)) upto.now.index
+            then Some upto.now else last_id (full_log self.old.log_ids))) }
+        ensures end { OnOk result (end_index (full_log self.new.log_ids)
+            ≡ max (end_index (full_log self.old.log_ids)) (upto.now.index + 1)) }
+        ensures kept { OnOk result ((index : ℕ) → upto.now.index ≤ index →
+            index < end_index (full_log self.old.log_ids) →
+            id_at (full_log self.new.log_ids) index ≡ id_at (full_log self.old.log_ids) index) }
         ensures was_empty { OnErr result (full_log self.old.log_ids ≡ []) }
         ensures err { OnErr result (self.new ≡ self.old) }
         ensures valid { broken_relation C.cmp self.old ≡ None → IsTrue (id_le C.cmp
             (first_after_purge (full_log self.old.log_ids) upto.now) self.old.purge_upto) →
             broken_relation C.cmp self.new ≡ None }
+        ensures sound { IsSound C.eq C.cmp self.old →
+            IsTrue (index_le (Some upto.now.index) (index_of self.old.purge_upto)) →
+            IsSound C.eq C.cmp self.new }
     {
         // Read for the proof alone: by its contract the keys are in order.
         let _keys = self.log_ids.key_log_ids();

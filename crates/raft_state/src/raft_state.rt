@@ -1,15 +1,19 @@
-//! The whole state of a node, its making and its reads. What it is asked and told stands beside it:
-//! `validate`, `log`, `leads`, `append`, `truncate`, `install` and `catch_up`.
-ghost use Rattle.std.specs.Prelude.{◌≡◌, ◌&&◌, true, false, IsTrue, IfOk, None, Some};
+//! The whole state of a node: how it is made and read. Its other calls are in `append`, `catch_up`,
+//! `install`, `leads`, `log`, `snapshot`, `sound`, `truncate` and `validate`.
+ghost use Rattle.std.specs.Prelude.{◌≡◌, ◌&&◌, true, false, IsTrue, IfOk, None, Some, if◌then◌else◌};
 ghost use Rattle.std.specs.Option.{option_copied};
 ghost use Rattle.std.specs.Ordering.{partial_ge};
 ghost use Rattle.std.specs.Set.{ClonesAreEqual};
-ghost use Rattle.raft_base.specs.UTime.{moment_of};
+ghost use Rattle.raft_base.specs.LogId.{id_le};
+ghost use Rattle.raft_base.specs.UTime.{moment_of, utime_of};
+ghost use Rattle.raft_base.specs.Vote.{vote_cmp};
 ghost use Rattle.raft_state.specs.Accepted.{leader_of, accepted_id, after_accept};
 ghost use Rattle.raft_state.specs.FullLog.{full_log};
 ghost use Rattle.raft_state.specs.Leads.{is_initialized};
+ghost use Rattle.raft_state.specs.LogReads.{last_id};
 ghost use Rattle.raft_state.specs.NewState.{IsNewState, HasNewVote};
 ghost use Rattle.raft_state.specs.SnapshotMeta.{IsSnapshotCopy};
+ghost use Rattle.raft_state.specs.Sound.{IsSound};
 ghost use Rattle.raft_state.specs.StateView.{view_of, vote_of};
 ghost use Rattle.raft_state.specs.Valid.{broken_relation};
 
@@ -156,6 +160,7 @@ impl<
             × HasNewVote leader elected s) }
         ensures first_term { IfOk result (λ s. L.term_of (vote_of s).leader_id ≡ 0) }
         ensures valid { IfOk result (λ s. broken_relation C.cmp s ≡ None) }
+        ensures sound { IfOk result (IsSound C.eq C.cmp) }
     {
         // What can be refused is made first, so that little is owned at each way out.
         let membership_state = MembershipStateOf::try_default(alloc)?;
@@ -221,8 +226,9 @@ impl<
         vote.is_committed() && is_no_lesser(vote.leader_id(), self.accepted.leader_id())
     }
 
-    /// Takes a log id that was accepted of the vote's leader, if it is greater than the last one;
-    /// where `can_accept` is true.
+    /// Takes a log id that was accepted of the vote's leader, if it is greater than the last one. It
+    /// may be called if `can_accept` is true. If the log id is not past the log, a sound state stays
+    /// sound.
     ///
     /// A follower calls this once it has appended a leader's entries, or found that it has them: up
     /// to there, and no further, its log is the leader's, so it may commit what is committed up to
@@ -231,13 +237,36 @@ impl<
         requires committed { (vote_of self.old).committed ≡ true }
         requires no_lesser_leader { IsTrue (partial_ge L.order (vote_of self.old).leader_id
             (leader_of self.old.accepted)) }
-        ensures { self.new ≡ record self.old {
+        ensures taken { self.new ≡ record self.old {
           accepted = after_accept L.eq C.cmp
               self.old.accepted (vote_of self.old).leader_id accepted;
         } }
+        ensures sound { IsSound C.eq C.cmp self.old →
+            IsTrue (id_le C.cmp accepted (last_id (full_log self.old.log_ids))) →
+            IsSound C.eq C.cmp self.new }
     {
         let leader_id = self.vote.get().leader_id;
         self.accepted.update(leader_id, accepted);
+    }
+
+    /// Promises a vote, if it is at least the present one, and returns whether it did. The moment of
+    /// the vote's last update stays. A sound state stays sound.
+    ///
+    /// A vote never falls: a node that has promised a vote takes nothing from a lesser leader.
+    pub fn promise(&mut self, vote: VoteIn<L>) -> bool
+        ensures answer { result ≡ partial_ge (vote_cmp L.order) vote (vote_of self.old) }
+        ensures taken { self.new ≡ (if result
+            then record self.old { vote = utime_of vote (moment_of self.old.vote) } else self.old) }
+        ensures not_lowered { IsTrue
+            (partial_ge (vote_cmp L.order) (vote_of self.new) (vote_of self.old)) }
+        ensures sound { IsSound C.eq C.cmp self.old → IsSound C.eq C.cmp self.new }
+    {
+        if vote >= *self.vote.get() {
+            *self.vote.get_mut() = vote;
+            true
+        } else {
+            false
+        }
     }
 }
 

@@ -1,11 +1,14 @@
 //! Cutting off the end of a log, with the memberships in it.
-ghost use Rattle.std.specs.Prelude.{◌≡◌, None, false, IsTrue, IfOk, IsOk, OnOk, OnErr};
+ghost use Rattle.std.specs.Prelude.{◌≡◌, ◌<◌, ℕ, None, false, true, IsTrue, IfOk, IsOk, OnOk, OnErr};
+ghost use Rattle.raft_state.specs.Accepted.{accepted_upto};
 ghost use Rattle.raft_state.specs.FullLog.{full_log};
 ghost use Rattle.raft_state.specs.LogEdits.{front};
-ghost use Rattle.raft_state.specs.LogReads.{last_id};
+ghost use Rattle.raft_state.specs.LogReads.{id_at, last_id};
 ghost use Rattle.raft_state.specs.MembershipMoves.{after_truncate, is_cut};
+ghost use Rattle.raft_state.specs.Sound.{IsSound};
+ghost use Rattle.raft_state.specs.StateView.{view_of};
 ghost use Rattle.raft_state.specs.Truncate.{may_truncate};
-ghost use Rattle.raft_state.specs.Valid.{broken_relation};
+ghost use Rattle.raft_state.specs.Valid.{broken_relation, none_or_logged};
 
 use crate::log_id_list::LogIdListOf;
 use crate::raft_state::RaftStateIn;
@@ -27,10 +30,11 @@ impl<NID: NodeId, N: Node, I: Instant, L: Drop, C: Ord + Copy + Drop> RaftStateI
             && self.membership_state.can_truncate(since)
     }
 
-    /// Cuts the log off from an index on, as a follower does with log ids that conflict with the
-    /// leader's; where `can_truncate_log` is true. True where the effective membership was cut off
-    /// with it, and the committed one is effective again: only there can the answer be want of
-    /// memory, though sharing takes none. A valid state stays valid.
+    /// Truncates the log from an index on, as a follower does with log ids that conflict with the
+    /// leader's. It may be called if `can_truncate_log` is true. What was accepted past the log's new
+    /// end is accepted only up to that end. Returns whether the effective membership was truncated
+    /// too, in which case the committed one is effective again: only then may memory be allocated.
+    /// A valid state stays valid, and a sound one sound.
     ///
     /// After an error nothing has changed.
     pub fn truncate_log(&mut self, since: u64) -> Result<bool, AllocError>
@@ -40,18 +44,26 @@ impl<NID: NodeId, N: Node, I: Instant, L: Drop, C: Ord + Copy + Drop> RaftStateI
         ensures ok { OnOk result (self.new ≡ record self.old {
           log_ids = self.new.log_ids;
           membership_state = after_truncate since self.old.membership_state;
+          accepted = accepted_upto C.cmp self.old.accepted (last_id (full_log self.new.log_ids));
         }) }
         ensures answer { IfOk result (λ reverted.
             reverted ≡ is_cut since self.old.membership_state) }
         ensures err { OnErr result (self.new ≡ self.old) }
         ensures valid { broken_relation C.cmp self.old ≡ None →
             broken_relation C.cmp self.new ≡ None }
+        ensures sound { IsSound C.eq C.cmp self.old → IsSound C.eq C.cmp self.new }
+        ensures kept { OnOk result ((index : ℕ) → index < since →
+            id_at (full_log self.new.log_ids) index ≡ id_at (full_log self.old.log_ids) index) }
+        ensures committed_stays_logged { OnOk result
+            (none_or_logged C.eq (view_of self.old) self.old.committed ≡ true →
+            none_or_logged C.eq (view_of self.new) self.new.committed ≡ true) }
         ensures no_memory { is_cut since self.old.membership_state ≡ false → IsOk result }
     {
         // Read for the proof alone: by its contract the keys are in order.
         let _keys = self.log_ids.key_log_ids();
         let reverted = self.membership_state.revert(since)?;
         self.log_ids.truncate(since);
+        self.accepted.keep_upto(self.log_ids.last().copied());
         Ok(reverted)
     }
 }

@@ -10,7 +10,7 @@ ghost use Rattle.raft_state.specs.StateView.{view_of};
 ghost use Rattle.raft_state.specs.Valid.{broken_relation, fits_purged_next, none_or_logged, upto_relation};
 
 use crate::raft_state::RaftStateIn;
-use raft_base::order::{log_id_at_most, same_optional_log_ids};
+use raft_base::order::log_id_at_most;
 use raft_base::{Instant, Invalid, LogIdOf, LogStateReader, Node, NodeId, Validate};
 
 /// The relations between the log ids of a state in turn, and then those of its memberships.
@@ -53,7 +53,7 @@ impl<NID: NodeId, N: Node, I: Instant, L: Drop, C: Ord + Copy + Drop> RaftStateI
     {
         // Read for the proof alone: by its contract the keys are in order.
         let _keys = self.log_ids.key_log_ids();
-        self.is_none_or_logged(self.purge_upto)
+        self.is_logged(&self.purge_upto)
     }
 
     /// Whether the committed log id is absent or the log id at its index, as the last purged one is.
@@ -69,17 +69,7 @@ impl<NID: NodeId, N: Node, I: Instant, L: Drop, C: Ord + Copy + Drop> RaftStateI
     {
         // Read for the proof alone: by its contract the keys are in order.
         let _keys = self.log_ids.key_log_ids();
-        self.is_none_or_logged(self.committed)
-    }
-
-    /// Whether a log id is absent or the one at its index.
-    fn is_none_or_logged(&self, log_id: Option<LogIdOf<C>>) -> bool
-        ensures { result ≡ none_or_logged C.eq (view_of self.now) log_id }
-    {
-        match log_id {
-            None => true,
-            Some(id) => same_optional_log_ids(self.log_ids.get(id.index), Some(id)),
-        }
+        self.is_logged(&self.committed)
     }
 }
 

@@ -1,11 +1,13 @@
 -- Entries whose memberships follow one another, and what they leave.
-use Rattle.std.proofs.Common.{◌≡◌, Bool, true, false, ◌&&◌, List, [], ◌∷◌, Option, Some, None, is_some, refl}
+use Rattle.std.proofs.Common.{◌≡◌, ℕ, ◌+◌, ◌-◌, Bool, true, false, ◌&&◌, List, [], ◌∷◌, ◌++◌, Option, Some, None, is_some, nat_eq, refl, sym, ap, arith, ◌∙◌}
 use Rattle.std.proofs.lemmas.Bool.{and_parts}
+use Rattle.std.proofs.lemmas.Bool.Decides.{nat_tests}
+use Rattle.std.proofs.lemmas.List.{append-nil}
 use Rattle.std.specs.declared.cmp.Ordering.{Ordering}
 use Rattle.std.specs.List.{list_any}
 use Rattle.std.specs.Option.{option_cmp}
 use Rattle.std.specs.Ordering.{nat_cmp}
-use Rattle.raft_base.specs.LogId.{id_le, id_lt, index_of, log_id_cmp}
+use Rattle.raft_base.specs.LogId.{id_le, id_lt, index_of, log_id_cmp, next_index}
 use Rattle.raft_base.specs.LogIndex.{index_le, index_lt}
 use Rattle.raft_base.specs.Validate.{first_false}
 use Rattle.raft_base.specs.declared.log_id.LogIdOf.{LogIdOf}
@@ -14,7 +16,11 @@ use Rattle.raft_members.specs.Stored.{log_id_of}
 use Rattle.raft_members.specs.declared.membership.stored.StoredMembershipOf.{StoredMembershipOf}
 use Rattle.raft_progress.proofs.lemmas.OrderLemmas.{AtMost-from_lt}
 use Rattle.raft_state.proofs.lemmas.validate.RelationLemmas.{hold_all}
-use Rattle.raft_state.specs.Appended.{AppendsMemberships, IsStoredBy, memberships_follow}
+use Rattle.raft_state.proofs.lemmas.log_id_list.KeptLemmas.{last_of_parts}
+use Rattle.raft_state.specs.Appended.{AppendsMemberships, IsStoredBy, are_consecutive, begins_at_zero, last_stored, memberships_follow}
+use Rattle.raft_state.specs.FullLog.{end_index}
+use Rattle.raft_state.specs.LogEdits.{log_after_append, log_after_extend, missing_ids}
+use Rattle.raft_state.specs.LogReads.{last_id}
 use Rattle.raft_state.specs.MembershipMoves.{after_append}
 use Rattle.raft_state.specs.MembershipRelations.{membership_relations}
 use Rattle.raft_state.specs.Memberships.{Memberships, index_at}
@@ -46,6 +52,8 @@ module _ {C K N E : Type 0} (eq : K → K → Bool) (same : N → N → Bool) (i
       → AppendsMemberships eq same id_of membership es old new → AppendsMemberships eq same id_of membership (e ∷ es) old new
   none_appended e es old new stores rest = rw stores rest
 
+module _ {C K N E : Type 0} (eq : K → K → Bool) (same : N → N → Bool) (id_of : E → LogIdOf C)
+    (membership : E → Option (MemberList K N)) where
   -- where no entry stores a membership all stay as they are
   pub none_stored : (es : List E) (m : Memberships C K N) → list_any (λ e. is_some (membership e)) es ≡ false
       → AppendsMemberships eq same id_of membership es m m
@@ -55,8 +63,55 @@ module _ {C K N E : Type 0} (eq : K → K → Bool) (same : N → N → Bool) (i
       by : (o : Option (MemberList K N)) → membership e ≡ o
           → (list_any (λ x. is_some (membership x)) es ≡ false → AppendsMemberships eq same id_of membership es m m)
           → AppendsMemberships eq same id_of membership (e ∷ es) m m
-      by None stores later = none_appended e es m m stores (later (rw stores at none))
+      by None stores later = none_appended eq same id_of membership e es m m stores (later (rw stores at none))
       by (Some w) stores later = let some : true ≡ false = rw stores at none in cc
+
+  -- the effective membership is that of the last entry that stores one
+  pub last_effective : (es : List E) (m new : Memberships C K N) → AppendsMemberships eq same id_of membership es m new
+      → log_id_of new.effective ≡ last_stored id_of (λ e. is_some (membership e)) (log_id_of m.effective) es
+  last_effective [] m new is = rw is refl
+  last_effective (e ∷ es) m new is = by (membership e) refl (λ m rest. last_effective es m new rest)
+    where
+      by : (o : Option (MemberList K N)) → membership e ≡ o
+          → ((m : Memberships C K N) → AppendsMemberships eq same id_of membership es m new
+          → log_id_of new.effective ≡ last_stored id_of (λ x. is_some (membership x)) (log_id_of m.effective) es)
+          → log_id_of new.effective ≡ last_stored id_of (λ x. is_some (membership x)) (log_id_of m.effective) (e ∷ es)
+      by None stores later = rw stores (later m (rw stores at is))
+      by (Some w) stores later =
+          let one = rw stores at is in
+          let at : log_id_of one.0 ≡ Some (id_of e) = one.1.0 in
+          let last = later (after_append one.0 m) one.2 in
+          rw stores (rw at at last)
+
+zero_first : (i : ℕ) → nat_eq i 0 ≡ true → index_le (Some i) (Some 0) ≡ true
+zero_first i h = grind (arith, nat_tests)
+
+-- log ids whose indexes go on from the end of a log begin an empty one at index 0
+pub begins_zero : {C : Type 0} (log ids : List (LogIdOf C)) → are_consecutive (last_id log) ids ≡ true → begins_at_zero log ids ≡ true
+begins_zero [] [] h = refl
+begins_zero [] (id ∷ ids) h =
+    let first = (and_parts (nat_eq id.index 0) (are_consecutive (Some id) ids) h).0 in zero_first id.index first
+begins_zero (x ∷ log) ids h = refl
+
+-- and leave out no index
+none_missing : {C : Type 0} (log : List (LogIdOf C)) (i : ℕ) → i ≡ end_index log → missing_ids log i ≡ []
+none_missing [] i h = refl
+none_missing (k ∷ []) i h = let z : i - (k.index + 1) ≡ 0 = omega arith in rw z refl
+none_missing (k ∷ l ∷ ks) i h = none_missing (l ∷ ks) i h
+
+then_more : {C : Type 0} (log ids : List (LogIdOf C)) (id : LogIdOf C) → (log ++ id ∷ []) ++ ids ≡ log ++ id ∷ ids
+then_more [] ids id = refl
+then_more (x ∷ log) ids id = ap (λ more. x ∷ more) (then_more log ids id)
+
+pub log_and_more : {C : Type 0} (log ids : List (LogIdOf C)) → are_consecutive (last_id log) ids ≡ true
+    → log_after_extend log ids ≡ log ++ ids
+log_and_more log [] h = sym (append-nil log)
+log_and_more {C} log (id ∷ ids) h =
+    let b = and_parts (nat_eq id.index (next_index (last_id log))) (are_consecutive (Some id) ids) h in let b0 = b.0 in
+    let at : id.index ≡ end_index log = grind (arith, nat_tests) in
+    let one : log_after_append log id ≡ log ++ id ∷ [] = rw (none_missing log id.index at, append-nil log) refl in
+    let more = log_and_more (log ++ id ∷ []) ids (rw (last_of_parts log id) b.1) in
+    rw one (more ∙ then_more log ids id)
 
 -- a membership under a greater log id and index, after the effective one
 one_stays : {C K N : Type 0} (cmp : C → C → Ordering) (id : LogIdOf C) (stored : StoredMembershipOf C K N) (m : Memberships C K N)

@@ -1,42 +1,14 @@
 -- A state over which a snapshot is installed stays valid.
-use Rattle.std.proofs.Common.{
-  ◌≡◌,
-  ℕ,
-  ◌+◌,
-  ◌==◌,
-  ◌≤◌,
-  ◌<◌,
-  Bool,
-  true,
-  false,
-  ◌&&◌,
-  ◌||◌,
-  List,
-  [],
-  ◌∷◌,
-  Option,
-  Some,
-  None,
-  if◌then◌else◌,
-  nat_lt,
-  nat_le,
-  refl,
-  sym,
-  arith,
-  inl,
-  inr,
-  ◌∙◌,
-}
-use Rattle.std.proofs.lemmas.Bool.{and_parts, cases_lt, or_left, or_right}
+use Rattle.std.proofs.Common.{◌≡◌, ℕ, ◌+◌, ◌==◌, ◌≤◌, Bool, true, false, ◌||◌, List, [], ◌∷◌, Option, Some, None, if◌then◌else◌, not, nat_lt, nat_le, refl, sym, arith, ◌∙◌}
+use Rattle.std.proofs.lemmas.Bool.{and_parts, or_left}
 use Rattle.std.proofs.lemmas.Bool.Decides.{nat_tests}
 use Rattle.std.specs.declared.cmp.Ordering.{Ordering}
-use Rattle.std.specs.declared.cmp.Ordering.TheVariants.{Less, Equal, Greater}
 use Rattle.std.specs.Cmp.{IsEquivalence, IsTotalOrder, nat_cmp_total}
 use Rattle.std.specs.Cmp.Lexicographic.{options_total}
-use Rattle.std.specs.Ordering.{is_eq, is_le, nat_cmp, ordering_then}
-use Rattle.raft_base.specs.LogId.{id_le, id_lt, index_of, next_index, same_ids}
+use Rattle.std.specs.Ordering.{is_eq, is_le}
+use Rattle.raft_base.specs.LogId.{id_le, id_lt, same_ids}
 use Rattle.raft_base.specs.LogIdLawful.{optional-log_id_cmp-total}
-use Rattle.raft_base.specs.LogIndex.{index_le, index_lt}
+use Rattle.raft_base.specs.LogIndex.{index_le}
 use Rattle.raft_base.specs.Validate.{first_false}
 use Rattle.raft_base.specs.declared.log_id.LogIdOf.{LogIdOf}
 use Rattle.raft_members.specs.Stored.{log_id_of}
@@ -54,33 +26,25 @@ use Rattle.raft_state.proofs.lemmas.log_id_list.KeyListLemmas.{IsKeyList}
 use Rattle.raft_state.proofs.lemmas.validate.RelationLemmas.{all_hold, hold_all}
 use Rattle.raft_state.proofs.lemmas.log_id_list.OrderLemmas.{From, above_full, index_within, last_at_least}
 use Rattle.raft_state.proofs.lemmas.log_id_list.SameLogLemmas.{equal_found}
-use Rattle.raft_state.proofs.lemmas.TruncateLemmas.{cut_members_stay}
 use Rattle.raft_state.specs.FullLog.{end_index, first_index, full_log}
 use Rattle.raft_state.specs.Install.{
   is_logged,
   is_not_past,
-  is_past_committed,
+  keeps_effective,
   log_after_install,
   log_to_keep,
-  may_go_over,
-  memberships_to_keep,
+  memberships_after_install,
 }
 use Rattle.raft_state.specs.LogConditions.{may_be_purged_to}
 use Rattle.raft_state.specs.LogEdits.{front, log_after_purge, rest}
 use Rattle.raft_state.specs.LogReads.{first_id, id_at, last_id}
-use Rattle.raft_state.specs.MembershipMoves.{after_truncate, after_update_committed, is_covered, is_cut}
+use Rattle.raft_state.specs.MembershipMoves.{after_update_committed, is_covered}
 use Rattle.raft_state.specs.MembershipRelations.{membership_relations}
 use Rattle.raft_state.specs.Memberships.{Memberships, index_at}
-use Rattle.raft_state.specs.Truncate.{may_truncate}
 use Rattle.raft_state.specs.Valid.{broken_relation, fits_purged_next, upto_relation}
 use Rattle.raft_state.specs.declared.accepted.AcceptedIn.{AcceptedIn}
 use Rattle.raft_state.specs.declared.raft_state.RaftStateIn.{RaftStateIn}
 use Rattle.raft_state.specs.declared.snapshot_meta.SnapshotMetaOf.{SnapshotMetaOf}
-
-leaders_first : (o : Ordering) (i j : ℕ) → is_le (ordering_then o (nat_cmp i j)) ≡ true → is_le o ≡ true
-leaders_first Less i j h = refl
-leaders_first Equal i j h = refl
-leaders_first Greater i j h = cc
 
 in_index : (a b : Option ℕ) (i j : ℕ) → index_le a (Some i) ≡ true → index_le b (Some j) ≡ false → i ≤ j → index_le a b ≡ true
 in_index None None i j h g le = refl
@@ -88,30 +52,19 @@ in_index None (Some b) i j h g le = refl
 in_index (Some a) None i j h g le = cc
 in_index (Some a) (Some b) i j h g le = grind (arith, nat_tests)
 
-not_in_index : (a b : Option ℕ) (i : ℕ) → index_le a (Some i) ≡ true → index_le b (Some i) ≡ false → index_le b a ≡ false
+pub not_in_index : (a b : Option ℕ) (i : ℕ) → index_le a (Some i) ≡ true → index_le b (Some i) ≡ false → index_le b a ≡ false
 not_in_index None None i h g = cc
 not_in_index None (Some b) i h g = refl
 not_in_index (Some a) None i h g = cc
 not_in_index (Some a) (Some b) i h g = grind (arith, nat_tests)
 
--- what is cut off ends at or below the index
-after_first : {C : Type 0} (a : ℕ) (x : LogIdOf C) (zs : List (LogIdOf C)) → x.index < a → next_index (last_id zs) ≤ a
-    → next_index (last_id (x ∷ zs)) ≤ a
-after_first a x [] lt h = omega arith
-after_first a x (z ∷ zs) lt h = h
+pub not_below_zero : (i : ℕ) → nat_le 0 i ≡ true
+not_below_zero i = grind (arith, nat_tests)
 
-front_ends_below : {C : Type 0} (a : ℕ) (xs : List (LogIdOf C)) → next_index (last_id (front xs a)) ≤ a
-front_ends_below a [] = omega arith
-front_ends_below a (x ∷ xs) = elim (cases_lt x.index a) [
-  | inl below ↦ (let t : nat_lt x.index a ≡ true = grind (arith, nat_tests) in
-      rw t (after_first a x (front xs a) below (front_ends_below a xs)))
-  | inr past ↦ (let t : nat_lt x.index a ≡ false = grind (arith, nat_tests) in rw t (front_ends_below a xs))
-]
-
-is_past : {C : Type 0} (committed : Option (LogIdOf C)) (id : LogIdOf C) → index_lt (index_of committed) (Some id.index) ≡ true
-    → next_index committed ≤ id.index
-is_past None id h = omega arith
-is_past (Some c) id h = grind (arith, nat_tests)
+-- below index 0 there is nothing
+pub front_zero : {C : Type 0} (log : List (LogIdOf C)) → front log 0 ≡ []
+front_zero [] = refl
+front_zero (x ∷ xs) = let t : nat_lt x.index 0 ≡ false = grind (arith, nat_tests) in rw t (front_zero xs)
 
 -- a log that begins and ends where a snapshot up to a log id does, or after it
 pub record IsFrom {C : Type 0} (cmp : C → C → Ordering) (id : LogIdOf C) (log : List (LogIdOf C)) : Type 0 where
@@ -126,6 +79,11 @@ module _ {C : Type 0} (cmp : C → C → Ordering) (eq : C → C → Bool) (tota
   alone : (id : LogIdOf C) → IsFrom cmp id (id ∷ [])
   alone id = let r = AtMost-refl (optional-log_id_cmp-total total) (Some id) in
       record { first = id; is_first = refl; index = refl; first_at_most = r; last_at_least = r }
+
+  alone_of : (id : LogIdOf C) (t : Bool) → t ≡ true → (others : List (LogIdOf C))
+      → IsFrom cmp id (let log : List (LogIdOf C) = (if t then id ∷ [] else others) in log)
+  alone_of id true e others = alone id
+  alone_of id false e others = cc
 
   -- a log that has the log id
   over_logged : (keys : List (LogIdOf C)) (id : LogIdOf C) → IsKeyList cmp keys
@@ -163,27 +121,20 @@ module _ {C : Type 0} (cmp : C → C → Ordering) (eq : C → C → Bool) (tota
                 z.3);
           })
 
-  -- a log that does not, cut off at or below it
-  over_cut : (a : ℕ) (log : List (LogIdOf C)) (id : LogIdOf C) → a ≤ id.index → IsFrom cmp id (log_after_purge (front log a) id)
-  over_cut a log id le =
-      let n = front_ends_below a log in
-      let t : nat_le (end_index (front log a)) id.index ≡ true = grind (arith, nat_tests) in
-      rw t (alone id)
-
   -- the log once a snapshot is installed
-  is_from : {K N I L : Type 0} (s : RaftStateIn K N I L C) (id : LogIdOf C) → IsKeyList cmp s.log_ids → next_index s.committed ≤ id.index
+  pub is_from : {K N I L : Type 0} (s : RaftStateIn K N I L C) (id : LogIdOf C) → IsKeyList cmp s.log_ids
       → IsFrom cmp id (log_after_install eq id s)
-  is_from s id keys le = by (is_logged eq id s) refl
+  is_from s id keys = by (is_logged eq id s) refl
     where
       by : (t : Bool) → t ≡ is_logged eq id s
-          → IsFrom cmp id (log_after_purge (if t then full_log s.log_ids else front (full_log s.log_ids) (next_index s.committed)) id)
+          → IsFrom cmp id (log_after_purge (let log : List (LogIdOf C) = (if t then full_log s.log_ids else []) in log) id)
       by true e = over_logged s.log_ids id keys (sym e)
-      by false e = over_cut (next_index s.committed) (full_log s.log_ids) id le
+      by false e = alone_of id (nat_le 0 id.index) (not_below_zero id.index) (if nat_lt id.index 0 then [] else [])
 
   -- the log may be purged to the snapshot's last log id
-  pub purge_fits : {K N I L : Type 0} (s : RaftStateIn K N I L C) (id : LogIdOf C) (stored : StoredMembershipOf C K N)
-      → IsKeyList cmp s.log_ids → may_go_over cmp eq id stored s ≡ true → may_be_purged_to cmp (last_id (log_to_keep eq id s)) id ≡ true
-  purge_fits s id stored keys may = by (is_logged eq id s) refl may
+  pub purge_fits : {K N I L : Type 0} (s : RaftStateIn K N I L C) (id : LogIdOf C)
+      → IsKeyList cmp s.log_ids → may_be_purged_to cmp (last_id (log_to_keep eq id s)) id ≡ true
+  purge_fits s id keys = by (is_logged eq id s) refl
     where
       whole : (ks : List (LogIdOf C)) → IsKeyList cmp ks → same_ids eq (id_at (full_log ks) id.index) (Some id) ≡ true
           → may_be_purged_to cmp (last_id (full_log ks)) id ≡ true
@@ -196,18 +147,10 @@ module _ {C : Type 0} (cmp : C → C → Ordering) (eq : C → C → Bool) (tota
           let t : nat_le id.index z.0.index ≡ true = grind (arith, nat_tests) in
           rw z.1 (or_left (nat_le id.index z.0.index) (is_le (cmp z.0.leader_id id.leader_id)) t)
 
-      cut : (last : Option (LogIdOf C)) → id_le cmp last (Some id) ≡ true → may_be_purged_to cmp last id ≡ true
-      cut None h = refl
-      cut (Some l) h = or_right (nat_le id.index l.index) (is_le (cmp l.leader_id id.leader_id))
-          (leaders_first (cmp l.leader_id id.leader_id) l.index id.index h)
-
       by : (t : Bool) → t ≡ is_logged eq id s
-          → (if t then is_covered id.index s.membership_state || id_le cmp (log_id_of stored) (log_id_of s.membership_state.effective)
-          else may_truncate cmp (next_index s.committed) s
-          && id_le cmp (last_id (front (full_log s.log_ids) (next_index s.committed))) (Some id)) ≡ true
-          → may_be_purged_to cmp (last_id (if t then full_log s.log_ids else front (full_log s.log_ids) (next_index s.committed))) id ≡ true
-      by true e m = whole s.log_ids keys (sym e)
-      by false e m = cut (last_id (front (full_log s.log_ids) (next_index s.committed))) (and_parts _ _ m).1
+          → may_be_purged_to cmp (last_id (let log : List (LogIdOf C) = (if t then full_log s.log_ids else []) in log)) id ≡ true
+      by true e = whole s.log_ids keys (sym e)
+      by false e = refl
 
   -- valid memberships stay valid
   members_stay : {K N : Type 0} (id : LogIdOf C) (stored : StoredMembershipOf C K N) (m : Memberships C K N)
@@ -243,47 +186,22 @@ module _ {C : Type 0} (cmp : C → C → Ordering) (eq : C → C → Bool) (tota
           rw stays (kept (id_lt cmp (log_id_of m.committed) (log_id_of stored)) o
           (in_index (index_at stored) (index_at m.effective) id.index id.index in_snapshot (sym e) (omega arith)))
 
-  -- memberships that are cut off below a snapshot's last index are in the snapshot
-  cut_covers : {K N : Type 0} (since i : ℕ) (m : Memberships C K N) → index_lt (index_at m.committed) (Some since) ≡ true → since ≤ i
-      → is_covered i (after_truncate since m) ≡ true
-  cut_covers {K} {N} since i m low le = by (is_cut since m) refl
-    where
-      below : (a : Option ℕ) → index_lt a (Some since) ≡ true → index_le a (Some i) ≡ true
-      below None h = refl
-      below (Some a) h = grind (arith, nat_tests)
-
-      not_from : (a : Option ℕ) → index_le (Some since) a ≡ false → index_le a (Some i) ≡ true
-      not_from None h = refl
-      not_from (Some a) h = grind (arith, nat_tests)
-
-      by : (t : Bool) → t ≡ is_cut since m
-          → is_covered i (let new : Memberships C K N = (if t then record { committed = m.committed; effective = m.committed } else m) in
-          new) ≡ true
-      by true e = below (index_at m.committed) low
-      by false e = not_from (index_at m.effective) (sym e)
-
   -- and so do those over which a snapshot is installed
   all_members_stay : {K N I L : Type 0} (s : RaftStateIn K N I L C) (id : LogIdOf C) (stored : StoredMembershipOf C K N)
-      → next_index s.committed ≤ id.index → is_not_past cmp id stored ≡ true → may_go_over cmp eq id stored s ≡ true
+      → is_not_past cmp id stored ≡ true → keeps_effective cmp eq id stored s ≡ true
       → first_false (membership_relations cmp s.membership_state) ≡ None
-      → first_false (membership_relations cmp (after_update_committed cmp stored id.index (memberships_to_keep eq id s))) ≡ None
-  all_members_stay {K} {N} s id stored le past may valid = by (is_logged eq id s) may
+      → first_false (membership_relations cmp (memberships_after_install cmp eq id stored s)) ≡ None
+  all_members_stay {K} {N} s id stored past may valid = by (is_logged eq id s) may
     where
       by : (t : Bool)
-          → (if t then is_covered id.index s.membership_state || id_le cmp (log_id_of stored) (log_id_of s.membership_state.effective)
-          else may_truncate cmp (next_index s.committed) s
-          && id_le cmp (last_id (front (full_log s.log_ids) (next_index s.committed))) (Some id)) ≡ true
+          → not t || is_covered id.index s.membership_state
+          || id_le cmp (log_id_of stored) (log_id_of s.membership_state.effective) ≡ true
           → first_false (membership_relations cmp
-          (after_update_committed cmp stored id.index
-          (let kept : Memberships C K N = (if t then s.membership_state else after_truncate (next_index s.committed)
-          s.membership_state) in kept))) ≡ None
+          (let new : Memberships C K N = (if t then after_update_committed cmp stored id.index s.membership_state
+          else record { committed = stored; effective = stored }) in new)) ≡ None
       by true m = members_stay id stored s.membership_state valid past m
-      by false m =
-          let low = (and_parts _ _ (and_parts _ _ m).0).1 in
-          let cut = after_truncate (next_index s.committed) s.membership_state in
-          members_stay id stored cut (cut_members_stay total (next_index s.committed) s.membership_state valid) past
-          (or_left (is_covered id.index cut) (id_le cmp (log_id_of stored) (log_id_of cut.effective))
-          (cut_covers (next_index s.committed) id.index s.membership_state low le))
+      by false m = hold_all _ _ _ (AtMost-refl (optional-log_id_cmp-total total) (log_id_of stored))
+          (hold_all _ _ _ (AtMost-refl (options_total nat_cmp_total) (index_at stored)) refl)
 
   installed_begins : (log : List (LogIdOf C)) (id : LogIdOf C) → IsFrom cmp id log
       → (fits_purged_next (id.index + 1) (first_id log) ≡ true)
@@ -297,8 +215,8 @@ module _ {C : Type 0} (cmp : C → C → Ordering) (eq : C → C → Bool) (tota
   pub install_stays_valid : {K N I L : Type 0} (s : RaftStateIn K N I L C) (id : LogIdOf C) (stored : StoredMembershipOf C K N)
       (keys : List (LogIdOf C)) (m : Memberships C K N) (accepted : AcceptedIn L C) (meta : SnapshotMetaOf C K N)
       → IsKeyList cmp s.log_ids → full_log keys ≡ log_after_install eq id s
-      → m ≡ after_update_committed cmp stored id.index (memberships_to_keep eq id s) → meta.last_log_id ≡ Some id
-      → is_past_committed cmp id s ≡ true → is_not_past cmp id stored ≡ true → may_go_over cmp eq id stored s ≡ true
+      → m ≡ memberships_after_install cmp eq id stored s → meta.last_log_id ≡ Some id
+      → is_not_past cmp id stored ≡ true → keeps_effective cmp eq id stored s ≡ true
       → broken_relation cmp s ≡ None
       → broken_relation cmp (record s {
         committed = Some id;
@@ -309,8 +227,7 @@ module _ {C : Type 0} (cmp : C → C → Ordering) (eq : C → C → Bool) (tota
         snapshot_meta = meta;
         purge_upto = Some id;
       }) ≡ None
-  install_stays_valid s id stored keys m accepted meta are is is_m is_meta past not_past may valid =
-      let le = is_past s.committed id (and_parts _ _ (and_parts _ _ past).0).1 in
+  install_stays_valid s id stored keys m accepted meta are is is_m is_meta not_past may valid =
       let log = full_log s.log_ids in
       let fits = all_hold (fits_purged_next s.purged_next (first_id log)) PurgedNext _ valid in
       let purge_point = all_hold (id_le cmp (if s.purged_next == 0 then None else first_id log) s.purge_upto) LastPurgedPastUpto _ fits.1 in
@@ -318,7 +235,7 @@ module _ {C : Type 0} (cmp : C → C → Ordering) (eq : C → C → Bool) (tota
       let old_upto = all_hold relation.0 relation.1 _ purge_point.1 in
       let old_snapshot = all_hold (id_le cmp s.snapshot_meta.last_log_id s.committed) SnapshotPastCommitted _ old_upto.1 in
       let old = all_hold (id_le cmp s.committed (last_id log)) CommittedPastLast _ old_snapshot.1 in
-      let from = is_from s id are le in
+      let from = is_from s id are in
       let begins = installed_begins (log_after_install eq id s) id from in
       let itself = AtMost-refl (optional-log_id_cmp-total total) (Some id) in
       let first : fits_purged_next (id.index + 1) (first_id (full_log keys)) ≡ true = rw is begins.0 in
@@ -326,7 +243,7 @@ module _ {C : Type 0} (cmp : C → C → Ordering) (eq : C → C → Bool) (tota
       let upto : (upto_relation cmp (Some id) (Some id) meta.last_log_id).0 ≡ true = rw is_meta itself in
       let snapshot : id_le cmp meta.last_log_id (Some id) ≡ true = rw is_meta itself in
       let last : id_le cmp (Some id) (last_id (full_log keys)) ≡ true = rw is from.last_at_least in
-      let members : first_false (membership_relations cmp m) ≡ None = rw is_m (all_members_stay s id stored le not_past may old.1) in
+      let members : first_false (membership_relations cmp m) ≡ None = rw is_m (all_members_stay s id stored not_past may old.1) in
       hold_all (fits_purged_next (id.index + 1) (first_id (full_log keys))) PurgedNext _ first
       (hold_all (id_le cmp (if (id.index + 1) == 0 then None else first_id (full_log keys)) (Some id)) LastPurgedPastUpto _ purged
       (hold_all (upto_relation cmp (Some id) (Some id) meta.last_log_id).0 (upto_relation cmp (Some id) (Some id) meta.last_log_id).1 _ upto

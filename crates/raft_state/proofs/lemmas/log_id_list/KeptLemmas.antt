@@ -69,7 +69,7 @@ reads_parts (x ∷ xs) ys i = by (x.index == i) (reads_parts xs ys i)
     by true h = refl
     by false h = h
 
-last_of_parts : {C : Type 0} (xs : List (LogIdOf C)) (y : LogIdOf C) → last_id (xs ++ y ∷ []) ≡ Some y
+pub last_of_parts : {C : Type 0} (xs : List (LogIdOf C)) (y : LogIdOf C) → last_id (xs ++ y ∷ []) ≡ Some y
 last_of_parts [] y = refl
 last_of_parts (x ∷ []) y = refl
 last_of_parts (x ∷ z ∷ xs) y = last_of_parts (z ∷ xs) y

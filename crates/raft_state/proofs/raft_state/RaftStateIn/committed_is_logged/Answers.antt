@@ -9,4 +9,4 @@ returns-clause-cut g c logged since past =
     let canonical = rw c.key_log_ids-keys.ensures.keys at c.key_log_ids-keys.ensures.canonical in
     cut_past_committed g.C.Ord.cmp g.C.PartialEq.eq g.met.C.Ord.total g.met.C.Ord.matches_eq
     g.met.C.Eq.laws s since
-    (is_key_list g.C.Ord.cmp s.log_ids canonical) (sym c.is_none_or_logged.ensures ∙ logged) past
+    (is_key_list g.C.Ord.cmp s.log_ids canonical) (sym c.is_logged.ensures ∙ logged) past

@@ -14,4 +14,4 @@ returns-clause-logged g c h is =
     let second = all_hold _ _ _ first.1 in
     logged_keys g.C.Ord.cmp g.met.C.Ord.total s.log_ids s.purge_upto (view_of s) keys
     (purge_in g.C.Ord.cmp g.C.PartialEq.eq s.purged_next s.log_ids s.purge_upto (view_of s) first.0 second.0
-    (sym c.is_none_or_logged.ensures ∙ is))
+    (sym c.is_logged.ensures ∙ is))

@@ -1,0 +1,5 @@
+pub mod LoggedIds
+pub mod LoggedMembers
+pub mod SoundCalls
+pub mod SoundInstall
+pub mod SoundTestLemmas
