@@ -4,8 +4,8 @@
 //! A file has the tests of the module of `raft_state` that has its name; those of the module
 //! `raft_state` are in `whole_state`. Those that go over several modules have the name of what they
 //! test: `clones`, `compared` with the original, `growths` of memory that are refused, `imports` of
-//! each public name, `laws` by their callers, a kind of leaders by their `region`, `texts`, and
-//! `turns` of a leader and a follower, which stand in `turn`.
+//! each public name, `laws` by their callers, short `lives` of one state, a kind of leaders by their
+//! `region`, `texts`, and `turns` of a leader and a follower, which stand in `turn`.
 #![tactic(auto)]
 
 #[cfg(test)]
@@ -32,6 +32,8 @@ mod install;
 mod io_state;
 #[cfg(test)]
 mod laws;
+#[cfg(test)]
+mod lives;
 #[cfg(test)]
 mod log_id_list;
 #[cfg(test)]

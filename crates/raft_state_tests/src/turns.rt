@@ -5,7 +5,7 @@ use super::turn::{
 };
 use crate::support::memory::both;
 use crate::support::rows::{Row, id, ids, log_id};
-use anyhow::Result;
+use anyhow::{Result, ensure};
 use raft_base::{
     EmptyNode, LeaderAdv, LeaderKind, LeaderStd, LogIdRangeOf, LogStateReader, UTime, Validate,
     VoteOf,
@@ -323,5 +323,62 @@ fn a_follower_follows<K: LeaderKind<u64>>(alloc: Global) -> Result<bool> {
 fn a_follower_cuts_what_conflicts(rt: HostRuntime) -> Result<(), Fail> {
     assert!(rt; a_follower_follows::<LeaderAdv>(rt.alloc())?);
     assert!(rt; a_follower_follows::<LeaderStd>(rt.alloc())?);
+    Ok(())
+}
+
+/// Whether logs are refused, and change nothing.
+fn refuses<K: LeaderKind<u64>>(state: &mut StateOf<K>, logs: &Logs<Committed<K>>) -> Result<bool> {
+    let before = state.try_clone()?;
+    let is_refused = take_logs::<K::Leader>(state, logs).is_err();
+    Ok(is_refused && *state == before)
+}
+
+/// Whether a follower of the log (1,0) to (1,3), of which (1,2) is committed, refuses entries after a
+/// missing index, entries that do not follow `prev`, a `prev` in place of a committed log id, and all
+/// entries while the vote is not committed.
+fn refuses_wrong<K: LeaderKind<u64>>(alloc: Global, state: &mut StateOf<K>) -> Result<bool> {
+    let committed = id::<K>(Some((1, 2)));
+    ensure!(state.can_commit(&committed), "no membership is pending");
+    state.update_committed(&committed)?;
+    let rows: [(Row, &[(u64, u64)]); 4] = [
+        (Some((1, 3)), &[(1, 9)]),
+        (Some((1, 3)), &[(2, 3)]),
+        (Some((1, 2)), &[(2, 3), (2, 5)]),
+        (Some((0, 1)), &[]),
+    ];
+    for (prev, entries) in rows {
+        if !refuses::<K>(state, &logs::<K>(alloc, prev, entries, None)?)? {
+            return Ok(false);
+        }
+    }
+    state.vote = UTime::without_utime(VoteOf::<u64, K>::new(4, 2));
+    refuses::<K>(state, &logs::<K>(alloc, Some((1, 2)), &[(2, 3)], None)?)
+}
+
+/// Whether a leader does not commit an acked log id that its log does not have.
+fn refuses_ack<K: LeaderKind<u64>>(
+    state: &mut StateOf<K>,
+    known: &mut Followers<Committed<K>>,
+) -> Result<bool> {
+    known.set_own(1, state.last_log_id().copied());
+    let _first = known.next_request(state, 2);
+    let is_probed = take::<K>(known, 2, 1, Outcome::Matches(id::<K>(Some((1, 3)))));
+    let _second = known.next_request(state, 2);
+    let is_acked = take::<K>(known, 2, 2, Outcome::Matches(id::<K>(Some((2, 5)))));
+    Ok(is_probed && is_acked && known.commit(state).is_err() && state.committed == None)
+}
+
+/// Whether that holds of a follower and a new leader.
+fn wrong_is_refused<K: LeaderKind<u64>>(alloc: Global) -> Result<bool> {
+    let is_refused = refuses_wrong::<K>(alloc, &mut leader::<K>(alloc, &[(1, 0), (1, 3)])?)?;
+    let known = Followers::<Committed<K>>::new(K::new_committed(2, 1), members(alloc)?, 8);
+    let (mut state, mut known) = both(leader::<K>(alloc, &[(1, 0), (2, 6), (2, 7)]), known)?;
+    Ok(is_refused && refuses_ack::<K>(&mut state, &mut known)?)
+}
+
+#[test]
+fn what_no_leader_sends_is_refused(rt: HostRuntime) -> Result<(), Fail> {
+    assert!(rt; wrong_is_refused::<LeaderAdv>(rt.alloc())?);
+    assert!(rt; wrong_is_refused::<LeaderStd>(rt.alloc())?);
     Ok(())
 }

@@ -23,7 +23,7 @@ use raft_base::{
 };
 use raft_members::quorum::QuorumSet;
 use raft_progress::{InflightOf, Progress, ProgressEntryOf};
-use raft_state::{FollowersOf, ForwardToLeader, RaftStateIn};
+use raft_state::{AcceptedOf, FollowersOf, ForwardToLeader, RaftStateIn};
 use std::alloc::{AllocError, Global};
 use std::process::Abort;
 use std::test::Fail;
@@ -126,6 +126,33 @@ fn relations_right<K: LeaderKind<u64>>(alloc: Global) -> Result<bool, AllocError
         }
     }
     Ok(true)
+}
+
+/// Whether a state is sound exactly if its log has what the state says of it: each row breaks one
+/// relation, and then come the log id that was accepted and whether the state is sound. A purge point
+/// that is not in the log leaves the state valid.
+fn sound_right<K: LeaderKind<u64>>(alloc: Global) -> Result<bool, AllocError> {
+    let first = Some((1, 1));
+    let last = Some((3, 4));
+    let rows: [(Ids, Row, bool); 8] = [
+        ((2, first, first, None, None, None), None, true),
+        ((2, first, last, None, last, last), last, true),
+        ((2, Some((3, 0)), last, None, None, None), None, false),
+        ((2, first, Some((3, 0)), None, None, None), None, false),
+        ((2, first, first, None, None, None), Some((3, 5)), false),
+        ((2, first, first, None, None, Some((2, 3))), None, false),
+        ((2, first, first, None, Some((2, 3)), last), None, false),
+        ((2, first, last, None, first, last), None, false),
+    ];
+    for (ids, accepted, want) in rows {
+        let mut state = state::<K>(alloc, ids)?;
+        state.accepted = AcceptedOf::<u64, K>::new(K::new_leader(2, 1), id::<K>(accepted));
+        if state.validate() != Ok(()) || state.is_sound() != want {
+            return Ok(false);
+        }
+    }
+    let lost = state::<K>(alloc, (2, Some((3, 0)), last, None, None, None))?;
+    Ok(lost.validate() == Ok(()) && !lost.purge_upto_is_logged() && lost.committed_is_logged())
 }
 
 /// Whether a log id is that of the row.
@@ -339,6 +366,7 @@ fn leads_as_voted<K: LeaderKind<u64>>(alloc: Global) -> Result<bool, AllocError>
 fn state_right<K: LeaderKind<u64>>(alloc: Global) -> Result<bool, AllocError> {
     Ok(
         holds(relations_right::<K>(alloc))
+            && holds(sound_right::<K>(alloc))
             && holds(reads_right::<K>(alloc))
             && holds(finds::<K>(alloc))
             && holds(moves::<K>(alloc))

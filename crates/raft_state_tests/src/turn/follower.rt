@@ -11,9 +11,11 @@ pub fn take_logs<L: LeaderIdentity<Id = u64> + Drop>(
     state: &mut State<L, L::Committed>,
     logs: &Logs<L::Committed>,
 ) -> Result<Outcome<L::Committed>> {
+    ensure!(state.can_accept(), "it has accepted a greater leader's");
+    ensure!(logs.are_consecutive(), "entries do not follow one another");
     if let Some(prev) = &logs.prev {
         ensure!(state.can_ask(prev), "{} is unheard of", prev.index);
-        if !state.has_log_id(prev) {
+        if !state.is_purged_or_logged(&logs.prev) {
             cut(state, prev.index)?;
             return Ok(Outcome::Conflicts(prev.index));
         }
@@ -25,7 +27,6 @@ pub fn take_logs<L: LeaderIdentity<Id = u64> + Drop>(
     }
     ensure!(state.can_append_entries(new), "entries do not follow");
     state.append_entries(new)?;
-    ensure!(state.can_accept(), "it has accepted a greater leader's");
     state.update_accepted(logs.last());
     let committed = logs.committed.min(state.accepted().copied());
     ensure!(state.can_commit(&committed), "members are not in turn");

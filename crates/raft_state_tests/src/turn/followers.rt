@@ -72,6 +72,7 @@ impl<C: Ord + Copy + Drop> Followers<C> {
     pub fn commit<L: Drop>(&self, state: &mut State<L, C>) -> Result<()> {
         let granted = self.granted();
         if self.is_own(granted) {
+            ensure!(state.is_logged(&granted), "an ack is of another log");
             ensure!(state.can_commit(&granted), "members are not in turn");
             state.update_committed(&granted)?;
         }

@@ -1,7 +1,7 @@
 //! What a leader sends, and what a follower responds.
 
 use super::types::Entry;
-use raft_base::LogIdOf;
+use raft_base::{LogIdOf, LogIdOptionExt};
 
 /// Entries of a leader's log, and how far it has committed.
 #[derive(Drop)]
@@ -50,5 +50,18 @@ impl<C: Copy> Logs<C> {
             Some(entry) => Some(entry.log_id),
             None => self.prev,
         }
+    }
+
+    /// Whether the entries have consecutive indexes, after the log id before them if there is one.
+    pub fn are_consecutive(&self) -> bool {
+        let mut last = self.prev.index();
+        for entry in &self.entries {
+            let index = entry.log_id.index;
+            if last.is_some() && index.checked_sub(1) != last {
+                return false;
+            }
+            last = Some(index);
+        }
+        true
     }
 }
