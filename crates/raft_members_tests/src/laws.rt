@@ -201,10 +201,3 @@ fn members_change_once_a_quorum_holds_an_entry(rt: HostRuntime) -> Result<(), Fa
     assert!(rt; late.is_some_and(|to| to.is_voter(&4)));
     Ok(())
 }
-
-// The law is generic; here it stands at one id and node type.
-#[test]
-fn the_law_of_changes_holds_of_plain_ids(_rt: HostRuntime) -> Result<(), Fail> {
-    change_keeps_reached::<u64, u64>();
-    Ok(())
-}
