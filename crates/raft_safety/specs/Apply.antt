@@ -1,0 +1,42 @@
+-- What a server may apply, and state machine safety.
+use Rattle.std.specs.Prelude.{◌≡◌, ◌⊎◌, ◌≤◌, ℕ, Bool, List, take}
+use Rattle.raft_safety.specs.Log.{Entry, IsPrefix}
+use Rattle.raft_safety.specs.Events.{Event, History, log_after}
+use Rattle.raft_safety.specs.Facts.{HasAcked, IsCommitted}
+use Rattle.raft_safety.specs.Rules.{EventsFollowRules, FollowsRaft}
+use Rattle.raft_safety.specs.Safety.{IsSafe}
+
+module _ {T ID D : Type 0} (rank : T → ℕ) (quorum : List (Entry T D) → (ID → Bool) → Bool)
+    (h : History T ID D) where
+  -- the first k entries of a leader's log were committed by a leader, in its term or an earlier one
+  pub record IsKnownCommitted (t : T) (c : ID) (k : ℕ) : Type 0 where
+    pub in_term : T
+    pub by_leader : ID
+    pub committed_to : ℕ
+    pub counted_at : ℕ
+    pub committed : IsCommitted rank quorum h in_term by_leader committed_to counted_at
+    pub not_later : rank in_term ≤ rank t
+    pub is : IsPrefix (take k (h.leader_log t c)) (take committed_to (h.leader_log in_term by_leader))
+
+  -- a server may apply the first k entries of its log: it has acknowledged as many to a leader that
+  -- knows them to be committed
+  pub record MayApply (es : List (Event T ID D)) (k : ℕ) : Type 0 where
+    pub term : T
+    pub leader : ID
+    pub acked : HasAcked term leader k es
+    pub known : IsKnownCommitted term leader k
+
+  -- state machine safety: of what two servers may apply, each after some of its events, one is a
+  -- prefix of the other. So no two servers ever apply different entries at one index
+  abbrev pub StateMachineSafety : Type 0
+  StateMachineSafety =
+      (s r : ID) (es fs : List (Event T ID D)) (i k : ℕ) → EventsFollowRules rank quorum h s es
+      → EventsFollowRules rank quorum h r fs → MayApply es i → MayApply fs k
+      → IsPrefix (take i (log_after es)) (take k (log_after fs))
+      ⊎ IsPrefix (take k (log_after fs)) (take i (log_after es))
+
+-- it holds in every safe history in which each server keeps the rules
+abbrev pub StateMachinesAgree : Type 0 → Type 0 → Type 0 → Type 0
+StateMachinesAgree T ID D =
+    (rank : T → ℕ) (quorum : List (Entry T D) → (ID → Bool) → Bool) (h : History T ID D)
+    → FollowsRaft rank quorum h → IsSafe rank quorum h → StateMachineSafety rank quorum h

@@ -1,0 +1,116 @@
+-- Executions: histories that come about step by step, over a network that may lose, delay, duplicate
+-- and reorder messages, where servers crash and restart.
+use Rattle.std.specs.Prelude.{◌≡◌, ◌⊎◌, ◌≤◌, ℕ, Bool, Option, Some, List, [], ◌∷◌, ◌++◌, length, take}
+use Rattle.raft_safety.specs.Log.{Entry, IsPrefix, AllOfTerm}
+use Rattle.raft_safety.specs.Events.{Event, GrantVote, Append, Ack, Restart, History, log_after}
+use Rattle.raft_safety.specs.Facts.{HasVoted, HasAcked, IsElected, IsCommitted, IsAppendEntries}
+use Rattle.raft_safety.specs.Rules.{MayGrantVote, MayAppend, MayAck, MayRestart}
+use Rattle.raft_safety.specs.Safety.{IsSafe}
+use Rattle.raft_safety.specs.Apply.{MayApply}
+use Rattle.raft_safety.specs.Ranks.{IsAmong}
+use Rattle.raft_safety.specs.Configs.{is_quorum, QuorumsIntersect, MayProposeConfig}
+
+module _ {T ID D M : Type 0} (rank : T → ℕ) (config_of : D → Option M) (initial : M)
+    (quorum_of : M → (ID → Bool) → Bool) where
+  module _ (old new : History T ID D) where
+    -- an event is allowed by the history so far. The log with which a candidate asks for votes may be
+    -- new with its vote for itself
+    abbrev pub MayDo : ID → Event T ID D → Type 0
+    MayDo s (GrantVote t c) =
+        MayGrantVote rank (is_quorum rank config_of initial quorum_of) new s (old.events s) t c
+    MayDo s (Append t c log) =
+        MayAppend rank (is_quorum rank config_of initial quorum_of) old (old.events s) t c log
+    MayDo s (Ack t c n) =
+        MayAck rank (is_quorum rank config_of initial quorum_of) old (old.events s) t c n
+    MayDo s (Restart log) = MayRestart (old.events s) log
+
+    -- a server does one thing
+    pub record ServerStep (s : ID) : Type 0 where
+      pub event : Event T ID D
+      pub is : new.events s ≡ event ∷ old.events s
+      pub may : MayDo s event
+
+    -- no server has voted for the candidate yet, and it has written nothing as a leader
+    pub record StartsCampaign (t : T) (c : ID) : Type 0 where
+      pub no_votes : (s : ID) → HasVoted t c (old.events s) → ⊥
+      pub nothing_written : new.leader_log t c ≡ new.candidate_log t c
+
+    -- a leader appends entries of its term to its log, or none, and each config that it may propose
+    pub record LeaderAppends (t : T) (c : ID) : Type 0 where
+      pub candidate_log : new.candidate_log t c ≡ old.candidate_log t c
+      pub added : List (Entry T D)
+      pub is : new.leader_log t c ≡ old.leader_log t c ++ added
+      pub own_term : AllOfTerm t added
+      pub configs : (log : List (Entry T D)) (e : Entry T D) (m : M)
+          → IsPrefix (log ++ e ∷ []) (new.leader_log t c)
+          → length (old.leader_log t c) ≤ length log → config_of e.content ≡ Some m
+          → MayProposeConfig rank config_of initial quorum_of old t c log m
+
+    -- a step: each server does one thing or nothing, and each leader appends
+    pub record Next : Type 0 where
+      pub servers : (s : ID) → (new.events s ≡ old.events s) ⊎ ServerStep s
+      pub leaders : (t : T) (c : ID) → StartsCampaign t c ⊎ LeaderAppends t c
+      pub ranks : (t u : T) (c d : ID)
+          → IsElected rank (is_quorum rank config_of initial quorum_of) new t c
+          → IsElected rank (is_quorum rank config_of initial quorum_of) new u d
+          → rank t ≡ rank u → t ≡ u
+
+  -- nothing has happened
+  pub record Init (h : History T ID D) : Type 0 where
+    pub events : (s : ID) → h.events s ≡ []
+    pub nothing_written : (t : T) (c : ID) → h.leader_log t c ≡ h.candidate_log t c
+
+  -- a history came about by steps, from these earlier ones, the latest first
+  abbrev pub IsExecution : History T ID D → List (History T ID D) → Type 0
+  IsExecution h [] = Init h
+  IsExecution h (old ∷ earlier) = Next old h × IsExecution old earlier
+
+  -- what was sent, voted, acknowledged, elected or committed in an older history is so in a newer one.
+  -- So a message may be received at any later time, more than once, in any order, or never
+  pub record FactsAreStable (old new : History T ID D) : Type 0 where
+    pub sent : (t : T) (c : ID) (i : ℕ) (es : List (Entry T D))
+        → IsAppendEntries rank (is_quorum rank config_of initial quorum_of) old t c i es
+        → IsAppendEntries rank (is_quorum rank config_of initial quorum_of) new t c i es
+    pub voted : (s : ID) (t : T) (c : ID) → HasVoted t c (old.events s) → HasVoted t c (new.events s)
+    pub acked : (s : ID) (t : T) (c : ID) (n : ℕ) → HasAcked t c n (old.events s)
+        → HasAcked t c n (new.events s)
+    pub elected : (t : T) (c : ID)
+        → IsElected rank (is_quorum rank config_of initial quorum_of) old t c
+        → IsElected rank (is_quorum rank config_of initial quorum_of) new t c
+        × (new.candidate_log t c ≡ old.candidate_log t c)
+        × IsPrefix (old.leader_log t c) (new.leader_log t c)
+    pub committed : (t : T) (c : ID) (n a : ℕ)
+        → IsCommitted rank (is_quorum rank config_of initial quorum_of) old t c n a
+        → IsCommitted rank (is_quorum rank config_of initial quorum_of) new t c n a
+        × (take n (new.leader_log t c) ≡ take n (old.leader_log t c))
+
+-- every execution is safe at each time
+abbrev pub ExecutionsAreSafe : Type 0 → Type 0 → Type 0 → Type 0 → Type 0
+ExecutionsAreSafe T ID D M =
+    (rank : T → ℕ) (config_of : D → Option M) (initial : M) (quorum_of : M → (ID → Bool) → Bool)
+    → QuorumsIntersect quorum_of initial initial → (last : History T ID D)
+    (earlier : List (History T ID D)) → IsExecution rank config_of initial quorum_of last earlier
+    → (h : History T ID D) → IsAmong h (last ∷ earlier)
+    → IsSafe rank (is_quorum rank config_of initial quorum_of) h
+
+-- facts are stable over any number of steps
+abbrev pub ExecutionsKeepFacts : Type 0 → Type 0 → Type 0 → Type 0 → Type 0
+ExecutionsKeepFacts T ID D M =
+    (rank : T → ℕ) (config_of : D → Option M) (initial : M) (quorum_of : M → (ID → Bool) → Bool)
+    → QuorumsIntersect quorum_of initial initial → (last : History T ID D)
+    (earlier : List (History T ID D)) → IsExecution rank config_of initial quorum_of last earlier
+    → (h : History T ID D) → IsAmong h (last ∷ earlier)
+    → FactsAreStable rank config_of initial quorum_of h last
+
+-- state machine safety at all times: of what a server may apply at one time of an execution, and what
+-- another may apply at another time, one is a prefix of the other
+abbrev pub StateMachinesAgreeAtAllTimes : Type 0 → Type 0 → Type 0 → Type 0 → Type 0
+StateMachinesAgreeAtAllTimes T ID D M =
+    (rank : T → ℕ) (config_of : D → Option M) (initial : M) (quorum_of : M → (ID → Bool) → Bool)
+    → QuorumsIntersect quorum_of initial initial → (last : History T ID D)
+    (earlier : List (History T ID D)) → IsExecution rank config_of initial quorum_of last earlier
+    → (g h : History T ID D) → IsAmong g (last ∷ earlier) → IsAmong h (last ∷ earlier) → (s r : ID)
+    (i k : ℕ) → MayApply rank (is_quorum rank config_of initial quorum_of) g (g.events s) i
+    → MayApply rank (is_quorum rank config_of initial quorum_of) h (h.events r) k
+    → IsPrefix (take i (log_after (g.events s))) (take k (log_after (h.events r)))
+    ⊎ IsPrefix (take k (log_after (h.events r))) (take i (log_after (g.events s)))

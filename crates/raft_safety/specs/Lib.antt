@@ -1,0 +1,11 @@
+pub mod Log
+pub mod Events
+pub mod Facts
+pub mod Rules
+pub mod Safety
+pub mod Apply
+pub mod Configs
+pub mod Ranks
+pub mod Execution
+pub mod AppendEntries
+pub mod Trace

@@ -1,0 +1,335 @@
+-- Recorded traces of a cluster: the history that a trace makes, and the test that each event of it was
+-- allowed after the earlier ones.
+use Rattle.std.specs.Prelude.{◌≡◌, ◌⊎◌, ℕ, Bool, true, false, not, ◌&&◌, ◌||◌, nat_lt, nat_le, nat_eq, min, max, if◌then◌else◌, Option, Some, None, is_none, List, [], ◌∷◌, ◌++◌, length, take, drop}
+use Rattle.raft_safety.specs.Log.{Entry, IsPrefix, last_term}
+use Rattle.raft_safety.specs.Events.{Event, GrantVote, Append, Ack, Restart, History, term_after, log_after}
+use Rattle.raft_safety.specs.Configs.{effective_config, is_quorum, QuorumsIntersect}
+use Rattle.raft_safety.specs.Ranks.{IsAmong}
+use Rattle.raft_safety.specs.Safety.{IsSafe}
+use Rattle.raft_safety.specs.Execution.{IsExecution}
+
+-- a recorded event. Events of different servers are in one order, in which an event comes after those
+-- that it depends on. A trace is a list of them, the latest first
+pub data TraceEvent (T ID D : Type 0) : Type 0 where
+  -- a server starts a campaign in a term, with its log as it is, and votes for itself
+  Campaigned : ID → T → TraceEvent T ID D
+  -- a server grants its vote in a term to another, a candidate
+  Granted : ID → T → ID → TraceEvent T ID D
+  -- a server takes entries in a term from its leader: it keeps so many first entries of its log, and
+  -- has these after them
+  Appended : ID → T → ID → ℕ → List (Entry T D) → TraceEvent T ID D
+  -- a server acknowledges so many first entries in a term to its leader
+  Acked : ID → T → ID → ℕ → TraceEvent T ID D
+  -- a server restarts with so many first entries of its log
+  Restarted : ID → ℕ → TraceEvent T ID D
+  -- a leader writes an entry in its term
+  Wrote : ID → T → Entry T D → TraceEvent T ID D
+  -- a leader commits so many first entries in its term, by a quorum of the config that was in effect
+  -- when its log had as many entries as the second number
+  Committed : ID → T → ℕ → ℕ → TraceEvent T ID D
+  -- a server applies so many first entries, which it has acknowledged in a term to its leader
+  Applied : ID → T → ID → ℕ → TraceEvent T ID D
+
+-- what the test compares by: the ranks of terms, tests whether terms, ids and contents are equal, the
+-- config that a content holds, the initial config, what a quorum of a config is, and a test whether
+-- quorums of two configs intersect
+pub record Tests (T ID D M : Type 0) : Type 0 where
+  pub rank : T → ℕ
+  pub same_term : T → T → Bool
+  pub same_id : ID → ID → Bool
+  pub same_content : D → D → Bool
+  pub config_of : D → Option M
+  pub initial : M
+  pub quorum_of : M → (ID → Bool) → Bool
+  pub intersect : M → M → Bool
+
+-- ---- the history that a trace makes
+
+module _ {T ID D M : Type 0} (k : Tests T ID D M) where
+  -- the leader or candidate of one term is that of the other
+  abbrev pub same_leader : T → ID → T → ID → Bool
+  same_leader t c u d = k.same_term t u && k.same_id c d
+
+  -- the events of a server
+  abbrev pub events_in : List (TraceEvent T ID D) → ID → List (Event T ID D)
+  events_in [] s = []
+  events_in (Campaigned r t ∷ es) s =
+      if k.same_id r s then GrantVote t r ∷ events_in es s else events_in es s
+  events_in (Granted r t c ∷ es) s =
+      if k.same_id r s then GrantVote t c ∷ events_in es s else events_in es s
+  events_in (Appended r t c n sent ∷ es) s =
+      if k.same_id r s
+      then Append t c (take n (log_after (events_in es s)) ++ sent) ∷ events_in es s
+      else events_in es s
+  events_in (Acked r t c n ∷ es) s =
+      if k.same_id r s then Ack t c n ∷ events_in es s else events_in es s
+  events_in (Restarted r n ∷ es) s =
+      if k.same_id r s then Restart (take n (log_after (events_in es s))) ∷ events_in es s
+      else events_in es s
+  events_in (Wrote c t e ∷ es) s = events_in es s
+  events_in (Committed c t n m ∷ es) s = events_in es s
+  events_in (Applied r t c n ∷ es) s = events_in es s
+
+  -- the log of a server
+  abbrev pub log_in : List (TraceEvent T ID D) → ID → List (Entry T D)
+  log_in es s = log_after (events_in es s)
+
+  -- the rank of the term that a server has reached
+  abbrev pub term_in : List (TraceEvent T ID D) → ID → ℕ
+  term_in es s = term_after k.rank (events_in es s)
+
+  -- the log with which the candidate of a term asked for votes
+  abbrev pub candidate_log_in : List (TraceEvent T ID D) → T → ID → List (Entry T D)
+  candidate_log_in [] u d = []
+  candidate_log_in (Campaigned c t ∷ es) u d =
+      if same_leader t c u d then log_in es c else candidate_log_in es u d
+  candidate_log_in (Granted r t c ∷ es) u d = candidate_log_in es u d
+  candidate_log_in (Appended r t c n sent ∷ es) u d = candidate_log_in es u d
+  candidate_log_in (Acked r t c n ∷ es) u d = candidate_log_in es u d
+  candidate_log_in (Restarted r n ∷ es) u d = candidate_log_in es u d
+  candidate_log_in (Wrote c t e ∷ es) u d = candidate_log_in es u d
+  candidate_log_in (Committed c t n m ∷ es) u d = candidate_log_in es u d
+  candidate_log_in (Applied r t c n ∷ es) u d = candidate_log_in es u d
+
+  -- the log of the leader of a term
+  abbrev pub leader_log_in : List (TraceEvent T ID D) → T → ID → List (Entry T D)
+  leader_log_in [] u d = []
+  leader_log_in (Campaigned c t ∷ es) u d =
+      if same_leader t c u d then log_in es c else leader_log_in es u d
+  leader_log_in (Granted r t c ∷ es) u d = leader_log_in es u d
+  leader_log_in (Appended r t c n sent ∷ es) u d = leader_log_in es u d
+  leader_log_in (Acked r t c n ∷ es) u d = leader_log_in es u d
+  leader_log_in (Restarted r n ∷ es) u d = leader_log_in es u d
+  leader_log_in (Wrote c t e ∷ es) u d =
+      if same_leader t c u d then leader_log_in es u d ++ e ∷ [] else leader_log_in es u d
+  leader_log_in (Committed c t n m ∷ es) u d = leader_log_in es u d
+  leader_log_in (Applied r t c n ∷ es) u d = leader_log_in es u d
+
+  abbrev pub history : List (TraceEvent T ID D) → History T ID D
+  history es = record {
+    events = events_in es;
+    candidate_log = candidate_log_in es;
+    leader_log = leader_log_in es;
+  }
+
+  -- the histories before the last event, before the one before it, and so on
+  abbrev pub earlier : List (TraceEvent T ID D) → List (History T ID D)
+  earlier [] = []
+  earlier (e ∷ es) = history es ∷ earlier es
+
+-- the terms of all campaigns
+abbrev pub campaign_terms : {T ID D : Type 0} → List (TraceEvent T ID D) → List T
+campaign_terms [] = []
+campaign_terms (Campaigned c t ∷ es) = t ∷ campaign_terms es
+campaign_terms (Granted r t c ∷ es) = campaign_terms es
+campaign_terms (Appended r t c n sent ∷ es) = campaign_terms es
+campaign_terms (Acked r t c n ∷ es) = campaign_terms es
+campaign_terms (Restarted r n ∷ es) = campaign_terms es
+campaign_terms (Wrote c t e ∷ es) = campaign_terms es
+campaign_terms (Committed c t n m ∷ es) = campaign_terms es
+campaign_terms (Applied r t c n ∷ es) = campaign_terms es
+
+-- ---- tests of logs
+
+module _ {T ID D M : Type 0} (k : Tests T ID D M) where
+  abbrev pub same_entry : Entry T D → Entry T D → Bool
+  same_entry e f = k.same_term e.term f.term && k.same_content e.content f.content
+
+  -- a log begins with these entries
+  abbrev pub is_prefix : List (Entry T D) → List (Entry T D) → Bool
+  is_prefix [] log = true
+  is_prefix (e ∷ es) [] = false
+  is_prefix (e ∷ es) (f ∷ fs) = same_entry e f && is_prefix es fs
+
+  -- the entries with which both logs begin
+  abbrev pub common_prefix : List (Entry T D) → List (Entry T D) → List (Entry T D)
+  common_prefix [] log = []
+  common_prefix (e ∷ es) [] = []
+  common_prefix (e ∷ es) (f ∷ fs) = if same_entry e f then e ∷ common_prefix es fs else []
+
+  -- a log is at least as up to date as another
+  abbrev pub is_up_to_date : List (Entry T D) → List (Entry T D) → Bool
+  is_up_to_date log other =
+      nat_lt (last_term k.rank other) (last_term k.rank log)
+      || (nat_eq (last_term k.rank other) (last_term k.rank log)
+      && nat_le (length other) (length log))
+
+  -- none of the entries holds a config
+  abbrev pub hold_no_config : List (Entry T D) → Bool
+  hold_no_config [] = true
+  hold_no_config (e ∷ es) = is_none (k.config_of e.content) && hold_no_config es
+
+-- ---- tests of one server's events
+
+module _ {T ID D M : Type 0} (k : Tests T ID D M) where
+  abbrev pub has_voted : T → ID → List (Event T ID D) → Bool
+  has_voted u d [] = false
+  has_voted u d (GrantVote t c ∷ es) = same_leader k t c u d || has_voted u d es
+  has_voted u d (Append t c log ∷ es) = has_voted u d es
+  has_voted u d (Ack t c n ∷ es) = has_voted u d es
+  has_voted u d (Restart log ∷ es) = has_voted u d es
+
+  abbrev pub has_acked : T → ID → ℕ → List (Event T ID D) → Bool
+  has_acked u d m [] = false
+  has_acked u d m (GrantVote t c ∷ es) = has_acked u d m es
+  has_acked u d m (Append t c log ∷ es) = has_acked u d m es
+  has_acked u d m (Ack t c n ∷ es) = (same_leader k t c u d && nat_le m n) || has_acked u d m es
+  has_acked u d m (Restart log ∷ es) = has_acked u d m es
+
+  -- the log begins with these entries, and has done so since a term of at most this rank
+  abbrev pub has_kept : ℕ → List (Entry T D) → List (Event T ID D) → Bool
+  has_kept r p [] = is_prefix k p []
+  has_kept r p (e ∷ es) =
+      is_prefix k p (log_after (e ∷ es))
+      && (nat_le (term_after k.rank (e ∷ es)) r || has_kept r p es)
+
+  -- the number of first entries that are durable
+  abbrev pub durable : List (Event T ID D) → ℕ
+  durable [] = 0
+  durable (GrantVote t c ∷ es) = durable es
+  durable (Append t c log ∷ es) = min (durable es) (length (common_prefix k (log_after es) log))
+  durable (Ack t c n ∷ es) = max n (durable es)
+  durable (Restart log ∷ es) = min (durable es) (length (common_prefix k (log_after es) log))
+
+-- ---- the test of a trace
+
+module _ {T ID D M : Type 0} (k : Tests T ID D M) where
+  -- a set is a quorum of the config in effect in a log
+  abbrev pub is_quorum_of_log : List (Entry T D) → (ID → Bool) → Bool
+  is_quorum_of_log log set = is_quorum k.rank k.config_of k.initial k.quorum_of log set
+
+  -- there was a campaign in this term of this candidate
+  abbrev pub has_campaigned : T → ID → List (TraceEvent T ID D) → Bool
+  has_campaigned u d [] = false
+  has_campaigned u d (Campaigned c t ∷ es) = same_leader k t c u d || has_campaigned u d es
+  has_campaigned u d (Granted r t c ∷ es) = has_campaigned u d es
+  has_campaigned u d (Appended r t c n sent ∷ es) = has_campaigned u d es
+  has_campaigned u d (Acked r t c n ∷ es) = has_campaigned u d es
+  has_campaigned u d (Restarted r n ∷ es) = has_campaigned u d es
+  has_campaigned u d (Wrote c t e ∷ es) = has_campaigned u d es
+  has_campaigned u d (Committed c t n m ∷ es) = has_campaigned u d es
+  has_campaigned u d (Applied r t c n ∷ es) = has_campaigned u d es
+
+  abbrev pub is_elected : List (TraceEvent T ID D) → T → ID → Bool
+  is_elected es t c =
+      has_voted k t c (events_in k es c)
+      && is_quorum_of_log (candidate_log_in k es t c) (λ v. has_voted k t c (events_in k es v))
+
+  abbrev pub is_committed : List (TraceEvent T ID D) → T → ID → ℕ → ℕ → Bool
+  is_committed es t c n m =
+      is_elected es t c && (nat_lt (length (candidate_log_in k es t c)) n && (nat_le n m
+      && (nat_le m (length (leader_log_in k es t c))
+      && is_quorum_of_log (take m (leader_log_in k es t c))
+      (λ v. has_acked k t c n (events_in k es v)))))
+
+  -- the leader of this term, whose log is this now, has recorded a commit after which no entry of its
+  -- log holds a config
+  abbrev pub is_config_committed : T → ID → List (Entry T D) → List (TraceEvent T ID D) → Bool
+  is_config_committed u d log [] = false
+  is_config_committed u d log (Campaigned c t ∷ es) = is_config_committed u d log es
+  is_config_committed u d log (Granted r t c ∷ es) = is_config_committed u d log es
+  is_config_committed u d log (Appended r t c n sent ∷ es) = is_config_committed u d log es
+  is_config_committed u d log (Acked r t c n ∷ es) = is_config_committed u d log es
+  is_config_committed u d log (Restarted r n ∷ es) = is_config_committed u d log es
+  is_config_committed u d log (Wrote c t e ∷ es) = is_config_committed u d log es
+  is_config_committed u d log (Committed c t n m ∷ es) =
+      (same_leader k t c u d && hold_no_config k (drop n log)) || is_config_committed u d log es
+  is_config_committed u d log (Applied r t c n ∷ es) = is_config_committed u d log es
+
+  -- a leader of a term of at most this rank has recorded a commit of at least these entries
+  abbrev pub is_known_committed : ℕ → List (Entry T D) → List (TraceEvent T ID D) → Bool
+  is_known_committed r p [] = false
+  is_known_committed r p (Campaigned c t ∷ es) = is_known_committed r p es
+  is_known_committed r p (Granted s t c ∷ es) = is_known_committed r p es
+  is_known_committed r p (Appended s t c n sent ∷ es) = is_known_committed r p es
+  is_known_committed r p (Acked s t c n ∷ es) = is_known_committed r p es
+  is_known_committed r p (Restarted s n ∷ es) = is_known_committed r p es
+  is_known_committed r p (Wrote c t e ∷ es) = is_known_committed r p es
+  is_known_committed r p (Committed c t n m ∷ es) =
+      (nat_le (k.rank t) r && is_prefix k p (take n (leader_log_in k es t c)))
+      || is_known_committed r p es
+  is_known_committed r p (Applied s t c n ∷ es) = is_known_committed r p es
+
+  -- a leader may append an entry that holds this config, if it holds one
+  abbrev pub may_propose : List (TraceEvent T ID D) → T → ID → Option M → Bool
+  may_propose es t c None = true
+  may_propose es t c (Some m) =
+      k.intersect (effective_config k.config_of k.initial (leader_log_in k es t c)) m
+      && (k.intersect m m && is_config_committed t c (leader_log_in k es t c) es)
+
+  -- an event is allowed after the earlier ones
+  abbrev pub is_allowed : TraceEvent T ID D → List (TraceEvent T ID D) → Bool
+  is_allowed (Campaigned c t) es =
+      nat_lt (term_in k es c) (k.rank t) && not (has_campaigned t c es)
+  is_allowed (Granted s t c) es =
+      nat_lt (term_in k es s) (k.rank t) && (has_campaigned t c es && (not (k.same_id c s)
+      && is_up_to_date k (candidate_log_in k es t c) (log_in k es s)))
+  is_allowed (Appended s t c n sent) es =
+      nat_le (term_in k es s) (k.rank t) && (is_elected es t c
+      && (nat_le n (length (log_in k es s))
+      && (is_prefix k (common_prefix k (log_in k es s) (leader_log_in k es t c))
+      (take n (log_in k es s) ++ sent)
+      && (is_prefix k (take n (log_in k es s) ++ sent) (log_in k es s)
+      || is_prefix k (take n (log_in k es s) ++ sent) (leader_log_in k es t c)))))
+  is_allowed (Acked s t c n) es =
+      nat_le (k.rank t) (term_in k es s) && (is_elected es t c
+      && (nat_le n (length (leader_log_in k es t c))
+      && has_kept k (k.rank t) (take n (leader_log_in k es t c)) (events_in k es s)))
+  is_allowed (Restarted s n) es =
+      nat_le (durable k (events_in k es s)) n && nat_le n (length (log_in k es s))
+  is_allowed (Wrote c t e) es =
+      is_elected es t c && (k.same_term e.term t && may_propose es t c (k.config_of e.content))
+  is_allowed (Committed c t n m) es = is_committed es t c n m
+  is_allowed (Applied s t c n) es =
+      has_acked k t c n (events_in k es s)
+      && is_known_committed (k.rank t) (take n (leader_log_in k es t c)) es
+
+  -- quorums of the initial config intersect, and each event is allowed after the earlier ones
+  abbrev pub are_allowed : List (TraceEvent T ID D) → Bool
+  are_allowed [] = k.intersect k.initial k.initial
+  are_allowed (e ∷ es) = is_allowed e es && are_allowed es
+
+  -- the entries that some server applied, from the first one on, when it did so
+  abbrev pub WasApplied : List (Entry T D) → List (TraceEvent T ID D) → Type 0
+  WasApplied a [] = ⊥
+  WasApplied a (Campaigned c t ∷ es) = WasApplied a es
+  WasApplied a (Granted r t c ∷ es) = WasApplied a es
+  WasApplied a (Appended r t c n sent ∷ es) = WasApplied a es
+  WasApplied a (Acked r t c n ∷ es) = WasApplied a es
+  WasApplied a (Restarted r n ∷ es) = WasApplied a es
+  WasApplied a (Wrote c t e ∷ es) = WasApplied a es
+  WasApplied a (Committed c t n m ∷ es) = WasApplied a es
+  WasApplied a (Applied s t c n ∷ es) = (a ≡ take n (log_in k es s)) ⊎ WasApplied a es
+
+-- ---- what a trace shows
+
+module _ {T ID D M : Type 0} (k : Tests T ID D M) where
+  -- the tests of terms, ids and contents say whether they are equal, and quorums of configs that are
+  -- said to intersect do
+  pub record AreExact : Type 0 where
+    pub same_term : (x y : T) → k.same_term x y ≡ true → x ≡ y
+    pub term_itself : (x : T) → k.same_term x x ≡ true
+    pub same_id : (x y : ID) → k.same_id x y ≡ true → x ≡ y
+    pub id_itself : (x : ID) → k.same_id x x ≡ true
+    pub same_content : (x y : D) → k.same_content x y ≡ true → x ≡ y
+    pub content_itself : (x : D) → k.same_content x x ≡ true
+    pub intersect : (a b : M) → k.intersect a b ≡ true → QuorumsIntersect k.quorum_of a b
+
+  -- terms of campaigns that have one rank are equal
+  abbrev pub TermsHaveRanks : List (TraceEvent T ID D) → Type 0
+  TermsHaveRanks es =
+      (t u : T) → IsAmong t (campaign_terms es) → IsAmong u (campaign_terms es)
+      → k.rank t ≡ k.rank u → t ≡ u
+
+  -- a trace is an execution, so its history is safe, and no two servers apply different entries
+  pub record IsSafeTrace (es : List (TraceEvent T ID D)) : Type 0 where
+    pub execution : IsExecution k.rank k.config_of k.initial k.quorum_of (history k es) (earlier k es)
+    pub safe : IsSafe k.rank (is_quorum k.rank k.config_of k.initial k.quorum_of) (history k es)
+    pub applied : (a b : List (Entry T D)) → WasApplied k a es → WasApplied k b es
+        → IsPrefix a b ⊎ IsPrefix b a
+
+-- a trace that passes the test is an execution
+abbrev pub TracesAreExecutions : Type 0 → Type 0 → Type 0 → Type 0 → Type 0
+TracesAreExecutions T ID D M =
+    (k : Tests T ID D M) → AreExact k → (es : List (TraceEvent T ID D)) → TermsHaveRanks k es
+    → are_allowed k es ≡ true → IsSafeTrace k es
