@@ -1,0 +1,5 @@
+use Rattle.raft_safety.proofs.lemmas.AppendLemmas.{check_suffices}
+use Rattle.raft_safety.proofs.laws.consistency_check_suffices.Goals as goal
+
+pub returns : goal.returns
+returns g c = λ rank quorum h follows safe. check_suffices rank quorum h follows safe

@@ -1,0 +1,9 @@
+pub mod PrefixLemmas
+pub mod ServerLemmas
+pub mod SafetyLemmas
+pub mod FixedLemmas
+pub mod ConfigLemmas
+pub mod ChangeLemmas
+pub mod JointLemmas
+pub mod ApplyLemmas
+pub mod AppendLemmas

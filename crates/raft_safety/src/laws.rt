@@ -1,0 +1,35 @@
+//! What holds of every history in which each server keeps Raft's rules, as contracts: a caller that
+//! needs one of these theorems calls its function, which does nothing.
+ghost use Rattle.raft_safety.specs.AppendEntries.{ConsistencyChecksSuffice};
+ghost use Rattle.raft_safety.specs.Apply.{StateMachinesAgree};
+ghost use Rattle.raft_safety.specs.Configs.{ChangingMembersAreSafe, JointMembersAreSafe};
+ghost use Rattle.raft_safety.specs.Execution.{ExecutionsAreSafe, ExecutionsKeepFacts, StateMachinesAgreeAtAllTimes};
+ghost use Rattle.raft_safety.specs.Ranks.{OrdersHaveRanks};
+ghost use Rattle.raft_safety.specs.Safety.{FixedMembersAreSafe};
+ghost use Rattle.raft_safety.specs.Trace.{TracesAreExecutions};
+
+/// If any two quorums share a server, every history in which each server keeps the rules is safe.
+pub fn fixed_members_are_safe<T, ID: Copy + Ord, D>()
+    ensures { FixedMembersAreSafe T ID D }
+{}
+
+/// If members change by the rules, every history in which each server keeps the rules is safe.
+pub fn changing_members_are_safe<T, ID: Copy + Ord, D, M>()
+    ensures { ChangingMembersAreSafe T ID D M }
+{}
+
+/// If ids that are `==` are equal, and memberships change to coherent ones by the rules, every
+/// history in which each server keeps the rules is safe.
+pub fn joint_members_are_safe<T, ID: Copy + Ord, D>()
+    ensures { JointMembersAreSafe T ID D ID.eq }
+{}
+
+/// State machine safety.
+pub fn state_machines_agree<T, ID: Copy + Ord, D>()
+    ensures { StateMachinesAgree T ID D }
+{}
+
+/// Comparing terms alone suffices.
+pub fn consistency_check_suffices<T, ID: Copy + Ord, D>()
+    ensures { ConsistencyChecksSuffice T ID D }
+{}
