@@ -7,3 +7,4 @@ pub mod ChangeLemmas
 pub mod JointLemmas
 pub mod ApplyLemmas
 pub mod AppendLemmas
+pub mod ExecutionLemmas

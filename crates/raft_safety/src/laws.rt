@@ -33,3 +33,14 @@ pub fn state_machines_agree<T, ID: Copy + Ord, D>()
 pub fn consistency_check_suffices<T, ID: Copy + Ord, D>()
     ensures { ConsistencyChecksSuffice T ID D }
 {}
+
+/// Every execution is safe at each time.
+pub fn executions_are_safe<T, ID: Copy + Ord, D, M>()
+    ensures safe { ExecutionsAreSafe T ID D M }
+    ensures applied { StateMachinesAgreeAtAllTimes T ID D M }
+{}
+
+/// Facts are stable.
+pub fn facts_are_stable<T, ID: Copy + Ord, D, M>()
+    ensures { ExecutionsKeepFacts T ID D M }
+{}
