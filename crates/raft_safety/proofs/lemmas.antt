@@ -8,3 +8,6 @@ pub mod JointLemmas
 pub mod ApplyLemmas
 pub mod AppendLemmas
 pub mod ExecutionLemmas
+pub mod TestLemmas
+pub mod TraceLemmas
+pub mod RankLemmas

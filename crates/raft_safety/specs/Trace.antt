@@ -45,6 +45,15 @@ pub record Tests (T ID D M : Type 0) : Type 0 where
 
 -- ---- the history that a trace makes
 
+module _ {T ID D : Type 0} where
+  -- events of a server, and one more: it keeps so many entries of its log and appends these
+  abbrev pub and_append : T → ID → ℕ → List (Entry T D) → List (Event T ID D) → List (Event T ID D)
+  and_append t c n sent es = Append t c (take n (log_after es) ++ sent) ∷ es
+
+  -- events of a server, and one more: it restarts with so many entries of its log
+  abbrev pub and_restart : ℕ → List (Event T ID D) → List (Event T ID D)
+  and_restart n es = Restart (take n (log_after es)) ∷ es
+
 module _ {T ID D M : Type 0} (k : Tests T ID D M) where
   -- the leader or candidate of one term is that of the other
   abbrev pub same_leader : T → ID → T → ID → Bool
@@ -58,14 +67,11 @@ module _ {T ID D M : Type 0} (k : Tests T ID D M) where
   events_in (Granted r t c ∷ es) s =
       if k.same_id r s then GrantVote t c ∷ events_in es s else events_in es s
   events_in (Appended r t c n sent ∷ es) s =
-      if k.same_id r s
-      then Append t c (take n (log_after (events_in es s)) ++ sent) ∷ events_in es s
-      else events_in es s
+      if k.same_id r s then and_append t c n sent (events_in es s) else events_in es s
   events_in (Acked r t c n ∷ es) s =
       if k.same_id r s then Ack t c n ∷ events_in es s else events_in es s
   events_in (Restarted r n ∷ es) s =
-      if k.same_id r s then Restart (take n (log_after (events_in es s))) ∷ events_in es s
-      else events_in es s
+      if k.same_id r s then and_restart n (events_in es s) else events_in es s
   events_in (Wrote c t e ∷ es) s = events_in es s
   events_in (Committed c t n m ∷ es) s = events_in es s
   events_in (Applied r t c n ∷ es) s = events_in es s

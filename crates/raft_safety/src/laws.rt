@@ -44,3 +44,13 @@ pub fn executions_are_safe<T, ID: Copy + Ord, D, M>()
 pub fn facts_are_stable<T, ID: Copy + Ord, D, M>()
     ensures { ExecutionsKeepFacts T ID D M }
 {}
+
+/// Traces.
+pub fn traces_are_executions<T, ID: Copy + Ord, D, M>()
+    ensures { TracesAreExecutions T ID D M }
+{}
+
+/// Any strict total order of terms is that of their ranks.
+pub fn orders_have_ranks<T>()
+    ensures { OrdersHaveRanks T }
+{}
