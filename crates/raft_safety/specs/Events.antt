@@ -32,16 +32,14 @@ module _ {T ID D : Type 0} where
   term_after rank [] = 0
   term_after rank (GrantVote t c ∷ es) = rank t
   term_after rank (Append t c log ∷ es) = rank t
-  term_after rank (Ack t c n ∷ es) = term_after rank es
-  term_after rank (Restart log ∷ es) = term_after rank es
+  term_after rank (x ∷ es) = term_after rank es
 
   -- the log of a server
   abbrev pub log_after : List (Event T ID D) → List (Entry T D)
   log_after [] = []
-  log_after (GrantVote t c ∷ es) = log_after es
   log_after (Append t c log ∷ es) = log
-  log_after (Ack t c n ∷ es) = log_after es
   log_after (Restart log ∷ es) = log
+  log_after (x ∷ es) = log_after es
 
   -- a log of the server, now or at an earlier time, begins with these entries
   abbrev pub HasHad : List (Entry T D) → List (Event T ID D) → Type 0
@@ -60,7 +58,7 @@ module _ {T ID D : Type 0} where
   -- its log has begun with them ever since
   abbrev pub IsDurable : List (Entry T D) → List (Event T ID D) → Type 0
   IsDurable p [] = IsPrefix p []
-  IsDurable p (GrantVote t c ∷ es) = IsDurable p es
   IsDurable p (Append t c log ∷ es) = IsPrefix p log × IsDurable p es
   IsDurable p (Ack t c n ∷ es) = (IsPrefix p (log_after es) × (length p ≤ n)) ⊎ IsDurable p es
   IsDurable p (Restart log ∷ es) = IsPrefix p log × IsDurable p es
+  IsDurable p (x ∷ es) = IsDurable p es

@@ -8,17 +8,13 @@ module _ {T ID D : Type 0} where
   abbrev pub HasVoted : T → ID → List (Event T ID D) → Type 0
   HasVoted t c [] = ⊥
   HasVoted t c (GrantVote u d ∷ es) = ((u ≡ t) × (d ≡ c)) ⊎ HasVoted t c es
-  HasVoted t c (Append u d log ∷ es) = HasVoted t c es
-  HasVoted t c (Ack u d n ∷ es) = HasVoted t c es
-  HasVoted t c (Restart log ∷ es) = HasVoted t c es
+  HasVoted t c (x ∷ es) = HasVoted t c es
 
   -- the server has acknowledged n entries or more to the leader of this term
   abbrev pub HasAcked : T → ID → ℕ → List (Event T ID D) → Type 0
   HasAcked t c n [] = ⊥
-  HasAcked t c n (GrantVote u d ∷ es) = HasAcked t c n es
-  HasAcked t c n (Append u d log ∷ es) = HasAcked t c n es
   HasAcked t c n (Ack u d m ∷ es) = ((u ≡ t) × (d ≡ c) × (n ≤ m)) ⊎ HasAcked t c n es
-  HasAcked t c n (Restart log ∷ es) = HasAcked t c n es
+  HasAcked t c n (x ∷ es) = HasAcked t c n es
 
 -- `quorum log set`: the set of servers is a quorum of the config in effect at the end of the log
 module _ {T ID D : Type 0} (rank : T → ℕ) (quorum : List (Entry T D) → (ID → Bool) → Bool)

@@ -72,9 +72,7 @@ module _ {T ID D M : Type 0} (k : Tests T ID D M) where
       if k.same_id r s then Ack t c n ∷ events_in es s else events_in es s
   events_in (Restarted r n ∷ es) s =
       if k.same_id r s then and_restart n (events_in es s) else events_in es s
-  events_in (Wrote c t e ∷ es) s = events_in es s
-  events_in (Committed c t n m ∷ es) s = events_in es s
-  events_in (Applied r t c n ∷ es) s = events_in es s
+  events_in (x ∷ es) s = events_in es s
 
   -- the log of a server
   abbrev pub log_in : List (TraceEvent T ID D) → ID → List (Entry T D)
@@ -89,27 +87,16 @@ module _ {T ID D M : Type 0} (k : Tests T ID D M) where
   candidate_log_in [] u d = []
   candidate_log_in (Campaigned c t ∷ es) u d =
       if same_leader t c u d then log_in es c else candidate_log_in es u d
-  candidate_log_in (Granted r t c ∷ es) u d = candidate_log_in es u d
-  candidate_log_in (Appended r t c n sent ∷ es) u d = candidate_log_in es u d
-  candidate_log_in (Acked r t c n ∷ es) u d = candidate_log_in es u d
-  candidate_log_in (Restarted r n ∷ es) u d = candidate_log_in es u d
-  candidate_log_in (Wrote c t e ∷ es) u d = candidate_log_in es u d
-  candidate_log_in (Committed c t n m ∷ es) u d = candidate_log_in es u d
-  candidate_log_in (Applied r t c n ∷ es) u d = candidate_log_in es u d
+  candidate_log_in (x ∷ es) u d = candidate_log_in es u d
 
   -- the log of the leader of a term
   abbrev pub leader_log_in : List (TraceEvent T ID D) → T → ID → List (Entry T D)
   leader_log_in [] u d = []
   leader_log_in (Campaigned c t ∷ es) u d =
       if same_leader t c u d then log_in es c else leader_log_in es u d
-  leader_log_in (Granted r t c ∷ es) u d = leader_log_in es u d
-  leader_log_in (Appended r t c n sent ∷ es) u d = leader_log_in es u d
-  leader_log_in (Acked r t c n ∷ es) u d = leader_log_in es u d
-  leader_log_in (Restarted r n ∷ es) u d = leader_log_in es u d
   leader_log_in (Wrote c t e ∷ es) u d =
       if same_leader t c u d then leader_log_in es u d ++ e ∷ [] else leader_log_in es u d
-  leader_log_in (Committed c t n m ∷ es) u d = leader_log_in es u d
-  leader_log_in (Applied r t c n ∷ es) u d = leader_log_in es u d
+  leader_log_in (x ∷ es) u d = leader_log_in es u d
 
   abbrev pub history : List (TraceEvent T ID D) → History T ID D
   history es = record {
@@ -127,13 +114,7 @@ module _ {T ID D M : Type 0} (k : Tests T ID D M) where
 abbrev pub campaign_terms : {T ID D : Type 0} → List (TraceEvent T ID D) → List T
 campaign_terms [] = []
 campaign_terms (Campaigned c t ∷ es) = t ∷ campaign_terms es
-campaign_terms (Granted r t c ∷ es) = campaign_terms es
-campaign_terms (Appended r t c n sent ∷ es) = campaign_terms es
-campaign_terms (Acked r t c n ∷ es) = campaign_terms es
-campaign_terms (Restarted r n ∷ es) = campaign_terms es
-campaign_terms (Wrote c t e ∷ es) = campaign_terms es
-campaign_terms (Committed c t n m ∷ es) = campaign_terms es
-campaign_terms (Applied r t c n ∷ es) = campaign_terms es
+campaign_terms (x ∷ es) = campaign_terms es
 
 -- ---- tests of logs
 
@@ -171,16 +152,12 @@ module _ {T ID D M : Type 0} (k : Tests T ID D M) where
   abbrev pub has_voted : T → ID → List (Event T ID D) → Bool
   has_voted u d [] = false
   has_voted u d (GrantVote t c ∷ es) = same_leader k t c u d || has_voted u d es
-  has_voted u d (Append t c log ∷ es) = has_voted u d es
-  has_voted u d (Ack t c n ∷ es) = has_voted u d es
-  has_voted u d (Restart log ∷ es) = has_voted u d es
+  has_voted u d (x ∷ es) = has_voted u d es
 
   abbrev pub has_acked : T → ID → ℕ → List (Event T ID D) → Bool
   has_acked u d m [] = false
-  has_acked u d m (GrantVote t c ∷ es) = has_acked u d m es
-  has_acked u d m (Append t c log ∷ es) = has_acked u d m es
   has_acked u d m (Ack t c n ∷ es) = (same_leader k t c u d && nat_le m n) || has_acked u d m es
-  has_acked u d m (Restart log ∷ es) = has_acked u d m es
+  has_acked u d m (x ∷ es) = has_acked u d m es
 
   -- the log begins with these entries, and has done so since a term of at most this rank
   abbrev pub has_kept : ℕ → List (Entry T D) → List (Event T ID D) → Bool
@@ -192,10 +169,10 @@ module _ {T ID D M : Type 0} (k : Tests T ID D M) where
   -- the number of first entries that are durable
   abbrev pub durable : List (Event T ID D) → ℕ
   durable [] = 0
-  durable (GrantVote t c ∷ es) = durable es
   durable (Append t c log ∷ es) = min (durable es) (length (common_prefix k (log_after es) log))
   durable (Ack t c n ∷ es) = max n (durable es)
   durable (Restart log ∷ es) = min (durable es) (length (common_prefix k (log_after es) log))
+  durable (x ∷ es) = durable es
 
 -- ---- the test of a trace
 
@@ -208,13 +185,7 @@ module _ {T ID D M : Type 0} (k : Tests T ID D M) where
   abbrev pub has_campaigned : T → ID → List (TraceEvent T ID D) → Bool
   has_campaigned u d [] = false
   has_campaigned u d (Campaigned c t ∷ es) = same_leader k t c u d || has_campaigned u d es
-  has_campaigned u d (Granted r t c ∷ es) = has_campaigned u d es
-  has_campaigned u d (Appended r t c n sent ∷ es) = has_campaigned u d es
-  has_campaigned u d (Acked r t c n ∷ es) = has_campaigned u d es
-  has_campaigned u d (Restarted r n ∷ es) = has_campaigned u d es
-  has_campaigned u d (Wrote c t e ∷ es) = has_campaigned u d es
-  has_campaigned u d (Committed c t n m ∷ es) = has_campaigned u d es
-  has_campaigned u d (Applied r t c n ∷ es) = has_campaigned u d es
+  has_campaigned u d (x ∷ es) = has_campaigned u d es
 
   abbrev pub is_elected : List (TraceEvent T ID D) → T → ID → Bool
   is_elected es t c =
@@ -232,29 +203,17 @@ module _ {T ID D M : Type 0} (k : Tests T ID D M) where
   -- log holds a config
   abbrev pub is_config_committed : T → ID → List (Entry T D) → List (TraceEvent T ID D) → Bool
   is_config_committed u d log [] = false
-  is_config_committed u d log (Campaigned c t ∷ es) = is_config_committed u d log es
-  is_config_committed u d log (Granted r t c ∷ es) = is_config_committed u d log es
-  is_config_committed u d log (Appended r t c n sent ∷ es) = is_config_committed u d log es
-  is_config_committed u d log (Acked r t c n ∷ es) = is_config_committed u d log es
-  is_config_committed u d log (Restarted r n ∷ es) = is_config_committed u d log es
-  is_config_committed u d log (Wrote c t e ∷ es) = is_config_committed u d log es
   is_config_committed u d log (Committed c t n m ∷ es) =
       (same_leader k t c u d && hold_no_config k (drop n log)) || is_config_committed u d log es
-  is_config_committed u d log (Applied r t c n ∷ es) = is_config_committed u d log es
+  is_config_committed u d log (x ∷ es) = is_config_committed u d log es
 
   -- a leader of a term of at most this rank has recorded a commit of at least these entries
   abbrev pub is_known_committed : ℕ → List (Entry T D) → List (TraceEvent T ID D) → Bool
   is_known_committed r p [] = false
-  is_known_committed r p (Campaigned c t ∷ es) = is_known_committed r p es
-  is_known_committed r p (Granted s t c ∷ es) = is_known_committed r p es
-  is_known_committed r p (Appended s t c n sent ∷ es) = is_known_committed r p es
-  is_known_committed r p (Acked s t c n ∷ es) = is_known_committed r p es
-  is_known_committed r p (Restarted s n ∷ es) = is_known_committed r p es
-  is_known_committed r p (Wrote c t e ∷ es) = is_known_committed r p es
   is_known_committed r p (Committed c t n m ∷ es) =
       (nat_le (k.rank t) r && is_prefix k p (take n (leader_log_in k es t c)))
       || is_known_committed r p es
-  is_known_committed r p (Applied s t c n ∷ es) = is_known_committed r p es
+  is_known_committed r p (x ∷ es) = is_known_committed r p es
 
   -- a leader may append an entry that holds this config, if it holds one
   abbrev pub may_propose : List (TraceEvent T ID D) → T → ID → Option M → Bool
@@ -298,14 +257,8 @@ module _ {T ID D M : Type 0} (k : Tests T ID D M) where
   -- the entries that some server applied, from the first one on, when it did so
   abbrev pub WasApplied : List (Entry T D) → List (TraceEvent T ID D) → Type 0
   WasApplied a [] = ⊥
-  WasApplied a (Campaigned c t ∷ es) = WasApplied a es
-  WasApplied a (Granted r t c ∷ es) = WasApplied a es
-  WasApplied a (Appended r t c n sent ∷ es) = WasApplied a es
-  WasApplied a (Acked r t c n ∷ es) = WasApplied a es
-  WasApplied a (Restarted r n ∷ es) = WasApplied a es
-  WasApplied a (Wrote c t e ∷ es) = WasApplied a es
-  WasApplied a (Committed c t n m ∷ es) = WasApplied a es
   WasApplied a (Applied s t c n ∷ es) = (a ≡ take n (log_in k es s)) ⊎ WasApplied a es
+  WasApplied a (x ∷ es) = WasApplied a es
 
 -- ---- what a trace shows
 

@@ -93,12 +93,7 @@ module _ {T ID D M : Type 0} (k : Tests T ID D M) (exact : AreExact k) where
   has_campaign (Restarted r n ∷ es) s t c ok x =
       has_campaign es s t c (allowed_before (Restarted r n) es ok)
       (skip_restart (k.same_id r s) (take n (log_after (events_in k es s))) (events_in k es s) t c x)
-  has_campaign (Wrote d u e ∷ es) s t c ok x =
-      has_campaign es s t c (allowed_before (Wrote d u e) es ok) x
-  has_campaign (Committed d u n m ∷ es) s t c ok x =
-      has_campaign es s t c (allowed_before (Committed d u n m) es ok) x
-  has_campaign (Applied r u d n ∷ es) s t c ok x =
-      has_campaign es s t c (allowed_before (Applied r u d n) es ok) x
+  has_campaign (e ∷ es) s t c ok x = has_campaign es s t c (allowed_before e es ok) x
 
   -- the term of a campaign is among those of all
   term_among : (es : Events) (t : T) (c : ID) → has_campaigned k t c es ≡ true
@@ -112,13 +107,7 @@ module _ {T ID D M : Type 0} (k : Tests T ID D M) (exact : AreExact k) where
           → (t ≡ u) ⊎ IsAmong t (campaign_terms es)
       go (inl x) rec = inl (sym (leader_right k exact u t r c x).0)
       go (inr x) rec = inr (rec x)
-  term_among (Granted r u d ∷ es) t c e = term_among es t c e
-  term_among (Appended r u d n sent ∷ es) t c e = term_among es t c e
-  term_among (Acked r u d n ∷ es) t c e = term_among es t c e
-  term_among (Restarted r n ∷ es) t c e = term_among es t c e
-  term_among (Wrote d u x ∷ es) t c e = term_among es t c e
-  term_among (Committed d u n m ∷ es) t c e = term_among es t c e
-  term_among (Applied r u d n ∷ es) t c e = term_among es t c e
+  term_among (x ∷ es) t c e = term_among es t c e
 
   -- elected and committed
   pub elected_right : (es : Events) (t : T) (c : ID) → is_elected k es t c ≡ true
@@ -361,13 +350,7 @@ module _ {T ID D M : Type 0} (k : Tests T ID D M) (exact : AreExact k) where
   term_more : (e : TraceEvent T ID D) (es : Events) (t : T) → IsAmong t (campaign_terms es)
       → IsAmong t (campaign_terms (e ∷ es))
   term_more (Campaigned r u) es t x = inr x
-  term_more (Granted r u d) es t x = x
-  term_more (Appended r u d n sent) es t x = x
-  term_more (Acked r u d n) es t x = x
-  term_more (Restarted r n) es t x = x
-  term_more (Wrote d u y) es t x = x
-  term_more (Committed d u n m) es t x = x
-  term_more (Applied r u d n) es t x = x
+  term_more e es t x = x
 
   ranks_before : (e : TraceEvent T ID D) (es : Events) → TermsHaveRanks k (e ∷ es)
       → TermsHaveRanks k es
@@ -408,27 +391,6 @@ module _ {T ID D M : Type 0} (k : Tests T ID D M) (exact : AreExact k) where
       (log : List (Entry T D)) → is_config_committed k t c log es ≡ true
       → ConfigCommitted es t c log
   config_committed [] ok run t c log e = absurd (cc)
-  config_committed (Campaigned r u ∷ es) ok run t c log e =
-      lift_config (Campaigned r u) es ok run t c log
-      (config_committed es (allowed_before (Campaigned r u) es ok) run.1 t c log e)
-  config_committed (Granted r u d ∷ es) ok run t c log e =
-      lift_config (Granted r u d) es ok run t c log
-      (config_committed es (allowed_before (Granted r u d) es ok) run.1 t c log e)
-  config_committed (Appended r u d n sent ∷ es) ok run t c log e =
-      lift_config (Appended r u d n sent) es ok run t c log
-      (config_committed es (allowed_before (Appended r u d n sent) es ok) run.1 t c log e)
-  config_committed (Acked r u d n ∷ es) ok run t c log e =
-      lift_config (Acked r u d n) es ok run t c log
-      (config_committed es (allowed_before (Acked r u d n) es ok) run.1 t c log e)
-  config_committed (Restarted r n ∷ es) ok run t c log e =
-      lift_config (Restarted r n) es ok run t c log
-      (config_committed es (allowed_before (Restarted r n) es ok) run.1 t c log e)
-  config_committed (Wrote d u x ∷ es) ok run t c log e =
-      lift_config (Wrote d u x) es ok run t c log
-      (config_committed es (allowed_before (Wrote d u x) es ok) run.1 t c log e)
-  config_committed (Applied r u d n ∷ es) ok run t c log e =
-      lift_config (Applied r u d n) es ok run t c log
-      (config_committed es (allowed_before (Applied r u d n) es ok) run.1 t c log e)
   config_committed (Committed d u n m ∷ es) ok run t c log e =
       lift_config (Committed d u n m) es ok run t c log
       (go (or_cases (same_leader k u d t c && hold_no_config k (drop n log))
@@ -452,6 +414,8 @@ module _ {T ID D M : Type 0} (k : Tests T ID D M) (exact : AreExact k) where
             none_since = no_config_right k exact (drop n log) (second_so a b x);
           }
       go (inr x) rec = rec x
+  config_committed (x ∷ es) ok run t c log e =
+      lift_config x es ok run t c log (config_committed es (allowed_before x es ok) run.1 t c log e)
 
   -- a config that passes the test may be proposed
   proposal : (es : Events) → are_allowed k es ≡ true → IsRun es → (t : T) (c : ID) (o : Option M)
@@ -582,27 +546,6 @@ module _ {T ID D M : Type 0} (k : Tests T ID D M) (exact : AreExact k) where
   was_known : (es : Events) → are_allowed k es ≡ true → IsRun es → (r : ℕ) (p : List (Entry T D))
       → is_known_committed k r p es ≡ true → WasKnown es r p
   was_known [] ok run r p e = absurd (cc)
-  was_known (Campaigned s u ∷ es) ok run r p e =
-      lift_known (Campaigned s u) es ok run r p
-      (was_known es (allowed_before (Campaigned s u) es ok) run.1 r p e)
-  was_known (Granted s u d ∷ es) ok run r p e =
-      lift_known (Granted s u d) es ok run r p
-      (was_known es (allowed_before (Granted s u d) es ok) run.1 r p e)
-  was_known (Appended s u d n sent ∷ es) ok run r p e =
-      lift_known (Appended s u d n sent) es ok run r p
-      (was_known es (allowed_before (Appended s u d n sent) es ok) run.1 r p e)
-  was_known (Acked s u d n ∷ es) ok run r p e =
-      lift_known (Acked s u d n) es ok run r p
-      (was_known es (allowed_before (Acked s u d n) es ok) run.1 r p e)
-  was_known (Restarted s n ∷ es) ok run r p e =
-      lift_known (Restarted s n) es ok run r p
-      (was_known es (allowed_before (Restarted s n) es ok) run.1 r p e)
-  was_known (Wrote d u x ∷ es) ok run r p e =
-      lift_known (Wrote d u x) es ok run r p
-      (was_known es (allowed_before (Wrote d u x) es ok) run.1 r p e)
-  was_known (Applied s u d n ∷ es) ok run r p e =
-      lift_known (Applied s u d n) es ok run r p
-      (was_known es (allowed_before (Applied s u d n) es ok) run.1 r p e)
   was_known (Committed d u n m ∷ es) ok run r p e =
       lift_known (Committed d u n m) es ok run r p
       (go (or_cases (nat_le (k.rank u) r && is_prefix k p (take n (leader_log_in k es u d)))
@@ -625,6 +568,8 @@ module _ {T ID D M : Type 0} (k : Tests T ID D M) (exact : AreExact k) where
             is = prefix_right k exact p (take n (leader_log_in k es u d)) (second_so a b x);
           }
       go (inr x) rec = rec x
+  was_known (x ∷ es) ok run r p e =
+      lift_known x es ok run r p (was_known es (allowed_before x es ok) run.1 r p e)
 
   may_apply : (es : Events) → are_allowed k es ≡ true → IsRun es → (s : ID) (t : T) (c : ID) (n : ℕ)
       → is_allowed k (Applied s t c n) es ≡ true
@@ -671,27 +616,6 @@ module _ {T ID D M : Type 0} (k : Tests T ID D M) (exact : AreExact k) where
   applied_at : (a : List (Entry T D)) (es : Events) → are_allowed k es ≡ true → IsRun es
       → WasApplied k a es → AppliedAt a es
   applied_at a [] ok run x = absurd x
-  applied_at a (Campaigned s u ∷ es) ok run x =
-      applied_later a (Campaigned s u) es
-      (applied_at a es (allowed_before (Campaigned s u) es ok) run.1 x)
-  applied_at a (Granted s u d ∷ es) ok run x =
-      applied_later a (Granted s u d) es
-      (applied_at a es (allowed_before (Granted s u d) es ok) run.1 x)
-  applied_at a (Appended s u d n sent ∷ es) ok run x =
-      applied_later a (Appended s u d n sent) es
-      (applied_at a es (allowed_before (Appended s u d n sent) es ok) run.1 x)
-  applied_at a (Acked s u d n ∷ es) ok run x =
-      applied_later a (Acked s u d n) es
-      (applied_at a es (allowed_before (Acked s u d n) es ok) run.1 x)
-  applied_at a (Restarted s n ∷ es) ok run x =
-      applied_later a (Restarted s n) es
-      (applied_at a es (allowed_before (Restarted s n) es ok) run.1 x)
-  applied_at a (Wrote d u y ∷ es) ok run x =
-      applied_later a (Wrote d u y) es
-      (applied_at a es (allowed_before (Wrote d u y) es ok) run.1 x)
-  applied_at a (Committed d u n m ∷ es) ok run x =
-      applied_later a (Committed d u n m) es
-      (applied_at a es (allowed_before (Committed d u n m) es ok) run.1 x)
   applied_at a (Applied s u d n ∷ es) ok run (inr x) =
       applied_later a (Applied s u d n) es
       (applied_at a es (allowed_before (Applied s u d n) es ok) run.1 x)
@@ -705,6 +629,8 @@ module _ {T ID D M : Type 0} (k : Tests T ID D M) (exact : AreExact k) where
         (allowed_last (Applied s u d n) es ok);
     is = e;
   }
+  applied_at a (e ∷ es) ok run x =
+      applied_later a e es (applied_at a es (allowed_before e es ok) run.1 x)
 
   pub trace_is_safe : (es : Events) → TermsHaveRanks k es → are_allowed k es ≡ true
       → IsSafeTrace k es
