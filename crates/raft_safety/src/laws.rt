@@ -51,6 +51,6 @@ pub fn traces_are_executions<T, ID: Copy + Ord, D, M>()
 {}
 
 /// Any strict total order of terms is that of their ranks.
-pub fn orders_have_ranks<T>()
-    ensures { OrdersHaveRanks T }
+pub fn orders_have_ranks<C: Ord + Copy>()
+    ensures { OrdersHaveRanks C C.cmp }
 {}
