@@ -11,3 +11,4 @@ pub mod ExecutionLemmas
 pub mod TestLemmas
 pub mod TraceLemmas
 pub mod RankLemmas
+pub mod ScenarioLemmas

@@ -2,8 +2,8 @@
 use Rattle.std.specs.Prelude.{◌≡◌, ◌⊎◌, ◌<◌, ◌≤◌, ℕ, List, [], ◌∷◌, length}
 use Rattle.raft_safety.specs.Log.{Entry, IsPrefix}
 
--- an event at one server. A vote, an acknowledgement and the terms that they imply are durable. A log
--- is not durable until it is acknowledged
+-- an event at one server. Votes, acknowledgements and terms are durable, also the term of an append. A
+-- log is durable only as far as it was acknowledged
 pub data Event (T ID D : Type 0) : Type 0 where
   -- the server grants its vote to a candidate of a term. A candidate votes for itself
   GrantVote : T → ID → Event T ID D

@@ -9,3 +9,4 @@ pub mod Ranks
 pub mod Execution
 pub mod AppendEntries
 pub mod Trace
+pub mod Scenarios

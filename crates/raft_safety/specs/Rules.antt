@@ -1,12 +1,12 @@
--- The rules that each server keeps. None of them speaks of more than one server's events, of what
--- candidates and leaders have sent, and of who was elected.
+-- The rules that each server keeps. A rule speaks of the events of one server, of what candidates and
+-- leaders have sent, and of who was elected. It never speaks of two servers at one moment.
 use Rattle.std.specs.Prelude.{◌≡◌, ◌⊎◌, ◌<◌, ◌≤◌, ℕ, Bool, List, [], ◌∷◌, ◌++◌, length, take}
 use Rattle.raft_safety.specs.Log.{Entry, IsPrefix, IsUpToDate, AllOfTerm}
 use Rattle.raft_safety.specs.Events.{Event, GrantVote, Append, Ack, Restart, History, term_after, log_after, HasHad, HasKept, IsDurable}
 use Rattle.raft_safety.specs.Facts.{IsElected}
 
--- a restart keeps terms, votes and what is durable. What is not durable may be lost, and a truncation
--- that is not durable may be undone: the log is a prefix of one that the server has had
+-- a restart keeps terms, votes and what is durable. Entries that are not durable may be lost, and a
+-- truncation that is not durable may be undone: the log is a prefix of one that the server has had
 pub record MayRestart {T ID D : Type 0} (es : List (Event T ID D)) (log : List (Entry T D)) : Type 0
   where
     pub had : HasHad log es

@@ -250,17 +250,21 @@ module _ {T ID D : Type 0} (rank : T → ℕ) (quorum : List (Entry T D) → (ID
       kept s t c n bound p held st ds ok.1 (omega (arith, ok.0.term)) a
   kept s t c n bound p held st (Append u d log ∷ ds) ok lt a =
       let before : IsDurable p ds =
-      kept s t c n bound p held st ds ok.1 (omega (arith, ok.0.term)) a in
-      (ok.0.keeps p (durable_now ds p before)
-      (held u d ok.0.elected (omega (arith, acked_term s t c n ds ok.1 a, ok.0.term)) lt), before)
+      kept s t c n bound p held st ds ok.1 (omega (arith, ok.0.term)) a in (
+        ok.0.keeps p (durable_now ds p before)
+            (held u d ok.0.elected (omega (arith, acked_term s t c n ds ok.1 a, ok.0.term)) lt),
+        before,
+      )
   kept s t c n bound p held st (Ack u d m ∷ ds) ok lt (inl is) =
       let all : IsPrefix p (take m (h.leader_log t c)) =
       prefix_trans st (take_within n m (h.leader_log t c) is.2) in
       let all' : IsPrefix p (take m (h.leader_log u d)) = rw (is.0, is.1) all in
       let now : IsPrefix (take m (h.leader_log u d)) (log_after ds) =
       kept_now rank (rank u) (take m (h.leader_log u d)) ds ok.0.has_kept in
-      inl (prefix_trans all' now,
-      omega (arith, prefix_length all', length-take-le m (h.leader_log u d) ok.0.written))
+      inl (
+        prefix_trans all' now,
+        omega (arith, prefix_length all', length-take-le m (h.leader_log u d) ok.0.written),
+      )
   kept s t c n bound p held st (Ack u d m ∷ ds) ok lt (inr a) =
       inr (kept s t c n bound p held st ds ok.1 lt a)
   kept s t c n bound p held st (Restart log ∷ ds) ok lt a =

@@ -23,9 +23,10 @@ not_so false e f = absurd (cc)
 module _ {T ID D M : Type 0} (k : Tests T ID D M) (exact : AreExact k) where
   -- leaders
   pub leader_right : (t u : T) (c d : ID) → same_leader k t c u d ≡ true → (t ≡ u) × (c ≡ d)
-  leader_right t u c d e =
-      (exact.same_term t u (first_so (k.same_term t u) (k.same_id c d) e),
-      exact.same_id c d (second_so (k.same_term t u) (k.same_id c d) e))
+  leader_right t u c d e = (
+    exact.same_term t u (first_so (k.same_term t u) (k.same_id c d) e),
+    exact.same_id c d (second_so (k.same_term t u) (k.same_id c d) e),
+  )
 
   pub leader_from : (t u : T) (c d : ID) → t ≡ u → c ≡ d → same_leader k t c u d ≡ true
   leader_from t u c d e f =
@@ -78,10 +79,12 @@ module _ {T ID D M : Type 0} (k : Tests T ID D M) (exact : AreExact k) where
           → IsUpToDate k.rank a b
       go (inl x) = inl (ltb-true (last_term k.rank b) (last_term k.rank a) x)
       go (inr x) =
-          inr (eqb-true (last_term k.rank b) (last_term k.rank a)
-          (first_so (nat_eq (last_term k.rank b) (last_term k.rank a)) (nat_le (length b) (length a)) x),
-          leb-true (length b) (length a)
-          (second_so (nat_eq (last_term k.rank b) (last_term k.rank a)) (nat_le (length b) (length a)) x))
+          inr (
+            eqb-true (last_term k.rank b) (last_term k.rank a)
+                (first_so (nat_eq (last_term k.rank b) (last_term k.rank a)) (nat_le (length b) (length a)) x),
+            leb-true (length b) (length a)
+                (second_so (nat_eq (last_term k.rank b) (last_term k.rank a)) (nat_le (length b) (length a)) x),
+          )
 
   none_of : (o : Option M) → is_none o ≡ true → o ≡ None
   none_of None e = refl
@@ -90,10 +93,11 @@ module _ {T ID D M : Type 0} (k : Tests T ID D M) (exact : AreExact k) where
   pub no_config_right : (es : List (Entry T D)) → hold_no_config k es ≡ true
       → HoldNoConfig k.config_of es
   no_config_right [] e = tt
-  no_config_right (x ∷ es) e =
-      (none_of (k.config_of x.content)
-      (first_so (is_none (k.config_of x.content)) (hold_no_config k es) e),
-      no_config_right es (second_so (is_none (k.config_of x.content)) (hold_no_config k es) e))
+  no_config_right (x ∷ es) e = (
+    none_of (k.config_of x.content)
+        (first_so (is_none (k.config_of x.content)) (hold_no_config k es) e),
+    no_config_right es (second_so (is_none (k.config_of x.content)) (hold_no_config k es) e),
+  )
 
   -- events of one server
   pub voted_right : (t : T) (c : ID) (es : List (Event T ID D)) → has_voted k t c es ≡ true
@@ -133,9 +137,10 @@ module _ {T ID D M : Type 0} (k : Tests T ID D M) (exact : AreExact k) where
   kept_right r p [] e = prefix_right p [] e
   kept_right r p (x ∷ es) e =
       let a : Bool = is_prefix k p (log_after (x ∷ es)) in
-      let b : Bool = nat_le (term_after k.rank (x ∷ es)) r in
-      (prefix_right p (log_after (x ∷ es)) (first_so a (b || has_kept k r p es) e),
-      go (or_cases b (has_kept k r p es) (second_so a (b || has_kept k r p es) e)) (kept_right r p es))
+      let b : Bool = nat_le (term_after k.rank (x ∷ es)) r in (
+        prefix_right p (log_after (x ∷ es)) (first_so a (b || has_kept k r p es) e),
+        go (or_cases b (has_kept k r p es) (second_so a (b || has_kept k r p es) e)) (kept_right r p es),
+      )
     where
       go : ((nat_le (term_after k.rank (x ∷ es)) r ≡ true) ⊎ (has_kept k r p es ≡ true))
           → (has_kept k r p es ≡ true → HasKept k.rank r p es)

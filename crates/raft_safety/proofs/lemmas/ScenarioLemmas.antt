@@ -1,0 +1,149 @@
+-- What clusters do passes the test, and what breaks a rule does not.
+use Rattle.std.specs.Prelude.{◌≡◌, ◌&&◌, ℕ, Bool, true, nat_eq, List, [], ◌∷◌, reverse, get_or}
+use Rattle.std.specs.Cmp.{IsEquivalence, first_so, second_so, nat_eq_equiv}
+use Rattle.std.specs.Ordering.{nat_cmp}
+use Rattle.std.proofs.Common.{refl, ap, arith, inl, inr}
+use Rattle.std.proofs.lemmas.Bool.{and_from, eqb-true, eq-eqb, false≢true}
+use Rattle.raft_base.specs.declared.leader_id.LeaderId.{LeaderId}
+use Rattle.raft_members.specs.Majority.{is_joint_majority}
+use Rattle.raft_safety.specs.Log.{Entry, IsPrefix}
+use Rattle.raft_safety.specs.Trace.{AreExact, IsSafeTrace, TermsHaveRanks, are_allowed}
+use Rattle.raft_safety.specs.Scenarios.{AreDisturbances, AreLeaderIds, AreMemberChanges, AreRefused, IsFigure8, Row, behind, by_leader_id, entry, figure_8_c, figure_8_d, figure_8_e, five, heard, joint_on_old, late_flush, learner_promoted, led, loss_and_return, lost_flush, members_changed, noise, snapshot_on_empty_log, starting_from, three, two_of_one_term}
+use Rattle.raft_safety.proofs.lemmas.PrefixLemmas.{prefix_length}
+use Rattle.raft_safety.proofs.lemmas.JointLemmas.{coherent_intersect}
+use Rattle.raft_safety.proofs.lemmas.TraceLemmas.{committed_right, elected_right, trace_is_safe}
+
+exact : (configs : List (List ℕ)) → AreExact (starting_from configs)
+exact configs = record {
+  same_term = λ x y e. eqb-true x y e;
+  term_itself = λ x. eq-eqb x x refl;
+  same_id = λ x y e. eqb-true x y e;
+  id_itself = λ x. eq-eqb x x refl;
+  same_content = λ x y e. eqb-true x y e;
+  content_itself = λ x. eq-eqb x x refl;
+  intersect = λ a b e. coherent_intersect nat_eq_equiv (λ x y f. eqb-true x y f) a b e;
+}
+
+safe : (configs : List (List ℕ)) (es : List Row) → are_allowed (starting_from configs) es ≡ true
+    → IsSafeTrace (starting_from configs) es
+safe configs es ok =
+    trace_is_safe (starting_from configs) (exact configs) es (λ t u x y e. e) ok
+
+d_safe : IsSafeTrace five (reverse figure_8_d)
+d_safe = safe five.initial (reverse figure_8_d) refl
+
+e_safe : IsSafeTrace five (reverse figure_8_e)
+e_safe = safe five.initial (reverse figure_8_e) refl
+
+term_2_differs : (p : IsPrefix (entry 1 10 ∷ entry 2 20 ∷ []) (entry 1 10 ∷ entry 3 30 ∷ [])) → ⊥
+term_2_differs p =
+    false≢true (ap (λ (l : List (Entry ℕ ℕ)). nat_eq (get_or l 1 (entry 0 0)).term 2) p.is)
+
+three_are_longer : IsPrefix (entry 1 10 ∷ entry 2 20 ∷ entry 4 40 ∷ []) (entry 1 10 ∷ entry 3 30 ∷ [])
+    → ⊥
+three_are_longer p = absurd (omega (arith, prefix_length p))
+
+pub figure_8 : IsFigure8
+figure_8 = record {
+  c_safe = safe five.initial (reverse figure_8_c) refl;
+  c_on_majority = (refl, refl, refl);
+  c_not_committed = λ m. refl;
+  d_safe = d_safe;
+  d_overwritten = refl;
+  d_never_committed = λ m x.
+      term_2_differs
+      (d_safe.safe.leader_completeness 2 5 0 4 2 m x (omega arith)
+      (elected_right five (exact five.initial) (reverse figure_8_d) 5 4 refl));
+  e_safe = e_safe;
+  e_no_votes = (refl, refl);
+  e_not_elected = λ x.
+      three_are_longer
+      (e_safe.safe.leader_completeness 4 5 0 4 3 3
+      (committed_right five (exact five.initial) (reverse figure_8_e) 4 0 3 3 refl) (omega arith) x);
+}
+
+pub member_changes : AreMemberChanges
+member_changes = record {
+  removed_leader = safe three.initial (reverse members_changed) refl;
+  learner = safe three.initial (reverse learner_promoted) refl;
+  learner_does_not_count = refl;
+}
+
+pub disturbances : AreDisturbances
+disturbances = record {
+  loss = safe three.initial (reverse loss_and_return) refl;
+  no_loss_of_acked = refl;
+  snapshot = safe three.initial (reverse snapshot_on_empty_log) refl;
+  messages = safe three.initial (reverse noise) refl;
+  message_of_passed_term = refl;
+  late = safe three.initial (reverse late_flush) refl;
+  lost = safe three.initial (reverse lost_flush) refl;
+  ack_of_lost = refl;
+  ack_of_regained = refl;
+}
+
+same_leader_id : (x y : LeaderId ℕ) → (nat_eq x.term y.term && nat_eq x.node_id y.node_id) ≡ true
+    → x ≡ y
+same_leader_id x y e =
+    let a : x.term ≡ y.term =
+    eqb-true x.term y.term (first_so (nat_eq x.term y.term) (nat_eq x.node_id y.node_id) e) in
+    let b : x.node_id ≡ y.node_id =
+    eqb-true x.node_id y.node_id
+    (second_so (nat_eq x.term y.term) (nat_eq x.node_id y.node_id) e) in
+    λ i. record { term = a i; node_id = b i }
+
+exact_ids : AreExact by_leader_id
+exact_ids = record {
+  same_term = same_leader_id;
+  term_itself = λ x.
+      and_from (nat_eq x.term x.term) (nat_eq x.node_id x.node_id) (eq-eqb x.term x.term refl)
+      (eq-eqb x.node_id x.node_id refl);
+  same_id = λ x y e. eqb-true x y e;
+  id_itself = λ x. eq-eqb x x refl;
+  same_content = λ x y e. eqb-true x y e;
+  content_itself = λ x. eq-eqb x x refl;
+  intersect = λ a b e. coherent_intersect nat_eq_equiv (λ x y f. eqb-true x y f) a b e;
+}
+
+ids_have_ranks : TermsHaveRanks by_leader_id (reverse two_of_one_term)
+ids_have_ranks t u (inl x) (inl y) e = rw (x, y) refl
+ids_have_ranks t u (inl x) (inr (inl y)) e = absurd (omega (arith, rw (x, y) at e))
+ids_have_ranks t u (inl x) (inr (inr y)) e = absurd y
+ids_have_ranks t u (inr (inl x)) (inl y) e = absurd (omega (arith, rw (x, y) at e))
+ids_have_ranks t u (inr (inl x)) (inr (inl y)) e = rw (x, y) refl
+ids_have_ranks t u (inr (inl x)) (inr (inr y)) e = absurd y
+ids_have_ranks t u (inr (inr x)) y e = absurd x
+
+pub leader_ids : AreLeaderIds
+leader_ids = record {
+  safe = trace_is_safe by_leader_id exact_ids (reverse two_of_one_term) ids_have_ranks refl;
+  both_elected = (refl, refl);
+  lower_gets_no_vote = refl;
+}
+
+pub refused : AreRefused
+refused = record {
+  led_safe = safe three.initial (reverse led) refl;
+  behind_safe = safe three.initial (reverse behind) refl;
+  heard_safe = safe five.initial (reverse heard) refl;
+  joint_on_old_safe = safe three.initial (reverse joint_on_old) refl;
+  second_vote = refl;
+  vote_after_leader = refl;
+  candidate_behind = refl;
+  older_last_term = refl;
+  not_elected = refl;
+  passed_term = refl;
+  shared_entry_dropped = refl;
+  entry_of_no_one = refl;
+  written_unelected = refl;
+  written_in_other_term = refl;
+  ack_without_entry = refl;
+  acked_lost = refl;
+  no_quorum = refl;
+  earlier_term_by_count = refl;
+  applied_uncommitted = refl;
+  change_before_own_commit = refl;
+  joint_step_skipped = refl;
+  change_while_uncommitted = refl;
+  joint_by_old_config = (refl, refl);
+}

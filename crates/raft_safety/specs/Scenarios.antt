@@ -1,0 +1,466 @@
+-- Traces of clusters, event by event, and what the test says of them: what clusters do is allowed,
+-- and what breaks a rule is refused.
+--
+-- A trace is written here with its earliest event first, and `reverse` turns it. Server ids and
+-- contents are numbers. Each trace that is allowed is an execution, so it is safe.
+use Rattle.std.specs.Prelude.{◌≡◌, ℕ, Bool, true, false, ◌&&◌, nat_eq, if◌then◌else◌, Option, Some, None, List, [], ◌∷◌, ◌++◌, reverse}
+use Rattle.std.specs.Ordering.{nat_cmp}
+use Rattle.raft_base.specs.LeaderId.{leader_id_cmp}
+use Rattle.raft_base.specs.declared.leader_id.LeaderId.{LeaderId}
+use Rattle.raft_members.specs.Coherence.{is_coherent}
+use Rattle.raft_members.specs.Majority.{is_joint_majority}
+use Rattle.raft_safety.specs.Log.{Entry}
+use Rattle.raft_safety.specs.Facts.{IsCommitted, IsElected}
+use Rattle.raft_safety.specs.Configs.{is_quorum}
+use Rattle.raft_safety.specs.Ranks.{rank_in}
+use Rattle.raft_safety.specs.Trace.{TraceEvent, Campaigned, Granted, Appended, Acked, Restarted, Wrote, Committed, Applied, Tests, IsSafeTrace, campaign_terms, history, is_allowed, is_elected, log_in}
+
+-- ---- clusters whose terms are numbers
+
+abbrev pub Row : Type 0
+Row = TraceEvent ℕ ℕ ℕ
+
+abbrev pub entry : ℕ → ℕ → Entry ℕ ℕ
+entry t x = record { term = t; content = x }
+
+-- some contents hold configs; the others are commands
+abbrev pub configs_of : ℕ → Option (List (List ℕ))
+configs_of x =
+    if nat_eq x 100 then Some ((0 ∷ 1 ∷ 2 ∷ []) ∷ (2 ∷ 3 ∷ 4 ∷ []) ∷ [])
+    else (if nat_eq x 101 then Some ((2 ∷ 3 ∷ 4 ∷ []) ∷ [])
+    else (if nat_eq x 102 then Some ((0 ∷ 1 ∷ 2 ∷ []) ∷ (0 ∷ 1 ∷ 2 ∷ 3 ∷ []) ∷ [])
+    else (if nat_eq x 103 then Some ((0 ∷ 1 ∷ 2 ∷ 3 ∷ []) ∷ []) else None)))
+
+abbrev pub starting_from : List (List ℕ) → Tests ℕ ℕ ℕ (List (List ℕ))
+starting_from configs = record {
+  rank = λ t. t;
+  same_term = nat_eq;
+  same_id = nat_eq;
+  same_content = nat_eq;
+  config_of = configs_of;
+  initial = configs;
+  quorum_of = is_joint_majority nat_eq;
+  intersect = is_coherent nat_eq;
+}
+
+abbrev pub three : Tests ℕ ℕ ℕ (List (List ℕ))
+three = starting_from ((0 ∷ 1 ∷ 2 ∷ []) ∷ [])
+
+abbrev pub five : Tests ℕ ℕ ℕ (List (List ℕ))
+five = starting_from ((0 ∷ 1 ∷ 2 ∷ 3 ∷ 4 ∷ []) ∷ [])
+
+-- whether an event is allowed after these
+abbrev pub then_allowed : Tests ℕ ℕ ℕ (List (List ℕ)) → List Row → Row → Bool
+then_allowed k rows row = is_allowed k row (reverse rows)
+
+abbrev pub log_then : Tests ℕ ℕ ℕ (List (List ℕ)) → List Row → ℕ → List (Entry ℕ ℕ)
+log_then k rows s = log_in k (reverse rows) s
+
+-- ---- Figure 8 of the Raft paper, with servers 0 to 4
+
+abbrev pub figure_8_c : List Row
+figure_8_c =
+    -- server 0 leads in term 1, and all servers have its entry
+    Campaigned 0 1
+    ∷ Granted 1 1 0
+    ∷ Granted 2 1 0
+    ∷ Wrote 0 1 (entry 1 10)
+    ∷ Appended 0 1 0 0 (entry 1 10 ∷ [])
+    ∷ Appended 1 1 0 0 (entry 1 10 ∷ [])
+    ∷ Appended 2 1 0 0 (entry 1 10 ∷ [])
+    ∷ Appended 3 1 0 0 (entry 1 10 ∷ [])
+    ∷ Appended 4 1 0 0 (entry 1 10 ∷ [])
+    -- it leads in term 2, and its entry of that term comes to server 1 alone
+    ∷ Campaigned 0 2
+    ∷ Granted 1 2 0
+    ∷ Granted 2 2 0
+    ∷ Wrote 0 2 (entry 2 20)
+    ∷ Appended 0 2 0 1 (entry 2 20 ∷ [])
+    ∷ Acked 0 2 0 2
+    ∷ Appended 1 2 0 1 (entry 2 20 ∷ [])
+    ∷ Acked 1 2 0 2
+    -- it crashes; server 4 leads in term 3, and has another entry at that index
+    ∷ Campaigned 4 3
+    ∷ Granted 3 3 4
+    ∷ Granted 2 3 4
+    ∷ Wrote 4 3 (entry 3 30)
+    ∷ Appended 4 3 4 1 (entry 3 30 ∷ [])
+    -- server 0 restarts and leads in term 4: the entry of term 2 comes to server 2, and so is on a
+    -- majority, who acknowledge it
+    ∷ Restarted 0 2
+    ∷ Campaigned 0 4
+    ∷ Granted 1 4 0
+    ∷ Granted 2 4 0
+    ∷ Acked 0 4 0 2
+    ∷ Acked 1 4 0 2
+    ∷ Appended 2 4 0 1 (entry 2 20 ∷ [])
+    ∷ Acked 2 4 0 2
+    ∷ []
+
+-- server 0 crashes again; server 4 leads in term 5, and its entries overwrite that of term 2
+abbrev pub figure_8_d : List Row
+figure_8_d =
+    figure_8_c
+    ++ Campaigned 4 5
+    ∷ Granted 1 5 4
+    ∷ Granted 2 5 4
+    ∷ Granted 3 5 4
+    ∷ Wrote 4 5 (entry 5 50)
+    ∷ Appended 4 5 4 2 (entry 5 50 ∷ [])
+    ∷ Acked 4 5 4 3
+    ∷ Appended 1 5 4 1 (entry 3 30 ∷ entry 5 50 ∷ [])
+    ∷ Acked 1 5 4 3
+    -- server 2 takes them one after the other
+    ∷ Appended 2 5 4 1 (entry 3 30 ∷ [])
+    ∷ Acked 2 5 4 2
+    ∷ Appended 2 5 4 2 (entry 5 50 ∷ [])
+    ∷ Acked 2 5 4 3
+    ∷ Committed 4 5 3 3
+    ∷ Applied 4 5 4 3
+    -- server 0 is back, and its entry of term 2 is overwritten too
+    ∷ Appended 0 5 4 1 (entry 3 30 ∷ entry 5 50 ∷ [])
+    ∷ Acked 0 5 4 3
+    ∷ Applied 0 5 4 3
+    ∷ []
+
+-- or server 0 commits an entry of term 4 before it crashes, and that of term 2 by it
+abbrev pub figure_8_e : List Row
+figure_8_e =
+    figure_8_c
+    ++ Wrote 0 4 (entry 4 40)
+    ∷ Appended 0 4 0 2 (entry 4 40 ∷ [])
+    ∷ Acked 0 4 0 3
+    ∷ Appended 1 4 0 2 (entry 4 40 ∷ [])
+    ∷ Acked 1 4 0 3
+    ∷ Appended 2 4 0 2 (entry 4 40 ∷ [])
+    ∷ Acked 2 4 0 3
+    ∷ Committed 0 4 3 3
+    ∷ Applied 0 4 0 3
+    ∷ Campaigned 4 5
+    ∷ Granted 3 5 4
+    ∷ []
+
+pub record IsFigure8 : Type 0 where
+  -- in c the entry of term 2 is on a majority, and is not committed
+  pub c_safe : IsSafeTrace five (reverse figure_8_c)
+  pub c_on_majority : (log_then five figure_8_c 0 ≡ entry 1 10 ∷ entry 2 20 ∷ [])
+      × (log_then five figure_8_c 1 ≡ entry 1 10 ∷ entry 2 20 ∷ [])
+      × (log_then five figure_8_c 2 ≡ entry 1 10 ∷ entry 2 20 ∷ [])
+  pub c_not_committed : (m : ℕ) → then_allowed five figure_8_c (Committed 0 4 2 m) ≡ false
+  -- in d it is overwritten, and was never committed
+  pub d_safe : IsSafeTrace five (reverse figure_8_d)
+  pub d_overwritten : log_then five figure_8_d 0 ≡ entry 1 10 ∷ entry 3 30 ∷ entry 5 50 ∷ []
+  pub d_never_committed : (m : ℕ) → IsCommitted (λ t. t)
+      (is_quorum (λ t. t) configs_of five.initial (is_joint_majority nat_eq))
+      (history five (reverse figure_8_d)) 2 0 2 m → ⊥
+  -- in e it is committed, and server 4 cannot be elected
+  pub e_safe : IsSafeTrace five (reverse figure_8_e)
+  pub e_no_votes : (then_allowed five figure_8_e (Granted 1 5 4) ≡ false)
+      × (then_allowed five figure_8_e (Granted 2 5 4) ≡ false)
+  pub e_not_elected : IsElected (λ t. t)
+      (is_quorum (λ t. t) configs_of five.initial (is_joint_majority nat_eq))
+      (history five (reverse figure_8_e)) 5 4 → ⊥
+
+-- ---- the members change from 0 1 2 through both configs to 2 3 4, and the leader is removed
+
+abbrev pub old_committed : List Row
+old_committed =
+    Campaigned 0 1
+    ∷ Granted 1 1 0
+    ∷ Wrote 0 1 (entry 1 10)
+    ∷ Appended 0 1 0 0 (entry 1 10 ∷ [])
+    ∷ Acked 0 1 0 1
+    ∷ Appended 1 1 0 0 (entry 1 10 ∷ [])
+    ∷ Acked 1 1 0 1
+    ∷ Committed 0 1 1 1
+    ∷ []
+
+abbrev pub joint_committed : List Row
+joint_committed =
+    old_committed
+    -- the joint configuration is in effect at once: a majority of each config has to acknowledge it
+    ++ Wrote 0 1 (entry 1 100)
+    ∷ Appended 0 1 0 1 (entry 1 100 ∷ [])
+    ∷ Acked 0 1 0 2
+    ∷ Appended 2 1 0 0 (entry 1 10 ∷ entry 1 100 ∷ [])
+    ∷ Acked 2 1 0 2
+    ∷ Appended 3 1 0 0 (entry 1 10 ∷ entry 1 100 ∷ [])
+    ∷ Acked 3 1 0 2
+    ∷ Committed 0 1 2 2
+    ∷ []
+
+abbrev pub members_changed : List Row
+members_changed =
+    joint_committed
+    -- server 0 leads on until it has committed the config that it is not in
+    ++ Wrote 0 1 (entry 1 101)
+    ∷ Appended 2 1 0 2 (entry 1 101 ∷ [])
+    ∷ Acked 2 1 0 3
+    ∷ Appended 3 1 0 2 (entry 1 101 ∷ [])
+    ∷ Acked 3 1 0 3
+    ∷ Committed 0 1 3 3
+    -- server 3 leads in term 2, by votes of the new config alone
+    ∷ Campaigned 3 2
+    ∷ Granted 2 2 3
+    ∷ Wrote 3 2 (entry 2 20)
+    ∷ Appended 3 2 3 3 (entry 2 20 ∷ [])
+    ∷ Acked 3 2 3 4
+    ∷ Appended 2 2 3 3 (entry 2 20 ∷ [])
+    ∷ Acked 2 2 3 4
+    ∷ Committed 3 2 4 4
+    ∷ Applied 2 2 3 4
+    ∷ []
+
+-- ---- a learner, server 3, becomes a voter
+
+abbrev pub learner_has_entry : List Row
+learner_has_entry =
+    Campaigned 0 1
+    ∷ Granted 1 1 0
+    ∷ Wrote 0 1 (entry 1 10)
+    ∷ Appended 0 1 0 0 (entry 1 10 ∷ [])
+    ∷ Acked 0 1 0 1
+    ∷ Appended 3 1 0 0 (entry 1 10 ∷ [])
+    ∷ Acked 3 1 0 1
+    ∷ []
+
+abbrev pub learner_promoted : List Row
+learner_promoted =
+    learner_has_entry
+    ++ Appended 1 1 0 0 (entry 1 10 ∷ [])
+    ∷ Acked 1 1 0 1
+    ∷ Committed 0 1 1 1
+    ∷ Wrote 0 1 (entry 1 102)
+    ∷ Appended 0 1 0 1 (entry 1 102 ∷ [])
+    ∷ Acked 0 1 0 2
+    ∷ Appended 1 1 0 1 (entry 1 102 ∷ [])
+    ∷ Acked 1 1 0 2
+    ∷ Appended 3 1 0 1 (entry 1 102 ∷ [])
+    ∷ Acked 3 1 0 2
+    ∷ Committed 0 1 2 2
+    ∷ Wrote 0 1 (entry 1 103)
+    ∷ Appended 0 1 0 2 (entry 1 103 ∷ [])
+    ∷ Acked 0 1 0 3
+    ∷ Appended 1 1 0 2 (entry 1 103 ∷ [])
+    ∷ Acked 1 1 0 3
+    -- two of four are no majority: the ack of server 3 counts now
+    ∷ Appended 3 1 0 2 (entry 1 103 ∷ [])
+    ∷ Acked 3 1 0 3
+    ∷ Committed 0 1 3 3
+    ∷ []
+
+pub record AreMemberChanges : Type 0 where
+  pub removed_leader : IsSafeTrace three (reverse members_changed)
+  pub learner : IsSafeTrace three (reverse learner_promoted)
+  -- as a learner, server 3 does not count
+  pub learner_does_not_count : then_allowed three learner_has_entry (Committed 0 1 1 1) ≡ false
+
+-- ---- crashes, snapshots, and a network that delays, duplicates and reorders
+
+-- server 1 loses an entry that it has not acknowledged, and gets it again
+abbrev pub loss_and_return : List Row
+loss_and_return =
+    Campaigned 0 1
+    ∷ Granted 1 1 0
+    ∷ Wrote 0 1 (entry 1 10)
+    ∷ Wrote 0 1 (entry 1 11)
+    ∷ Appended 0 1 0 0 (entry 1 10 ∷ entry 1 11 ∷ [])
+    ∷ Acked 0 1 0 2
+    ∷ Appended 1 1 0 0 (entry 1 10 ∷ entry 1 11 ∷ [])
+    ∷ Acked 1 1 0 1
+    ∷ Restarted 1 1
+    ∷ Appended 1 1 0 1 (entry 1 11 ∷ [])
+    ∷ Acked 1 1 0 2
+    ∷ Committed 0 1 2 2
+    ∷ []
+
+-- server 2, whose log is empty, installs a snapshot of two entries
+abbrev pub snapshot_on_empty_log : List Row
+snapshot_on_empty_log =
+    loss_and_return
+    ++ Appended 2 1 0 0 (entry 1 10 ∷ entry 1 11 ∷ [])
+    ∷ Acked 2 1 0 2
+    ∷ Applied 2 1 0 2
+    ∷ []
+
+-- acknowledgements come late and twice; server 9 is no member; a leader that was deposed still writes
+abbrev pub noise : List Row
+noise =
+    Campaigned 0 1
+    ∷ Granted 1 1 0
+    ∷ Wrote 0 1 (entry 1 10)
+    ∷ Wrote 0 1 (entry 1 11)
+    ∷ Appended 0 1 0 0 (entry 1 10 ∷ entry 1 11 ∷ [])
+    ∷ Acked 0 1 0 1
+    -- server 1 acknowledges two entries, then one again, then a heartbeat
+    ∷ Appended 1 1 0 0 (entry 1 10 ∷ entry 1 11 ∷ [])
+    ∷ Acked 1 1 0 2
+    ∷ Acked 1 1 0 1
+    ∷ Acked 1 1 0 0
+    ∷ Appended 9 1 0 0 (entry 1 10 ∷ entry 1 11 ∷ [])
+    ∷ Acked 9 1 0 2
+    -- server 1 leads in term 2. The vote of server 9 does not count
+    ∷ Campaigned 1 2
+    ∷ Granted 9 2 1
+    ∷ Granted 2 2 1
+    -- server 0 does not know of it, and goes on in term 1, until its entry is overwritten
+    ∷ Wrote 0 1 (entry 1 12)
+    ∷ Appended 0 1 0 2 (entry 1 12 ∷ [])
+    ∷ Acked 0 1 0 3
+    ∷ Wrote 1 2 (entry 2 20)
+    ∷ Appended 1 2 1 2 (entry 2 20 ∷ [])
+    ∷ Acked 1 2 1 3
+    ∷ Appended 0 2 1 2 (entry 2 20 ∷ [])
+    ∷ Acked 0 2 1 3
+    ∷ Committed 1 2 3 3
+    ∷ []
+
+-- server 1 has entries of term 1 and votes in term 2 before they are durable
+abbrev pub unflushed : List Row
+unflushed =
+    Campaigned 0 1
+    ∷ Granted 1 1 0
+    ∷ Wrote 0 1 (entry 1 10)
+    ∷ Appended 0 1 0 0 (entry 1 10 ∷ [])
+    ∷ Acked 0 1 0 1
+    ∷ Appended 1 1 0 0 (entry 1 10 ∷ [])
+    ∷ Campaigned 0 2
+    ∷ Granted 1 2 0
+    ∷ []
+
+-- its acknowledgement to the leader of term 1 comes after that vote, and counts
+abbrev pub late_flush : List Row
+late_flush = unflushed ++ Acked 1 1 0 1 ∷ Committed 0 1 1 1 ∷ []
+
+-- or it crashes, loses the entry and gets it again in term 2
+abbrev pub lost_flush : List Row
+lost_flush = unflushed ++ Restarted 1 0 ∷ Appended 1 2 0 0 (entry 1 10 ∷ []) ∷ []
+
+pub record AreDisturbances : Type 0 where
+  pub loss : IsSafeTrace three (reverse loss_and_return)
+  pub no_loss_of_acked : then_allowed three loss_and_return (Restarted 1 1) ≡ false
+  pub snapshot : IsSafeTrace three (reverse snapshot_on_empty_log)
+  pub messages : IsSafeTrace three (reverse noise)
+  pub message_of_passed_term :
+      then_allowed three noise (Appended 0 1 0 3 (entry 1 12 ∷ [])) ≡ false
+  pub late : IsSafeTrace three (reverse late_flush)
+  pub lost : IsSafeTrace three (reverse lost_flush)
+  -- what was lost in between may be acknowledged in term 2, and no more to the leader of term 1
+  pub ack_of_lost : then_allowed three lost_flush (Acked 1 1 0 1) ≡ false
+  pub ack_of_regained : then_allowed three lost_flush (Acked 1 2 0 1) ≡ true
+
+-- ---- leader ids of a term and a node, in order, as the layer has them by default
+
+abbrev pub leader : ℕ → ℕ → LeaderId ℕ
+leader t n = record { term = t; node_id = n }
+
+-- servers 0 and 1 are both elected in term 1, where server 2 votes for both, and server 1 leads on
+abbrev pub two_of_one_term : List (TraceEvent (LeaderId ℕ) ℕ ℕ)
+two_of_one_term =
+    Campaigned 0 (leader 1 0)
+    ∷ Granted 2 (leader 1 0) 0
+    ∷ Wrote 0 (leader 1 0) (record { term = leader 1 0; content = 10 })
+    ∷ Appended 0 (leader 1 0) 0 0 (record { term = leader 1 0; content = 10 } ∷ [])
+    ∷ Acked 0 (leader 1 0) 0 1
+    ∷ Campaigned 1 (leader 1 1)
+    ∷ Granted 2 (leader 1 1) 1
+    ∷ Wrote 1 (leader 1 1) (record { term = leader 1 1; content = 11 })
+    ∷ Appended 1 (leader 1 1) 1 0 (record { term = leader 1 1; content = 11 } ∷ [])
+    ∷ Acked 1 (leader 1 1) 1 1
+    -- the entry of the first leader is overwritten
+    ∷ Appended 0 (leader 1 1) 1 0 (record { term = leader 1 1; content = 11 } ∷ [])
+    ∷ Acked 0 (leader 1 1) 1 1
+    ∷ Committed 1 (leader 1 1) 1 1
+    ∷ []
+
+-- the ranks of its leader ids are those of their order
+abbrev pub by_leader_id : Tests (LeaderId ℕ) ℕ ℕ (List (List ℕ))
+by_leader_id = record {
+  rank = rank_in (leader_id_cmp nat_cmp) (campaign_terms two_of_one_term);
+  same_term = λ t u. nat_eq t.term u.term && nat_eq t.node_id u.node_id;
+  same_id = nat_eq;
+  same_content = nat_eq;
+  config_of = configs_of;
+  initial = three.initial;
+  quorum_of = is_joint_majority nat_eq;
+  intersect = is_coherent nat_eq;
+}
+
+pub record AreLeaderIds : Type 0 where
+  pub safe : IsSafeTrace by_leader_id (reverse two_of_one_term)
+  pub both_elected : (is_elected by_leader_id (reverse two_of_one_term) (leader 1 0) 0 ≡ true)
+      × (is_elected by_leader_id (reverse two_of_one_term) (leader 1 1) 1 ≡ true)
+  -- a lower leader id of that term gets no vote any more
+  pub lower_gets_no_vote :
+      is_allowed by_leader_id (Granted 0 (leader 1 0) 1) (reverse two_of_one_term) ≡ false
+
+-- ---- what is refused, each for a rule
+
+-- server 0 leads in term 1, and server 2 campaigns in it as well
+abbrev pub led : List Row
+led =
+    Campaigned 0 1
+    ∷ Granted 1 1 0
+    ∷ Wrote 0 1 (entry 1 10)
+    ∷ Appended 0 1 0 0 (entry 1 10 ∷ [])
+    ∷ Acked 0 1 0 1
+    ∷ Campaigned 2 1
+    ∷ []
+
+-- server 1 has the entry too, and server 2, which has not, campaigns in term 2
+abbrev pub behind : List Row
+behind = led ++ Appended 1 1 0 0 (entry 1 10 ∷ []) ∷ Campaigned 2 2 ∷ []
+
+-- of five servers, server 3 has heard from the leader of term 1 and has not voted, and server 1
+-- campaigns in that term
+abbrev pub heard : List Row
+heard =
+    Campaigned 0 1
+    ∷ Granted 2 1 0
+    ∷ Granted 4 1 0
+    ∷ Appended 3 1 0 0 []
+    ∷ Campaigned 1 1
+    ∷ []
+
+-- servers 0 and 1, a majority of the old config, have acknowledged the joint one
+abbrev pub joint_on_old : List Row
+joint_on_old =
+    old_committed
+    ++ Wrote 0 1 (entry 1 100)
+    ∷ Appended 0 1 0 1 (entry 1 100 ∷ [])
+    ∷ Acked 0 1 0 2
+    ∷ Appended 1 1 0 1 (entry 1 100 ∷ [])
+    ∷ Acked 1 1 0 2
+    ∷ []
+
+pub record AreRefused : Type 0 where
+  -- the events before are allowed
+  pub led_safe : IsSafeTrace three (reverse led)
+  pub behind_safe : IsSafeTrace three (reverse behind)
+  pub heard_safe : IsSafeTrace five (reverse heard)
+  pub joint_on_old_safe : IsSafeTrace three (reverse joint_on_old)
+  -- votes
+  pub second_vote : then_allowed three led (Granted 1 1 2) ≡ false
+  pub vote_after_leader : then_allowed five heard (Granted 3 1 1) ≡ false
+  pub candidate_behind : then_allowed three behind (Granted 1 2 2) ≡ false
+  pub older_last_term : then_allowed five figure_8_c (Granted 4 4 0) ≡ false
+  -- entries
+  pub not_elected : then_allowed three led (Appended 1 1 2 0 []) ≡ false
+  pub passed_term : then_allowed three behind (Appended 2 1 0 0 (entry 1 10 ∷ [])) ≡ false
+  pub shared_entry_dropped : then_allowed three led (Appended 0 1 0 0 []) ≡ false
+  pub entry_of_no_one : then_allowed three led (Appended 1 1 0 0 (entry 1 11 ∷ [])) ≡ false
+  pub written_unelected : then_allowed three led (Wrote 2 1 (entry 1 12)) ≡ false
+  pub written_in_other_term : then_allowed three led (Wrote 0 1 (entry 2 12)) ≡ false
+  -- acknowledgements
+  pub ack_without_entry : then_allowed three led (Acked 1 1 0 1) ≡ false
+  pub acked_lost : then_allowed three led (Restarted 0 0) ≡ false
+  -- commits
+  pub no_quorum : then_allowed three led (Committed 0 1 1 1) ≡ false
+  pub earlier_term_by_count : then_allowed five figure_8_c (Committed 0 4 2 2) ≡ false
+  pub applied_uncommitted : then_allowed three led (Applied 0 1 0 1) ≡ false
+  -- configs
+  pub change_before_own_commit : then_allowed three led (Wrote 0 1 (entry 1 100)) ≡ false
+  pub joint_step_skipped : then_allowed three old_committed (Wrote 0 1 (entry 1 101)) ≡ false
+  pub change_while_uncommitted : then_allowed three joint_on_old (Wrote 0 1 (entry 1 101)) ≡ false
+  pub joint_by_old_config : (then_allowed three joint_on_old (Committed 0 1 2 2) ≡ false)
+      × (then_allowed three joint_on_old (Committed 0 1 2 1) ≡ false)
