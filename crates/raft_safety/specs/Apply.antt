@@ -1,5 +1,5 @@
 -- What a server may apply, and state machine safety.
-use Rattle.std.specs.Prelude.{◌≡◌, ◌⊎◌, ◌≤◌, ℕ, Bool, List, take}
+use Rattle.std.specs.Prelude.{◌⊎◌, ◌≤◌, ℕ, Bool, List, take}
 use Rattle.raft_safety.specs.Log.{Entry, IsPrefix}
 use Rattle.raft_safety.specs.Events.{Event, History, log_after}
 use Rattle.raft_safety.specs.Facts.{HasAcked, IsCommitted}

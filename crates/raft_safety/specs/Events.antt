@@ -1,5 +1,5 @@
 -- What servers do, and the history of a cluster.
-use Rattle.std.specs.Prelude.{◌≡◌, ◌⊎◌, ◌<◌, ◌≤◌, ℕ, List, [], ◌∷◌, length}
+use Rattle.std.specs.Prelude.{◌⊎◌, ◌≤◌, ℕ, List, [], ◌∷◌, length}
 use Rattle.raft_safety.specs.Log.{Entry, IsPrefix}
 
 -- an event at one server. Votes, acknowledgements and terms are durable, also the term of an append. A

@@ -1,7 +1,7 @@
 -- The facts that a history shows: votes, acknowledgements, elections, commits and what was sent.
 use Rattle.std.specs.Prelude.{◌≡◌, ◌+◌, ◌⊎◌, ◌<◌, ◌≤◌, ℕ, Bool, true, List, [], ◌∷◌, ◌++◌, length, take}
 use Rattle.raft_safety.specs.Log.{Entry}
-use Rattle.raft_safety.specs.Events.{Event, GrantVote, Append, Ack, Restart, History}
+use Rattle.raft_safety.specs.Events.{Event, GrantVote, Ack, History}
 
 module _ {T ID D : Type 0} where
   -- the server has granted its vote in this term to this candidate

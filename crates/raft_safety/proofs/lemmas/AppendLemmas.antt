@@ -11,7 +11,6 @@ use Rattle.raft_safety.specs.Facts.{IsElected}
 use Rattle.raft_safety.specs.Rules.{EventsFollowRules, FollowsRaft, MayAppend}
 use Rattle.raft_safety.specs.Safety.{IsSafe}
 use Rattle.raft_safety.specs.AppendEntries.{ConsistencyCheckSuffices, MayAppendAndAck, after_append_entries, has_next}
-use Rattle.raft_safety.specs.Trace.{has_kept}
 use Rattle.raft_safety.proofs.lemmas.PrefixLemmas.{append-nil, prefix_itself, prefix_take, prefix_length, prefix_within, take_prefix, last_term_or-append}
 use Rattle.raft_safety.proofs.lemmas.ServerLemmas.{had_now, log_from, written_is_from}
 use Rattle.raft_safety.proofs.lemmas.SafetyLemmas.{match_from}

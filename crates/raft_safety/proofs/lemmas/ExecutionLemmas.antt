@@ -12,7 +12,7 @@ use Rattle.raft_safety.specs.Apply.{MayApply}
 use Rattle.raft_safety.specs.Configs.{FollowsRaftWithConfigs, MayProposeConfig, ProposesByRule, QuorumsIntersect, is_quorum}
 use Rattle.raft_safety.specs.Ranks.{IsAmong}
 use Rattle.raft_safety.specs.Execution.{FactsAreStable, Init, IsExecution, LeaderAppends, MayDo, Next, ServerStep, StartsCampaign}
-use Rattle.raft_safety.specs.Trace.{earlier, has_kept}
+use Rattle.raft_safety.specs.Trace.{earlier}
 use Rattle.raft_safety.proofs.lemmas.PrefixLemmas.{append-nil, prefix_itself, prefix_trans, prefix_length, prefix_within, last_added}
 use Rattle.raft_safety.proofs.lemmas.ServerLemmas.{IsFrom, had_now, log_from, last_of}
 use Rattle.raft_safety.proofs.lemmas.ApplyLemmas.{acked_elected, state_machines_agree}

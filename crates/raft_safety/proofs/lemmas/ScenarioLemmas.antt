@@ -1,11 +1,9 @@
 -- What clusters do passes the test, and what breaks a rule does not.
-use Rattle.std.specs.Prelude.{◌≡◌, ◌&&◌, ℕ, Bool, true, nat_eq, List, [], ◌∷◌, reverse, get_or}
-use Rattle.std.specs.Cmp.{IsEquivalence, first_so, second_so, nat_eq_equiv}
-use Rattle.std.specs.Ordering.{nat_cmp}
+use Rattle.std.specs.Prelude.{◌≡◌, ◌&&◌, ℕ, true, nat_eq, List, [], ◌∷◌, reverse, get_or}
+use Rattle.std.specs.Cmp.{first_so, second_so, nat_eq_equiv}
 use Rattle.std.proofs.Common.{refl, ap, arith, inl, inr}
 use Rattle.std.proofs.lemmas.Bool.{and_from, eqb-true, eq-eqb, false≢true}
 use Rattle.raft_base.specs.declared.leader_id.LeaderId.{LeaderId}
-use Rattle.raft_members.specs.Majority.{is_joint_majority}
 use Rattle.raft_safety.specs.Log.{Entry, IsPrefix}
 use Rattle.raft_safety.specs.Trace.{AreExact, IsSafeTrace, TermsHaveRanks, are_allowed}
 use Rattle.raft_safety.specs.Scenarios.{AreDisturbances, AreLeaderIds, AreMemberChanges, AreRefused, IsFigure8, Row, behind, by_leader_id, entry, figure_8_c, figure_8_d, figure_8_e, five, heard, joint_on_old, late_flush, learner_promoted, led, loss_and_return, lost_flush, members_changed, noise, snapshot_on_empty_log, starting_from, three, two_of_one_term}

@@ -1,7 +1,7 @@
 -- The tests of logs and of one server's events are right.
-use Rattle.std.specs.Prelude.{◌≡◌, ◌⊎◌, ◌≤◌, ℕ, Bool, true, false, not, ◌&&◌, ◌||◌, nat_lt, nat_le, nat_eq, min, max, Option, Some, None, is_none, List, [], ◌∷◌, ◌++◌, length, take}
+use Rattle.std.specs.Prelude.{◌≡◌, ◌⊎◌, ◌≤◌, ℕ, Bool, true, false, not, ◌&&◌, ◌||◌, nat_lt, nat_le, nat_eq, Option, Some, None, is_none, List, [], ◌∷◌, ◌++◌, length}
 use Rattle.std.specs.Cmp.{first_so, second_so}
-use Rattle.std.proofs.Common.{refl, sym, ap, ◌∙◌, inl, inr, arith, ltb-true}
+use Rattle.std.proofs.Common.{refl, sym, ap, inl, inr, arith, ltb-true}
 use Rattle.std.proofs.Math.Nat.{le-min, le-max_left, le-max_right}
 use Rattle.std.proofs.lemmas.Bool.{eqb-true, leb-true, and_from}
 use Rattle.raft_safety.specs.Log.{Entry, IsPrefix, IsUpToDate, last_term}
@@ -9,7 +9,7 @@ use Rattle.raft_safety.specs.Events.{Ack, Append, Event, GrantVote, HasKept, IsD
 use Rattle.raft_safety.specs.Facts.{HasAcked, HasVoted}
 use Rattle.raft_safety.specs.Configs.{HoldNoConfig}
 use Rattle.raft_safety.specs.Trace.{AreExact, Tests, common_prefix, durable, has_acked, has_kept, has_voted, hold_no_config, is_prefix, is_up_to_date, same_entry, same_leader}
-use Rattle.raft_safety.proofs.lemmas.PrefixLemmas.{prefix_trans, prefix_length}
+use Rattle.raft_safety.proofs.lemmas.PrefixLemmas.{prefix_length}
 use Rattle.raft_safety.proofs.lemmas.ServerLemmas.{durable_now}
 
 pub or_cases : (a b : Bool) → (a || b) ≡ true → (a ≡ true) ⊎ (b ≡ true)

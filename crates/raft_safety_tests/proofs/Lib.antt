@@ -1,0 +1,2 @@
+mod FollowerLemmas
+mod LeaderLemmas

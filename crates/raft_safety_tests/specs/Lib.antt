@@ -1,0 +1,3 @@
+pub mod Callers
+pub mod Follower
+pub mod Leader
