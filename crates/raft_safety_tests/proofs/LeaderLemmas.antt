@@ -1,10 +1,11 @@
--- What a leader may commit.
-use Rattle.std.specs.Prelude.{◌≡◌, ◌<◌, ◌≤◌, ℕ, Bool, true, List, take}
+-- What a leader may commit and propose.
+use Rattle.std.specs.Prelude.{◌≡◌, ◌<◌, ◌≤◌, ℕ, zero, suc, Bool, true, Option, List, [], ◌∷◌, length, take, drop}
 use Rattle.std.specs.Set.{is_member}
 use Rattle.std.proofs.Common.{ap, ◌∙◌, arith}
 use Rattle.std.proofs.lemmas.List.{take_all}
+use Rattle.raft_safety.specs.Configs.{HoldNoConfig}
 use Rattle.raft_safety.specs.Log.{Entry}
-use Rattle.raft_safety_tests.specs.Leader.{MayCommit}
+use Rattle.raft_safety_tests.specs.Leader.{MayCommit, MayPropose}
 
 pub may_commit : {ID : Type 0} (eq : ID → ID → Bool) (has_quorum : (ID → Bool) → Bool)
     (from written : ℕ) (acked : List ID) (n : ℕ) → from < n → n ≤ written
@@ -22,4 +23,28 @@ may_commit eq has_quorum from written acked n own within is rank quorum h t c el
           ap (λ (l : List (Entry ℕ ℕ)). quorum l (is_member eq acked)) all
           ∙ q (is_member eq acked) ∙ is;
       have_acked = a;
+    }
+
+none_after : {M : Type 0} (config_of : ℕ → Option M) (n k : ℕ) (l : List (Entry ℕ ℕ)) → n ≤ k
+    → HoldNoConfig config_of (drop n l) → HoldNoConfig config_of (drop k l)
+none_after config_of zero zero l le none = none
+none_after config_of zero (suc k) [] le none = tt
+none_after config_of zero (suc k) (e ∷ l) le none =
+    none_after config_of zero k l (omega arith) none.1
+none_after config_of (suc n) zero l le none = absurd (omega arith)
+none_after config_of (suc n) (suc k) [] le none = tt
+none_after config_of (suc n) (suc k) (e ∷ l) le none =
+    none_after config_of n k l (omega arith) none
+
+pub may_propose : (from committed configs : ℕ) → from < committed → configs ≤ committed
+    → MayPropose from committed configs
+may_propose from committed configs own within rank eq configs_of initial h t c m next done none co =
+    let is = done own in
+    record {
+      committed_to = committed;
+      counted_at = m;
+      committed = is;
+      before = is.written;
+      none_since = none_after configs_of configs committed (h.leader_log t c) within none;
+      coherent = co;
     }

@@ -1,5 +1,5 @@
-//! When a leader may commit.
-ghost use Rattle.raft_safety_tests.specs.Leader.{MayCommit};
+//! When a leader may commit, and when it may propose a membership.
+ghost use Rattle.raft_safety_tests.specs.Leader.{MayCommit, MayPropose};
 ghost use Rattle.std.specs.List.{IsDistinct};
 ghost use Rattle.std.specs.Prelude.{IsTrue};
 
@@ -22,4 +22,16 @@ pub fn can_commit<ID: Copy + Ord, QS: QuorumSet<ID>>(
         return false;
     }
     voters.is_quorum(acked)
+}
+
+/// Whether a leader may propose a membership: `committed` first entries of its log are committed, the
+/// last entry that holds a membership is among the first `configs`, and it was elected with a log of
+/// `from` entries.
+pub fn can_propose(from: usize, committed: usize, configs: usize) -> bool
+    ensures { IsTrue result → MayPropose from committed configs }
+{
+    if committed <= from || committed < configs {
+        return false;
+    }
+    true
 }
