@@ -1,7 +1,7 @@
 -- Which config is in effect in a log, and when a leader may propose another.
 use Rattle.std.specs.Prelude.{◌≡◌, ◌<◌, ◌≤◌, ℕ, Bool, true, Option, Some, None, List, [], ◌∷◌, ◌++◌, length, drop}
 use Rattle.std.specs.Option.{unwrap_or}
-use Rattle.raft_members.specs.Coherence.{is_coherent}
+use Rattle.raft_members.specs.Coherence.{is_coherent, next_configs}
 use Rattle.raft_members.specs.Majority.{is_joint_majority}
 use Rattle.raft_safety.specs.Log.{Entry, IsPrefix}
 use Rattle.raft_safety.specs.Events.{History}
@@ -108,3 +108,9 @@ JointMembersAreSafe T ID D eq =
     (configs_of : D → Option (List (List ID))) (initial : List (List ID)) (h : History T ID D)
     → FollowsRaftWithMemberships rank eq configs_of initial h
     → IsSafe rank (is_quorum rank configs_of initial (is_joint_majority eq)) h
+
+-- the next step from a membership towards any config, as a change takes it, is coherent with it
+abbrev pub StepsAreCoherent : (ID : Type 0) → (ID → ID → Bool) → Type 0
+StepsAreCoherent ID eq =
+    (configs : List (List ID)) (goal : List ID) → 0 < length configs
+    → is_coherent eq configs (next_configs eq configs goal) ≡ true

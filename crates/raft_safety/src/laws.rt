@@ -4,7 +4,7 @@
 //! `T` are terms or committed leader ids, `ID` server ids, `D` contents of entries, `M` configs.
 ghost use Rattle.raft_safety.specs.AppendEntries.{ConsistencyChecksSuffice};
 ghost use Rattle.raft_safety.specs.Apply.{StateMachinesAgree};
-ghost use Rattle.raft_safety.specs.Configs.{ChangingMembersAreSafe, JointMembersAreSafe};
+ghost use Rattle.raft_safety.specs.Configs.{ChangingMembersAreSafe, JointMembersAreSafe, StepsAreCoherent};
 ghost use Rattle.raft_safety.specs.Execution.{ExecutionsAreSafe, ExecutionsKeepFacts, StateMachinesAgreeAtAllTimes};
 ghost use Rattle.raft_safety.specs.Ranks.{OrdersHaveRanks};
 ghost use Rattle.raft_safety.specs.Safety.{FixedMembersAreSafe};
@@ -28,10 +28,11 @@ pub fn changing_members_are_safe<T, ID: Copy + Ord, D, M>()
 /// If leaders propose memberships that are coherent with the one in effect, by that rule, every history
 /// in which each server keeps the rules is safe.
 ///
-/// Memberships, their quorums and their coherence are those of `raft_members`. Ids that are `==` have to
-/// be equal.
+/// Memberships, their quorums and their coherence are those of `raft_members`, and each step of a change
+/// is coherent. Ids that are `==` have to be equal.
 pub fn joint_members_are_safe<T, ID: Copy + Ord, D>()
-    ensures { JointMembersAreSafe T ID D ID.eq }
+    ensures safe { JointMembersAreSafe T ID D ID.eq }
+    ensures steps { StepsAreCoherent ID ID.eq }
 {}
 
 /// Every execution is safe at each of its times, over a network that may lose, delay, duplicate and

@@ -2,7 +2,7 @@
 ghost use Rattle.raft_base.specs.LeaderId.{leader_id_cmp};
 ghost use Rattle.raft_base.specs.declared.leader_id.LeaderId.{LeaderId as LeaderIdShown};
 ghost use Rattle.raft_safety.specs.Apply.{StateMachinesAgree};
-ghost use Rattle.raft_safety.specs.Configs.{JointMembersAreSafe};
+ghost use Rattle.raft_safety.specs.Configs.{JointMembersAreSafe, StepsAreCoherent};
 ghost use Rattle.raft_safety.specs.Execution.{ExecutionsKeepFacts, StateMachinesAgreeAtAllTimes};
 ghost use Rattle.raft_safety_tests.specs.Callers.{AllowedTracesAgree, OneMembershipIsSafe, QuorumSizesElectOne};
 ghost use Rattle.std.specs.Ordering.{nat_cmp};
@@ -34,6 +34,7 @@ pub fn quorum_sizes_elect_one<T, ID: Copy + Ord, D>()
 /// apply the same entries at all times, messages may be late, and its traces can be checked.
 pub fn kind_is_safe<NID: NodeId, K: LeaderKind<NID>, D, M>()
     ensures members { JointMembersAreSafe K.Committed NID D NID.eq }
+    ensures steps { StepsAreCoherent NID NID.eq }
     ensures machines { StateMachinesAgree K.Committed NID D }
     ensures times { StateMachinesAgreeAtAllTimes K.Committed NID D M }
     ensures facts { ExecutionsKeepFacts K.Committed NID D M }

@@ -35,3 +35,26 @@ pub fn can_propose(from: usize, committed: usize, configs: usize) -> bool
     }
     true
 }
+
+#[cfg(test)]
+mod tests {
+    use super::{can_commit, can_propose};
+    use std::test::Fail;
+
+    #[test]
+    fn own_entries_are_committed_by_a_majority(rt: HostRuntime) -> Result<(), Fail> {
+        let voters = vec![in rt.alloc(); 1u64, 2, 3]?;
+        assert!(rt; can_commit(1, 3, &voters, &[1, 2], 2));
+        assert!(rt; !can_commit(1, 3, &voters, &[2], 2));
+        assert!(rt; !can_commit(1, 3, &voters, &[1, 2], 1));
+        Ok(())
+    }
+
+    #[test]
+    fn memberships_follow_an_own_commit(rt: HostRuntime) -> Result<(), Fail> {
+        assert!(rt; can_propose(1, 2, 2));
+        assert!(rt; !can_propose(2, 2, 1));
+        assert!(rt; !can_propose(1, 2, 3));
+        Ok(())
+    }
+}

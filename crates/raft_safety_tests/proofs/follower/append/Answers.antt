@@ -1,4 +1,4 @@
-use Rattle.std.proofs.Common.{◌≡◌, ◌++◌, ◌+◌, ◌-◌, List, length, take, drop, ap, ◌∙◌}
+use Rattle.std.proofs.Common.{◌++◌, ◌+◌, ◌-◌, List, length, take, drop, ap, ◌∙◌}
 use Rattle.std.proofs.lemmas.List.{take_rest}
 use Rattle.raft_safety_tests.specs.declared.follower.LogEntry.{LogEntry}
 use Rattle.raft_safety_tests.proofs.FollowerLemmas.{taken_over}

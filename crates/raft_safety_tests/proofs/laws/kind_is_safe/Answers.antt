@@ -1,4 +1,3 @@
-use Rattle.std.specs.Prelude.{◌≡◌}
 use Rattle.std.proofs.Common.{sym, ◌∙◌}
 use Rattle.raft_safety.specs.Trace.{campaign_terms}
 use Rattle.raft_safety_tests.proofs.laws.kind_is_safe.Goals as goal
