@@ -15,8 +15,8 @@ pub fn can_commit<ID: Copy + Ord, QS: QuorumSet<ID>>(
     acked: &[ID],
     n: usize,
 ) -> bool
-    requires { IsDistinct ID.eq acked.now }
-    ensures { IsTrue result → MayCommit ID.eq (QS.has_quorum voters.now) from written acked.now n }
+    ensures { IsDistinct ID.eq acked.now → IsTrue result →
+        MayCommit ID.eq (QS.has_quorum voters.now) from written acked.now n }
 {
     if n <= from || written < n {
         return false;
