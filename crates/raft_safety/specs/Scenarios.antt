@@ -10,7 +10,9 @@ use Rattle.raft_base.specs.declared.leader_id.LeaderId.{LeaderId}
 use Rattle.raft_members.specs.Coherence.{is_coherent}
 use Rattle.raft_members.specs.Majority.{is_joint_majority}
 use Rattle.raft_safety.specs.Log.{Entry}
+use Rattle.raft_safety.specs.Events.{Ack, Append, Event}
 use Rattle.raft_safety.specs.Facts.{IsCommitted, IsElected}
+use Rattle.raft_safety.specs.Rules.{MayRestart}
 use Rattle.raft_safety.specs.Configs.{is_quorum}
 use Rattle.raft_safety.specs.Ranks.{rank_in}
 use Rattle.raft_safety.specs.Trace.{TraceEvent, Campaigned, Granted, Appended, Acked, Restarted, Wrote, Committed, Applied, Tests, IsSafeTrace, campaign_terms, history, is_allowed, is_elected, log_in}
@@ -336,6 +338,10 @@ late_flush = unflushed ++ Acked 1 1 0 1 ∷ Committed 0 1 1 1 ∷ []
 abbrev pub lost_flush : List Row
 lost_flush = unflushed ++ Restarted 1 0 ∷ Appended 1 2 0 0 (entry 1 10 ∷ []) ∷ []
 
+-- a server has an entry of term 1, and the leader of term 2 makes it truncate the log and append another
+abbrev pub truncated : List (Event ℕ ℕ ℕ)
+truncated = Append 2 1 (entry 2 20 ∷ []) ∷ Append 1 0 (entry 1 10 ∷ []) ∷ []
+
 pub record AreDisturbances : Type 0 where
   pub loss : IsSafeTrace three (reverse loss_and_return)
   pub no_loss_of_acked : then_allowed three loss_and_return (Restarted 1 1) ≡ false
@@ -348,6 +354,9 @@ pub record AreDisturbances : Type 0 where
   -- what was lost in between may be acknowledged in term 2, and no more to the leader of term 1
   pub ack_of_lost : then_allowed three lost_flush (Acked 1 1 0 1) ≡ false
   pub ack_of_regained : then_allowed three lost_flush (Acked 1 2 0 1) ≡ true
+  -- a crash may undo the truncation, but not once the new entry is acknowledged
+  pub truncation_undone : MayRestart truncated (entry 1 10 ∷ [])
+  pub acked_truncation_stays : MayRestart (Ack 2 1 1 ∷ truncated) (entry 1 10 ∷ []) → ⊥
 
 -- ---- leader ids of a term and a node, in order, as the layer has them by default
 

@@ -7,7 +7,7 @@ use Rattle.raft_base.specs.declared.leader_id.LeaderId.{LeaderId}
 use Rattle.raft_safety.specs.Log.{Entry, IsPrefix}
 use Rattle.raft_safety.specs.Trace.{AreExact, IsSafeTrace, TermsHaveRanks, are_allowed}
 use Rattle.raft_safety.specs.Scenarios.{AreDisturbances, AreLeaderIds, AreMemberChanges, AreRefused, IsFigure8, Row, behind, by_leader_id, entry, figure_8_c, figure_8_d, figure_8_e, five, heard, joint_on_old, late_flush, learner_promoted, led, loss_and_return, lost_flush, members_changed, noise, snapshot_on_empty_log, starting_from, three, two_of_one_term}
-use Rattle.raft_safety.proofs.lemmas.PrefixLemmas.{prefix_length}
+use Rattle.raft_safety.proofs.lemmas.PrefixLemmas.{prefix_itself, prefix_length}
 use Rattle.raft_safety.proofs.lemmas.JointLemmas.{coherent_intersect}
 use Rattle.raft_safety.proofs.lemmas.TraceLemmas.{committed_right, elected_right, trace_is_safe}
 
@@ -67,6 +67,10 @@ member_changes = record {
   learner_does_not_count = refl;
 }
 
+other_entry : IsPrefix (entry 2 20 ∷ []) (entry 1 10 ∷ []) → ⊥
+other_entry p =
+    false≢true (ap (λ (l : List (Entry ℕ ℕ)). nat_eq (get_or l 0 (entry 0 0)).term 2) p.is)
+
 pub disturbances : AreDisturbances
 disturbances = record {
   loss = safe three.initial (reverse loss_and_return) refl;
@@ -78,6 +82,12 @@ disturbances = record {
   lost = safe three.initial (reverse lost_flush) refl;
   ack_of_lost = refl;
   ack_of_regained = refl;
+  truncation_undone = record {
+    had = inr (inl (prefix_itself (entry 1 10 ∷ [])));
+    keeps = λ p x. x.1.0;
+  };
+  acked_truncation_stays = λ may.
+      other_entry (may.keeps (entry 2 20 ∷ []) (inl (prefix_itself (entry 2 20 ∷ []), omega arith)));
 }
 
 same_leader_id : (x y : LeaderId ℕ) → (nat_eq x.term y.term && nat_eq x.node_id y.node_id) ≡ true
