@@ -11,10 +11,8 @@ ghost use Rattle.std.specs.Prelude.{◌≡◌, ◌<◌, ◌≤◌, ◌^◌, IsTr
 
 use crate::laws::acked;
 use crate::support::steps::{first_ids, made};
-use raft_base::{
-    EmptyNode, LeaderId, LogId, LogIdOf, LogIdOptionExt, LogStateReader, Node, NodeId,
-};
-use raft_base_tests::support::plain_log::{PlainLog, id, log_below};
+use raft_base::{EmptyNode, LeaderId, LogIdOf, LogIdOptionExt, LogStateReader, Node, NodeId};
+use raft_base_tests::support::plain_log::{Numbered, PlainLog, id, log_below};
 use raft_members::Membership;
 use raft_members::quorum::QuorumSet;
 use raft_progress::entry::{ProgressEntry, ProgressEntryOf};
@@ -27,7 +25,7 @@ use std::collections::BTreeMap;
 use std::test::Fail;
 
 /// A leader's followers, with the membership that they are of.
-type Followers = Tracked<u64, EmptyNode, ProgressEntry<u64>, Option<LogId<u64>>>;
+type Followers<C> = Tracked<u64, EmptyNode, ProgressEntryOf<C>, Option<LogIdOf<C>>>;
 
 /// Takes what followers have acknowledged, one call after another. Together the calls are one
 /// replay, so granted never falls, and each quorum knows what it knew.
@@ -110,28 +108,25 @@ fn sends_twice<C: Ord + Copy, L: LogStateReader<C>>(
     follower.next_send(later, 8).is_ok()
 }
 
-/// Followers 0 to 2, of whom nothing is known but that their logs end below 9.
-fn followers(alloc: Global) -> Result<Followers, AllocError> {
+/// Whether followers 0 to 2 grant what a majority of them has acknowledged.
+fn grants_responses<C: Numbered + Drop>(alloc: Global) -> Result<bool, AllocError> {
     let mut nodes = BTreeMap::new(alloc);
-    for id in 0..3u64 {
-        nodes.insert(id, EmptyNode::new())?;
+    for node in 0..3u64 {
+        nodes.insert(node, EmptyNode::new())?;
     }
-    Tracked::new(
-        Membership::from_nodes(alloc, nodes)?,
-        ProgressEntry::empty(9),
-    )
+    let members = Membership::from_nodes(alloc, nodes)?;
+    let mut followers: Followers<C> = Tracked::new(members, ProgressEntryOf::empty(9))?;
+    let mut responses = Vec::new(alloc);
+    responses.push((0, ProgressEntryOf::new(id(1, 4))))?;
+    responses.push((1, ProgressEntryOf::new(id(1, 6))))?;
+    responses.push((7, ProgressEntryOf::new(id(1, 8))))?;
+    take_responses(&mut followers, responses);
+    Ok(*followers.progress().granted() == id(1, 4))
 }
 
 #[test]
 fn responses_of_followers_are_one_replay(rt: HostRuntime) -> Result<(), Fail> {
-    let mut followers = followers(rt.alloc())?;
-    let responses = vec![in rt.alloc();
-        (0, ProgressEntry::new(id(1, 4))),
-        (1, ProgressEntry::new(id(1, 6))),
-        (7, ProgressEntry::new(id(1, 8))),
-    ]?;
-    take_responses(&mut followers, responses);
-    assert_eq!(rt; *followers.progress().granted(), id(1, 4));
+    assert!(rt; grants_responses::<LeaderId<u64>>(rt.alloc())?);
     Ok(())
 }
 

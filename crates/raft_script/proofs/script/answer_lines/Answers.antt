@@ -20,23 +20,29 @@ loop-passed-init g c = passed_none _ _ _ c.new-engine.ensures
 
 pub returns-then-not-branch-clause-ok : goal.returns-then-not-branch-clause-ok
 returns-then-not-branch-clause-ok g c = passed_to_bad _ _ _ _ _ _ c.loop-passed.invariant _ _ _ c.in_ok-is_last.ensures.contents
-    c.read_line.new.line.items (engine_state c.answer_line.new.engine) _ _ c.if-not-branch.true c.in_ok-is_last.ensures.line (held_back (g.W.Write.contents c.read_line.new.writer) c.read_line.new.self.replies.items c.answer_line.new.replies.items
+    c.read_line.new.line.items (engine_state c.answer_line.new.engine) _ _ c.if-not-branch.true c.in_ok-is_last.ensures.line
+    (held_back (g.W.Write.contents c.read_line.new.writer) c.read_line.new.self.replies.items c.answer_line.new.replies.items
     (AnswersLine (c.loop-passed.passed + 1) (engine_state c.loop-passed.engine) c.read_line.new.line.items
-    c.in_ok-answer_line.field-0 (engine_state c.answer_line.new.engine)) (rw c.deref.ensures.value at c.in_ok-answer_line.ensures.answered))
+    c.in_ok-answer_line.field-0 (engine_state c.answer_line.new.engine))
+    (rw c.deref.ensures.value at c.in_ok-answer_line.ensures.answered))
 
 pub returns-then-is_last-clause-ok : goal.returns-then-is_last-clause-ok
 returns-then-is_last-clause-ok g c = passed_last _ _ _ _ _ _ c.loop-passed.invariant _ _ _ c.in_ok-is_last.ensures.contents
     c.read_line.new.line.items (engine_state c.answer_line.new.engine) _ _ c.if-is_last.true c.if-not-branch.false
-    c.in_ok-is_last.ensures.line (held_back (g.W.Write.contents c.read_line.new.writer) c.read_line.new.self.replies.items c.answer_line.new.replies.items
+    c.in_ok-is_last.ensures.line
+    (held_back (g.W.Write.contents c.read_line.new.writer) c.read_line.new.self.replies.items c.answer_line.new.replies.items
     (AnswersLine (c.loop-passed.passed + 1) (engine_state c.loop-passed.engine) c.read_line.new.line.items
-    c.in_ok-answer_line.field-0 (engine_state c.answer_line.new.engine)) (rw c.deref.ensures.value at c.in_ok-answer_line.ensures.answered))
+    c.in_ok-answer_line.field-0 (engine_state c.answer_line.new.engine))
+    (rw c.deref.ensures.value at c.in_ok-answer_line.ensures.answered))
 
 pub loop-passed-preserved : goal.loop-passed-preserved
 loop-passed-preserved g c = passed_more _ _ _ _ _ _ c.loop-passed.invariant _ _ _ c.in_ok-is_last.ensures.contents
     c.read_line.new.line.items (engine_state c.answer_line.new.engine) _ _ c.if-is_last.false c.if-not-branch.false
-    c.in_ok-is_last.ensures.line (held_back (g.W.Write.contents c.read_line.new.writer) c.read_line.new.self.replies.items c.answer_line.new.replies.items
+    c.in_ok-is_last.ensures.line
+    (held_back (g.W.Write.contents c.read_line.new.writer) c.read_line.new.self.replies.items c.answer_line.new.replies.items
     (AnswersLine (c.loop-passed.passed + 1) (engine_state c.loop-passed.engine) c.read_line.new.line.items
-    c.in_ok-answer_line.field-0 (engine_state c.answer_line.new.engine)) (rw c.deref.ensures.value at c.in_ok-answer_line.ensures.answered))
+    c.in_ok-answer_line.field-0 (engine_state c.answer_line.new.engine))
+    (rw c.deref.ensures.value at c.in_ok-answer_line.ensures.answered))
 
 pub returns-clause-ok : goal.returns-clause-ok
 returns-clause-ok g c = passed_all _ _ _ _ _ _ c.loop-passed.invariant
