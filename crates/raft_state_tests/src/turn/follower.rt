@@ -27,6 +27,8 @@ pub fn take_logs<L: LeaderIdentity<Id = u64> + Drop>(
     }
     ensure!(state.can_append_entries(new), "entries do not follow");
     state.append_entries(new)?;
+    // Asked again for the proof alone, which does not see that the vote has stayed.
+    ensure!(state.can_accept(), "it has accepted a greater leader's");
     state.update_accepted(logs.last());
     let committed = logs.committed.min(state.accepted().copied());
     ensure!(state.can_commit(&committed), "members are not in turn");
