@@ -25,7 +25,7 @@ module _ {T ID D : Type 0} (rank : T → ℕ) (quorum : List (Entry T D) → (ID
     abbrev lead : List (Entry T D)
     lead = h.leader_log t c
 
-    -- two starts of one length that end in one term are the same
+    -- two prefixes of one length whose last terms are equal are equal
     same_by_term : (i : ℕ) → i ≤ length log → i ≤ length lead
         → last_term rank (take i log) ≡ last_term rank (take i lead) → take i log ≡ take i lead
     same_by_term zero a b e = refl
@@ -39,7 +39,7 @@ module _ {T ID D : Type 0} (rank : T → ℕ) (quorum : List (Entry T D) → (ID
         (written_is_from rank quorum h lawful t c el (take (suc i) lead) (prefix_take (suc i) lead))
         (omega (arith, x)) (x ∙ sym y) e
 
-    -- what both begin with, up to where they differ
+    -- a common prefix ends before the first conflict
     shared : (i : ℕ) (p : List (Entry T D)) → IsPrefix p log → IsPrefix p lead
         → (suc i ≤ length log → last_term rank (take (suc i) log) ≡ last_term rank (take (suc i) lead) → ⊥)
         → length p ≤ i

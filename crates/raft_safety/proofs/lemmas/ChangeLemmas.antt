@@ -1,4 +1,4 @@
--- Where members change one at a time: which quorums meet, and so that history is safe.
+-- If configs change by the rule: which quorums intersect, and that histories are safe.
 use Rattle.std.specs.Prelude.{◌≡◌, ◌⊎◌, ◌<◌, ◌≤◌, ℕ, zero, suc, Bool, Option, List, length, take}
 use Rattle.std.proofs.Common.{refl, sym, ap, ◌∙◌, inl, inr, arith}
 use Rattle.std.proofs.lemmas.Bool.{cases_lt}
@@ -27,8 +27,8 @@ module _ {T ID D M : Type 0} (rank : T → ℕ) (config_of : D → Option M) (in
   swap : (a b : M) → Meet a b → Meet b a
   swap a b m s t in_b in_a = let (v, x, y) = m t s in_a in_b in (v, y, x)
 
-  -- the last entry of a log that names members, the log before it and with it, and what was
-  -- committed when it was written
+  -- the last entry of a log that holds a config, the log before it and with it, and what was committed
+  -- when it was written
   record Change (bound : ℕ) (l : List (Entry T D)) : Type 0 where
     place : ℕ
     is : upto config_of l ≡ suc place
@@ -149,7 +149,7 @@ module _ {T ID D M : Type 0} (rank : T → ℕ) (config_of : D → Option M) (in
       let s = same_named config_of initial x.of_log (omega (arith, x.is, x.now_length)) in
       (s.place ∙ x.is, s.members)
 
-  -- a log that has what was committed before another's change, and names no one after it
+  -- a log has what was committed before another log's change, and holds no config after it
   meets_point : (bound : ℕ) (a b : List (Entry T D)) (y : Change bound b)
       → IsPrefix (point bound b y) a → upto config_of a ≤ y.done → Meet (members a) (members b)
   meets_point bound a b y st le =
@@ -158,7 +158,7 @@ module _ {T ID D M : Type 0} (rank : T → ℕ) (config_of : D → Option M) (in
       let e : members a ≡ members y.before = sym s.members ∙ point_members bound b y in
       rw e y.meets
 
-  -- of two changes of one leader after a point, none between being known, both are the initial
+  -- two changes of one leader that are each the first one after a commit are the same
   same_place : (x_place y_place x_done y_done : ℕ) (w now_x now_y before_x before_y : List (Entry T D))
       → IsPrefix now_x w → IsPrefix now_y w → IsPrefix before_x w → IsPrefix before_y w
       → length now_x ≡ suc x_place → length now_y ≡ suc y_place → length before_x ≡ x_place
@@ -177,7 +177,7 @@ module _ {T ID D M : Type 0} (rank : T → ℕ) (config_of : D → Option M) (in
           absurd (omega (arith, upto_grows config_of st))
       go (inr ge) (inr ge') = prefix_same nx ny (omega arith)
 
-  -- of two logs that each have what was committed before the other's change quorums meet
+  -- if two logs each have what was committed before the other's last change, their quorums intersect
   half : (bound : ℕ) (a b : List (Entry T D)) → OneBelow rank Q h laws.keeps_rules bound
       → (x : Change bound a) (y : Change bound b) → IsPrefix (point bound a x) b
       → IsPrefix (point bound b y) a → x.done ≤ y.done → Meet (members a) (members b)
@@ -255,8 +255,7 @@ module _ {T ID D M : Type 0} (rank : T → ℕ) (config_of : D → Option M) (in
           let x = change bound a from_a i ea in
           let y = change bound b from_b j eb in both bound a b one x y (has_a x) (has_b y)
 
-  -- what is committed, each later leader has: by the terms below, and by the length at which it
-  -- was committed
+  -- each later leader has what is committed: by induction over the length at which it was counted
   abbrev Held : (u : T) (d : ID) → ℕ → Type 0
   Held u d size =
       (t : T) (c : ID) (n m : ℕ) → m < size → IsCommitted rank Q h t c n m → rank t < rank u
@@ -329,7 +328,7 @@ module _ {T ID D M : Type 0} (rank : T → ℕ) (config_of : D → Option M) (in
           (of_same rank Q h laws.keeps_rules b o.term t o.leader c f g o.start)
           (prefix_take m (h.leader_log t c)) (omega (arith, a_length, less, done.within))
 
-      -- a shorter log: its quorum meets that of the commit, and a server of both shows the rest
+      -- a shorter log: its quorum intersects that of the commit, and a server of both shows the rest
       behind : ((last_term rank b < rank t) ⊎ ((last_term rank b ≡ rank t) × (length b < n))) → IsPrefix p b
       behind less =
           let has_b : (y : Change (rank u) b) → IsPrefix (point (rank u) b y) a =

@@ -1,4 +1,4 @@
--- Up to where a log names its members.
+-- The last entry of a log that holds a config.
 use Rattle.std.specs.Prelude.{◌≡◌, ◌≤◌, ℕ, zero, suc, Option, Some, None, List, [], ◌∷◌, ◌++◌, length, take, drop}
 use Rattle.std.proofs.Common.{refl, sym, ap, arith}
 use Rattle.raft_safety.specs.Log.{Entry, IsPrefix}
@@ -6,7 +6,7 @@ use Rattle.raft_safety.specs.Configs.{HoldNoConfig, effective_config}
 use Rattle.std.specs.Option.{unwrap_or}
 
 module _ {M : Type 0} where
-  -- how many entries there are up to the last one that names members
+  -- the number of entries up to the last one that holds a config
   abbrev pub place : ℕ → Option M → ℕ
   place (suc n) o = suc (suc n)
   place zero (Some m) = 1
@@ -67,7 +67,7 @@ module _ {T D M : Type 0} (config_of : D → Option M) where
       (place_within (upto (p ++ r)) (length p) (config_of e.content) le) in
       record { place = ap (λ (n : ℕ). place n (config_of e.content)) s.place; members = s.members }
 
-  -- a start that reaches as far has the same members
+  -- a prefix that has the last config has the same config in effect
   pub same_named : (m : M) {p l : List (Entry T D)} → IsPrefix p l → upto l ≤ length p
       → SameNamed m p l
   same_named m {p} {l} st le =
@@ -80,7 +80,7 @@ module _ {T D M : Type 0} (config_of : D → Option M) where
   pub upto_grows : {p l : List (Entry T D)} → IsPrefix p l → upto p ≤ upto l
   upto_grows {p} {l} st = rw st.is (upto_append p st.rest)
 
-  -- the entry that names them
+  -- the last entry that holds a config
   pub record LastNamed (k : ℕ) (l : List (Entry T D)) : Type 0 where
     pub entry : Entry T D
     pub named_members : M

@@ -1,4 +1,4 @@
--- What comes about step by step keeps the rules.
+-- Executions follow the rules, and facts are stable in them.
 use Rattle.std.specs.Prelude.{◌≡◌, ◌+◌, ◌⊎◌, ◌<◌, ◌≤◌, ℕ, suc, Bool, Option, List, [], ◌∷◌, ◌++◌, length, take}
 use Rattle.std.proofs.Common.{refl, sym, ap, ◌∙◌, inl, inr, arith, append_assoc}
 use Rattle.std.proofs.lemmas.Bool.{cases_lt}
@@ -157,7 +157,7 @@ module _ {T ID D M : Type 0} (rank : T → ℕ) (config_of : D → Option M) (in
                   own_term = AllOfTerm-append t x.added w.added x.own_term w.own_term;
                 }
 
-        -- a log has nothing that its leader is yet to write
+        -- no log has an entry that its leader has not written yet
         not_yet : (s : ID) (ds : List (Event T ID D)) → EventsFollowRules rank Q old s ds → (t : T) (c : ID)
             → IsElected rank Q old t c → (p : List (Entry T D)) → IsPrefix p (log_after ds)
             → IsPrefix p (new.leader_log t c) → IsPrefix p (old.leader_log t c)
@@ -407,7 +407,7 @@ module _ {T ID D M : Type 0} (rank : T → ℕ) (config_of : D → Option M) (in
         facts_trans h old last (execution_keeps_facts meet old earlier run.1 h among)
         (step_keeps_facts meet last old earlier run)
 
-    -- what servers had done at an earlier time follows the rules of the last history
+    -- the events of a server up to an earlier time follow the rules in the last history
     rules_before : (last : History T ID D) (s : ID) (e : Event T ID D) (es : List (Event T ID D))
         → EventsFollowRules rank Q last s (e ∷ es) → EventsFollowRules rank Q last s es
     rules_before last s (GrantVote t c) es ok = ok.1
@@ -438,7 +438,7 @@ module _ {T ID D M : Type 0} (rank : T → ℕ) (config_of : D → Option M) (in
     take_of_prefix n a b st le =
         ap (λ (l : List (Entry T D)). take n l) st.is ∙ take-append-le n a st.rest le
 
-    -- what a server might apply at an earlier time, it may apply by the last history
+    -- what a server might apply at an earlier time, it may apply in the last history
     may_apply_still : (g last : History T ID D) → FollowsRaft rank Q g
         → FactsAreStable rank config_of initial quorum_of g last → (s : ID) (i : ℕ)
         → MayApply rank Q g (g.events s) i → MayApply rank Q last (g.events s) i

@@ -1,4 +1,4 @@
--- Where any two quorums meet.
+-- If any two quorums intersect, histories are safe.
 use Rattle.std.specs.Prelude.{ℕ, zero, suc, Bool, List, take}
 use Rattle.std.proofs.Common.{arith}
 use Rattle.raft_safety.specs.Log.{Entry}

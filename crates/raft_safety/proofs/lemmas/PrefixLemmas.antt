@@ -1,4 +1,4 @@
--- Starts of logs, and their last terms.
+-- Prefixes of logs, and their last terms.
 use Rattle.std.specs.Prelude.{◌≡◌, ◌<◌, ◌≤◌, ℕ, List, [], ◌∷◌, ◌++◌, length, take, drop}
 use Rattle.std.proofs.Common.{refl, sym, ap, ◌∙◌, arith, append_assoc}
 use Rattle.std.proofs.lemmas.List.{take-append-drop, take-take, take_at, length-append}
@@ -64,7 +64,7 @@ module _ {T D : Type 0} where
   AllOfTerm-start t [] b are = tt
   AllOfTerm-start t (e ∷ a) b are = (are.0, AllOfTerm-start t a b are.1)
 
-  -- a start that reaches into what a leader added ends in its term
+  -- a prefix that is longer than the log with which a leader was elected ends in the leader's term
   pub last_added : (rank : T → ℕ) (t : T) (candidate_log added : List (Entry T D)) {written : List (Entry T D)}
       → written ≡ candidate_log ++ added → AllOfTerm t added → {q : List (Entry T D)} → IsPrefix q written
       → length candidate_log < length q → last_term rank q ≡ rank t

@@ -1,4 +1,4 @@
--- What follows once there is one leader a term and leaders are complete.
+-- What follows from election safety and leader completeness.
 use Rattle.std.specs.Prelude.{◌≡◌, ◌⊎◌, ◌<◌, ◌≤◌, ℕ, suc, Bool, List, length, take}
 use Rattle.std.proofs.Common.{sym, ◌∙◌, inl, inr, arith}
 use Rattle.std.proofs.lemmas.Bool.{cases_lt}

@@ -1,4 +1,5 @@
--- What each server's rules come to: where its log is from, what it keeps, and what a vote shows.
+-- What follows from each server's rules: which leaders wrote its log, what it keeps, and what a vote
+-- shows.
 use Rattle.std.specs.Prelude.{◌≡◌, ◌⊎◌, ◌<◌, ◌≤◌, ℕ, zero, suc, Bool, List, [], ◌∷◌, length, take}
 use Rattle.std.proofs.Common.{refl, sym, ap, ◌∙◌, inl, inr, arith}
 use Rattle.std.proofs.lemmas.List.{length-take-le}
@@ -93,7 +94,7 @@ module _ {T ID D : Type 0} (rank : T → ℕ) (quorum : List (Entry T D) → (ID
   voted_once s t c d (Ack u e n ∷ ds) ok v w = voted_once s t c d ds ok.1 v w
   voted_once s t c d (Restart log ∷ ds) ok v w = voted_once s t c d ds ok.1 v w
 
-  -- a log begins with all that a leader of a term below the bound candidate_log, and goes on as it wrote
+  -- a log is a prefix of the log of a leader of a term below the bound, and has an entry of that term
   pub record IsOf (bound : ℕ) (log : List (Entry T D)) : Type 0 where
     pub term : T
     pub leader : ID
@@ -122,7 +123,7 @@ module _ {T ID D : Type 0} (rank : T → ℕ) (quorum : List (Entry T D) → (ID
   candidate_start t c el =
       let x = lawful.leaders t c el in record { rest = x.added; is = x.is }
 
-  -- every log that a server has had below a term is from a leader below it
+  -- every log that a server has had below a term is from a leader of a lower term
   abbrev AllFrom : ℕ → Type 0
   AllFrom bound =
       (s : ID) (ds : List (Event T ID D)) → EventsFollowRules rank quorum h s ds → term_after rank ds < bound
@@ -213,7 +214,7 @@ module _ {T ID D : Type 0} (rank : T → ℕ) (quorum : List (Entry T D) → (ID
   last_below bound l (inl e) = omega (arith, empty_last rank l e)
   last_below bound l (inr o) = omega (arith, last_of bound l o, o.below)
 
-  -- terms never fall along a log
+  -- terms never decrease along a log
   pub last_term_grows : (bound : ℕ) (p l : List (Entry T D)) → IsFrom bound l → IsPrefix p l
       → last_term rank p ≤ last_term rank l
   last_term_grows bound p l (inl e) st =
@@ -338,7 +339,7 @@ module _ {T ID D : Type 0} (rank : T → ℕ) (quorum : List (Entry T D) → (ID
   had_at_vote s t c n u d p lt held st (Restart log ∷ ds) ok v a =
       had_at_vote s t c n u d p lt held st ds ok.1 v a
 
-  -- there is one leader in each term below the bound, and each has what was committed before it
+  -- election safety and leader completeness for the terms below a bound
   abbrev pub OneBelow : ℕ → Type 0
   OneBelow bound =
       (t : T) (c d : ID) → rank t < bound → IsElected rank quorum h t c → IsElected rank quorum h t d → c ≡ d
@@ -389,7 +390,8 @@ module _ {T ID D : Type 0} (rank : T → ℕ) (quorum : List (Entry T D) → (ID
       → IsPrefix p (h.leader_log w e)
   of_same p t w c e f g st = rw (f, g) at st
 
-  -- a server that had taken it over, and has voted in the later term, has seen to it
+  -- a server that has acknowledged a committed log, and has voted in a later term, votes only for a
+  -- candidate that has it
   pub by_voter : (t u : T) (c d v : ID) (n m : ℕ) → OneBelow (rank u) → CompleteBelow (rank u)
       → IsCommitted rank quorum h t c n m → rank t < rank u → IsElected rank quorum h u d
       → HasVoted u d (h.events v) → HasAcked t c n (h.events v)
