@@ -10,5 +10,11 @@ pub mod AppendLemmas
 pub mod ExecutionLemmas
 pub mod TestLemmas
 pub mod TraceLemmas
+pub mod CheckedLogLemmas
+pub mod CheckedServerLemmas
+pub mod CheckedLeaderLemmas
+pub mod CheckerLemmas
+pub mod CheckerStepLemmas
+pub mod CheckerCodeLemmas
 pub mod RankLemmas
 pub mod ScenarioLemmas

@@ -10,3 +10,5 @@ pub mod Execution
 pub mod AppendEntries
 pub mod Trace
 pub mod Scenarios
+pub mod CheckerState
+pub mod Checker

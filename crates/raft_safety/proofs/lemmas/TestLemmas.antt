@@ -33,7 +33,7 @@ module _ {T ID D M : Type 0} (k : Tests T ID D M) (exact : AreExact k) where
       and_from (k.same_term t u) (k.same_id c d) (rw e (exact.term_itself u)) (rw f (exact.id_itself d))
 
   -- logs
-  entry_right : (e f : Entry T D) → same_entry k e f ≡ true → e ≡ f
+  pub entry_right : (e f : Entry T D) → same_entry k e f ≡ true → e ≡ f
   entry_right e f x =
       let a : e.term ≡ f.term =
       exact.same_term e.term f.term
@@ -51,7 +51,7 @@ module _ {T ID D M : Type 0} (k : Tests T ID D M) (exact : AreExact k) where
       let s : IsPrefix a b = prefix_right a b (second_so (same_entry k x y) (is_prefix k a b) e) in
       record { rest = s.rest; is = λ i. sym f i ∷ s.is i }
 
-  entry_itself : (e : Entry T D) → same_entry k e e ≡ true
+  pub entry_itself : (e : Entry T D) → same_entry k e e ≡ true
   entry_itself e =
       and_from (k.same_term e.term e.term) (k.same_content e.content e.content) (exact.term_itself e.term)
       (exact.content_itself e.content)

@@ -1,0 +1,42 @@
+use Rattle.std.proofs.Common.{◌≡◌, ◌<◌, ◌∙◌, length, take, inr, arith}
+use Rattle.std.proofs.lemmas.List.{take_all}
+use Rattle.raft_safety.specs.Checker.{trace_of}
+use Rattle.raft_safety.proofs.lemmas.CheckerCodeLemmas.{trace_more}
+use Rattle.raft_safety.proofs.lemmas.TraceLemmas.{trace_is_safe}
+use Rattle.raft_safety.proofs.check.check.Goals as goal
+
+pub loop-i-preserved : goal.loop-i-preserved
+loop-i-preserved g c =
+    let within : c.loop-i.i < length c.args.events.now = omega arith in
+    record {
+      same = c.in-Ok-record.ensures.configs ∙ c.loop-i.invariant.same;
+      seen = λ exact. rw (trace_more c.args.events.now c.loop-i.i c.index-events-i.result within
+          c.index-events-i.is)
+          ((rw c.loop-i.invariant.same at c.in-Ok-record.ensures.answer) exact
+          (trace_of (take c.loop-i.i c.args.events.now)) (c.loop-i.invariant.seen exact)).1;
+    }
+
+pub returns-in-Err-record-clause-refused : goal.returns-in-Err-record-clause-refused
+returns-in-Err-record-clause-refused g c =
+    let within : c.loop-i.i < length c.args.events.now = omega arith in
+    λ exact. inr (
+      c.index-events-i.result,
+      within,
+      c.index-events-i.is,
+      (c.loop-i.invariant.seen exact).allowed,
+      ((rw c.loop-i.invariant.same at c.in-Err-record.ensures.answer) exact
+          (trace_of (take c.loop-i.i c.args.events.now)) (c.loop-i.invariant.seen exact)).0,
+    )
+
+pub returns-clause-allowed : goal.returns-clause-allowed
+returns-clause-allowed g c =
+    let whole : take c.loop-i.i c.args.events.now ≡ c.args.events.now =
+    take_all c.loop-i.i c.args.events.now (omega arith) in
+    λ exact. rw whole at (c.loop-i.invariant.seen exact).allowed
+
+pub returns-clause-safe : goal.returns-clause-safe
+returns-clause-safe g c =
+    let whole : take c.loop-i.i c.args.events.now ≡ c.args.events.now =
+    take_all c.loop-i.i c.args.events.now (omega arith) in
+    λ exact ranks. trace_is_safe _ exact (trace_of c.args.events.now) ranks
+    (rw whole at (c.loop-i.invariant.seen exact).allowed)

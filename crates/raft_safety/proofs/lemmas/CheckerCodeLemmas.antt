@@ -1,0 +1,250 @@
+-- Lists that the checker's loops go over.
+use Rattle.std.specs.Prelude.{◌≡◌, ◌+◌, ◌<◌, ◌≤◌, ℕ, zero, suc, Bool, true, false, not, ◌&&◌, ◌||◌, nat_lt, nat_le, min, max, if◌then◌else◌, Option, Some, None, List, [], ◌∷◌, ◌++◌, length, take, drop, map, get_or, set}
+use Rattle.std.specs.List.{IsDistinct, list_any, position, position_or_len}
+use Rattle.std.specs.Set.{is_member}
+use Rattle.std.specs.Cmp.{IsEquivalence}
+use Rattle.std.specs.Option.{unwrap_or}
+use Rattle.std.proofs.Common.{refl, sym, ap, ◌∙◌, arith}
+use Rattle.std.proofs.lemmas.Bool.{ltb-false, lt-ltb, le-leb, lt-leb}
+use Rattle.std.proofs.lemmas.List.Sums.{position_or_len_is, fails_before_first}
+use Rattle.std.proofs.lemmas.Bool.Decides.{nat_tests}
+use Rattle.std.proofs.lemmas.Map.Keys.{IsDistinct-push}
+use Rattle.std.proofs.lemmas.List.Quantifiers.{position-Some}
+use Rattle.std.proofs.lemmas.List.{get_or_append_left, get_or_push, length_push, get_or_default, drop_more, take_more_set, drop-set-lt, take_more}
+use Rattle.raft_safety.specs.Log.{Entry, last_term_or, last_term}
+use Rattle.raft_safety.specs.Configs.{effective_config}
+use Rattle.raft_safety.specs.Trace.{TraceEvent}
+use Rattle.raft_safety.specs.Checker.{event_of, trace_after, trace_of}
+use Rattle.raft_safety.specs.declared.event.Event.{Event as RecordedEvent}
+use Rattle.raft_safety.specs.CheckerState.{common_len, config_in, no_config_in, kept_from, has_acked_to}
+use Rattle.raft_safety.specs.declared.checker.server.Kept.{Kept}
+use Rattle.raft_safety.specs.declared.checker.leader.Acked.{Acked}
+use Rattle.raft_safety.proofs.lemmas.CheckedLeaderLemmas.{any_push, any_set_or}
+
+pub common_more : {E : Type 0} (same : E → E → Bool) (a b : List E) (i : ℕ) (d e : E) → i < length a
+    → i < length b
+    → common_len same (drop i a) (drop i b)
+    ≡ (if same (get_or a i d) (get_or b i e) then suc (common_len same (drop (i + 1) a) (drop (i + 1) b))
+    else 0)
+common_more same a b i d e h g =
+    λ q. common_len same (drop_more a i d h q) (drop_more b i e g q)
+
+pub common_end : {E : Type 0} (same : E → E → Bool) (a b : List E) (i : ℕ)
+    → i ≡ min (length a) (length b) → common_len same (drop i a) (drop i b) ≡ 0
+common_end same [] [] zero h = refl
+common_end same [] [] (suc i) h = refl
+common_end same [] (y ∷ b) zero h = refl
+common_end same [] (y ∷ b) (suc i) h = refl
+common_end same (x ∷ a) [] zero h = refl
+common_end same (x ∷ a) [] (suc i) h = absurd (omega arith)
+common_end same (x ∷ a) (y ∷ b) zero h = absurd (omega arith)
+common_end same (x ∷ a) (y ∷ b) (suc i) h = common_end same a b i (omega arith)
+
+pub last_term_of : {T D : Type 0} (rank : T → ℕ) (r : ℕ) (log : List (Entry T D)) (d : Entry T D)
+    (i : ℕ) → length log ≡ suc i → last_term_or rank r log ≡ rank (get_or log i d).term
+last_term_of rank r [] d i h = absurd (omega arith)
+last_term_of rank r (e ∷ []) d zero h = refl
+last_term_of rank r (e ∷ []) d (suc i) h = absurd (omega arith)
+last_term_of rank r (e ∷ f ∷ log) d zero h = absurd (omega arith)
+last_term_of rank r (e ∷ f ∷ log) d (suc i) h =
+    last_term_of rank (rank e.term) (f ∷ log) d i (omega arith)
+
+pub last_term_read : {T D : Type 0} (rank : T → ℕ) (log : List (Entry T D)) (i : ℕ) (e : Entry T D)
+    → length log ≡ suc i → e ≡ get_or log i e → rank e.term ≡ last_term rank log
+last_term_read {T} {D} rank log i e h is =
+    ap (λ (x : Entry T D). rank x.term) is ∙ sym (last_term_of rank 0 log e i h)
+
+pub config_more : {T D : Type 0} (holds : D → Bool) (config : Option D) (log : List (Entry T D))
+    (i : ℕ) (d : Entry T D) → i < length log
+    → effective_config (config_in holds) config (drop i log)
+    ≡ effective_config (config_in holds)
+    (if holds (get_or log i d).content then Some (get_or log i d).content else config) (drop (i + 1) log)
+config_more holds config log i d h =
+    ap (λ x. effective_config (config_in holds) config x) (drop_more log i d h)
+    ∙ ap (λ x. effective_config (config_in holds) x (drop (i + 1) log)) (go (holds (get_or log i d).content))
+  where
+    go : (b : Bool)
+        → unwrap_or (if b then Some (Some (get_or log i d).content) else None) config
+        ≡ (if b then Some (get_or log i d).content else config)
+    go true = refl
+    go false = refl
+
+pub no_config_more : {T D : Type 0} (holds : D → Bool) (log : List (Entry T D)) (i : ℕ)
+    (d : Entry T D) → i < length log
+    → no_config_in holds (drop i log)
+    ≡ (not (holds (get_or log i d).content) && no_config_in holds (drop (i + 1) log))
+no_config_more holds log i d h = ap (no_config_in holds) (drop_more log i d h)
+
+pub kept_more : (n : ℕ) (ks : List Kept) (r i : ℕ) (d : Kept) → i < length ks
+    → kept_from n (drop i ks) r
+    ≡ kept_from (if nat_le (get_or ks i d).term r then (get_or ks i d).len else n) (drop (i + 1) ks) r
+kept_more n ks r i d h = ap (λ x. kept_from n x r) (drop_more ks i d h)
+
+pub limit_more : (f : Kept → Kept) (ks : List Kept) (i : ℕ) (d : Kept) → i < length ks
+    → take (i + 1) (set ks i (f (get_or ks i d))) ++ map f (drop (i + 1) (set ks i (f (get_or ks i d))))
+    ≡ take i ks ++ map f (drop i ks)
+limit_more f ks i d h =
+    let more : drop (i + 1) (set ks i (f (get_or ks i d))) ≡ drop (i + 1) ks =
+    drop-set-lt (i + 1) ks i (f (get_or ks i d)) (omega arith) in
+    (λ q. take_more_set ks i (f (get_or ks i d)) h q ++ map f (more q))
+    ∙ assoc (take i ks) (f (get_or ks i d)) (map f (drop (i + 1) ks))
+    ∙ ap (λ x. take i ks ++ map f x) (sym (drop_more ks i d h))
+  where
+    assoc : (a : List Kept) (x : Kept) (b : List Kept) → (a ++ x ∷ []) ++ b ≡ a ++ (x ∷ b)
+    assoc [] x b = refl
+    assoc (y ∷ a) x b = ap (λ l. y ∷ l) (assoc a x b)
+
+pub acked_more : {N : Type 0} (eq : N → N → Bool) (acks : List (Acked N)) (i : ℕ) (d : Acked N) (v : N)
+    (n : ℕ) → i < length acks
+    → has_acked_to eq (take (i + 1) acks) v n
+    ≡ ((eq (get_or acks i d).server v && nat_le n (get_or acks i d).len)
+    || has_acked_to eq (take i acks) v n)
+acked_more eq acks i d v n h =
+    ap (λ x. has_acked_to eq x v n) (take_more acks i d h)
+    ∙ any_push (λ a. eq a.server v && nat_le n a.len) (take i acks) (get_or acks i d)
+
+raised_len : (n p q : ℕ) → nat_le n (max p q) ≡ (nat_le n q || nat_le n p)
+raised_len n p q = grind (arith, nat_tests)
+
+raised : (x : Bool) (n p q : ℕ) → (x && nat_le n (max p q)) ≡ ((x && nat_le n q) || (x && nat_le n p))
+raised true n p q = raised_len n p q
+raised false n p q = refl
+
+or_swap : (a b : Bool) → (a || b) ≡ (b || a)
+or_swap true true = refl
+or_swap true false = refl
+or_swap false true = refl
+or_swap false false = refl
+
+-- what a server has acknowledged is raised
+pub acked_raised : {N : Type 0} (eq : N → N → Bool) → IsEquivalence eq → (acks : List (Acked N))
+    (i : ℕ) (server : N) (len : ℕ) (a b : Acked N) (m : ℕ)
+    → position (λ (x : Acked N). eq x.server server) acks ≡ Some i
+    → a ≡ get_or acks i a → b ≡ get_or acks i b → m ≡ max a.len len
+    → (v : N) (n : ℕ)
+    → has_acked_to eq (set acks i (record { server = b.server; len = m })) v n
+    ≡ (has_acked_to eq acks v n || (eq server v && nat_le n len))
+acked_raised {N} eq laws acks i server len a b m at_i is_a is_b is_m v n =
+    any_set_or (λ (x : Acked N). eq x.server v && nat_le n x.len) (eq server v && nat_le n len) acks i
+    (record { server = b.server; len = m }) a facts.0 step
+    ∙ or_swap (eq server v && nat_le n len) (has_acked_to eq acks v n)
+  where
+    facts : (i < length acks) × (eq (get_or acks i a).server server ≡ true)
+        × ((j : ℕ) → j < i → eq (get_or acks j a).server server ≡ false)
+    facts = position-Some (λ (y : Acked N). eq y.server server) acks i a at_i
+
+    b_is : b ≡ get_or acks i a
+    b_is = is_b ∙ get_or_default acks i b a facts.0
+
+    m_is : m ≡ max (get_or acks i a).len len
+    m_is = is_m ∙ ap (λ (y : Acked N). max y.len len) is_a
+
+    e : eq (get_or acks i a).server v ≡ eq server v
+    e = laws.congr (get_or acks i a).server server v facts.1
+
+    step : (eq b.server v && nat_le n m)
+        ≡ ((eq server v && nat_le n len) || (eq (get_or acks i a).server v && nat_le n (get_or acks i a).len))
+    step =
+        (λ q. eq (b_is q).server v && nat_le n (m_is q))
+        ∙ (λ q. e q && nat_le n (max (get_or acks i a).len len))
+        ∙ raised (eq server v) n (get_or acks i a).len len
+        ∙ (λ q. (eq server v && nat_le n len) || (sym e q && nat_le n (get_or acks i a).len))
+
+-- an id that is not in a list of distinct ids is added
+pub distinct_push : {N : Type 0} (eq : N → N → Bool) → IsEquivalence eq → (ids : List N) (id : N)
+    → IsDistinct eq ids → (b : Bool) → b ≡ list_any (λ y. eq y id) ids → b ≡ false
+    → IsDistinct eq (ids ++ id ∷ [])
+distinct_push {N} eq laws ids id h b is absent =
+    IsDistinct-push laws ids id h
+    (ap (λ (f : N → Bool). list_any f ids) turned ∙ sym is ∙ absent)
+  where
+    turned : eq id ≡ (λ (y : N). eq y id)
+    turned = λ q y. laws.symm id y q
+
+pub distinct_none : {N : Type 0} (eq : N → N → Bool) → IsDistinct eq []
+unfolding IsDistinct
+distinct_none eq = tt
+
+pub distinct_one : {N : Type 0} (eq : N → N → Bool) (id : N) → IsDistinct eq (id ∷ [])
+unfolding IsDistinct
+distinct_one eq id = (tt, tt)
+
+-- a server that has acknowledged as many is counted
+pub counted : {N : Type 0} (eq : N → N → Bool) → IsEquivalence eq → (acks : List (Acked N)) (i : ℕ)
+    (a : Acked N) (n : ℕ) (ids new : List N) → i < length acks → a ≡ get_or acks i a → n ≤ a.len
+    → ((v : N) → is_member eq ids v ≡ has_acked_to eq (take i acks) v n)
+    → ((v : N) → is_member eq new v ≡ (is_member eq ids v || eq v a.server))
+    → (v : N) → is_member eq new v ≡ has_acked_to eq (take (i + 1) acks) v n
+counted {N} eq laws acks i a n ids new h is enough before added v =
+    added v ∙ (λ q. before v q || laws.symm v a.server q)
+    ∙ or_swap (has_acked_to eq (take i acks) v n) (eq a.server v)
+    ∙ ap (λ b. b || has_acked_to eq (take i acks) v n) (sym here)
+    ∙ sym (acked_more eq acks i a v n h)
+  where
+    and_yes : (b : Bool) → (b && true) ≡ b
+    and_yes true = refl
+    and_yes false = refl
+
+    here : (eq (get_or acks i a).server v && nat_le n (get_or acks i a).len) ≡ eq a.server v
+    here =
+        ap (λ (x : Acked N). eq x.server v && nat_le n x.len) (sym is)
+        ∙ ap (λ b. eq a.server v && b) (le-leb n a.len enough) ∙ and_yes (eq a.server v)
+
+pub not_counted : {N : Type 0} (eq : N → N → Bool) (acks : List (Acked N)) (i : ℕ) (a : Acked N)
+    (n : ℕ) (ids : List N) → i < length acks → a ≡ get_or acks i a → a.len < n
+    → ((v : N) → is_member eq ids v ≡ has_acked_to eq (take i acks) v n)
+    → (v : N) → is_member eq ids v ≡ has_acked_to eq (take (i + 1) acks) v n
+not_counted {N} eq acks i a n ids h is few before v =
+    before v ∙ ap (λ b. b || has_acked_to eq (take i acks) v n) (sym here)
+    ∙ sym (acked_more eq acks i a v n h)
+  where
+    and_no : (b : Bool) → (b && false) ≡ false
+    and_no true = refl
+    and_no false = refl
+
+    here : (eq (get_or acks i a).server v && nat_le n (get_or acks i a).len) ≡ false
+    here =
+        ap (λ (x : Acked N). eq x.server v && nat_le n x.len) (sym is)
+        ∙ ap (λ b. eq a.server v && b) (lt-leb n a.len few) ∙ and_no (eq a.server v)
+
+-- the place of an element that is added after none that passes
+pub place_push : {X : Type 0} (p : X → Bool) (xs : List X) (y : X) → position p xs ≡ None
+    → p y ≡ true → position p (xs ++ y ∷ []) ≡ Some (length xs)
+place_push {X} p xs y none passes =
+    ap (λ n. if nat_lt n (length (xs ++ y ∷ [])) then Some n else None) at_end
+    ∙ ap (λ b. if b then Some (length xs) else None) (lt-ltb (length xs) (length (xs ++ y ∷ [])) longer)
+  where
+    longer : length xs < length (xs ++ y ∷ [])
+    longer = simp length_push (omega arith)
+
+    under : (b : Bool) → nat_lt (position_or_len p xs) (length xs) ≡ b
+        → (if b then Some (position_or_len p xs) else None) ≡ None
+        → nat_lt (position_or_len p xs) (length xs) ≡ false
+    under true h g = absurd (cc)
+    under false h g = h
+
+    past : length xs ≤ position_or_len p xs
+    past =
+        ltb-false (position_or_len p xs) (length xs)
+        (under (nat_lt (position_or_len p xs) (length xs)) refl none)
+
+    at_end : position_or_len p (xs ++ y ∷ []) ≡ length xs
+    at_end =
+        position_or_len_is p (xs ++ y ∷ []) (length xs) y (omega (arith, longer))
+        (λ k h. ap p (get_or_append_left xs (y ∷ []) y k h) ∙ fails_before_first p xs k y (omega (arith, past)))
+        (λ h. ap p (get_or_push xs y y (length xs) refl) ∙ passes)
+
+-- ---- whole traces
+
+trace_push : {T ID D : Type 0} (es : List (TraceEvent T ID D)) (xs : List (RecordedEvent T ID D))
+    (x : RecordedEvent T ID D) → trace_after es (xs ++ x ∷ []) ≡ event_of x ∷ trace_after es xs
+trace_push es [] x = refl
+trace_push es (y ∷ xs) x = trace_push (event_of y ∷ es) xs x
+
+pub trace_more : {T ID D : Type 0} (events : List (RecordedEvent T ID D)) (i : ℕ)
+    (e : RecordedEvent T ID D) → i < length events → e ≡ get_or events i e
+    → trace_of (take (i + 1) events) ≡ event_of e ∷ trace_of (take i events)
+trace_more {T} {ID} {D} events i e h is =
+    ap (λ (l : List (RecordedEvent T ID D)). trace_of l) (take_more events i e h)
+    ∙ trace_push [] (take i events) (get_or events i e)
+    ∙ ap (λ (x : RecordedEvent T ID D). event_of x ∷ trace_of (take i events)) (sym is)

@@ -1,0 +1,1244 @@
+-- The checker refuses an event exactly if it is not allowed, and keeps what the events say.
+use Rattle.std.specs.Prelude.{◌≡◌, ◌⊎◌, ◌+◌, ◌<◌, ◌≤◌, ℕ, zero, suc, Bool, true, false, not, ◌&&◌, ◌||◌, nat_lt, nat_le, nat_eq, min, max, if◌then◌else◌, Option, Some, None, is_none, List, [], ◌∷◌, ◌++◌, length, take, drop, map, get_or, set}
+use Rattle.std.specs.Cmp.{first_so, second_so}
+use Rattle.std.specs.List.{find, list_any, position, IsDistinct}
+use Rattle.std.specs.Option.{MatchOption, unwrap_or, option_or}
+use Rattle.std.specs.Set.{is_member}
+use Rattle.std.proofs.Common.{refl, sym, ap, ◌∙◌, subst, inl, inr, arith, ltb-true}
+use Rattle.std.proofs.lemmas.List.Folds.{find-append}
+use Rattle.std.proofs.lemmas.List.Quantifiers.{position-Some}
+use Rattle.raft_safety.specs.declared.rule.Rule.TheVariants.{NoCampaign, OwnCandidate, CandidateBehind, OtherTerm, ApartConfigs, ApartQuorums, EarlyConfig, EarlierTerm, CountedEarly, NoQuorum, NotAcked, NotCommitted, CampaignedTwice, NotElected, PassedTerm, MissingEntries, DropsMatching, ForeignEntries, TermNotReached, NotWritten, NotKept, LostAcked}
+use Rattle.raft_safety.proofs.lemmas.PrefixLemmas.{prefix_length}
+use Rattle.raft_safety.proofs.lemmas.TestLemmas.{leader_right, leader_from, prefix_right, entry_right, entry_itself}
+use Rattle.std.proofs.lemmas.Bool.{cases_Bool, and_from, and_right, cases_lt, leb-true, leb-false, lt-ltb, le-ltb, le-leb}
+use Rattle.std.proofs.lemmas.List.{take_all, take-append-le, length-append, length-take-le}
+use Rattle.raft_safety.specs.Log.{Entry}
+use Rattle.raft_safety.specs.Configs.{effective_config}
+use Rattle.raft_safety.specs.Events.{Event, GrantVote, Ack, log_after, term_after}
+use Rattle.raft_safety.specs.Trace.{AreExact, Tests, TraceEvent, Campaigned, Granted, Appended, Acked, Restarted, Wrote, Committed, Applied, durable, term_in, log_in, is_up_to_date, events_in, has_campaigned, is_elected, is_allowed, are_allowed, may_propose, same_entry, same_leader, hold_no_config, and_append, and_restart, has_kept, has_acked, has_voted, candidate_log_in, leader_log_in, is_config_committed, is_known_committed, is_quorum_of_log, is_prefix, common_prefix}
+use Rattle.raft_safety.specs.CheckerState.{unless, up_to_date_by, write_rule, config_rule, config_in, no_config_in, append_rule, ack_rule, restart_rule, grant_rule, commit_rule, knows, has_committed, has_kept_by, has_acked_to, config_committed, common_len, kept_from, kept_after, at_most, IsAdded, HasPlace}
+use Rattle.raft_safety.specs.Checker.{broken_rule, proposal_rule, HasSeen, SeesServer, kept_at, SeesServers, SeesLeader, SeesNoLeader, SeesLeaders, find_server, find_leader}
+use Rattle.raft_safety.specs.declared.rule.Rule.{Rule}
+use Rattle.raft_safety.specs.declared.checker.server.Server.{Server}
+use Rattle.raft_safety.specs.declared.checker.leader.Leader.{Leader}
+use Rattle.raft_safety.proofs.lemmas.CheckedLogLemmas.{same_sym, common_from, keeps_common, appended_is_old, appended_is_other, is_prefix_by_len}
+use Rattle.raft_safety.proofs.lemmas.CheckedServerLemmas.{has_kept_by_len, kept_all, sees_vote, sees_append, sees_ack, sees_restart, sees_new, see_set}
+use Rattle.raft_safety.proofs.lemmas.CheckedLeaderLemmas.{found_some, write_of_other, commit_of_other, apply_same, any_set_or, any_push, vote_no_ack, campaign_of_other, grant_to_other, found_at, none_found, stays, ack_to_other, ack_no_vote, append_same, restart_same, see_leader_set, see_leader_push}
+
+-- ---- an event breaks no rule exactly if it is allowed
+
+rule_first : (b : Bool) (r : Rule) (o : Option Rule) → is_none (unless b r o) ≡ (b && is_none o)
+rule_first true r o = refl
+rule_first false r o = refl
+
+and_yes : (b : Bool) → (b && true) ≡ b
+and_yes true = refl
+and_yes false = refl
+
+and_swap : (a b c : Bool) → (a && (b && c)) ≡ (b && (a && c))
+and_swap true b c = refl
+and_swap false true c = refl
+and_swap false false c = refl
+
+and_turn : (a b : Bool) → (a && b) ≡ (b && a)
+and_turn true true = refl
+and_turn true false = refl
+and_turn false true = refl
+and_turn false false = refl
+
+rules_2 : (a b : Bool) (p q : Rule) → is_none (unless a p (unless b q None)) ≡ (a && b)
+rules_2 true true p q = refl
+rules_2 true false p q = refl
+rules_2 false b p q = refl
+
+rules_3 : (a b c : Bool) (p q r : Rule)
+    → is_none (unless a p (unless b q (unless c r None))) ≡ (a && (b && c))
+rules_3 true b c p q r = rules_2 b c q r
+rules_3 false b c p q r = refl
+
+rules_4 : (a b c d : Bool) (p q r s : Rule)
+    → is_none (unless a p (unless b q (unless c r (unless d s None)))) ≡ (a && (b && (c && d)))
+rules_4 true b c d p q r s = rules_3 b c d q r s
+rules_4 false b c d p q r s = refl
+
+rules_5 : (a b c d e : Bool) (p q r s t : Rule)
+    → is_none (unless a p (unless b q (unless c r (unless d s (unless e t None)))))
+    ≡ (a && (b && (c && (d && e))))
+rules_5 true b c d e p q r s t = rules_4 b c d e q r s t
+rules_5 false b c d e p q r s t = refl
+
+pub first_none : (b : Bool) (r : Rule) (o : Option Rule) → unless b r o ≡ None → b ≡ true
+first_none true r o e = refl
+first_none false r o e = absurd (cc)
+
+pub rest_none : (b : Bool) (r : Rule) (o : Option Rule) → unless b r o ≡ None → o ≡ None
+rest_none true r o e = e
+rest_none false r o e = absurd (cc)
+
+first_two : (a b c : Bool) (p q r : Rule) (o : Option Rule)
+    → unless a p (unless b q (unless c r o)) ≡ None → (b ≡ true) × (c ≡ true)
+first_two true true true p q r o e = (refl, refl)
+first_two true true false p q r o e = absurd (cc)
+first_two true false c p q r o e = absurd (cc)
+first_two false b c p q r o e = absurd (cc)
+
+module _ {T ID D M : Type 0} (k : Tests T ID D M) where
+  proposal_tests : (es : List (TraceEvent T ID D)) (t : T) (c : ID) (o : Option M)
+      → is_none (proposal_rule k es t c o) ≡ may_propose k es t c o
+  proposal_tests es t c None = refl
+  proposal_tests es t c (Some m) =
+      rules_3 (k.intersect (effective_config k.config_of k.initial (leader_log_in k es t c)) m)
+      (k.intersect m m) (is_config_committed k t c (leader_log_in k es t c) es) ApartConfigs ApartQuorums
+      EarlyConfig
+
+  pub allowed_by_rules : (e : TraceEvent T ID D) (es : List (TraceEvent T ID D))
+      → is_none (broken_rule k e es) ≡ is_allowed k e es
+  allowed_by_rules (Campaigned c t) es =
+      let new : Bool = not (has_campaigned k t c es) in
+      let term : Bool = nat_lt (term_in k es c) (k.rank t) in
+      rules_2 new term CampaignedTwice PassedTerm ∙ and_turn new term
+  allowed_by_rules (Granted s t c) es =
+      let campaigned : Bool = has_campaigned k t c es in
+      let term : Bool = nat_lt (term_in k es s) (k.rank t) in
+      let other : Bool = not (k.same_id c s) in
+      let log : Bool = is_up_to_date k (candidate_log_in k es t c) (log_in k es s) in
+      rules_4 campaigned term other log NoCampaign PassedTerm OwnCandidate CandidateBehind
+      ∙ and_swap campaigned term (other && log)
+  allowed_by_rules (Appended s t c n sent) es =
+      let elected : Bool = is_elected k es t c in
+      let term : Bool = nat_le (term_in k es s) (k.rank t) in
+      let within : Bool = nat_le n (length (log_in k es s)) in
+      let keeps : Bool =
+      is_prefix k (common_prefix k (log_in k es s) (leader_log_in k es t c)) (take n (log_in k es s) ++ sent) in
+      let of_these : Bool =
+      is_prefix k (take n (log_in k es s) ++ sent) (log_in k es s)
+      || is_prefix k (take n (log_in k es s) ++ sent) (leader_log_in k es t c) in
+      rules_5 elected term within keeps of_these NotElected PassedTerm MissingEntries DropsMatching ForeignEntries
+      ∙ and_swap elected term (within && (keeps && of_these))
+  allowed_by_rules (Acked s t c n) es =
+      let elected : Bool = is_elected k es t c in
+      let term : Bool = nat_le (k.rank t) (term_in k es s) in
+      let written : Bool = nat_le n (length (leader_log_in k es t c)) in
+      let kept : Bool = has_kept k (k.rank t) (take n (leader_log_in k es t c)) (events_in k es s) in
+      rules_4 elected term written kept NotElected TermNotReached NotWritten NotKept
+      ∙ and_swap elected term (written && kept)
+  allowed_by_rules (Restarted s n) es =
+      rules_2 (nat_le (durable k (events_in k es s)) n) (nat_le n (length (log_in k es s))) LostAcked
+      MissingEntries
+  allowed_by_rules (Wrote c t e) es =
+      rule_first (is_elected k es t c) NotElected
+      (unless (k.same_term e.term t) OtherTerm (proposal_rule k es t c (k.config_of e.content)))
+      ∙ ap (λ x. is_elected k es t c && x)
+      (rule_first (k.same_term e.term t) OtherTerm (proposal_rule k es t c (k.config_of e.content))
+      ∙ ap (λ x. k.same_term e.term t && x) (proposal_tests es t c (k.config_of e.content)))
+  allowed_by_rules (Committed c t n m) es =
+      rules_5 (is_elected k es t c) (nat_lt (length (candidate_log_in k es t c)) n) (nat_le n m)
+      (nat_le m (length (leader_log_in k es t c)))
+      (is_quorum_of_log k (take m (leader_log_in k es t c)) (λ v. has_acked k t c n (events_in k es v)))
+      NotElected EarlierTerm CountedEarly NotWritten NoQuorum
+  allowed_by_rules (Applied s t c n) es =
+      rules_2 (has_acked k t c n (events_in k es s))
+      (is_known_committed k (k.rank t) (take n (leader_log_in k es t c)) es) NotAcked NotCommitted
+
+  pub more_allowed : (e : TraceEvent T ID D) (es : List (TraceEvent T ID D))
+      → broken_rule k e es ≡ None → are_allowed k es ≡ true → are_allowed k (e ∷ es) ≡ true
+  more_allowed e es h g =
+      and_from (is_allowed k e es) (are_allowed k es) (sym (allowed_by_rules e es) ∙ ap is_none h) g
+
+or_turn : (a b : Bool) → (a || b) ≡ (b || a)
+or_turn true true = refl
+or_turn true false = refl
+or_turn false true = refl
+or_turn false false = refl
+
+or_no : (b : Bool) → (b || false) ≡ b
+or_no true = refl
+or_no false = refl
+
+-- what is kept of a leader
+pub record LeaderIs {T ID D : Type 0} (l : Leader T ID D) (t : T) (c : ID) (i : ℕ)
+    (es : List (Entry T D)) (vs : List ID) (b : Bool) (o : Option ℕ) : Type 0 where
+  pub term : l.term ≡ t
+  pub id : l.id ≡ c
+  pub start : l.start ≡ i
+  pub log : l.log.items ≡ es
+  pub voters : l.voters.items ≡ vs
+  pub elected : l.elected ≡ b
+  pub committed : l.committed ≡ o
+
+module _ {T ID D : Type 0} (k : Tests T ID D (Option D)) (exact : AreExact k) where
+  -- ---- what is seen of a server or leader at its place
+
+  pub server_seen : (es : List (TraceEvent T ID D)) (servers : List (Server T ID D)) (id : ID) (i : ℕ)
+      (d : Server T ID D) → SeesServers k es servers
+      → position (λ (s : Server T ID D). k.same_id s.id id) servers ≡ Some i
+      → SeesServer k (events_in k es id) (get_or servers i d)
+  server_seen es servers id i d sees e =
+      subst (λ (o : Option (Server T ID D)). MatchOption o (events_in k es id ≡ [])
+      (SeesServer k (events_in k es id)))
+      (found_at (λ (s : Server T ID D). k.same_id s.id id) servers i d e) (sees id)
+
+  pub leader_seen : (es : List (TraceEvent T ID D)) (leaders : List (Leader T ID D)) (t : T) (c : ID)
+      (j : ℕ) (d : Leader T ID D) → SeesLeaders k es leaders
+      → position (λ (l : Leader T ID D). same_leader k l.term l.id t c) leaders ≡ Some j
+      → SeesLeader k es t c (get_or leaders j d)
+  leader_seen es leaders t c j d sees e =
+      subst (λ (o : Option (Leader T ID D)). MatchOption o (SeesNoLeader k es t c)
+      (SeesLeader k es t c))
+      (found_at (λ (l : Leader T ID D). same_leader k l.term l.id t c) leaders j d e) (sees t c)
+
+  pub no_leader_seen : (es : List (TraceEvent T ID D)) (leaders : List (Leader T ID D)) (t : T)
+      (c : ID) → SeesLeaders k es leaders
+      → position (λ (l : Leader T ID D). same_leader k l.term l.id t c) leaders ≡ None
+      → SeesNoLeader k es t c
+  no_leader_seen es leaders t c sees e =
+      subst (λ (o : Option (Leader T ID D)). MatchOption o (SeesNoLeader k es t c)
+      (SeesLeader k es t c))
+      (none_found (λ (l : Leader T ID D). same_leader k l.term l.id t c) leaders e) (sees t c)
+
+  -- a server without events is added
+  pub see_added : (es : List (TraceEvent T ID D)) (id : ID) (old new : List (Server T ID D))
+      → IsAdded (λ (s : Server T ID D). k.same_id s.id id) id old new → SeesServers k es old
+      → SeesServers k es new
+  see_added es id old new is sees r =
+      rw is.added (rw (find-append (λ (s : Server T ID D). k.same_id s.id r) old (is.server ∷ []))
+      (go (find_server k old r) refl (cases_Bool (k.same_id is.server.id r))))
+    where
+      empty : find_server k old id ≡ None
+      empty = none_found (λ (s : Server T ID D). k.same_id s.id id) old is.absent
+
+      no_events : events_in k es id ≡ []
+      no_events =
+          subst (λ (o : Option (Server T ID D)). MatchOption o (events_in k es id ≡ [])
+          (SeesServer k (events_in k es id))) empty (sees id)
+
+      go : (o : Option (Server T ID D)) → find_server k old r ≡ o
+          → (k.same_id is.server.id r ≡ true) ⊎ (k.same_id is.server.id r ≡ false)
+          → MatchOption (option_or o (find (λ (s : Server T ID D). k.same_id s.id r) (is.server ∷ [])))
+          (events_in k es r ≡ []) (SeesServer k (events_in k es r))
+      go (Some s) e b =
+          subst (λ (o : Option (Server T ID D)). MatchOption o (events_in k es r ≡ [])
+          (SeesServer k (events_in k es r))) e (sees r)
+      go None e (inl b) =
+          let q : is.server.id ≡ r = exact.same_id is.server.id r b in
+          let p : id ≡ r = sym is.is_new.is_id ∙ q in
+          let none : events_in k es r ≡ [] = subst (λ (x : ID). events_in k es x ≡ []) p no_events in
+          rw (b, none) (sees_new k exact is.server is.is_new.term is.is_new.log is.is_new.durable is.is_new.kept)
+      go None e (inr b) =
+          rw b (subst (λ (o : Option (Server T ID D)). MatchOption o (events_in k es r ≡ [])
+          (SeesServer k (events_in k es r))) e (sees r))
+
+  pub see_place : (es : List (TraceEvent T ID D)) (id : ID) (old new : List (Server T ID D)) (i : ℕ)
+      (leaders : List (Leader T ID D))
+      → HasPlace (λ (s : Server T ID D). k.same_id s.id id) id old new i → HasSeen k es old leaders
+      → HasSeen k es new leaders
+  see_place es id old new i leaders place seen = record {
+    allowed = seen.allowed;
+    see_servers = go place.1;
+    see_leaders = seen.see_leaders;
+    see_commits = seen.see_commits;
+  }
+    where
+      go : (new ≡ old) ⊎ IsAdded (λ (s : Server T ID D). k.same_id s.id id) id old new
+          → SeesServers k es new
+      go (inl e) = λ r. rw e (seen.see_servers r)
+      go (inr is) = see_added es id old new is seen.see_servers
+
+  -- ---- restarts
+
+  pub restart_right : (es : List (TraceEvent T ID D)) (id : ID) (s : Server T ID D) (n : ℕ)
+      → SeesServer k (events_in k es id) s → broken_rule k (Restarted id n) es ≡ restart_rule s n
+  restart_right es id s n sees = rw (sees.durable, sees.log) refl
+
+  -- where the events of one server are meant, they are its own
+  at_id : (f : List (Event T ID D) → List (Event T ID D)) (es : List (TraceEvent T ID D)) (id r : ID)
+      → (if k.same_id id r then f (events_in k es r) else events_in k es r)
+      ≡ (if k.same_id id r then f (events_in k es id) else events_in k es r)
+  at_id f es id r = go (k.same_id id r) refl
+    where
+      go : (b : Bool) → k.same_id id r ≡ b
+          → (if b then f (events_in k es r) else events_in k es r)
+          ≡ (if b then f (events_in k es id) else events_in k es r)
+      go true e =
+          let q : id ≡ r = exact.same_id id r e in ap (λ (x : ID). f (events_in k es x)) (sym q)
+      go false e = refl
+
+  other_server : (b : Bool) (a o : List (Event T ID D)) → b ≡ false → (if b then a else o) ≡ o
+  other_server true a o e = absurd (cc)
+  other_server false a o e = refl
+
+  this_server : (b : Bool) (a o : List (Event T ID D)) → b ≡ true → a ≡ (if b then a else o)
+  this_server true a o e = refl
+  this_server false a o e = absurd (cc)
+
+  -- an event of one server, which is seen of it, changes no leader
+  server_event : (e : TraceEvent T ID D) (es : List (TraceEvent T ID D)) (id : ID)
+      (servers : List (Server T ID D)) (leaders : List (Leader T ID D)) (i : ℕ)
+      (s new : Server T ID D) (evs : List (Event T ID D))
+      → ((r : ID) → events_in k (e ∷ es) r ≡ (if k.same_id id r then evs else events_in k es r))
+      → position (λ (x : Server T ID D). k.same_id x.id id) servers ≡ Some i → s ≡ get_or servers i s
+      → new.id ≡ s.id → HasSeen k es servers leaders → SeesServer k evs new
+      → SeesServers k (e ∷ es) (set servers i new)
+  server_event e es id servers leaders i s new evs events at_i is same_id seen one =
+      see_set k exact es (e ∷ es) servers i new id at_i is_id seen.see_servers
+      (λ r apart. events r ∙ other_server (k.same_id id r) evs (events_in k es r) apart)
+      (subst (λ (l : List (Event T ID D)). SeesServer k l new)
+      (this_server (k.same_id id id) evs (events_in k es id) (exact.id_itself id) ∙ sym (events id)) one)
+    where
+      facts : (i < length servers) × (k.same_id (get_or servers i s).id id ≡ true)
+          × ((j : ℕ) → j < i → k.same_id (get_or servers j s).id id ≡ false)
+      facts = position-Some (λ (x : Server T ID D). k.same_id x.id id) servers i s at_i
+
+      is_id : k.same_id new.id id ≡ true
+      is_id = rw same_id (rw is facts.1)
+
+  pub restart_seen : (es : List (TraceEvent T ID D)) (id : ID) (servers : List (Server T ID D))
+      (leaders : List (Leader T ID D)) (i n : ℕ) (s new : Server T ID D)
+      → position (λ (x : Server T ID D). k.same_id x.id id) servers ≡ Some i → s ≡ get_or servers i s
+      → HasSeen k es servers leaders → restart_rule s n ≡ None
+      → new.id ≡ s.id → new.term ≡ s.term → new.log.items ≡ take n s.log.items
+      → new.durable ≡ min s.durable n → new.kept.items ≡ map (at_most n) s.kept.items
+      → (broken_rule k (Restarted id n) es ≡ None)
+      × HasSeen k (Restarted id n ∷ es) (set servers i new) leaders
+  restart_seen es id servers leaders i n s new at_i is seen free same_id same_term log dur kept = (
+    ok,
+    record {
+      allowed = more_allowed k (Restarted id n) es ok seen.allowed;
+      see_servers =
+          server_event (Restarted id n) es id servers leaders i s new (and_restart n (events_in k es id))
+          events at_i is same_id seen
+          (sees_restart k exact (events_in k es id) s new n at_s within same_term log dur kept);
+      see_leaders = λ u d. stays k exact es (Restarted id n ∷ es) u d (restart_same k exact es id u d n)
+          (find_leader k leaders u d) (seen.see_leaders u d);
+      see_commits = seen.see_commits;
+    },
+  )
+    where
+      at_s : SeesServer k (events_in k es id) s
+      at_s = rw is (server_seen es servers id i s seen.see_servers at_i)
+
+      ok : broken_rule k (Restarted id n) es ≡ None
+      ok = restart_right es id s n at_s ∙ free
+
+      within : n ≤ length s.log.items
+      within =
+          leb-true n (length s.log.items)
+          (first_none (nat_le n (length s.log.items)) MissingEntries None
+          (rest_none (nat_le s.durable n) LostAcked (unless (nat_le n (length s.log.items)) MissingEntries None) free))
+
+      events : (r : ID) → events_in k (Restarted id n ∷ es) r
+          ≡ (if k.same_id id r then and_restart n (events_in k es id) else events_in k es r)
+      events r = at_id (λ (l : List (Event T ID D)). and_restart n l) es id r
+
+  -- ---- entries that a server takes
+
+  pub append_right : (es : List (TraceEvent T ID D)) (id : ID) (t : T) (c : ID) (n : ℕ)
+      (sent : List (Entry T D)) (s : Server T ID D) (l : Leader T ID D)
+      → SeesServer k (events_in k es id) s → SeesLeader k es t c l
+      → broken_rule k (Appended id t c n sent) es ≡ append_rule (same_entry k) s l (k.rank t) n sent
+  append_right es id t c n sent s l sees leads =
+      rw (leads.elected, sees.term, sees.log, leads.leader_log)
+      (inner (cases_Bool (nat_le n (length s.log.items))))
+    where
+      inner : (nat_le n (length s.log.items) ≡ true) ⊎ (nat_le n (length s.log.items) ≡ false)
+          → unless l.elected NotElected
+          (unless (nat_le s.term (k.rank t)) PassedTerm
+          (unless (nat_le n (length s.log.items)) MissingEntries
+          (unless (is_prefix k (common_prefix k s.log.items l.log.items) (take n s.log.items ++ sent)) DropsMatching
+          (unless (is_prefix k (take n s.log.items ++ sent) s.log.items
+          || is_prefix k (take n s.log.items ++ sent) l.log.items) ForeignEntries None))))
+          ≡ append_rule (same_entry k) s l (k.rank t) n sent
+      inner (inl e) =
+          let h : n ≤ length s.log.items = leb-true n (length s.log.items) e in
+          rw (
+            keeps_common k exact s.log.items l.log.items (take n s.log.items ++ sent),
+            common_from (same_entry k) (entry_right k exact) (entry_itself k exact) n s.log.items sent h,
+            appended_is_old k exact n s.log.items sent h,
+            appended_is_other k exact n s.log.items l.log.items sent h,
+          ) refl
+      inner (inr e) = rw e refl
+
+  pub append_seen : (es : List (TraceEvent T ID D)) (id : ID) (t : T) (c : ID) (n : ℕ)
+      (sent : List (Entry T D)) (servers : List (Server T ID D)) (leaders : List (Leader T ID D))
+      (i j : ℕ) (s new : Server T ID D) (l : Leader T ID D)
+      → position (λ (x : Server T ID D). k.same_id x.id id) servers ≡ Some i → s ≡ get_or servers i s
+      → position (λ (x : Leader T ID D). same_leader k x.term x.id t c) leaders ≡ Some j
+      → l ≡ get_or leaders j l
+      → HasSeen k es servers leaders → append_rule (same_entry k) s l (k.rank t) n sent ≡ None
+      → new.id ≡ s.id → new.term ≡ max s.term (k.rank t) → new.log.items ≡ take n s.log.items ++ sent
+      → new.durable ≡ min s.durable (n + common_len (same_entry k) (drop n s.log.items) sent)
+      → new.kept.items ≡ map (at_most (n + common_len (same_entry k) (drop n s.log.items) sent))
+      (kept_after s.kept.items s.term (length s.log.items) (k.rank t))
+      → (broken_rule k (Appended id t c n sent) es ≡ None)
+      × HasSeen k (Appended id t c n sent ∷ es) (set servers i new) leaders
+  append_seen es id t c n sent servers leaders i j s new l at_i is at_j is_l seen free same_id term log dur kept = (
+    ok,
+    record {
+      allowed = more_allowed k (Appended id t c n sent) es ok seen.allowed;
+      see_servers =
+          server_event (Appended id t c n sent) es id servers leaders i s new
+          (and_append t c n sent (events_in k es id)) events at_i is same_id seen
+          (sees_append k exact (events_in k es id) s new t c n sent at_s reached within term log dur kept);
+      see_leaders = λ u d. stays k exact es (Appended id t c n sent ∷ es) u d
+          (append_same k exact es id t u c d n sent) (find_leader k leaders u d) (seen.see_leaders u d);
+      see_commits = seen.see_commits;
+    },
+  )
+    where
+      at_s : SeesServer k (events_in k es id) s
+      at_s = rw is (server_seen es servers id i s seen.see_servers at_i)
+
+      at_l : SeesLeader k es t c l
+      at_l = rw is_l (leader_seen es leaders t c j l seen.see_leaders at_j)
+
+      ok : broken_rule k (Appended id t c n sent) es ≡ None
+      ok = append_right es id t c n sent s l at_s at_l ∙ free
+
+      rules : (nat_le s.term (k.rank t) ≡ true) × (nat_le n (length s.log.items) ≡ true)
+      rules =
+          first_two l.elected (nat_le s.term (k.rank t)) (nat_le n (length s.log.items)) NotElected PassedTerm
+          MissingEntries
+          (unless (nat_le (common_len (same_entry k) s.log.items l.log.items)
+          (n + common_len (same_entry k) (drop n s.log.items) sent)) DropsMatching
+          (unless (nat_eq (common_len (same_entry k) (drop n s.log.items) sent) (length sent)
+          || (nat_le n (common_len (same_entry k) s.log.items l.log.items)
+          && nat_eq (common_len (same_entry k) (drop n l.log.items) sent) (length sent))) ForeignEntries None))
+          free
+
+      reached : s.term ≤ k.rank t
+      reached = leb-true s.term (k.rank t) rules.0
+
+      within : n ≤ length s.log.items
+      within = leb-true n (length s.log.items) rules.1
+
+      events : (r : ID) → events_in k (Appended id t c n sent ∷ es) r
+          ≡ (if k.same_id id r then and_append t c n sent (events_in k es id) else events_in k es r)
+      events r = at_id (λ (x : List (Event T ID D)). and_append t c n sent x) es id r
+
+  -- ---- acknowledgements
+
+  pub ack_right : (es : List (TraceEvent T ID D)) (id : ID) (t : T) (c : ID) (n : ℕ)
+      (s : Server T ID D) (l : Leader T ID D) → SeesServer k (events_in k es id) s
+      → SeesLeader k es t c l
+      → broken_rule k (Acked id t c n) es ≡ ack_rule (same_entry k) s l (k.rank t) n
+  ack_right es id t c n s l sees leads =
+      rw (leads.elected, sees.term, leads.leader_log) (ap (λ b. unless l.elected NotElected
+      (unless (nat_le (k.rank t) s.term) TermNotReached
+      (unless (nat_le n (length l.log.items)) NotWritten (unless b NotKept None)))) kept)
+    where
+      by_len : has_kept k (k.rank t) (take n l.log.items) (events_in k es id)
+          ≡ (is_prefix k (take n l.log.items) (log_after (events_in k es id))
+          && nat_le (length (take n l.log.items)) (kept_at k (k.rank t) (events_in k es id)))
+      by_len = has_kept_by_len k exact (k.rank t) (take n l.log.items) (events_in k es id)
+
+      prefix : is_prefix k (take n l.log.items) (log_after (events_in k es id))
+          ≡ nat_eq (common_len (same_entry k) (take n l.log.items) s.log.items) (length (take n l.log.items))
+      prefix =
+          ap (λ x. is_prefix k (take n l.log.items) x) sees.log
+          ∙ is_prefix_by_len k exact (take n l.log.items) s.log.items
+
+      go : (b : Bool) → nat_le s.term (k.rank t) ≡ b
+          → (is_prefix k (take n l.log.items) (log_after (events_in k es id))
+          && nat_le (length (take n l.log.items)) (kept_at k (k.rank t) (events_in k es id)))
+          ≡ (is_prefix k (take n l.log.items) (log_after (events_in k es id))
+          && (b || nat_le (length (take n l.log.items)) (kept_from 0 s.kept.items (k.rank t))))
+      go true e =
+          let le : term_after k.rank (events_in k es id) ≤ k.rank t = rw sees.term (leb-true s.term (k.rank t) e) in
+          short (is_prefix k (take n l.log.items) (log_after (events_in k es id))) refl
+          (kept_all k exact (k.rank t) (events_in k es id) le)
+        where
+          short : (a : Bool) → is_prefix k (take n l.log.items) (log_after (events_in k es id)) ≡ a
+              → kept_at k (k.rank t) (events_in k es id) ≡ length (log_after (events_in k es id))
+              → (a && nat_le (length (take n l.log.items)) (kept_at k (k.rank t) (events_in k es id))) ≡ (a && true)
+          short false f h = refl
+          short true f h =
+              le-leb (length (take n l.log.items)) (kept_at k (k.rank t) (events_in k es id))
+              (rw h (prefix_length (prefix_right k exact (take n l.log.items) (log_after (events_in k es id)) f)))
+      go false e =
+          let lt : k.rank t < s.term = leb-false s.term (k.rank t) e in
+          ap (λ x. is_prefix k (take n l.log.items) (log_after (events_in k es id))
+          && nat_le (length (take n l.log.items)) x) (sees.kept (k.rank t) lt)
+
+      kept : has_kept k (k.rank t) (take n l.log.items) (events_in k es id)
+          ≡ has_kept_by (same_entry k) s (k.rank t) (take n l.log.items)
+      kept =
+          by_len ∙ go (nat_le s.term (k.rank t)) refl
+          ∙ ap (λ x. x && (nat_le s.term (k.rank t)
+          || nat_le (length (take n l.log.items)) (kept_from 0 s.kept.items (k.rank t)))) prefix
+
+  -- a leader that is written over stays at its place
+  pub leader_place : (leaders : List (Leader T ID D)) (t : T) (c : ID) (j : ℕ) (l new : Leader T ID D)
+      → position (λ (x : Leader T ID D). same_leader k x.term x.id t c) leaders ≡ Some j
+      → l ≡ get_or leaders j l → new.term ≡ l.term → new.id ≡ l.id
+      → (j < length leaders) × (same_leader k new.term new.id t c ≡ true)
+  leader_place leaders t c j l new at_j is same_term same_id =
+      let facts : (j < length leaders)
+      × (same_leader k (get_or leaders j l).term (get_or leaders j l).id t c ≡ true)
+      × ((i : ℕ) → i < j → same_leader k (get_or leaders i l).term (get_or leaders i l).id t c ≡ false) =
+      position-Some (λ (x : Leader T ID D). same_leader k x.term x.id t c) leaders j l at_j in
+      let here : same_leader k l.term l.id t c ≡ true = rw is facts.1 in
+      (facts.0, rw (same_term, same_id) here)
+
+  pub ack_seen : (es : List (TraceEvent T ID D)) (id : ID) (t : T) (c : ID) (n : ℕ)
+      (servers : List (Server T ID D)) (leaders : List (Leader T ID D)) (i j : ℕ)
+      (s new : Server T ID D) (l lnew : Leader T ID D)
+      → position (λ (x : Server T ID D). k.same_id x.id id) servers ≡ Some i → s ≡ get_or servers i s
+      → position (λ (x : Leader T ID D). same_leader k x.term x.id t c) leaders ≡ Some j
+      → l ≡ get_or leaders j l
+      → HasSeen k es servers leaders → ack_rule (same_entry k) s l (k.rank t) n ≡ None
+      → new.id ≡ s.id → new.term ≡ s.term → new.log.items ≡ s.log.items
+      → new.durable ≡ max n s.durable → new.kept.items ≡ s.kept.items
+      → ((v : ID) (m : ℕ) → has_acked_to k.same_id lnew.acked.items v m
+      ≡ (has_acked_to k.same_id l.acked.items v m || (k.same_id id v && nat_le m n)))
+      → LeaderIs lnew l.term l.id l.start l.log.items l.voters.items l.elected l.committed
+      → (broken_rule k (Acked id t c n) es ≡ None)
+      × HasSeen k (Acked id t c n ∷ es) (set servers i new) (set leaders j lnew)
+  ack_seen es id t c n servers leaders i j s new l lnew at_i is at_j is_l seen free same_id term log dur kept acked same = (
+    ok,
+    record {
+      allowed = more_allowed k (Acked id t c n) es ok seen.allowed;
+      see_servers =
+          server_event (Acked id t c n) es id servers leaders i s new
+          (Ack t c n ∷ events_in k es id) (λ r. at_id (λ (x : List (Event T ID D)). Ack t c n ∷ x) es id r)
+          at_i is same_id seen
+          (sees_ack k exact (events_in k es id) s new t c n at_s term log dur kept);
+      see_leaders =
+          see_leader_set k exact es (Acked id t c n ∷ es) leaders j lnew t c at_j place.1 seen.see_leaders
+          (λ u d apart. ack_to_other k exact es id t u c d n apart)
+          (record {
+            campaigned = at_l.campaigned;
+            start = rw (same.start, same.log) at_l.start;
+            candidate_log = at_l.candidate_log ∙ sym (λ q. take (same.start q) (same.log q));
+            leader_log = at_l.leader_log ∙ sym same.log;
+            voted = λ v. ack_no_vote k exact (k.same_id id v) t t c c n (events_in k es v) ∙ at_l.voted v
+                ∙ sym (ap (λ x. is_member k.same_id x v) same.voters);
+            distinct = rw same.voters at_l.distinct;
+            own_vote = rw same.voters at_l.own_vote;
+            elected =
+                (λ q. ack_no_vote k exact (k.same_id id c) t t c c n (events_in k es c) q
+                && is_quorum_of_log k (candidate_log_in k es t c)
+                (λ v. ack_no_vote k exact (k.same_id id v) t t c c n (events_in k es v) q))
+                ∙ at_l.elected ∙ sym same.elected;
+            acked = λ v m. counted v m (k.same_id id v) refl ∙ sym (acked v m);
+            committed = λ x. at_l.committed x ∙ sym (ap (λ y. config_committed (hold_no_config k) y x) same.committed);
+            within = rw (same.committed, same.log) at_l.within;
+          });
+      see_commits = λ r p. seen.see_commits r p ∙ sym (any_set_or (knows k.rank (same_entry k) r p) false leaders j lnew l
+          place.0 (same_knows r p));
+    },
+  )
+    where
+      at_s : SeesServer k (events_in k es id) s
+      at_s = rw is (server_seen es servers id i s seen.see_servers at_i)
+
+      at_l : SeesLeader k es t c l
+      at_l = rw is_l (leader_seen es leaders t c j l seen.see_leaders at_j)
+
+      ok : broken_rule k (Acked id t c n) es ≡ None
+      ok = ack_right es id t c n s l at_s at_l ∙ free
+
+      place : (j < length leaders) × (same_leader k lnew.term lnew.id t c ≡ true)
+      place = leader_place leaders t c j l lnew at_j is_l same.term same.id
+
+      counted : (v : ID) (m : ℕ) (b : Bool) → k.same_id id v ≡ b
+          → has_acked k t c m (if b then Ack t c n ∷ events_in k es v else events_in k es v)
+          ≡ (has_acked_to k.same_id l.acked.items v m || (b && nat_le m n))
+      counted v m true e =
+          rw (leader_from k exact t t c c refl refl)
+          (ap (λ x. nat_le m n || x) (at_l.acked v m) ∙ or_turn (nat_le m n) (has_acked_to k.same_id l.acked.items v m))
+      counted v m false e = at_l.acked v m ∙ sym (or_no (has_acked_to k.same_id l.acked.items v m))
+
+      same_knows : (r : ℕ) (p : List (Entry T D)) → knows k.rank (same_entry k) r p lnew
+          ≡ knows k.rank (same_entry k) r p (get_or leaders j l)
+      same_knows r p =
+          (λ q. nat_le (k.rank (same.term q)) r && has_committed (same_entry k) (same.log q) (same.committed q) p)
+          ∙ ap (knows k.rank (same_entry k) r p) is_l
+
+  -- ---- votes
+
+  pub grant_right : (es : List (TraceEvent T ID D)) (id : ID) (t : T) (c : ID)
+      (s : Server T ID D) (l : Leader T ID D) → SeesServer k (events_in k es id) s
+      → SeesLeader k es t c l
+      → broken_rule k (Granted id t c) es ≡ grant_rule k.rank k.same_id s l id (k.rank t) c
+  grant_right es id t c s l sees leads =
+      rw (leads.campaigned, sees.term, leads.candidate_log, sees.log) refl
+
+  same_id_turn : (a b : ID) → k.same_id a b ≡ k.same_id b a
+  same_id_turn a b = same_sym k.same_id exact.same_id exact.id_itself a b
+
+  pub grant_seen : (es : List (TraceEvent T ID D)) (id : ID) (t : T) (c : ID)
+      (servers : List (Server T ID D)) (leaders : List (Leader T ID D)) (i j : ℕ)
+      (s new : Server T ID D) (l lnew : Leader T ID D)
+      → position (λ (x : Server T ID D). k.same_id x.id id) servers ≡ Some i → s ≡ get_or servers i s
+      → position (λ (x : Leader T ID D). same_leader k x.term x.id t c) leaders ≡ Some j
+      → l ≡ get_or leaders j l
+      → HasSeen k es servers leaders → grant_rule k.rank k.same_id s l id (k.rank t) c ≡ None
+      → new.id ≡ s.id → new.term ≡ max s.term (k.rank t) → new.log.items ≡ s.log.items
+      → new.durable ≡ s.durable
+      → new.kept.items ≡ kept_after s.kept.items s.term (length s.log.items) (k.rank t)
+      → ((v : ID) → is_member k.same_id lnew.voters.items v
+      ≡ (is_member k.same_id l.voters.items v || k.same_id v id))
+      → IsDistinct k.same_id lnew.voters.items
+      → lnew.elected ≡ k.quorum_of (effective_config k.config_of k.initial (take l.start l.log.items))
+      (is_member k.same_id lnew.voters.items)
+      → lnew.acked.items ≡ l.acked.items
+      → LeaderIs lnew l.term l.id l.start l.log.items lnew.voters.items lnew.elected l.committed
+      → (broken_rule k (Granted id t c) es ≡ None)
+      × HasSeen k (Granted id t c ∷ es) (set servers i new) (set leaders j lnew)
+  grant_seen es id t c servers leaders i j s new l lnew at_i is at_j is_l seen free same_id term log dur kept voted distinct elected acked same = (
+    ok,
+    record {
+      allowed = more_allowed k (Granted id t c) es ok seen.allowed;
+      see_servers =
+          server_event (Granted id t c) es id servers leaders i s new
+          (GrantVote t c ∷ events_in k es id) (λ r. at_id (λ (x : List (Event T ID D)). GrantVote t c ∷ x) es id r)
+          at_i is same_id seen
+          (sees_vote k exact (events_in k es id) s new t c at_s above term log dur kept);
+      see_leaders =
+          see_leader_set k exact es (Granted id t c ∷ es) leaders j lnew t c at_j place.1 seen.see_leaders
+          (λ u d apart. grant_to_other k exact es id t u c d apart)
+          (record {
+            campaigned = at_l.campaigned;
+            start = rw (same.start, same.log) at_l.start;
+            candidate_log = at_l.candidate_log ∙ sym (λ q. take (same.start q) (same.log q));
+            leader_log = at_l.leader_log ∙ sym same.log;
+            voted = votes;
+            distinct = distinct;
+            own_vote = own;
+            elected =
+                (λ q. (votes c ∙ own) q && is_quorum_of_log k (at_l.candidate_log q) (λ v. votes v q))
+                ∙ sym elected;
+            acked = λ v m. vote_no_ack k exact (k.same_id id v) t t c c m (events_in k es v) ∙ at_l.acked v m
+                ∙ sym (ap (λ x. has_acked_to k.same_id x v m) acked);
+            committed = λ x. at_l.committed x ∙ sym (ap (λ y. config_committed (hold_no_config k) y x) same.committed);
+            within = rw (same.committed, same.log) at_l.within;
+          });
+      see_commits = λ r p. seen.see_commits r p ∙ sym (any_set_or (knows k.rank (same_entry k) r p) false leaders j lnew l
+          place.0 (same_knows r p));
+    },
+  )
+    where
+      at_s : SeesServer k (events_in k es id) s
+      at_s = rw is (server_seen es servers id i s seen.see_servers at_i)
+
+      at_l : SeesLeader k es t c l
+      at_l = rw is_l (leader_seen es leaders t c j l seen.see_leaders at_j)
+
+      ok : broken_rule k (Granted id t c) es ≡ None
+      ok = grant_right es id t c s l at_s at_l ∙ free
+
+      above : s.term < k.rank t
+      above =
+          ltb-true s.term (k.rank t)
+          (first_none (nat_lt s.term (k.rank t)) PassedTerm
+          (unless (not (k.same_id c id)) OwnCandidate
+          (unless (up_to_date_by k.rank (take l.start l.log.items) s.log.items) CandidateBehind None)) free)
+
+      place : (j < length leaders) × (same_leader k lnew.term lnew.id t c ≡ true)
+      place = leader_place leaders t c j l lnew at_j is_l same.term same.id
+
+      counted : (v : ID) (b : Bool) → k.same_id id v ≡ b
+          → has_voted k t c (if b then GrantVote t c ∷ events_in k es v else events_in k es v)
+          ≡ (is_member k.same_id l.voters.items v || b)
+      counted v true e =
+          rw (leader_from k exact t t c c refl refl) (or_turn true (is_member k.same_id l.voters.items v))
+      counted v false e = at_l.voted v ∙ sym (or_no (is_member k.same_id l.voters.items v))
+
+      votes : (v : ID) → has_voted k t c (events_in k (Granted id t c ∷ es) v)
+          ≡ is_member k.same_id lnew.voters.items v
+      votes v =
+          counted v (k.same_id id v) refl
+          ∙ ap (λ x. is_member k.same_id l.voters.items v || x) (same_id_turn id v) ∙ sym (voted v)
+
+      own : is_member k.same_id lnew.voters.items c ≡ true
+      own = voted c ∙ ap (λ x. x || k.same_id c id) at_l.own_vote
+
+      same_knows : (r : ℕ) (p : List (Entry T D)) → knows k.rank (same_entry k) r p lnew
+          ≡ knows k.rank (same_entry k) r p (get_or leaders j l)
+      same_knows r p =
+          (λ q. nat_le (k.rank (same.term q)) r && has_committed (same_entry k) (same.log q) (same.committed q) p)
+          ∙ ap (knows k.rank (same_entry k) r p) is_l
+
+  -- ---- campaigns
+
+  pub campaign_twice : (es : List (TraceEvent T ID D)) (t : T) (c : ID) (l : Leader T ID D)
+      → SeesLeader k es t c l → broken_rule k (Campaigned c t) es ≡ Some CampaignedTwice
+  campaign_twice es t c l leads = rw leads.campaigned refl
+
+  pub campaign_right : (es : List (TraceEvent T ID D)) (t : T) (c : ID) (s : Server T ID D)
+      → SeesServer k (events_in k es c) s → SeesNoLeader k es t c
+      → broken_rule k (Campaigned c t) es ≡ unless (nat_lt s.term (k.rank t)) PassedTerm None
+  campaign_right es t c s sees none = rw (none.campaigned, sees.term) refl
+
+  pub campaign_seen : (es : List (TraceEvent T ID D)) (t : T) (c : ID)
+      (servers : List (Server T ID D)) (leaders : List (Leader T ID D)) (i : ℕ)
+      (s new : Server T ID D) (lnew : Leader T ID D)
+      → position (λ (x : Server T ID D). k.same_id x.id c) servers ≡ Some i → s ≡ get_or servers i s
+      → position (λ (x : Leader T ID D). same_leader k x.term x.id t c) leaders ≡ None
+      → HasSeen k es servers leaders → s.term < k.rank t
+      → new.id ≡ s.id → new.term ≡ max s.term (k.rank t) → new.log.items ≡ s.log.items
+      → new.durable ≡ s.durable
+      → new.kept.items ≡ kept_after s.kept.items s.term (length s.log.items) (k.rank t)
+      → lnew.elected ≡ k.quorum_of (effective_config k.config_of k.initial s.log.items)
+      (is_member k.same_id (c ∷ []))
+      → lnew.acked.items ≡ []
+      → LeaderIs lnew t c (length s.log.items) s.log.items (c ∷ []) lnew.elected None
+      → (broken_rule k (Campaigned c t) es ≡ None)
+      × HasSeen k (Campaigned c t ∷ es) (set servers i new) (leaders ++ lnew ∷ [])
+  campaign_seen es t c servers leaders i s new lnew at_i is absent seen above same_id term log dur kept elected acked same = (
+    ok,
+    record {
+      allowed = more_allowed k (Campaigned c t) es ok seen.allowed;
+      see_servers =
+          server_event (Campaigned c t) es c servers leaders i s new
+          (GrantVote t c ∷ events_in k es c) (λ r. at_id (λ (x : List (Event T ID D)). GrantVote t c ∷ x) es c r)
+          at_i is same_id seen
+          (sees_vote k exact (events_in k es c) s new t c at_s above term log dur kept);
+      see_leaders =
+          see_leader_push k exact es (Campaigned c t ∷ es) leaders lnew t c
+          (none_found (λ (x : Leader T ID D). same_leader k x.term x.id t c) leaders absent) is_key seen.see_leaders
+          (λ u d apart. campaign_of_other k exact es t u c d apart)
+          (record {
+            campaigned = rw me refl;
+            start = rw (same.start, same.log) (omega arith);
+            candidate_log = cand ∙ sym (λ q. take (same.start q) (same.log q));
+            leader_log = rw me at_s.log ∙ sym same.log;
+            voted = λ v. votes v ∙ sym (ap (λ x. is_member k.same_id x v) same.voters);
+            distinct = rw same.voters (unfold IsDistinct in (tt, tt));
+            own_vote = rw same.voters self_vote;
+            elected =
+                (λ q. (votes c ∙ self_vote) q
+                && is_quorum_of_log k (log0 q) (λ v. votes v q))
+                ∙ sym elected;
+            acked = λ v m. vote_no_ack k exact (k.same_id c v) t t c c m (events_in k es v) ∙ none.acked v m
+                ∙ sym (ap (λ x. has_acked_to k.same_id x v m) acked);
+            committed = λ x. none.committed x ∙ sym (ap (λ y. config_committed (hold_no_config k) y x) same.committed);
+            within = rw same.committed tt;
+          });
+      see_commits = λ r p. seen.see_commits r p ∙ sym (any_push (knows k.rank (same_entry k) r p) leaders lnew
+          ∙ ap (λ x. x || list_any (knows k.rank (same_entry k) r p) leaders) (knows_none r p));
+    },
+  )
+    where
+      at_s : SeesServer k (events_in k es c) s
+      at_s = rw is (server_seen es servers c i s seen.see_servers at_i)
+
+      none : SeesNoLeader k es t c
+      none = no_leader_seen es leaders t c seen.see_leaders absent
+
+      ok : broken_rule k (Campaigned c t) es ≡ None
+      ok =
+          let free : unless (nat_lt s.term (k.rank t)) PassedTerm None ≡ None =
+          rw (lt-ltb s.term (k.rank t) above) refl in
+          campaign_right es t c s at_s none ∙ free
+
+      me : same_leader k t c t c ≡ true
+      me = leader_from k exact t t c c refl refl
+
+      is_key : same_leader k lnew.term lnew.id t c ≡ true
+      is_key = rw (same.term, same.id) me
+
+      log0 : candidate_log_in k (Campaigned c t ∷ es) t c ≡ s.log.items
+      log0 = rw me at_s.log
+
+      cand : candidate_log_in k (Campaigned c t ∷ es) t c ≡ take (length s.log.items) s.log.items
+      cand = log0 ∙ sym (take_all (length s.log.items) s.log.items (omega arith))
+
+      counted : (v : ID) (b : Bool) → k.same_id c v ≡ b
+          → has_voted k t c (if b then GrantVote t c ∷ events_in k es v else events_in k es v)
+          ≡ (b || false)
+      counted v true e = rw me refl
+      counted v false e = none.voted v
+
+      votes : (v : ID) → has_voted k t c (events_in k (Campaigned c t ∷ es) v)
+          ≡ is_member k.same_id (c ∷ []) v
+      votes v = counted v (k.same_id c v) refl ∙ ap (λ x. x || false) (same_id_turn c v)
+
+      self_vote : is_member k.same_id (c ∷ []) c ≡ true
+      self_vote = rw (exact.id_itself c) refl
+
+      knows_none : (r : ℕ) (p : List (Entry T D)) → knows k.rank (same_entry k) r p lnew ≡ false
+      knows_none r p =
+          (λ q. nat_le (k.rank lnew.term) r && has_committed (same_entry k) lnew.log.items (same.committed q) p)
+          ∙ and_right (nat_le (k.rank lnew.term) r) false refl
+
+  -- ---- entries that a leader writes
+
+  pub not_elected : (es : List (TraceEvent T ID D)) (t : T) (c : ID) → SeesNoLeader k es t c
+      → is_elected k es t c ≡ false
+  not_elected es t c none =
+      rw (none.voted c) refl
+
+  config_test : (holds : D → Bool) → ((d : D) → k.config_of d ≡ config_in holds d)
+      → (log : List (Entry T D)) → hold_no_config k log ≡ no_config_in holds log
+  config_test holds is [] = refl
+  config_test holds is (e ∷ log) =
+      (λ q. is_none (is e.content q) && config_test holds is log q)
+      ∙ ap (λ x. x && no_config_in holds log) (go (holds e.content))
+    where
+      go : (b : Bool) → is_none (if b then Some (Some e.content) else None) ≡ not b
+      go true = refl
+      go false = refl
+
+  pub write_right : (es : List (TraceEvent T ID D)) (t : T) (c : ID) (e : Entry T D)
+      (l : Leader T ID D) (holds : D → Bool) → ((d : D) → k.config_of d ≡ config_in holds d)
+      → k.initial ≡ None → SeesLeader k es t c l
+      → broken_rule k (Wrote c t e) es ≡ write_rule k.same_term holds k.intersect l t e
+  write_right es t c e l holds is initial leads =
+      rw leads.elected (ap (λ x. unless l.elected NotElected (unless (k.same_term e.term t) OtherTerm x)) proposal)
+    where
+      configs : k.config_of ≡ config_in holds
+      configs = λ q d. is d q
+
+      in_effect : effective_config k.config_of k.initial (leader_log_in k es t c)
+          ≡ effective_config (config_in holds) None l.log.items
+      in_effect = λ q. effective_config (configs q) (initial q) (leads.leader_log q)
+
+      tested : (o : Option ℕ) (x : List (Entry T D))
+          → config_committed (hold_no_config k) o x ≡ config_committed (no_config_in holds) o x
+      tested None x = refl
+      tested (Some n) x = config_test holds is (drop n x)
+
+      committed : is_config_committed k t c (leader_log_in k es t c) es
+          ≡ config_committed (no_config_in holds) l.committed l.log.items
+      committed =
+          leads.committed (leader_log_in k es t c)
+          ∙ ap (λ x. config_committed (hold_no_config k) l.committed x) leads.leader_log
+          ∙ tested l.committed l.log.items
+
+      go : (b : Bool) → proposal_rule k es t c (if b then Some (Some e.content) else None)
+          ≡ (if b then unless (k.intersect (effective_config (config_in holds) None l.log.items) (Some e.content)) ApartConfigs
+          (unless (k.intersect (Some e.content) (Some e.content)) ApartQuorums
+          (unless (config_committed (no_config_in holds) l.committed l.log.items) EarlyConfig None))
+          else None)
+      go true =
+          λ q. unless (k.intersect (in_effect q) (Some e.content)) ApartConfigs
+          (unless (k.intersect (Some e.content) (Some e.content)) ApartQuorums
+          (unless (committed q) EarlyConfig None))
+      go false = refl
+
+      proposal : proposal_rule k es t c (k.config_of e.content) ≡ config_rule holds k.intersect l e.content
+      proposal = ap (λ o. proposal_rule k es t c o) (is e.content) ∙ go (holds e.content)
+
+  pub write_seen : (es : List (TraceEvent T ID D)) (t : T) (c : ID) (e : Entry T D)
+      (servers : List (Server T ID D)) (leaders : List (Leader T ID D)) (j : ℕ) (l lnew : Leader T ID D)
+      → position (λ (x : Leader T ID D). same_leader k x.term x.id t c) leaders ≡ Some j
+      → l ≡ get_or leaders j l
+      → HasSeen k es servers leaders → broken_rule k (Wrote c t e) es ≡ None
+      → lnew.acked.items ≡ l.acked.items
+      → LeaderIs lnew l.term l.id l.start (l.log.items ++ e ∷ []) l.voters.items l.elected l.committed
+      → (broken_rule k (Wrote c t e) es ≡ None)
+      × HasSeen k (Wrote c t e ∷ es) servers (set leaders j lnew)
+  write_seen es t c e servers leaders j l lnew at_j is_l seen ok acked same = (
+    ok,
+    record {
+      allowed = more_allowed k (Wrote c t e) es ok seen.allowed;
+      see_servers = seen.see_servers;
+      see_leaders =
+          see_leader_set k exact es (Wrote c t e ∷ es) leaders j lnew t c at_j place.1 seen.see_leaders
+          (λ u d apart. write_of_other k exact es t u c d e apart)
+          (record {
+            campaigned = at_l.campaigned;
+            start = rw (same.start, same.log) longer;
+            candidate_log = at_l.candidate_log ∙ sym (take-append-le l.start l.log.items (e ∷ []) at_l.start)
+                ∙ sym (λ q. take (same.start q) (same.log q));
+            leader_log = rw me (ap (λ x. x ++ e ∷ []) at_l.leader_log ∙ sym same.log);
+            voted = λ v. at_l.voted v ∙ sym (ap (λ x. is_member k.same_id x v) same.voters);
+            distinct = rw same.voters at_l.distinct;
+            own_vote = rw same.voters at_l.own_vote;
+            elected = at_l.elected ∙ sym same.elected;
+            acked = λ v m. at_l.acked v m ∙ sym (ap (λ x. has_acked_to k.same_id x v m) acked);
+            committed = λ x. at_l.committed x ∙ sym (ap (λ y. config_committed (hold_no_config k) y x) same.committed);
+            within = rw (same.committed, same.log) (within l.committed at_l.within);
+          });
+      see_commits = λ r p. seen.see_commits r p ∙ sym (any_set_or (knows k.rank (same_entry k) r p) false leaders j lnew l
+          place.0 (same_knows r p));
+    },
+  )
+    where
+      at_l : SeesLeader k es t c l
+      at_l = rw is_l (leader_seen es leaders t c j l seen.see_leaders at_j)
+
+      me : same_leader k t c t c ≡ true
+      me = leader_from k exact t t c c refl refl
+
+      place : (j < length leaders) × (same_leader k lnew.term lnew.id t c ≡ true)
+      place = leader_place leaders t c j l lnew at_j is_l same.term same.id
+
+      more : length l.log.items ≤ length (l.log.items ++ e ∷ [])
+      more = simp length-append (omega arith)
+
+      longer : l.start ≤ length (l.log.items ++ e ∷ [])
+      longer = let a : l.start ≤ length l.log.items = at_l.start in omega (arith, more)
+
+      within : (o : Option ℕ) → MatchOption o (Unit {0}) (λ n. n ≤ length l.log.items)
+          → MatchOption o (Unit {0}) (λ n. n ≤ length (l.log.items ++ e ∷ []))
+      within None h = tt
+      within (Some n) h = omega (arith, more)
+
+      same_committed : (o : Option ℕ) (p : List (Entry T D))
+          → MatchOption o (Unit {0}) (λ n. n ≤ length l.log.items)
+          → has_committed (same_entry k) (l.log.items ++ e ∷ []) o p
+          ≡ has_committed (same_entry k) l.log.items o p
+      same_committed None p h = refl
+      same_committed (Some n) p h =
+          ap (λ x. nat_eq (common_len (same_entry k) p x) (length p)) (take-append-le n l.log.items (e ∷ []) h)
+
+      same_knows : (r : ℕ) (p : List (Entry T D)) → knows k.rank (same_entry k) r p lnew
+          ≡ knows k.rank (same_entry k) r p (get_or leaders j l)
+      same_knows r p =
+          (λ q. nat_le (k.rank (same.term q)) r && has_committed (same_entry k) (same.log q) (same.committed q) p)
+          ∙ ap (λ x. nat_le (k.rank l.term) r && x) (same_committed l.committed p at_l.within)
+          ∙ ap (knows k.rank (same_entry k) r p) is_l
+
+  -- ---- commits
+
+  -- what a commit breaks: a rule of the leader alone, or there is no quorum
+  pub commit_right : (es : List (TraceEvent T ID D)) (t : T) (c : ID) (n m : ℕ) (l : Leader T ID D)
+      (quorum : Bool) → SeesLeader k es t c l
+      → is_quorum_of_log k (take m l.log.items) (λ v. has_acked_to k.same_id l.acked.items v n) ≡ quorum
+      → broken_rule k (Committed c t n m) es
+      ≡ unless l.elected NotElected
+      (unless (nat_lt l.start n) EarlierTerm
+      (unless (nat_le n m) CountedEarly
+      (unless (nat_le m (length l.log.items)) NotWritten (unless quorum NoQuorum None))))
+  commit_right es t c n m l quorum leads is =
+      λ q. unless (leads.elected q) NotElected
+      (unless (nat_lt (start q) n) EarlierTerm
+      (unless (nat_le n m) CountedEarly
+      (unless (nat_le m (length (leads.leader_log q))) NotWritten
+      (unless (counted q) NoQuorum None))))
+    where
+      start : length (candidate_log_in k es t c) ≡ l.start
+      start = ap length leads.candidate_log ∙ length-take-le l.start l.log.items leads.start
+
+      counted : is_quorum_of_log k (take m (leader_log_in k es t c)) (λ v. has_acked k t c n (events_in k es v))
+          ≡ quorum
+      counted = (λ q. is_quorum_of_log k (take m (leads.leader_log q)) (λ v. leads.acked v n q)) ∙ is
+
+  pub commit_first : (l : Leader T ID D) (n m : ℕ) (r : Rule) (o : Option Rule)
+      → commit_rule l n m ≡ Some r
+      → unless l.elected NotElected
+      (unless (nat_lt l.start n) EarlierTerm
+      (unless (nat_le n m) CountedEarly
+      (unless (nat_le m (length l.log.items)) NotWritten o))) ≡ Some r
+  commit_first l n m r o e =
+      go l.elected (nat_lt l.start n) (nat_le n m) (nat_le m (length l.log.items)) e
+    where
+      go : (a b x y : Bool)
+          → unless a NotElected (unless b EarlierTerm (unless x CountedEarly (unless y NotWritten None))) ≡ Some r
+          → unless a NotElected (unless b EarlierTerm (unless x CountedEarly (unless y NotWritten o))) ≡ Some r
+      go true true true true h = absurd (cc)
+      go true true true false h = h
+      go true true false y h = h
+      go true false x y h = h
+      go false b x y h = h
+
+  pub commit_then : (l : Leader T ID D) (n m : ℕ) (o : Option Rule) → commit_rule l n m ≡ None
+      → unless l.elected NotElected
+      (unless (nat_lt l.start n) EarlierTerm
+      (unless (nat_le n m) CountedEarly
+      (unless (nat_le m (length l.log.items)) NotWritten o))) ≡ o
+  commit_then l n m o e =
+      go l.elected (nat_lt l.start n) (nat_le n m) (nat_le m (length l.log.items)) e
+    where
+      go : (a b x y : Bool)
+          → unless a NotElected (unless b EarlierTerm (unless x CountedEarly (unless y NotWritten None))) ≡ None
+          → unless a NotElected (unless b EarlierTerm (unless x CountedEarly (unless y NotWritten o))) ≡ o
+      go true true true true h = refl
+      go true true true false h = absurd (cc)
+      go true true false y h = absurd (cc)
+      go true false x y h = absurd (cc)
+      go false b x y h = absurd (cc)
+
+  -- the first entries of a log that reach further hold what fewer hold
+  longer_prefix : (p log : List (Entry T D)) (n m : ℕ) → n ≤ m
+      → is_prefix k p (take n log) ≡ true → is_prefix k p (take m log) ≡ true
+  longer_prefix [] log n m h e = refl
+  longer_prefix (x ∷ p) [] n m h e = absurd (none n e)
+    where
+      none : (i : ℕ) → is_prefix k (x ∷ p) (take i []) ≡ true → ⊥
+      none zero q = absurd (cc)
+      none (suc i) q = absurd (cc)
+  longer_prefix (x ∷ p) (y ∷ log) zero m h e = absurd (cc)
+  longer_prefix (x ∷ p) (y ∷ log) (suc n) zero h e = absurd (omega arith)
+  longer_prefix (x ∷ p) (y ∷ log) (suc n) (suc m) h e =
+      and_from (same_entry k x y) (is_prefix k p (take m log))
+      (first_so (same_entry k x y) (is_prefix k p (take n log)) e)
+      (longer_prefix p log n m (omega arith) (second_so (same_entry k x y) (is_prefix k p (take n log)) e))
+
+  -- none of the entries after more first ones holds a config if none after fewer does
+  fewer_configs : (log : List (Entry T D)) (n m : ℕ) → n ≤ m → hold_no_config k (drop n log) ≡ true
+      → hold_no_config k (drop m log) ≡ true
+  fewer_configs [] n zero h e = refl
+  fewer_configs [] n (suc m) h e = refl
+  fewer_configs (x ∷ log) zero zero h e = e
+  fewer_configs (x ∷ log) zero (suc m) h e =
+      fewer_configs log zero m (omega arith) (second_so (is_none (k.config_of x.content)) (hold_no_config k log) e)
+  fewer_configs (x ∷ log) (suc n) zero h e = absurd (omega arith)
+  fewer_configs (x ∷ log) (suc n) (suc m) h e = fewer_configs log n m (omega arith) e
+
+  -- a test that more passes where fewer passes, at the greater of two numbers
+  at_max : (test : ℕ → Bool) → ((n m : ℕ) → n ≤ m → test n ≡ true → test m ≡ true) → (a n : ℕ)
+      → test (max a n) ≡ (test n || test a)
+  at_max test up a n = go (cases_lt a n)
+    where
+      both : (x y : Bool) → (y ≡ true → x ≡ true) → x ≡ (x || y)
+      both true y h = refl
+      both false true h = h refl
+      both false false h = refl
+
+      go : (a < n) ⊎ (n ≤ a) → test (max a n) ≡ (test n || test a)
+      go (inl h) =
+          let e : max a n ≡ n = omega arith in
+          ap test e ∙ both (test n) (test a) (up a n (omega arith))
+      go (inr h) =
+          let e : max a n ≡ a = omega arith in
+          ap test e ∙ both (test a) (test n) (up n a h) ∙ or_turn (test a) (test n)
+
+  pub commit_seen : (es : List (TraceEvent T ID D)) (t : T) (c : ID) (n m : ℕ)
+      (servers : List (Server T ID D)) (leaders : List (Leader T ID D)) (j : ℕ) (l lnew : Leader T ID D)
+      → position (λ (x : Leader T ID D). same_leader k x.term x.id t c) leaders ≡ Some j
+      → l ≡ get_or leaders j l
+      → HasSeen k es servers leaders → broken_rule k (Committed c t n m) es ≡ None
+      → n ≤ length l.log.items
+      → lnew.acked.items ≡ l.acked.items
+      → LeaderIs lnew l.term l.id l.start l.log.items l.voters.items l.elected
+      (Some (max (unwrap_or l.committed 0) n))
+      → (broken_rule k (Committed c t n m) es ≡ None)
+      × HasSeen k (Committed c t n m ∷ es) servers (set leaders j lnew)
+  commit_seen es t c n m servers leaders j l lnew at_j is_l seen ok short acked same = (
+    ok,
+    record {
+      allowed = more_allowed k (Committed c t n m) es ok seen.allowed;
+      see_servers = seen.see_servers;
+      see_leaders =
+          see_leader_set k exact es (Committed c t n m ∷ es) leaders j lnew t c at_j place.1 seen.see_leaders
+          (λ u d apart. commit_of_other k exact es t u c d n m apart)
+          (record {
+            campaigned = at_l.campaigned;
+            start = rw (same.start, same.log) at_l.start;
+            candidate_log = at_l.candidate_log ∙ sym (λ q. take (same.start q) (same.log q));
+            leader_log = at_l.leader_log ∙ sym same.log;
+            voted = λ v. at_l.voted v ∙ sym (ap (λ x. is_member k.same_id x v) same.voters);
+            distinct = rw same.voters at_l.distinct;
+            own_vote = rw same.voters at_l.own_vote;
+            elected = at_l.elected ∙ sym same.elected;
+            acked = λ v i. at_l.acked v i ∙ sym (ap (λ x. has_acked_to k.same_id x v i) acked);
+            committed = λ x. rw me (ap (λ b. hold_no_config k (drop n x) || b) (at_l.committed x)
+                ∙ sym (configs x l.committed)
+                ∙ sym (ap (λ y. config_committed (hold_no_config k) y x) same.committed));
+            within = rw (same.committed, same.log) (reach l.committed at_l.within);
+          });
+      see_commits = λ r p.
+          (ap (λ b. (nat_le (k.rank t) r && is_prefix k p (take n (leader_log_in k es t c))) || b) (seen.see_commits r p)
+          ∙ sym (any_set_or (knows k.rank (same_entry k) r p)
+          (nat_le (k.rank t) r && is_prefix k p (take n (leader_log_in k es t c))) leaders j lnew l
+          place.0 (new_knows r p)));
+    },
+  )
+    where
+      at_l : SeesLeader k es t c l
+      at_l = rw is_l (leader_seen es leaders t c j l seen.see_leaders at_j)
+
+      me : same_leader k t c t c ≡ true
+      me = leader_from k exact t t c c refl refl
+
+      place : (j < length leaders) × (same_leader k lnew.term lnew.id t c ≡ true)
+      place = leader_place leaders t c j l lnew at_j is_l same.term same.id
+
+      term_is : l.term ≡ t
+      term_is =
+          let facts : (j < length leaders)
+          × (same_leader k (get_or leaders j l).term (get_or leaders j l).id t c ≡ true)
+          × ((i : ℕ) → i < j → same_leader k (get_or leaders i l).term (get_or leaders i l).id t c ≡ false) =
+          position-Some (λ (x : Leader T ID D). same_leader k x.term x.id t c) leaders j l at_j in
+          let here : same_leader k l.term l.id t c ≡ true = rw is_l facts.1 in
+          let both = leader_right k exact l.term t l.id c here in both.0
+
+      reach : (o : Option ℕ) → MatchOption o (Unit {0}) (λ i. i ≤ length l.log.items)
+          → max (unwrap_or o 0) n ≤ length l.log.items
+      reach None h = omega arith
+      reach (Some i) h = omega arith
+
+      configs : (x : List (Entry T D)) (o : Option ℕ)
+          → hold_no_config k (drop (max (unwrap_or o 0) n) x)
+          ≡ (hold_no_config k (drop n x) || config_committed (hold_no_config k) o x)
+      configs x None =
+          let e : max 0 n ≡ n = omega arith in
+          ap (λ i. hold_no_config k (drop i x)) e ∙ sym (or_no (hold_no_config k (drop n x)))
+      configs x (Some a) = at_max (λ i. hold_no_config k (drop i x)) (λ i u h. fewer_configs x i u h) a n
+
+      prefixes : (p : List (Entry T D)) (o : Option ℕ)
+          → nat_eq (common_len (same_entry k) p (take (max (unwrap_or o 0) n) l.log.items)) (length p)
+          ≡ (is_prefix k p (take n l.log.items) || has_committed (same_entry k) l.log.items o p)
+      prefixes p None =
+          let e : max 0 n ≡ n = omega arith in
+          ap (λ i. nat_eq (common_len (same_entry k) p (take i l.log.items)) (length p)) e
+          ∙ sym (is_prefix_by_len k exact p (take n l.log.items))
+          ∙ sym (or_no (is_prefix k p (take n l.log.items)))
+      prefixes p (Some a) =
+          sym (is_prefix_by_len k exact p (take (max a n) l.log.items))
+          ∙ at_max (λ i. is_prefix k p (take i l.log.items)) (λ i u h. longer_prefix p l.log.items i u h) a n
+          ∙ ap (λ x. is_prefix k p (take n l.log.items) || x) (is_prefix_by_len k exact p (take a l.log.items))
+
+      spread : (x y z : Bool) → (x && (y || z)) ≡ ((x && y) || (x && z))
+      spread true y z = refl
+      spread false y z = refl
+
+      new_knows : (r : ℕ) (p : List (Entry T D)) → knows k.rank (same_entry k) r p lnew
+          ≡ ((nat_le (k.rank t) r && is_prefix k p (take n (leader_log_in k es t c)))
+          || knows k.rank (same_entry k) r p (get_or leaders j l))
+      new_knows r p =
+          (λ q. nat_le (k.rank (same.term q)) r && has_committed (same_entry k) (same.log q) (same.committed q) p)
+          ∙ ap (λ x. nat_le (k.rank l.term) r && x) (prefixes p l.committed)
+          ∙ spread (nat_le (k.rank l.term) r) (is_prefix k p (take n l.log.items))
+          (has_committed (same_entry k) l.log.items l.committed p)
+          ∙ (λ q. (nat_le (k.rank (term_is q)) r && is_prefix k p (take n (sym at_l.leader_log q)))
+          || knows k.rank (same_entry k) r p (is_l q))
+
+  -- ---- what is applied
+
+  pub apply_right : (es : List (TraceEvent T ID D)) (servers : List (Server T ID D))
+      (leaders : List (Leader T ID D)) (id : ID) (t : T) (c : ID) (n : ℕ) (l : Leader T ID D)
+      → HasSeen k es servers leaders → SeesLeader k es t c l
+      → broken_rule k (Applied id t c n) es
+      ≡ unless (has_acked_to k.same_id l.acked.items id n) NotAcked
+      (unless (list_any (knows k.rank (same_entry k) (k.rank t) (take n l.log.items)) leaders) NotCommitted None)
+  apply_right es servers leaders id t c n l seen leads =
+      λ q. unless (leads.acked id n q) NotAcked (unless (known q) NotCommitted None)
+    where
+      known : is_known_committed k (k.rank t) (take n (leader_log_in k es t c)) es
+          ≡ list_any (knows k.rank (same_entry k) (k.rank t) (take n l.log.items)) leaders
+      known =
+          ap (λ x. is_known_committed k (k.rank t) (take n x) es) leads.leader_log
+          ∙ seen.see_commits (k.rank t) (take n l.log.items)
+
+  pub apply_seen : (es : List (TraceEvent T ID D)) (servers : List (Server T ID D))
+      (leaders : List (Leader T ID D)) (id : ID) (t : T) (c : ID) (n : ℕ)
+      → HasSeen k es servers leaders → broken_rule k (Applied id t c n) es ≡ None
+      → (broken_rule k (Applied id t c n) es ≡ None)
+      × HasSeen k (Applied id t c n ∷ es) servers leaders
+  apply_seen es servers leaders id t c n seen ok = (
+    ok,
+    record {
+      allowed = more_allowed k (Applied id t c n) es ok seen.allowed;
+      see_servers = seen.see_servers;
+      see_leaders = λ u d. stays k exact es (Applied id t c n ∷ es) u d (apply_same k exact es id t u c d n)
+          (find_leader k leaders u d) (seen.see_leaders u d);
+      see_commits = seen.see_commits;
+    },
+  )
+
+  -- ---- the beginning
+
+  pub begin_seen : k.intersect k.initial k.initial ≡ true → HasSeen k [] [] []
+  begin_seen ok = record {
+    allowed = ok;
+    see_servers = λ id. refl;
+    see_leaders = λ t c. record {
+      campaigned = refl;
+      candidate_log = refl;
+      leader_log = refl;
+      voted = λ v. refl;
+      acked = λ v n. refl;
+      committed = λ log. refl;
+    };
+    see_commits = λ r p. refl;
+  }
+
+  -- ---- events that are refused
+
+  pub restart_refused : (es : List (TraceEvent T ID D)) (id : ID) (old servers : List (Server T ID D))
+      (leaders : List (Leader T ID D)) (i n : ℕ) (s : Server T ID D) (r : Rule)
+      → HasPlace (λ (x : Server T ID D). k.same_id x.id id) id old servers i → s ≡ get_or servers i s
+      → HasSeen k es old leaders → restart_rule s n ≡ Some r
+      → (broken_rule k (Restarted id n) es ≡ Some r) × HasSeen k es servers leaders
+  restart_refused es id old servers leaders i n s r place is seen e =
+      let now : HasSeen k es servers leaders = see_place es id old servers i leaders place seen in
+      let at_s : SeesServer k (events_in k es id) s =
+      rw is (server_seen es servers id i s now.see_servers place.0) in
+      (restart_right es id s n at_s ∙ e, now)
+
+  pub append_refused : (es : List (TraceEvent T ID D)) (id : ID) (t : T) (c : ID) (n : ℕ)
+      (sent : List (Entry T D)) (old servers : List (Server T ID D)) (leaders : List (Leader T ID D))
+      (i j : ℕ) (s : Server T ID D) (l : Leader T ID D) (r : Rule)
+      → HasPlace (λ (x : Server T ID D). k.same_id x.id id) id old servers i → s ≡ get_or servers i s
+      → position (λ (x : Leader T ID D). same_leader k x.term x.id t c) leaders ≡ Some j
+      → l ≡ get_or leaders j l
+      → HasSeen k es old leaders → append_rule (same_entry k) s l (k.rank t) n sent ≡ Some r
+      → (broken_rule k (Appended id t c n sent) es ≡ Some r) × HasSeen k es servers leaders
+  append_refused es id t c n sent old servers leaders i j s l r place is at_j is_l seen e =
+      let now : HasSeen k es servers leaders = see_place es id old servers i leaders place seen in
+      let at_s : SeesServer k (events_in k es id) s =
+      rw is (server_seen es servers id i s now.see_servers place.0) in
+      let at_l : SeesLeader k es t c l = rw is_l (leader_seen es leaders t c j l seen.see_leaders at_j) in
+      (append_right es id t c n sent s l at_s at_l ∙ e, now)
+
+  pub ack_refused : (es : List (TraceEvent T ID D)) (id : ID) (t : T) (c : ID) (n : ℕ)
+      (old servers : List (Server T ID D)) (leaders : List (Leader T ID D))
+      (i j : ℕ) (s : Server T ID D) (l : Leader T ID D) (r : Rule)
+      → HasPlace (λ (x : Server T ID D). k.same_id x.id id) id old servers i → s ≡ get_or servers i s
+      → position (λ (x : Leader T ID D). same_leader k x.term x.id t c) leaders ≡ Some j
+      → l ≡ get_or leaders j l
+      → HasSeen k es old leaders → ack_rule (same_entry k) s l (k.rank t) n ≡ Some r
+      → (broken_rule k (Acked id t c n) es ≡ Some r) × HasSeen k es servers leaders
+  ack_refused es id t c n old servers leaders i j s l r place is at_j is_l seen e =
+      let now : HasSeen k es servers leaders = see_place es id old servers i leaders place seen in
+      let at_s : SeesServer k (events_in k es id) s =
+      rw is (server_seen es servers id i s now.see_servers place.0) in
+      let at_l : SeesLeader k es t c l = rw is_l (leader_seen es leaders t c j l seen.see_leaders at_j) in
+      (ack_right es id t c n s l at_s at_l ∙ e, now)
+
+  pub grant_refused : (es : List (TraceEvent T ID D)) (id : ID) (t : T) (c : ID)
+      (old servers : List (Server T ID D)) (leaders : List (Leader T ID D))
+      (i j : ℕ) (s : Server T ID D) (l : Leader T ID D) (r : Rule)
+      → HasPlace (λ (x : Server T ID D). k.same_id x.id id) id old servers i → s ≡ get_or servers i s
+      → position (λ (x : Leader T ID D). same_leader k x.term x.id t c) leaders ≡ Some j
+      → l ≡ get_or leaders j l
+      → HasSeen k es old leaders → grant_rule k.rank k.same_id s l id (k.rank t) c ≡ Some r
+      → (broken_rule k (Granted id t c) es ≡ Some r) × HasSeen k es servers leaders
+  grant_refused es id t c old servers leaders i j s l r place is at_j is_l seen e =
+      let now : HasSeen k es servers leaders = see_place es id old servers i leaders place seen in
+      let at_s : SeesServer k (events_in k es id) s =
+      rw is (server_seen es servers id i s now.see_servers place.0) in
+      let at_l : SeesLeader k es t c l = rw is_l (leader_seen es leaders t c j l seen.see_leaders at_j) in
+      (grant_right es id t c s l at_s at_l ∙ e, now)
+
+  pub campaign_refused : (es : List (TraceEvent T ID D)) (t : T) (c : ID)
+      (old servers : List (Server T ID D)) (leaders : List (Leader T ID D)) (i : ℕ) (s : Server T ID D)
+      → HasPlace (λ (x : Server T ID D). k.same_id x.id c) c old servers i → s ≡ get_or servers i s
+      → position (λ (x : Leader T ID D). same_leader k x.term x.id t c) leaders ≡ None
+      → HasSeen k es old leaders → k.rank t ≤ s.term
+      → (broken_rule k (Campaigned c t) es ≡ Some PassedTerm) × HasSeen k es servers leaders
+  campaign_refused es t c old servers leaders i s place is absent seen below =
+      let now : HasSeen k es servers leaders = see_place es c old servers i leaders place seen in
+      let at_s : SeesServer k (events_in k es c) s =
+      rw is (server_seen es servers c i s now.see_servers place.0) in
+      let none : SeesNoLeader k es t c = no_leader_seen es leaders t c seen.see_leaders absent in
+      let free : unless (nat_lt s.term (k.rank t)) PassedTerm None ≡ Some PassedTerm =
+      rw (le-ltb s.term (k.rank t) below) refl in
+      (campaign_right es t c s at_s none ∙ free, now)
+
+  pub campaign_again : (es : List (TraceEvent T ID D)) (t : T) (c : ID)
+      (servers : List (Server T ID D)) (leaders : List (Leader T ID D)) (j : ℕ)
+      → position (λ (x : Leader T ID D). same_leader k x.term x.id t c) leaders ≡ Some j
+      → HasSeen k es servers leaders
+      → (broken_rule k (Campaigned c t) es ≡ Some CampaignedTwice) × HasSeen k es servers leaders
+  campaign_again es t c servers leaders j at_j seen =
+      let found : (l : Leader T ID D) × (find_leader k leaders t c ≡ Some l) =
+      found_some (λ (x : Leader T ID D). same_leader k x.term x.id t c) leaders j at_j in
+      let at_l : SeesLeader k es t c found.0 =
+      subst (λ (o : Option (Leader T ID D)). MatchOption o (SeesNoLeader k es t c) (SeesLeader k es t c))
+      found.1 (seen.see_leaders t c) in
+      (campaign_twice es t c found.0 at_l, seen)
+
+  pub no_leader : (es : List (TraceEvent T ID D)) (t : T) (c : ID) (servers : List (Server T ID D))
+      (leaders : List (Leader T ID D))
+      → position (λ (x : Leader T ID D). same_leader k x.term x.id t c) leaders ≡ None
+      → HasSeen k es servers leaders → (is_elected k es t c ≡ false)
+      × (has_campaigned k t c es ≡ false)
+      × ((v : ID) (n : ℕ) → has_acked k t c n (events_in k es v) ≡ false)
+  no_leader es t c servers leaders absent seen =
+      let none : SeesNoLeader k es t c = no_leader_seen es leaders t c seen.see_leaders absent in
+      (not_elected es t c none, none.campaigned, none.acked)

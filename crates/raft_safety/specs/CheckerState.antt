@@ -1,0 +1,160 @@
+-- What the checker keeps of a server and of a leader, and which rule an event breaks by it.
+use Rattle.std.specs.Prelude.{◌≡◌, ◌⊎◌, ◌+◌, ℕ, suc, Bool, false, not, ◌&&◌, ◌||◌, nat_lt, nat_le, nat_eq, min, if◌then◌else◌, Option, Some, None, List, [], ◌∷◌, ◌++◌, length, take, drop}
+use Rattle.std.specs.List.{list_any, list_all, position}
+use Rattle.raft_safety.specs.Log.{Entry, last_term}
+use Rattle.raft_safety.specs.Configs.{effective_config}
+use Rattle.raft_safety.specs.declared.checker.server.Server.{Server}
+use Rattle.raft_safety.specs.declared.checker.leader.Leader.{Leader}
+use Rattle.raft_safety.specs.declared.rule.Rule.{Rule}
+use Rattle.raft_safety.specs.declared.rule.Rule.TheVariants.{PassedTerm, OwnCandidate, CandidateBehind, NotElected, MissingEntries, DropsMatching, ForeignEntries, TermNotReached, NotWritten, NotKept, LostAcked, OtherTerm, ApartConfigs, ApartQuorums, EarlyConfig, EarlierTerm, CountedEarly}
+use Rattle.raft_safety.specs.declared.checker.server.Kept.{Kept}
+use Rattle.raft_safety.specs.declared.checker.leader.Acked.{Acked}
+
+-- two entries are of one term and have one content
+abbrev pub same_entry_by : {T D : Type 0} → (T → T → Bool) → (D → D → Bool) → Entry T D → Entry T D
+    → Bool
+same_entry_by same_term same_content e f =
+    same_term e.term f.term && same_content e.content f.content
+
+-- the length of the longest common prefix of two lists
+abbrev pub common_len : {E : Type 0} → (E → E → Bool) → List E → List E → ℕ
+common_len same [] log = 0
+common_len same (e ∷ es) [] = 0
+common_len same (e ∷ es) (f ∷ fs) = if same e f then suc (common_len same es fs) else 0
+
+-- the config of an entry with this content, which is named by the content
+abbrev pub config_in : {D : Type 0} → (D → Bool) → D → Option (Option D)
+config_in holds d = if holds d then Some (Some d) else None
+
+-- none of the entries holds a config
+abbrev pub no_config_in : {T D : Type 0} → (D → Bool) → List (Entry T D) → Bool
+no_config_in holds log = list_all (λ e. not (holds e.content)) log
+
+-- how many first entries a server has kept since its term was at most this rank, of those terms that
+-- it has left
+abbrev pub kept_from : ℕ → List Kept → ℕ → ℕ
+kept_from n [] r = n
+kept_from n (k ∷ ks) r = kept_from (if nat_le k.term r then k.len else n) ks r
+
+-- at most so many first entries are kept
+abbrev pub at_most : ℕ → Kept → Kept
+at_most n k = record { term = k.term; len = min k.len n }
+
+-- what is kept, after a server of this term and number of entries has reached a term
+abbrev pub kept_after : List Kept → ℕ → ℕ → ℕ → List Kept
+kept_after ks term len next = if nat_lt term next then ks ++ record { term = term; len = len } ∷ [] else ks
+
+-- a server has acknowledged so many entries or more
+abbrev pub has_acked_to : {N : Type 0} → (N → N → Bool) → List (Acked N) → N → ℕ → Bool
+has_acked_to eq acks v n = list_any (λ a. eq a.server v && nat_le n a.len) acks
+
+-- the rule is broken unless the test holds; then a later one may be
+abbrev pub unless : Bool → Rule → Option Rule → Option Rule
+unless holds rule rest = if holds then rest else Some rule
+
+-- a log is at least as up to date as another
+abbrev pub up_to_date_by : {T D : Type 0} → (T → ℕ) → List (Entry T D) → List (Entry T D) → Bool
+up_to_date_by rank log other =
+    nat_lt (last_term rank other) (last_term rank log)
+    || (nat_eq (last_term rank other) (last_term rank log) && nat_le (length other) (length log))
+
+-- a leader has committed so many entries, and no entry after them holds a config
+abbrev pub config_committed : {T D : Type 0} → (List (Entry T D) → Bool) → Option ℕ → List (Entry T D) → Bool
+config_committed no_config None log = false
+config_committed no_config (Some n) log = no_config (drop n log)
+
+-- a leader has committed these entries
+abbrev pub has_committed : {T D : Type 0} → (Entry T D → Entry T D → Bool) → List (Entry T D) → Option ℕ
+    → List (Entry T D) → Bool
+has_committed same log None p = false
+has_committed same log (Some n) p = nat_eq (common_len same p (take n log)) (length p)
+
+-- ---- which rule an event breaks, by what is kept of its server and of its leader
+
+module _ {T N D : Type 0} where
+  abbrev pub grant_rule : (T → ℕ) → (N → N → Bool) → Server T N D → Leader T N D → N → ℕ → N
+      → Option Rule
+  grant_rule rank eq s l id r c =
+      unless (nat_lt s.term r) PassedTerm
+      (unless (not (eq c id)) OwnCandidate
+      (unless (up_to_date_by rank (take l.start l.log.items) s.log.items) CandidateBehind None))
+
+  abbrev pub append_rule : (Entry T D → Entry T D → Bool) → Server T N D → Leader T N D → ℕ → ℕ
+      → List (Entry T D) → Option Rule
+  append_rule same s l r n sent =
+      unless l.elected NotElected
+      (unless (nat_le s.term r) PassedTerm
+      (unless (nat_le n (length s.log.items)) MissingEntries
+      (unless (nat_le (common_len same s.log.items l.log.items)
+      (n + common_len same (drop n s.log.items) sent)) DropsMatching
+      (unless (nat_eq (common_len same (drop n s.log.items) sent) (length sent)
+      || (nat_le n (common_len same s.log.items l.log.items)
+      && nat_eq (common_len same (drop n l.log.items) sent) (length sent))) ForeignEntries None))))
+
+  -- the log of a server has begun with these entries since its term was at most this rank
+  abbrev pub has_kept_by : (Entry T D → Entry T D → Bool) → Server T N D → ℕ → List (Entry T D)
+      → Bool
+  has_kept_by same s r p =
+      nat_eq (common_len same p s.log.items) (length p)
+      && (nat_le s.term r || nat_le (length p) (kept_from 0 s.kept.items r))
+
+  abbrev pub ack_rule : (Entry T D → Entry T D → Bool) → Server T N D → Leader T N D → ℕ → ℕ
+      → Option Rule
+  ack_rule same s l r n =
+      unless l.elected NotElected
+      (unless (nat_le r s.term) TermNotReached
+      (unless (nat_le n (length l.log.items)) NotWritten
+      (unless (has_kept_by same s r (take n l.log.items)) NotKept None)))
+
+  abbrev pub restart_rule : Server T N D → ℕ → Option Rule
+  restart_rule s n =
+      unless (nat_le s.durable n) LostAcked
+      (unless (nat_le n (length s.log.items)) MissingEntries None)
+
+  abbrev pub config_rule : (D → Bool) → (Option D → Option D → Bool) → Leader T N D → D
+      → Option Rule
+  config_rule holds intersects l d =
+      if holds d then
+      unless (intersects (effective_config (config_in holds) None l.log.items) (Some d)) ApartConfigs
+      (unless (intersects (Some d) (Some d)) ApartQuorums
+      (unless (config_committed (no_config_in holds) l.committed l.log.items) EarlyConfig None))
+      else None
+
+  abbrev pub write_rule : (T → T → Bool) → (D → Bool) → (Option D → Option D → Bool)
+      → Leader T N D → T → Entry T D → Option Rule
+  write_rule same_term holds intersects l t e =
+      unless l.elected NotElected
+      (unless (same_term e.term t) OtherTerm (config_rule holds intersects l e.content))
+
+  -- what a commit needs besides a quorum
+  abbrev pub commit_rule : Leader T N D → ℕ → ℕ → Option Rule
+  commit_rule l n m =
+      unless l.elected NotElected
+      (unless (nat_lt l.start n) EarlierTerm
+      (unless (nat_le n m) CountedEarly
+      (unless (nat_le m (length l.log.items)) NotWritten None)))
+
+  -- a leader of a term of at most this rank has committed these entries
+  abbrev pub knows : (T → ℕ) → (Entry T D → Entry T D → Bool) → ℕ → List (Entry T D)
+      → Leader T N D → Bool
+  knows rank same r p l = nat_le (rank l.term) r && has_committed same l.log.items l.committed p
+
+-- nothing is kept of a server
+pub record IsNew {T N D : Type 0} (id : N) (s : Server T N D) : Type 0 where
+  pub is_id : s.id ≡ id
+  pub term : s.term ≡ 0
+  pub log : s.log.items ≡ []
+  pub durable : s.durable ≡ 0
+  pub kept : s.kept.items ≡ []
+
+-- a server passes the test, at this place, or was added there if none passed it
+pub record IsAdded {T N D : Type 0} (p : Server T N D → Bool) (id : N)
+    (old new : List (Server T N D)) : Type 0 where
+  pub absent : position p old ≡ None
+  pub server : Server T N D
+  pub is_new : IsNew id server
+  pub added : new ≡ old ++ server ∷ []
+
+abbrev pub HasPlace : {T N D : Type 0} → (Server T N D → Bool) → N → List (Server T N D)
+    → List (Server T N D) → ℕ → Type 0
+HasPlace p id old new i = (position p new ≡ Some i) × ((new ≡ old) ⊎ IsAdded p id old new)

@@ -1,0 +1,71 @@
+//! Checking a whole trace.
+ghost use Rattle.std.specs.Prelude.{◌≡◌, true, IfErr, OnOk};
+ghost use Rattle.raft_safety.specs.Trace.{AreExact, IsSafeTrace, TermsHaveRanks, are_allowed};
+ghost use Rattle.raft_safety.specs.Checker.{IsFirstRefused, tests_of, trace_of};
+
+use crate::checker::{Checker, Configs, Violation};
+use crate::event::Event;
+use crate::term::Term;
+use std::alloc::Global;
+use thiserror::Error;
+
+/// The first event that is refused.
+#[derive(Debug, Clone, Copy, PartialEq, Eq, Error)]
+#[error("event {event}: {violation}")]
+pub struct Refused {
+    /// The number of events before it.
+    pub event: usize,
+    /// What the event is refused for.
+    pub violation: Violation,
+}
+
+/// Checks that each event of a trace was allowed by what came before.
+///
+/// If it returns `Ok`, the trace is an execution in which every server keeps the rules, so the
+/// trace is safe.
+///
+/// # Errors
+///
+/// The first event that was not allowed, with the rule that it breaks, or out of memory.
+pub fn check<T: Term, N: Copy + Eq, D: Copy + Eq, C: Configs<N, D> + Drop>(
+    alloc: Global,
+    configs: C,
+    events: &[Event<T, N, D>],
+) -> Result<(), Refused>
+    ensures allowed { OnOk result (AreExact (tests_of T.rank T.eq N.eq D.eq (C.holds_config configs)
+        (C.has_quorum configs) (C.intersects configs)) →
+        are_allowed (tests_of T.rank T.eq N.eq D.eq (C.holds_config configs)
+        (C.has_quorum configs) (C.intersects configs)) (trace_of events.now) ≡ true) }
+    ensures safe { OnOk result (AreExact (tests_of T.rank T.eq N.eq D.eq (C.holds_config configs)
+        (C.has_quorum configs) (C.intersects configs)) →
+        TermsHaveRanks (tests_of T.rank T.eq N.eq D.eq (C.holds_config configs)
+        (C.has_quorum configs) (C.intersects configs)) (trace_of events.now) →
+        IsSafeTrace (tests_of T.rank T.eq N.eq D.eq (C.holds_config configs)
+        (C.has_quorum configs) (C.intersects configs)) (trace_of events.now)) }
+    ensures refused { IfErr result (λ r. AreExact (tests_of T.rank T.eq N.eq D.eq
+        (C.holds_config configs) (C.has_quorum configs) (C.intersects configs)) →
+        IsFirstRefused (tests_of T.rank T.eq N.eq D.eq (C.holds_config configs)
+        (C.has_quorum configs) (C.intersects configs)) events.now r.event r.violation) }
+{
+    let mut checker = match Checker::new(alloc, configs) {
+        Ok(checker) => checker,
+        Err(violation) => {
+            return Err(Refused {
+                event: 0,
+                violation,
+            });
+        }
+    };
+    for (i, event) in events.iter().enumerate() {
+        match checker.record(event) {
+            Ok(()) => {}
+            Err(violation) => {
+                return Err(Refused {
+                    event: i,
+                    violation,
+                });
+            }
+        }
+    }
+    Ok(())
+}

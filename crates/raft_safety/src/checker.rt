@@ -1,0 +1,365 @@
+//! The checker of recorded events: whether each event was allowed by what came before.
+ghost use Rattle.std.specs.Prelude.{◌≡◌, ◌<◌, ◌&&◌, IfOk, IfSome, OnErr, length};
+ghost use Rattle.std.specs.List.{list_any, position};
+ghost use Rattle.raft_safety.specs.CheckerState.{HasPlace, knows, same_entry_by};
+ghost use Rattle.raft_safety.specs.Checker.{Answers, Begins, Records, configs_of, event_of, tests_of};
+ghost use Rattle.raft_safety.specs.Trace.{Campaigned, Granted, Appended, Acked, Restarted, Wrote, Committed, Applied};
+
+mod broken;
+mod configs;
+mod leader;
+mod logs;
+mod server;
+mod violation;
+
+use crate::entry::Entry;
+use crate::event::Event;
+use crate::rule::Rule;
+use crate::term::Term;
+use broken::{ack_rule, append_rule, commit_rule, grant_rule, knows, restart_rule, write_rule};
+pub use configs::Configs;
+use leader::Leader;
+use logs::{effective_config, first};
+use server::Server;
+use std::alloc::{AllocError, Global};
+pub use violation::Violation;
+
+/// Checks recorded events one by one.
+///
+/// `T` are terms or leader ids, `N` node ids, `D` the contents of entries, and `C` tells which
+/// contents hold a config and what its quorums are. The checker keeps the log and the term of each
+/// server, and the log, the votes and the acknowledgements of each leader, but no list of events.
+#[derive(Drop)]
+pub struct Checker<T, N, D, C> {
+    configs: C,
+    servers: Vec<Server<T, N, D>>,
+    leaders: Vec<Leader<T, N, D>>,
+    alloc: Global,
+}
+
+impl<T: Term, N: Copy + Eq, D: Copy + Eq, C: Configs<N, D> + Drop> Checker<T, N, D, C> {
+    /// Returns a checker of a cluster in which nothing has happened.
+    ///
+    /// # Errors
+    ///
+    /// The rule `InitialConfig`, if quorums of the initial config are not known to intersect.
+    pub fn new(alloc: Global, configs: C) -> Result<Self, Violation>
+        ensures ok { IfOk result (λ c. configs_of c ≡ configs) }
+        ensures begins { Begins (tests_of T.rank T.eq N.eq D.eq (C.holds_config configs)
+            (C.has_quorum configs) (C.intersects configs)) result }
+    {
+        if !configs.do_intersect(None, None) {
+            return Err(Violation::Rule(Rule::InitialConfig));
+        }
+        Ok(Checker {
+            configs,
+            servers: Vec::new(alloc),
+            leaders: Vec::new(alloc),
+            alloc,
+        })
+    }
+
+    /// Records an event.
+    ///
+    /// # Errors
+    ///
+    /// The rule that the event breaks, or out of memory. The checker is then as if the event had not
+    /// been recorded.
+    pub fn record(&mut self, event: &Event<T, N, D>) -> Result<(), Violation>
+        ensures configs { configs_of self.new ≡ configs_of self.old }
+        ensures answer { Records (tests_of T.rank T.eq N.eq D.eq (C.holds_config (configs_of self.old))
+            (C.has_quorum (configs_of self.old)) (C.intersects (configs_of self.old)))
+            (event_of event.now) self.old self.new result }
+    {
+        match event {
+            Event::Campaigned { server, term } => self.campaigned(*server, *term),
+            Event::Granted {
+                server,
+                term,
+                candidate,
+            } => self.granted(*server, *term, *candidate),
+            Event::Appended {
+                server,
+                term,
+                leader,
+                keep,
+                entries,
+            } => self.appended(*server, *term, *leader, *keep, entries),
+            Event::Acked {
+                server,
+                term,
+                leader,
+                len,
+            } => self.acked(*server, *term, *leader, *len),
+            Event::Restarted { server, len } => self.restarted(*server, *len),
+            Event::Wrote {
+                leader,
+                term,
+                entry,
+            } => self.wrote(*leader, *term, *entry),
+            Event::Committed {
+                leader,
+                term,
+                len,
+                counted_at,
+            } => self.committed(*leader, *term, *len, *counted_at),
+            Event::Applied {
+                server,
+                term,
+                leader,
+                len,
+            } => self.applied(*server, *term, *leader, *len),
+        }
+    }
+
+    /// A server starts a campaign.
+    fn campaigned(&mut self, server: N, term: T) -> Result<(), Violation>
+        ensures configs { self.new.configs ≡ self.old.configs }
+        ensures answer { Answers (tests_of T.rank T.eq N.eq D.eq (C.holds_config self.old.configs)
+            (C.has_quorum self.old.configs) (C.intersects self.old.configs))
+            (Campaigned server term) self.old.servers.items self.old.leaders.items
+            self.new.servers.items self.new.leaders.items result }
+    {
+        match leader_at(&self.leaders, term, server) {
+            Some(_) => return Err(Violation::Rule(Rule::CampaignedTwice)),
+            None => {}
+        }
+        let i = server_at(self.alloc, &mut self.servers, server)?;
+        let rank = term.rank();
+        if rank <= self.servers[i].term {
+            return Err(Violation::Rule(Rule::PassedTerm));
+        }
+        let voter = &mut self.servers[i];
+        let leader = Leader::new(self.alloc, &self.configs, term, server, &voter.log)?;
+        self.leaders.reserve(1)?;
+        voter.make_room()?;
+        voter.reach(rank);
+        self.leaders.push(leader).unwrap();
+        Ok(())
+    }
+
+    /// A server grants its vote.
+    fn granted(&mut self, server: N, term: T, candidate: N) -> Result<(), Violation>
+        ensures configs { self.new.configs ≡ self.old.configs }
+        ensures answer { Answers (tests_of T.rank T.eq N.eq D.eq (C.holds_config self.old.configs)
+            (C.has_quorum self.old.configs) (C.intersects self.old.configs))
+            (Granted server term candidate) self.old.servers.items self.old.leaders.items
+            self.new.servers.items self.new.leaders.items result }
+    {
+        let j = match leader_at(&self.leaders, term, candidate) {
+            Some(j) => j,
+            None => return Err(Violation::Rule(Rule::NoCampaign)),
+        };
+        let i = server_at(self.alloc, &mut self.servers, server)?;
+        let rank = term.rank();
+        match grant_rule(&self.servers[i], &self.leaders[j], server, rank, candidate) {
+            Some(rule) => return Err(Violation::Rule(rule)),
+            None => {}
+        }
+        let voter = &mut self.servers[i];
+        voter.make_room()?;
+        self.leaders[j].vote(&self.configs, server)?;
+        voter.reach(rank);
+        Ok(())
+    }
+
+    /// A server takes entries.
+    fn appended(
+        &mut self,
+        server: N,
+        term: T,
+        leader: N,
+        keep: usize,
+        entries: &[Entry<T, D>],
+    ) -> Result<(), Violation>
+        ensures configs { self.new.configs ≡ self.old.configs }
+        ensures answer { Answers (tests_of T.rank T.eq N.eq D.eq (C.holds_config self.old.configs)
+            (C.has_quorum self.old.configs) (C.intersects self.old.configs))
+            (Appended server term leader keep entries.now) self.old.servers.items self.old.leaders.items
+            self.new.servers.items self.new.leaders.items result }
+    {
+        let j = match leader_at(&self.leaders, term, leader) {
+            Some(j) => j,
+            None => return Err(Violation::Rule(Rule::NotElected)),
+        };
+        let i = server_at(self.alloc, &mut self.servers, server)?;
+        let rank = term.rank();
+        match append_rule(&self.servers[i], &self.leaders[j], rank, keep, entries) {
+            Some(rule) => return Err(Violation::Rule(rule)),
+            None => {}
+        }
+        self.servers[i].append(rank, keep, entries)?;
+        Ok(())
+    }
+
+    /// A server acknowledges entries.
+    fn acked(&mut self, server: N, term: T, leader: N, len: usize) -> Result<(), Violation>
+        ensures configs { self.new.configs ≡ self.old.configs }
+        ensures answer { Answers (tests_of T.rank T.eq N.eq D.eq (C.holds_config self.old.configs)
+            (C.has_quorum self.old.configs) (C.intersects self.old.configs))
+            (Acked server term leader len) self.old.servers.items self.old.leaders.items
+            self.new.servers.items self.new.leaders.items result }
+    {
+        let j = match leader_at(&self.leaders, term, leader) {
+            Some(j) => j,
+            None => return Err(Violation::Rule(Rule::NotElected)),
+        };
+        let i = server_at(self.alloc, &mut self.servers, server)?;
+        let rank = term.rank();
+        match ack_rule(&self.servers[i], &self.leaders[j], rank, len) {
+            Some(rule) => return Err(Violation::Rule(rule)),
+            None => {}
+        }
+        self.leaders[j].ack(server, len)?;
+        self.servers[i].ack(len);
+        Ok(())
+    }
+
+    /// A server restarts.
+    fn restarted(&mut self, server: N, len: usize) -> Result<(), Violation>
+        ensures configs { self.new.configs ≡ self.old.configs }
+        ensures answer { Answers (tests_of T.rank T.eq N.eq D.eq (C.holds_config self.old.configs)
+            (C.has_quorum self.old.configs) (C.intersects self.old.configs))
+            (Restarted server len) self.old.servers.items self.old.leaders.items
+            self.new.servers.items self.new.leaders.items result }
+    {
+        let i = server_at(self.alloc, &mut self.servers, server)?;
+        match restart_rule(&self.servers[i], len) {
+            Some(rule) => return Err(Violation::Rule(rule)),
+            None => {}
+        }
+        self.servers[i].restart(len);
+        Ok(())
+    }
+
+    /// A leader writes an entry.
+    fn wrote(&mut self, leader: N, term: T, entry: Entry<T, D>) -> Result<(), Violation>
+        ensures configs { self.new.configs ≡ self.old.configs }
+        ensures answer { Answers (tests_of T.rank T.eq N.eq D.eq (C.holds_config self.old.configs)
+            (C.has_quorum self.old.configs) (C.intersects self.old.configs))
+            (Wrote leader term entry) self.old.servers.items self.old.leaders.items
+            self.new.servers.items self.new.leaders.items result }
+    {
+        let j = match leader_at(&self.leaders, term, leader) {
+            Some(j) => j,
+            None => return Err(Violation::Rule(Rule::NotElected)),
+        };
+        match write_rule(&self.configs, &self.leaders[j], term, entry) {
+            Some(rule) => return Err(Violation::Rule(rule)),
+            None => {}
+        }
+        self.leaders[j].write(entry)?;
+        Ok(())
+    }
+
+    /// A leader commits entries.
+    fn committed(
+        &mut self,
+        leader: N,
+        term: T,
+        len: usize,
+        counted_at: usize,
+    ) -> Result<(), Violation>
+        ensures configs { self.new.configs ≡ self.old.configs }
+        ensures answer { Answers (tests_of T.rank T.eq N.eq D.eq (C.holds_config self.old.configs)
+            (C.has_quorum self.old.configs) (C.intersects self.old.configs))
+            (Committed leader term len counted_at) self.old.servers.items self.old.leaders.items
+            self.new.servers.items self.new.leaders.items result }
+    {
+        let j = match leader_at(&self.leaders, term, leader) {
+            Some(j) => j,
+            None => return Err(Violation::Rule(Rule::NotElected)),
+        };
+        match commit_rule(&self.leaders[j], len, counted_at) {
+            Some(rule) => return Err(Violation::Rule(rule)),
+            None => {}
+        }
+        let servers = self.leaders[j].acked_to(self.alloc, len)?;
+        let config = effective_config(&self.configs, first(&self.leaders[j].log, counted_at));
+        if !self.configs.is_quorum(config, &servers) {
+            return Err(Violation::Rule(Rule::NoQuorum));
+        }
+        self.leaders[j].commit(len);
+        Ok(())
+    }
+
+    /// A server applies entries.
+    fn applied(&self, server: N, term: T, leader: N, len: usize) -> Result<(), Violation>
+        ensures { Answers (tests_of T.rank T.eq N.eq D.eq (C.holds_config self.now.configs)
+            (C.has_quorum self.now.configs) (C.intersects self.now.configs))
+            (Applied server term leader len) self.now.servers.items self.now.leaders.items
+            self.now.servers.items self.now.leaders.items result }
+    {
+        let j = match leader_at(&self.leaders, term, leader) {
+            Some(j) => j,
+            None => return Err(Violation::Rule(Rule::NotAcked)),
+        };
+        if !self.leaders[j].has_acked(server, len) {
+            return Err(Violation::Rule(Rule::NotAcked));
+        }
+        let prefix = first(&self.leaders[j].log, len);
+        if !any_knows(&self.leaders, term.rank(), prefix) {
+            return Err(Violation::Rule(Rule::NotCommitted));
+        }
+        Ok(())
+    }
+}
+
+/// Returns the place of a candidate or leader of a term, if it has campaigned.
+fn leader_at<T: Term, N: Copy + Eq, D: Copy + Eq>(
+    leaders: &[Leader<T, N, D>],
+    term: T,
+    id: N,
+) -> Option<usize>
+    ensures place { result ≡ position (λ l. T.eq l.term term && N.eq l.id id) leaders.now }
+    ensures within { IfSome result (λ j. j < length leaders.now) }
+{
+    leaders.iter().position(|l| l.term == term && l.id == id)
+}
+
+/// Whether a leader of a term of at most this rank has committed these entries.
+fn any_knows<T: Term, N: Copy + Eq, D: Copy + Eq>(
+    leaders: &[Leader<T, N, D>],
+    rank: u128,
+    prefix: &[Entry<T, D>],
+) -> bool
+    ensures { result ≡ list_any (knows T.rank (same_entry_by T.eq D.eq) rank prefix.now) leaders.now }
+{
+    leaders.iter().any(|l| knows(l, rank, prefix))
+}
+
+/// Returns the place of a server. One of which nothing is kept is added.
+///
+/// # Errors
+///
+/// Out of memory. The servers are then as they were.
+fn server_at<T: Term, N: Copy + Eq, D: Copy + Eq>(
+    alloc: Global,
+    servers: &mut Vec<Server<T, N, D>>,
+    id: N,
+) -> Result<usize, AllocError>
+    ensures at { IfOk result (λ i. HasPlace (λ s. N.eq s.id id) id servers.old.items
+        servers.new.items i) }
+    ensures within { IfOk result (λ i. i < length servers.new.items) }
+    ensures err { OnErr result (servers.new.items ≡ servers.old.items) }
+{
+    match place_of(servers, id) {
+        Some(i) => Ok(i),
+        None => {
+            let i = servers.len();
+            servers.push(Server::new(alloc, id))?;
+            Ok(i)
+        }
+    }
+}
+
+/// Returns the place of a server, if something is kept of it.
+fn place_of<T: Term, N: Copy + Eq, D: Copy + Eq>(
+    servers: &[Server<T, N, D>],
+    id: N,
+) -> Option<usize>
+    ensures place { result ≡ position (λ s. N.eq s.id id) servers.now }
+    ensures within { IfSome result (λ i. i < length servers.now) }
+{
+    servers.iter().position(|s| s.id == id)
+}

@@ -1,0 +1,222 @@
+//! What the checker keeps of a candidate or leader.
+ghost use Rattle.std.specs.Prelude.{◌≡◌, ◌≤◌, ◌++◌, ◌∷◌, ◌&&◌, ◌||◌, ℕ, true, [], IfOk, OnOk, OnErr, Some, None, length, max, nat_le, take};
+ghost use Rattle.std.specs.List.{IsDistinct, position};
+ghost use Rattle.std.specs.Option.{unwrap_or};
+ghost use Rattle.std.specs.Set.{is_member};
+ghost use Rattle.raft_safety.specs.Configs.{effective_config};
+ghost use Rattle.raft_safety.specs.CheckerState.{config_in, has_acked_to};
+
+use super::configs::Configs;
+use super::logs::{effective_config, first};
+use crate::entry::Entry;
+use crate::term::Term;
+use std::alloc::{AllocError, Global};
+
+/// How many first entries a server has acknowledged to a leader.
+#[derive(Clone, Copy)]
+pub struct Acked<N> {
+    /// The server.
+    pub server: N,
+    /// How many first entries.
+    pub len: usize,
+}
+
+/// What the checker keeps of a candidate or leader of a term.
+#[derive(Drop)]
+pub struct Leader<T, N, D> {
+    /// The term.
+    pub term: T,
+    /// The candidate or leader.
+    pub id: N,
+    /// The length of the log with which the candidate asked for votes.
+    pub start: usize,
+    /// The log of the leader.
+    pub log: Vec<Entry<T, D>>,
+    /// The servers that have voted for the candidate, each once.
+    pub voters: Vec<N>,
+    /// Whether the candidate is elected.
+    pub elected: bool,
+    /// What servers have acknowledged to the leader.
+    pub acked: Vec<Acked<N>>,
+    /// How many first entries the leader has committed.
+    pub committed: Option<usize>,
+}
+
+impl<T: Term, N: Copy + Eq, D: Copy + Eq> Leader<T, N, D> {
+    /// Returns what is kept of a candidate that has voted for itself.
+    ///
+    /// # Errors
+    ///
+    /// Out of memory.
+    pub fn new<C: Configs<N, D>>(
+        alloc: Global,
+        configs: &C,
+        term: T,
+        id: N,
+        log: &[Entry<T, D>],
+    ) -> Result<Self, AllocError>
+        ensures term { IfOk result (λ l. l.term ≡ term) }
+        ensures id { IfOk result (λ l. l.id ≡ id) }
+        ensures start { IfOk result (λ l. l.start ≡ length log.now) }
+        ensures log { IfOk result (λ l. l.log.items ≡ log.now) }
+        ensures voters { IfOk result (λ l. l.voters.items ≡ id ∷ []) }
+        ensures elected { IfOk result (λ l. l.elected ≡ C.has_quorum configs.now
+            (effective_config (config_in (C.holds_config configs.now)) None log.now)
+            (is_member N.eq (id ∷ []))) }
+        ensures acked { IfOk result (λ l. l.acked.items ≡ []) }
+        ensures committed { IfOk result (λ l. l.committed ≡ None) }
+    {
+        let mut voters = Vec::new(alloc);
+        voters.push(id)?;
+        let elected = configs.is_quorum(effective_config(configs, log), &voters);
+        Ok(Leader {
+            term,
+            id,
+            start: log.len(),
+            log: Vec::from_slice(alloc, log)?,
+            voters,
+            elected,
+            acked: Vec::new(alloc),
+            committed: None,
+        })
+    }
+
+    /// Counts the vote of a server.
+    ///
+    /// # Errors
+    ///
+    /// Out of memory. The leader is then as it was.
+    pub fn vote<C: Configs<N, D>>(&mut self, configs: &C, server: N) -> Result<(), AllocError>
+        ensures voters { OnOk result ((v : N) → is_member N.eq self.new.voters.items v
+            ≡ (is_member N.eq self.old.voters.items v || N.eq v server)) }
+        ensures distinct { IsDistinct N.eq self.old.voters.items → IsDistinct N.eq self.new.voters.items }
+        ensures elected { OnOk result (IsDistinct N.eq self.old.voters.items →
+            self.new.elected ≡ C.has_quorum configs.now
+            (effective_config (config_in (C.holds_config configs.now)) None
+            (take self.old.start self.old.log.items)) (is_member N.eq self.new.voters.items)) }
+        ensures err_voters { OnErr result (self.new.voters.items ≡ self.old.voters.items) }
+        ensures err_elected { OnErr result (self.new.elected ≡ self.old.elected) }
+        ensures same_term { self.new.term ≡ self.old.term }
+        ensures same_id { self.new.id ≡ self.old.id }
+        ensures same_start { self.new.start ≡ self.old.start }
+        ensures same_log { self.new.log.items ≡ self.old.log.items }
+        ensures same_acked { self.new.acked.items ≡ self.old.acked.items }
+        ensures same_committed { self.new.committed ≡ self.old.committed }
+    {
+        add_once(&mut self.voters, server)?;
+        let config = effective_config(configs, first(&self.log, self.start));
+        self.elected = configs.is_quorum(config, &self.voters);
+        Ok(())
+    }
+
+    /// Writes an entry.
+    ///
+    /// # Errors
+    ///
+    /// Out of memory. The leader is then as it was.
+    pub fn write(&mut self, entry: Entry<T, D>) -> Result<(), AllocError>
+        ensures log { OnOk result (self.new.log.items ≡ self.old.log.items ++ entry ∷ []) }
+        ensures err_log { OnErr result (self.new.log.items ≡ self.old.log.items) }
+        ensures same_term { self.new.term ≡ self.old.term }
+        ensures same_id { self.new.id ≡ self.old.id }
+        ensures same_start { self.new.start ≡ self.old.start }
+        ensures same_voters { self.new.voters.items ≡ self.old.voters.items }
+        ensures same_elected { self.new.elected ≡ self.old.elected }
+        ensures same_acked { self.new.acked.items ≡ self.old.acked.items }
+        ensures same_committed { self.new.committed ≡ self.old.committed }
+    {
+        self.log.push(entry)?;
+        Ok(())
+    }
+
+    /// Counts what a server acknowledges.
+    ///
+    /// # Errors
+    ///
+    /// Out of memory. The leader is then as it was.
+    pub fn ack(&mut self, server: N, len: usize) -> Result<(), AllocError>
+        ensures acked { OnOk result ((v : N) (n : ℕ) → has_acked_to N.eq self.new.acked.items v n
+            ≡ (has_acked_to N.eq self.old.acked.items v n || (N.eq server v && nat_le n len))) }
+        ensures err_acked { OnErr result (self.new.acked.items ≡ self.old.acked.items) }
+        ensures same_term { self.new.term ≡ self.old.term }
+        ensures same_id { self.new.id ≡ self.old.id }
+        ensures same_start { self.new.start ≡ self.old.start }
+        ensures same_log { self.new.log.items ≡ self.old.log.items }
+        ensures same_voters { self.new.voters.items ≡ self.old.voters.items }
+        ensures same_elected { self.new.elected ≡ self.old.elected }
+        ensures same_committed { self.new.committed ≡ self.old.committed }
+    {
+        match acked_at(&self.acked, server) {
+            Some(i) => self.acked[i].len = self.acked[i].len.max(len),
+            None => self.acked.push(Acked { server, len })?,
+        }
+        Ok(())
+    }
+
+    /// Whether a server has acknowledged so many first entries.
+    pub fn has_acked(&self, server: N, len: usize) -> bool
+        ensures { result ≡ has_acked_to N.eq self.now.acked.items server len }
+    {
+        self.acked
+            .iter()
+            .any(|a| a.server == server && len <= a.len)
+    }
+
+    /// Returns the servers that have acknowledged so many first entries, each once.
+    ///
+    /// # Errors
+    ///
+    /// Out of memory.
+    pub fn acked_to(&self, alloc: Global, len: usize) -> Result<Vec<N>, AllocError>
+        ensures distinct { IfOk result (λ ids. IsDistinct N.eq ids.items) }
+        ensures servers { IfOk result (λ ids. (v : N) →
+            is_member N.eq ids.items v ≡ has_acked_to N.eq self.now.acked.items v len) }
+    {
+        let mut ids = Vec::new(alloc);
+        for acked in &self.acked {
+            if len <= acked.len {
+                add_once(&mut ids, acked.server)?;
+            }
+        }
+        Ok(ids)
+    }
+
+    /// Commits first entries.
+    pub fn commit(&mut self, len: usize)
+        ensures committed { self.new.committed ≡ Some (max (unwrap_or self.old.committed 0) len) }
+        ensures same_term { self.new.term ≡ self.old.term }
+        ensures same_id { self.new.id ≡ self.old.id }
+        ensures same_start { self.new.start ≡ self.old.start }
+        ensures same_log { self.new.log.items ≡ self.old.log.items }
+        ensures same_voters { self.new.voters.items ≡ self.old.voters.items }
+        ensures same_elected { self.new.elected ≡ self.old.elected }
+        ensures same_acked { self.new.acked.items ≡ self.old.acked.items }
+    {
+        let committed = self.committed.unwrap_or(0);
+        self.committed = Some(committed.max(len));
+    }
+}
+
+/// Returns the place of what a server has acknowledged.
+fn acked_at<N: Copy + Eq>(acked: &[Acked<N>], server: N) -> Option<usize>
+    ensures { result ≡ position (λ a. N.eq a.server server) acked.now }
+{
+    acked.iter().position(|a| a.server == server)
+}
+
+/// Adds an id to a list of distinct ids, if it is not one of them.
+///
+/// # Errors
+///
+/// Out of memory. The list is then as it was.
+fn add_once<N: Copy + Eq>(ids: &mut Vec<N>, id: N) -> Result<(), AllocError>
+    ensures members { OnOk result ((v : N) → is_member N.eq ids.new.items v
+        ≡ (is_member N.eq ids.old.items v || N.eq v id)) }
+    ensures distinct { IsDistinct N.eq ids.old.items → IsDistinct N.eq ids.new.items }
+    ensures err { OnErr result (ids.new.items ≡ ids.old.items) }
+{
+    if !ids.contains(&id) {
+        ids.push(id)?;
+    }
+    Ok(())
+}

@@ -1,0 +1,195 @@
+//! What the checker keeps of a server.
+ghost use Rattle.std.specs.Prelude.{◌≡◌, ◌+◌, ◌<◌, ◌≤◌, ◌++◌, ◌&&◌, ◌||◌, [], OnOk, OnErr, drop, length, map, max, min, nat_eq, nat_le, take, vec_capacity, vec_len};
+ghost use Rattle.raft_safety.specs.CheckerState.{at_most, common_len, kept_after, kept_from, same_entry_by};
+
+use super::logs::common_len;
+use crate::entry::Entry;
+use crate::term::Term;
+use std::alloc::{AllocError, Global};
+
+/// How many first entries a server has kept since it left a term.
+#[derive(Clone, Copy)]
+pub struct Kept {
+    /// The rank of the term.
+    pub term: u128,
+    /// How many first entries.
+    pub len: usize,
+}
+
+/// What the checker keeps of a server.
+#[derive(Drop)]
+pub struct Server<T, N, D> {
+    /// The server.
+    pub id: N,
+    /// The rank of the term that the server has reached.
+    pub term: u128,
+    /// The log of the server.
+    pub log: Vec<Entry<T, D>>,
+    /// How many first entries are durable.
+    pub durable: usize,
+    /// What the server has kept since it left its earlier terms.
+    pub kept: Vec<Kept>,
+}
+
+impl<T: Term, N: Copy + Eq, D: Copy + Eq> Server<T, N, D> {
+    /// Returns what is kept of a server that has done nothing.
+    pub fn new(alloc: Global, id: N) -> Self
+        ensures id { result.id ≡ id }
+        ensures term { result.term ≡ 0 }
+        ensures log { result.log.items ≡ [] }
+        ensures durable { result.durable ≡ 0 }
+        ensures kept { result.kept.items ≡ [] }
+    {
+        Server {
+            id,
+            term: 0,
+            log: Vec::new(alloc),
+            durable: 0,
+            kept: Vec::new(alloc),
+        }
+    }
+
+    /// Whether the log has begun with these entries since the server's term was at most this rank.
+    pub fn has_kept(&self, rank: u128, prefix: &[Entry<T, D>]) -> bool
+        ensures { result ≡ (nat_eq (common_len (same_entry_by T.eq D.eq) prefix.now self.now.log.items)
+            (length prefix.now)
+            && (nat_le self.now.term rank
+            || nat_le (length prefix.now) (kept_from 0 self.now.kept.items rank))) }
+    {
+        common_len(prefix, &self.log) == prefix.len()
+            && (self.term <= rank || prefix.len() <= kept_since(&self.kept, rank))
+    }
+
+    /// Makes room for one term more.
+    ///
+    /// # Errors
+    ///
+    /// Out of memory.
+    pub fn make_room(&mut self) -> Result<(), AllocError>
+        ensures room { OnOk result (vec_len self.new.kept < vec_capacity self.new.kept) }
+        ensures same_id { self.new.id ≡ self.old.id }
+        ensures same_term { self.new.term ≡ self.old.term }
+        ensures same_log { self.new.log.items ≡ self.old.log.items }
+        ensures same_durable { self.new.durable ≡ self.old.durable }
+        ensures same_kept { self.new.kept.items ≡ self.old.kept.items }
+    {
+        self.kept.reserve(1)
+    }
+
+    /// Reaches a term.
+    pub fn reach(&mut self, term: u128)
+        requires { vec_len self.old.kept < vec_capacity self.old.kept }
+        ensures term { self.new.term ≡ max self.old.term term }
+        ensures kept { self.new.kept.items
+            ≡ kept_after self.old.kept.items self.old.term (length self.old.log.items) term }
+        ensures same_id { self.new.id ≡ self.old.id }
+        ensures same_log { self.new.log.items ≡ self.old.log.items }
+        ensures same_durable { self.new.durable ≡ self.old.durable }
+    {
+        leave(&mut self.kept, self.term, self.log.len(), term);
+        self.term = self.term.max(term);
+    }
+
+    /// Keeps the first entries of the log, and appends entries to them, in a term.
+    ///
+    /// # Errors
+    ///
+    /// Out of memory. The server is then as it was.
+    pub fn append(
+        &mut self,
+        term: u128,
+        keep: usize,
+        entries: &[Entry<T, D>],
+    ) -> Result<(), AllocError>
+        requires { keep ≤ length self.old.log.items }
+        ensures term { OnOk result (self.new.term ≡ max self.old.term term) }
+        ensures log { OnOk result (self.new.log.items ≡ take keep self.old.log.items ++ entries.now) }
+        ensures durable { OnOk result (self.new.durable ≡ min self.old.durable
+            (keep + common_len (same_entry_by T.eq D.eq) (drop keep self.old.log.items) entries.now)) }
+        ensures kept { OnOk result (self.new.kept.items ≡ map
+            (at_most (keep + common_len (same_entry_by T.eq D.eq) (drop keep self.old.log.items) entries.now))
+            (kept_after self.old.kept.items self.old.term (length self.old.log.items) term)) }
+        ensures same_id { self.new.id ≡ self.old.id }
+        ensures err_term { OnErr result (self.new.term ≡ self.old.term) }
+        ensures err_log { OnErr result (self.new.log.items ≡ self.old.log.items) }
+        ensures err_durable { OnErr result (self.new.durable ≡ self.old.durable) }
+        ensures err_kept { OnErr result (self.new.kept.items ≡ self.old.kept.items) }
+    {
+        let same = keep + common_len(&self.log[keep..], entries);
+        self.make_room()?;
+        self.log.reserve(entries.len())?;
+        leave(&mut self.kept, self.term, self.log.len(), term);
+        self.term = self.term.max(term);
+        self.log.truncate(keep);
+        self.log.extend_from_slice(entries).unwrap();
+        self.keep_at_most(same);
+        Ok(())
+    }
+
+    /// Acknowledges first entries.
+    pub fn ack(&mut self, len: usize)
+        ensures durable { self.new.durable ≡ max len self.old.durable }
+        ensures same_id { self.new.id ≡ self.old.id }
+        ensures same_term { self.new.term ≡ self.old.term }
+        ensures same_log { self.new.log.items ≡ self.old.log.items }
+        ensures same_kept { self.new.kept.items ≡ self.old.kept.items }
+    {
+        self.durable = len.max(self.durable);
+    }
+
+    /// Restarts with first entries of the log.
+    pub fn restart(&mut self, len: usize)
+        ensures log { self.new.log.items ≡ take len self.old.log.items }
+        ensures durable { self.new.durable ≡ min self.old.durable len }
+        ensures kept { self.new.kept.items ≡ map (at_most len) self.old.kept.items }
+        ensures same_id { self.new.id ≡ self.old.id }
+        ensures same_term { self.new.term ≡ self.old.term }
+    {
+        self.log.truncate(len);
+        self.keep_at_most(len);
+    }
+
+    /// Counts no more first entries as durable or kept.
+    fn keep_at_most(&mut self, len: usize)
+        ensures durable { self.new.durable ≡ min self.old.durable len }
+        ensures kept { self.new.kept.items ≡ map (at_most len) self.old.kept.items }
+        ensures same_id { self.new.id ≡ self.old.id }
+        ensures same_term { self.new.term ≡ self.old.term }
+        ensures same_log { self.new.log.items ≡ self.old.log.items }
+    {
+        self.durable = self.durable.min(len);
+        limit(&mut self.kept, len);
+    }
+}
+
+/// Notes that a server with so many entries leaves a term, if the next one is greater.
+fn leave(kept: &mut Vec<Kept>, term: u128, len: usize, next: u128)
+    requires { vec_len kept.old < vec_capacity kept.old }
+    ensures { kept.new.items ≡ kept_after kept.old.items term len next }
+{
+    if term < next {
+        kept.push(Kept { term, len }).unwrap();
+    }
+}
+
+/// Lowers what is kept to at most so many first entries.
+fn limit(kept: &mut [Kept], len: usize)
+    ensures { kept.new ≡ map (at_most len) kept.old }
+{
+    for i in 0..kept.len() {
+        kept[i].len = kept[i].len.min(len);
+    }
+}
+
+/// Returns how many first entries are kept since the last term of at most this rank.
+fn kept_since(kept: &[Kept], rank: u128) -> usize
+    ensures { result ≡ kept_from 0 kept.now rank }
+{
+    let mut len = 0;
+    for k in kept {
+        if k.term <= rank {
+            len = k.len;
+        }
+    }
+    len
+}

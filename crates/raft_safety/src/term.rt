@@ -1,0 +1,22 @@
+//! Terms of recorded events.
+ghost use Rattle.std.specs.Prelude.{◌≡◌, ℕ};
+
+/// A term, or a leader id, with its rank.
+///
+/// Terms are compared by their ranks. The rank of a term number is the number.
+pub trait Term: Copy + Eq {
+    /// The rank of a term.
+    ghost rank: { Self → ℕ };
+
+    /// Returns the rank of the term.
+    fn rank(&self) -> u128
+        ensures { result ≡ rank self.now };
+}
+
+impl Term for u64 {
+    ghost rank = { λ t. t };
+
+    fn rank(&self) -> u128 {
+        u128::from(*self)
+    }
+}
