@@ -1,5 +1,5 @@
 -- What the checker of recorded traces keeps, and which rule an event breaks.
-use Rattle.std.specs.Prelude.{◌≡◌, ◌⊎◌, ◌<◌, ◌≤◌, ℕ, Bool, true, false, not, ◌||◌, nat_lt, nat_le, min, if◌then◌else◌, Option, Some, None, Result, List, [], ◌∷◌, ◌++◌, length, take, get_or}
+use Rattle.std.specs.Prelude.{◌≡◌, ◌⊎◌, ◌<◌, ◌≤◌, ℕ, Bool, true, false, not, ◌||◌, nat_lt, nat_le, min, if◌then◌else◌, Option, Some, None, is_none, Result, List, [], ◌∷◌, ◌++◌, length, take, get_or}
 use Rattle.std.specs.List.{find, list_any, IsDistinct}
 use Rattle.std.specs.Option.{MatchOption}
 use Rattle.std.specs.Result.{MatchResult}
@@ -7,7 +7,7 @@ use Rattle.std.specs.Set.{is_member}
 use Rattle.raft_safety.specs.Log.{Entry}
 use Rattle.raft_safety.specs.Events.{Event, term_after, log_after}
 use Rattle.raft_safety.specs.Configs.{effective_config}
-use Rattle.raft_safety.specs.Trace.{same_entry, TraceEvent, Campaigned, Granted, Appended, Acked, Restarted, Wrote, Committed, Applied, Tests, AreExact, events_in, term_in, log_in, candidate_log_in, leader_log_in, is_prefix, common_prefix, is_up_to_date, has_voted, has_acked, has_kept, durable, has_campaigned, is_elected, is_config_committed, is_known_committed, is_quorum_of_log, hold_no_config, are_allowed, same_leader}
+use Rattle.raft_safety.specs.Trace.{same_entry, TraceEvent, Campaigned, Granted, Appended, Acked, Restarted, Wrote, Committed, Applied, Tests, AreExact, events_in, term_in, log_in, candidate_log_in, leader_log_in, is_prefix, common_prefix, is_up_to_date, has_voted, has_acked, has_kept, durable, has_campaigned, is_elected, is_config_committed, is_known_committed, is_quorum_of_log, hold_no_config, is_allowed, are_allowed, same_leader}
 use Rattle.raft_safety.specs.CheckerState.{unless, kept_from, has_acked_to, config_committed, config_in, knows, common_len}
 use Rattle.raft_safety.specs.declared.checker.server.Server.{Server}
 use Rattle.raft_safety.specs.declared.checker.leader.Leader.{Leader}
@@ -203,3 +203,9 @@ module _ {T ID D : Type 0} (k : Tests T ID D (Option D)) where
       ⊎ ((e : RecordedEvent T ID D) × (i < length events) × (e ≡ get_or events i e)
       × (are_allowed k (trace_of (take i events)) ≡ true)
       × IsRefusal (broken_rule k (event_of e) (trace_of (take i events))) v)
+
+-- an event breaks no rule exactly if the test of traces allows it
+abbrev pub RulesAreTheTest : Type 0 → Type 0 → Type 0 → Type 0 → Type 0
+RulesAreTheTest T ID D M =
+    (k : Tests T ID D M) (e : TraceEvent T ID D) (es : List (TraceEvent T ID D))
+    → is_none (broken_rule k e es) ≡ is_allowed k e es

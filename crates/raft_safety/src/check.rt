@@ -1,7 +1,7 @@
 //! Checking a whole trace.
 ghost use Rattle.std.specs.Prelude.{◌≡◌, true, IfErr, OnOk};
 ghost use Rattle.raft_safety.specs.Trace.{AreExact, IsSafeTrace, TermsHaveRanks, are_allowed};
-ghost use Rattle.raft_safety.specs.Checker.{IsFirstRefused, tests_of, trace_of};
+ghost use Rattle.raft_safety.specs.Checker.{IsFirstRefused, RulesAreTheTest, tests_of, trace_of};
 
 use crate::checker::{Checker, Configs, Violation};
 use crate::event::Event;
@@ -69,3 +69,8 @@ pub fn check<T: Term, N: Copy + Eq, D: Copy + Eq, C: Configs<N, D> + Drop>(
     }
     Ok(())
 }
+
+/// An event breaks no rule exactly if it is allowed after the earlier ones.
+pub fn rules_are_the_test<T, ID, D, M>()
+    ensures { RulesAreTheTest T ID D M }
+{}

@@ -1,5 +1,5 @@
 //! Terms of recorded events.
-ghost use Rattle.std.specs.Prelude.{◌≡◌, ℕ};
+ghost use Rattle.std.specs.Prelude.{◌≡◌, ◌+◌, ◌*◌, ℕ};
 
 /// A term, or a leader id, with its rank.
 ///
@@ -18,5 +18,15 @@ impl Term for u64 {
 
     fn rank(&self) -> u128 {
         u128::from(*self)
+    }
+}
+
+/// Leader ids of a term and a node: they are compared by term, then by node.
+impl Term for (u64, u64) {
+    ghost rank = { λ id. id.0 * 18_446_744_073_709_551_616 + id.1 };
+
+    fn rank(&self) -> u128 {
+        let (term, node) = *self;
+        u128::from(term) * 18_446_744_073_709_551_616 + u128::from(node)
     }
 }
