@@ -12,3 +12,4 @@ pub mod Trace
 pub mod Scenarios
 pub mod CheckerState
 pub mod Checker
+pub mod Memberships

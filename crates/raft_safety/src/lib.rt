@@ -6,6 +6,7 @@ pub mod checker;
 pub mod entry;
 pub mod event;
 pub mod laws;
+pub mod memberships;
 pub mod rule;
 pub mod scenarios;
 pub mod term;
