@@ -2,8 +2,12 @@
 //!
 //! `laws` has callers of its theorems, each as an engine has the need of one, over both kinds of leader
 //! ids. `follower` and `leader` have steps as code, whose contracts say that they keep the rules.
+//! `refused` has events that the checker of traces refuses, each for its rule, and a trace that it
+//! accepts.
 #![tactic(auto)]
 
 pub mod follower;
 pub mod laws;
 pub mod leader;
+#[cfg(test)]
+mod refused;

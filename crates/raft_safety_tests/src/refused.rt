@@ -1,0 +1,179 @@
+//! The checker accepts what servers do, and refuses each of these events for its rule.
+
+use raft_safety::check::{Refused, check};
+use raft_safety::checker::Violation;
+use raft_safety::entry::Entry;
+use raft_safety::event::Event;
+use raft_safety::memberships::Memberships;
+use raft_safety::rule::Rule;
+use std::alloc::{AllocError, Global};
+use std::test::Fail;
+
+type Recorded = Event<u64, u64, u64>;
+
+fn campaigned(server: u64, term: u64) -> Recorded {
+    Event::Campaigned { server, term }
+}
+
+fn granted(server: u64, term: u64, candidate: u64) -> Recorded {
+    Event::Granted {
+        server,
+        term,
+        candidate,
+    }
+}
+
+fn acked(server: u64, term: u64, leader: u64, len: usize) -> Recorded {
+    Event::Acked {
+        server,
+        term,
+        leader,
+        len,
+    }
+}
+
+fn restarted(server: u64, len: usize) -> Recorded {
+    Event::Restarted { server, len }
+}
+
+fn wrote(leader: u64, term: u64, entry: (u64, u64)) -> Recorded {
+    Event::Wrote {
+        leader,
+        term,
+        entry: Entry {
+            term: entry.0,
+            content: entry.1,
+        },
+    }
+}
+
+fn committed(leader: u64, term: u64, len: usize, counted_at: usize) -> Recorded {
+    Event::Committed {
+        leader,
+        term,
+        len,
+        counted_at,
+    }
+}
+
+fn applied(server: u64, term: u64, leader: u64, len: usize) -> Recorded {
+    Event::Applied {
+        server,
+        term,
+        leader,
+        len,
+    }
+}
+
+/// A server keeps so many entries, and appends one or none.
+fn appended(
+    alloc: Global,
+    ids: (u64, u64, u64),
+    keep: usize,
+    entry: Option<(u64, u64)>,
+) -> Result<Recorded, AllocError> {
+    let mut entries = Vec::new(alloc);
+    if let Some((term, content)) = entry {
+        entries.push(Entry { term, content })?;
+    }
+    let (server, term, leader) = ids;
+    Ok(Event::Appended {
+        server,
+        term,
+        leader,
+        keep,
+        entries,
+    })
+}
+
+/// Quorums of servers 0, 1 and 2; content 100 holds the joint membership with 2, 3 and 4, and content
+/// 101 the membership of these alone.
+fn three(alloc: Global) -> Result<Memberships<u64, u64>, AllocError> {
+    Ok(Memberships {
+        initial: vec![in alloc; vec![in alloc; 0, 1, 2]?]?,
+        held: vec![in alloc;
+            (
+                100,
+                vec![in alloc; vec![in alloc; 0, 1, 2]?, vec![in alloc; 2, 3, 4]?]?
+            ),
+            (101, vec![in alloc; vec![in alloc; 2, 3, 4]?]?),
+        ]?,
+    })
+}
+
+/// Server 0 leads in term 1 with a vote of server 1, and has an entry. Server 2, which has no
+/// entry, campaigns in term 2.
+fn led(alloc: Global) -> Result<Vec<Recorded>, AllocError> {
+    Ok(vec![in alloc;
+        campaigned(0, 1),
+        granted(1, 1, 0),
+        wrote(0, 1, (1, 10)),
+        appended(alloc, (0, 1, 0), 0, Some((1, 10)))?,
+        acked(0, 1, 0, 1),
+        campaigned(2, 2),
+    ]?)
+}
+
+#[test]
+fn refuses_each_event_for_its_rule(rt: HostRuntime) -> Result<(), Fail> {
+    let alloc = rt.alloc();
+    for (event, rule) in [
+        (campaigned(0, 1), Rule::CampaignedTwice),
+        (campaigned(1, 1), Rule::PassedTerm),
+        (granted(1, 1, 0), Rule::PassedTerm),
+        (granted(0, 2, 2), Rule::CandidateBehind),
+        (granted(0, 2, 1), Rule::NoCampaign),
+        (appended(alloc, (2, 1, 0), 0, None)?, Rule::PassedTerm),
+        (appended(alloc, (1, 1, 2), 0, None)?, Rule::NotElected),
+        (appended(alloc, (1, 1, 0), 1, None)?, Rule::MissingEntries),
+        (appended(alloc, (0, 1, 0), 0, None)?, Rule::DropsMatching),
+        (
+            appended(alloc, (1, 1, 0), 0, Some((1, 11)))?,
+            Rule::ForeignEntries,
+        ),
+        (acked(3, 1, 0, 0), Rule::TermNotReached),
+        (acked(1, 1, 0, 2), Rule::NotWritten),
+        (acked(1, 1, 0, 1), Rule::NotKept),
+        (restarted(0, 0), Rule::LostAcked),
+        (restarted(0, 2), Rule::MissingEntries),
+        (wrote(2, 1, (1, 12)), Rule::NotElected),
+        (wrote(0, 1, (2, 12)), Rule::OtherTerm),
+        (wrote(0, 1, (1, 100)), Rule::EarlyConfig),
+        (wrote(0, 1, (1, 101)), Rule::ApartConfigs),
+        (committed(0, 1, 0, 1), Rule::EarlierTerm),
+        (committed(0, 1, 1, 0), Rule::CountedEarly),
+        (committed(0, 1, 1, 2), Rule::NotWritten),
+        (committed(0, 1, 1, 1), Rule::NoQuorum),
+        (applied(1, 1, 0, 1), Rule::NotAcked),
+        (applied(0, 1, 0, 1), Rule::NotCommitted),
+    ] {
+        let mut events = led(alloc)?;
+        let before = events.len();
+        events.push(event)?;
+        let refused = Refused {
+            event: before,
+            violation: Violation::Rule(rule),
+        };
+        assert_eq!(rt; check(alloc, three(alloc)?, &events), Err(refused));
+    }
+    Ok(())
+}
+
+#[test]
+fn accepts_a_commit_and_a_proposed_membership(rt: HostRuntime) -> Result<(), Fail> {
+    let alloc = rt.alloc();
+    let mut events = led(alloc)?;
+    for event in [
+        appended(alloc, (1, 1, 0), 0, Some((1, 10)))?,
+        acked(1, 1, 0, 1),
+        committed(0, 1, 1, 1),
+        applied(0, 1, 0, 1),
+        wrote(0, 1, (1, 100)),
+        restarted(0, 1),
+        campaigned(2, 3),
+    ] {
+        events.push(event)?;
+    }
+    check(alloc, three(alloc)?, &events)?;
+    Ok(())
+}
