@@ -8,8 +8,8 @@ use Rattle.raft_base.specs.declared.log_id.LogIdOf.{LogIdOf}
 use Rattle.raft_progress.specs.progress.InOrder.{IsInOrder}
 use Rattle.raft_progress.specs.progress.Shown.{Shown, state}
 
--- the log has the id at its index, or no longer knows that index, which is purged; no id is in
--- each log
+-- the log has the id at its index, or that index is purged, so that the log no longer knows it; an
+-- absent id counts as logged
 abbrev pub is_logged_or_purged : {C : Type 0} → (C → C → Bool) → LogView C → Option (LogIdOf C)
     → Bool
 is_logged_or_purged eq log None = true
@@ -19,7 +19,7 @@ is_logged_or_purged eq log (Some id) =
 
 module _ {ID V C QS : Type 0} (eq : ID → ID → Bool) (same : C → C → Bool)
     (part : V → Option (LogIdOf C)) (log : LogView C) where
-  -- the log has the default's match, and the match of each voter, or is purged past them
+  -- the default's match is logged or purged, and so is the match of each voter
   pub record MatchesAreLogged (p : Shown ID V (Option (LogIdOf C)) QS) : Type 0 where
     pub default : is_logged_or_purged same log p.default_part ≡ true
     pub voters : (id : ID) (v : V) → (state eq p).is_voter id ≡ true
@@ -27,7 +27,7 @@ module _ {ID V C QS : Type 0} (eq : ID → ID → Bool) (same : C → C → Bool
 
 module _ (ID V C QS : Type 0) (eq : ID → ID → Bool) (same : C → C → Bool) (cmp : C → C → Ordering)
     (part : V → Option (LogIdOf C)) (has_quorum : QS → (ID → Bool) → Bool) where
-  -- then so it is with what is granted
+  -- where they are, what is granted is logged or purged too
   abbrev pub GrantedIsLogged : Type 0
   GrantedIsLogged =
       (p : Shown ID V (Option (LogIdOf C)) QS)

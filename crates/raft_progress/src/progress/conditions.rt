@@ -1,24 +1,46 @@
 //! The tests for the conditions of calls: that learners fit, that a progress is in order, and that no
 //! value's part falls; and which ids a new quorum set and its learners have.
-ghost use Rattle.std.specs.Prelude.{◌≡◌};
-ghost use Rattle.std.specs.List.{list_all, list_any};
+ghost use Rattle.std.specs.Prelude.{◌≡◌, ◌↔◌, ◌++◌, IfOk, IsTrue};
+ghost use Rattle.std.specs.List.{IsDistinct, list_all, list_any};
+ghost use Rattle.std.specs.List.Sorted.{IsSorted};
 ghost use Rattle.std.specs.Option.{option_copied};
 ghost use Rattle.raft_progress.specs.Inner.Recount.{at_least};
-ghost use Rattle.raft_progress.specs.Inner.Conditions.{among, apart, comes_before, ids_differ, is_ordered, never_rises};
+ghost use Rattle.raft_progress.specs.Inner.Conditions.{among, comes_before, ids_differ, is_ordered, never_rises};
 ghost use Rattle.raft_progress.specs.progress.Steps.{falls};
 
 use super::part::ProgressPart;
+use std::alloc::AllocError;
 
-/// Whether no learner stands twice, and none is among the voters.
-pub(crate) fn are_apart<ID: Copy + Ord>(voters: &[ID], learners: &[ID]) -> bool
-    ensures { result ≡ apart ID.eq voters.now learners.now }
+/// The ids, and then the learners.
+pub(crate) fn with_learners<ID: Copy + Ord>(
+    ids: Vec<ID>,
+    learners: &[ID],
+) -> Result<Vec<ID>, AllocError>
+    ensures { IfOk result (λ all. all.items ≡ ids.items ++ learners.now) }
 {
-    for i in 0..learners.len() {
-        let id = learners[i];
-        if learners[i + 1..].contains(&id) {
-            return false;
-        }
-        if voters.contains(&id) {
+    let mut all = ids;
+    for id in learners {
+        all.push(*id)?;
+    }
+    Ok(all)
+}
+
+/// Whether no id stands twice.
+// The ids are put in order, so that equal ones are neighbours.
+pub(crate) fn are_distinct<ID: Copy + Ord>(mut ids: Vec<ID>) -> bool
+    ensures { IsTrue result ↔ IsDistinct ID.eq ids.items }
+{
+    ids.sort_unstable();
+    have_no_equal_neighbours(&ids)
+}
+
+/// Whether no id of a list in order equals the one before it.
+fn have_no_equal_neighbours<ID: Copy + Ord>(ids: &[ID]) -> bool
+    requires { IsSorted ID.cmp ids.now }
+    ensures { IsTrue result ↔ IsDistinct ID.eq ids.now }
+{
+    for place in 1..ids.len() {
+        if ids[place - 1] == ids[place] {
             return false;
         }
     }

@@ -11,7 +11,7 @@ mod update;
 mod upgrade;
 
 use super::Progress;
-use super::conditions::{are_apart, is_ordered, would_fall};
+use super::conditions::{are_distinct, is_ordered, with_learners, would_fall};
 use super::part::ProgressPart;
 use super::places::Places;
 use super::recount::count;
@@ -268,7 +268,8 @@ impl<ID: Copy + Ord, V: ProgressPart<P> + Drop, P: Copy + Ord, QS: QuorumSet<ID>
 
     fn learners_fit(alloc: Global, quorum_set: &QS, learners: &[ID]) -> Result<bool, AllocError> {
         let voters = quorum_set.ids(alloc)?;
-        Ok(are_apart(&voters, learners))
+        let ids = with_learners(voters, learners)?;
+        Ok(are_distinct(ids))
     }
 
     fn can_upgrade(

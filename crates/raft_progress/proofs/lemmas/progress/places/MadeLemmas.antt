@@ -118,7 +118,7 @@ module _ (P : List ℕ) (all : AreAllPlaces P) where
 
 module _ {ID : Type 0} {eq : ID → ID → Bool} {cmp : ID → ID → Ordering} (laws : IsEquivalence eq) (total : IsTotalOrder cmp)
     (ties : (x y : ID) → eq x y ≡ eq_by_cmp cmp x y) where
-  less_from : (x y : ID) → is_lt (cmp y x) ≡ false → eq x y ≡ false → cmp x y ≡ Less
+  pub less_from : (x y : ID) → is_lt (cmp y x) ≡ false → eq x y ≡ false → cmp x y ≡ Less
   less_from x y h e = by (cmp x y) refl
     where
       by : (o : Ordering) → cmp x y ≡ o → o ≡ Less

@@ -1,55 +1,79 @@
--- The test for learners answers what it means.
-use Rattle.std.specs.Prelude.{◌≡◌, Bool, true, false, ◌||◌, List, [], ◌∷◌, if◌then◌else◌}
-use Rattle.std.specs.Cmp.{IsEquivalence}
+-- Learners fit where no id stands twice among the voters and them, and a list in order tells whether one does.
+use Rattle.std.specs.Prelude.{◌≡◌, ℕ, ◌+◌, ◌<◌, Bool, true, false, ◌||◌, List, [], ◌∷◌, ◌++◌, length}
+use Rattle.std.specs.declared.cmp.Ordering.{Ordering}
+use Rattle.std.specs.Cmp.{IsEquivalence, IsTotalOrder}
+use Rattle.std.specs.List.{IsDistinct, AllByRecursion}
+use Rattle.std.specs.List.Sorted.{IsSorted, IsStrictlySortedBy}
+use Rattle.std.specs.Ordering.{eq_by_cmp}
 use Rattle.std.specs.Set.{is_member}
-use Rattle.std.specs.List.{IsDistinct, AllByRecursion, list_any}
-use Rattle.std.proofs.Common.{sym, ap, refl, ◌∙◌, true≢false}
-use Rattle.raft_progress.specs.Inner.Conditions.{apart}
+use Rattle.std.proofs.Common.{arith, get_or, refl, subst, sym, true≢false, ◌∙◌}
+use Rattle.std.proofs.lemmas.Map.Keys.{IsDistinct-from_sorted, sorted_from_all_adjacent}
 use Rattle.raft_progress.specs.progress.NewProgress.{LearnersFit}
-use Rattle.raft_progress.proofs.lemmas.ListLemmas.{member_flipped, or_right}
-use Rattle.raft_members.proofs.CallerLemmas.{is_member-alike}
+use Rattle.raft_progress.proofs.lemmas.ListLemmas.{all_both, all_last}
+use Rattle.raft_progress.proofs.lemmas.progress.places.MadeLemmas.{less_from}
+
+neither : (a b : Bool) → (a || b) ≡ false → (a ≡ false) × (b ≡ false)
+neither true b h = absurd (true≢false h)
+neither false b h = (refl, h)
 
 module _ {ID : Type 0} {eq : ID → ID → Bool} (laws : IsEquivalence eq) where
-  none_alike : (xs : List ID) (k : ID) → list_any (λ y. eq y k) xs ≡ false → AllByRecursion (λ y. eq k y ≡ false) xs
-  none_alike [] k h = tt
-  none_alike (x ∷ xs) k h = by (eq x k) refl h (none_alike xs k)
-    where
-      by : (b : Bool) → eq x k ≡ b → (b || list_any (λ y. eq y k) xs) ≡ false
-          → (list_any (λ y. eq y k) xs ≡ false → AllByRecursion (λ y. eq k y ≡ false) xs)
-          → (eq k x ≡ false) × AllByRecursion (λ y. eq k y ≡ false) xs
-      by true t u r = absurd (true≢false u)
-      by false t u r = (laws.symm k x ∙ t, r u)
+  apart_member : (w x : ID) (ys : List ID) → AllByRecursion (λ y. eq w y ≡ false) ys → eq x w ≡ true → is_member eq ys x ≡ false
+  apart_member w x [] a e = refl
+  apart_member w x (y ∷ ys) a e = rw (laws.congr x w y e, a.0) (apart_member w x ys a.1 e)
 
-  some_alike : (xs : List ID) (k : ID) → AllByRecursion (λ y. eq k y ≡ false) xs → list_any (λ y. eq y k) xs ≡ false
-  some_alike [] k a = refl
-  some_alike (x ∷ xs) k a = rw (laws.symm x k, a.0) (some_alike xs k a.1)
+  apart_all : (w : ID) (ys : List ID) → is_member eq ys w ≡ false → AllByRecursion (λ y. eq w y ≡ false) ys
+  apart_all w [] h = tt
+  apart_all w (y ∷ ys) h = let n = neither (eq w y) (is_member eq ys w) h in (n.0, apart_all w ys n.1)
 
-  pub apart_fits : (voters : List ID) (is_voter : ID → Bool) → ((x : ID) → is_member eq voters x ≡ is_voter x) → (learners : List ID)
-      → apart eq voters learners ≡ true → LearnersFit eq is_voter learners
+  last_distinct : (voters learners : List ID) → IsDistinct eq (voters ++ learners) → IsDistinct eq learners
   unfolding IsDistinct
-  apart_fits voters is_voter v [] h = record { distinct = tt; no_voters = λ x m. absurd (true≢false (sym m)) }
-  apart_fits voters is_voter v (k ∷ ks) h =
-      by (list_any (λ y. eq y k) ks) (list_any (λ y. eq y k) voters) refl refl h (apart_fits voters is_voter v ks)
-    where
-      by : (a b : Bool) → list_any (λ y. eq y k) ks ≡ a → list_any (λ y. eq y k) voters ≡ b
-          → (if a then false else (if b then false else apart eq voters ks)) ≡ true
-          → (apart eq voters ks ≡ true → LearnersFit eq is_voter ks) → LearnersFit eq is_voter (k ∷ ks)
-      by true b t u q r = absurd (true≢false (sym q))
-      by false true t u q r = absurd (true≢false (sym q))
-      by false false t u q r =
-          let f = r q in
-          record { distinct = (none_alike ks k t, f.distinct); no_voters = λ x m. at x m (eq x k) refl f.no_voters }
-        where
-          at : (x : ID) → (eq x k || is_member eq ks x) ≡ true → (c : Bool) → eq x k ≡ c
-              → ((y : ID) → is_member eq ks y ≡ true → is_voter y ≡ false) → is_voter x ≡ false
-          at x m true s g = sym (v x) ∙ is_member-alike laws x k s voters ∙ sym (member_flipped laws voters k) ∙ u
-          at x m false s g = g x (sym (ap (λ c. c || is_member eq ks x) s) ∙ m)
+  last_distinct [] learners d = d
+  last_distinct (w ∷ ws) learners d = last_distinct ws learners d.1
 
-  pub fits_apart : (voters : List ID) (is_voter : ID → Bool) → ((x : ID) → is_member eq voters x ≡ is_voter x) → (learners : List ID)
-      → LearnersFit eq is_voter learners → apart eq voters learners ≡ true
+  none_votes : (voters learners : List ID) → IsDistinct eq (voters ++ learners) → (x : ID) → is_member eq learners x ≡ true
+      → is_member eq voters x ≡ false
   unfolding IsDistinct
-  fits_apart voters is_voter v [] f = refl
-  fits_apart voters is_voter v (k ∷ ks) f =
-      rw (some_alike ks k f.distinct.0, member_flipped laws voters k ∙ v k ∙ f.no_voters k (ap (λ b. b || is_member eq ks k) (laws.refl k)))
-      (fits_apart voters is_voter v ks record
-      { distinct = f.distinct.1; no_voters = λ x m. f.no_voters x (or_right (eq x k) (is_member eq ks x) m) })
+  none_votes [] learners d x m = refl
+  none_votes (w ∷ ws) learners d x m = by (eq x w) refl (none_votes ws learners d.1 x m)
+    where
+      by : (b : Bool) → eq x w ≡ b → is_member eq ws x ≡ false → (eq x w || is_member eq ws x) ≡ false
+      by true e r = absurd (true≢false
+          (sym m ∙ apart_member w x learners (all_last (λ y. eq w y ≡ false) ws learners d.0) e))
+      by false e r = rw e r
+
+  joined_distinct : (voters learners : List ID) → IsDistinct eq voters → IsDistinct eq learners
+      → ((x : ID) → is_member eq learners x ≡ true → is_member eq voters x ≡ false) → IsDistinct eq (voters ++ learners)
+  unfolding IsDistinct
+  joined_distinct [] learners dv dl n = dl
+  joined_distinct (w ∷ ws) learners dv dl n = (
+    all_both (λ y. eq w y ≡ false) ws learners dv.0 (apart_all w learners (by (is_member eq learners w) refl)),
+    joined_distinct ws learners dv.1 dl (λ x m. (neither (eq x w) (is_member eq ws x) (n x m)).1),
+  )
+    where
+      by : (b : Bool) → is_member eq learners w ≡ b → b ≡ false
+      by true e = absurd (true≢false (sym (laws.refl w) ∙ (neither (eq w w) (is_member eq ws w) (n w e)).0))
+      by false e = refl
+
+  module _ (voters : List ID) (is_voter : ID → Bool) (v : (x : ID) → is_member eq voters x ≡ is_voter x) (learners : List ID) where
+    pub distinct_fits : IsDistinct eq (voters ++ learners) → LearnersFit eq is_voter learners
+    distinct_fits d = record {
+      distinct = last_distinct voters learners d;
+      no_voters = λ x m. sym (v x) ∙ none_votes voters learners d x m;
+    }
+
+    pub fits_distinct : IsDistinct eq voters → LearnersFit eq is_voter learners → IsDistinct eq (voters ++ learners)
+    fits_distinct d f = joined_distinct voters learners d f.distinct (λ x m. v x ∙ f.no_voters x m)
+
+  module _ {cmp : ID → ID → Ordering} (total : IsTotalOrder cmp) (ties : (x y : ID) → eq x y ≡ eq_by_cmp cmp x y) where
+    -- ids that ascend are distinct
+    pub ascending_distinct : (ids : List ID) → IsStrictlySortedBy cmp ids → IsDistinct eq ids
+    ascending_distinct ids s = subst (λ (e : ID → ID → Bool). IsDistinct e ids) (λ i x y. sym (ties x y) i) (IsDistinct-from_sorted cmp ids s)
+
+    -- ids in order of which no neighbours are equal are distinct
+    pub sorted_distinct : (ids : List ID) → IsSorted cmp ids
+        → ((k : ℕ) (d : ID) → k + 1 < length ids → eq (get_or ids k d) (get_or ids (k + 1) d) ≡ false) → IsDistinct eq ids
+    unfolding IsDistinct
+    sorted_distinct [] s a = tt
+    sorted_distinct (x ∷ xs) s a =
+        ascending_distinct (x ∷ xs) (sorted_from_all_adjacent total (x ∷ xs) x
+        (λ k l. less_from laws total ties _ _ (s k x (omega arith) l) (a k x l)))
