@@ -1,5 +1,32 @@
 -- What the checker of recorded traces keeps, and which rule an event breaks.
-use Rattle.std.specs.Prelude.{◌≡◌, ◌⊎◌, ◌<◌, ◌≤◌, ℕ, Bool, true, false, not, ◌||◌, nat_lt, nat_le, min, if◌then◌else◌, Option, Some, None, is_none, Result, List, [], ◌∷◌, ◌++◌, length, take, get_or}
+use Rattle.std.specs.Prelude.{
+  ◌≡◌,
+  ◌⊎◌,
+  ◌<◌,
+  ◌≤◌,
+  ℕ,
+  Bool,
+  true,
+  false,
+  not,
+  ◌||◌,
+  nat_lt,
+  nat_le,
+  min,
+  if◌then◌else◌,
+  Option,
+  Some,
+  None,
+  is_none,
+  Result,
+  List,
+  [],
+  ◌∷◌,
+  ◌++◌,
+  length,
+  take,
+  get_or,
+}
 use Rattle.std.specs.List.{find, list_any, IsDistinct}
 use Rattle.std.specs.Option.{MatchOption}
 use Rattle.std.specs.Result.{MatchResult}
@@ -7,7 +34,41 @@ use Rattle.std.specs.Set.{is_member}
 use Rattle.raft_safety.specs.Log.{Entry}
 use Rattle.raft_safety.specs.Events.{Event, term_after, log_after}
 use Rattle.raft_safety.specs.Configs.{effective_config}
-use Rattle.raft_safety.specs.Trace.{same_entry, TraceEvent, Campaigned, Granted, Appended, Acked, Restarted, Wrote, Committed, Applied, Tests, AreExact, events_in, term_in, log_in, candidate_log_in, leader_log_in, is_prefix, common_prefix, is_up_to_date, has_voted, has_acked, has_kept, durable, has_campaigned, is_elected, is_config_committed, is_known_committed, is_quorum_of_log, hold_no_config, is_allowed, are_allowed, same_leader}
+use Rattle.raft_safety.specs.Trace.{
+  same_entry,
+  TraceEvent,
+  Campaigned,
+  Granted,
+  Appended,
+  Acked,
+  Restarted,
+  Wrote,
+  Committed,
+  Applied,
+  Tests,
+  AreExact,
+  events_in,
+  term_in,
+  log_in,
+  candidate_log_in,
+  leader_log_in,
+  is_prefix,
+  common_prefix,
+  is_up_to_date,
+  has_voted,
+  has_acked,
+  has_kept,
+  durable,
+  has_campaigned,
+  is_elected,
+  is_config_committed,
+  is_known_committed,
+  is_quorum_of_log,
+  hold_no_config,
+  is_allowed,
+  are_allowed,
+  same_leader,
+}
 use Rattle.raft_safety.specs.CheckerState.{unless, kept_from, has_acked_to, config_committed, config_in, knows, common_len}
 use Rattle.raft_safety.specs.declared.checker.server.Server.{Server}
 use Rattle.raft_safety.specs.declared.checker.leader.Leader.{Leader}
@@ -15,9 +76,43 @@ use Rattle.raft_safety.specs.declared.checker.violation.Violation.{Violation}
 use Rattle.raft_safety.specs.declared.checker.violation.Violation.TheVariants.{OutOfMemory, Rule as BreaksRule}
 use Rattle.raft_safety.specs.declared.checker.Checker.{Checker}
 use Rattle.raft_safety.specs.declared.event.Event.{Event as RecordedEvent}
-use Rattle.raft_safety.specs.declared.event.Event.TheVariants.{Campaigned as RecordedCampaign, Granted as RecordedGrant, Appended as RecordedAppend, Acked as RecordedAck, Restarted as RecordedRestart, Wrote as RecordedWrite, Committed as RecordedCommit, Applied as RecordedApply}
+use Rattle.raft_safety.specs.declared.event.Event.TheVariants.{
+  Campaigned as RecordedCampaign,
+  Granted as RecordedGrant,
+  Appended as
+      RecordedAppend,
+  Acked as RecordedAck,
+  Restarted as RecordedRestart,
+  Wrote as RecordedWrite,
+  Committed as RecordedCommit,
+  Applied as
+      RecordedApply,
+}
 use Rattle.raft_safety.specs.declared.rule.Rule.{Rule}
-use Rattle.raft_safety.specs.declared.rule.Rule.TheVariants.{PassedTerm, CampaignedTwice, NoCampaign, OwnCandidate, CandidateBehind, NotElected, MissingEntries, DropsMatching, ForeignEntries, TermNotReached, NotWritten, NotKept, LostAcked, OtherTerm, ApartConfigs, ApartQuorums, EarlyConfig, EarlierTerm, CountedEarly, NoQuorum, NotAcked, NotCommitted}
+use Rattle.raft_safety.specs.declared.rule.Rule.TheVariants.{
+  PassedTerm,
+  CampaignedTwice,
+  NoCampaign,
+  OwnCandidate,
+  CandidateBehind,
+  NotElected,
+  MissingEntries,
+  DropsMatching,
+  ForeignEntries,
+  TermNotReached,
+  NotWritten,
+  NotKept,
+  LostAcked,
+  OtherTerm,
+  ApartConfigs,
+  ApartQuorums,
+  EarlyConfig,
+  EarlierTerm,
+  CountedEarly,
+  NoQuorum,
+  NotAcked,
+  NotCommitted,
+}
 
 module _ {T ID D M : Type 0} (k : Tests T ID D M) where
   -- the first rule that an event breaks after the earlier ones, that of its leader first

@@ -15,7 +15,24 @@ use Rattle.raft_safety.specs.Facts.{IsCommitted, IsElected}
 use Rattle.raft_safety.specs.Rules.{MayRestart}
 use Rattle.raft_safety.specs.Configs.{is_quorum}
 use Rattle.raft_safety.specs.Ranks.{rank_in}
-use Rattle.raft_safety.specs.Trace.{TraceEvent, Campaigned, Granted, Appended, Acked, Restarted, Wrote, Committed, Applied, Tests, IsSafeTrace, campaign_terms, history, is_allowed, is_elected, log_in}
+use Rattle.raft_safety.specs.Trace.{
+  TraceEvent,
+  Campaigned,
+  Granted,
+  Appended,
+  Acked,
+  Restarted,
+  Wrote,
+  Committed,
+  Applied,
+  Tests,
+  IsSafeTrace,
+  campaign_terms,
+  history,
+  is_allowed,
+  is_elected,
+  log_in,
+}
 
 -- ---- clusters whose terms are numbers
 

@@ -1,7 +1,34 @@
 -- Recorded traces of a cluster: the history that a trace makes, and the test that each event of it was
 -- allowed after the earlier ones. A clause at `x ∷ es` is about all events that the clauses above it do
 -- not name.
-use Rattle.std.specs.Prelude.{◌≡◌, ◌⊎◌, ℕ, Bool, true, false, not, ◌&&◌, ◌||◌, nat_lt, nat_le, nat_eq, min, max, if◌then◌else◌, Option, Some, None, is_none, List, [], ◌∷◌, ◌++◌, length, take, drop}
+use Rattle.std.specs.Prelude.{
+  ◌≡◌,
+  ◌⊎◌,
+  ℕ,
+  Bool,
+  true,
+  false,
+  not,
+  ◌&&◌,
+  ◌||◌,
+  nat_lt,
+  nat_le,
+  nat_eq,
+  min,
+  max,
+  if◌then◌else◌,
+  Option,
+  Some,
+  None,
+  is_none,
+  List,
+  [],
+  ◌∷◌,
+  ◌++◌,
+  length,
+  take,
+  drop,
+}
 use Rattle.raft_safety.specs.Log.{Entry, IsPrefix, last_term}
 use Rattle.raft_safety.specs.Events.{Event, GrantVote, Append, Ack, Restart, History, term_after, log_after}
 use Rattle.raft_safety.specs.Configs.{effective_config, is_quorum, QuorumsIntersect}

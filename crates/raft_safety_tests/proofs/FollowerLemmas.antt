@@ -1,5 +1,27 @@
 -- How the terms of a log are read, and what one entry more makes of `after_append_entries`.
-use Rattle.std.specs.Prelude.{◌≡◌, ◌-◌, ◌+◌, ◌<◌, ◌≤◌, ℕ, zero, suc, Bool, true, false, nat_lt, nat_eq, List, [], ◌∷◌, ◌++◌, length, take, drop, get_or}
+use Rattle.std.specs.Prelude.{
+  ◌≡◌,
+  ◌-◌,
+  ◌+◌,
+  ◌<◌,
+  ◌≤◌,
+  ℕ,
+  zero,
+  suc,
+  Bool,
+  true,
+  false,
+  nat_lt,
+  nat_eq,
+  List,
+  [],
+  ◌∷◌,
+  ◌++◌,
+  length,
+  take,
+  drop,
+  get_or,
+}
 use Rattle.std.specs.Cmp.{first_so, second_so}
 use Rattle.std.specs.Cmp.Derive.{both_true}
 use Rattle.std.proofs.Common.{refl, sym, ap, ◌∙◌, arith, ltb-true, lt-ltb}

@@ -1,5 +1,26 @@
 -- A server that compares terms alone keeps the rules.
-use Rattle.std.specs.Prelude.{◌≡◌, ◌⊎◌, ◌+◌, ◌<◌, ◌≤◌, ℕ, zero, suc, Bool, true, false, nat_lt, nat_eq, if◌then◌else◌, List, [], ◌∷◌, ◌++◌, length, take}
+use Rattle.std.specs.Prelude.{
+  ◌≡◌,
+  ◌⊎◌,
+  ◌+◌,
+  ◌<◌,
+  ◌≤◌,
+  ℕ,
+  zero,
+  suc,
+  Bool,
+  true,
+  false,
+  nat_lt,
+  nat_eq,
+  if◌then◌else◌,
+  List,
+  [],
+  ◌∷◌,
+  ◌++◌,
+  length,
+  take,
+}
 use Rattle.std.specs.Cmp.{first_so, second_so}
 use Rattle.std.specs.Cmp.Derive.{both_true}
 use Rattle.std.proofs.Common.{refl, sym, ap, ◌∙◌, inl, inr, arith, ltb-true, lt-ltb, append_assoc}
@@ -11,7 +32,15 @@ use Rattle.raft_safety.specs.Facts.{IsElected}
 use Rattle.raft_safety.specs.Rules.{EventsFollowRules, FollowsRaft, MayAppend}
 use Rattle.raft_safety.specs.Safety.{IsSafe}
 use Rattle.raft_safety.specs.AppendEntries.{ConsistencyCheckSuffices, MayAppendAndAck, after_append_entries, has_next}
-use Rattle.raft_safety.proofs.lemmas.PrefixLemmas.{append-nil, prefix_itself, prefix_take, prefix_length, prefix_within, take_prefix, last_term_or-append}
+use Rattle.raft_safety.proofs.lemmas.PrefixLemmas.{
+  append-nil,
+  prefix_itself,
+  prefix_take,
+  prefix_length,
+  prefix_within,
+  take_prefix,
+  last_term_or-append,
+}
 use Rattle.raft_safety.proofs.lemmas.ServerLemmas.{had_now, log_from, written_is_from}
 use Rattle.raft_safety.proofs.lemmas.SafetyLemmas.{match_from}
 

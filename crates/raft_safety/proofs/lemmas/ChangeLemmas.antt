@@ -9,7 +9,25 @@ use Rattle.raft_safety.specs.Facts.{IsCommitted, IsElected}
 use Rattle.raft_safety.specs.Safety.{IsSafe}
 use Rattle.raft_safety.specs.Configs.{FollowsRaftWithConfigs, MayProposeConfig, QuorumsIntersect, effective_config, is_quorum}
 use Rattle.raft_safety.proofs.lemmas.PrefixLemmas.{prefix_itself, prefix_trans, prefix_take, prefix_within, prefix_same, take_within}
-use Rattle.raft_safety.proofs.lemmas.ServerLemmas.{IsFrom, OneBelow, CompleteBelow, IsAhead, from_more, prefix_from, written_is_from, candidate_from, candidate_start, last_written, last_of, last_term_grows, voted_once, committed_length, ahead, by_voter, of_same}
+use Rattle.raft_safety.proofs.lemmas.ServerLemmas.{
+  IsFrom,
+  OneBelow,
+  CompleteBelow,
+  IsAhead,
+  from_more,
+  prefix_from,
+  written_is_from,
+  candidate_from,
+  candidate_start,
+  last_written,
+  last_of,
+  last_term_grows,
+  voted_once,
+  committed_length,
+  ahead,
+  by_voter,
+  of_same,
+}
 use Rattle.raft_safety.proofs.lemmas.ConfigLemmas.{upto, upto_fits, upto_grows, same_named, last_named, LastNamed, none_upto, members-none}
 use Rattle.raft_safety.proofs.lemmas.SafetyLemmas.{safe}
 

@@ -1,5 +1,40 @@
 -- The checker refuses an event exactly if it is not allowed, and keeps what the events say.
-use Rattle.std.specs.Prelude.{◌≡◌, ◌⊎◌, ◌+◌, ◌<◌, ◌≤◌, ℕ, zero, suc, Bool, true, false, not, ◌&&◌, ◌||◌, nat_lt, nat_le, nat_eq, min, max, if◌then◌else◌, Option, Some, None, is_none, List, [], ◌∷◌, ◌++◌, length, take, drop, map, get_or, set}
+use Rattle.std.specs.Prelude.{
+  ◌≡◌,
+  ◌⊎◌,
+  ◌+◌,
+  ◌<◌,
+  ◌≤◌,
+  ℕ,
+  zero,
+  suc,
+  Bool,
+  true,
+  false,
+  not,
+  ◌&&◌,
+  ◌||◌,
+  nat_lt,
+  nat_le,
+  nat_eq,
+  min,
+  max,
+  if◌then◌else◌,
+  Option,
+  Some,
+  None,
+  is_none,
+  List,
+  [],
+  ◌∷◌,
+  ◌++◌,
+  length,
+  take,
+  drop,
+  map,
+  get_or,
+  set,
+}
 use Rattle.std.specs.Cmp.{first_so, second_so}
 use Rattle.std.specs.List.{find, list_any, position, IsDistinct}
 use Rattle.std.specs.Option.{MatchOption, unwrap_or, option_or}
@@ -7,7 +42,30 @@ use Rattle.std.specs.Set.{is_member}
 use Rattle.std.proofs.Common.{refl, sym, ap, ◌∙◌, subst, inl, inr, arith, ltb-true}
 use Rattle.std.proofs.lemmas.List.Folds.{find-append}
 use Rattle.std.proofs.lemmas.List.Quantifiers.{position-Some}
-use Rattle.raft_safety.specs.declared.rule.Rule.TheVariants.{NoCampaign, OwnCandidate, CandidateBehind, OtherTerm, ApartConfigs, ApartQuorums, EarlyConfig, EarlierTerm, CountedEarly, NoQuorum, NotAcked, NotCommitted, CampaignedTwice, NotElected, PassedTerm, MissingEntries, DropsMatching, ForeignEntries, TermNotReached, NotWritten, NotKept, LostAcked}
+use Rattle.raft_safety.specs.declared.rule.Rule.TheVariants.{
+  NoCampaign,
+  OwnCandidate,
+  CandidateBehind,
+  OtherTerm,
+  ApartConfigs,
+  ApartQuorums,
+  EarlyConfig,
+  EarlierTerm,
+  CountedEarly,
+  NoQuorum,
+  NotAcked,
+  NotCommitted,
+  CampaignedTwice,
+  NotElected,
+  PassedTerm,
+  MissingEntries,
+  DropsMatching,
+  ForeignEntries,
+  TermNotReached,
+  NotWritten,
+  NotKept,
+  LostAcked,
+}
 use Rattle.raft_safety.proofs.lemmas.PrefixLemmas.{prefix_length}
 use Rattle.raft_safety.proofs.lemmas.TestLemmas.{leader_right, leader_from, prefix_right, entry_right, entry_itself}
 use Rattle.std.proofs.lemmas.Bool.{cases_Bool, and_from, and_right, cases_lt, leb-true, leb-false, lt-ltb, le-ltb, le-leb}
@@ -15,15 +73,122 @@ use Rattle.std.proofs.lemmas.List.{take_all, take-append-le, length-append, leng
 use Rattle.raft_safety.specs.Log.{Entry}
 use Rattle.raft_safety.specs.Configs.{effective_config}
 use Rattle.raft_safety.specs.Events.{Event, GrantVote, Ack, log_after, term_after}
-use Rattle.raft_safety.specs.Trace.{AreExact, Tests, TraceEvent, Campaigned, Granted, Appended, Acked, Restarted, Wrote, Committed, Applied, durable, term_in, log_in, is_up_to_date, events_in, has_campaigned, is_elected, is_allowed, are_allowed, may_propose, same_entry, same_leader, hold_no_config, and_append, and_restart, has_kept, has_acked, has_voted, candidate_log_in, leader_log_in, is_config_committed, is_known_committed, is_quorum_of_log, is_prefix, common_prefix}
-use Rattle.raft_safety.specs.CheckerState.{unless, up_to_date_by, write_rule, config_rule, config_in, no_config_in, append_rule, ack_rule, restart_rule, grant_rule, commit_rule, knows, has_committed, has_kept_by, has_acked_to, config_committed, common_len, kept_from, kept_after, at_most, IsAdded, HasPlace}
-use Rattle.raft_safety.specs.Checker.{broken_rule, proposal_rule, HasSeen, SeesServer, kept_at, SeesServers, SeesLeader, SeesNoLeader, SeesLeaders, find_server, find_leader}
+use Rattle.raft_safety.specs.Trace.{
+  AreExact,
+  Tests,
+  TraceEvent,
+  Campaigned,
+  Granted,
+  Appended,
+  Acked,
+  Restarted,
+  Wrote,
+  Committed,
+  Applied,
+  durable,
+  term_in,
+  log_in,
+  is_up_to_date,
+  events_in,
+  has_campaigned,
+  is_elected,
+  is_allowed,
+  are_allowed,
+  may_propose,
+  same_entry,
+  same_leader,
+  hold_no_config,
+  and_append,
+  and_restart,
+  has_kept,
+  has_acked,
+  has_voted,
+  candidate_log_in,
+  leader_log_in,
+  is_config_committed,
+  is_known_committed,
+  is_quorum_of_log,
+  is_prefix,
+  common_prefix,
+}
+use Rattle.raft_safety.specs.CheckerState.{
+  unless,
+  up_to_date_by,
+  write_rule,
+  config_rule,
+  config_in,
+  no_config_in,
+  append_rule,
+  ack_rule,
+  restart_rule,
+  grant_rule,
+  commit_rule,
+  knows,
+  has_committed,
+  has_kept_by,
+  has_acked_to,
+  config_committed,
+  common_len,
+  kept_from,
+  kept_after,
+  at_most,
+  IsAdded,
+  HasPlace,
+}
+use Rattle.raft_safety.specs.Checker.{
+  broken_rule,
+  proposal_rule,
+  HasSeen,
+  SeesServer,
+  kept_at,
+  SeesServers,
+  SeesLeader,
+  SeesNoLeader,
+  SeesLeaders,
+  find_server,
+  find_leader,
+}
 use Rattle.raft_safety.specs.declared.rule.Rule.{Rule}
 use Rattle.raft_safety.specs.declared.checker.server.Server.{Server}
 use Rattle.raft_safety.specs.declared.checker.leader.Leader.{Leader}
-use Rattle.raft_safety.proofs.lemmas.CheckedLogLemmas.{same_sym, common_from, keeps_common, appended_is_old, appended_is_other, is_prefix_by_len}
-use Rattle.raft_safety.proofs.lemmas.CheckedServerLemmas.{has_kept_by_len, kept_all, sees_vote, sees_append, sees_ack, sees_restart, sees_new, see_set}
-use Rattle.raft_safety.proofs.lemmas.CheckedLeaderLemmas.{found_some, write_of_other, commit_of_other, apply_same, any_set_or, any_push, vote_no_ack, campaign_of_other, grant_to_other, found_at, none_found, stays, ack_to_other, ack_no_vote, append_same, restart_same, see_leader_set, see_leader_push}
+use Rattle.raft_safety.proofs.lemmas.CheckedLogLemmas.{
+  same_sym,
+  common_from,
+  keeps_common,
+  appended_is_old,
+  appended_is_other,
+  is_prefix_by_len,
+}
+use Rattle.raft_safety.proofs.lemmas.CheckedServerLemmas.{
+  has_kept_by_len,
+  kept_all,
+  sees_vote,
+  sees_append,
+  sees_ack,
+  sees_restart,
+  sees_new,
+  see_set,
+}
+use Rattle.raft_safety.proofs.lemmas.CheckedLeaderLemmas.{
+  found_some,
+  write_of_other,
+  commit_of_other,
+  apply_same,
+  any_set_or,
+  any_push,
+  vote_no_ack,
+  campaign_of_other,
+  grant_to_other,
+  found_at,
+  none_found,
+  stays,
+  ack_to_other,
+  ack_no_vote,
+  append_same,
+  restart_same,
+  see_leader_set,
+  see_leader_push,
+}
 
 -- ---- an event breaks no rule exactly if it is allowed
 
@@ -585,38 +750,39 @@ module _ {T ID D : Type 0} (k : Tests T ID D (Option D)) (exact : AreExact k) wh
       → LeaderIs lnew l.term l.id l.start l.log.items lnew.voters.items lnew.elected l.committed
       → (broken_rule k (Granted id t c) es ≡ None)
       × HasSeen k (Granted id t c ∷ es) (set servers i new) (set leaders j lnew)
-  grant_seen es id t c servers leaders i j s new l lnew at_i is at_j is_l seen free same_id term log dur kept voted distinct elected acked same = (
-    ok,
-    record {
-      allowed = more_allowed k (Granted id t c) es ok seen.allowed;
-      see_servers =
-          server_event (Granted id t c) es id servers leaders i s new
-          (GrantVote t c ∷ events_in k es id) (λ r. at_id (λ (x : List (Event T ID D)). GrantVote t c ∷ x) es id r)
-          at_i is same_id seen
-          (sees_vote k exact (events_in k es id) s new t c at_s above term log dur kept);
-      see_leaders =
-          see_leader_set k exact es (Granted id t c ∷ es) leaders j lnew t c at_j place.1 seen.see_leaders
-          (λ u d apart. grant_to_other k exact es id t u c d apart)
-          (record {
-            campaigned = at_l.campaigned;
-            start = rw (same.start, same.log) at_l.start;
-            candidate_log = at_l.candidate_log ∙ sym (λ q. take (same.start q) (same.log q));
-            leader_log = at_l.leader_log ∙ sym same.log;
-            voted = votes;
-            distinct = distinct;
-            own_vote = own;
-            elected =
-                (λ q. (votes c ∙ own) q && is_quorum_of_log k (at_l.candidate_log q) (λ v. votes v q))
-                ∙ sym elected;
-            acked = λ v m. vote_no_ack k exact (k.same_id id v) t t c c m (events_in k es v) ∙ at_l.acked v m
-                ∙ sym (ap (λ x. has_acked_to k.same_id x v m) acked);
-            committed = λ x. at_l.committed x ∙ sym (ap (λ y. config_committed (hold_no_config k) y x) same.committed);
-            within = rw (same.committed, same.log) at_l.within;
-          });
-      see_commits = λ r p. seen.see_commits r p ∙ sym (any_set_or (knows k.rank (same_entry k) r p) false leaders j lnew l
-          place.0 (same_knows r p));
-    },
-  )
+  grant_seen es id t c servers leaders i j s new l lnew at_i is at_j is_l seen free same_id term log dur kept voted distinct elected acked
+      same = (
+        ok,
+        record {
+          allowed = more_allowed k (Granted id t c) es ok seen.allowed;
+          see_servers =
+              server_event (Granted id t c) es id servers leaders i s new
+              (GrantVote t c ∷ events_in k es id) (λ r. at_id (λ (x : List (Event T ID D)). GrantVote t c ∷ x) es id r)
+              at_i is same_id seen
+              (sees_vote k exact (events_in k es id) s new t c at_s above term log dur kept);
+          see_leaders =
+              see_leader_set k exact es (Granted id t c ∷ es) leaders j lnew t c at_j place.1 seen.see_leaders
+              (λ u d apart. grant_to_other k exact es id t u c d apart)
+              (record {
+                campaigned = at_l.campaigned;
+                start = rw (same.start, same.log) at_l.start;
+                candidate_log = at_l.candidate_log ∙ sym (λ q. take (same.start q) (same.log q));
+                leader_log = at_l.leader_log ∙ sym same.log;
+                voted = votes;
+                distinct = distinct;
+                own_vote = own;
+                elected =
+                    (λ q. (votes c ∙ own) q && is_quorum_of_log k (at_l.candidate_log q) (λ v. votes v q))
+                    ∙ sym elected;
+                acked = λ v m. vote_no_ack k exact (k.same_id id v) t t c c m (events_in k es v) ∙ at_l.acked v m
+                    ∙ sym (ap (λ x. has_acked_to k.same_id x v m) acked);
+                committed = λ x. at_l.committed x ∙ sym (ap (λ y. config_committed (hold_no_config k) y x) same.committed);
+                within = rw (same.committed, same.log) at_l.within;
+              });
+          see_commits = λ r p. seen.see_commits r p ∙ sym (any_set_or (knows k.rank (same_entry k) r p) false leaders j lnew l
+              place.0 (same_knows r p));
+        },
+      )
     where
       at_s : SeesServer k (events_in k es id) s
       at_s = rw is (server_seen es servers id i s seen.see_servers at_i)

@@ -254,7 +254,8 @@ module _ {T ID D M : Type 0} (rank : T → ℕ) (config_of : D → Option M) (in
             go (inr d) ok = rw d.is (one_more s d.event d.may ok)
 
         may_name : (t : T) (c : ID) (log : List (Entry T D)) (m : M)
-            → MayProposeConfig rank config_of initial quorum_of old t c log m → MayProposeConfig rank config_of initial quorum_of new t c log m
+            → MayProposeConfig rank config_of initial quorum_of old t c log m
+            → MayProposeConfig rank config_of initial quorum_of new t c log m
         may_name t c log m may = record {
           committed_to = may.committed_to;
           counted_at = may.counted_at;
@@ -306,7 +307,11 @@ module _ {T ID D M : Type 0} (rank : T → ℕ) (config_of : D → Option M) (in
         → Init rank config_of initial quorum_of h → Holds h
     empty_holds h meet empty = record {
       laws = record {
-        keeps_rules = record { servers = λ s. rw (empty.events s) tt; leaders = λ t c el. extends' t c; ranks = λ t u c d x y e. absurd (rw (empty.events c) at x.for_itself) };
+        keeps_rules = record {
+          servers = λ s. rw (empty.events s) tt;
+          leaders = λ t c el. extends' t c;
+          ranks = λ t u c d x y e. absurd (rw (empty.events c) at x.for_itself);
+        };
         initial_intersects = meet;
         proposals = λ t c el. names' t c;
       };

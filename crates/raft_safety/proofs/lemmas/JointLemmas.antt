@@ -8,7 +8,14 @@ use Rattle.raft_members.proofs.CallerLemmas.{quorums_meet, coherent_meet}
 use Rattle.raft_safety.specs.Log.{Entry}
 use Rattle.raft_safety.specs.Events.{History}
 use Rattle.raft_safety.specs.Safety.{IsSafe}
-use Rattle.raft_safety.specs.Configs.{effective_config, is_quorum, QuorumsIntersect, MayProposeConfig, MayProposeMembership, FollowsRaftWithMemberships}
+use Rattle.raft_safety.specs.Configs.{
+  effective_config,
+  is_quorum,
+  QuorumsIntersect,
+  MayProposeConfig,
+  MayProposeMembership,
+  FollowsRaftWithMemberships,
+}
 use Rattle.raft_safety.proofs.lemmas.ChangeLemmas.{changing_is_safe}
 
 module _ {K : Type 0} {eq : K → K → Bool} (laws : IsEquivalence eq)

@@ -6,7 +6,34 @@ use Rattle.std.proofs.lemmas.Bool.{and_from, eqb-true, eq-eqb, false≢true}
 use Rattle.raft_base.specs.declared.leader_id.LeaderId.{LeaderId}
 use Rattle.raft_safety.specs.Log.{Entry, IsPrefix}
 use Rattle.raft_safety.specs.Trace.{AreExact, IsSafeTrace, TermsHaveRanks, are_allowed}
-use Rattle.raft_safety.specs.Scenarios.{AreDisturbances, AreLeaderIds, AreMemberChanges, AreRefused, IsFigure8, Row, behind, by_leader_id, entry, figure_8_c, figure_8_d, figure_8_e, five, heard, joint_on_old, late_flush, learner_promoted, led, loss_and_return, lost_flush, members_changed, noise, snapshot_on_empty_log, starting_from, three, two_of_one_term}
+use Rattle.raft_safety.specs.Scenarios.{
+  AreDisturbances,
+  AreLeaderIds,
+  AreMemberChanges,
+  AreRefused,
+  IsFigure8,
+  Row,
+  behind,
+  by_leader_id,
+  entry,
+  figure_8_c,
+  figure_8_d,
+  figure_8_e,
+  five,
+  heard,
+  joint_on_old,
+  late_flush,
+  learner_promoted,
+  led,
+  loss_and_return,
+  lost_flush,
+  members_changed,
+  noise,
+  snapshot_on_empty_log,
+  starting_from,
+  three,
+  two_of_one_term,
+}
 use Rattle.raft_safety.proofs.lemmas.PrefixLemmas.{prefix_itself, prefix_length}
 use Rattle.raft_safety.proofs.lemmas.JointLemmas.{coherent_intersect}
 use Rattle.raft_safety.proofs.lemmas.TraceLemmas.{committed_right, elected_right, trace_is_safe}

@@ -8,7 +8,16 @@ use Rattle.raft_safety.specs.Log.{Entry, IsPrefix, IsUpToDate, last_term}
 use Rattle.raft_safety.specs.Events.{Ack, Append, Event, GrantVote, HasHad, HasKept, History, IsDurable, Restart, log_after, term_after}
 use Rattle.raft_safety.specs.Facts.{HasAcked, HasVoted, IsCommitted, IsElected}
 use Rattle.raft_safety.specs.Rules.{EventsFollowRules, FollowsRaft, MayGrantVote}
-use Rattle.raft_safety.proofs.lemmas.PrefixLemmas.{prefix_itself, prefix_trans, prefix_take, prefix_length, prefix_within, take_within, empty_last, last_added}
+use Rattle.raft_safety.proofs.lemmas.PrefixLemmas.{
+  prefix_itself,
+  prefix_trans,
+  prefix_take,
+  prefix_length,
+  prefix_within,
+  take_within,
+  empty_last,
+  last_added,
+}
 
 module _ {T ID D : Type 0} where
   -- the log of a server is one that it has had

@@ -141,7 +141,8 @@ module _ {K N : Type 0} {eq : K → K → Bool} {same : N → N → Bool} (s : I
   equal_lookup [] [] h = refl
   equal_lookup [] (y ∷ ys) h = cc
   equal_lookup (x ∷ xs) [] h = cc
-  equal_lookup (x ∷ xs) (y ∷ ys) h = by (t y.0) refl (equal_lookup xs ys (second_so (eq x.0 y.0 && same x.1 y.1) (same_nodes eq same xs ys) h))
+  equal_lookup (x ∷ xs) (y ∷ ys) h = by (t y.0) refl
+      (equal_lookup xs ys (second_so (eq x.0 y.0 && same x.1 y.1) (same_nodes eq same xs ys) h))
     where
       first : (eq x.0 y.0 && same x.1 y.1) ≡ true
       first = first_so (eq x.0 y.0 && same x.1 y.1) (same_nodes eq same xs ys) h

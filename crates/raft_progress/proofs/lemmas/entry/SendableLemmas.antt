@@ -130,7 +130,8 @@ module _ {C : Type 0} where
         request = ltb-true _ _ s.4;
       }
 
-  pub give_up_keeps : (entry : ProgressEntryOf C) (log : LogView C) → IsSendable entry log → IsSendable (record entry { inflight = Idle }) log
+  pub give_up_keeps : (entry : ProgressEntryOf C) (log : LogView C) → IsSendable entry log
+      → IsSendable (record entry { inflight = Idle }) log
   give_up_keeps entry log is = record {
     matched = is.matched;
     searched = is.searched;
@@ -152,8 +153,10 @@ module _ {C : Type 0} where
   }
 
 module _ {C : Type 0} (cmp : C → C → Ordering) where
-  pub send_keeps : (entry sent : ProgressEntryOf C) (log : LogView C) (max_entries : ℕ) → ((i : ℕ) → IfSome (log.id_at i) (λ id. id.index ≡ i))
-      → next_index log.snapshot ≤ next_index log.last → entry.curr_inflight_id + 2 < 2 ^ 64 → IsSendable entry log → send_table cmp entry log max_entries ≡ Ok sent
+  pub send_keeps : (entry sent : ProgressEntryOf C) (log : LogView C) (max_entries : ℕ)
+      → ((i : ℕ) → IfSome (log.id_at i) (λ id. id.index ≡ i))
+      → next_index log.snapshot ≤ next_index log.last → entry.curr_inflight_id + 2 < 2 ^ 64 → IsSendable entry log
+      → send_table cmp entry log max_entries ≡ Ok sent
       → IsSendable sent log
   send_keeps entry sent log max_entries indexed snapshot more fits is =
       let start = start_of entry log in
@@ -178,16 +181,19 @@ module _ {C : Type 0} (cmp : C → C → Ordering) where
         request = left;
       }
 
-      by : (idle probes none : Bool) (id : ℕ) → id + 1 < 2 ^ 64 → (snapshot logs : InflightOf C) → end_in_flight snapshot ≤ next_index log.last
+      by : (idle probes none : Bool) (id : ℕ) → id + 1 < 2 ^ 64 → (snapshot logs : InflightOf C)
+          → end_in_flight snapshot ≤ next_index log.last
           → end_in_flight logs ≤ next_index log.last
           → (if idle then
           (if probes then Ok (record entry { curr_inflight_id = id; inflight = snapshot }) else if none then Err entry else Ok
           (record entry { curr_inflight_id = id; inflight = logs })) else Err entry)
           ≡ Ok sent
           → IsSendable sent log
-      by true true none id left s l hs hl e = subst (λ (x : ProgressEntryOf C). IsSendable x log) (ok_inside _ sent e) (sending id s left hs)
+      by true true none id left s l hs hl e =
+          subst (λ (x : ProgressEntryOf C). IsSendable x log) (ok_inside _ sent e) (sending id s left hs)
       by true false true id left s l hs hl e = not_ok entry sent e
-      by true false false id left s l hs hl e = subst (λ (x : ProgressEntryOf C). IsSendable x log) (ok_inside _ sent e) (sending id l left hl)
+      by true false false id left s l hs hl e =
+          subst (λ (x : ProgressEntryOf C). IsSendable x log) (ok_inside _ sent e) (sending id l left hl)
       by false probes none id left s l hs hl e = not_ok entry sent e
 
   within_next : (range : LogIdRangeOf C) (m : Option (LogIdOf C)) → is_within cmp range m ≡ true → next_index m ≤ next_index range.last
@@ -263,7 +269,8 @@ module _ {C : Type 0} where
       leaves Idle h = not_ok _ after h
       leaves (Logs mine range) h = by (mine == id) _ h
         where
-          by : (t u : Bool) → (if t then (if u then Ok Idle else Err ConflictNotAtPrev) else Err (InvalidRequestId (Some mine) id)) ≡ Ok after
+          by : (t u : Bool) → (if t then (if u then Ok Idle else Err ConflictNotAtPrev) else Err (InvalidRequestId (Some mine) id))
+              ≡ Ok after
               → after ≡ Idle
           by true true e = sym (ok_inside Idle after e)
           by true false e = not_ok _ after e
@@ -274,7 +281,8 @@ module _ {C : Type 0} where
           by true why e = not_ok _ after e
           by false why e = not_ok _ after e
 
-  ends_keep : (entry new : ProgressEntryOf C) (log : LogView C) (index : ℕ) (found : Result (InflightOf C) InflightError) → IsSendable entry log
+  ends_keep : (entry new : ProgressEntryOf C) (log : LogView C) (index : ℕ) (found : Result (InflightOf C) InflightError)
+      → IsSendable entry log
       → ((after : InflightOf C) → found ≡ Ok after → end_in_flight after ≤ next_index log.last) → with_search_end entry index found ≡ Ok new
       → IsSendable new log
   ends_keep entry new log index (Err why) fits h e = not_ok why new e

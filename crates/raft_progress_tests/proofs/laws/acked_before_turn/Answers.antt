@@ -5,7 +5,8 @@ pub returns : goal.returns
 returns g c =
     let acked = tracked c.update-reply.new.self in (
       acked,
-      c.tracked_calls_are_runs.ensures.updates g.V.PartialOrd.partial_cmp (tracked c.args.cluster.now) acked c.args.id c.args.value c.update-reply.result
+      c.tracked_calls_are_runs.ensures.updates g.V.PartialOrd.partial_cmp (tracked c.args.cluster.now) acked c.args.id c.args.value
+          c.update-reply.result
           c.update-reply.ensures.step c.update-reply.ensures.ready,
       c.in_ok-replies.ensures.shown_run,
     )

@@ -12,6 +12,7 @@ pub returns : goal.returns
 returns g c =
     let value = c.deref.ensures.value in
     from_three c.upgrade_quorum_set.result _ _ _ _
-    (λ made is fold ordered. c.calls_are_runs.ensures.upgrades g.V.PartialOrd.partial_cmp (shown c.args.progress.now) (shown made) c.args.quorum_set c.args.learners
+    (λ made is fold ordered. c.calls_are_runs.ensures.upgrades g.V.PartialOrd.partial_cmp (shown c.args.progress.now) (shown made)
+    c.args.quorum_set c.args.learners
     c.args.default c.requires.learners_fit c.requires.can_upgrade (rw value at is) (rw value at fold) ordered)
     c.upgrade_quorum_set.ensures.made c.upgrade_quorum_set.ensures.fold c.upgrade_quorum_set.ensures.ordered

@@ -26,6 +26,7 @@ returns g c config known =
     let reached : AtMost nat_cmp c.args.matched old.progress.granted =
     subst (λ (n : ℕ). AtMost nat_cmp c.args.matched n) (c.granted.ensures ∙ ap (λ p. p.granted) c.progress.ensures)
     (cmp_le _ _ c.if-granted-matched.false) in
-    c.known_stays.ensures.over_changes (as_partial_cmp nat_cmp) (λ v w e. e) old (tracked c.replay.new.cluster) c.args.step.items c.in_ok-_replies._replies.items
+    c.known_stays.ensures.over_changes (as_partial_cmp nat_cmp) (λ v w e. e) old (tracked c.replay.new.cluster) c.args.step.items
+    c.in_ok-_replies._replies.items
     c.args.matched c.quorums_know_granted.ensures.ready config c.in_ok-_replies.ensures.shown_run
     (once nat_cmp c.args.matched old.progress.granted c.args.step.items c.in_ok-_replies._replies.items c.requires.one reached) known

@@ -3,9 +3,11 @@ use Rattle.raft_progress.specs.tracked.Tracked.{tracked}
 use Rattle.raft_progress_tests.proofs.laws.take_acks.Goals as goal
 
 pub returns-clause-configs : goal.returns-clause-configs
-returns-clause-configs g c = (c.known_stays.ensures.without_change (as_partial_cmp nat_cmp) (tracked c.args.cluster.now) (tracked c.replay.new.cluster)
+returns-clause-configs g c = (c.known_stays.ensures.without_change (as_partial_cmp nat_cmp) (tracked c.args.cluster.now)
+    (tracked c.replay.new.cluster)
     c.args.acks.items c.in_ok-_replies._replies.items c.requires.acks c.in_ok-_replies.ensures.shown_run).0
 
 pub returns-clause-known : goal.returns-clause-known
-returns-clause-known g c = (c.known_stays.ensures.without_change (as_partial_cmp nat_cmp) (tracked c.args.cluster.now) (tracked c.replay.new.cluster)
+returns-clause-known g c = (c.known_stays.ensures.without_change (as_partial_cmp nat_cmp) (tracked c.args.cluster.now)
+    (tracked c.replay.new.cluster)
     c.args.acks.items c.in_ok-_replies._replies.items c.requires.acks c.in_ok-_replies.ensures.shown_run).1

@@ -1,5 +1,28 @@
 -- Memberships that are in the log or purged, and what the calls of a state leave of them.
-use Rattle.std.proofs.Common.{◌≡◌, ℕ, suc, ◌+◌, ◌≤◌, Bool, true, false, List, [], ◌∷◌, Option, Some, None, if◌then◌else◌, map, nat_le, refl, sym, arith, true≢false, ◌∙◌}
+use Rattle.std.proofs.Common.{
+  ◌≡◌,
+  ℕ,
+  suc,
+  ◌+◌,
+  ◌≤◌,
+  Bool,
+  true,
+  false,
+  List,
+  [],
+  ◌∷◌,
+  Option,
+  Some,
+  None,
+  if◌then◌else◌,
+  map,
+  nat_le,
+  refl,
+  sym,
+  arith,
+  true≢false,
+  ◌∙◌,
+}
 use Rattle.std.proofs.lemmas.Bool.{and_parts, or_right}
 use Rattle.std.proofs.lemmas.Bool.Decides.{nat_tests}
 use Rattle.std.specs.declared.cmp.Ordering.{Ordering}
@@ -14,7 +37,15 @@ use Rattle.raft_members.specs.declared.membership.stored.StoredMembershipOf.{Sto
 use Rattle.raft_progress.proofs.lemmas.OrderLemmas.{AtMost-from_lt, le_lt, not_lt-from_AtMost}
 use Rattle.raft_state.proofs.lemmas.log_id_list.IdOrderLemmas.{then_less}
 use Rattle.raft_state.proofs.lemmas.log_id_list.OrderLemmas.{From}
-use Rattle.raft_state.proofs.lemmas.sound.LoggedIds.{ends_not_past, extension_keeps, front_keeps, in_log, purge_keeps, purged_or_in, same_itself}
+use Rattle.raft_state.proofs.lemmas.sound.LoggedIds.{
+  ends_not_past,
+  extension_keeps,
+  front_keeps,
+  in_log,
+  purge_keeps,
+  purged_or_in,
+  same_itself,
+}
 use Rattle.raft_state.specs.Appended.{AppendsMemberships}
 use Rattle.raft_state.specs.FullLog.{first_index}
 use Rattle.raft_state.specs.LogConditions.{all_follow, follows}

@@ -1,5 +1,31 @@
 -- What an install leaves of a sound state, and of its memberships.
-use Rattle.std.proofs.Common.{◌≡◌, ℕ, ◌+◌, ◌==◌, ◌≤◌, Bool, true, false, ◌&&◌, ◌||◌, List, [], ◌∷◌, Option, Some, None, if◌then◌else◌, nat_eq, nat_le, nat_lt, refl, sym, arith, true≢false, ◌∙◌}
+use Rattle.std.proofs.Common.{
+  ◌≡◌,
+  ℕ,
+  ◌+◌,
+  ◌==◌,
+  ◌≤◌,
+  Bool,
+  true,
+  false,
+  ◌&&◌,
+  ◌||◌,
+  List,
+  [],
+  ◌∷◌,
+  Option,
+  Some,
+  None,
+  if◌then◌else◌,
+  nat_eq,
+  nat_le,
+  nat_lt,
+  refl,
+  sym,
+  arith,
+  true≢false,
+  ◌∙◌,
+}
 use Rattle.std.proofs.lemmas.Bool.{and_parts, or_left}
 use Rattle.std.proofs.lemmas.Bool.Decides.{nat_tests}
 use Rattle.std.specs.declared.cmp.Ordering.{Ordering}
@@ -19,7 +45,17 @@ use Rattle.raft_state.proofs.lemmas.InstallLemmas.{install_stays_valid, not_belo
 use Rattle.raft_state.proofs.lemmas.log_id_list.FrontLemmas.{from_first}
 use Rattle.raft_state.proofs.lemmas.log_id_list.KeptLemmas.{purged_reads}
 use Rattle.raft_state.proofs.lemmas.log_id_list.KeyListLemmas.{IsKeyList}
-use Rattle.raft_state.proofs.lemmas.sound.LoggedIds.{either_second, ends_after, ends_by, in_log, in_order, purge_keeps, purged_or_in, same_itself, within}
+use Rattle.raft_state.proofs.lemmas.sound.LoggedIds.{
+  either_second,
+  ends_after,
+  ends_by,
+  in_log,
+  in_order,
+  purge_keeps,
+  purged_or_in,
+  same_itself,
+  within,
+}
 use Rattle.raft_state.proofs.lemmas.sound.LoggedMembers.{AreKept, alone}
 use Rattle.raft_state.proofs.lemmas.sound.SoundCalls.{accepted_fits, first_not_past, makes_sound, members_in_order, members_of, next_rises}
 use Rattle.raft_state.proofs.lemmas.validate.RelationLemmas.{all_hold}
@@ -141,7 +177,8 @@ module _ {C : Type 0} (cmp : C → C → Ordering) (eq : C → C → Bool) (tota
       over : (t : Bool) → t ≡ is_covered id.index s.membership_state → is_logged eq id s ≡ true
           → AreKept eq cmp (id.index + 1) (log_after_purge (full_log s.log_ids) id) (Some id)
           (let new : Memberships C K N = (if t then record { committed = stored; effective = stored } else record {
-            committed = if id_lt cmp (log_id_of s.membership_state.committed) (log_id_of stored) then stored else s.membership_state.committed;
+            committed = if id_lt cmp (log_id_of s.membership_state.committed) (log_id_of stored) then stored else
+                s.membership_state.committed;
             effective = if index_le (index_at s.membership_state.effective) (index_at stored) then stored else s.membership_state.effective;
           }) in new)
       over true e here = alone eq cmp eqs (id.index + 1) (log_after_purge (full_log s.log_ids) id) (Some id) stored
@@ -156,7 +193,8 @@ module _ {C : Type 0} (cmp : C → C → Ordering) (eq : C → C → Bool) (tota
           (first_not_past (full_log s.log_ids) id.index w.0) in
           let members = members_of cmp eq s sound in
           rw stays (record {
-            committed = one_of (id.index + 1) (log_after_purge (full_log s.log_ids) id) stored s.membership_state.committed (id_lt cmp (log_id_of s.membership_state.committed) (log_id_of stored))
+            committed = one_of (id.index + 1) (log_after_purge (full_log s.log_ids) id) stored s.membership_state.committed
+                (id_lt cmp (log_id_of s.membership_state.committed) (log_id_of stored))
                 (purge_keeps eq s.purged_next (full_log s.log_ids) id (log_id_of s.membership_state.committed) row next members.committed)
                 (in_snapshot (log_after_purge (full_log s.log_ids) id) id stored past);
             effective = purge_keeps eq s.purged_next (full_log s.log_ids) id (log_id_of s.membership_state.effective) row next
@@ -171,7 +209,8 @@ module _ {C : Type 0} (cmp : C → C → Ordering) (eq : C → C → Bool) (tota
           (let new : Memberships C K N = (if t then after_update_committed cmp stored id.index s.membership_state
           else record { committed = stored; effective = stored }) in new)
       by true e = over (is_covered id.index s.membership_state) refl (sym e)
-      by false e = alone eq cmp eqs (id.index + 1) (log_after_purge [] id) (Some id) stored (in_snapshot (log_after_purge [] id) id stored past)
+      by false e = alone eq cmp eqs (id.index + 1) (log_after_purge [] id) (Some id) stored
+          (in_snapshot (log_after_purge [] id) id stored past)
 
   pub install_sound : {K N I L : Type 0} (base s : RaftStateIn K N I L C) (id : LogIdOf C) (stored : StoredMembershipOf C K N)
       (keys : List (LogIdOf C)) (m : Memberships C K N) (before accepted : AcceptedIn L C) (meta : SnapshotMetaOf C K N)
@@ -219,7 +258,8 @@ module _ {C : Type 0} (cmp : C → C → Ordering) (eq : C → C → Bool) (tota
 
       over : (t : Bool) → id_le cmp (log_id_of s.membership_state.committed) (log_id_of stored) ≡ true
           → same_ids eq (log_id_of (let new : Memberships C K N = (if t then record { committed = stored; effective = stored } else record {
-            committed = if id_lt cmp (log_id_of s.membership_state.committed) (log_id_of stored) then stored else s.membership_state.committed;
+            committed = if id_lt cmp (log_id_of s.membership_state.committed) (log_id_of stored) then stored else
+                s.membership_state.committed;
             effective = if index_le (index_at s.membership_state.effective) (index_at stored) then stored else s.membership_state.effective;
           }) in new).committed) (log_id_of stored) ≡ true
       over true le = same_itself eq eqs (log_id_of stored)
@@ -254,7 +294,8 @@ module _ {C : Type 0} (cmp : C → C → Ordering) (eq : C → C → Bool) (tota
           || (true && index_lt (Some id.index) (index_at s.membership_state.committed)) ≡ true
           → id_le cmp (log_id_of s.membership_state.committed)
           (log_id_of (let new : Memberships C K N = (if t then record { committed = stored; effective = stored } else record {
-            committed = if id_lt cmp (log_id_of s.membership_state.committed) (log_id_of stored) then stored else s.membership_state.committed;
+            committed = if id_lt cmp (log_id_of s.membership_state.committed) (log_id_of stored) then stored else
+                s.membership_state.committed;
             effective = if index_le (index_at s.membership_state.effective) (index_at stored) then stored else s.membership_state.effective;
           }) in new).committed) ≡ true
       over true e k =

@@ -67,7 +67,8 @@ module _ {ID : Type 0} {eq : ID → ID → Bool} (laws : IsEquivalence eq) where
   module _ {cmp : ID → ID → Ordering} (total : IsTotalOrder cmp) (ties : (x y : ID) → eq x y ≡ eq_by_cmp cmp x y) where
     -- ids that ascend are distinct
     pub ascending_distinct : (ids : List ID) → IsStrictlySortedBy cmp ids → IsDistinct eq ids
-    ascending_distinct ids s = subst (λ (e : ID → ID → Bool). IsDistinct e ids) (λ i x y. sym (ties x y) i) (IsDistinct-from_sorted cmp ids s)
+    ascending_distinct ids s = subst (λ (e : ID → ID → Bool). IsDistinct e ids) (λ i x y. sym (ties x y) i)
+        (IsDistinct-from_sorted cmp ids s)
 
     -- ids in order of which no neighbours are equal are distinct
     pub sorted_distinct : (ids : List ID) → IsSorted cmp ids

@@ -3,4 +3,5 @@ use Rattle.raft_progress.proofs.progress.conditions.have_no_equal_neighbours.Giv
 
 -- no id so far equals the one before it
 abbrev pub invariant-loop-place : goal.invariant-loop-place
-invariant-loop-place g l = (k : ℕ) (d : g.row.ID.Denot) → k + 1 < l.place → g.ID.PartialEq.eq (get_or l.ids k d) (get_or l.ids (k + 1) d) ≡ false
+invariant-loop-place g l = (k : ℕ) (d : g.row.ID.Denot) → k + 1 < l.place
+    → g.ID.PartialEq.eq (get_or l.ids k d) (get_or l.ids (k + 1) d) ≡ false

@@ -24,9 +24,18 @@ returns-in_err-ack-clause-answer g c =
       tt,
       same_leader_again _ exact es c.args.term c.args.leader c.server_at.new.servers.items c.args.self.now.leaders.items c.in-Some.j
           c.index_mut.result.now c.ack.new.self (rw c.deref.ensures.value at (sym c.in-Some.ensures.place)) c.index_mut.ensures.value
-          (see_place _ exact es c.args.server c.args.self.now.servers.items c.server_at.new.servers.items c.in_ok-i.i c.args.self.now.leaders.items c.in_ok-i.ensures.at seen)
+          (see_place _ exact es c.args.server c.args.self.now.servers.items c.server_at.new.servers.items c.in_ok-i.i
+          c.args.self.now.leaders.items c.in_ok-i.ensures.at seen)
           c.in_err-ack.ensures.err_acked
-          (record { term = c.in_err-ack.ensures.same_term; id = c.in_err-ack.ensures.same_id; start = c.in_err-ack.ensures.same_start; log = c.in_err-ack.ensures.same_log; voters = c.in_err-ack.ensures.same_voters; elected = c.in_err-ack.ensures.same_elected; committed = c.in_err-ack.ensures.same_committed }),
+          (record {
+            term = c.in_err-ack.ensures.same_term;
+            id = c.in_err-ack.ensures.same_id;
+            start = c.in_err-ack.ensures.same_start;
+            log = c.in_err-ack.ensures.same_log;
+            voters = c.in_err-ack.ensures.same_voters;
+            elected = c.in_err-ack.ensures.same_elected;
+            committed = c.in_err-ack.ensures.same_committed;
+          }),
     ))
 
 pub returns-clause-answer : goal.returns-clause-answer
@@ -35,9 +44,18 @@ returns-clause-answer g c =
     c.args.self.now.servers.items c.server_at.new.servers.items c.args.self.now.leaders.items c.in_ok-i.i c.in-Some.j
     c.index.result.now c.index_mut-2.result.now c.ack-2.new.self
     c.index-2.result.now c.index_mut.result.now c.ack.new.self
-    c.in_ok-i.ensures.at c.index.ensures c.index_mut-2.ensures.value (rw c.deref.ensures.value at (sym c.in-Some.ensures.place)) c.index-2.ensures
+    c.in_ok-i.ensures.at c.index.ensures c.index_mut-2.ensures.value (rw c.deref.ensures.value at (sym c.in-Some.ensures.place))
+    c.index-2.ensures
     c.index_mut.ensures.value seen
     (rw c.rank-rank.ensures at (sym c.in-None-ack_rule.ensures))
     c.ack-2.ensures.same_id c.ack-2.ensures.same_term c.ack-2.ensures.same_log c.ack-2.ensures.durable
     c.ack-2.ensures.same_kept c.in_ok-ack.ensures.acked
-    (record { term = c.in_ok-ack.ensures.same_term; id = c.in_ok-ack.ensures.same_id; start = c.in_ok-ack.ensures.same_start; log = c.in_ok-ack.ensures.same_log; voters = c.in_ok-ack.ensures.same_voters; elected = c.in_ok-ack.ensures.same_elected; committed = c.in_ok-ack.ensures.same_committed })
+    (record {
+      term = c.in_ok-ack.ensures.same_term;
+      id = c.in_ok-ack.ensures.same_id;
+      start = c.in_ok-ack.ensures.same_start;
+      log = c.in_ok-ack.ensures.same_log;
+      voters = c.in_ok-ack.ensures.same_voters;
+      elected = c.in_ok-ack.ensures.same_elected;
+      committed = c.in_ok-ack.ensures.same_committed;
+    })

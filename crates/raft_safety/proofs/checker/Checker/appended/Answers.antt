@@ -7,7 +7,8 @@ use Rattle.raft_safety.proofs.checker.Checker.appended.Goals as goal
 pub returns-in-None-clause-answer : goal.returns-in-None-clause-answer
 returns-in-None-clause-answer g c =
     λ exact es seen. append_unled _ exact es c.args.server c.args.term c.args.leader c.args.keep
-    c.args.entries.now c.args.self.now.servers.items c.args.self.now.leaders.items (rw c.deref.ensures.value at (sym c.in-None.ensures.place)) seen
+    c.args.entries.now c.args.self.now.servers.items c.args.self.now.leaders.items
+    (rw c.deref.ensures.value at (sym c.in-None.ensures.place)) seen
 
 pub returns-in-Some-append_rule-clause-answer : goal.returns-in-Some-append_rule-clause-answer
 returns-in-Some-append_rule-clause-answer g c =
@@ -22,7 +23,8 @@ returns-in_err-append-clause-answer g c =
     let p = err_from_is_err_and c.from_residual-in_err-append.result c.from_residual-in_err-append.ensures.1 in
     rw (p.1, p.2) (λ exact es seen. (
       tt,
-      same_server _ exact es c.args.server c.args.self.now.servers.items c.server_at.new.servers.items c.args.self.now.leaders.items c.in_ok-i.i
+      same_server _ exact es c.args.server c.args.self.now.servers.items c.server_at.new.servers.items c.args.self.now.leaders.items
+          c.in_ok-i.i
           c.index_mut.result.now c.append.new.self c.in_ok-i.ensures.at c.index_mut.ensures.value seen
           c.in_err-append.ensures.same_id c.in_err-append.ensures.err_term c.in_err-append.ensures.err_log
           c.in_err-append.ensures.err_durable c.in_err-append.ensures.err_kept,
@@ -33,7 +35,8 @@ returns-clause-answer g c =
     λ exact es seen. append_done _ exact es c.args.server c.args.term c.args.leader c.args.keep
     c.args.entries.now c.args.self.now.servers.items c.server_at.new.servers.items c.args.self.now.leaders.items c.in_ok-i.i c.in-Some.j
     c.index.result.now c.index_mut.result.now c.append.new.self c.index-2.result.now
-    c.in_ok-i.ensures.at c.index.ensures c.index_mut.ensures.value (rw c.deref.ensures.value at (sym c.in-Some.ensures.place)) c.index-2.ensures seen
+    c.in_ok-i.ensures.at c.index.ensures c.index_mut.ensures.value (rw c.deref.ensures.value at (sym c.in-Some.ensures.place))
+    c.index-2.ensures seen
     (rw c.rank-rank.ensures at (sym c.in-None-append_rule.ensures))
     c.in_ok-append.ensures.same_id (rw c.rank-rank.ensures at c.in_ok-append.ensures.term)
     c.in_ok-append.ensures.log c.in_ok-append.ensures.durable

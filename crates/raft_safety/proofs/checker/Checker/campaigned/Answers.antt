@@ -8,12 +8,14 @@ use Rattle.raft_safety.proofs.checker.Checker.campaigned.Goals as goal
 
 pub returns-in-Some-clause-answer : goal.returns-in-Some-clause-answer
 returns-in-Some-clause-answer g c =
-    λ exact es seen. campaign_again _ exact es c.args.term c.args.server c.args.self.now.servers.items c.args.self.now.leaders.items c.in-Some.field-0
+    λ exact es seen. campaign_again _ exact es c.args.term c.args.server c.args.self.now.servers.items c.args.self.now.leaders.items
+    c.in-Some.field-0
     (rw c.deref.ensures.value at (sym c.in-Some.ensures.place)) seen
 
 pub returns-then-rank-index-clause-answer : goal.returns-then-rank-index-clause-answer
 returns-then-rank-index-clause-answer g c =
-    λ exact es seen. campaign_refused _ exact es c.args.term c.args.server c.args.self.now.servers.items c.server_at.new.servers.items c.args.self.now.leaders.items c.in_ok-i.i
+    λ exact es seen. campaign_refused _ exact es c.args.term c.args.server c.args.self.now.servers.items c.server_at.new.servers.items
+    c.args.self.now.leaders.items c.in_ok-i.i
     c.index.result.now c.in_ok-i.ensures.at c.index.ensures (rw c.deref.ensures.value at (sym c.in-None.ensures.place)) seen
     (rw c.rank-rank.ensures at c.if-rank-index.true)
 
@@ -22,7 +24,8 @@ returns-in_err-leader-clause-answer g c =
     let p = err_from_is_err_and c.from_residual-in_err-leader.result c.from_residual-in_err-leader.ensures.1 in
     rw (p.1, p.2) (λ exact es seen. (
       tt,
-      same_server _ exact es c.args.server c.args.self.now.servers.items c.server_at.new.servers.items c.args.self.now.leaders.items c.in_ok-i.i
+      same_server _ exact es c.args.server c.args.self.now.servers.items c.server_at.new.servers.items c.args.self.now.leaders.items
+          c.in_ok-i.i
           c.index_mut-voter.result.now c.index_mut-voter.result.now c.in_ok-i.ensures.at c.index_mut-voter.ensures.value seen
           refl refl refl refl refl,
     ))
@@ -32,7 +35,8 @@ returns-in_err-reserve-clause-answer g c =
     let p = err_from_is_err_and c.from_residual-in_err-reserve.result c.from_residual-in_err-reserve.ensures.1 in
     rw (p.1, p.2) (λ exact es seen. (
       tt,
-      rw c.in_err-reserve.ensures.items (same_server _ exact es c.args.server c.args.self.now.servers.items c.server_at.new.servers.items c.args.self.now.leaders.items c.in_ok-i.i
+      rw c.in_err-reserve.ensures.items (same_server _ exact es c.args.server c.args.self.now.servers.items c.server_at.new.servers.items
+          c.args.self.now.leaders.items c.in_ok-i.i
           c.index_mut-voter.result.now c.index_mut-voter.result.now c.in_ok-i.ensures.at c.index_mut-voter.ensures.value seen
           refl refl refl refl refl),
     ))
@@ -42,9 +46,11 @@ returns-in_err-make_room-clause-answer g c =
     let p = err_from_is_err_and c.from_residual-in_err-make_room.result c.from_residual-in_err-make_room.ensures.1 in
     rw (p.1, p.2) (λ exact es seen. (
       tt,
-      rw c.in_ok-reserve.ensures.items (same_server _ exact es c.args.server c.args.self.now.servers.items c.server_at.new.servers.items c.args.self.now.leaders.items c.in_ok-i.i
+      rw c.in_ok-reserve.ensures.items (same_server _ exact es c.args.server c.args.self.now.servers.items c.server_at.new.servers.items
+          c.args.self.now.leaders.items c.in_ok-i.i
           c.index_mut-voter.result.now c.make_room.new.self c.in_ok-i.ensures.at c.index_mut-voter.ensures.value seen
-          c.in_err-make_room.ensures.same_id c.in_err-make_room.ensures.same_term c.in_err-make_room.ensures.same_log c.in_err-make_room.ensures.same_durable c.in_err-make_room.ensures.same_kept),
+          c.in_err-make_room.ensures.same_id c.in_err-make_room.ensures.same_term c.in_err-make_room.ensures.same_log
+          c.in_err-make_room.ensures.same_durable c.in_err-make_room.ensures.same_kept),
     ))
 
 pub returns-clause-answer : goal.returns-clause-answer
@@ -61,7 +67,8 @@ returns-clause-answer g c =
     (rw c.rank-rank.ensures at c.reach.ensures.term ∙ ap (λ x. max x (g.T.Term.rank c.args.term)) c.in_ok-make_room.ensures.same_term)
     (c.reach.ensures.same_log ∙ c.in_ok-make_room.ensures.same_log) (c.reach.ensures.same_durable ∙ c.in_ok-make_room.ensures.same_durable)
     (rw c.rank-rank.ensures at c.reach.ensures.kept
-    ∙ (λ q. kept_after (c.in_ok-make_room.ensures.same_kept q) (c.in_ok-make_room.ensures.same_term q) (length (c.in_ok-make_room.ensures.same_log q)) (g.T.Term.rank c.args.term)))
+    ∙ (λ q. kept_after (c.in_ok-make_room.ensures.same_kept q) (c.in_ok-make_room.ensures.same_term q)
+    (length (c.in_ok-make_room.ensures.same_log q)) (g.T.Term.rank c.args.term)))
     (rw c.deref-2.ensures.value at c.in_ok-leader.ensures.elected) c.in_ok-leader.ensures.acked
     (record {
       term = c.in_ok-leader.ensures.term;

@@ -13,14 +13,16 @@ returns-in-None-clause-answer g c =
 pub returns-in-Some-commit_rule-clause-answer : goal.returns-in-Some-commit_rule-clause-answer
 returns-in-Some-commit_rule-clause-answer g c =
     λ exact es seen. commit_refused _ exact es c.args.term c.args.leader c.args.len c.args.counted_at
-    c.args.self.now.servers.items c.args.self.now.leaders.items c.in-Some.j c.index.result.now c.in-Some-commit_rule.rule (rw c.deref.ensures.value at (sym c.in-Some.ensures.place)) c.index.ensures seen
+    c.args.self.now.servers.items c.args.self.now.leaders.items c.in-Some.j c.index.result.now c.in-Some-commit_rule.rule
+    (rw c.deref.ensures.value at (sym c.in-Some.ensures.place)) c.index.ensures seen
     (sym c.in-Some-commit_rule.ensures)
 
 pub returns-then-not-is_quorum-clause-answer : goal.returns-then-not-is_quorum-clause-answer
 returns-then-not-is_quorum-clause-answer g c =
     λ exact es seen. commit_uncounted _ exact es c.args.term c.args.leader c.args.len c.args.counted_at
     c.args.self.now.leaders.items c.args.self.now.servers.items c.in-Some.j c.index.result.now c.index-2.result.now c.index-3.result.now
-    c.in_ok-servers.servers.items c.is_quorum.result (rw c.deref.ensures.value at (sym c.in-Some.ensures.place)) c.index.ensures c.index-2.ensures c.index-3.ensures
+    c.in_ok-servers.servers.items c.is_quorum.result (rw c.deref.ensures.value at (sym c.in-Some.ensures.place)) c.index.ensures
+    c.index-2.ensures c.index-3.ensures
     seen (sym c.in-None-commit_rule.ensures) c.in_ok-servers.ensures.servers
     (rw c.deref-3.ensures.value at c.is_quorum.ensures c.in_ok-servers.ensures.distinct
     ∙ ap (λ x. g.C.Configs.has_quorum c.args.self.now.configs x (is_member g.N.PartialEq.eq c.in_ok-servers.servers.items))
@@ -33,7 +35,8 @@ returns-clause-answer g c =
     λ exact es seen. commit_done _ exact es c.args.term c.args.leader c.args.len c.args.counted_at
     c.args.self.now.leaders.items c.args.self.now.servers.items c.in-Some.j c.index.result.now c.index-2.result.now c.index-3.result.now
     c.index_mut.result.now c.commit.new.self
-    c.in_ok-servers.servers.items c.is_quorum.result (rw c.deref.ensures.value at (sym c.in-Some.ensures.place)) c.index.ensures c.index-2.ensures c.index-3.ensures
+    c.in_ok-servers.servers.items c.is_quorum.result (rw c.deref.ensures.value at (sym c.in-Some.ensures.place)) c.index.ensures
+    c.index-2.ensures c.index-3.ensures
     c.index_mut.ensures.value
     seen (sym c.in-None-commit_rule.ensures) c.in_ok-servers.ensures.servers
     (rw c.deref-3.ensures.value at c.is_quorum.ensures c.in_ok-servers.ensures.distinct
@@ -41,4 +44,12 @@ returns-clause-answer g c =
     (c.effective_config-config.ensures
     ∙ ap (λ x. effective_config (config_in (g.C.Configs.holds_config c.args.self.now.configs)) None x)
     (c.first.ensures ∙ ap (λ x. take c.args.counted_at x) c.deref-2.ensures.value))) c.if-not-is_quorum.false c.commit.ensures.same_acked
-    (record { term = c.commit.ensures.same_term; id = c.commit.ensures.same_id; start = c.commit.ensures.same_start; log = c.commit.ensures.same_log; voters = c.commit.ensures.same_voters; elected = c.commit.ensures.same_elected; committed = c.commit.ensures.committed })
+    (record {
+      term = c.commit.ensures.same_term;
+      id = c.commit.ensures.same_id;
+      start = c.commit.ensures.same_start;
+      log = c.commit.ensures.same_log;
+      voters = c.commit.ensures.same_voters;
+      elected = c.commit.ensures.same_elected;
+      committed = c.commit.ensures.committed;
+    })

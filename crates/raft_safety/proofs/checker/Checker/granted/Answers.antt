@@ -23,9 +23,11 @@ returns-in_err-make_room-clause-answer g c =
     let p = err_from_is_err_and c.from_residual-in_err-make_room.result c.from_residual-in_err-make_room.ensures.1 in
     rw (p.1, p.2) (λ exact es seen. (
       tt,
-      same_server _ exact es c.args.server c.args.self.now.servers.items c.server_at.new.servers.items c.args.self.now.leaders.items c.in_ok-i.i
+      same_server _ exact es c.args.server c.args.self.now.servers.items c.server_at.new.servers.items c.args.self.now.leaders.items
+          c.in_ok-i.i
           c.index_mut-voter.result.now c.make_room.new.self c.in_ok-i.ensures.at c.index_mut-voter.ensures.value seen
-          c.in_err-make_room.ensures.same_id c.in_err-make_room.ensures.same_term c.in_err-make_room.ensures.same_log c.in_err-make_room.ensures.same_durable c.in_err-make_room.ensures.same_kept,
+          c.in_err-make_room.ensures.same_id c.in_err-make_room.ensures.same_term c.in_err-make_room.ensures.same_log
+          c.in_err-make_room.ensures.same_durable c.in_err-make_room.ensures.same_kept,
     ))
 
 pub returns-in_err-vote-clause-answer : goal.returns-in_err-vote-clause-answer
@@ -35,11 +37,21 @@ returns-in_err-vote-clause-answer g c =
       tt,
       same_leader_again _ exact es c.args.term c.args.candidate _ c.args.self.now.leaders.items c.in-Some.j
           c.index_mut.result.now c.vote.new.self (rw c.deref.ensures.value at (sym c.in-Some.ensures.place)) c.index_mut.ensures.value
-          (same_server _ exact es c.args.server c.args.self.now.servers.items c.server_at.new.servers.items c.args.self.now.leaders.items c.in_ok-i.i
+          (same_server _ exact es c.args.server c.args.self.now.servers.items c.server_at.new.servers.items c.args.self.now.leaders.items
+          c.in_ok-i.i
           c.index_mut-voter.result.now c.make_room.new.self c.in_ok-i.ensures.at c.index_mut-voter.ensures.value seen
-          c.in_ok-make_room.ensures.same_id c.in_ok-make_room.ensures.same_term c.in_ok-make_room.ensures.same_log c.in_ok-make_room.ensures.same_durable c.in_ok-make_room.ensures.same_kept)
+          c.in_ok-make_room.ensures.same_id c.in_ok-make_room.ensures.same_term c.in_ok-make_room.ensures.same_log
+          c.in_ok-make_room.ensures.same_durable c.in_ok-make_room.ensures.same_kept)
           c.in_err-vote.ensures.same_acked
-          (record { term = c.in_err-vote.ensures.same_term; id = c.in_err-vote.ensures.same_id; start = c.in_err-vote.ensures.same_start; log = c.in_err-vote.ensures.same_log; voters = c.in_err-vote.ensures.err_voters; elected = c.in_err-vote.ensures.err_elected; committed = c.in_err-vote.ensures.same_committed }),
+          (record {
+            term = c.in_err-vote.ensures.same_term;
+            id = c.in_err-vote.ensures.same_id;
+            start = c.in_err-vote.ensures.same_start;
+            log = c.in_err-vote.ensures.same_log;
+            voters = c.in_err-vote.ensures.err_voters;
+            elected = c.in_err-vote.ensures.err_elected;
+            committed = c.in_err-vote.ensures.same_committed;
+          }),
     ))
 
 pub returns-clause-answer : goal.returns-clause-answer
@@ -48,14 +60,24 @@ returns-clause-answer g c =
     c.args.self.now.servers.items c.server_at.new.servers.items c.args.self.now.leaders.items c.in_ok-i.i c.in-Some.j
     c.index.result.now c.index_mut-voter.result.now c.reach.new.self
     c.index-2.result.now c.index_mut.result.now c.vote.new.self
-    c.in_ok-i.ensures.at c.index.ensures c.index_mut-voter.ensures.value (rw c.deref.ensures.value at (sym c.in-Some.ensures.place)) c.index-2.ensures
+    c.in_ok-i.ensures.at c.index.ensures c.index_mut-voter.ensures.value (rw c.deref.ensures.value at (sym c.in-Some.ensures.place))
+    c.index-2.ensures
     c.index_mut.ensures.value seen
     (rw c.rank-rank.ensures at (sym c.in-None-grant_rule.ensures))
     (c.reach.ensures.same_id ∙ c.in_ok-make_room.ensures.same_id)
     (rw c.rank-rank.ensures at c.reach.ensures.term ∙ ap (λ x. max x (g.T.Term.rank c.args.term)) c.in_ok-make_room.ensures.same_term)
     (c.reach.ensures.same_log ∙ c.in_ok-make_room.ensures.same_log) (c.reach.ensures.same_durable ∙ c.in_ok-make_room.ensures.same_durable)
     (rw c.rank-rank.ensures at c.reach.ensures.kept
-    ∙ (λ q. kept_after (c.in_ok-make_room.ensures.same_kept q) (c.in_ok-make_room.ensures.same_term q) (length (c.in_ok-make_room.ensures.same_log q)) (g.T.Term.rank c.args.term)))
+    ∙ (λ q. kept_after (c.in_ok-make_room.ensures.same_kept q) (c.in_ok-make_room.ensures.same_term q)
+    (length (c.in_ok-make_room.ensures.same_log q)) (g.T.Term.rank c.args.term)))
     c.in_ok-vote.ensures.voters c.in_ok-vote.ensures.distinct c.in_ok-vote.ensures.elected
     c.in_ok-vote.ensures.same_acked
-    (record { term = c.in_ok-vote.ensures.same_term; id = c.in_ok-vote.ensures.same_id; start = c.in_ok-vote.ensures.same_start; log = c.in_ok-vote.ensures.same_log; voters = refl; elected = refl; committed = c.in_ok-vote.ensures.same_committed })
+    (record {
+      term = c.in_ok-vote.ensures.same_term;
+      id = c.in_ok-vote.ensures.same_id;
+      start = c.in_ok-vote.ensures.same_start;
+      log = c.in_ok-vote.ensures.same_log;
+      voters = refl;
+      elected = refl;
+      committed = c.in_ok-vote.ensures.same_committed;
+    })

@@ -28,5 +28,7 @@ returns-clause-sound g c sound zero =
     (members_of g.C.Ord.cmp g.C.PartialEq.eq s sound) in
     let valid = extended_stays_valid g.C.Ord.cmp g.C.PartialEq.eq g.met.C.Ord.total g.met.C.Ord.matches_eq s
     (map g.LID.RaftLogId.id_of c.args.new_log_ids.now) c.extend_from_same_leader.new.self s.membership_state
-    c.in_ok-extend_from_same_leader.ensures.ok c.in_ok-extend_from_same_leader.ensures.last (and_parts _ _ c.requires).0 zero (λ members. members) sound.valid in
-    extend_sound g.C.Ord.cmp g.C.PartialEq.eq g.met.C.Ord.total g.met.C.Ord.matches_eq g.met.C.Eq.laws s c.extend_from_same_leader.new.self s.membership_state are kept c.in_ok-extend_from_same_leader.ensures.not_lowered valid members sound
+    c.in_ok-extend_from_same_leader.ensures.ok c.in_ok-extend_from_same_leader.ensures.last (and_parts _ _ c.requires).0 zero
+    (λ members. members) sound.valid in
+    extend_sound g.C.Ord.cmp g.C.PartialEq.eq g.met.C.Ord.total g.met.C.Ord.matches_eq g.met.C.Eq.laws s c.extend_from_same_leader.new.self
+    s.membership_state are kept c.in_ok-extend_from_same_leader.ensures.not_lowered valid members sound

@@ -31,7 +31,8 @@ returns-clause-valid g c valid =
     let first = and_parts _ _ (and_parts _ _ (and_parts _ _ may).0).0 in
     let past = (and_parts _ _ first.0).1 in
     let copied = c.in_ok-snapshot_meta.ensures.last_log_id ∙ c.in-Some.is in
-    install_stays_valid g.C.Ord.cmp g.C.PartialEq.eq g.met.C.Ord.total g.met.C.Ord.matches_eq g.met.C.Eq.laws s c.in-Some.upto c.args.meta.last_membership
+    install_stays_valid g.C.Ord.cmp g.C.PartialEq.eq g.met.C.Ord.total g.met.C.Ord.matches_eq g.met.C.Eq.laws s c.in-Some.upto
+    c.args.meta.last_membership
     c.in_ok-log_ids.log_ids c.in_ok-membership_state.membership_state c.keep_upto.new.self
     c.in_ok-snapshot_meta.snapshot_meta are c.in_ok-log_ids.ensures (rw c.membership_of.ensures at c.in_ok-membership_state.ensures)
     copied past (and_parts _ _ may).1 valid

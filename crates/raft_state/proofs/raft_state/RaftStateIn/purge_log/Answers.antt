@@ -21,4 +21,5 @@ returns-clause-sound g c sound low =
     let s = c.args.self.now in
     let canonical = rw c.key_log_ids-keys.ensures.keys at c.key_log_ids-keys.ensures.canonical in
     let are = is_key_list g.C.Ord.cmp s.log_ids canonical in
-    purge_sound g.C.Ord.cmp g.C.PartialEq.eq g.met.C.Ord.total g.met.C.Ord.matches_eq g.met.C.Eq.laws s c.args.upto.now c.purge.new.self are c.in_ok-purge.ensures.ok c.requires low sound
+    purge_sound g.C.Ord.cmp g.C.PartialEq.eq g.met.C.Ord.total g.met.C.Ord.matches_eq g.met.C.Eq.laws s c.args.upto.now c.purge.new.self are
+    c.in_ok-purge.ensures.ok c.requires low sound

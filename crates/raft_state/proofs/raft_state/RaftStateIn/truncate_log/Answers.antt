@@ -19,5 +19,6 @@ returns-clause-sound g c sound =
     let s = c.args.self.now in
     let canonical = rw c.key_log_ids-keys.ensures.keys at c.key_log_ids-keys.ensures.canonical in
     let are = is_key_list g.C.Ord.cmp s.log_ids canonical in
-    cut_sound g.C.Ord.cmp g.C.PartialEq.eq g.met.C.Ord.total g.met.C.Ord.matches_eq g.met.C.Eq.laws s c.args.since c.truncate.new.self c.revert.new.self c.keep_upto.new.self are
+    cut_sound g.C.Ord.cmp g.C.PartialEq.eq g.met.C.Ord.total g.met.C.Ord.matches_eq g.met.C.Eq.laws s c.args.since c.truncate.new.self
+    c.revert.new.self c.keep_upto.new.self are
     c.truncate.ensures.log c.in_ok-reverted.ensures.ok (rw (c.copied.ensures ∙ c.last.ensures) at c.keep_upto.ensures) c.requires sound

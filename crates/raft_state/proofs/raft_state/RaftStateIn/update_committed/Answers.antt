@@ -15,6 +15,7 @@ returns-in_ok-commit-clause-sound g c sound logged =
     let s = c.args.self.now in
     let canonical = rw c.key_log_ids-keys.ensures.keys at c.key_log_ids-keys.ensures.canonical in
     let are = is_key_list g.C.Ord.cmp s.log_ids canonical in
-    commit_sound g.C.Ord.cmp g.C.PartialEq.eq g.met.C.Ord.total g.met.C.Ord.matches_eq g.met.C.Eq.laws s c.args.committed.now c.commit.new.self are
+    commit_sound g.C.Ord.cmp g.C.PartialEq.eq g.met.C.Ord.total g.met.C.Ord.matches_eq g.met.C.Eq.laws s c.args.committed.now
+    c.commit.new.self are
     c.in_ok-commit.ensures.ok (sym c.log_id_below.ensures ∙ c.if-log_id_below.true)
     (sym (is_logged g.C.PartialEq.eq s c.args.committed.now) ∙ logged) sound
