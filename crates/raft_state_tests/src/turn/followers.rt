@@ -3,7 +3,7 @@
 use super::message::{Outcome, Response};
 use super::types::{Members, State};
 use anyhow::{Result, ensure};
-use raft_base::{EmptyNode, LogIdOf, LogIdOptionExt};
+use raft_base::{EmptyNode, LogIdOf, LogIdOptionExt, log_id_below};
 use raft_progress::{InflightOf, Progress, ProgressEntryOf, ProgressPart, Reply, Tracked};
 use std::alloc::AllocError;
 
@@ -71,7 +71,7 @@ impl<C: Ord + Copy + Drop> Followers<C> {
     /// Commits what a quorum has, once an entry of this leader's own is among it.
     pub fn commit<L: Drop>(&self, state: &mut State<L, C>) -> Result<()> {
         let granted = self.granted();
-        if self.is_own(granted) {
+        if self.is_own(granted) && log_id_below(state.committed, granted) {
             ensure!(state.is_logged(&granted), "an ack is of another log");
             ensure!(state.can_commit(&granted), "members are not in turn");
             state.update_committed(&granted)?;
