@@ -64,6 +64,7 @@ module _ {T ID D : Type 0} (rank : T → ℕ) (quorum : List (Entry T D) → (ID
       → MayAppendAndAck es t c (suc i)
       (after_snapshot rank i (log_after es) (take (suc i) (h.leader_log t c)))
 
+  -- a server that compares terms alone may append, truncate at a conflict, and install snapshots
   pub record ConsistencyCheckSuffices : Type 0 where
     pub append_entries : MayTakeAppendEntries
     pub truncate : MayTruncateAtConflict

@@ -115,7 +115,7 @@ use Rattle.raft_safety.specs.declared.rule.Rule.TheVariants.{
 }
 
 module _ {T ID D M : Type 0} (k : Tests T ID D M) where
-  -- the first rule that an event breaks after the earlier ones, that of its leader first
+  -- the first rule that a leader breaks by an entry that holds this config, if it holds one
   abbrev pub proposal_rule : List (TraceEvent T ID D) → T → ID → Option M → Option Rule
   proposal_rule es t c None = None
   proposal_rule es t c (Some m) =
@@ -123,6 +123,7 @@ module _ {T ID D M : Type 0} (k : Tests T ID D M) where
       (unless (k.intersect m m) ApartQuorums
       (unless (is_config_committed k t c (leader_log_in k es t c) es) EarlyConfig None))
 
+  -- the first rule that an event breaks after the earlier ones: rules about its leader come first
   abbrev pub broken_rule : TraceEvent T ID D → List (TraceEvent T ID D) → Option Rule
   broken_rule (Campaigned c t) es =
       unless (not (has_campaigned k t c es)) CampaignedTwice
@@ -162,8 +163,8 @@ module _ {T ID D M : Type 0} (k : Tests T ID D M) where
       unless (has_acked k t c n (events_in k es s)) NotAcked
       (unless (is_known_committed k (k.rank t) (take n (leader_log_in k es t c)) es) NotCommitted None)
 
--- how many first entries a server has kept since its term was at most this rank
 module _ {T ID D M : Type 0} (k : Tests T ID D M) where
+  -- how many first entries a server has kept since its term was at most this rank
   abbrev pub kept_at : ℕ → List (Event T ID D) → ℕ
   kept_at r [] = 0
   kept_at r (e ∷ es) =
@@ -178,10 +179,11 @@ module _ {T ID D : Type 0} (k : Tests T ID D (Option D)) where
     pub durable : durable k evs ≡ s.durable
     pub kept : (r : ℕ) → r < s.term → kept_at k r evs ≡ kept_from 0 s.kept.items r
 
-  -- what is kept of each server is what its events say, and nothing is kept of one without events
+  -- what is kept of the server of this id, if anything is
   abbrev pub find_server : List (Server T ID D) → ID → Option (Server T ID D)
   find_server servers id = find (λ s. k.same_id s.id id) servers
 
+  -- what is kept of each server is what its events say. A server that is not kept has no events
   abbrev pub SeesServers : List (TraceEvent T ID D) → List (Server T ID D) → Type 0
   SeesServers es servers =
       (id : ID) → MatchOption (find_server servers id) (events_in k es id ≡ []) (SeesServer (events_in k es id))
@@ -200,7 +202,7 @@ module _ {T ID D : Type 0} (k : Tests T ID D (Option D)) where
     pub committed : (log : List (Entry T D)) → is_config_committed k t c log es ≡ config_committed (hold_no_config k) l.committed log
     pub within : MatchOption l.committed (Unit {0}) (λ n. n ≤ length l.log.items)
 
-  -- no server has campaigned in the term
+  -- this server has not campaigned in this term, and no server has voted for it or sent it acks
   pub record SeesNoLeader (es : List (TraceEvent T ID D)) (t : T) (c : ID) : Type 0 where
     pub campaigned : has_campaigned k t c es ≡ false
     pub candidate_log : candidate_log_in k es t c ≡ []
@@ -209,9 +211,11 @@ module _ {T ID D : Type 0} (k : Tests T ID D (Option D)) where
     pub acked : (v : ID) (n : ℕ) → has_acked k t c n (events_in k es v) ≡ false
     pub committed : (log : List (Entry T D)) → is_config_committed k t c log es ≡ false
 
+  -- what is kept of the candidate or leader of this term and id, if anything is
   abbrev pub find_leader : List (Leader T ID D) → T → ID → Option (Leader T ID D)
   find_leader leaders t c = find (λ l. same_leader k l.term l.id t c) leaders
 
+  -- what is kept of each leader is what the events say. One that is not kept has not campaigned
   abbrev pub SeesLeaders : List (TraceEvent T ID D) → List (Leader T ID D) → Type 0
   SeesLeaders es leaders =
       (t : T) (c : ID) → MatchOption (find_leader leaders t c) (SeesNoLeader es t c) (SeesLeader es t c)
@@ -280,12 +284,13 @@ module _ {T ID D : Type 0} (k : Tests T ID D (Option D)) where
       MatchResult result (λ c. HasSeen k [] c.servers.items c.leaders.items)
       (λ v. k.intersect k.initial k.initial ≡ false)
 
--- the trace of recorded events, which are in their order
+-- a trace after which recorded events come, in their order
 abbrev pub trace_after : {T ID D : Type 0} → List (TraceEvent T ID D) → List (RecordedEvent T ID D)
     → List (TraceEvent T ID D)
 trace_after es [] = es
 trace_after es (e ∷ later) = trace_after (event_of e ∷ es) later
 
+-- the trace of recorded events, which are given in their order
 abbrev pub trace_of : {T ID D : Type 0} → List (RecordedEvent T ID D) → List (TraceEvent T ID D)
 trace_of events = trace_after [] events
 

@@ -116,6 +116,7 @@ has_committed same log (Some n) p = nat_eq (common_len same p (take n log)) (len
 -- ---- which rule an event breaks, by what is kept of its server and of its leader
 
 module _ {T N D : Type 0} where
+  -- the first rule that a server's vote breaks, for a candidate that has campaigned in the term
   abbrev pub grant_rule : (T → ℕ) → (N → N → Bool) → Server T N D → Leader T N D → N → ℕ → N
       → Option Rule
   grant_rule rank eq s l id r c =
@@ -123,6 +124,7 @@ module _ {T N D : Type 0} where
       (unless (not (eq c id)) OwnCandidate
       (unless (up_to_date_by rank (take l.start l.log.items) s.log.items) CandidateBehind None))
 
+  -- the first rule that a server breaks if it keeps n entries of its log and appends these
   abbrev pub append_rule : (Entry T D → Entry T D → Bool) → Server T N D → Leader T N D → ℕ → ℕ
       → List (Entry T D) → Option Rule
   append_rule same s l r n sent =
@@ -142,6 +144,7 @@ module _ {T N D : Type 0} where
       nat_eq (common_len same p s.log.items) (length p)
       && (nat_le s.term r || nat_le (length p) (kept_from 0 s.kept.items r))
 
+  -- the first rule that a server's acknowledgement of n entries to its leader breaks
   abbrev pub ack_rule : (Entry T D → Entry T D → Bool) → Server T N D → Leader T N D → ℕ → ℕ
       → Option Rule
   ack_rule same s l r n =
@@ -150,11 +153,13 @@ module _ {T N D : Type 0} where
       (unless (nat_le n (length l.log.items)) NotWritten
       (unless (has_kept_by same s r (take n l.log.items)) NotKept None)))
 
+  -- the first rule that a server's restart with its first n entries breaks
   abbrev pub restart_rule : Server T N D → ℕ → Option Rule
   restart_rule s n =
       unless (nat_le s.durable n) LostAcked
       (unless (nat_le n (length s.log.items)) MissingEntries None)
 
+  -- the first rule that a leader's entry with this content breaks, if the content holds a config
   abbrev pub config_rule : (D → Bool) → (Option D → Option D → Bool) → Leader T N D → D
       → Option Rule
   config_rule holds intersects l d =
@@ -164,6 +169,7 @@ module _ {T N D : Type 0} where
       (unless (config_committed (no_config_in holds) l.committed l.log.items) EarlyConfig None))
       else None
 
+  -- the first rule that a leader breaks when it writes this entry in this term
   abbrev pub write_rule : (T → T → Bool) → (D → Bool) → (Option D → Option D → Bool)
       → Leader T N D → T → Entry T D → Option Rule
   write_rule same_term holds intersects l t e =
@@ -191,7 +197,7 @@ pub record IsNew {T N D : Type 0} (id : N) (s : Server T N D) : Type 0 where
   pub durable : s.durable ≡ 0
   pub kept : s.kept.items ≡ []
 
--- a server passes the test, at this place, or was added there if none passed it
+-- no server passed the test, and a new server of this id was added at the end
 pub record IsAdded {T N D : Type 0} (p : Server T N D → Bool) (id : N)
     (old new : List (Server T N D)) : Type 0 where
   pub absent : position p old ≡ None
@@ -199,6 +205,7 @@ pub record IsAdded {T N D : Type 0} (p : Server T N D → Bool) (id : N)
   pub is_new : IsNew id server
   pub added : new ≡ old ++ server ∷ []
 
+-- the first server that passes the test is at place i: it was there, or it was added at the end
 abbrev pub HasPlace : {T N D : Type 0} → (Server T N D → Bool) → N → List (Server T N D)
     → List (Server T N D) → ℕ → Type 0
 HasPlace p id old new i = (position p new ≡ Some i) × ((new ≡ old) ⊎ IsAdded p id old new)

@@ -47,6 +47,7 @@ module _ {T ID D : Type 0} (rank : T → ℕ) (quorum : List (Entry T D) → (ID
       → IsPrefix (take n (h.leader_log t c)) (take m (h.leader_log u d))
       ⊎ IsPrefix (take m (h.leader_log u d)) (take n (h.leader_log t c))
 
+  -- a history has election safety, log matching and leader completeness, and its commits agree
   pub record IsSafe : Type 0 where
     pub election_safety : ElectionSafety
     pub log_matching : LogMatching

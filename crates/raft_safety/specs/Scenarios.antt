@@ -36,9 +36,11 @@ use Rattle.raft_safety.specs.Trace.{
 
 -- ---- clusters whose terms are numbers
 
+-- an event of a trace whose terms, server ids and contents are numbers
 abbrev pub Row : Type 0
 Row = TraceEvent ℕ ℕ ℕ
 
+-- the entry of this term with this content
 abbrev pub entry : ℕ → ℕ → Entry ℕ ℕ
 entry t x = record { term = t; content = x }
 
@@ -50,6 +52,7 @@ configs_of x =
     else (if nat_eq x 102 then Some ((0 ∷ 1 ∷ 2 ∷ []) ∷ (0 ∷ 1 ∷ 2 ∷ 3 ∷ []) ∷ [])
     else (if nat_eq x 103 then Some ((0 ∷ 1 ∷ 2 ∷ 3 ∷ []) ∷ []) else None)))
 
+-- the tests of a cluster that starts with these configs: a quorum is a majority of each
 abbrev pub starting_from : List (List ℕ) → Tests ℕ ℕ ℕ (List (List ℕ))
 starting_from configs = record {
   rank = λ t. t;
@@ -62,9 +65,11 @@ starting_from configs = record {
   intersect = is_coherent nat_eq;
 }
 
+-- the tests of a cluster of servers 0 to 2
 abbrev pub three : Tests ℕ ℕ ℕ (List (List ℕ))
 three = starting_from ((0 ∷ 1 ∷ 2 ∷ []) ∷ [])
 
+-- the tests of a cluster of servers 0 to 4
 abbrev pub five : Tests ℕ ℕ ℕ (List (List ℕ))
 five = starting_from ((0 ∷ 1 ∷ 2 ∷ 3 ∷ 4 ∷ []) ∷ [])
 
@@ -72,11 +77,13 @@ five = starting_from ((0 ∷ 1 ∷ 2 ∷ 3 ∷ 4 ∷ []) ∷ [])
 abbrev pub then_allowed : Tests ℕ ℕ ℕ (List (List ℕ)) → List Row → Row → Bool
 then_allowed k rows row = is_allowed k row (reverse rows)
 
+-- the log of a server after these events
 abbrev pub log_then : Tests ℕ ℕ ℕ (List (List ℕ)) → List Row → ℕ → List (Entry ℕ ℕ)
 log_then k rows s = log_in k (reverse rows) s
 
 -- ---- Figure 8 of the Raft paper, with servers 0 to 4
 
+-- server 0 leads again, in term 4, and its entry of term 2 is on a majority of the servers
 abbrev pub figure_8_c : List Row
 figure_8_c =
     -- server 0 leads in term 1, and all servers have its entry
@@ -159,6 +166,7 @@ figure_8_e =
     ∷ Granted 3 5 4
     ∷ []
 
+-- an earlier term's entry on a majority is committed only by an entry of the leader's own term
 pub record IsFigure8 : Type 0 where
   -- in c the entry of term 2 is on a majority, and is not committed
   pub c_safe : IsSafeTrace five (reverse figure_8_c)
@@ -182,6 +190,7 @@ pub record IsFigure8 : Type 0 where
 
 -- ---- the members change from 0 1 2 through both configs to 2 3 4, and the leader is removed
 
+-- server 0 leads in term 1 and commits an entry, by a majority of the old config
 abbrev pub old_committed : List Row
 old_committed =
     Campaigned 0 1
@@ -194,6 +203,7 @@ old_committed =
     ∷ Committed 0 1 1 1
     ∷ []
 
+-- after `old_committed` server 0 commits the joint config, by a majority of each of its configs
 abbrev pub joint_committed : List Row
 joint_committed =
     old_committed
@@ -208,6 +218,7 @@ joint_committed =
     ∷ Committed 0 1 2 2
     ∷ []
 
+-- after `joint_committed` the config without server 0 is committed, and server 3 leads in term 2
 abbrev pub members_changed : List Row
 members_changed =
     joint_committed
@@ -232,6 +243,7 @@ members_changed =
 
 -- ---- a learner, server 3, becomes a voter
 
+-- server 0 leads in term 1, and only the learner and the leader have acknowledged its entry
 abbrev pub learner_has_entry : List Row
 learner_has_entry =
     Campaigned 0 1
@@ -243,6 +255,7 @@ learner_has_entry =
     ∷ Acked 3 1 0 1
     ∷ []
 
+-- after `learner_has_entry` server 3 becomes a voter, by a joint config and then the new config
 abbrev pub learner_promoted : List Row
 learner_promoted =
     learner_has_entry
@@ -268,6 +281,7 @@ learner_promoted =
     ∷ Committed 0 1 3 3
     ∷ []
 
+-- the two changes of the members are safe, and the acknowledgement of a learner does not count
 pub record AreMemberChanges : Type 0 where
   pub removed_leader : IsSafeTrace three (reverse members_changed)
   pub learner : IsSafeTrace three (reverse learner_promoted)
@@ -359,6 +373,7 @@ lost_flush = unflushed ++ Restarted 1 0 ∷ Appended 1 2 0 0 (entry 1 10 ∷ [])
 abbrev pub truncated : List (Event ℕ ℕ ℕ)
 truncated = Append 2 1 (entry 2 20 ∷ []) ∷ Append 1 0 (entry 1 10 ∷ []) ∷ []
 
+-- traces with crashes, snapshots and late messages are safe, and what breaks a rule is refused
 pub record AreDisturbances : Type 0 where
   pub loss : IsSafeTrace three (reverse loss_and_return)
   pub no_loss_of_acked : then_allowed three loss_and_return (Restarted 1 1) ≡ false
@@ -377,6 +392,7 @@ pub record AreDisturbances : Type 0 where
 
 -- ---- leader ids of a term and a node, in order, as the layer has them by default
 
+-- the leader id of this term and this node
 abbrev pub leader : ℕ → ℕ → LeaderId ℕ
 leader t n = record { term = t; node_id = n }
 
@@ -412,6 +428,7 @@ by_leader_id = record {
   intersect = is_coherent nat_eq;
 }
 
+-- two leaders are elected in one term, which is safe, because their leader ids differ
 pub record AreLeaderIds : Type 0 where
   pub safe : IsSafeTrace by_leader_id (reverse two_of_one_term)
   pub both_elected : (is_elected by_leader_id (reverse two_of_one_term) (leader 1 0) 0 ≡ true)
@@ -459,6 +476,7 @@ joint_on_old =
     ∷ Acked 1 1 0 2
     ∷ []
 
+-- an event that breaks a rule is refused, after a trace that is safe
 pub record AreRefused : Type 0 where
   -- the events before are allowed
   pub led_safe : IsSafeTrace three (reverse led)

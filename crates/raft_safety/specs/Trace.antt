@@ -126,6 +126,7 @@ module _ {T ID D M : Type 0} (k : Tests T ID D M) where
       if same_leader t c u d then leader_log_in es u d ++ e ∷ [] else leader_log_in es u d
   leader_log_in (x ∷ es) u d = leader_log_in es u d
 
+  -- the history of a trace: the events of each server, and the logs of candidates and leaders
   abbrev pub history : List (TraceEvent T ID D) → History T ID D
   history es = record {
     events = events_in es;
@@ -147,6 +148,7 @@ campaign_terms (x ∷ es) = campaign_terms es
 -- ---- tests of logs
 
 module _ {T ID D M : Type 0} (k : Tests T ID D M) where
+  -- two entries have equal terms and equal contents
   abbrev pub same_entry : Entry T D → Entry T D → Bool
   same_entry e f = k.same_term e.term f.term && k.same_content e.content f.content
 
@@ -177,11 +179,13 @@ module _ {T ID D M : Type 0} (k : Tests T ID D M) where
 -- ---- tests of one server's events
 
 module _ {T ID D M : Type 0} (k : Tests T ID D M) where
+  -- the server has granted its vote in this term to this candidate
   abbrev pub has_voted : T → ID → List (Event T ID D) → Bool
   has_voted u d [] = false
   has_voted u d (GrantVote t c ∷ es) = same_leader k t c u d || has_voted u d es
   has_voted u d (x ∷ es) = has_voted u d es
 
+  -- the server has acknowledged m entries or more to the leader of this term
   abbrev pub has_acked : T → ID → ℕ → List (Event T ID D) → Bool
   has_acked u d m [] = false
   has_acked u d m (Ack t c n ∷ es) = (same_leader k t c u d && nat_le m n) || has_acked u d m es
@@ -215,11 +219,13 @@ module _ {T ID D M : Type 0} (k : Tests T ID D M) where
   has_campaigned u d (Campaigned c t ∷ es) = same_leader k t c u d || has_campaigned u d es
   has_campaigned u d (x ∷ es) = has_campaigned u d es
 
+  -- a candidate is elected: it and a quorum of the config in its log have voted for it in the term
   abbrev pub is_elected : List (TraceEvent T ID D) → T → ID → Bool
   is_elected es t c =
       has_voted k t c (events_in k es c)
       && is_quorum_of_log (candidate_log_in k es t c) (λ v. has_voted k t c (events_in k es v))
 
+  -- a leader's first n entries are committed, by a quorum of the config after its first m entries
   abbrev pub is_committed : List (TraceEvent T ID D) → T → ID → ℕ → ℕ → Bool
   is_committed es t c n m =
       is_elected es t c && (nat_lt (length (candidate_log_in k es t c)) n && (nat_le n m

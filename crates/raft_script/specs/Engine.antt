@@ -46,9 +46,11 @@ EngineShown = TrackedShown ℕ EmptyNode ℕ ℕ
 abbrev pub EngineState : Type 0
 EngineState = TrackedState ℕ EmptyNode ℕ ℕ
 
+-- what an engine's membership and its progress show, if the engine has them
 abbrev pub shown_of : Engine → Option EngineShown
 shown_of engine = option_map tracked engine.tracked
 
+-- an engine's membership and its progress, apart from how they are kept, if it has them
 abbrev pub engine_state : Engine → Option EngineState
 engine_state engine =
     option_map (λ t. tracked_state.tracked_state nat_eq (tracked t)) engine.tracked

@@ -35,8 +35,8 @@ words line = filter has_bytes (slice_split (λ byte. byte == 32) line)
 abbrev pub Is : List ℕ → List ℕ → Type 0
 Is text word = word ≡ text
 
--- first a word that fits, and then others that do
 infixr 60 ◌▸◌
+-- first a word that fits, and then others that do
 abbrev pub ◌▸◌ : (List ℕ → Type 0) → (List (List ℕ) → Type 0) → List (List ℕ) → Type 0
 (First ▸ Others) [] = ⊥
 (First ▸ Others) (word ∷ others) = First word × Others others

@@ -33,6 +33,7 @@ pub record TrackedState (K N V P : Type 0) : Type 0 where
   pub membership : MemberList K N
   pub progress : ProgressState K V P (Configs K)
 
+-- what a tracked progress shows, apart from how it is kept
 abbrev pub tracked_state : {K N V P : Type 0} → (K → K → Bool) → TrackedShown K N V P
     → TrackedState K N V P
 tracked_state eq t = record { membership = t.membership; progress = state eq t.progress }
