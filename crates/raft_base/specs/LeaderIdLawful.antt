@@ -6,7 +6,7 @@ use Rattle.std.proofs.Common.{refl, sym}
 use Rattle.std.specs.declared.cmp.Ordering.{Ordering}
 use Rattle.std.specs.declared.cmp.Ordering.TheVariants.{Less, Equal, Greater}
 
--- an order by term and then by node is lawful where the order of nodes is
+-- an order by term and then by node is a partial order if the order of nodes is total
 pub term_then_node-partial : {N : Type 0} {cmp : N → N → Ordering} {same : N → N → Bool}
     → IsTotalOrder cmp
     → ((x y : N) → same x y ≡ eq_by_cmp cmp x y) → {L : Type 0} (term : L → ℕ) (node : L → N)
@@ -18,7 +18,7 @@ term_then_node-partial {N} {cmp} {same} o ties term node =
     (nat_cmp (term a) (term b)) (cmp (node a) (node b))
     (unsigned_ties (term a) (term b)) (ties (node a) (node b)))
 
--- an order that always answers has no leaders that do not compare
+-- if any two leaders compare, there are no leaders that do not compare
 pub never_none : {G : Type 0} (o : Ordering) → Some o ≡ None → G
 never_none o h = cc
 
@@ -26,7 +26,7 @@ never_none o h = cc
 pub apart : (x y : ℕ) → x ≢ y → nat_cmp x y ≡ Equal → ⊥
 apart x y h e = h (ranked x y Equal (sym e))
 
--- the first order decides where it does not tie
+-- the first order decides unless it ties
 pub first_decides : (o next : Ordering) → (o ≡ Equal → ⊥) → Some (ordering_then o next) ≡ Some o
 first_decides Less next h = refl
 first_decides Equal next h = absurd (h refl)

@@ -9,12 +9,12 @@ use Rattle.std.specs.declared.cmp.Ordering.{Ordering}
 use Rattle.std.specs.declared.cmp.Ordering.TheVariants.{Less, Equal, Greater}
 use Rattle.raft_base.specs.LeaderIdStd.{voted_cmp}
 
--- a test that says whether two nodes tie
+-- a test decides whether two nodes tie
 tied : (b : Bool) → Decides b (cond b (Some Equal) None ≡ Some Equal)
 tied true = (λ _. refl, λ _. refl)
 tied false = (λ h. cc, λ h. cc)
 
--- two nodes never stand one below the other
+-- a node is never below another node
 never_less : (b : Bool) {G : Type 0} → cond b (Some Equal) None ≡ Some Less → G
 never_less true h = cc
 never_less false h = cc
@@ -67,7 +67,8 @@ module _ {N : Type 0} {same : N → N → Bool} (e : IsEquivalence same) where
   term_then_voted-partial term voted =
       then_po (on_po term (po nat_cmp_total unsigned_ties)) (on_po voted voted_cmp-partial)
 
--- of two nodes of one term that do not compare, nobody is below the one and not below the other
+-- if two nodes of one term do not compare, and nobody is below the first, nobody is below the
+-- second
 below_both : {N : Type 0} (same : N → N → Bool) (a b c : Option N) → voted_cmp same a b ≡ None
     → voted_cmp same c a ≡ Some Less → voted_cmp same c b ≡ Some Less
 below_both same None None c h k = cc
@@ -76,7 +77,7 @@ below_both same (Some m) None c h k = cc
 below_both same (Some m) (Some n) None h k = refl
 below_both same (Some m) (Some n) (Some p) h k = never_less (same p m) k
 
--- and none of the two is below any
+-- neither of the two nodes is below any other
 above_both : {N : Type 0} (same : N → N → Bool) (a b c : Option N) {G : Type 0}
     → voted_cmp same a b ≡ None → voted_cmp same a c ≡ Some Less → G
 above_both same None None c h k = cc
@@ -101,7 +102,7 @@ moved Greater p q step h = cc
 
 module _ {N : Type 0} (same : N → N → Bool) (s t u : ℕ) (a b c : Option N)
     (apart : partial_ordering_then (Some (nat_cmp s t)) (voted_cmp same a b) ≡ None) where
-  -- leaders that do not compare stand on the same side of each third one
+  -- if two leaders do not compare, a third one that is below the first is below the second
   pub alike_below : partial_ordering_then (Some (nat_cmp u s)) (voted_cmp same c a) ≡ Some Less
       → partial_ordering_then (Some (nat_cmp u t)) (voted_cmp same c b) ≡ Some Less
   alike_below h =
@@ -122,7 +123,7 @@ module _ {N : Type 0} (same : N → N → Bool) (s t u : ℕ) (a b c : Option N)
       (moved (nat_cmp s u) (voted_cmp same a c) (voted_cmp same b c)
       (λ k. above_both same a b c one.1 k) h)
 
--- the first order decides where it does not tie
+-- the first order decides unless it ties
 pub first_decides : (o : Ordering) (p : Option Ordering) → (o ≡ Equal → ⊥)
     → partial_ordering_then (Some o) p ≡ Some o
 first_decides Less p h = refl

@@ -1,4 +1,4 @@
--- What the order of leaders has to keep where some leaders do not compare.
+-- What the order of leaders must keep if some leaders do not compare.
 use Rattle.std.specs.Prelude.{◌≡◌, ◌↔◌, Option, Some, None}
 use Rattle.std.specs.declared.cmp.Ordering.{Ordering}
 use Rattle.std.specs.declared.cmp.Ordering.TheVariants.{Less}

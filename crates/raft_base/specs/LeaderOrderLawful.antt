@@ -13,12 +13,12 @@ none_reversed p (Some o) e h = cc
 
 module _ {L : Type 0} {same : L → L → Bool} {order : L → L → Option Ordering}
     (o : IsPartialOrder same order) where
-  -- leaders that do not compare do not do so the other way round
+  -- if two leaders do not compare, neither do they the other way round
   pub apart_back : (a b : L) → order a b ≡ None → order b a ≡ None
   apart_back a b h = none_reversed (order b a) (order a b) (o.antisymm b a) h
 
-  -- it is enough that what is below the one is below the other, and that what is above the one is
-  -- above the other
+  -- it is enough that what is below the first is below the second, and that what is above the first
+  -- is above the second
   pub alike_if : ((a b c : L) → order a b ≡ None → (order c a ≡ Some Less → order c b ≡ Some Less)
       × (order a c ≡ Some Less → order b c ≡ Some Less))
       → IncomparableAlike order

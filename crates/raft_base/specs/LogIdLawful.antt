@@ -1,4 +1,5 @@
--- Log ids are compared by laws, if leaders are: for proofs that chain comparisons of log ids.
+-- The laws of comparisons of log ids, from the laws of comparisons of leaders. Proofs that chain
+-- comparisons of log ids use them.
 use Rattle.std.specs.Prelude.{Bool}
 use Rattle.std.specs.Cmp.{IsEquivalence, IsTotalOrder, and_equiv, nat_cmp_total, nat_eq_equiv, on_equiv, on_total, then_total}
 use Rattle.std.specs.Cmp.Lexicographic.{options_total}
@@ -17,6 +18,6 @@ module _ {C : Type 0} {cmp : C → C → Ordering} (total : IsTotalOrder cmp) wh
   log_id_cmp-total = then_total (on_total (λ k. k.leader_id) total)
       (on_total (λ k. k.index) nat_cmp_total)
 
-  -- with an absent log id below all others
+  -- the order stays total if absent log ids are below all others
   pub optional-log_id_cmp-total : IsTotalOrder (option_cmp (log_id_cmp cmp))
   optional-log_id_cmp-total = options_total log_id_cmp-total

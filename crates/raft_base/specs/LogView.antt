@@ -1,10 +1,11 @@
--- What a log shows to its readers.
+-- The log as its readers see it.
 use Rattle.std.specs.Prelude.{ℕ, zero, suc, Bool, true, nat_lt, Option, Some, None, if◌then◌else◌}
 use Rattle.std.specs.declared.cmp.Ordering.{Ordering}
 use Rattle.raft_base.specs.LogId.{id_le, next_index, same_ids}
 use Rattle.raft_base.specs.declared.log_id.LogIdOf.{LogIdOf}
 
--- the id at each index, and the ids that tell how far the log has come
+-- the log id at each index, and the log ids up to which the log is committed, applied, in a
+-- snapshot and purged
 pub record LogView (C : Type 0) : Type 0 where
   pub id_at : ℕ → Option (LogIdOf C)
   pub last : Option (LogIdOf C)
@@ -16,17 +17,18 @@ pub record LogView (C : Type 0) : Type 0 where
   pub io_snapshot : Option (LogIdOf C)
   pub io_purged : Option (LogIdOf C)
 
--- the id before an index, and none before 0
+-- the log id before an index, and none before 0
 abbrev pub prev_id : {C : Type 0} → (ℕ → Option (LogIdOf C)) → ℕ → Option (LogIdOf C)
 prev_id id_at zero = None
 prev_id id_at (suc i) = id_at i
 
--- an id up to the committed index may be asked for where it is not above the committed one
+-- `has_log_id` may be called for a log id up to the committed index only if it is at most the
+-- committed log id
 abbrev pub may_ask : {C : Type 0} → (C → C → Ordering) → LogView C → LogIdOf C → Bool
 may_ask cmp log id =
     if nat_lt id.index (next_index log.committed) then id_le cmp (Some id) log.committed else true
 
--- up to the committed index the log has each id, and past it the one that stands there
+-- up to the committed index the log has each log id, and past it the log id that is at that index
 abbrev pub has_id : {C : Type 0} → (C → C → Bool) → LogView C → LogIdOf C → Bool
 has_id eq log id =
     if nat_lt id.index (next_index log.committed) then true

@@ -9,8 +9,8 @@ use Rattle.raft_base.specs.declared.log_id.LogIdOf.{LogIdOf}
 abbrev pub HasIdAt : {C : Type 0} → LogView C → ℕ → Type 0
 HasIdAt {C} log i = (id : LogIdOf C) × (log.id_at i ≡ Some id) × (id.index ≡ i)
 
--- from the purge point's index, or 0 where there is none, to the last index each log id is there;
--- they rise, and the one at the end is the last one
+-- from the index of the purge point (or 0 if there is none) to the last index, each log id is
+-- there; the log ids rise, and the one at the last index is the last log id
 pub record Logged {C : Type 0} (cmp : C → C → Ordering) (log : LogView C) : Type 0 where
   pub purged : next_index log.purge_upto ≤ next_index log.last
   pub has_each : (i : ℕ) → next_index log.purge_upto ≤ i + 1 → i < next_index log.last → HasIdAt log i

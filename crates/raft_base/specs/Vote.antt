@@ -7,9 +7,9 @@ use Rattle.raft_base.specs.LeaderId.{leader_id_cmp}
 use Rattle.raft_base.specs.declared.leader_id.LeaderId.{LeaderId}
 use Rattle.raft_base.specs.declared.vote.VoteIn.{VoteIn}
 
--- from how the leaders compare, and from whether each vote is committed: unequal leaders decide,
--- of equal ones the committed vote is the greater, and of leaders that do not compare too, where
--- just one of the votes is committed
+-- how two votes compare, from how their leaders compare and from whether each vote is committed:
+-- unequal leaders decide; for equal leaders, and for leaders that do not compare, a committed vote
+-- is above an uncommitted one; otherwise votes compare as their leaders do
 abbrev pub by_leader_then_committed : Option Ordering → Bool → Bool → Option Ordering
 by_leader_then_committed (Some Less) c d = Some Less
 by_leader_then_committed (Some Greater) c d = Some Greater
@@ -25,8 +25,7 @@ abbrev pub vote_cmp : {L : Type 0} → (L → L → Option Ordering) → VoteIn 
 vote_cmp leader_order a b =
     by_leader_then_committed (leader_order a.leader_id b.leader_id) a.committed b.committed
 
--- over leaders of which any two compare by term and then by node: by
--- leader, then `false` below `true`
+-- votes whose leaders compare by term and then by node: by leader, then `false` below `true`
 abbrev pub default_vote_cmp : {N : Type 0} → (N → N → Ordering) → VoteIn (LeaderId N)
     → VoteIn (LeaderId N) → Ordering
 default_vote_cmp cmp a b =

@@ -1,4 +1,4 @@
--- The order of votes is a partial order, if that of leaders is one.
+-- The order of votes is a partial order if the order of leaders is one.
 use Rattle.std.specs.Prelude.{◌≡◌, Bool, true, false, Option, Some, None, ◌&&◌}
 use Rattle.std.specs.Bool.{Decides}
 use Rattle.std.specs.Cmp.{IsPartialOrder, po_right, first_so, second_so, bool_cmp_total, booleans_Decides}
@@ -12,7 +12,7 @@ use Rattle.raft_base.specs.LeaderOrder.{IncomparableAlike}
 use Rattle.raft_base.specs.LeaderOrderLawful.{apart_back}
 use Rattle.raft_base.specs.Vote.{by_leader_then_committed}
 
--- the other way round, the answer is the reverse
+-- the other way round, the result is the reverse
 reversed : (o : Option Ordering) (c d : Bool) → by_leader_then_committed o c d
     ≡ option_map ordering_reverse (by_leader_then_committed (option_map ordering_reverse o) d c)
 reversed (Some Less) c d = refl
@@ -23,7 +23,7 @@ reversed None true false = refl
 reversed None false true = refl
 reversed None true true = refl
 
--- under one leader, and under leaders that do not compare, only the greater vote is committed
+-- for one leader, and for leaders that do not compare, only the greater vote is committed
 committed_above : (c d : Bool) → Some (bool_cmp c d) ≡ Some Less → (c ≡ false) × (d ≡ true)
 committed_above false false h = cc
 committed_above false true h = (refl, refl)
@@ -41,7 +41,7 @@ committed_above_apart true true h = cc
 both : {G : Type 0} (c : Bool) → c ≡ true → c ≡ false → G
 both c h k = cc
 
--- two flags tie exactly where they are equal
+-- two flags tie exactly if they are equal
 flags_tie : (c d : Bool) → Decides (beq c d) (Some (bool_cmp c d) ≡ Some Equal)
 flags_tie false false = (λ _. refl, λ _. refl)
 flags_tie false true = (λ h. cc, λ h. cc)
@@ -82,7 +82,7 @@ module _ {L : Type 0} {same : L → L → Bool} {order : L → L → Option Orde
   chain x y z c d e None None a b h g =
       both d (committed_above_apart c d h).1 (committed_above_apart d e g).0
 
-  -- votes tie exactly where both leaders and flags are equal
+  -- votes tie exactly if both leaders and flags are equal
   ties : (s : Bool) (c d : Bool) (k : Option Ordering) → Decides s (k ≡ Some Equal)
       → Decides (s && beq c d) (by_leader_then_committed k c d ≡ Some Equal)
   ties true c d (Some Equal) h = flags_tie c d

@@ -1,21 +1,21 @@
-//! Moments, as a clock tells them.
+//! Moments of a clock.
 ghost use Rattle.std.specs.Prelude.{◌≡◌, ◌-◌, ℕ, refl};
 ghost use Rattle.std.specs.Ordering.{nat_cmp};
 
 use std::fmt::Debug;
 
-/// A moment, told by the ticks of a clock. How long a tick lasts is up to the type.
+/// A moment, as a number of ticks of a clock. The type decides how long a tick lasts.
 ///
-/// A caller reads the clock and passes moments on: nothing here asks for the time.
+/// The caller reads the clock and passes moments on. Nothing here asks for the time.
 pub trait Instant: Copy + Ord + Debug + 'static {
     /// The ticks of a moment.
     ghost ticks_of: { Self → ℕ };
 
-    /// The ticks that the clock shows at the moment.
+    /// Returns the ticks that the clock shows at the moment.
     fn ticks(&self) -> u64
         ensures { result ≡ ticks_of self.now };
 
-    /// The ticks from this moment to now, and 0 where now is not later.
+    /// Returns the ticks from this moment to `now`, or 0 if `now` is not later.
     fn elapsed(&self, now: Self) -> u64
         ensures { result ≡ ticks_of now - ticks_of self.now }
     {

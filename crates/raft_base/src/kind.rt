@@ -1,8 +1,8 @@
 //! The kinds of leader ids that a Raft log may use.
 //!
-//! Votes are generic over their leaders. A leader type says by `LeaderIdentity` what votes have to
-//! know of it, and a kind names the leader type that goes with a type of node ids, of which it asks
-//! for texts as well.
+//! Votes are generic in the type of their leader ids. The trait `LeaderIdentity` of such a type has
+//! what votes need. A `LeaderKind` names the leader type for each type of node ids, and requires
+//! that leader ids can be displayed.
 ghost use Rattle.std.specs.Prelude.{◌≡◌, ◌≢◌, ◌&&◌, ℕ, Bool, Some, IsTrue, nat_eq, refl};
 ghost use Rattle.std.specs.declared.option.Option.{Option};
 ghost use Rattle.std.specs.declared.cmp.Ordering.{Ordering};
@@ -15,14 +15,14 @@ use crate::node::NodeId;
 use std::cmp::Ordering;
 use std::fmt::{Debug, Display};
 
-/// A leader id, as far as votes have to know it.
+/// What votes need of a type of leader ids.
 ///
-/// Leaders are ordered, partly or wholly, and equal where the order says so. Where leaders do not
-/// compare, no more than one of them can be elected.
+/// Leader ids are partly or totally ordered, and are equal if they compare as equal. If two leaders
+/// do not compare, at most one of them can be elected.
 pub trait LeaderIdentity: Eq + Copy + Default + 'static {
     /// The id of a node.
     type Id: Eq + Copy + 'static;
-    /// What is kept of a leader once a quorum has elected it.
+    /// The committed leader id: what a log id stores of an elected leader.
     type Committed: Ord + Copy + Default + 'static;
 
     /// How two leaders compare, if they do.
@@ -34,129 +34,129 @@ pub trait LeaderIdentity: Eq + Copy + Default + 'static {
     /// The node that the vote for a leader is for, if there is one.
     ghost voted: { Self → Option Self.Id };
 
-    /// What is kept of a leader once it is elected.
+    /// The committed leader id of a leader.
     ghost committed: { Self → Self.Committed };
 
-    /// The leader that a node is in a term.
+    /// The leader id of a node in a term.
     ghost leader_of: { ℕ → Self.Id → Self };
 
-    /// What is kept of the leader that a node is in a term.
+    /// The committed leader id of a node in a term.
     ghost committed_of: { ℕ → Self.Id → Self.Committed };
 
-    /// Whether a leader is the elected one.
+    /// Whether a committed leader id is the one of a leader.
     ghost same_as: { Self → Self.Committed → Bool };
 
-    /// How two leaders compare, if they do.
+    /// Returns how two leaders compare, or `None` if they do not.
     fn compare(a: &Self, b: &Self) -> Option<Ordering>
         ensures { result ≡ order a.now b.now };
 
-    /// The leader that a node is in a term.
+    /// Returns the leader id of a node in a term.
     fn new_leader(term: u64, id: Self::Id) -> Self
         ensures { result ≡ leader_of term id };
 
-    /// What is kept of that leader once it is elected.
+    /// Returns the committed leader id of a node in a term.
     fn new_committed(term: u64, id: Self::Id) -> Self::Committed
         ensures { result ≡ committed_of term id };
 
-    /// The leader's term.
+    /// Returns the leader's term.
     fn term(leader: &Self) -> u64
         ensures { result ≡ term_of leader.now };
 
-    /// The node that the vote is for, if there is one.
+    /// Returns the node that the vote is for, if there is one.
     fn voted_for(leader: &Self) -> Option<Self::Id>
         ensures { result ≡ voted leader.now };
 
-    /// What is kept of the leader once it is elected.
+    /// Returns the committed leader id of the leader.
     fn to_committed(leader: &Self) -> Self::Committed
         ensures { result ≡ committed leader.now };
 
-    /// Whether the leader is the elected one.
+    /// Whether `other` is the committed leader id of the leader.
     fn is_same_as_committed(leader: &Self, other: &Self::Committed) -> bool
         ensures { result ≡ same_as leader.now other.now };
 
-    /// Leaders are partly ordered, and tied exactly where they are equal.
+    /// Leaders are partly ordered, and compare as equal exactly if they are equal.
     ghost partial: { IsPartialOrder Self.eq order };
 
     /// Leaders of different terms compare as their terms.
     ghost by_term: { (a b : Self) → term_of a ≢ term_of b
         → order a b ≡ Some (nat_cmp (term_of a) (term_of b)) };
 
-    /// Where a leader is at most another one, what is kept of it is at most what is kept of the
-    /// other.
+    /// If a leader is at most another one, its committed leader id is at most the other's.
     ghost rises: { (a b : Self) → IsTrue (partial_le order a b)
         → IsTrue (is_le (Self.Committed.cmp (committed a) (committed b))) };
 
-    /// A leader is the elected one exactly where what is kept of it equals that one.
+    /// `same_as` holds exactly if the committed leader id of the leader equals the given one.
     ghost same: { (a : Self) (c : Self.Committed)
         → same_as a c ≡ Self.Committed.eq (committed a) c };
 
-    /// The leader that a node is in a term has that term and that node, and what is kept of it is
-    /// what `new_committed` makes.
+    /// The leader id of a node in a term has that term and that node, and `committed_of` is its
+    /// committed leader id.
     ghost made: { (t : ℕ) (n : Self.Id)
         → (term_of (leader_of t n) ≡ t) × (voted (leader_of t n) ≡ Some n)
         × (committed_of t n ≡ committed (leader_of t n)) };
 
-    /// Leaders that do not compare stand on the same side of each third one.
+    /// If two leaders do not compare, they compare alike with each third leader: it is below both
+    /// or neither, and above both or neither.
     ghost incomparable: { IncomparableAlike order };
 
     /// The default leader is of term 0, before each term in which a node votes.
     ghost default_term: { (a : Self) → Self.is_default a → term_of a ≡ 0 };
 
-    /// What is kept by default is what is kept of a default leader.
+    /// The default committed leader id is the one of a default leader.
     ghost default_committed: { (c : Self.Committed) → Self.Committed.is_default c
         → (a : Self) × Self.is_default a × (c ≡ committed a) };
 }
 
-/// A kind of leader ids: its leaders over each type of node ids.
+/// A kind of leader ids: a leader type for each type of node ids.
 pub trait LeaderKind<NID: NodeId>: 'static {
     /// The leader ids of votes.
     type Leader: LeaderIdentity<Id = NID, Committed = Self::Committed> + Debug + Display;
     /// The leader ids of log ids.
     type Committed: Ord + Copy + Default + Debug + Display + 'static;
 
-    /// How two leaders compare, if they do.
+    /// Returns how two leaders compare, or `None` if they do not.
     final fn compare(a: &Self::Leader, b: &Self::Leader) -> Option<Ordering>
         ensures { result ≡ Self.Leader.order a.now b.now }
     {
         <Self::Leader as LeaderIdentity>::compare(a, b)
     }
 
-    /// The leader that a node is in a term.
+    /// Returns the leader id of a node in a term.
     final fn new_leader(term: u64, id: NID) -> Self::Leader
         ensures { result ≡ Self.Leader.leader_of term id }
     {
         <Self::Leader as LeaderIdentity>::new_leader(term, id)
     }
 
-    /// What is kept of that leader once it is elected.
+    /// Returns the committed leader id of a node in a term.
     final fn new_committed(term: u64, id: NID) -> Self::Committed
         ensures { result ≡ Self.Leader.committed (Self.Leader.leader_of term id) }
     {
         <Self::Leader as LeaderIdentity>::new_committed(term, id)
     }
 
-    /// The leader's term.
+    /// Returns the leader's term.
     final fn term(leader: &Self::Leader) -> u64
         ensures { result ≡ Self.Leader.term_of leader.now }
     {
         <Self::Leader as LeaderIdentity>::term(leader)
     }
 
-    /// The node that the vote is for, if there is one.
+    /// Returns the node that the vote is for, if there is one.
     final fn voted_for(leader: &Self::Leader) -> Option<NID>
         ensures { result ≡ Self.Leader.voted leader.now }
     {
         <Self::Leader as LeaderIdentity>::voted_for(leader)
     }
 
-    /// What is kept of the leader once it is elected.
+    /// Returns the committed leader id of the leader.
     final fn to_committed(leader: &Self::Leader) -> Self::Committed
         ensures { result ≡ Self.Leader.committed leader.now }
     {
         <Self::Leader as LeaderIdentity>::to_committed(leader)
     }
 
-    /// Whether the leader is the elected one.
+    /// Whether `other` is the committed leader id of the leader.
     final fn is_same_as_committed(leader: &Self::Leader, other: &Self::Committed) -> bool
         ensures { result ≡ Self.Committed.eq (Self.Leader.committed leader.now) other.now }
     {
@@ -164,7 +164,8 @@ pub trait LeaderKind<NID: NodeId>: 'static {
     }
 }
 
-/// Leader ids in which any two compare: a term may have several leaders, one after the other.
+/// The kind of leader ids in which any two compare. A term may have several leaders, one after the
+/// other.
 #[derive(Debug, Clone, Copy, Default, PartialEq, Eq)]
 pub struct LeaderAdv;
 

@@ -1,4 +1,4 @@
-//! Who leads in standard Raft, where a node votes once in a term.
+//! The leader ids of standard Raft, where a node votes once in a term.
 ghost use Rattle.std.specs.Prelude.{◌≡◌, Some, None, nat_eq, refl};
 ghost use Rattle.std.specs.Ordering.{nat_cmp};
 ghost use Rattle.raft_base.specs.LeaderIdStd.{std_leader_cmp, voted_cmp};
@@ -15,8 +15,8 @@ use std::fmt;
 
 /// Identifies a leader: the term, and the node that the vote is for, if there is one.
 ///
-/// Compared by term. In one term a vote for nobody is below each other one, and votes for two
-/// different nodes do not compare: a quorum elects no more than one of them.
+/// Leader ids are compared by term. In one term a vote for nobody is below each vote for a node,
+/// and votes for two different nodes do not compare, because a quorum elects at most one of them.
 #[derive(Debug, Clone, Copy, Default, PartialEq, Eq)]
 pub struct LeaderId<NID: NodeId> {
     /// The term in which the node leads or means to lead.
@@ -25,7 +25,9 @@ pub struct LeaderId<NID: NodeId> {
     pub voted_for: Option<NID>,
 }
 
-/// A leader that a quorum has elected. A term has no more than one, so the term is enough.
+/// The committed leader id: the term of a leader that a quorum has elected.
+///
+/// A term has at most one elected leader, so the term is enough.
 #[derive(Debug, Clone, Copy, Default, PartialEq, Eq, PartialOrd, Ord)]
 pub struct CommittedLeaderId {
     /// The term in which the leader was elected.
@@ -33,7 +35,7 @@ pub struct CommittedLeaderId {
 }
 
 impl CommittedLeaderId {
-    /// What is kept of the leader that a node is in a term.
+    /// Returns the committed leader id of a node in a term.
     pub fn new<NID: NodeId>(term: u64, _node_id: NID) -> Self
         ensures { result ≡ record { term = term } }
     {
@@ -48,7 +50,7 @@ impl fmt::Display for CommittedLeaderId {
 }
 
 impl<NID: NodeId> LeaderId<NID> {
-    /// The leader id of a node in a term.
+    /// Returns the leader id of a node in a term.
     pub fn new(term: u64, node_id: NID) -> Self
         ensures { result ≡ record { term = term; voted_for = Some node_id } }
     {
@@ -58,28 +60,28 @@ impl<NID: NodeId> LeaderId<NID> {
         }
     }
 
-    /// The term.
+    /// Returns the term.
     pub fn get_term(&self) -> u64
         ensures { result ≡ self.now.term }
     {
         self.term
     }
 
-    /// The node that the vote is for, if there is one.
+    /// Returns the node that the vote is for, if there is one.
     pub fn voted_for(&self) -> Option<NID>
         ensures { result ≡ self.now.voted_for }
     {
         self.voted_for
     }
 
-    /// What is kept of the leader id once a quorum has elected it.
+    /// Returns the committed leader id: the term.
     pub fn to_committed(&self) -> CommittedLeaderId
         ensures { result ≡ record { term = self.now.term } }
     {
         CommittedLeaderId { term: self.term }
     }
 
-    /// Whether the leader is the elected one: of one term there is only one.
+    /// Whether `other` is the committed leader id of this leader: whether the terms are equal.
     pub fn is_same_as_committed(&self, other: &CommittedLeaderId) -> bool
         ensures { result ≡ nat_eq self.now.term other.now.term }
     {
@@ -100,7 +102,8 @@ impl<NID: NodeId> PartialOrd for LeaderId<NID> {
     }
 }
 
-/// How votes of one term compare by the node that they are for.
+/// Returns how two votes of one term compare by the node that they are for, or `None` if the nodes
+/// differ.
 fn compare_voted<NID: NodeId>(a: Option<NID>, b: Option<NID>) -> Option<Ordering>
     ensures { result ≡ voted_cmp NID.eq a b }
 {
@@ -121,10 +124,10 @@ impl<NID: NodeId> fmt::Display for LeaderId<NID> {
     }
 }
 
-/// Votes over the leader ids of standard Raft.
+/// Votes with the leader ids of standard Raft.
 pub type Vote<NID> = VoteOf<NID, LeaderStd>;
 
-/// The leader ids of standard Raft: in a term at most one node can lead.
+/// The kind of leader ids of standard Raft: at most one node can lead in a term.
 #[derive(Debug, Clone, Copy, Default, PartialEq, Eq)]
 pub struct LeaderStd;
 

@@ -1,5 +1,5 @@
-//! The names that a Raft cluster agrees on: node ids, leader ids, votes and log ids; and what a
-//! node is to it, and since when.
+//! What a Raft cluster uses as names: node ids, leader ids, votes and log ids. It also has the role
+//! of a node in its cluster, and the moment since which a value holds.
 #![tactic(auto)]
 
 pub mod display_ext;

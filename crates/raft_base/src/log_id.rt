@@ -19,13 +19,13 @@ pub use validate::{Invalid, Validate};
 
 /// Identifies a log entry in the whole cluster: the leader that proposed it, and its index.
 ///
-/// Compared by leader, then by index. The leader is one that a quorum has elected, and what is kept
-/// of such a leader is up to the kind of leader ids, so it is a parameter.
+/// Log ids are compared by leader, then by index. The type of the committed leader id is a
+/// parameter, because it depends on the kind of leader ids.
 #[derive(Clone, Copy, Default, PartialEq, Eq, PartialOrd, Ord)]
 pub struct LogIdOf<C> {
-    /// The leader that proposed the entry.
+    /// The committed leader id of the leader that proposed the entry.
     pub leader_id: C,
-    /// Where the entry stands in the log. Indexes are consecutive.
+    /// The position of the entry in the log. Indexes are consecutive.
     pub index: u64,
 }
 
@@ -33,14 +33,14 @@ pub struct LogIdOf<C> {
 pub type LogId<NID> = LogIdOf<CommittedLeaderId<NID>>;
 
 impl<C: Copy> LogIdOf<C> {
-    /// The id of the entry that a leader proposed at an index.
+    /// Returns the id of the entry that a leader proposed at an index.
     pub fn new(leader_id: C, index: u64) -> Self
         ensures { result ≡ record { leader_id = leader_id; index = index } }
     {
         LogIdOf { leader_id, index }
     }
 
-    /// The leader that proposed the entry.
+    /// Returns the committed leader id of the leader that proposed the entry.
     pub fn committed_leader_id(&self) -> &C
         ensures { result.now ≡ self.now.leader_id }
     {
@@ -48,7 +48,7 @@ impl<C: Copy> LogIdOf<C> {
     }
 }
 
-// By hand, for the name that the type goes by.
+// Handwritten, because the text has the name `LogId` and not `LogIdOf`.
 impl<C: fmt::Debug> fmt::Debug for LogIdOf<C> {
     fn fmt<W: fmt::Write>(&self, f: &mut fmt::Formatter<W>) -> fmt::Result {
         f.debug_struct("LogId")

@@ -16,14 +16,14 @@ pub trait NodeId: NodeIdEssential {}
 
 impl<T: NodeIdEssential> NodeId for T {}
 
-/// A node to stand in where none is given.
+/// A type of nodes that has a default node.
 ///
-/// In place of `Default`, since a node that holds a text needs an allocator.
+/// It replaces `Default`, because a node that holds a text needs an allocator.
 pub trait NodeDefault: Eq {
     /// Whether a node is the type's default one.
     ghost is_default_node: { Self → Type 0 };
 
-    /// The type's default node.
+    /// Returns the type's default node, or an allocation error.
     fn default_node(alloc: Global) -> Result<Self, AllocError>
         ensures { IfOk result is_default_node };
 
@@ -74,7 +74,7 @@ impl NodeDefault for u64 {
 pub struct EmptyNode {}
 
 impl EmptyNode {
-    /// The empty node.
+    /// Returns the empty node.
     pub fn new() -> Self
         ensures { result ≡ record {} }
     {
@@ -100,15 +100,15 @@ impl Display for EmptyNode {
     }
 }
 
-/// A node of which its address is known.
+/// A node with a known address.
 #[derive(Debug, Clone, PartialEq, Eq, Drop)]
 pub struct BasicNode {
-    /// Where the network reaches the node, in the network's own words.
+    /// The address of the node, as the network writes it.
     pub addr: String,
 }
 
 impl BasicNode {
-    /// The node at an address.
+    /// Returns the node at an address, or an allocation error.
     pub fn new(alloc: Global, addr: &str) -> Result<Self, AllocError>
         ensures { IfOk result (λ node. string_bytes node.addr ≡ addr.now) }
     {
@@ -117,7 +117,7 @@ impl BasicNode {
     }
 }
 
-/// The default node has the empty address. It takes no memory.
+/// The default node has the empty address. Making it does not allocate.
 impl NodeDefault for BasicNode {
     ghost is_default_node = { λ node. string_bytes node.addr ≡ [] };
 

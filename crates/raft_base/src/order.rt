@@ -1,6 +1,6 @@
-//! The orders of ids, each as a call whose contract says it.
+//! The orders of ids, each as a function whose contract states the order.
 //!
-//! `<`, `max`, sorting and maps follow the same orders. A caller's proof takes them from here.
+//! `<`, `max`, sorting and maps use these orders. A caller's proof can use these functions.
 ghost use Rattle.std.specs.Prelude.{◌≡◌, ◌≢◌, ◌↔◌, Some, None, true, false, IsTrue};
 ghost use Rattle.std.specs.declared.cmp.Ordering.TheVariants.{Less, Equal, Greater};
 ghost use Rattle.std.specs.Cmp.{IsTotalOrder};
@@ -20,42 +20,42 @@ use crate::node::NodeId;
 use crate::vote::{Vote, VoteIn};
 use std::cmp::Ordering;
 
-/// How two leader ids compare: by term, then by node id.
+/// Returns how two leader ids compare: by term, then by node id.
 pub fn compare_leader_ids<NID: NodeId>(a: &LeaderId<NID>, b: &LeaderId<NID>) -> Ordering
     ensures { result ≡ leader_id_cmp NID.cmp a.now b.now }
 {
     a.cmp(b)
 }
 
-/// How two log ids compare: by leader, then by index.
+/// Returns how two log ids compare: by leader, then by index.
 pub fn compare_log_ids<C: Ord>(a: &LogIdOf<C>, b: &LogIdOf<C>) -> Ordering
     ensures { result ≡ log_id_cmp C.cmp a.now b.now }
 {
     a.cmp(b)
 }
 
-/// Whether two log ids are the same: exactly where neither is below the other.
+/// Whether two log ids are equal, which is exactly if neither is below the other.
 pub fn same_log_ids<C: Ord>(a: &LogIdOf<C>, b: &LogIdOf<C>) -> bool
     ensures { result ≡ is_eq (log_id_cmp C.cmp a.now b.now) }
 {
     a == b
 }
 
-/// How two optional log ids compare: an absent one is below each that is there.
+/// Returns how two optional log ids compare. An absent one is below each present one.
 pub fn compare_optional_log_ids<C: Ord>(a: &Option<LogIdOf<C>>, b: &Option<LogIdOf<C>>) -> Ordering
     ensures { result ≡ option_cmp (log_id_cmp C.cmp) a.now b.now }
 {
     a.cmp(b)
 }
 
-/// Whether an optional log id is at most another one. An absent one is below each that is there.
+/// Whether an optional log id is at most another one. An absent one is below each present one.
 pub fn log_id_at_most<C: Ord + Copy>(a: Option<LogIdOf<C>>, b: Option<LogIdOf<C>>) -> bool
     ensures { result ≡ id_le C.cmp a b }
 {
     a <= b
 }
 
-/// Whether an optional log id is below another one.
+/// Whether an optional log id is below another one. An absent one is below each present one.
 pub fn log_id_below<C: Ord + Copy>(a: Option<LogIdOf<C>>, b: Option<LogIdOf<C>>) -> bool
     ensures { result ≡ id_lt C.cmp a b }
 {
@@ -69,36 +69,37 @@ pub fn same_optional_log_ids<C: Eq + Copy>(a: Option<LogIdOf<C>>, b: Option<LogI
     a == b
 }
 
-/// Whether an optional index is at most another one. An absent one is below each that is there.
+/// Whether an optional index is at most another one. An absent one is below each present one.
 pub fn index_at_most(a: Option<u64>, b: Option<u64>) -> bool
     ensures { result ≡ index_le a b }
 {
     a <= b
 }
 
-/// Whether an optional index is below another one.
+/// Whether an optional index is below another one. An absent one is below each present one.
 pub fn index_below(a: Option<u64>, b: Option<u64>) -> bool
     ensures { result ≡ index_lt a b }
 {
     a < b
 }
 
-/// How two votes compare, over any kind of leader ids: by leader, then by being committed.
+/// Returns how two votes compare, for each kind of leader ids: by leader, then by whether they are
+/// committed. It is `None` if they do not compare.
 pub fn compare_votes<L: LeaderIdentity>(a: &VoteIn<L>, b: &VoteIn<L>) -> Option<Ordering>
     ensures { result ≡ vote_cmp L.order a.now b.now }
 {
     a.partial_cmp(b)
 }
 
-/// How two votes over the default leader ids compare. Any two do.
+/// Returns how two votes with the default leader ids compare. Any two do.
 pub fn compare_default_votes<NID: NodeId>(a: &Vote<NID>, b: &Vote<NID>) -> Option<Ordering>
     ensures { result ≡ Some (default_vote_cmp NID.cmp a.now b.now) }
 {
     a.partial_cmp(b)
 }
 
-/// How two leader ids of standard Raft compare, if they do: by term, then a vote for nobody below
-/// each other one.
+/// Returns how two leader ids of standard Raft compare: by term, then a vote for nobody is below
+/// each vote for a node. It is `None` if they do not compare.
 pub fn compare_standard_leader_ids<NID: NodeId>(
     a: &leader_id_std::LeaderId<NID>,
     b: &leader_id_std::LeaderId<NID>,
@@ -108,8 +109,9 @@ pub fn compare_standard_leader_ids<NID: NodeId>(
     a.partial_cmp(b)
 }
 
-/// How two votes over the leader ids of standard Raft compare, if they do: by leader, then by being
-/// committed, also of leaders that do not compare.
+/// Returns how two votes with the leader ids of standard Raft compare: by leader, then by whether
+/// they are committed. If the leaders do not compare, a committed vote is above an uncommitted one,
+/// and otherwise the result is `None`.
 pub fn compare_standard_votes<NID: NodeId>(
     a: &leader_id_std::Vote<NID>,
     b: &leader_id_std::Vote<NID>,
@@ -128,7 +130,7 @@ pub fn compare_standard_votes<NID: NodeId>(
     a.partial_cmp(b)
 }
 
-/// How two log ids of standard Raft compare: by term, then by index. Any two do.
+/// Returns how two log ids of standard Raft compare: by term, then by index. Any two do.
 pub fn compare_standard_log_ids(
     a: &LogIdOf<leader_id_std::CommittedLeaderId>,
     b: &LogIdOf<leader_id_std::CommittedLeaderId>,
@@ -139,7 +141,7 @@ pub fn compare_standard_log_ids(
     a.cmp(b)
 }
 
-/// Whether two votes are equal: exactly where they compare as equal.
+/// Whether two votes are equal, which is exactly if they compare as equal.
 pub fn same_votes<L: LeaderIdentity>(a: &VoteIn<L>, b: &VoteIn<L>) -> bool
     ensures { IsTrue result ↔ (vote_cmp L.order a.now b.now ≡ Some Equal) }
 {

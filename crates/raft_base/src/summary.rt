@@ -7,9 +7,9 @@ use std::fmt::Display;
 
 /// A value with a short text.
 ///
-/// The parameter is the type that the text is about, mostly the type itself.
+/// The parameter is the type that the text describes, which is mostly the type itself.
 pub trait MessageSummary<M> {
-    /// The short text.
+    /// Returns the short text, or an allocation error.
     fn summary(&self, alloc: Global) -> Result<String, AllocError>;
 }
 

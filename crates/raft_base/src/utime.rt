@@ -10,8 +10,8 @@ use std::fmt;
 
 /// A value, and the moment of its last update, if there was one.
 ///
-/// A follower waits for its leader from the moment on that the leader was last heard. So a vote is
-/// kept with that moment. Two are equal if their values and their moments are.
+/// A follower waits for its leader from the moment at which it last heard from the leader, so a
+/// vote is stored with that moment. Two are equal if their values and their moments are equal.
 #[derive(Debug, Clone, PartialEq, Eq, Drop)]
 pub struct UTime<T, I: Instant> {
     data: T,
@@ -23,7 +23,7 @@ impl<T: Drop, I: Instant> UTime<T, I> {
     ghost use Rattle.raft_base.specs.UTime.{data_of, moment_of, utime_of};
     ghost use Rattle.raft_base.specs.contracts.utime.UTime.{the_row};
 
-    /// A value that is updated now.
+    /// Returns a value that is updated now.
     pub fn new(now: I, value: T) -> Self
         ensures { result ≡ utime_of value (Some now) }
     {
@@ -33,7 +33,7 @@ impl<T: Drop, I: Instant> UTime<T, I> {
         }
     }
 
-    /// A value that was never updated.
+    /// Returns a value that was never updated.
     pub fn without_utime(value: T) -> Self
         ensures { result ≡ utime_of value None }
     {
@@ -43,21 +43,21 @@ impl<T: Drop, I: Instant> UTime<T, I> {
         }
     }
 
-    /// The moment of the last update, if there was one.
+    /// Returns the moment of the last update, if there was one.
     pub fn utime(&self) -> Option<I>
         ensures { result ≡ moment_of self.now }
     {
         self.utime
     }
 
-    /// The value, without its moment.
+    /// Returns the value without its moment.
     pub fn into_inner(self) -> T
         ensures { result ≡ data_of self }
     {
         self.data
     }
 
-    /// Takes another value, updated now.
+    /// Replaces the value. Its last update is now.
     pub fn update(&mut self, now: I, value: T)
         ensures { self.new ≡ utime_of value (Some now) }
     {
@@ -65,7 +65,7 @@ impl<T: Drop, I: Instant> UTime<T, I> {
         self.utime = Some(now);
     }
 
-    /// Marks the value as updated now, which is not before its last update.
+    /// Marks the value as updated now, which must not be before its last update.
     pub fn touch(&mut self, now: I)
         requires { IsTrue (is_ge (option_cmp I.cmp (Some now) (moment_of self.old))) }
         ensures { self.new ≡ utime_of (data_of self.old) (Some now) }
@@ -73,14 +73,14 @@ impl<T: Drop, I: Instant> UTime<T, I> {
         self.utime = Some(now);
     }
 
-    /// The value.
+    /// Returns the value.
     pub fn get(&self) -> &T
         ensures { result.now ≡ data_of self.now }
     {
         &self.data
     }
 
-    /// The value, to be written. Its moment stays.
+    /// Lends the value for writing. Its moment stays.
     pub fn get_mut(&mut self) -> &mut T
         ensures* written { sem 𝓛 (Lends (the_row T.row I.row) T.row self.entry result
             (λ value. utime_of value (moment_of self.old))) }
@@ -93,7 +93,7 @@ impl<T: Drop, I: Instant> UTime<T, I> {
 impl<T: Clone + PartialEq + Drop, I: Instant> UTime<T, I> {
     ghost use Rattle.raft_base.specs.UTime.{data_of, moment_of};
 
-    /// An equal value of the same moment, with a clone of the data.
+    /// Returns an equal value with the same moment and a clone of the data, or an allocation error.
     pub fn try_clone(&self) -> Result<Self, AllocError>
         requires { ClonesAreEqual T.eq T.is_clone }
         ensures value { IfOk result (λ copy. IsTrue (T.eq (data_of self.now) (data_of copy))) }

@@ -1,4 +1,4 @@
-//! What a node has promised: its vote for a leader.
+//! A node's vote for a leader, which it has promised to follow.
 ghost use Rattle.std.specs.Prelude.{◌≡◌, ◌==◌, ◌||◌, Some, None, true, false, if◌then◌else◌, IsTrue};
 ghost use Rattle.std.specs.Ordering.{partial_le};
 
@@ -9,8 +9,9 @@ use std::fmt;
 
 /// A node's vote: the leader that it is for, and whether a quorum has elected that leader.
 ///
-/// Compared by leader, then with an uncommitted vote below a committed one. Where the leaders do
-/// not compare, a vote that alone is committed is the greater, since no quorum elects the other.
+/// Votes are compared by leader, and for one leader an uncommitted vote is below a committed one.
+/// If the leaders do not compare and one vote is committed, that vote is the greater one, because
+/// no quorum elects the other leader.
 #[derive(Clone, Copy, Default, PartialEq, Eq)]
 pub struct VoteIn<L> {
     /// The leader that the vote is for.
@@ -19,10 +20,10 @@ pub struct VoteIn<L> {
     pub committed: bool,
 }
 
-/// Votes over a kind of leader ids.
+/// Votes with a kind of leader ids.
 pub type VoteOf<NID, K> = VoteIn<<K as LeaderKind<NID>>::Leader>;
 
-/// Votes over the default leader ids.
+/// Votes with the default leader ids.
 pub type Vote<NID> = VoteOf<NID, LeaderAdv>;
 
 impl<L: LeaderIdentity> PartialOrd for VoteIn<L> {
@@ -37,7 +38,7 @@ impl<L: LeaderIdentity> PartialOrd for VoteIn<L> {
     fn partial_cmp(&self, other: &Self) -> Option<Ordering> {
         match L::compare(&self.leader_id, &other.leader_id) {
             Some(Ordering::Equal) => self.committed.partial_cmp(&other.committed),
-            // Of leaders that do not compare only one can be elected.
+            // Of two leaders that do not compare, only one can be elected.
             None => match (self.committed, other.committed) {
                 (true, false) => Some(Ordering::Greater),
                 (false, true) => Some(Ordering::Less),
@@ -51,7 +52,7 @@ impl<L: LeaderIdentity> PartialOrd for VoteIn<L> {
 impl<L: LeaderIdentity> VoteIn<L> {
     ghost use Rattle.raft_base.specs.Vote.{vote_cmp};
 
-    /// A vote for a node in a term, not committed.
+    /// Returns an uncommitted vote for a node in a term.
     pub fn new(term: u64, node_id: L::Id) -> Self
         ensures { result ≡ record { leader_id = L.leader_of term node_id; committed = false } }
     {
@@ -61,7 +62,7 @@ impl<L: LeaderIdentity> VoteIn<L> {
         }
     }
 
-    /// The vote for a node that a quorum has elected in a term.
+    /// Returns the vote for a node that a quorum has elected in a term.
     pub fn new_committed(term: u64, node_id: L::Id) -> Self
         ensures { result ≡ record { leader_id = L.leader_of term node_id; committed = true } }
     {
@@ -86,17 +87,18 @@ impl<L: LeaderIdentity> VoteIn<L> {
         self.committed
     }
 
-    /// The leader that the vote is for, elected or not.
+    /// Returns the leader that the vote is for, elected or not.
     pub fn leader_id(&self) -> &L
         ensures { result.now ≡ self.now.leader_id }
     {
         &self.leader_id
     }
 
-    /// The leader under which log entries may be written: the vote's, once it is elected.
+    /// Returns the committed leader id under which log entries may be written: the one of the
+    /// vote's leader, if the vote is committed.
     ///
-    /// In term 0 it need not be elected. There the first entry of a new cluster is written, before
-    /// anyone could vote.
+    /// In term 0 the vote need not be committed, because the first entry of a new cluster is
+    /// written before anyone could vote.
     pub fn committed_leader_id(&self) -> Option<L::Committed>
         ensures { result ≡ (if self.now.committed || (L.term_of self.now.leader_id == 0)
             then Some (L.committed self.now.leader_id) else None) }
@@ -108,7 +110,7 @@ impl<L: LeaderIdentity> VoteIn<L> {
         }
     }
 
-    /// Whether the vote is for the elected leader.
+    /// Whether `leader_id` is the committed leader id of the vote's leader.
     pub fn is_same_leader(&self, leader_id: &L::Committed) -> bool
         ensures { result ≡ L.Committed.eq (L.committed self.now.leader_id) leader_id.now }
     {
@@ -116,7 +118,7 @@ impl<L: LeaderIdentity> VoteIn<L> {
     }
 }
 
-// By hand, for the name that the type goes by.
+// Handwritten, because the text has the name `Vote` and not `VoteIn`.
 impl<L: fmt::Debug> fmt::Debug for VoteIn<L> {
     fn fmt<W: fmt::Write>(&self, f: &mut fmt::Formatter<W>) -> fmt::Result {
         f.debug_struct("Vote")

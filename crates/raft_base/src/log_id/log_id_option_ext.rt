@@ -1,4 +1,4 @@
-//! Log ids that may be absent, as that of the last entry of a log that may be empty.
+//! Log ids that may be absent, such as the last log id of a log that may be empty.
 ghost use Rattle.std.specs.Prelude.{◌≡◌, ◌<◌, ◌^◌, ℕ, nat_lt};
 ghost use Rattle.std.specs.declared.option.Option.{Option};
 ghost use Rattle.std.specs.Option.{option_copied, option_map};
@@ -11,15 +11,15 @@ pub trait LogIdOptionExt {
     /// The index, if there is one.
     ghost index_of: { Self → Option ℕ };
 
-    /// The index, if there is one.
+    /// Returns the index, if there is one.
     fn index(&self) -> Option<u64>
         ensures { result ≡ index_of self.now };
 
-    /// Whether `next_index` may be called: the index after it is below 2^64.
+    /// Whether the precondition of `next_index` holds: the next index is below 2^64.
     fn has_next_index(&self) -> bool
         ensures { result ≡ nat_lt (next_index_of (index_of self.now)) (2 ^ 64) };
 
-    /// The index after it, and 0 after none; where `has_next_index` is true.
+    /// Returns the index after this one, or 0 if there is none. It requires `has_next_index`.
     fn next_index(&self) -> u64
         requires { next_index_of (index_of self.now) < 2 ^ 64 }
         ensures { result ≡ next_index_of (index_of self.now) };

@@ -13,7 +13,7 @@ use std::fmt;
 
 /// The logs after one log id up to another: `(prev, last]`.
 ///
-/// An absent log id stands before the first log.
+/// If `prev` is absent, the range begins at the first log.
 #[derive(Clone, Copy, PartialEq, Eq)]
 pub struct LogIdRangeOf<C> {
     /// The log before the first one of the range.
@@ -26,15 +26,15 @@ pub struct LogIdRangeOf<C> {
 pub type LogIdRange<NID> = LogIdRangeOf<CommittedLeaderId<NID>>;
 
 impl<C: Copy> LogIdRangeOf<C> {
-    /// The logs after `prev` up to `last`.
+    /// Returns the range of the logs after `prev` up to `last`.
     pub fn new(prev: Option<LogIdOf<C>>, last: Option<LogIdOf<C>>) -> Self
         ensures { result ≡ record { prev = prev; last = last } }
     {
         LogIdRangeOf { prev, last }
     }
 
-    /// Whether `len` may be called: by their indexes the last log is not before `prev`, and the
-    /// index after it is below 2^64.
+    /// Whether the preconditions of `len` hold: the index of `last` is not below the index of
+    /// `prev`, and the index after `last` is below 2^64.
     pub fn has_len(&self) -> bool
         ensures { result ≡ (nat_le (next_index self.now.prev) (next_index self.now.last)
             && nat_lt (next_index self.now.last) (2 ^ 64)) }
@@ -42,7 +42,7 @@ impl<C: Copy> LogIdRangeOf<C> {
         self.prev.index() <= self.last.index() && self.last.has_next_index()
     }
 
-    /// How many logs the range has, by their indexes; where `has_len` is true.
+    /// Returns how many logs the range has, computed from their indexes. It requires `has_len`.
     pub fn len(&self) -> u64
         requires ordered { next_index self.now.prev ≤ next_index self.now.last }
         requires fits { next_index self.now.last < 2 ^ 64 }
@@ -64,7 +64,7 @@ impl<C: Ord> Validate for LogIdRangeOf<C> {
     }
 }
 
-// By hand, for the name that the type goes by.
+// Handwritten, because the text has the name `LogIdRange` and not `LogIdRangeOf`.
 impl<C: fmt::Debug> fmt::Debug for LogIdRangeOf<C> {
     fn fmt<W: fmt::Write>(&self, f: &mut fmt::Formatter<W>) -> fmt::Result {
         f.debug_struct("LogIdRange")

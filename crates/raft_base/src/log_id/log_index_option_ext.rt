@@ -1,32 +1,33 @@
-//! Indexes that may be absent, as that of the last entry of a log that may be empty.
+//! Indexes that may be absent, such as the last index of a log that may be empty.
 ghost use Rattle.std.specs.Prelude.{◌≡◌, ◌+◌, ◌<◌, ◌^◌, ℕ, nat_lt, IsSome};
 ghost use Rattle.std.specs.declared.option.Option.{Option};
 ghost use Rattle.raft_base.specs.LogIndex.{index_before, index_plus, next_index_of};
 
-/// Steps between an index that may be absent and those beside it.
+/// Arithmetic with an index that may be absent.
 pub trait LogIndexOptionExt: Sized {
     /// The index, if there is one.
     ghost shown: { Self → Option ℕ };
 
-    /// Whether `next_index` may be called: the index after it is below 2^64.
+    /// Whether the precondition of `next_index` holds: the next index is below 2^64.
     fn has_next_index(&self) -> bool
         ensures { result ≡ nat_lt (next_index_of (shown self.now)) (2 ^ 64) };
 
-    /// The index after it, and 0 after none; where `has_next_index` is true.
+    /// Returns the index after this one, or 0 if there is none. It requires `has_next_index`.
     fn next_index(&self) -> u64
         requires { next_index_of (shown self.now) < 2 ^ 64 }
         ensures { result ≡ next_index_of (shown self.now) };
 
-    /// The index before it, and none before 0; where there is one, as `is_some` tells.
+    /// Returns the index before this one, or `None` before 0. It requires that there is an index,
+    /// which `is_some` tests.
     fn prev_index(&self) -> Self
         requires { IsSome (shown self.now) }
         ensures { shown result ≡ index_before (shown self.now) };
 
-    /// Whether `add` may be called: the index after so many places on is below 2^64.
+    /// Whether the precondition of `add` holds: the index after the sum is below 2^64.
     fn can_add(&self, places: u64) -> bool
         ensures { result ≡ nat_lt (next_index_of (shown self.now) + places) (2 ^ 64) };
 
-    /// The index so many places on; where `can_add` is true.
+    /// Returns the index that many positions further on. It requires `can_add`.
     fn add(&self, places: u64) -> Self
         requires { next_index_of (shown self.now) + places < 2 ^ 64 }
         ensures { shown result ≡ index_plus (shown self.now) places };

@@ -1,22 +1,22 @@
-//! Values that stand in a log.
+//! Values that are identified by a log id.
 ghost use Rattle.std.specs.Prelude.{◌≡◌, refl};
 
 use super::LogIdOf;
 
-/// A value that a log id identifies, as a log entry or the log id itself.
+/// A value that a log id identifies, such as a log entry or the log id itself.
 ///
-/// The parameter is the committed leader id of the log ids: `CommittedLeaderId<NID>` where they are
-/// `LogId<NID>`.
+/// The parameter is the type of the committed leader id in the log ids. For `LogId<NID>` it is
+/// `CommittedLeaderId<NID>`.
 pub trait RaftLogId<C> {
     ghost use Rattle.raft_base.specs.declared.log_id.LogIdOf.{LogIdOf};
 
     /// The log id of a value.
     ghost id_of: { Self → LogIdOf C };
 
-    /// The value under another log id.
+    /// The value with another log id.
     ghost with_id: { Self → LogIdOf C → Self };
 
-    /// The log id.
+    /// Returns the log id.
     fn get_log_id(&self) -> &LogIdOf<C>
         ensures { result.now ≡ id_of self.now };
 
@@ -24,13 +24,13 @@ pub trait RaftLogId<C> {
     fn set_log_id(&mut self, log_id: &LogIdOf<C>)
         ensures { self.new ≡ with_id self.old log_id.now };
 
-    /// A value under a log id has that log id.
+    /// A value that is given a log id has that log id.
     ghost has_id: { (a : Self) (id : LogIdOf C) → id_of (with_id a id) ≡ id };
 
-    /// Under its own log id a value is as it was.
+    /// A value that is given its own log id does not change.
     ghost own_id: { (a : Self) → with_id a (id_of a) ≡ a };
 
-    /// Of two log ids that are given in turn only the last one counts.
+    /// If a value is given two log ids in turn, it has only the last one.
     ghost last_id: { (a : Self) (id next : LogIdOf C)
         → with_id (with_id a id) next ≡ with_id a next };
 }

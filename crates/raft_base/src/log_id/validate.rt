@@ -1,60 +1,60 @@
-//! Values that may break the relations between their parts.
+//! Values that may break the relations between their fields.
 ghost use Rattle.std.specs.Prelude.{◌≡◌, Option};
 ghost use Rattle.std.specs.Result.{result_err};
 ghost use Rattle.raft_base.specs.declared.log_id.validate.Invalid.{Invalid};
 
 use thiserror::Error;
 
-/// A relation that a value breaks. Each type tests its relations in an order of its own.
+/// A relation that a value breaks. Each type tests its relations in its own order.
 #[derive(Debug, Clone, Copy, PartialEq, Eq, Error)]
 pub enum Invalid {
     /// A range ends before it begins.
     #[error("invalid: RangeOrder")]
     RangeOrder,
-    /// The match of a follower is not below the end of the search for it.
+    /// The matching log id of a follower is not below the searching end.
     #[error("invalid: MatchingPastEnd")]
     MatchingPastEnd,
-    /// Logs are in flight that begin before the match.
+    /// Logs are in flight that begin before the matching log id.
     #[error("invalid: MatchingPastPrev")]
     MatchingPastPrev,
-    /// Logs are in flight after a log that is not below the end of the search.
+    /// Logs are in flight after a log that is not below the searching end.
     #[error("invalid: PrevPastEnd")]
     PrevPastEnd,
-    /// A snapshot is in flight that does not go past the match.
+    /// A snapshot is in flight that does not go past the matching log id.
     #[error("invalid: SnapshotNotPastMatching")]
     SnapshotNotPastMatching,
-    /// The first log is not the last one that was purged.
+    /// The first log id is not the last one that was purged.
     #[error("invalid: PurgedNext")]
     PurgedNext,
-    /// More was purged than is to be purged.
+    /// The last purged log id is past the purge point.
     #[error("invalid: LastPurgedPastUpto")]
     LastPurgedPastUpto,
-    /// There is no snapshot, and more is to be purged than is committed.
+    /// There is no snapshot, and the purge point is past the committed log id.
     #[error("invalid: UptoPastCommitted")]
     UptoPastCommitted,
-    /// More is to be purged than the snapshot has.
+    /// The purge point is past the last log id of the snapshot.
     #[error("invalid: UptoPastSnapshot")]
     UptoPastSnapshot,
-    /// The snapshot has more than is committed.
+    /// The last log id of the snapshot is past the committed log id.
     #[error("invalid: SnapshotPastCommitted")]
     SnapshotPastCommitted,
-    /// More is committed than the log has.
+    /// The committed log id is past the last log id of the log.
     #[error("invalid: CommittedPastLast")]
     CommittedPastLast,
     /// The committed membership has a greater log id than the effective one.
     #[error("invalid: MembershipLogId")]
     MembershipLogId,
-    /// The committed membership stands after the effective one in the log.
+    /// The committed membership comes after the effective one in the log.
     #[error("invalid: MembershipIndex")]
     MembershipIndex,
 }
 
-/// A value that is valid where some relations between its parts hold.
+/// A value that is valid if some relations between its fields hold.
 pub trait Validate {
     /// The first relation that a value breaks, in the order of its type.
     ghost broken: { Self → Option Invalid };
 
-    /// Refuses a value by the first relation that it breaks, in the order of its type.
+    /// Returns the first relation that the value breaks, in the order of its type, as an error.
     fn validate(&self) -> Result<(), Invalid>
         ensures { result_err result ≡ broken self.now };
 }

@@ -11,7 +11,7 @@ module _ {C : Type 0} (cmp : C → C → Ordering) (log : LogView C) (logged : L
   prev_at zero low high = refl
   prev_at (suc i) low high = let h = logged.has_each i (omega arith) (omega arith) in rw h.1 (let e = h.2 in omega arith)
 
-  -- they rise
+  -- log ids rise with their indexes
   pub prev_rises : (a b : ℕ) → next_index log.purge_upto ≤ a → a < b → b ≤ next_index log.last
       → id_lt cmp (prev_id log.id_at a) (prev_id log.id_at b) ≡ true
   prev_rises zero zero low lt high = absurd (omega arith)
