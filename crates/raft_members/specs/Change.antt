@@ -1,5 +1,5 @@
--- What a change makes of a membership, case by case. Ids are compared by `eq`, their own `==`,
--- and ordered by `cmp`, which agree.
+-- What a change makes of a membership, case by case. Ids are compared by `eq`, their own `==`, and
+-- ordered by `cmp`, which agree.
 use Rattle.std.specs.Prelude.{Bool, true, cond, not, ◌||◌, Option, None, List, [], length, ◌-◌}
 use Rattle.std.specs.declared.cmp.Ordering.{Ordering}
 use Rattle.std.specs.List.{filter, slice_get}
@@ -22,7 +22,7 @@ use Rattle.raft_members.specs.declared.change_members.ChangeMembers.TheVariants.
   ReplaceAllNodes,
 }
 
--- the last config, and the empty one where there is none
+-- the last config, and the empty one if there is none
 abbrev pub last_config : {K : Type 0} → List (List K) → List K
 last_config configs = unwrap_or (slice_get configs (length configs - 1)) []
 
@@ -30,12 +30,12 @@ last_config configs = unwrap_or (slice_get configs (length configs - 1)) []
 abbrev pub union_of : {K : Type 0} → (K → K → Ordering) → List K → List K → List K
 union_of cmp xs ys = sorted_merge cmp true xs ys
 
--- the ids of the first list that the second lacks
+-- the ids of the first list that are not in the second
 abbrev pub without : {K : Type 0} → (K → K → Bool) → List K → List K → List K
 without eq xs ys = filter (λ id. not (is_member eq ys id)) xs
 
--- the node at an id stays, unless a voter of the old configs is none of the
--- new ones and nodes are not retained
+-- the node at an id stays, unless a voter of the old configs is not in the new ones and nodes are
+-- not retained
 abbrev pub keeps_node : {K : Type 0} → (K → K → Bool) → List (List K) → List (List K) → Bool → K
     → Bool
 keeps_node eq old new retain id = retain || (not (is_voter_of eq old id) || is_voter_of eq new id)
@@ -52,7 +52,7 @@ next_members eq m goal retain = let next = next_configs eq m.configs goal in rec
 abbrev pub with_nodes : {K N : Type 0} → Members K N → (K → Option N) → Members K N
 with_nodes m node = record { configs = m.configs; node = node }
 
--- what a change makes of a membership, before it is tested
+-- what a change makes of a membership, before it is tested for validity
 abbrev pub changed : {K N : Type 0} → (K → K → Bool) → (K → K → Ordering) → Members K N
     → ChangeMembers K N → Bool → Members K N
 changed eq cmp m (AddVoterIds ids) retain =

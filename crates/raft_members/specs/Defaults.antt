@@ -1,10 +1,10 @@
--- Nodes where ids without one have the default node.
+-- Lists of nodes in which ids without a node have the default node.
 use Rattle.std.specs.Prelude.{◌≡◌, Bool, true, false, Option, Some, None, List}
 use Rattle.std.specs.declared.cmp.Ordering.{Ordering}
 use Rattle.raft_members.specs.Members.{node_at}
 
--- the node at an id, from the given one and whether the id needs one: the given one; else the
--- default one where it is needed, and none where not
+-- the node at an id: the given one if there is one, otherwise the default one if the id needs one,
+-- and otherwise none
 abbrev pub WithDefault : {N : Type 0} → (N → Type 0) → Option N → Bool → Option N → Type 0
 WithDefault is_default (Some given) needed node = node ≡ Some given
 WithDefault is_default None true (Some made) = is_default made

@@ -1,5 +1,5 @@
--- Which learners an iterator over them still gives. This file and
--- no other reads its private fields.
+-- The learners that an iterator over them has still to return. No other file reads its private
+-- fields.
 use Rattle.std.specs.Prelude.{Bool, List, map, not, ◌&&◌, is_some}
 use Rattle.std.specs.List.{filter}
 use Rattle.std.specs.Map.{keys_of}
@@ -21,6 +21,6 @@ abbrev pub is_learner : {K N : Type 0} → (K → K → Bool) → (K → K → O
     → Bool
 is_learner eq cmp m id = is_some (node_at cmp m.nodes id) && not (is_voter_of eq m.configs id)
 
--- the ids of the nodes ahead that are in no config
+-- the ids of the remaining nodes that are in no config
 abbrev pub learners_ahead : {K N : Type 0} → (K → K → Bool) → LearnerIds K N → List K
 learners_ahead eq s = learners_among eq (map (λ c. c.keys) s.configs.now) s.nodes

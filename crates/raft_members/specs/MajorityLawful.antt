@@ -9,7 +9,7 @@ use Rattle.std.proofs.lemmas.Bool.{leb-true, le-leb}
 use Rattle.std.proofs.lemmas.List.Sums.{sum_by-cons}
 use Rattle.raft_members.specs.Majority.{has_at_least, is_majority, is_joint_majority}
 
--- a larger set has no fewer members
+-- a superset has no fewer members
 pub count_by-le-larger : {K : Type 0} (s t : K → Bool) → ((x : K) → s x ≡ true → t x ≡ true)
     → (xs : List K) → count_by s xs ≤ count_by t xs
 count_by-le-larger s t h [] = omega arith
@@ -30,7 +30,7 @@ pub is_majority-superset : {K : Type 0} (eq : K → K → Bool) (config : List K
 is_majority-superset eq config s t h q =
     lt-ltb _ _ (omega (arith, ltb-true _ _ q, count_by-le-larger s t h (unique_keys eq config)))
 
--- what passes one test passes a weaker one
+-- what passes a test passes a weaker one
 pub list_all-weaker : {Q : Type 0} (p r : Q → Bool) → ((q : Q) → p q ≡ true → r q ≡ true)
     → (qs : List Q) → list_all p qs ≡ true → list_all r qs ≡ true
 list_all-weaker p r f [] h = h

@@ -1,4 +1,4 @@
--- What a contract sees of a membership: its two lists.
+-- What contracts see of a membership: its two lists.
 use Rattle.std.specs.Prelude.{List}
 
 -- the configs, each as its ids in order, and the nodes in the order of their ids

@@ -1,4 +1,4 @@
--- What a membership says: its configs, and the node at each id.
+-- The contents of a membership: its configs, and the node at each id.
 pub use Rattle.raft_members.specs.MemberList.{MemberList}
 use Rattle.std.specs.Prelude.{◌≡◌, ◌&&◌, Bool, Option, List, IsTrue, is_some}
 use Rattle.std.specs.Cmp.Lexicographic.{pointwise}
@@ -16,22 +16,23 @@ pub record Members (K N : Type 0) : Type 0 where
 abbrev pub node_at : {K N : Type 0} → (K → K → Ordering) → List (K × N) → K → Option N
 node_at cmp nodes id = lookup (is_at (cmp id)) nodes
 
--- what a membership says
+-- the contents of a membership
 abbrev pub members_of : {K N : Type 0} → (K → K → Ordering) → MemberList K N → Members K N
 members_of cmp m = record { configs = m.configs; node = node_at cmp m.nodes }
 
--- the nodes are, at each id, equal to what a function gives, or like it none
+-- the list has, at each id, a node that equals the one of the function, or none if the function
+-- gives none
 abbrev pub HasNodes : {K N : Type 0} → (N → N → Bool) → (K → K → Ordering) → List (K × N)
     → (K → Option N) → Type 0
 HasNodes {K} same cmp nodes node =
     (id : K) → IsTrue (option_eq same (node_at cmp nodes id) (node id))
 
--- each id that has a node among the new ones has one among the old ones already
+-- each id that has a node in the new list has one in the old list
 abbrev pub AddsNoId : {K N : Type 0} → (K → K → Ordering) → List (K × N) → List (K × N) → Type 0
 AddsNoId {K} cmp old new =
     (id : K) → IsTrue (is_some (node_at cmp new id)) → IsTrue (is_some (node_at cmp old id))
 
--- the membership has exactly these configs, and at each id an equal node or, like them, none
+-- the membership has exactly these configs, and at each id an equal node, or none if they have none
 abbrev pub Says : {K N : Type 0} → (N → N → Bool) → (K → K → Ordering) → MemberList K N
     → Members K N → Type 0
 Says same cmp m w = (m.configs ≡ w.configs) × HasNodes same cmp m.nodes w.node

@@ -4,7 +4,7 @@ use Rattle.std.specs.Prelude.{◌≡◌, ℕ, ◌+◌, ◌/◌, ◌≤◌, Bool,
 use Rattle.std.specs.List.{IsDistinct, fold}
 use Rattle.std.specs.Set.{is_member}
 
--- distinct ids that have a quorum are at least so many
+-- a list of distinct ids that contains a quorum has at least that many ids
 abbrev pub QuorumsHaveAtLeast : {K : Type 0} → (K → K → Bool) → ((K → Bool) → Bool) → ℕ → Type 0
 QuorumsHaveAtLeast {K} eq has_quorum n =
     (ids : List K) → IsDistinct eq ids → has_quorum (is_member eq ids) ≡ true → n ≤ length ids
@@ -13,6 +13,6 @@ QuorumsHaveAtLeast {K} eq has_quorum n =
 abbrev pub majority_size : {K : Type 0} → List K → ℕ
 majority_size config = length config / 2 + 1
 
--- the greatest of the items' sizes, and 0 of no items
+-- the greatest size of the items, and 0 if there are none
 abbrev pub greatest : {X : Type 0} → (X → ℕ) → List X → ℕ
 greatest size items = fold (λ so_far item. max (size item) so_far) 0 items

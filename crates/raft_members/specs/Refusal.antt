@@ -6,8 +6,8 @@ use Rattle.raft_members.specs.Valid.{has_empty_config, FirstWithoutNode}
 use Rattle.raft_members.specs.declared.error.ChangeMembershipErrorOf.{ChangeMembershipErrorOf}
 use Rattle.raft_members.specs.declared.error.ChangeMembershipErrorOf.TheVariants.{InProgress, EmptyMembership, LearnerNotFound, OutOfMemory}
 
--- why these members are refused: a config is empty; else the first voter without a node. Want of
--- memory may come in place of either
+-- why these members are refused: a config is empty, or otherwise the first voter without a node; an
+-- allocation failure may come in place of either
 abbrev pub IsRefusal : {C K N : Type 0} → (K → K → Bool) → (K → K → Ordering) → Members K N
     → ChangeMembershipErrorOf C K → Type 0
 IsRefusal eq cmp w (InProgress _) = ⊥

@@ -11,7 +11,7 @@ use Rattle.raft_members.specs.declared.change_members.ChangeMembers.TheVariants.
 use Rattle.raft_members.specs.declared.error.ChangeMembershipErrorOf.{ChangeMembershipErrorOf}
 use Rattle.raft_members.specs.declared.error.ChangeMembershipErrorOf.TheVariants.{OutOfMemory}
 
--- the voters that a change puts in place of all others, if it does
+-- the voters that a change makes the only ones, if it does so
 abbrev pub goal_of : {K N : Type 0} → ChangeMembers K N → Option (List K)
 goal_of (ReplaceAllVoters ids) = Some ids.keys
 goal_of _ = None
@@ -30,20 +30,22 @@ pub record CanReplace {K N : Type 0} (eq : K → K → Bool) (m : Members K N) (
   pub has_id : 0 < length goal
   pub has_nodes : (id : K) → is_member eq goal id ≡ true → is_some (m.node id) ≡ true
 
--- where a change replaces the voters by a goal that can, nothing but memory refuses it
+-- if a change replaces the voters by a goal that can replace them, only an allocation failure
+-- refuses it
 abbrev pub OnlyMemory : {C K N : Type 0} → (K → K → Bool) → Members K N → ChangeMembers K N
     → ChangeMembershipErrorOf C K → Type 0
 OnlyMemory eq m change e = IfSome (goal_of change) (λ goal. CanReplace eq m goal → e ≡ OutOfMemory)
 
--- a change to the goal made next of m: the goal is its last config, with at most the last one of m
--- before it, and the same change made a second time makes the goal the only config
+-- the membership that a change to the goal makes of m: its last config is the goal, at most the
+-- last config of m comes before it, and the same change made a second time makes the goal the only
+-- config
 pub record LeadsToGoal {K N : Type 0} (eq : K → K → Bool) (cmp : K → K → Ordering) (m : Members K N)
     (change : ChangeMembers K N) (goal : List K) (next : MemberList K N) : Type 0 where
   pub configs : (next.configs ≡ goal ∷ []) ⊎ (next.configs ≡ last_config m.configs ∷ goal ∷ [])
   pub second_change : (retain : Bool)
       → (changed eq cmp (members_of cmp next) change retain).configs ≡ goal ∷ []
 
--- the voters that a change of voters leads to from these members
+-- the goal of a change of voters from these members
 abbrev pub goal_from : {K N : Type 0} → (K → K → Bool) → (K → K → Ordering) → Members K N
     → ChangeMembers K N → Option (List K)
 goal_from eq cmp m (AddVoterIds ids) = Some (union_of cmp (last_config m.configs) ids.keys)

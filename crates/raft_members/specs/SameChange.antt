@@ -1,4 +1,4 @@
--- When two changes are the same: of the same kind, of the same ids and of equal nodes.
+-- When two changes are the same: they are of the same kind, with the same ids and equal nodes.
 use Rattle.std.specs.Prelude.{◌≡◌, Bool, List, [], IsTrue}
 use Rattle.raft_members.specs.Members.{same_nodes}
 use Rattle.raft_members.specs.declared.change_members.ChangeMembers.{ChangeMembers}
@@ -13,7 +13,7 @@ use Rattle.raft_members.specs.declared.change_members.ChangeMembers.TheVariants.
   ReplaceAllNodes,
 }
 
--- what kind of change it is
+-- the kind of a change
 pub data Kind : Type 0 where
   adds_voter_ids : Kind
   adds_voters : Kind

@@ -1,12 +1,12 @@
--- What a stored membership says, and when two are equal. This file and
--- no other reads its private fields.
+-- The contents of a stored membership, and when two are equal. No other file reads its private
+-- fields.
 use Rattle.std.specs.Prelude.{◌&&◌, Bool, Option}
 use Rattle.raft_base.specs.LogId.{same_ids}
 use Rattle.raft_base.specs.declared.log_id.LogIdOf.{LogIdOf}
 use Rattle.raft_members.specs.Members.{MemberList, same_members}
 use Rattle.raft_members.specs.declared.membership.stored.StoredMembershipOf.{StoredMembershipOf}
 
--- the id of the log entry, where there is one
+-- the log id of the entry, if there is one
 abbrev pub log_id_of : {C K N : Type 0} → StoredMembershipOf C K N → Option (LogIdOf C)
 log_id_of stored = stored.log_id
 

@@ -23,14 +23,13 @@ pub record IsFirstUnknown {K : Type 0} (cmp : K → K → Ordering) (voter known
   pub is_least : (other : K) → voter other ≡ true → known other ≡ false
       → is_lt (cmp other id) ≡ false
 
--- the first voter that is not known where there is one, and nothing where all are known
+-- the first voter that is not known, and none if all are known
 abbrev pub FirstUnknown : {K : Type 0} → (K → K → Ordering) → (K → Bool) → (K → Bool) → Option K
     → Type 0
 FirstUnknown {K} cmp voter known None = (id : K) → voter id ≡ true → known id ≡ true
 FirstUnknown cmp voter known (Some id) = IsFirstUnknown cmp voter known id
 
--- the first voter of a membership that has no node where there is
--- one, and nothing where each has one
+-- the first voter of a membership that has no node, and none if each has one
 abbrev pub FirstWithoutNode : {K N : Type 0} → (K → K → Bool) → (K → K → Ordering) → Members K N
     → Option K → Type 0
 FirstWithoutNode eq cmp m first =

@@ -12,21 +12,21 @@ use std::collections::{BTreeMap, BTreeSet};
 /// A change of voters starts from the last config and leads to a goal, in one step or in two.
 #[derive(Debug, Clone, PartialEq, Eq, Drop)]
 pub enum ChangeMembers<NID: NodeId, N: Node> {
-    /// Makes learners voters. Each has to have a node.
+    /// Makes learners voters. Each of them must have a node.
     AddVoterIds(BTreeSet<NID>),
-    /// Makes nodes voters, and adds those whose ids have none.
+    /// Makes nodes voters, and adds the nodes whose ids have none.
     AddVoters(BTreeMap<NID, N>),
-    /// Takes voters away. Ids that are no voters are ignored.
+    /// Removes voters. Ids that are not voters are ignored.
     RemoveVoters(BTreeSet<NID>),
-    /// Makes these the voters in place of all others.
+    /// Makes these ids the voters, in place of all others.
     ReplaceAllVoters(BTreeSet<NID>),
-    /// Adds nodes as learners. A node that is there stays as it is.
+    /// Adds nodes as learners. If an id has a node, that node stays.
     AddNodes(BTreeMap<NID, N>),
-    /// Adds nodes, or puts them in place of those that are there.
+    /// Adds nodes, or replaces the nodes that these ids have.
     SetNodes(BTreeMap<NID, N>),
-    /// Takes nodes away. They must be no voters.
+    /// Removes nodes. They must not be voters.
     RemoveNodes(BTreeSet<NID>),
-    /// Makes these the nodes in place of all others.
+    /// Makes these the nodes, in place of all others.
     ReplaceAllNodes(BTreeMap<NID, N>),
 }
 
@@ -34,7 +34,8 @@ impl<NID: NodeId, N: Node> ChangeMembers<NID, N> {
     ghost use Rattle.raft_members.specs.ReplaceAll.{ReplacesAllBy};
     ghost use Rattle.raft_members.specs.SameChange.{IsSameChange};
 
-    /// The change that makes these ids the voters in place of all others. Repeated ids count once.
+    /// Returns the change that makes these ids the voters in place of all others, or an allocation
+    /// error. Repeated ids count once.
     pub fn replace_all(alloc: Global, voters: &[NID]) -> Result<Self, AllocError>
         ensures { IfOk result (λ change. ReplacesAllBy NID.eq voters.now change) }
     {
@@ -42,7 +43,7 @@ impl<NID: NodeId, N: Node> ChangeMembers<NID, N> {
         Ok(ChangeMembers::ReplaceAllVoters(ids))
     }
 
-    /// An equal change, with clones of the nodes.
+    /// Returns an equal change with clones of the nodes, or an allocation error.
     pub fn try_clone(&self, alloc: Global) -> Result<Self, AllocError>
         requires { ClonesAreEqual N.eq N.is_clone }
         ensures { IfOk result (IsSameChange NID.eq N.eq self.now) }

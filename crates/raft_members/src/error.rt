@@ -1,5 +1,5 @@
-//! Why a node refuses what it is asked for: a change of the membership, the start of a cluster, a
-//! log entry, what its leader alone serves.
+//! The errors of a node's operations: a refused change of the membership, a refused start of a
+//! cluster, a missing log entry, and a request that only the leader serves.
 ghost use Rattle.std.specs.Prelude.{◌≡◌, Some, None, IfOk, IsOk, IsTrue};
 ghost use Rattle.std.specs.Option.{option_eq};
 ghost use Rattle.std.specs.Set.{ClonesAreEqual};
@@ -23,7 +23,7 @@ pub enum ChangeMembershipErrorOf<C: Ord + Copy + Default + Debug, NID: NodeId> {
     /// A voter would have no node.
     #[error(transparent)]
     LearnerNotFound(LearnerNotFound<NID>),
-    /// A growth was refused.
+    /// An allocation failed.
     #[error("out of memory")]
     OutOfMemory,
 }
@@ -110,7 +110,7 @@ impl<C: Ord + Copy + Default + Debug, NID: NodeId> From<AllocError>
     }
 }
 
-/// The request belongs to the leader: the node that leads, as far as it is known.
+/// Only the leader serves the request. It names the leader, if the leader is known.
 #[derive(Debug, Clone, PartialEq, Eq, Drop, Error)]
 #[error("has to forward request to: {leader_id:?}, {leader_node:?}")]
 pub struct ForwardToLeader<NID: NodeId, N: Node> {
@@ -121,7 +121,7 @@ pub struct ForwardToLeader<NID: NodeId, N: Node> {
 }
 
 impl<NID: NodeId, N: Node> ForwardToLeader<NID, N> {
-    /// No leader is known.
+    /// Returns the error for an unknown leader.
     pub fn empty() -> Self
         ensures { result ≡ record { leader_id = None; leader_node = None } }
     {
@@ -131,7 +131,7 @@ impl<NID: NodeId, N: Node> ForwardToLeader<NID, N> {
         }
     }
 
-    /// This node leads.
+    /// Returns the error that names this leader.
     pub fn new(leader_id: NID, node: N) -> Self
         ensures { result ≡ record { leader_id = Some leader_id; leader_node = Some node } }
     {
@@ -141,7 +141,8 @@ impl<NID: NodeId, N: Node> ForwardToLeader<NID, N> {
         }
     }
 
-    /// An equal error, with a clone of the node. Without one no memory is taken.
+    /// Returns an equal error with a clone of the node, or an allocation error. It does not
+    /// allocate if there is no node.
     pub fn try_clone(&self) -> Result<Self, AllocError>
         requires { ClonesAreEqual N.eq N.is_clone }
         ensures leader_id { IfOk result (λ copy. copy.leader_id ≡ self.now.leader_id) }
@@ -160,16 +161,16 @@ impl<NID: NodeId, N: Node> ForwardToLeader<NID, N> {
 #[derive(Clone, PartialEq, Eq, Drop, Error)]
 #[error("store has no log at: {index:?}, last purged: {last_purged_log_id:?}")]
 pub struct LackEntryOf<C: Ord + Copy + Default + Debug> {
-    /// The index, if the log says which.
+    /// The index, if it is known.
     pub index: Option<u64>,
-    /// The log id of the last entry that is purged.
+    /// The last log id that is purged.
     pub last_purged_log_id: Option<LogIdOf<C>>,
 }
 
 /// A log has no entry at an index, with the default leader ids.
 pub type LackEntry<NID> = LackEntryOf<CommittedLeaderId<NID>>;
 
-// By hand, for the name that the type goes by.
+// Handwritten, because the text has the name `LackEntry` and not `LackEntryOf`.
 impl<C: Ord + Copy + Default + Debug> Debug for LackEntryOf<C> {
     fn fmt<W: fmt::Write>(&self, f: &mut fmt::Formatter<W>) -> fmt::Result {
         f.debug_struct("LackEntry")
@@ -179,17 +180,17 @@ impl<C: Ord + Copy + Default + Debug> Debug for LackEntryOf<C> {
     }
 }
 
-/// The nodes that answered are no quorum of the cluster.
+/// The nodes that responded are not a quorum of the cluster.
 #[derive(Debug, Clone, PartialEq, Eq, Drop, Error)]
 #[error("not enough for a quorum, cluster: {cluster}, got: {got:?}")]
 pub struct QuorumNotEnough<NID: NodeId> {
     /// The cluster's membership, as a text.
     pub cluster: String,
-    /// The nodes that answered.
+    /// The nodes that responded.
     pub got: BTreeSet<NID>,
 }
 
-/// A node starts a new cluster only while it has no log and has not voted.
+/// A node may not start a new cluster, because it has a log or has voted.
 #[derive(Clone, PartialEq, Eq, Drop, Error)]
 #[error("not allowed to initialize due to current raft state: last_log_id: {last_log_id:?} vote: {vote}")]
 pub struct NotAllowedIn<L: Eq + Copy + Debug + Display, C: Ord + Copy + Default + Debug> {
@@ -199,7 +200,7 @@ pub struct NotAllowedIn<L: Eq + Copy + Debug + Display, C: Ord + Copy + Default 
     pub vote: VoteIn<L>,
 }
 
-/// A node may not start a new cluster, over a kind of leader ids.
+/// A node may not start a new cluster, for a kind of leader ids.
 pub type NotAllowedOf<NID, K> = NotAllowedIn<
     <K as LeaderKind<NID>>::Leader,
     <K as LeaderKind<NID>>::Committed,
@@ -208,7 +209,7 @@ pub type NotAllowedOf<NID, K> = NotAllowedIn<
 /// A node may not start a new cluster, with the default leader ids.
 pub type NotAllowed<NID> = NotAllowedOf<NID, LeaderAdv>;
 
-// By hand, for the name that the type goes by.
+// Handwritten, because the text has the name `NotAllowed` and not `NotAllowedIn`.
 impl<L: Eq + Copy + Debug + Display, C: Ord + Copy + Default + Debug> Debug for NotAllowedIn<L, C> {
     fn fmt<W: fmt::Write>(&self, f: &mut fmt::Formatter<W>) -> fmt::Result {
         f.debug_struct("NotAllowed")

@@ -1,5 +1,5 @@
-//! Who decides in a Raft cluster: which sets of nodes are quorums, which nodes are members, and how
-//! both change.
+//! Quorums and memberships of a Raft cluster: which sets of nodes are quorums, which nodes are
+//! members, and how both change.
 #![tactic(auto)]
 
 pub mod change_members;

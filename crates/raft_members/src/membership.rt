@@ -45,12 +45,12 @@ pub use stored::{StoredMembership, StoredMembershipOf};
 
 /// The members of a cluster: its configs, each a set of voters, and the node at each id.
 ///
-/// Decisions need a majority of every config. There is one config, or while the voters change more
-/// than one: then the cluster is in joint consensus. A node that is in no config is a learner: it
-/// receives logs and has no say.
+/// Decisions need a majority of every config. There is one config, or several while the voters
+/// change: then the cluster is in joint consensus. A node that is in no config is a learner. It
+/// receives logs and does not vote.
 ///
 /// In contracts a membership is its two lists, the configs and the nodes in the order of their ids.
-/// Two memberships are equal if their configs and their nodes are.
+/// Two memberships are equal if their configs and their nodes are equal.
 #[derive(Debug, Clone, Drop)]
 pub struct Membership<NID: NodeId, N: Node> {
     configs: Vec<BTreeSet<NID>>,
@@ -68,7 +68,8 @@ impl<NID: NodeId, N: Node> Model for Membership<NID, N> {
 }
 
 impl<NID: NodeId, N: Node> Membership<NID, N> {
-    /// A membership of these configs and nodes, where a voter without a node has the default node.
+    /// Returns the membership of these configs and nodes, or an allocation error. A voter without a
+    /// node gets the default node.
     pub fn new<T: IntoNodes<NID, N>>(
         configs: Vec<BTreeSet<NID>>,
         nodes: T,
@@ -84,7 +85,7 @@ impl<NID: NodeId, N: Node> Membership<NID, N> {
         Ok(Membership { configs, nodes })
     }
 
-    /// A membership of these configs and nodes, as they stand.
+    /// Returns the membership of exactly these configs and nodes, or an allocation error.
     pub fn new_unchecked<T: IntoNodes<NID, N>>(
         configs: Vec<BTreeSet<NID>>,
         nodes: T,
@@ -98,7 +99,8 @@ impl<NID: NodeId, N: Node> Membership<NID, N> {
         Ok(Membership { configs, nodes })
     }
 
-    /// A membership of these nodes, all of them voters of its only config.
+    /// Returns the membership of these nodes, all of them voters of its only config, or an
+    /// allocation error.
     pub fn from_nodes(alloc: Global, nodes: BTreeMap<NID, N>) -> Result<Self, AllocError>
         ensures { IfOk result (λ m.
             m ≡ record { configs = keys nodes ∷ []; nodes = nodes.entries }) }
@@ -108,8 +110,8 @@ impl<NID: NodeId, N: Node> Membership<NID, N> {
         Ok(Membership { configs, nodes })
     }
 
-    /// The membership without configs and nodes, in place of a `Default`, which
-    /// has no allocator. No memory is taken.
+    /// Returns the membership without configs and nodes. It replaces `Default`, which has no
+    /// allocator. It never allocates, so the result is always `Ok`.
     pub fn try_default(alloc: Global) -> Result<Self, AllocError>
         ensures { IsOkAnd result (λ m. m ≡ record { configs = []; nodes = [] }) }
     {
@@ -119,7 +121,7 @@ impl<NID: NodeId, N: Node> Membership<NID, N> {
         })
     }
 
-    /// An equal membership, with clones of the nodes.
+    /// Returns an equal membership with clones of the nodes, or an allocation error.
     pub fn try_clone(&self) -> Result<Self, AllocError>
         requires { ClonesAreEqual N.eq N.is_clone }
         ensures equal { IfOk result (λ m. IsTrue (same_members NID.eq N.eq self.now m)) }
@@ -131,8 +133,8 @@ impl<NID: NodeId, N: Node> Membership<NID, N> {
         Ok(Membership { configs, nodes })
     }
 
-    /// The old nodes, and copies of those new ones whose ids have no old node. Where
-    /// there are none, no memory is taken.
+    /// Returns the old nodes, and copies of the new nodes whose ids have no old node, or an
+    /// allocation error. If there are no such nodes, it does not allocate.
     pub fn extend_nodes(
         old: BTreeMap<NID, N>,
         new: &BTreeMap<NID, N>,
@@ -145,7 +147,7 @@ impl<NID: NodeId, N: Node> Membership<NID, N> {
         nodes::added(old, new)
     }
 
-    /// The configs.
+    /// Returns the configs.
     pub fn get_joint_config(&self) -> &Vec<BTreeSet<NID>>
         ensures { map (λ c. c.keys) result.now.items ≡ self.now.configs }
     {
@@ -159,7 +161,7 @@ impl<NID: NodeId, N: Node> Membership<NID, N> {
         self.configs.len() > 1
     }
 
-    /// The nodes, in the order of their ids.
+    /// Returns the nodes, in the order of their ids.
     pub fn nodes(&self) -> Iter<'_, NID, N>
         ensures rest { result ≡ self.now.nodes }
         ensures ascending { IsStrictlySortedBy NID.cmp (keys_of result) }
@@ -167,7 +169,7 @@ impl<NID: NodeId, N: Node> Membership<NID, N> {
         self.nodes.iter()
     }
 
-    /// The node at an id.
+    /// Returns the node at an id.
     pub fn get_node(&self, id: &NID) -> Option<&N>
         ensures { option_copied result ≡ node_at NID.cmp self.now.nodes id.now }
     {
@@ -188,7 +190,7 @@ impl<NID: NodeId, N: Node> Membership<NID, N> {
         configs::has_id(&self.configs, id)
     }
 
-    /// The voters of all configs, each once, ascending.
+    /// Returns the voters of all configs, each once, ascending, or an allocation error.
     pub fn voter_ids(&self) -> Result<Vec<NID>, AllocError>
         ensures ascending { IfOk result (λ ids. IsStrictlySortedBy NID.cmp ids.items) }
         ensures voters { IfOk result (λ ids. (id : NID) →
@@ -198,7 +200,7 @@ impl<NID: NodeId, N: Node> Membership<NID, N> {
         configs::voters(alloc, &self.configs)
     }
 
-    /// The learners, each once, ascending: the nodes that are in no config.
+    /// Returns the learners, each once, ascending: the nodes that are in no config.
     pub fn learner_ids(&self) -> LearnerIds<'_, NID, N>
         ensures rest { learners_ahead NID.eq result ≡ learners_of NID.eq self.now }
         ensures ascending { IsStrictlySortedBy NID.cmp (learners_ahead NID.eq result) }
@@ -212,7 +214,8 @@ impl<NID: NodeId, N: Node> Membership<NID, N> {
         }
     }
 
-    /// The configs as one quorum set: a quorum has a majority of each.
+    /// Returns the configs as one quorum set, or an allocation error. A quorum has a majority of
+    /// each config.
     pub fn to_quorum_set(&self) -> Result<Joint<NID, Vec<NID>, Vec<Vec<NID>>>, AllocError>
         ensures configs { IfOk result (λ joint.
             map (λ c. c.items) joint.items ≡ self.now.configs) }
@@ -228,7 +231,7 @@ impl<NID: NodeId, N: Node> Membership<NID, N> {
         Ok(Joint::new(lists))
     }
 
-    /// Refuses a membership of which a config is empty. No memory is taken.
+    /// Returns an error if a config is empty. It never allocates.
     pub fn ensure_non_empty_config(&self) -> Result<(), EmptyMembership>
         ensures { is_err result ≡ has_empty_config self.now.configs }
     {
@@ -239,8 +242,7 @@ impl<NID: NodeId, N: Node> Membership<NID, N> {
         }
     }
 
-    /// Refuses a membership of which a voter has no node, and answers the least such voter. No
-    /// memory is taken.
+    /// Returns the least voter that has no node as an error, if there is one. It never allocates.
     pub fn ensure_voter_nodes(&self) -> Result<(), NID>
         ensures { FirstWithoutNode NID.eq NID.cmp (members_of NID.cmp self.now)
             (result_err result) }
@@ -251,8 +253,8 @@ impl<NID: NodeId, N: Node> Membership<NID, N> {
         }
     }
 
-    /// Refuses a membership of which a config is empty, else one of which a voter has no node. No
-    /// memory is taken.
+    /// Returns an error if a config is empty, or otherwise if a voter has no node. It never
+    /// allocates.
     pub fn ensure_valid(&self) -> Result<(), ChangeMembershipError<NID>>
         ensures valid { IfOk result (λ _. IsValid NID.eq (members_of NID.cmp self.now)) }
         ensures refused { IfErr result (IsRefusal NID.eq NID.cmp (members_of NID.cmp self.now)) }

@@ -1,4 +1,4 @@
--- What an effective membership keeps beside its stored one.
+-- What an effective membership stores beside its stored membership.
 use Rattle.std.specs.Prelude.{◌≡◌, Bool, List, length, Option, None}
 use Rattle.std.specs.BTreeSet.{BTreeSet}
 use Rattle.std.specs.Option.{ForSome}
@@ -6,7 +6,7 @@ use Rattle.std.specs.Set.{is_member}
 use Rattle.raft_members.specs.Majority.{is_voter_of}
 use Rattle.raft_members.specs.Members.{MemberList}
 
--- the lists are the configs of the membership, and the set has its voters; where there is no set,
+-- the lists are the configs of the membership, and the set has its voters; if there is no set,
 -- there is a single config
 pub record AgreesWith {K N : Type 0} (eq : K → K → Bool) (m : MemberList K N)
     (lists : List (List K)) (kept : Option (BTreeSet K)) : Type 0 where

@@ -21,12 +21,14 @@ use std::alloc::AllocError;
 use std::collections::{BTreeMap, BTreeSet};
 
 impl<NID: NodeId, N: Node> Membership<NID, N> {
-    /// The membership that stands next on the way to the voters `goal`.
+    /// Returns the next membership on the way to the voters `goal`, or an allocation error.
     ///
-    /// Its configs are the goal alone where it is a config already or there are none, else the last
-    /// config and the goal: so it shares a config with this one, where this one has any, and a
-    /// second step ends at the goal alone. Without `retain` a voter that is in no new config loses
-    /// its node too; with it, such a voter becomes a learner.
+    /// If the goal is already a config, or there are no configs, the goal is the only config of the
+    /// result. Otherwise the configs are the last config and the goal. So the result shares a
+    /// config with this membership if this one has any, and a second step ends at the goal alone.
+    ///
+    /// A voter of this membership that is in no new config becomes a learner with `retain`. Without
+    /// `retain` it loses its node too.
     pub fn next_coherent(&self, goal: BTreeSet<NID>, retain: bool) -> Result<Self, AllocError>
         requires { ClonesAreEqual N.eq N.is_clone }
         ensures { IfOk result (λ m. Says N.eq NID.cmp m
@@ -38,17 +40,17 @@ impl<NID: NodeId, N: Node> Membership<NID, N> {
         Ok(Membership { configs, nodes })
     }
 
-    /// Returns the membership that a change makes of this one, in which a voter that is in no config
-    /// any more stays as a learner with `retain`, and loses its node without it.
+    /// Returns the membership that a change makes of this one. A voter that is in no config any
+    /// more stays as a learner with `retain`, and loses its node without `retain`.
     ///
-    /// This membership stays as it is. While two configs count, the voters of both stay in either
-    /// case. Changes of nodes ignore `retain`.
+    /// This membership stays as it is. While there are two configs, the voters of both stay in
+    /// either case. Changes of nodes ignore `retain`.
     ///
     /// # Errors
     ///
-    /// `EmptyMembership` where the change leaves a config without voters; else
-    /// `LearnerNotFound` with the least voter that it leaves without a node;
-    /// `OutOfMemory` where a growth was refused.
+    /// - `EmptyMembership` if the change leaves a config without voters;
+    /// - otherwise `LearnerNotFound` with the least voter that the change leaves without a node;
+    /// - `OutOfMemory` if an allocation failed.
     pub fn change(
         &self,
         change: ChangeMembers<NID, N>,
@@ -73,7 +75,7 @@ impl<NID: NodeId, N: Node> Membership<NID, N> {
         next.if_valid()
     }
 
-    /// This very membership where it is valid, else why it isn't. No memory is taken.
+    /// Returns this membership if it is valid, and otherwise why it is not. It never allocates.
     fn if_valid(self) -> Result<Self, ChangeMembershipError<NID>>
         ensures same { IfOk result (λ m. m ≡ self) }
         ensures valid { IfOk result (λ _. IsValid NID.eq (members_of NID.cmp self)) }
@@ -84,7 +86,7 @@ impl<NID: NodeId, N: Node> Membership<NID, N> {
         Ok(self)
     }
 
-    /// What a change makes of this membership, before it is tested.
+    /// Returns what a change makes of this membership, before it is tested for validity.
     fn changed(&self, change: ChangeMembers<NID, N>, retain: bool) -> Result<Self, AllocError>
         requires { ClonesAreEqual N.eq N.is_clone }
         ensures { IfOk result (λ m. Says N.eq NID.cmp m
@@ -102,7 +104,7 @@ impl<NID: NodeId, N: Node> Membership<NID, N> {
         }
     }
 
-    /// What stands next on the way to the voters of the last config and these.
+    /// Returns the next membership on the way to these voters and the voters of the last config.
     fn with_voter_ids(&self, ids: BTreeSet<NID>, retain: bool) -> Result<Self, AllocError>
         requires { ClonesAreEqual N.eq N.is_clone }
         ensures { IfOk result (λ m. Says N.eq NID.cmp m
@@ -114,7 +116,8 @@ impl<NID: NodeId, N: Node> Membership<NID, N> {
         self.next_coherent(goal, retain)
     }
 
-    /// The same, with those of the new voters' nodes whose ids have none.
+    /// Returns the next membership on the way to these voters and the voters of the last config,
+    /// with the nodes of the new voters whose ids have none.
     fn with_voters(&self, voters: BTreeMap<NID, N>, retain: bool) -> Result<Self, AllocError>
         requires { ClonesAreEqual N.eq N.is_clone }
         ensures { IfOk result (λ m. Says N.eq NID.cmp m
@@ -126,7 +129,7 @@ impl<NID: NodeId, N: Node> Membership<NID, N> {
         next.with_more(voters)
     }
 
-    /// What stands next on the way to the voters of the last config without these.
+    /// Returns the next membership on the way to the voters of the last config without these.
     fn without_voters(&self, ids: &BTreeSet<NID>, retain: bool) -> Result<Self, AllocError>
         requires { ClonesAreEqual N.eq N.is_clone }
         ensures { IfOk result (λ m. Says N.eq NID.cmp m
@@ -138,7 +141,7 @@ impl<NID: NodeId, N: Node> Membership<NID, N> {
         self.next_coherent(goal, retain)
     }
 
-    /// The same configs, and also those of these nodes whose ids have none. No node is cloned.
+    /// Returns this membership, with those of these nodes whose ids have none. No node is cloned.
     fn with_more(self, more: BTreeMap<NID, N>) -> Result<Self, AllocError>
         ensures configs { IfOk result (λ m. m.configs ≡ self.configs) }
         ensures nodes { IfOk result (λ m. (id : NID) →
@@ -150,7 +153,7 @@ impl<NID: NodeId, N: Node> Membership<NID, N> {
         Ok(Membership { configs, nodes })
     }
 
-    /// The same configs, and also those of these nodes whose ids have none.
+    /// Returns this membership, with copies of those of these nodes whose ids have none.
     fn with_added(&self, more: BTreeMap<NID, N>) -> Result<Self, AllocError>
         requires { ClonesAreEqual N.eq N.is_clone }
         ensures { IfOk result (λ m. Says N.eq NID.cmp m (with_nodes (members_of NID.cmp self.now)
@@ -160,7 +163,8 @@ impl<NID: NodeId, N: Node> Membership<NID, N> {
         self.with_only(nodes::merged(copies, more)?)
     }
 
-    /// The same configs, and the nodes of `more` added or put in place.
+    /// Returns this membership, with the nodes of `more` added or in place of the nodes at their
+    /// ids.
     fn with_set(&self, more: BTreeMap<NID, N>) -> Result<Self, AllocError>
         requires { ClonesAreEqual N.eq N.is_clone }
         ensures { IfOk result (λ m. Says N.eq NID.cmp m (with_nodes (members_of NID.cmp self.now)
@@ -169,7 +173,7 @@ impl<NID: NodeId, N: Node> Membership<NID, N> {
         self.with_only(nodes::added(more, &self.nodes)?)
     }
 
-    /// The same configs, without the nodes at the ids.
+    /// Returns this membership without the nodes at these ids.
     fn without_nodes(&self, ids: &BTreeSet<NID>) -> Result<Self, AllocError>
         requires { ClonesAreEqual N.eq N.is_clone }
         ensures { IfOk result (λ m. Says N.eq NID.cmp m (with_nodes (members_of NID.cmp self.now)
@@ -180,7 +184,7 @@ impl<NID: NodeId, N: Node> Membership<NID, N> {
         self.with_only(nodes)
     }
 
-    /// The same configs with these nodes.
+    /// Returns the membership with these nodes and the configs of this one.
     fn with_only(&self, nodes: BTreeMap<NID, N>) -> Result<Self, AllocError>
         ensures { IfOk result (λ m. Says N.eq NID.cmp m
             (with_nodes (members_of NID.cmp self.now) (get NID.cmp nodes))) }

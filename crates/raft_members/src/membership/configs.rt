@@ -23,7 +23,8 @@ pub fn has_id<ID: Copy + Ord>(configs: &[BTreeSet<ID>], id: &ID) -> bool
     any_contains(configs, id)
 }
 
-/// The same, of ids that are compared by their order.
+/// Whether a config contains the id. Ids are compared by their order here, and by their `==` in
+/// `has_id`.
 fn any_contains<ID: Copy + Ord>(configs: &[BTreeSet<ID>], id: &ID) -> bool
     ensures { result ≡ list_any (λ c. contains ID.cmp c id.now) configs.now }
 {
@@ -44,14 +45,15 @@ pub fn has_empty<ID: Copy + Ord>(configs: &[BTreeSet<ID>]) -> bool
     any_empty(configs)
 }
 
-/// The same, of configs as sets.
+/// Whether a config is empty. The contract speaks of the configs as sets here, and as lists of ids
+/// in `has_empty`.
 fn any_empty<ID: Copy + Ord>(configs: &[BTreeSet<ID>]) -> bool
     ensures { result ≡ list_any (λ c. is_empty_config c.keys) configs.now }
 {
     configs.iter().any(|config| config.is_empty())
 }
 
-/// The ids of the last config, where there is one, and the given ones.
+/// Returns the given ids and the ids of the last config, if there is one.
 pub fn last_with<ID: Copy + Ord>(
     alloc: Global,
     configs: &[BTreeSet<ID>],
@@ -66,7 +68,7 @@ pub fn last_with<ID: Copy + Ord>(
     }
 }
 
-/// The ids of the last config, where there is one, without the given ones.
+/// Returns the ids of the last config, if there is one, without the given ones.
 pub fn last_without<ID: Copy + Ord>(
     alloc: Global,
     configs: &[BTreeSet<ID>],
@@ -81,7 +83,7 @@ pub fn last_without<ID: Copy + Ord>(
     }
 }
 
-/// The configs that stand next on the way to `goal`.
+/// Returns the next configs on the way to `goal`.
 pub fn next<ID: Copy + Ord>(
     alloc: Global,
     configs: &[BTreeSet<ID>],
@@ -99,7 +101,7 @@ pub fn next<ID: Copy + Ord>(
     }
 }
 
-/// The ids of either set.
+/// Returns the ids that are in either set.
 fn union<ID: Copy + Ord>(
     alloc: Global,
     these: &BTreeSet<ID>,
@@ -114,7 +116,7 @@ fn union<ID: Copy + Ord>(
     Ok(set)
 }
 
-/// The ids of the first set that the second lacks.
+/// Returns the ids of the first set that are not in the second.
 fn difference<ID: Copy + Ord>(
     alloc: Global,
     these: &BTreeSet<ID>,
@@ -129,7 +131,7 @@ fn difference<ID: Copy + Ord>(
     Ok(set)
 }
 
-/// The same configs.
+/// Returns copies of the configs.
 pub fn copy<ID: Copy + Ord>(
     alloc: Global,
     configs: &[BTreeSet<ID>],
@@ -143,7 +145,7 @@ pub fn copy<ID: Copy + Ord>(
     Ok(copies)
 }
 
-/// The voters of all configs, each once, ascending.
+/// Returns the voters of all configs, each once, ascending.
 pub fn voters<ID: Copy + Ord>(
     alloc: Global,
     configs: &[BTreeSet<ID>],
@@ -155,7 +157,7 @@ pub fn voters<ID: Copy + Ord>(
     ids_of_each(alloc, configs)
 }
 
-/// The configs, each as the list of its ids in order.
+/// Returns the configs, each as the list of its ids in order.
 pub fn lists_of<ID: Copy + Ord>(
     alloc: Global,
     configs: &[BTreeSet<ID>],

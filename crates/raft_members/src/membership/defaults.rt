@@ -11,7 +11,7 @@ use raft_base::NodeDefault;
 use std::alloc::{AllocError, Global};
 use std::collections::{BTreeMap, BTreeSet};
 
-/// The nodes, and the default one at each voter that has none.
+/// Returns the nodes, with the default one at each voter that has none.
 pub fn with_voters<NID: Copy + Ord, N: NodeDefault + Drop>(
     nodes: BTreeMap<NID, N>,
     alloc: Global,
@@ -25,7 +25,7 @@ pub fn with_voters<NID: Copy + Ord, N: NodeDefault + Drop>(
     Ok(full)
 }
 
-/// The nodes, and the default one at each of the ids that has none.
+/// Returns the nodes, with the default one at each of the ids that has none.
 pub fn with_defaults<NID: Copy + Ord, N: NodeDefault + Drop>(
     nodes: BTreeMap<NID, N>,
     alloc: Global,
@@ -44,7 +44,7 @@ pub fn with_defaults<NID: Copy + Ord, N: NodeDefault + Drop>(
     Ok(full)
 }
 
-/// Puts the default node at the id.
+/// Inserts the default node at the id.
 fn put_default<NID: Copy + Ord, N: NodeDefault + Drop>(
     nodes: &mut BTreeMap<NID, N>,
     alloc: Global,

@@ -25,16 +25,17 @@ use std::fmt;
 use std::marker::Model;
 use std::rc::Rc;
 
-/// The effective membership: the last one that a node has seen, committed or not.
+/// The effective membership: the last one in a node's log, committed or not.
 ///
-/// Beside the stored membership stand its configs as a quorum set and, if there are several, their
-/// voters as one set, so that a test of a quorum takes no memory. In contracts it is its stored
-/// membership. Two are equal if their stored memberships are, since the rest follows from it.
+/// It stores its configs as a quorum set beside the stored membership and, if there are several
+/// configs, all voters as one set, so that a test of a quorum does not allocate. In contracts it is
+/// its stored membership. Two are equal if their stored memberships are equal, because the other
+/// fields follow from them.
 #[derive(Drop)]
 pub struct EffectiveMembershipOf<C, NID: NodeId, N: Node> {
     stored_membership: Rc<StoredMembershipOf<C, NID, N>>,
     quorum_set: Joint<NID, Vec<NID>, Vec<Vec<NID>>>,
-    // No set is kept beside a single config, which is the set of all voters itself.
+    // `None` for a single config, which is itself the set of all voters.
     voter_ids: Option<BTreeSet<NID>>,
 }
 
@@ -57,7 +58,7 @@ impl<C, NID: NodeId, N: Node> Model for EffectiveMembershipOf<C, NID, N> {
 }
 
 impl<C: Copy + Drop, NID: NodeId, N: Node> EffectiveMembershipOf<C, NID, N> {
-    /// A membership under a log id.
+    /// Returns the effective membership with a log id, or an allocation error.
     pub fn new(
         log_id: Option<LogIdOf<C>>,
         membership: Membership<NID, N>,
@@ -70,7 +71,7 @@ impl<C: Copy + Drop, NID: NodeId, N: Node> EffectiveMembershipOf<C, NID, N> {
         EffectiveMembershipOf::of_stored(stored)
     }
 
-    /// A stored membership that may be shared.
+    /// Returns the effective membership of a stored membership that may be shared.
     fn of_stored(stored: Rc<StoredMembershipOf<C, NID, N>>) -> Result<Self, AllocError>
         ensures { IfOk result (λ e. e ≡ stored.value) }
     {
@@ -85,7 +86,7 @@ impl<C: Copy + Drop, NID: NodeId, N: Node> EffectiveMembershipOf<C, NID, N> {
         })
     }
 
-    /// The same, to be shared.
+    /// Returns the effective membership with a log id, to be shared, or an allocation error.
     pub fn new_arc(
         log_id: Option<LogIdOf<C>>,
         membership: Membership<NID, N>,
@@ -98,7 +99,8 @@ impl<C: Copy + Drop, NID: NodeId, N: Node> EffectiveMembershipOf<C, NID, N> {
         Ok(Rc::new(alloc, effective)?)
     }
 
-    /// A membership under the log id of a value, as of the log entry that holds it.
+    /// Returns the effective membership with the log id of a value, such as the log entry that
+    /// contains it, or an allocation error.
     pub fn from_log<LID: RaftLogId<C>>(
         log: &LID,
         membership: Membership<NID, N>,
@@ -110,7 +112,7 @@ impl<C: Copy + Drop, NID: NodeId, N: Node> EffectiveMembershipOf<C, NID, N> {
         EffectiveMembershipOf::new(Some(log_id), membership)
     }
 
-    /// A stored membership.
+    /// Returns the effective membership of a stored membership, or an allocation error.
     pub fn new_from_stored_membership(
         stored: StoredMembershipOf<C, NID, N>,
     ) -> Result<Self, AllocError>
@@ -121,8 +123,8 @@ impl<C: Copy + Drop, NID: NodeId, N: Node> EffectiveMembershipOf<C, NID, N> {
         EffectiveMembershipOf::of_stored(stored)
     }
 
-    /// The membership without configs and nodes under no log id, in place of a `Default`, which has
-    /// no allocator.
+    /// Returns the effective membership without configs, nodes and log id, or an allocation error.
+    /// It replaces `Default`, which has no allocator.
     pub fn try_default(alloc: Global) -> Result<Self, AllocError>
         ensures log_id { IfOk result (λ e. log_id_of e ≡ None) }
         ensures membership { IfOk result (λ e.
@@ -132,7 +134,8 @@ impl<C: Copy + Drop, NID: NodeId, N: Node> EffectiveMembershipOf<C, NID, N> {
         EffectiveMembershipOf::new_from_stored_membership(stored)
     }
 
-    /// The same membership, with the stored one shared. Its nodes aren't cloned.
+    /// Returns an equal effective membership that shares the stored one, or an allocation error.
+    /// The nodes are not cloned.
     pub fn try_clone(&self) -> Result<Self, AllocError>
         ensures { IfOk result (λ e. e ≡ self.now) }
     {
@@ -140,21 +143,21 @@ impl<C: Copy + Drop, NID: NodeId, N: Node> EffectiveMembershipOf<C, NID, N> {
         EffectiveMembershipOf::of_stored(stored)
     }
 
-    /// The stored membership.
+    /// Returns the stored membership.
     pub fn stored_membership(&self) -> &Rc<StoredMembershipOf<C, NID, N>>
         ensures { result.now.value ≡ self.now }
     {
         &self.stored_membership
     }
 
-    /// The id of the log entry that stored the membership.
+    /// Returns the log id of the entry that stored the membership.
     pub fn log_id(&self) -> &Option<LogIdOf<C>>
         ensures { result.now ≡ log_id_of self.now }
     {
         self.stored_membership.log_id()
     }
 
-    /// The membership.
+    /// Returns the membership.
     pub fn membership(&self) -> &Membership<NID, N>
         ensures { result.now ≡ membership_of self.now }
     {
@@ -168,7 +171,7 @@ impl<C: Copy + Drop, NID: NodeId, N: Node> EffectiveMembershipOf<C, NID, N> {
         self.membership().is_voter(id)
     }
 
-    /// The voters of all configs, each once, ascending.
+    /// Returns the voters of all configs, each once, ascending.
     pub fn voter_ids(&self) -> btree_set::Iter<'_, NID>
         ensures ascending { IsStrictlySortedBy NID.cmp result }
         ensures voters { (id : NID) →
@@ -177,7 +180,7 @@ impl<C: Copy + Drop, NID: NodeId, N: Node> EffectiveMembershipOf<C, NID, N> {
         self.voter_set().iter()
     }
 
-    /// The learners, each once, ascending: the nodes that are in no config.
+    /// Returns the learners, each once, ascending: the nodes that are in no config.
     pub fn learner_ids(&self) -> LearnerIds<'_, NID, N>
         ensures rest { learners_ahead NID.eq result ≡ learners_of NID.eq (membership_of self.now) }
         ensures ascending { IsStrictlySortedBy NID.cmp (learners_ahead NID.eq result) }
@@ -187,14 +190,14 @@ impl<C: Copy + Drop, NID: NodeId, N: Node> EffectiveMembershipOf<C, NID, N> {
         self.membership().learner_ids()
     }
 
-    /// The node at an id.
+    /// Returns the node at an id.
     pub fn get_node(&self, id: &NID) -> Option<&N>
         ensures { option_copied result ≡ node_at NID.cmp (membership_of self.now).nodes id.now }
     {
         self.membership().get_node(id)
     }
 
-    /// The nodes, in the order of their ids.
+    /// Returns the nodes, in the order of their ids.
     pub fn nodes(&self) -> btree_map::Iter<'_, NID, N>
         ensures rest { result ≡ (membership_of self.now).nodes }
         ensures ascending { IsStrictlySortedBy NID.cmp (keys_of result) }
@@ -202,7 +205,7 @@ impl<C: Copy + Drop, NID: NodeId, N: Node> EffectiveMembershipOf<C, NID, N> {
         self.membership().nodes()
     }
 
-    /// The configs, each as the list of its ids in order.
+    /// Returns the configs, each as the list of its ids in order.
     pub fn get_joint_config(&self) -> &Vec<Vec<NID>>
         ensures { map (λ c. c.items) result.now.items ≡ (membership_of self.now).configs }
     {
@@ -217,7 +220,8 @@ impl<C: Copy + Drop, NID: NodeId, N: Node> EffectiveMembershipOf<C, NID, N> {
         self.quorum_set.is_quorum(ids)
     }
 
-    /// How many ids a quorum of each config has at least.
+    /// Returns a number of ids that each quorum has at least: the greatest of the majorities'
+    /// sizes.
     fn least_size_of_quorums(&self) -> usize
         ensures exact { result ≡ greatest majority_size (membership_of self.now).configs }
         ensures least { QuorumsHaveAtLeast NID.eq
@@ -227,7 +231,8 @@ impl<C: Copy + Drop, NID: NodeId, N: Node> EffectiveMembershipOf<C, NID, N> {
     }
 }
 
-/// The set of the voters of all configs. A single config is this set itself: then none is made.
+/// Returns the set of the voters of all configs, or `None` for a single config, which is this set
+/// itself.
 fn voters_beside_configs<NID: NodeId, N: Node>(
     alloc: Global,
     membership: &Membership<NID, N>,
@@ -244,7 +249,7 @@ fn voters_beside_configs<NID: NodeId, N: Node>(
 }
 
 impl<C, NID: NodeId, N: Node> EffectiveMembershipOf<C, NID, N> {
-    /// The set of the voters of all configs.
+    /// Returns the set of the voters of all configs.
     fn voter_set(&self) -> &BTreeSet<NID>
         ensures { (id : NID) → is_member NID.eq result.now.keys id
             ≡ is_voter_of NID.eq (membership_of self.now).configs id }

@@ -1,4 +1,4 @@
-//! Sets of ids, copied id by id: the order of a set carries over, and only `Copy` is asked of ids.
+//! Sets of ids, copied id by id. A copy has the order of its set, so ids need only be `Copy`.
 ghost use Rattle.std.specs.Prelude.{◌≡◌, IfOk};
 ghost use Rattle.std.specs.BTreeMap.{keys};
 ghost use Rattle.std.specs.List.Sorted.{IsStrictlySortedBy};
@@ -7,8 +7,8 @@ ghost use Rattle.std.specs.Set.{is_member};
 use std::alloc::{AllocError, Global};
 use std::collections::{BTreeMap, BTreeSet};
 
-/// A set with the same ids.
-// The last one is put in first: so each finds its place, before all others, by one comparison.
+/// Returns a set with these ids.
+// The last id is inserted first, so each id finds its position before all others by one comparison.
 pub fn copy<ID: Copy + Ord>(alloc: Global, ids: &BTreeSet<ID>) -> Result<BTreeSet<ID>, AllocError>
     ensures { IfOk result (λ set. set.keys ≡ ids.now.keys) }
 {
@@ -19,7 +19,7 @@ pub fn copy<ID: Copy + Ord>(alloc: Global, ids: &BTreeSet<ID>) -> Result<BTreeSe
     Ok(set)
 }
 
-/// The ids that have nodes.
+/// Returns the set of the ids that have nodes.
 pub fn key_set<ID: Copy + Ord, N>(
     alloc: Global,
     nodes: &BTreeMap<ID, N>,
@@ -33,7 +33,7 @@ pub fn key_set<ID: Copy + Ord, N>(
     Ok(set)
 }
 
-/// The set of these ids.
+/// Returns the set of these ids.
 pub fn set_of<ID: Copy + Ord>(alloc: Global, ids: &[ID]) -> Result<BTreeSet<ID>, AllocError>
     ensures ascending { IfOk result (λ set. IsStrictlySortedBy ID.cmp set.keys) }
     ensures members { IfOk result (λ set. (id : ID) →
@@ -42,7 +42,7 @@ pub fn set_of<ID: Copy + Ord>(alloc: Global, ids: &[ID]) -> Result<BTreeSet<ID>,
     ids.iter().copied().collect(alloc)
 }
 
-/// The ids of a set, in order.
+/// Returns the ids of a set, in order.
 pub fn list_of<ID: Copy + Ord>(alloc: Global, ids: &BTreeSet<ID>) -> Result<Vec<ID>, AllocError>
     ensures { IfOk result (λ list. list.items ≡ ids.now.keys) }
 {

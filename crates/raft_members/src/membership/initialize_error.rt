@@ -1,4 +1,4 @@
-//! Why a node does not start a new cluster.
+//! Why a node may not start a new cluster.
 ghost use Rattle.std.specs.Prelude.{◌≡◌, IfOk, IsOk, IsTrue};
 ghost use Rattle.std.specs.Set.{ClonesAreEqual};
 ghost use Rattle.raft_members.specs.Members.{same_members};
@@ -11,7 +11,7 @@ use std::alloc::AllocError;
 use std::fmt::{Debug, Display};
 use thiserror::Error;
 
-/// Why a node does not start a new cluster.
+/// Why a node may not start a new cluster.
 #[derive(Debug, Clone, PartialEq, Eq, Drop, Error)]
 pub enum InitializeErrorIn<
     L: Eq + Copy + Debug + Display,
@@ -27,7 +27,7 @@ pub enum InitializeErrorIn<
     NotInMembers(NotInMembers<NID, N>),
 }
 
-/// Why a node does not start a new cluster, over a kind of leader ids.
+/// Why a node may not start a new cluster, for a kind of leader ids.
 pub type InitializeErrorOf<NID, N, K> = InitializeErrorIn<
     <K as LeaderKind<NID>>::Leader,
     <K as LeaderKind<NID>>::Committed,
@@ -35,10 +35,10 @@ pub type InitializeErrorOf<NID, N, K> = InitializeErrorIn<
     N,
 >;
 
-/// Why a node does not start a new cluster, with the default leader ids.
+/// Why a node may not start a new cluster, with the default leader ids.
 pub type InitializeError<NID, N> = InitializeErrorOf<NID, N, LeaderAdv>;
 
-/// A node starts a new cluster only as one of its members.
+/// A node may not start a new cluster of which it is not a member.
 #[derive(Debug, Clone, PartialEq, Eq, Drop, Error)]
 #[error("node {node_id} has to be a member. membership:{membership:?}")]
 pub struct NotInMembers<NID: NodeId, N: Node> {
@@ -49,7 +49,7 @@ pub struct NotInMembers<NID: NodeId, N: Node> {
 }
 
 impl<NID: NodeId, N: Node> NotInMembers<NID, N> {
-    /// An equal error, with clones of the nodes.
+    /// Returns an equal error with clones of the nodes, or an allocation error.
     pub fn try_clone(&self) -> Result<Self, AllocError>
         requires { ClonesAreEqual N.eq N.is_clone }
         ensures node_id { IfOk result (λ copy. copy.node_id ≡ self.now.node_id) }
@@ -69,7 +69,8 @@ impl<
     NID: NodeId,
     N: Node,
 > InitializeErrorIn<L, C, NID, N> {
-    /// An equal error, with clones of the nodes. Where it has no membership, no memory is taken.
+    /// Returns an equal error with clones of the nodes, or an allocation error. If the error has no
+    /// membership, it does not allocate.
     pub fn try_clone(&self) -> Result<Self, AllocError>
         requires { ClonesAreEqual N.eq N.is_clone }
         ensures equal { IfOk result (IsCopyOf NID.eq N.eq self.now) }

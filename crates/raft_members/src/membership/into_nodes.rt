@@ -1,4 +1,4 @@
-//! What gives the nodes of a membership.
+//! Sources of the nodes of a membership.
 ghost use Rattle.std.specs.Prelude.{◌≡◌, List, [], IfOk, IsOk, IsNone, MatchOption};
 ghost use Rattle.std.specs.Set.{is_member};
 ghost use Rattle.raft_members.specs.Defaults.{HasDefaults};
@@ -15,10 +15,10 @@ pub trait IntoNodes<NID: NodeId, N: Node>: Sized {
     /// Whether these are the nodes, as entries in the order of their ids.
     ghost gives: { Self → List (NID × N) → Type 0 };
 
-    /// Where no memory is taken, so that nothing can be refused.
+    /// If this holds, `into_nodes` does not allocate and succeeds.
     ghost takes_no_memory: { Self → Type 0 };
 
-    /// The nodes.
+    /// Returns the nodes, or an allocation error.
     fn into_nodes(self, alloc: Global) -> Result<BTreeMap<NID, N>, AllocError>
         ensures nodes { IfOk result (λ nodes. gives self nodes.entries) }
         ensures made { takes_no_memory self → IsOk result };
@@ -48,7 +48,7 @@ impl<NID: NodeId, N: Node> IntoNodes<NID, N> for BTreeSet<NID> {
     }
 }
 
-/// A default node at each id, where there is a set.
+/// A default node at each id, if there is a set.
 impl<NID: NodeId, N: Node> IntoNodes<NID, N> for Option<BTreeSet<NID>> {
     ghost gives = { λ given nodes. MatchOption given (nodes ≡ [])
         (λ ids. HasDefaults N.is_default_node NID.cmp [] (is_member NID.eq ids.keys) nodes) };

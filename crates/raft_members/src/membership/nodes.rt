@@ -16,7 +16,8 @@ use super::configs::has_id;
 use std::alloc::{AllocError, Global};
 use std::collections::{BTreeMap, BTreeSet};
 
-/// The nodes, without those of voters that are lost, unless they are retained.
+/// Returns the nodes, without the nodes of voters that are in no new config, unless `retain` is
+/// set.
 pub fn kept<NID: Copy + Ord, N: Eq + Clone + Drop>(
     alloc: Global,
     nodes: &BTreeMap<NID, N>,
@@ -57,7 +58,7 @@ fn is_kept<NID: Copy + Ord>(
     retain || !was || is
 }
 
-/// Puts a copy of the node at the id.
+/// Inserts a copy of the node at the id.
 fn put_copy<NID: Copy + Ord, N: Eq + Clone + Drop>(
     kept: &mut BTreeMap<NID, N>,
     id: NID,
@@ -71,7 +72,7 @@ fn put_copy<NID: Copy + Ord, N: Eq + Clone + Drop>(
     Ok(())
 }
 
-/// Copies of the nodes.
+/// Returns copies of the nodes.
 // A clone of the map takes fewer instructions than an insertion of each node. It is compared with
 // the nodes, because a clone of an id need not equal the id.
 pub fn copy<NID: Copy + Ord, N: Eq + Clone + Drop>(
@@ -90,8 +91,8 @@ pub fn copy<NID: Copy + Ord, N: Eq + Clone + Drop>(
     copy_each(alloc, nodes)
 }
 
-/// Copies of the nodes, each put in by itself.
-// As in `ids::copy` the last one is put in first.
+/// Returns copies of the nodes, inserted one by one.
+// The last one is inserted first, as in `ids::copy`.
 fn copy_each<NID: Copy + Ord, N: Eq + Clone + Drop>(
     alloc: Global,
     nodes: &BTreeMap<NID, N>,
@@ -108,7 +109,7 @@ fn copy_each<NID: Copy + Ord, N: Eq + Clone + Drop>(
     Ok(copies)
 }
 
-/// The nodes, and copies of those of `more` whose ids are absent.
+/// Returns the nodes, with copies of the nodes of `more` whose ids have none.
 pub fn added<NID: Copy + Ord, N: Eq + Clone + Drop>(
     nodes: BTreeMap<NID, N>,
     more: &BTreeMap<NID, N>,
@@ -127,7 +128,8 @@ pub fn added<NID: Copy + Ord, N: Eq + Clone + Drop>(
     Ok(added)
 }
 
-/// The nodes of the first map, and those of the second whose ids have none there. None is cloned.
+/// Returns the nodes of the first map, with the nodes of the second map whose ids have none in the
+/// first. No node is cloned.
 pub fn merged<NID: Copy + Ord, N: Drop>(
     mut first: BTreeMap<NID, N>,
     mut second: BTreeMap<NID, N>,
@@ -140,7 +142,7 @@ pub fn merged<NID: Copy + Ord, N: Drop>(
     Ok(second)
 }
 
-/// Takes the nodes at the ids away.
+/// Removes the nodes at the ids.
 pub fn remove_all<NID: Copy + Ord, N: Drop>(nodes: &mut BTreeMap<NID, N>, ids: &BTreeSet<NID>)
     ensures { (q : NID) →
         get NID.cmp nodes.new q ≡ cond (contains NID.cmp ids.now q) None (get NID.cmp nodes.old q) }
@@ -150,7 +152,7 @@ pub fn remove_all<NID: Copy + Ord, N: Drop>(nodes: &mut BTreeMap<NID, N>, ids: &
     }
 }
 
-/// The lesser of two ids, where there are two.
+/// Returns the lesser of two ids, or the one that there is.
 fn lesser<ID: Copy + Ord>(a: Option<ID>, b: Option<ID>) -> Option<ID>
     ensures { result ≡ lesser ID.cmp a b }
 {
@@ -161,7 +163,7 @@ fn lesser<ID: Copy + Ord>(a: Option<ID>, b: Option<ID>) -> Option<ID>
     }
 }
 
-/// The first id of a config that has no node.
+/// Returns the first id of a config that has no node.
 fn first_missing<NID: Copy + Ord, N: Drop>(
     config: &BTreeSet<NID>,
     nodes: &BTreeMap<NID, N>,
@@ -173,7 +175,7 @@ fn first_missing<NID: Copy + Ord, N: Drop>(
     config.iter().copied().find(|id| !nodes.contains_key(id))
 }
 
-/// The least voter that has no node.
+/// Returns the least voter that has no node.
 pub fn least_missing<NID: Copy + Ord, N: Drop>(
     configs: &[BTreeSet<NID>],
     nodes: &BTreeMap<NID, N>,

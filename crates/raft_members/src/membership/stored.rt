@@ -13,8 +13,8 @@ use std::alloc::{AllocError, Global};
 use std::collections::btree_map::Iter;
 use std::fmt;
 
-/// A membership, and the id of the log entry that stored it. The first membership of a node that
-/// has no log yet has none.
+/// A membership, and the log id of the entry that stored it. The first membership of a node that
+/// has no log yet has no log id.
 #[derive(Clone, PartialEq, Eq, Drop)]
 pub struct StoredMembershipOf<C, NID: NodeId, N: Node> {
     pub(super) log_id: Option<LogIdOf<C>>,
@@ -25,7 +25,7 @@ pub struct StoredMembershipOf<C, NID: NodeId, N: Node> {
 pub type StoredMembership<NID, N> = StoredMembershipOf<CommittedLeaderId<NID>, NID, N>;
 
 impl<C: Copy, NID: NodeId, N: Node> StoredMembershipOf<C, NID, N> {
-    /// A membership under a log id.
+    /// Returns the stored membership with a log id.
     pub fn new(log_id: Option<LogIdOf<C>>, membership: Membership<NID, N>) -> Self
         ensures log_id { log_id_of result ≡ log_id }
         ensures membership { membership_of result ≡ membership }
@@ -33,8 +33,8 @@ impl<C: Copy, NID: NodeId, N: Node> StoredMembershipOf<C, NID, N> {
         StoredMembershipOf { log_id, membership }
     }
 
-    /// The membership without configs and nodes under no log id, in place of a `Default`, which has
-    /// no allocator. No memory is taken.
+    /// Returns the stored membership without configs, nodes and log id. It replaces `Default`,
+    /// which has no allocator. It never allocates, so the result is always `Ok`.
     pub fn try_default(alloc: Global) -> Result<Self, AllocError>
         ensures log_id { IsOkAnd result (λ stored. log_id_of stored ≡ None) }
         ensures membership { IsOkAnd result (λ stored.
@@ -44,7 +44,7 @@ impl<C: Copy, NID: NodeId, N: Node> StoredMembershipOf<C, NID, N> {
         Ok(StoredMembershipOf::new(None, membership))
     }
 
-    /// An equal stored membership, with clones of the nodes.
+    /// Returns an equal stored membership with clones of the nodes, or an allocation error.
     pub fn try_clone(&self) -> Result<Self, AllocError>
         requires { ClonesAreEqual N.eq N.is_clone }
         ensures log_id { IfOk result (λ stored. log_id_of stored ≡ log_id_of self.now) }
@@ -55,21 +55,21 @@ impl<C: Copy, NID: NodeId, N: Node> StoredMembershipOf<C, NID, N> {
         Ok(StoredMembershipOf::new(self.log_id, membership))
     }
 
-    /// The id of the log entry.
+    /// Returns the log id of the entry that stored the membership.
     pub fn log_id(&self) -> &Option<LogIdOf<C>>
         ensures { result.now ≡ log_id_of self.now }
     {
         &self.log_id
     }
 
-    /// The membership.
+    /// Returns the membership.
     pub fn membership(&self) -> &Membership<NID, N>
         ensures { result.now ≡ membership_of self.now }
     {
         &self.membership
     }
 
-    /// The voters of all configs, each once, ascending.
+    /// Returns the voters of all configs, each once, ascending, or an allocation error.
     pub fn voter_ids(&self) -> Result<Vec<NID>, AllocError>
         ensures ascending { IfOk result (λ ids. IsStrictlySortedBy NID.cmp ids.items) }
         ensures voters { IfOk result (λ ids. (id : NID) →
@@ -79,7 +79,7 @@ impl<C: Copy, NID: NodeId, N: Node> StoredMembershipOf<C, NID, N> {
         self.membership.voter_ids()
     }
 
-    /// The nodes, in the order of their ids.
+    /// Returns the nodes, in the order of their ids.
     pub fn nodes(&self) -> Iter<'_, NID, N>
         ensures rest { result ≡ (membership_of self.now).nodes }
         ensures ascending { IsStrictlySortedBy NID.cmp (keys_of result) }

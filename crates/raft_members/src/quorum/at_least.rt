@@ -15,9 +15,9 @@ use std::fmt;
 
 /// Some ids, of which a quorum has at least a stated number.
 ///
-/// Two quorums share one of the ids where twice that number is more than there are ids
-/// (`laws::at_least_quorums_meet`). Where it is not, they need not share any: {0, 1} and {2, 3} are
-/// both quorums of 2 of 0 to 4.
+/// Two quorums share one of the ids if twice that number is more than there are ids
+/// (`laws::at_least_quorums_meet`). Otherwise they need not share any: {0, 1} and {2, 3} are both
+/// quorums of 2 of 0 to 4.
 #[derive(Debug, PartialEq, Eq, Drop)]
 pub struct AtLeast<ID: Copy + Ord> {
     ids: Vec<ID>,
@@ -29,8 +29,9 @@ pub struct AtLeast<ID: Copy + Ord> {
 impl<ID: Copy + Ord> AtLeast<ID> {
     ghost use Rattle.raft_members.specs.AtLeast.{ids_of, need_of, IsAlike};
 
-    /// A quorum is at least `need` of these ids, where a repeated one counts once; at least one is
-    /// needed. Where there are fewer, there is no quorum.
+    /// Returns the quorum set in which a quorum has at least `need` of these ids, or an allocation
+    /// error. A repeated id counts once, and `need` is at least 1. If there are fewer ids than
+    /// `need`, there is no quorum.
     pub fn new(alloc: Global, ids: &[ID], need: usize) -> Result<Self, AllocError>
         requires { 1 ≤ need }
         ensures ascending { IfOk result (λ made. IsStrictlySortedBy ID.cmp (ids_of made)) }
@@ -49,14 +50,14 @@ impl<ID: Copy + Ord> AtLeast<ID> {
         })
     }
 
-    /// How many of its ids a quorum has at least.
+    /// Returns the number of its ids that a quorum must have.
     pub fn need(&self) -> usize
         ensures { result ≡ need_of self.now }
     {
         self.need
     }
 
-    /// The same ids, of which a quorum has as many.
+    /// Returns a quorum set of the same ids and the same number, or an allocation error.
     pub fn try_clone(&self) -> Result<Self, AllocError>
         ensures { IfOk result (IsAlike self.now) }
     {
@@ -67,7 +68,7 @@ impl<ID: Copy + Ord> AtLeast<ID> {
     }
 }
 
-/// At least so many of the ids.
+/// A quorum has at least the stated number of the ids.
 impl<ID: Copy + Ord> QuorumSet<ID> for AtLeast<ID> {
     ghost use Rattle.raft_members.specs.AtLeast.{ids_of, need_of};
 
@@ -106,7 +107,7 @@ impl<ID: Copy + Ord> Clone for AtLeast<ID> {
     }
 }
 
-/// As `2 of {0,1,2,3,4}`.
+/// The text is such as `2 of {0,1,2,3,4}`.
 impl<ID: Copy + Ord + fmt::Display> fmt::Display for AtLeast<ID> {
     fn fmt<W: fmt::Write>(&self, f: &mut fmt::Formatter<W>) -> fmt::Result {
         write!(f, "{} of {{", self.need)?;

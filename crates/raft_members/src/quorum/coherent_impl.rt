@@ -1,4 +1,4 @@
-//! Joints that share a child, and the way from one joint to another.
+//! Joints that share a child, and the steps from one joint to another.
 ghost use Rattle.std.specs.Prelude.{◌≡◌, IfOk};
 ghost use Rattle.std.specs.Set.{ClonesAreEqual};
 ghost use Rattle.raft_members.specs.Coherence.{has_child, share_child, IsNext};
@@ -8,7 +8,7 @@ use super::joint::Joint;
 use super::quorum_set::QuorumSet;
 use std::alloc::{AllocError, Global};
 
-/// Some child of the one equals some child of the other.
+/// Two joints are coherent if some child of one equals some child of the other.
 impl<ID: Copy + Ord, QS: QuorumSet<ID> + Eq> Coherent<ID, Joint<ID, QS, Vec<QS>>>
     for Joint<ID, QS, Vec<QS>> {
     ghost is_coherent = { λ a b. share_child QS.eq a.items b.items };
@@ -18,7 +18,7 @@ impl<ID: Copy + Ord, QS: QuorumSet<ID> + Eq> Coherent<ID, Joint<ID, QS, Vec<QS>>
     }
 }
 
-/// As for joints over vectors.
+/// Two joints of slices are coherent if some child of one equals some child of the other.
 impl<'a, 'b, ID: Copy + Ord, QS: QuorumSet<ID> + Eq> Coherent<ID, Joint<ID, QS, &'b [QS]>>
     for Joint<ID, QS, &'a [QS]> {
     ghost is_coherent = { λ a b. share_child QS.eq a.now b.now };
@@ -28,7 +28,7 @@ impl<'a, 'b, ID: Copy + Ord, QS: QuorumSet<ID> + Eq> Coherent<ID, Joint<ID, QS, 
     }
 }
 
-/// Some child equals the other one.
+/// A joint is coherent with a quorum set that equals one of its children.
 impl<ID: Copy + Ord, QS: QuorumSet<ID> + Eq> Coherent<ID, QS> for Joint<ID, QS, Vec<QS>> {
     ghost is_coherent = { λ a q. has_child QS.eq a.items q };
 
@@ -37,9 +37,9 @@ impl<ID: Copy + Ord, QS: QuorumSet<ID> + Eq> Coherent<ID, QS> for Joint<ID, QS, 
     }
 }
 
-/// The goal alone stands next where it is a child or there are no children, else the last child and
-/// the goal. So the next joint shares a child with this one, where that has one, and has the goal
-/// as a child; and from it the goal alone stands next.
+/// If the goal is a child, or there are no children, the goal alone is next. Otherwise the last
+/// child and the goal are next. So the next joint shares a child with this one if this one has any,
+/// it has the goal as a child, and after it the goal alone is next.
 impl<ID: Copy + Ord, QS: QuorumSet<ID> + Clone + Eq + Drop> FindCoherent<ID, QS>
     for Joint<ID, QS, Vec<QS>> {
     ghost clones_are_equal = { ClonesAreEqual QS.eq QS.is_clone };
@@ -59,14 +59,14 @@ fn has_child<QS: Eq>(children: &[QS], goal: &QS) -> bool
     children.iter().any(|child| child == goal)
 }
 
-/// Whether a child of the one equals a child of the other.
+/// Whether a child of one list equals a child of the other.
 fn share_child<QS: Eq>(these: &[QS], others: &[QS]) -> bool
     ensures { result ≡ share_child QS.eq these.now others.now }
 {
     these.iter().any(|child| has_child(others, child))
 }
 
-/// The children that stand next on the way to `goal`.
+/// Returns the next children on the way to `goal`.
 fn next_children<QS: Clone + Eq + Drop>(
     alloc: Global,
     children: &[QS],

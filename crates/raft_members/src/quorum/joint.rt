@@ -9,9 +9,10 @@ use std::marker::{Model, PhantomData};
 
 /// Several quorum sets, its children, as one: a quorum is a quorum in every child.
 ///
-/// A cluster whose voters are being replaced decides by the old voters and by the new ones, each
-/// by a majority. `D` is what holds the children, a vector or a slice. Without children every set
-/// is a quorum, the empty one too. In contracts a joint is what holds its children.
+/// While its voters are being replaced, a cluster decides by the old voters and by the new ones,
+/// each by a majority. `D` is the type of the list of children, a vector or a slice. Without
+/// children every set is a quorum, even the empty one. In contracts a joint is its list of
+/// children.
 #[derive(Debug, Clone, PartialEq, Eq, Drop)]
 pub struct Joint<ID, QS, D> {
     children: D,
@@ -27,7 +28,7 @@ impl<ID, QS, D> Model for Joint<ID, QS, D> {
 }
 
 impl<ID, QS, D> Joint<ID, QS, D> {
-    /// The joint of these children.
+    /// Returns the joint of these children.
     pub fn new(children: D) -> Self
         ensures { result ≡ children }
     {
@@ -37,7 +38,7 @@ impl<ID, QS, D> Joint<ID, QS, D> {
         }
     }
 
-    /// The children, as they were given.
+    /// Returns the children, as they were given.
     pub fn children(&self) -> &D
         ensures { result.now ≡ self.now }
     {
@@ -46,15 +47,15 @@ impl<ID, QS, D> Joint<ID, QS, D> {
 }
 
 impl<ID, QS> Joint<ID, QS, Vec<QS>> {
-    /// The joint of these children.
+    /// Returns the joint of these children.
     pub fn from(children: Vec<QS>) -> Self
         ensures { result ≡ children }
     {
         Joint::new(children)
     }
 
-    /// The joint without children, in place of a `Default`, which has no allocator. No memory is
-    /// taken.
+    /// Returns the joint without children. It replaces `Default`, which has no allocator. It never
+    /// allocates, so the result is always `Ok`.
     pub fn try_default(alloc: Global) -> Result<Self, AllocError>
         ensures { IsOkAnd result (λ joint. joint.items ≡ []) }
     {
@@ -63,7 +64,7 @@ impl<ID, QS> Joint<ID, QS, Vec<QS>> {
 }
 
 impl<ID, QS: Clone + Eq + Drop> Joint<ID, QS, Vec<QS>> {
-    /// A joint of clones of the children, equal to this one.
+    /// Returns an equal joint of clones of the children, or an allocation error.
     pub fn try_clone(&self) -> Result<Self, AllocError>
         requires { ClonesAreEqual QS.eq QS.is_clone }
         ensures { IfOk result (λ joint. IsTrue (pointwise QS.eq self.now.items joint.items)) }
@@ -74,7 +75,7 @@ impl<ID, QS: Clone + Eq + Drop> Joint<ID, QS, Vec<QS>> {
 }
 
 impl<'a, ID, QS> Joint<ID, QS, &'a [QS]> {
-    /// The joint of the same slice. No memory is taken.
+    /// Returns the joint of the same slice. It never allocates, so the result is always `Ok`.
     pub fn try_clone(&self) -> Result<Self, AllocError>
         ensures { IsOkAnd result (λ joint. joint ≡ self.now) }
     {
@@ -82,12 +83,12 @@ impl<'a, ID, QS> Joint<ID, QS, &'a [QS]> {
     }
 }
 
-/// A list of quorum sets as their joint, without a copy.
+/// Lists of quorum sets that can be used as their joint, without a copy.
 pub trait AsJoint<'a, ID, QS, D> {
     /// Whether these children are the listed quorum sets.
     ghost lists: { Self → D → Type 0 };
 
-    /// The joint of the listed quorum sets.
+    /// Returns the joint of the listed quorum sets.
     fn as_joint(&'a self) -> Joint<ID, QS, D>
         ensures { lists self.now result };
 }

@@ -13,7 +13,7 @@ use super::quorum_set::QuorumSet;
 use super::quorum_set_impl::sorted;
 use std::alloc::{AllocError, Global};
 
-/// A quorum in every child; without children every set is a quorum.
+/// A quorum is a quorum in every child. Without children every set is a quorum.
 impl<ID: Copy + Ord, QS: QuorumSet<ID>> QuorumSet<ID> for Joint<ID, QS, Vec<QS>> {
     ghost has_quorum = { λ j s. list_all (λ c. QS.has_quorum c s) j.items };
 
@@ -38,7 +38,7 @@ impl<ID: Copy + Ord, QS: QuorumSet<ID>> QuorumSet<ID> for Joint<ID, QS, Vec<QS>>
     }
 }
 
-/// As for a joint over a vector.
+/// A quorum is a quorum in every child. Without children every set is a quorum.
 impl<'a, ID: Copy + Ord, QS: QuorumSet<ID>> QuorumSet<ID> for Joint<ID, QS, &'a [QS]> {
     ghost has_quorum = { λ j s. list_all (λ c. QS.has_quorum c s) j.now };
 
@@ -77,10 +77,10 @@ fn is_quorum_of_each<ID: Copy + Ord, QS: QuorumSet<ID>>(children: &[QS], ids: &[
     true
 }
 
-/// The greatest answer of the children, and 0 of none: a quorum of all has as many ids as a quorum
-/// of each.
-// The call is given as a closure, so that a clause can say which answer is returned: the contract
-// of a quorum set's own call says no more than a bound.
+/// Returns the greatest result of the children, and 0 for no children. A quorum of all has at least
+/// as many ids as a quorum of each child.
+// The size is computed by a closure, so that a clause can say which number is returned. The
+// contract of `least_quorum_size` of any quorum set states only a bound.
 #[inline(always)]
 pub(crate) fn least_of_each<ID: Copy + Ord, QS: QuorumSet<ID>, F: Fn(&QS) -> usize>(
     children: &[QS],
@@ -94,7 +94,7 @@ pub(crate) fn least_of_each<ID: Copy + Ord, QS: QuorumSet<ID>, F: Fn(&QS) -> usi
         (QuorumsHaveAtLeast ID.eq (QS.has_quorum c.now))) →
         QuorumsHaveAtLeast ID.eq (λ s. list_all (λ c. QS.has_quorum c s) children.now) result }
 {
-    // One list or two, as a membership has, are asked without a loop.
+    // One or two children, as the configs of a membership, need no loop.
     if let [old, new] = children {
         return size_of(old).max(size_of(new));
     }
@@ -108,7 +108,7 @@ pub(crate) fn least_of_each<ID: Copy + Ord, QS: QuorumSet<ID>, F: Fn(&QS) -> usi
     greatest
 }
 
-/// The voters of all children, each once, ascending.
+/// Returns the voters of all children, each once, ascending.
 pub(crate) fn ids_of_each<ID: Copy + Ord, QS: QuorumSet<ID>>(
     alloc: Global,
     children: &[QS],
@@ -117,7 +117,7 @@ pub(crate) fn ids_of_each<ID: Copy + Ord, QS: QuorumSet<ID>>(
     ensures voters { IfOk result (λ ids. (x : ID) →
         is_member ID.eq ids.items x ≡ list_any (λ c. QS.is_voter c x) children.now) }
 {
-    // The voters of one child, as of the one config of a membership at rest, are all.
+    // If there is one child, as the one config of most memberships, its voters are all.
     if let [only] = children {
         return only.ids(alloc);
     }

@@ -1,4 +1,4 @@
-//! What a quorum set is.
+//! Quorum sets.
 ghost use Rattle.std.specs.Prelude.{◌≡◌, Bool, true, IfOk};
 ghost use Rattle.std.specs.List.{IsDistinct};
 ghost use Rattle.std.specs.Set.{is_member};
@@ -9,13 +9,13 @@ use std::alloc::{AllocError, Global};
 
 /// A family of sets of ids, its quorums, and the finite set of its voters.
 ///
-/// Nothing is asked of a family but that whatever contains a quorum is a quorum: an id more never
-/// turns a decision round. In contracts a set of ids is a test, `ID → Bool`, so that neither an
-/// order of ids nor repeated ids can matter.
+/// The only law is that a set that contains a quorum is a quorum: a further id never reverses a
+/// decision. In contracts a set of ids is a test, `ID → Bool`, so neither an order of ids nor
+/// repeated ids can matter.
 ///
-/// To write a quorum set of your own, write the two calls `is_quorum` and `ids`, state what they
-/// compute as `has_quorum` and `is_voter`, and prove `superset`. The third call,
-/// `least_quorum_size`, has a body.
+/// To write your own quorum set, write the two functions `is_quorum` and `ids`, state what they
+/// compute as `has_quorum` and `is_voter`, and prove `superset`. The third function,
+/// `least_quorum_size`, has a default body.
 pub trait QuorumSet<ID: Copy + Ord> {
     /// Whether a set of ids is a quorum.
     ghost has_quorum: { Self → (ID → Bool) → Bool };
@@ -25,26 +25,25 @@ pub trait QuorumSet<ID: Copy + Ord> {
 
     /// Whether the ids are a quorum.
     ///
-    /// The contract speaks of distinct ids. A repeated one is counted as often as it comes, as in
-    /// the original. Nothing is allocated.
+    /// The contract speaks of distinct ids. A repeated id is counted each time, as in the original.
+    /// Nothing is allocated.
     fn is_quorum(&self, ids: &[ID]) -> bool
         ensures quorum { IsDistinct ID.eq ids.now →
             result ≡ has_quorum self.now (is_member ID.eq ids.now) };
 
-    /// Returns a number of ids that each quorum has at least. The body here returns 0, which each
-    /// quorum has.
+    /// Returns a number of ids that each quorum has at least. The default body returns 0.
     ///
-    /// A caller that has fewer ids need not ask `is_quorum`, so a greater number saves a progress
-    /// quorum tests. A list or a set of voters, an `AtLeast` and an `EffectiveMembership` say which
-    /// number they return, and a joint returns the greatest one of its children. Nothing is
-    /// allocated.
+    /// A caller that has fewer ids need not call `is_quorum`, so a greater number saves quorum
+    /// tests. The contract of a list or a set of voters, of an `AtLeast` and of an
+    /// `EffectiveMembership` says which number is returned. A joint returns the greatest one of its
+    /// children. Nothing is allocated.
     fn least_quorum_size(&self) -> usize
         ensures least { QuorumsHaveAtLeast ID.eq (has_quorum self.now) result }
     {
         0
     }
 
-    /// The voters, each once, ascending.
+    /// Returns the voters, each once, ascending, or an allocation error.
     fn ids(&self, alloc: Global) -> Result<Vec<ID>, AllocError>
         ensures ascending { IfOk result (λ ids. IsStrictlySortedBy ID.cmp ids.items) }
         ensures voters { IfOk result (λ ids.

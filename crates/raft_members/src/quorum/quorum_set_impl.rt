@@ -1,5 +1,5 @@
-//! Lists and sets of voters as quorum sets: a quorum has more than half
-//! of the voters. Shared quorum sets.
+//! Lists and sets of voters as quorum sets: a quorum has more than half of the voters. Shared
+//! quorum sets.
 ghost use Rattle.std.specs.Prelude.{◌≡◌, ◌*◌, ◌≤◌, ◌||◌, Bool, IfOk, count_by, length, nat_lt};
 ghost use Rattle.std.specs.List.{IsDistinct, list_any};
 ghost use Rattle.std.specs.Set.{is_member};
@@ -14,10 +14,11 @@ use std::alloc::{AllocError, Global};
 use std::collections::BTreeSet;
 use std::rc::Rc;
 
-/// How many voters of a long list are compared with an id before the answers are looked at.
+/// How many voters of a long list are compared with an id before the results are tested.
 const CHUNK: usize = 8;
 
-/// More than half of the vector's length; a repeated voter adds to the length and counts once.
+/// A quorum has more voters than half of the vector's length. A repeated voter adds to the length
+/// and counts once.
 impl<ID: Copy + Ord> QuorumSet<ID> for Vec<ID> {
     ghost has_quorum = { λ c s. is_majority ID.eq c.items s };
 
@@ -42,7 +43,8 @@ impl<ID: Copy + Ord> QuorumSet<ID> for Vec<ID> {
     }
 }
 
-/// As for a vector.
+/// A quorum has more voters than half of the slice's length. A repeated voter adds to the length
+/// and counts once.
 impl<'a, ID: Copy + Ord> QuorumSet<ID> for &'a [ID] {
     ghost has_quorum = { λ c s. is_majority ID.eq c.now s };
 
@@ -67,7 +69,7 @@ impl<'a, ID: Copy + Ord> QuorumSet<ID> for &'a [ID] {
     }
 }
 
-/// More than half of the set.
+/// A quorum has more than half of the set.
 impl<ID: Copy + Ord> QuorumSet<ID> for BTreeSet<ID> {
     ghost has_quorum = { λ c s. is_majority ID.eq c.keys s };
 
@@ -91,7 +93,7 @@ impl<ID: Copy + Ord> QuorumSet<ID> for BTreeSet<ID> {
     }
 }
 
-/// A shared quorum set is that quorum set.
+/// A shared quorum set has the quorums and voters of the one that it shares.
 impl<ID: Copy + Ord, T: QuorumSet<ID> + Drop> QuorumSet<ID> for Rc<T> {
     ghost has_quorum = { λ q s. T.has_quorum q.value s };
 
@@ -113,8 +115,8 @@ impl<ID: Copy + Ord, T: QuorumSet<ID> + Drop> QuorumSet<ID> for Rc<T> {
 }
 
 /// Whether more than half of the voters are among the ids.
-// Half of the length, and not twice the count: the count could not be doubled at every length. It
-// is inlined, since a call adds a third to the test of a short list.
+// The count is compared with half of the length, because twice the count could overflow. The
+// function is inlined, because a call would add a third to the test of a short list.
 #[inline(always)]
 fn has_majority<ID: Copy + Ord>(voters: &[ID], ids: &[ID]) -> bool
     ensures { IsDistinct ID.eq ids.now →
@@ -132,10 +134,9 @@ fn has_majority<ID: Copy + Ord>(voters: &[ID], ids: &[ID]) -> bool
     exceeds(ids, voters.len() / 2, |id| has_singly(voters, id))
 }
 
-/// The same for a list of at least `N` voters, and at most twice as many: its first `N` and its
-/// last are all.
-// How many are compared is known when it is compiled, so that a comparison does not ask for the
-// end.
+/// Whether more than half of the voters are among the ids, for a list of at least `N` and at most
+/// twice as many voters. The first `N` and the last `N` are all of them.
+// The number of comparisons is known at compile time, so that no comparison tests for the end.
 #[inline(always)]
 fn has_majority_at_ends<ID: Copy + Ord, const N: usize>(voters: &[ID], ids: &[ID]) -> bool
     requires { (N ≤ length voters.now) × (length voters.now ≤ 2 * N) }
@@ -164,8 +165,8 @@ fn has_at_ends<ID: Copy + Ord, const N: usize>(first: &[ID; N], last: &[ID; N], 
     first.iter().any(|voter| *voter == id) || last.iter().rev().any(|voter| *voter == id)
 }
 
-/// The same for a long list.
-// It is kept apart, so that a test of a short list has no need of its registers.
+/// Whether more than half of the voters are among the ids, for a long list.
+// A separate function, so that a test of a short list does not need its registers.
 #[inline(never)]
 fn has_majority_of_many<ID: Copy + Ord>(voters: &[ID], ids: &[ID]) -> bool
     ensures { IsDistinct ID.eq ids.now →
@@ -174,8 +175,8 @@ fn has_majority_of_many<ID: Copy + Ord>(voters: &[ID], ids: &[ID]) -> bool
     exceeds(ids, voters.len() / 2, |id| has(voters, id))
 }
 
-/// Whether more than `limit` of the ids are voters, repeated ones each time. It stops at the first
-/// id that is one too many, and does not begin where the ids are too few.
+/// Whether more than `limit` of the ids are voters. A repeated id counts each time. The function
+/// returns at the first id past the limit, and at once if there are too few ids.
 #[inline(always)]
 pub(super) fn exceeds<ID: Copy + Ord, F: Fn(ID) -> bool>(
     ids: &[ID],
@@ -203,7 +204,8 @@ pub(super) fn exceeds<ID: Copy + Ord, F: Fn(ID) -> bool>(
 }
 
 /// Whether the id is among the voters.
-// A short list goes its own way, since to set up its chunks takes as long as its comparisons.
+// A short list is compared without chunks, because setting up chunks takes as long as its
+// comparisons.
 pub(super) fn has<ID: Copy + Ord>(voters: &[ID], id: ID) -> bool
     ensures { result ≡ list_any (λ y. ID.eq y id) voters.now }
 {
@@ -219,16 +221,15 @@ pub(super) fn has<ID: Copy + Ord>(voters: &[ID], id: ID) -> bool
     has_singly(rest, id)
 }
 
-/// The same, by one comparison after another.
+/// Whether the id is among the voters, by one comparison after another.
 fn has_singly<ID: Copy + Ord>(voters: &[ID], id: ID) -> bool
     ensures { result ≡ list_any (λ y. ID.eq y id) voters.now }
 {
     voters.iter().any(|voter| *voter == id)
 }
 
-/// The same for a chunk.
-// All are compared, with no stop at the one that is found: so the
-// compiler uses vector instructions.
+/// Whether the id is among the voters of a chunk.
+// All voters are compared, without an early exit, so that the compiler uses vector instructions.
 fn chunk_has<ID: Copy + Ord>(chunk: &[ID; CHUNK], id: ID) -> bool
     ensures { result ≡ list_any (λ y. ID.eq y id) chunk.now }
 {
@@ -239,7 +240,7 @@ fn chunk_has<ID: Copy + Ord>(chunk: &[ID; CHUNK], id: ID) -> bool
     found
 }
 
-/// The ids in order, each once.
+/// Returns the ids in order, each once.
 pub(crate) fn sorted<ID: Copy + Ord>(mut ids: Vec<ID>) -> Vec<ID>
     ensures ascending { IsStrictlySortedBy ID.cmp result.items }
     ensures members { (x : ID) → is_member ID.eq result.items x ≡ is_member ID.eq ids.items x }
@@ -249,7 +250,7 @@ pub(crate) fn sorted<ID: Copy + Ord>(mut ids: Vec<ID>) -> Vec<ID>
     ids
 }
 
-/// Copies of the ids, in order, each once.
+/// Returns copies of the ids in order, each once.
 pub(super) fn sorted_copies<ID: Copy + Ord>(
     alloc: Global,
     ids: &[ID],

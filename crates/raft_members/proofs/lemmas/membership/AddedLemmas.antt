@@ -16,7 +16,7 @@ pub option_alike : {N : Type 0} {same : N → N → Bool} → IsEquivalence same
 option_alike laws None = refl
 option_alike laws (Some x) = laws.refl x
 
--- what equals an equal value equals the value
+-- equality of optional values is transitive
 pub option_trans : {N : Type 0} {same : N → N → Bool} → IsEquivalence same → (x y z : Option N) → IsTrue (option_eq same x y)
     → IsTrue (option_eq same y z) → IsTrue (option_eq same x z)
 option_trans laws x y z h k = (options_equiv laws).congr x y z h ∙ k
@@ -59,7 +59,7 @@ module _ {K N : Type 0} {cmp : K → K → Ordering} (o : IsTotalOrder cmp) wher
   there_step es rest x q true e h = some_first (lookup (is_at (cmp q)) es) _ _ (ap is_some (alike_at es q x.0 e) ∙ h)
   there_step es rest x q false e h = refl
 
-  -- an entry whose id is there adds nothing
+  -- an entry whose id is in the list adds nothing
   pub add_there : (es rest : List (K × N)) (x : K × N) → is_some (lookup (is_at (cmp x.0)) es) ≡ true → (q : K)
       → option_or (lookup (is_at (cmp q)) es) (lookup (is_at (cmp q)) (x ∷ rest))
       ≡ option_or (lookup (is_at (cmp q)) es) (lookup (is_at (cmp q)) rest)
@@ -82,11 +82,11 @@ module _ {K N : Type 0} {cmp : K → K → Ordering} (o : IsTotalOrder cmp) wher
     add_new es fs rest x w s h u q = new_step es fs rest x w q (is_at (cmp q) x.0) refl s h
         (u q ∙ ap (λ b. cond b (Some w) (lookup (is_at (cmp q)) es)) (flip o x.0 q))
 
-  -- what is to come has the first entry's node at its id
+  -- the rest of the list has the first entry's node at its id
   head_at : (x : K × N) (rest : List (K × N)) → lookup (is_at (cmp x.0)) (x ∷ rest) ≡ Some x.1
   head_at x rest = rw (tied_itself o x.0) refl
 
-  -- where an id that is still to come has no node yet, one of the two lists has a node at it
+  -- if an id that is still to come has no node yet, one of the two lists has a node at it
   pub either_has : (same : N → N → Bool) (now given more : List (K × N)) (x : K × N) (rest : List (K × N))
       → is_some (lookup (is_at (cmp x.0)) now) ≡ false
       → IsTrue (option_eq same (option_or (lookup (is_at (cmp x.0)) now) (lookup (is_at (cmp x.0)) (x ∷ rest)))
@@ -104,7 +104,7 @@ module _ {K N : Type 0} {cmp : K → K → Ordering} (o : IsTotalOrder cmp) wher
       by None None (Some y) h q = inr refl
       by None None None h q = absurd (true≢false (sym q))
 
-  -- a node at an id stays where another one is put
+  -- a node at an id stays if another one is inserted
   pub has_still : (es fs : List (K × N)) (x q : K) (w : N)
       → lookup (is_at (cmp q)) fs ≡ cond (is_at (cmp x) q) (Some w) (lookup (is_at (cmp q)) es)
       → IsTrue (is_some (lookup (is_at (cmp q)) es)) → IsTrue (is_some (lookup (is_at (cmp q)) fs))
@@ -114,7 +114,7 @@ module _ {K N : Type 0} {cmp : K → K → Ordering} (o : IsTotalOrder cmp) wher
       by true h = refl
       by false h = h
 
-  -- one more id is taken away
+  -- one more id is removed
   pub remove_next : (es fs : List (K × N)) (x : K) (rest : List K)
       → ((q : K) → lookup (is_at (cmp q)) fs ≡ cond (is_at (cmp x) q) None (lookup (is_at (cmp q)) es)) → (q : K)
       → cond (list_any (is_at (cmp q)) rest) None (lookup (is_at (cmp q)) fs)

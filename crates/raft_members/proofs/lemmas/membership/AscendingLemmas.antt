@@ -15,7 +15,7 @@ module _ {K : Type 0} {cmp : K → K → Ordering} (o : IsTotalOrder cmp) where
   middle P [] rest k h = h.0
   middle P (x ∷ xs) rest k h = middle P xs rest k h.1
 
-  -- a key above all others goes to the end
+  -- a key above all others is inserted at the end
   insert_last : (ks rest : List K) (k : K) → IsStrictlySortedBy cmp (ks ++ k ∷ rest) → insert_key cmp ks k ≡ ks ++ k ∷ []
   insert_last [] rest k s = refl
   insert_last (x ∷ xs) rest k s =
@@ -31,7 +31,7 @@ module _ {K : Type 0} {cmp : K → K → Ordering} (o : IsTotalOrder cmp) where
       let P : List K → Type 0 = IsStrictlySortedBy cmp in
       whole ∙ sym (append_assoc ks (k ∷ []) rest) ∙ ap (λ ys. ys ++ rest) (sym (insert_last ks rest k (rw whole at s)))
 
--- a key below all others goes to the front
+-- a key below all others is inserted at the beginning
 insert_first : {K : Type 0} (cmp : K → K → Ordering) (front ks : List K) (k : K) → IsStrictlySortedBy cmp (front ++ k ∷ ks)
     → insert_key cmp ks k ≡ k ∷ ks
 insert_first cmp [] [] k s = refl
@@ -49,6 +49,6 @@ insert_behind cmp all ahead ks rest k s e f =
 pub push_ahead : {K : Type 0} (all ks ahead rest : List K) (k : K) → all ≡ ks ++ ahead → ahead ≡ k ∷ rest → all ≡ (ks ++ k ∷ []) ++ rest
 push_ahead all ks ahead rest k e f = e ∙ ap (λ ys. ks ++ ys) f ∙ sym (append_assoc ks (k ∷ []) rest)
 
--- nothing is left ahead
+-- nothing remains to be inserted
 pub none_ahead : {K : Type 0} (all ks ahead : List K) → all ≡ ks ++ ahead → ahead ≡ [] → ks ≡ all
 none_ahead all ks ahead e f = sym (e ∙ ap (λ ys. ks ++ ys) f ∙ append-nil ks)

@@ -35,7 +35,7 @@ module _ {N : Type 0} (is_default : N → Type 0) where
 
   module _ {K : Type 0} {eq : K → K → Bool} {cmp : K → K → Ordering} (o : IsTotalOrder cmp) (ties : (x y : K) → eq x y ≡ eq_by_cmp cmp x y)
       (es : List (K × N)) (a : Option N) (ids : List K) (i : ℕ) (x : K) (h : i < length ids) (is : x ≡ get_or ids i x) (q : K) where
-    -- the ids up to one more have what those before it have, and itself
+    -- the first i + 1 ids have what the first i ids have, and the next one
     one_more : (is_member eq (take i ids) q || is_at (cmp q) x) ≡ is_member eq (take (i + 1) ids) q
     one_more = sym (any_more (eq q) ids i x h (sym is) ∙ ap (λ b. is_member eq (take i ids) q || b) (ties q x))
 

@@ -46,7 +46,7 @@ module _ {K N : Type 0} (same : N → N → Bool) where
   AllBelow cmp k (x ∷ xs) = (cmp x.0 k ≡ Less) × AllBelow cmp k xs
 
   module _ {cmp : K → K → Ordering} (o : IsTotalOrder cmp) where
-    -- an entry above all others goes to the end
+    -- an entry above all others is inserted at the end
     pub same_insert : (xs ys : List (K × N)) (k : K) (v w : N) → SameEntries xs ys → AllBelow cmp k ys → same v w ≡ true
         → SameEntries (insert_entry cmp xs k v) (ys ++ (k, w) ∷ [])
     same_insert [] [] k v w s b e = (refl, e, tt)
@@ -56,7 +56,7 @@ module _ {K N : Type 0} (same : N → N → Bool) where
         let g : cmp k x.0 ≡ Greater = o.antisymm k x.0 ∙ ap (λ z. ordering_reverse (cmp z k)) s.0 ∙ ap ordering_reverse b.0 in
         rw g (s.0, s.1, same_insert xs ys k v w s.2 b.1 e)
 
-  -- an entry below all others goes to the front
+  -- an entry below all others is inserted at the beginning
   pub same_first : (cmp : K → K → Ordering) (front xs ys : List (K × N)) (k : K) (v w : N)
       → IsStrictlySortedBy cmp (keys_of (front ++ (k, w) ∷ ys)) → SameEntries xs ys → same v w ≡ true
       → SameEntries (insert_entry cmp xs k v) ((k, w) ∷ ys)
@@ -69,7 +69,7 @@ module _ {K N : Type 0} (same : N → N → Bool) where
   same_first cmp (f ∷ front) xs ys k v w s t e =
       same_first cmp front xs ys k v w (sorted_tail cmp f.0 (keys_of (front ++ (k, w) ∷ ys)) s) t e
 
-  -- what a filter keeps stays below
+  -- what a filter keeps is still below
   below_one : (cmp : K → K → Ordering) (k : K) (x : K × N) (xs : List (K × N)) (b : Bool) → cmp x.0 k ≡ Less → AllBelow cmp k xs
       → AllBelow cmp k (cond b (x ∷ xs) xs)
   below_one cmp k x xs true h t = (h, t)
@@ -158,6 +158,6 @@ pub equal_members : {K N : Type 0} {eq : K → K → Bool} (same : N → N → B
     → w.configs ≡ m.configs → IsTrue (same_nodes eq same m.nodes w.nodes) → IsTrue (same_members eq same m w)
 equal_members same e m w c h = both_true (rw c ((lists_equiv (lists_equiv e)).refl m.configs)) h
 
--- an item goes from what is ahead to what is done
+-- an item moves from the remaining ones to the done ones
 pub moved_on : {X : Type 0} (done : List X) (x : X) (ahead all : List X) → all ≡ done ++ x ∷ ahead → all ≡ (done ++ x ∷ []) ++ ahead
 moved_on done x ahead all h = h ∙ sym (append_assoc done (x ∷ []) ahead)

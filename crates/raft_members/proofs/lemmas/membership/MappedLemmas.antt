@@ -1,4 +1,4 @@
--- Configs that are seen by their keys.
+-- Configs as the lists of their keys.
 use Rattle.std.specs.Prelude.{◌≡◌, ℕ, Bool, true, false, ◌||◌, List, [], ◌∷◌, map, length, ◌-◌, Some, None, refl}
 use Rattle.std.proofs.Common.{sym, ◌∙◌, ap}
 use Rattle.std.specs.Prelude.{◌+◌, ◌<◌, ◌++◌, take}

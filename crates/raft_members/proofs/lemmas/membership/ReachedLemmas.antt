@@ -1,4 +1,4 @@
--- What a quorum has reached, each quorum of coherent configs knows of.
+-- Each quorum of coherent configs knows what a quorum has reached.
 use Rattle.std.proofs.lemmas.Bool.{or_left}
 use Rattle.std.specs.Prelude.{◌≡◌, ◌<◌, Bool, true, ◌&&◌, List, [], ◌∷◌, length}
 use Rattle.std.proofs.Common.{arith, inl, inr}
@@ -9,7 +9,7 @@ use Rattle.raft_members.specs.Reached.{VotersReached, IsGranted, EachQuorumKnows
 use Rattle.raft_members.proofs.lemmas.quorum.MeetingLemmas.{coherent_meet, shared_majority, majority_member, voter_there}
 
 module _ {K : Type 0} {e : K → K → Bool} (laws : IsEquivalence e) where
-  -- configs share each of their own
+  -- a list of configs is coherent with itself
   pub self_coherent : (cs : List (List K)) → 0 < length cs → is_coherent e cs cs ≡ true
   self_coherent [] h = absurd (omega arith)
   self_coherent (c ∷ cs) h = or_left _ _ (or_left _ _ ((lists_equiv laws).refl c))
@@ -26,6 +26,6 @@ module _ {K : Type 0} {e : K → K → Bool} (laws : IsEquivalence e) where
         let v = granted.are_voters m.0 (voter_there laws cs s.0 m.0 s.1 m.1) in
         (m.0, m.2, v, h m.0 v)
 
-    -- each quorum of coherent configs knows of what is granted
+    -- each quorum of coherent configs knows what is granted
     pub quorum_reaches : EachQuorumKnows e ds voter reached
     quorum_reaches = reaches_by granted.voters_reached

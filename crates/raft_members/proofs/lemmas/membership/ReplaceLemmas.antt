@@ -64,7 +64,7 @@ must_false : (b : Bool) → (b ≡ true → ⊥) → b ≡ false
 must_false true f = absurd (f refl)
 must_false false f = refl
 
--- the goal is the last of what stands next
+-- the goal is the last of the next configs
 last_is : {K : Type 0} (ds : List (List K)) (last goal : List K) → (ds ≡ goal ∷ []) ⊎ (ds ≡ last ∷ goal ∷ []) → last_config ds ≡ goal
 last_is ds last goal (inl h) = ap last_config h
 last_is ds last goal (inr h) = ap last_config h
@@ -87,7 +87,7 @@ module _ {K : Type 0} (e : K → K → Bool) (cs : List (List K)) (goal : List K
   either_by false (Some c) h l = inr (next_if_lacks (pointwise e) cs goal c h l
       ∙ ap (λ d. d ∷ goal ∷ []) (sym (ap (λ o. unwrap_or o []) l)))
 
-  -- the goal alone, or behind the last config
+  -- the next configs are the goal alone, or the last config and the goal
   pub next_either : (next_configs e cs goal ≡ goal ∷ []) ⊎ (next_configs e cs goal ≡ last_config cs ∷ goal ∷ [])
   next_either = either_by (has_config e cs goal) (slice_get cs (length cs - 1)) refl refl
 
@@ -96,7 +96,7 @@ module _ {K : Type 0} (e : K → K → Bool) (cs : List (List K)) (n : 0 < lengt
   last_by P None l h = absurd (has_last [] cs n l)
   last_by P (Some c) l h = any_passes_from_place P cs (length cs - 1) c l h
 
-  -- what the last config passes, one of them passes
+  -- if the last config passes a test, one of the configs passes it
   pub last_passes : (P : List K → Bool) → P (last_config cs) ≡ true → list_any P cs ≡ true
   last_passes P h = last_by P (slice_get cs (length cs - 1)) refl h
 
@@ -142,7 +142,7 @@ module _ {K N : Type 0} {e : K → K → Bool} (laws : IsEquivalence e) (cmp : K
   only_memory (ReplaceAllVoters g) r h = replaced_only_memory g.keys r h
   only_memory _ r h = tt
 
-  -- a change whose goal is a function of the last config, and fixed by it, leads there in two
+  -- if the goal of a change is an idempotent function of the last config, two changes lead to it
   leads_to : (c : ChangeMembers K N) (n : MemberList K N) (aim : List K → List K)
       → aim (aim (last_config m.configs)) ≡ aim (last_config m.configs) → n.configs ≡ next_configs e m.configs (aim (last_config m.configs))
       → ((retain : Bool) → (changed e cmp (members_of cmp n) c retain).configs ≡ next_configs e n.configs (aim (last_config n.configs)))

@@ -1,4 +1,4 @@
--- What holds of a membership holds of what it says.
+-- What holds of a membership holds of one with the same contents.
 use Rattle.std.proofs.lemmas.Bool.{or_right}
 use Rattle.std.specs.Prelude.{
   ◌≡◌,
@@ -83,7 +83,7 @@ module _ {K N : Type 0} (same : N → N → Bool) (eq : K → K → Bool) (cmp :
   same_refusal OutOfMemory h = tt
 
 module _ {K N : Type 0} {eq : K → K → Bool} (laws : IsEquivalence eq) (cmp : K → K → Ordering) where
-  -- a change shares a config with what it changes
+  -- a change shares a config with the membership that it changes
   pub changed_coherent : (m : Members K N) (c : ChangeMembers K N) (retain : Bool) → 0 < length m.configs
       → is_coherent eq m.configs (changed eq cmp m c retain).configs ≡ true
   changed_coherent m (AddVoterIds s) retain n = next_shares (lists_equiv laws) m.configs _ n
@@ -95,7 +95,7 @@ module _ {K N : Type 0} {eq : K → K → Bool} (laws : IsEquivalence eq) (cmp :
   changed_coherent m (RemoveNodes s) retain n = self_coherent laws m.configs n
   changed_coherent m (ReplaceAllNodes es) retain n = self_coherent laws m.configs n
 
-  -- what a change made is coherent with what it changed
+  -- the result of a change is coherent with the membership that it changes
   pub made_coherent : {E : Type 0} (same : N → N → Bool) (r : Result (MemberList K N) E) (old next : MemberList K N) (c : ChangeMembers K N)
       (retain : Bool) → Says same cmp next (changed eq cmp (members_of cmp old) c retain) → IfOk r (λ m. m ≡ next)
       → IfOk r (λ m. 0 < length old.configs → is_coherent eq old.configs m.configs ≡ true)
@@ -111,7 +111,7 @@ module _ {K N : Type 0} {eq : K → K → Bool} (laws : IsEquivalence eq) (cmp :
         (changed_coherent m change retain h.has_config);
   }
 
--- ---- nodes that are added to what stands next
+-- ---- nodes that are added to the next membership
 
 more_by : {N : Type 0} {same : N → N → Bool} → IsEquivalence same → (n v found : Option N) (kept : Bool)
     → (is_some found ≡ true → kept ≡ true) → IsTrue (option_eq same n (cond kept v None))
@@ -127,7 +127,7 @@ or_true a b = or_right _ _ (or_right _ _ refl)
 module _ {K N : Type 0} {eq : K → K → Bool} (laws : IsEquivalence eq) (cmp : K → K → Ordering)
     (ties : (x y : K) → eq x y ≡ eq_by_cmp cmp x y) {same : N → N → Bool} (alike : IsEquivalence same) (m : Members K N)
     (more : BTreeMap K N) (retain : Bool) where
-  -- whom a change adds is a voter next
+  -- an id that a change adds is a voter next
   added_votes : (id : K) → is_some (get cmp more id) ≡ true
       → is_voter_of eq (next_configs eq m.configs (union_of cmp (last_config m.configs) (keys more))) id ≡ true
   added_votes id h =
@@ -157,7 +157,7 @@ pub if_says : {K N E : Type 0} {same : N → N → Bool} → IsEquivalence same
 if_says alike cmp m given node (Ok n) e s = (s.0, λ id. option_trans alike (node_at cmp n.nodes id) (given id) (node id) (s.1 id) (e id))
 if_says alike cmp m given node (Err _) e s = tt
 
--- what follows from two facts of an answer holds of it
+-- if two facts about a result imply a third, the third holds of it
 pub in_both : {T E : Type 0} (r : Result T E) (P Q R : T → Type 0) → ((x : T) → P x → Q x → R x) → IfOk r P → IfOk r Q → IfOk r R
 in_both (Ok x) P Q R f p q = f x p q
 in_both (Err e) P Q R f p q = tt

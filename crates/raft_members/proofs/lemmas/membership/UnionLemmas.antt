@@ -61,7 +61,7 @@ module _ {K : Type 0} (cmp : K → K → Ordering) (ties : (x : K) → cmp x x �
   again_step x xs next [] = refl
   again_step x xs next (y ∷ ys) = again_by x xs y ys (cmp x y) refl (next (y ∷ ys)) (next ys) (again_step x xs next ys)
 
-  -- a union of what has the second list already adds nothing
+  -- if a union contains the second list already, adding it again changes nothing
   pub union_again : (xs ys : List K) → union_of cmp (union_of cmp xs ys) ys ≡ union_of cmp xs ys
   union_again [] ys = union_self ys
   union_again (x ∷ xs) ys = again_step x xs (union_again xs) ys

@@ -1,5 +1,5 @@
--- Quorums of a stated size: how they are counted, which lists of ids have the same ones, that two of them
--- share an id, and clones of their sets.
+-- Quorums of a stated size: how they are counted, which lists of ids have the same ones, that two
+-- of them share an id, and clones of their sets.
 use Rattle.std.specs.Prelude.{◌≡◌, ◌&&◌, ℕ, ◌+◌, ◌-◌, ◌<◌, ◌≤◌, Bool, IsTrue, List, length, count_by, nat_eq}
 use Rattle.std.proofs.Common.{arith, ap, subst, sym, ◌∙◌, leb, ltb}
 use Rattle.std.proofs.lemmas.Bool.{leb-true, le-leb, lt-leb, ltb_from_iff}
@@ -30,7 +30,7 @@ use Rattle.raft_members.proofs.lemmas.quorum.MajorityLemmas.{
 }
 use Rattle.raft_members.proofs.lemmas.quorum.MeetingLemmas.{shared}
 
--- a test of a count against one less
+-- comparing a count with one less
 above : (k n : ℕ) → 1 ≤ k → ltb (k - 1) n ≡ leb k n
 above k n p = sym (ltb_from_iff ((λ e. let l = leb-true _ _ e in omega arith), (λ l. le-leb _ _ (omega arith))))
 
@@ -38,7 +38,7 @@ share : (n a b k l : ℕ) → n < k + l → k ≤ a → l ≤ b → n < a + b
 share n a b k l h i j = omega arith
 
 module _ {K : Type 0} {eq : K → K → Bool} (laws : IsEquivalence eq) where
-  -- distinct ids are a quorum if those of them that are among the voters are more than one less
+  -- distinct ids are a quorum if more than need - 1 of them are among the voters
   pub at_least_count : (ids voters : List K) (need : ℕ) → 1 ≤ need → IsDistinct eq ids
       → ltb (need - 1) (count_by (λ x. list_any (λ y. eq y x) voters) ids) ≡ has_at_least eq voters need (is_member eq ids)
   at_least_count ids voters need p d =
@@ -57,14 +57,14 @@ module _ {K : Type 0} {eq : K → K → Bool} (laws : IsEquivalence eq) where
 
 module _ {K : Type 0} {eq : K → K → Bool} (laws : IsEquivalence eq) (kept given : List K)
     (same : (x : K) → is_member eq kept x ≡ is_member eq given x) where
-  -- ascending ids are as many as any ids that are the same ones, equal ones counted once
+  -- an ascending list has as many ids as any list of the same ids, if equal ones count once
   pub ascending_count : (cmp : K → K → Ordering) → ((x y : K) → eq x y ≡ eq_by_cmp cmp x y) → IsStrictlySortedBy cmp kept
       → length kept ≡ distinct_count eq given
   ascending_count cmp ties ascending =
       length-from_keys laws kept given (subst (λ (e : K → K → Bool). IsDistinct e kept) (λ i x y. sym (ties x y) i)
       (IsDistinct-from_sorted cmp kept ascending)) same
 
-  -- the same ids have the same quorums, in whatever order and however often they come
+  -- two lists of the same ids have the same quorums, in any order and with any repetitions
   pub same_quorums : (need : ℕ) (set : K → Bool) → RespectsEquality eq set → has_at_least eq kept need set ≡ has_at_least eq given need set
   same_quorums need set respects = ap (λ n. leb need n)
       (sym (length-filter set (unique_keys eq kept))

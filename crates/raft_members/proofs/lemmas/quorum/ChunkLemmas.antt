@@ -9,13 +9,13 @@ use Rattle.std.proofs.lemmas.List.{drop-drop, take-append-drop}
 use Rattle.std.proofs.lemmas.List.Folds.{list_any-append}
 
 module _ {X : Type 0} (p : X → Bool) (n : ℕ) where
-  -- what lies behind the chunks, one chunk on
+  -- what comes after the chunks, one chunk on
   drop-chunk : (k : ℕ) (xs : List X) → drop (suc k * n) xs ≡ drop (k * n) (drop n xs)
   drop-chunk k xs =
       let e : suc k * n ≡ n + k * n = omega (arith, suc-mul k n) in
       ap (λ m. drop m xs) e ∙ sym (drop-drop (k * n) n xs)
 
-  -- an element passes where one in a chunk does, or one behind the chunks
+  -- an element passes if one in a chunk does, or one after the chunks
   list_any-first_chunks : (k : ℕ) (xs : List X)
       → (list_any (list_any p) (first_chunks n k xs) || list_any p (drop (k * n) xs)) ≡ list_any p xs
   list_any-first_chunks zero xs = ap (λ m. list_any p (drop m xs)) (zero-mul n)
@@ -26,7 +26,7 @@ module _ {X : Type 0} (p : X → Bool) (n : ℕ) where
       ∙ sym (list_any-append p (take n xs) (drop n xs))
       ∙ ap (list_any p) (take-append-drop n xs)
 
-  -- from the answers over the chunks and over the rest, the answer over all
+  -- from the results for the chunks and for the rest, the result for all
   pub list_any-from_chunks : (k : ℕ) (xs : List X) (chunks : List (List X)) (rest : List X) (b : Bool) → chunks ≡ first_chunks n k xs
       → rest ≡ drop (k * n) xs → list_any (list_any p) chunks ≡ b → (b || list_any p rest) ≡ list_any p xs
   list_any-from_chunks k xs chunks rest b c r e =
@@ -35,7 +35,7 @@ module _ {X : Type 0} (p : X → Bool) (n : ℕ) where
       ∙ list_any-first_chunks k xs
 
 module _ {X : Type 0} (p : X → Bool) where
-  -- the first n elements, and those behind the first k of them, are all
+  -- the first n elements, and the elements after the first k, are all
   pub list_any-ends : (n k : ℕ) (xs : List X) → k ≤ n → (list_any p (take n xs) || list_any p (drop k xs)) ≡ list_any p xs
   list_any-ends zero zero xs l = refl
   list_any-ends zero (suc k) xs l = absurd (omega arith)

@@ -14,7 +14,7 @@ use Rattle.std.proofs.lemmas.List.Sums.{length-filter}
 use Rattle.std.proofs.lemmas.Map.Made.{is_member-filter, length-IsIntersection}
 
 module _ {K : Type 0} {eq : K → K → Bool} (laws : IsEquivalence eq) where
-  -- equal keys are members alike
+  -- equal keys are both members or neither is
   pub is_member-alike : (q x : K) → eq q x ≡ true → (ys : List K) → is_member eq ys q ≡ is_member eq ys x
   is_member-alike q x e [] = refl
   is_member-alike q x e (y ∷ ys) = rw (laws.congr q x y e, is_member-alike q x e ys) refl
@@ -69,7 +69,8 @@ module _ {K : Type 0} {eq : K → K → Bool} (laws : IsEquivalence eq) where
   and_comm false true = refl
   and_comm false false = refl
 
-  -- the distinct ids that are voters are as many as the voters, each counted once, that are among the ids
+  -- the number of distinct ids that are voters is the number of voters, each counted once, that are
+  -- among the ids
   pub count_by-is_member : (ids voters : List K) → IsDistinct eq ids
       → count_by (λ x. is_member eq voters x) ids ≡ count_by (is_member eq ids) (unique_keys eq voters)
   count_by-is_member ids voters d =
@@ -84,7 +85,7 @@ module _ {K : Type 0} {eq : K → K → Bool} (laws : IsEquivalence eq) where
   flipped x [] = refl
   flipped x (y ∷ ys) = rw (laws.symm y x, flipped x ys) refl
 
-  -- a test of a count against half of a length
+  -- comparing a count with half of a length
   half : (n m : ℕ) → ltb (m / 2) n ≡ ltb m (2 * n)
   half n m = ltb_from_iff ((λ e. let l = ltb-true _ _ e in omega arith), (λ l. lt-ltb _ _ (omega arith)))
 
@@ -113,7 +114,7 @@ module _ {K : Type 0} {eq : K → K → Bool} (laws : IsEquivalence eq) where
   is_member-dedup [] q = refl
   is_member-dedup (x ∷ xs) q = is_member-dedup_from x xs q
 
-  -- a set's test is that of its list of keys
+  -- a set contains an id exactly if its list of keys does
   pub in_set : (cmp : K → K → Ordering) (ties : (x y : K) → eq x y ≡ eq_by_cmp cmp x y) (x : K) (ys : List K)
       → list_any (is_at (cmp x)) ys ≡ is_member eq ys x
   in_set cmp ties x [] = refl

@@ -149,7 +149,7 @@ module _ {K : Type 0} {e : K → K → Bool} (laws : IsEquivalence e) where
   shared_majority cs [] t h q = cc
   shared_majority cs (d ∷ ds) t h q = shared_step cs d ds t (has_config e cs d) refl (shared_majority cs ds t) h q
 
-  -- quorums of coherent configs share a voter of both; equal ids must be in s alike
+  -- quorums of coherent configs share a voter of both; s contains both or neither of equal ids
   pub coherent_meet : CoherentQuorumsMeet e
   coherent_meet cs ds s t r co hs ht =
       let d = shared_majority cs ds t co ht in
