@@ -1,4 +1,4 @@
-//! Catching up a follower that responds honestly: sends until it has all.
+//! Catching up a follower that responds honestly: sends until it has all logs.
 ghost use Rattle.std.specs.Prelude.{◌≡◌, ◌+◌, ◌-◌, ◌*◌, ◌/◌, ◌^◌, ◌<◌, ◌≤◌, ℕ, nat_lt, IsTrue, Some, None, if◌then◌else◌};
 ghost use Rattle.raft_base.specs.LogId.{id_le, next_index};
 ghost use Rattle.raft_base.specs.Logged.{Logged};
@@ -13,13 +13,13 @@ use crate::inflight::InflightOf;
 use raft_base::order::{log_id_at_most, same_optional_log_ids};
 use raft_base::{LogIdOf, LogIdOptionExt, LogIdRangeOf, LogStateReader};
 
-/// Whether `catch_up_entry` may be called, over a log that has all its log ids from the purge point
-/// on.
+/// Whether the preconditions of `catch_up_entry` hold, for a log that has all its log ids from the
+/// purge point on.
 ///
-/// Nothing is in flight and a send may be made; the follower agrees up to the match and the purge
-/// point at least, and no further than the search goes; a send takes an entry at least; there are
-/// request ids for the whole run; and the match is the last log id, or not above the log from which
-/// the run goes on.
+/// They are: nothing is in flight and `can_send` holds; `agree` is at least the indexes after
+/// matching and after the purge point, and at most the searching end; a send takes at least one
+/// entry; indexes and request ids are left for the whole run; and matching is the last log id, or
+/// is at most the log id before the index from which the run goes on.
 pub fn can_catch_up_entry<C: Ord + Copy, L: LogStateReader<C>>(
     log: &L,
     entry: &ProgressEntryOf<C>,
@@ -49,13 +49,17 @@ pub fn can_catch_up_entry<C: Ord + Copy, L: LogStateReader<C>>(
         && log_id_at_most(entry.matching, log.prev_log_id(matched.max(purged)))
 }
 
-/// Sends to a follower whose log agrees with this one below an index, and takes its responses,
-/// until nothing is left to send. Answers how many conflicts came, and how many acks.
+/// Sends to a follower whose log agrees with the leader's log below the index `agree`, and takes
+/// its responses, until nothing is left to send. Returns the number of conflicts and the number of
+/// acks.
 ///
-/// The follower responds honestly: with a conflict where it does not agree before the logs that
-/// were sent, else with an ack of them all. At the end it has all. Conflicts are at most the binary
-/// digits of a sixteenth of the stretch from the match to the end of the search, acks at most what
-/// is left of the log by `max_entries`, rounded up.
+/// The follower responds honestly: with a conflict if its log does not agree before the logs that
+/// were sent, and otherwise with an ack of all of them. At the end it has all logs. There are at
+/// most k conflicts if a sixteenth of the stretch from matching to the searching end is less than
+/// 2^k. There are at most as many acks as the number of remaining logs divided by `max_entries`,
+/// rounded up.
+///
+/// It requires `can_catch_up_entry`, and a log that has all its log ids from the purge point on.
 pub fn catch_up_entry<C: Ord + Copy, L: LogStateReader<C>>(
     log: &L,
     entry: &mut ProgressEntryOf<C>,
@@ -86,17 +90,17 @@ pub fn catch_up_entry<C: Ord + Copy, L: LogStateReader<C>>(
     }
 }
 
-/// What a turn has come to.
+/// The result of a turn.
 enum TurnOutcome {
     /// Nothing was sent.
     Ended,
-    /// A conflict came.
+    /// The response was a conflict.
     Refused,
-    /// An ack came.
+    /// The response was an ack.
     Acked,
 }
 
-/// One send and its response.
+/// Sends once, takes the response, and returns which one it was.
 fn take_turn<C: Ord + Copy, L: LogStateReader<C>>(
     log: &L,
     entry: &mut ProgressEntryOf<C>,
@@ -126,7 +130,7 @@ fn take_turn<C: Ord + Copy, L: LogStateReader<C>>(
     }
 }
 
-/// Takes the honest response to logs, and answers whether it is an ack.
+/// Takes the honest response to logs, and returns whether it is an ack.
 fn take_response<C: Ord + Copy>(
     entry: &mut ProgressEntryOf<C>,
     id: u64,
@@ -144,12 +148,14 @@ fn take_response<C: Ord + Copy>(
     let LogIdRangeOf { prev, last } = range;
     match refused_at(prev, *agree) {
         Some(index) => {
-            // A refusal would leave the entry as it was, and the run would count the response too.
+            // If the response were refused, the entry would stay as it was, and the run would still
+            // count it.
             let _ = entry.update_conflicting(Some(id), index);
             false
         }
         None => {
-            // The same of an ack.
+            // If the ack were refused, the entry would stay as it was, and the run would still
+            // count it.
             let _ = entry.update_matching(id, last);
             *agree = (*agree).max(last.next_index());
             true
@@ -157,7 +163,7 @@ fn take_response<C: Ord + Copy>(
     }
 }
 
-/// The index of the log before those that were sent, where the follower does not agree there.
+/// Returns the index of the log before those that were sent, if the follower does not agree there.
 fn refused_at<C: Copy>(prev: Option<LogIdOf<C>>, agree: u64) -> Option<u64>
     ensures { result ≡
         (if nat_lt agree (next_index prev) then Some (next_index prev - 1) else None) }

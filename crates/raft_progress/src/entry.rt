@@ -1,4 +1,4 @@
-//! What a leader keeps of a follower: how far their logs match, and what is in flight to it.
+//! What a leader knows about a follower: how far their logs match, and what is in flight to it.
 ghost use Rattle.std.specs.Prelude.{◌≡◌, ◌^◌, ◌<◌, ◌≤◌, nat_le, Ok, Err, None, if◌then◌else◌, IsTrue, OnOk, ℕ};
 ghost use Rattle.raft_base.specs.LogId.{id_le, next_index};
 ghost use Rattle.raft_base.specs.Validate.{first_false};
@@ -21,11 +21,11 @@ use raft_base::{
 use std::alloc::AllocError;
 use std::fmt;
 
-/// What a leader keeps of a follower.
+/// What a leader knows about a follower.
 ///
-/// The last log that both have lies from the match on and below the end of the search. Probes
-/// narrow this stretch: logs are sent that begin inside it, and an ack raises the match, a conflict
-/// lowers the end. Its part in a progress is the match.
+/// The last log that both have is not before matching and is below the searching end. Probes narrow
+/// this stretch: logs are sent that begin inside it, an ack raises matching, and a conflict lowers
+/// the searching end. The part of an entry in a progress is its matching log id.
 #[derive(Copy, PartialEq, Eq)]
 pub struct ProgressEntryOf<C> {
     /// The last log id that is known to match.
@@ -38,10 +38,11 @@ pub struct ProgressEntryOf<C> {
     pub searching_end: u64,
 }
 
-/// What a leader keeps of a follower, with the default leader ids.
+/// What a leader knows about a follower, with the default leader ids.
 pub type ProgressEntry<NID> = ProgressEntryOf<CommittedLeaderId<NID>>;
 
-// By hand, since a derived one clones the leaders, and a clone of a leader need not be the same.
+// Handwritten, because a derived `clone` clones the leaders, and a clone of a leader need not equal
+// the leader.
 impl<C: Copy> Clone for ProgressEntryOf<C> {
     ghost is_clone = { λ entry copy. copy ≡ entry };
 
@@ -63,7 +64,8 @@ impl<C: Ord + Copy> ProgressEntryOf<C> {
     ghost use Rattle.std.specs.Io.BufRead.{Rests};
     ghost use Rattle.raft_progress.specs.contracts.entry.ProgressEntryOf.{the_row};
 
-    /// A follower that matches up to a log id, for which `has_next_index` is true, and no further.
+    /// Returns the entry of a follower that matches up to a log id and no further. It requires that
+    /// `has_next_index` of the log id is true.
     pub fn new(matching: Option<LogIdOf<C>>) -> Self
         requires { next_index matching < 2 ^ 64 }
         ensures { result ≡ record {
@@ -81,7 +83,8 @@ impl<C: Ord + Copy> ProgressEntryOf<C> {
         }
     }
 
-    /// A follower of which nothing is known but that it does not match from an index on.
+    /// Returns the entry of a follower that does not match from the index `end` on, and of which
+    /// nothing else is known.
     pub fn empty(end: u64) -> Self
         ensures { result ≡ record {
           matching = None;
@@ -98,7 +101,7 @@ impl<C: Ord + Copy> ProgressEntryOf<C> {
         }
     }
 
-    /// The same with another last request.
+    /// Returns this entry with another number of the last request.
     pub fn with_curr_inflight_id(mut self, id: u64) -> Self
         ensures { result ≡ record self { curr_inflight_id = id } }
     {
@@ -106,7 +109,8 @@ impl<C: Ord + Copy> ProgressEntryOf<C> {
         self
     }
 
-    /// The same with something in flight, where nothing was, as `is_none` of it tells.
+    /// Returns this entry with something in flight. It requires that nothing is in flight, which
+    /// `is_none` tests.
     pub fn with_inflight(mut self, inflight: InflightOf<C>) -> Self
         requires { IsTrue (is_idle self.inflight) }
         ensures { result ≡ record self { inflight = inflight } }
@@ -115,8 +119,8 @@ impl<C: Ord + Copy> ProgressEntryOf<C> {
         self
     }
 
-    /// Whether logs are in flight that begin before a log id, so
-    /// that it is among them or past them.
+    /// Whether logs are in flight that begin before a log id, so that the log id is among them or
+    /// past them.
     pub fn is_log_range_inflight(&self, upto: &LogIdOf<C>) -> bool
         ensures { result ≡ is_after_prev C.cmp self.now.inflight upto.now }
     {
@@ -126,8 +130,9 @@ impl<C: Ord + Copy> ProgressEntryOf<C> {
         }
     }
 
-    /// Takes the response that the follower has all up to a log id: it matches up to it, and the
-    /// entry is valid then, whatever it was before. The match is never lowered.
+    /// Takes the response that the follower has all logs up to a log id. Matching becomes that log
+    /// id, and the entry is valid, even if it was not valid before. Matching is never lowered. A
+    /// refused response leaves the entry as it was.
     #[inline(always)]
     pub fn update_matching(
         &mut self,
@@ -140,7 +145,7 @@ impl<C: Ord + Copy> ProgressEntryOf<C> {
         ensures valid { OnOk result (first_false (entry_relations C.cmp self.new) ≡ None) }
         ensures not_lowered { IsTrue (id_le C.cmp self.old.matching self.new.matching) }
     {
-        // All that may refuse comes first, so that a refusal leaves the entry as it was.
+        // All tests come first, so that a refusal leaves the entry as it was.
         self.inflight.check_ack(request_id, matching)?;
         if matching.cmp(&self.matching).is_lt() {
             return Err(InflightError::MatchingRegress);
@@ -154,9 +159,10 @@ impl<C: Ord + Copy> ProgressEntryOf<C> {
         Ok(())
     }
 
-    /// Takes the response that the follower does not match at an index: the search ends there.
+    /// Takes the response that the follower does not match at an index. The searching end becomes
+    /// that index if it was past it. A refused response leaves the entry as it was.
     ///
-    /// The response to a heartbeat has no request id, and what is in flight stays.
+    /// The response to a heartbeat has no request id, and what is in flight stays in flight.
     pub fn update_conflicting(
         &mut self,
         request_id: Option<u64>,
@@ -179,12 +185,12 @@ impl<C: Ord + Copy> ProgressEntryOf<C> {
         Ok(())
     }
 
-    /// Takes what is in flight as lost: nothing is in flight, and `next_send` sends again.
+    /// Drops what is in flight, as lost. Then `next_send` sends again.
     ///
-    /// Of a request that was lost, or whose response was, no response ends what is in flight, and
-    /// each `next_send` answers `Err`. So a leader calls this where a response stays out for too
-    /// long. A late response is refused by its id: nothing is in flight, and what is sent next
-    /// takes a greater one.
+    /// If a request or its response was lost, no response ends what is in flight, and each
+    /// `next_send` returns `Err`. So a leader calls this if a response takes too long. A late
+    /// response is refused by its id, because nothing is in flight, and what is sent next has a
+    /// greater id.
     pub fn give_up(&mut self)
         ensures idle { self.new ≡ record self.old { inflight = Idle } }
         ensures refuses_late { (id : ℕ) → RefusesResponsesTo C.cmp self.new id }
@@ -195,7 +201,7 @@ impl<C: Ord + Copy> ProgressEntryOf<C> {
         self.inflight = InflightOf::None;
     }
 
-    /// Whether `next_send` may be called with a log.
+    /// Whether the precondition of `next_send` with a log holds.
     pub fn can_send<L: LogStateReader<C>>(&self, log: &L) -> bool
         ensures { result ≡ can_be_sent self.now (L.log_view log.now) }
     {
@@ -211,15 +217,18 @@ impl<C: Ord + Copy> ProgressEntryOf<C> {
             && self.curr_inflight_id < u64::MAX
     }
 
-    /// Puts in flight what is sent next, if anything is: logs up to so many entries, or a snapshot.
+    /// Puts in flight what is to be sent next: at most `max_entries` logs, or a snapshot. Returns
+    /// what was put in flight.
     ///
-    /// Let `matched` be the index after the match, and `end` the end of the search. Logs start at
-    /// `matched + (end - matched) / 16 * 8`, so that each response tells much of where the two logs
-    /// part; if fewer than 16 indexes are open, they start at the match. They start at no index that
-    /// is to be purged. If the logs that a probe needs are purged, a snapshot is sent.
+    /// Let `matched` be the index after matching, and `end` the searching end. Logs start at
+    /// `matched + (end - matched) / 16 * 8`, so that each response cuts off about half of the
+    /// stretch between the two. If the stretch has fewer than 16 indexes, logs start at `matched`.
+    /// They never start at an index that is to be purged. If the logs that a probe needs are
+    /// purged, a snapshot is sent.
     ///
-    /// `Err` has what is in flight already, or `Inflight::None` if there is no log to send. `Ok` has
-    /// `Inflight::None` if the log's ids do not rise: then there is nothing to send.
+    /// `Err` contains what is in flight already, or `Inflight::None` if there is no log to send.
+    /// `Ok` contains `Inflight::None` if the log ids of the log do not rise, because then there is
+    /// nothing to send. It requires `can_send`.
     #[inline(always)]
     pub fn next_send<L: LogStateReader<C>>(
         &mut self,
@@ -237,7 +246,7 @@ impl<C: Ord + Copy> ProgressEntryOf<C> {
         }
     }
 
-    /// Whether something was sent, or at least a request id taken.
+    /// Whether something was sent, or at least a request id was taken.
     #[inline(always)]
     fn send<L: LogStateReader<C>>(&mut self, log: &L, max_entries: u64) -> bool
         requires { IsTrue (can_be_sent self.old (L.log_view log.now)) }
@@ -270,16 +279,17 @@ impl<C: Ord + Copy> ProgressEntryOf<C> {
         true
     }
 
-    /// Whether `sending_start` may be called: the match is not past the end of the search.
+    /// Whether the precondition of `sending_start` holds: the index after matching is at most the
+    /// searching end.
     pub fn can_start(&self) -> bool
         ensures { result ≡ nat_le (next_index self.now.matching) self.now.searching_end }
     {
         ends_by(self.matching, self.searching_end)
     }
 
-    /// Returns where the next probe starts, `matched + (end - matched) / 16 * 8`, and where the
-    /// search ends, which is `end`; `matched` is the index after the match, and `can_start` has to be
-    /// true.
+    /// Returns the index at which the next probe starts, and the searching end. The first is
+    /// `matched + (end - matched) / 16 * 8`, with `matched` the index after matching and `end` the
+    /// searching end. It requires `can_start`.
     pub fn sending_start(&self) -> (u64, u64)
         requires { next_index self.now.matching ≤ self.now.searching_end }
         ensures { result ≡ (
@@ -292,7 +302,7 @@ impl<C: Ord + Copy> ProgressEntryOf<C> {
     }
 }
 
-/// Where the next probe between a match and the end of the search starts.
+/// Returns the index at which the next probe between `matched` and the searching end starts.
 fn calc_mid(matched: u64, end: u64) -> u64
     requires { matched ≤ end }
     ensures value { result ≡ calc_mid matched end }
@@ -301,7 +311,7 @@ fn calc_mid(matched: u64, end: u64) -> u64
     matched + (end - matched) / 16 * 8
 }
 
-/// Whether a log id is absent or stands before an index.
+/// Whether a log id is absent or has an index below `end`.
 fn ends_by<C: Copy>(id: Option<LogIdOf<C>>, end: u64) -> bool
     ensures { result ≡ nat_le (next_index id) end }
 {
@@ -338,7 +348,7 @@ impl<C: Ord + Copy> Validate for ProgressEntryOf<C> {
     }
 }
 
-// By hand, for the name that the type goes by.
+// Handwritten, because the text has the name `ProgressEntry` and not `ProgressEntryOf`.
 impl<C: fmt::Debug> fmt::Debug for ProgressEntryOf<C> {
     fn fmt<W: fmt::Write>(&self, f: &mut fmt::Formatter<W>) -> fmt::Result {
         f.debug_struct("ProgressEntry")

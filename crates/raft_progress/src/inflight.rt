@@ -31,8 +31,8 @@ pub enum RequestId {
     },
 }
 
-/// Why a follower's response is refused. They are asked in this order, as far as they concern a
-/// call.
+/// Why a follower's response is refused. If several reasons hold, the first one in this order is
+/// returned.
 #[derive(Debug, Clone, Copy, PartialEq, Eq, Error)]
 pub enum InflightError {
     /// Nothing is in flight, or another request.
@@ -43,30 +43,30 @@ pub enum InflightError {
         /// The request that was responded to.
         received: u64,
     },
-    /// An ack of logs is not between the ends of what is in flight, by order or by index.
+    /// An ack of logs is outside the range that is in flight, by order or by index.
     #[error("ack out of range")]
     AckOutOfRange,
     /// An ack of a snapshot is below its last log id.
     #[error("snapshot ack regresses")]
     SnapshotAckRegress,
-    /// An ack is below the match.
+    /// An ack is below matching.
     #[error("matching regresses")]
     MatchingRegress,
     /// A conflict is not at the log before those in flight.
     #[error("conflict is not at prev")]
     ConflictNotAtPrev,
-    /// A snapshot never conflicts.
+    /// A conflict responds to a snapshot, which never conflicts.
     #[error("conflict on a snapshot")]
     ConflictOnSnapshot,
-    /// A conflict is at a log that matches already.
+    /// A conflict is at an index that matches already.
     #[error("conflict below matching")]
     ConflictBelowMatching,
-    /// An ack has the greatest index, after which there is none.
+    /// An ack has the greatest index, which has no next index.
     #[error("index too large")]
     IndexTooLarge,
 }
 
-/// What is in flight to a follower: it was sent, and its response has not come.
+/// What is in flight to a follower: it was sent, and has no response so far.
 #[derive(Debug, Clone, Copy, PartialEq, Eq)]
 pub enum InflightOf<C> {
     /// Nothing.
@@ -82,7 +82,7 @@ pub enum InflightOf<C> {
     Snapshot {
         /// The number of the request.
         id: u64,
-        /// The last log id of the snapshot, and none of an empty one.
+        /// The last log id of the snapshot, or `None` if the snapshot is empty.
         last_log_id: Option<LogIdOf<C>>,
     },
 }
@@ -91,7 +91,7 @@ pub enum InflightOf<C> {
 pub type Inflight<NID> = InflightOf<CommittedLeaderId<NID>>;
 
 impl<C: Ord + Copy> InflightOf<C> {
-    /// The logs after `prev` up to `last`, or nothing where there are none. The request is 0.
+    /// Returns the logs after `prev` up to `last` with request id 0, or `None` if there are none.
     pub fn logs(prev: Option<LogIdOf<C>>, last: Option<LogIdOf<C>>) -> Self
         ensures { result ≡ logs_from C.cmp 0 prev last }
     {
@@ -105,7 +105,7 @@ impl<C: Ord + Copy> InflightOf<C> {
         }
     }
 
-    /// A snapshot up to a log id. The request is 0.
+    /// Returns a snapshot up to a log id with request id 0.
     pub fn snapshot(snapshot_last_log_id: Option<LogIdOf<C>>) -> Self
         ensures { result ≡ Snapshot 0 snapshot_last_log_id }
     {
@@ -115,7 +115,7 @@ impl<C: Ord + Copy> InflightOf<C> {
         }
     }
 
-    /// The same in another request.
+    /// Returns this with another request id. `None` stays `None`.
     pub fn with_id(self, id: u64) -> Self
         ensures { result ≡ with_id self id }
     {
@@ -137,7 +137,7 @@ impl<C: Ord + Copy> InflightOf<C> {
         }
     }
 
-    /// Refuses the response to another request than the one in flight.
+    /// Returns an error unless the request is the one in flight.
     pub fn assert_my_id(&self, request_id: u64) -> Result<(), InflightError>
         ensures { result_err result ≡ wrong_id self.now request_id }
     {
@@ -152,7 +152,7 @@ impl<C: Ord + Copy> InflightOf<C> {
         }
     }
 
-    /// The number of the request in flight, if there is one.
+    /// Returns the number of the request in flight, if there is one.
     pub fn get_id(&self) -> Option<u64>
         ensures { result ≡ id_of self.now }
     {
@@ -163,7 +163,7 @@ impl<C: Ord + Copy> InflightOf<C> {
         }
     }
 
-    /// The number of the request in flight.
+    /// Returns the number of the request in flight. It requires that something is in flight.
     pub fn id(&self) -> u64
         requires { IsSome (id_of self.now) }
         ensures { Some result ≡ id_of self.now }
@@ -192,8 +192,8 @@ impl<C: Ord + Copy> InflightOf<C> {
         matches!(self, InflightOf::Snapshot { .. })
     }
 
-    /// Takes the response that the follower has all up to a log id. The logs after it stay in
-    /// flight.
+    /// Takes the response that the follower has all logs up to a log id. The logs after it stay in
+    /// flight. A refused response changes nothing.
     pub fn ack(&mut self, request_id: u64, upto: Option<LogIdOf<C>>) -> Result<(), InflightError>
         ensures { FollowsTable (inflight_after_ack C.cmp self.old request_id upto) self.old result
             self.new }
@@ -203,7 +203,7 @@ impl<C: Ord + Copy> InflightOf<C> {
         Ok(())
     }
 
-    /// Refuses what `ack` refuses, and takes nothing.
+    /// Returns the error that `ack` would return, and changes nothing.
     #[inline(always)]
     pub(crate) fn check_ack(
         &self,
@@ -233,8 +233,8 @@ impl<C: Ord + Copy> InflightOf<C> {
         }
     }
 
-    /// Takes an ack that `check_ack` does not refuse.
-    // Such an ack is not past the last log, so it is before it where the two differ.
+    /// Takes an ack for which `check_ack` returns no error.
+    // Such an ack is not past the last log, so it is before the last log if the two differ.
     #[inline(always)]
     pub(crate) fn take_ack(&mut self, upto: Option<LogIdOf<C>>)
         ensures { (id : ℕ) (after : InflightOf C) →
@@ -249,8 +249,8 @@ impl<C: Ord + Copy> InflightOf<C> {
         *self = InflightOf::None;
     }
 
-    /// Takes the response that the follower does not have the log before those in flight, which
-    /// stands at an index. Nothing stays in flight.
+    /// Takes the response that the follower does not have the log before those in flight, whose
+    /// index is `conflict`. Then nothing is in flight. A refused response changes nothing.
     pub fn conflict(&mut self, request_id: u64, conflict: u64) -> Result<(), InflightError>
         ensures { FollowsTable (inflight_after_conflict self.old request_id conflict) self.old
             result self.new }
@@ -276,14 +276,14 @@ impl<C: Ord + Copy> InflightOf<C> {
     }
 }
 
-/// Whether a log id lies between the ends of a range, by order and by index.
+/// Whether a log id is in a range or is the one before it, by order and by index.
 fn is_within<C: Ord + Copy>(range: &LogIdRangeOf<C>, upto: Option<LogIdOf<C>>) -> bool
     ensures { result ≡ is_within C.cmp range.now upto }
 {
     is_up_to(range.prev, upto) && is_up_to(upto, range.last)
 }
 
-/// Whether a log id is at most another one, by order and by index: its leader is, and its index.
+/// Whether a log id is at most another one by order, and its index is at most the other's index.
 fn is_up_to<C: Ord + Copy>(id: Option<LogIdOf<C>>, other: Option<LogIdOf<C>>) -> bool
     ensures { result ≡ (id_le C.cmp id other && index_le (index_of id) (index_of other)) }
 {

@@ -1,5 +1,4 @@
-//! What holds of every progress, as contracts: a caller that needs one of these facts calls its
-//! function, which does nothing.
+//! Laws of progresses. A caller that needs one in a proof calls its function, which does nothing.
 ghost use Rattle.std.specs.Prelude.{Option};
 ghost use Rattle.std.specs.declared.cmp.Ordering.{Ordering};
 ghost use Rattle.raft_progress.specs.entry.Sendable.{AckKeepsSendable, BeginsSendable, ConflictKeepsSendable, GiveUpKeepsSendable, GrowthKeepsSendable, SendKeepsSendable, SendableCanSend};
@@ -24,21 +23,21 @@ use crate::tracked::Tracked;
 use raft_base::{LogIdOf, LogStateReader, Node, NodeId};
 use raft_members::quorum::QuorumSet;
 
-/// A progress that was in order is in order once values have been written through `get_mut` or
-/// `iter_mut`, where ids and voters' parts are as they were.
+/// A progress that was in order is still in order after values have been written through `get_mut`
+/// or `iter_mut`, if the ids and the voters' parts are as they were.
 ///
-/// So whoever changes no more than what a value holds beside its part may go on with updates, and
-/// need not ask `is_in_order`.
+/// So a caller that changes only what a value contains beside its part may go on with updates, and
+/// need not call `is_in_order`.
 pub fn kept_parts_keep_order<ID: Copy + Ord, V: ProgressPart<P>, P: Copy + Ord, QS: QuorumSet<ID>>()
     ensures ordered { KeptPartsKeepOrder ID V P QS ID.eq V.part_of P.cmp QS.has_quorum }
     ensures same_part { SamePartKeepsParts ID V P QS ID.eq V.part_of }
 {}
 
-/// In any tracked progress granted is the counted value, and where the membership has a config,
-/// each quorum of it, and of each that one change makes of it, has a voter whose part is at least
+/// In any tracked progress granted is the counted value. If the membership has a config, each
+/// quorum of it, and each quorum of what one change makes of it, has a voter whose part is at least
 /// granted.
 ///
-/// It needs no replay: a new one and a clone have it too.
+/// This needs no replay: a new tracked progress and a clone have it too.
 pub fn quorums_know_granted<NID: NodeId, N: Node, V: ProgressPart<P>, P: Copy + Ord>(
     cluster: &Tracked<NID, N, V, P>,
 )
@@ -50,17 +49,17 @@ pub fn quorums_know_granted<NID: NodeId, N: Node, V: ProgressPart<P>, P: Copy + 
         (tracked cluster.now) }
 {}
 
-/// A part is at most what is granted exactly where it is at most the default's, or a quorum of the
-/// voters has reached it.
+/// A part is at most granted exactly if it is at most the default's part, or a quorum of the voters
+/// has reached it.
 ///
-/// So an index is committed exactly where a quorum matches up to it; a vote is won exactly where a
-/// quorum has voted; since a moment a quorum has been heard exactly where one has responded since.
+/// So an index is committed exactly if a quorum matches up to it, a vote is won exactly if a quorum
+/// has voted, and granted is at least a moment exactly if a quorum has responded since that moment.
 pub fn granted_is_threshold<ID: Copy + Ord, V: ProgressPart<P>, P: Copy + Ord, QS: QuorumSet<ID>>()
     ensures { GrantedIsThreshold ID V P QS ID.eq P.cmp V.part_of QS.has_quorum }
 {}
 
-/// Where any two quorums of a quorum set share a voter, each quorum has a voter whose part is at
-/// least granted: also for quorums of a stated size, and for quorum sets of one's own.
+/// If any two quorums of a quorum set share a voter, each quorum has a voter whose part is at least
+/// granted. This also holds for quorums of a stated size, and for your own quorum sets.
 pub fn meeting_quorums_know_granted<
     ID: Copy + Ord,
     V: ProgressPart<P>,
@@ -70,9 +69,10 @@ pub fn meeting_quorums_know_granted<
     ensures { MeetingQuorumsKnowGranted ID V P QS ID.eq P.cmp V.part_of QS.has_quorum }
 {}
 
-/// If each match is in the leader's log, or purged from the log, then so is what is granted.
+/// If each matching log id is in the leader's log, or purged from it, granted is too.
 ///
-/// So a leader need not look up what it commits, once each match that it has taken is in its log.
+/// So a leader need not look up what it commits, if each matching log id that it has taken is in
+/// its log.
 pub fn granted_is_logged<
     ID: Copy + Ord,
     V: ProgressPart<Option<LogIdOf<C>>>,
@@ -82,7 +82,8 @@ pub fn granted_is_logged<
     ensures { GrantedIsLogged ID V C QS ID.eq C.eq C.cmp V.part_of QS.has_quorum }
 {}
 
-/// There is one counted value of a state: two that are counted tie, and what ties is counted.
+/// A state has one counted value: two counted values tie, and a part that ties with a counted value
+/// is counted.
 pub fn counted_values_tie<ID: Copy + Ord, V: ProgressPart<P>, P: Copy + Ord, QS: QuorumSet<ID>>()
     ensures { CountedValuesTie ID V P QS P.cmp V.part_of QS.has_quorum }
 {}
@@ -97,12 +98,12 @@ pub fn clones_keep_order<
     ensures { ClonesKeepOrder ID V P QS ID.eq V.part_of P.cmp QS.has_quorum V.is_clone QS.is_clone }
 {}
 
-/// Calls that are made are steps of a run, and two runs, one from where the other has left, are
-/// one. So what is said of a replay holds of any list of calls: replies and values are a run of the
-/// steps, and without an upgrade granted never falls.
+/// Calls that were made are steps of a run, and two runs compose to one if the second begins where
+/// the first ended. So what is proved of a replay holds for any list of calls: replies and values
+/// are a run of the steps, and granted never falls without an upgrade.
 ///
-/// Values need no order: only an increase compares them. So the law holds of a leader's followers
-/// too, for whom `replay_any` can't be called, and it holds for each order that values may have.
+/// Values need no order, because only an increase compares them. So the law also holds for a
+/// leader's followers, for whom `replay_any` cannot be called, and for each order of the values.
 pub fn calls_are_runs<
     ID: Copy + Ord,
     V: ProgressPart<P> + Clone,
@@ -129,12 +130,12 @@ pub fn calls_are_runs<
         UpgradesAreSteps ID V P QS by QS.has_quorum QS.is_voter }
 {}
 
-/// Calls of a `Tracked` that are made are steps of a replay, and two replays, one from where the
-/// other has left, are one. The calls are an update, and going over to what a change makes of the
-/// membership. Over a replay, replies, membership and values are a run of the steps, and without a
-/// change granted never falls.
+/// Calls of a `Tracked` that were made are steps of a replay, and two replays compose to one if the
+/// second begins where the first ended. The calls are an update, and `change_to` with what a change
+/// makes of the membership. Over a replay, replies, membership and values are a run of the steps,
+/// and granted never falls without a change.
 ///
-/// Values need no order, as for `calls_are_runs`.
+/// Values need no order, because only an increase compares them.
 pub fn tracked_calls_are_runs<NID: NodeId, N: Node, V: ProgressPart<P> + Clone, P: Copy + Ord>()
     ensures compose { (order : V → V → Option Ordering) →
         let by = comparisons_ordered NID.Ord P.Ord order V.ProgressPart V.Clone in
@@ -153,20 +154,20 @@ pub fn tracked_calls_are_runs<NID: NodeId, N: Node, V: ProgressPart<P> + Clone, 
         TrackedChangesAreSteps NID N V P by N.eq }
 {}
 
-/// Once a change has been made, each quorum of the new membership has a voter whose present part is
-/// at least what was granted before: what was committed stays known after the change, also where
-/// less is granted then.
+/// After a change, each quorum of the new membership has a voter whose present part is at least
+/// what was granted before. So what was committed stays known after the change, even if less is
+/// granted then.
 pub fn change_keeps_granted<NID: NodeId, N: Node, V: ProgressPart<P> + Clone, P: Copy + Ord>()
     ensures { ChangeKeepsGranted NID N V P NID.eq NID.cmp N.eq P.cmp V.part_of V.is_clone }
 {}
 
-/// What each quorum of a membership knows stays known: over steps without a change, and over
-/// changes that are made while it is granted.
+/// What each quorum of a membership knows stays known over steps without a change, and over changes
+/// that are made while it is granted.
 ///
-/// So over several changes: what was granted is known for as long as before each further change
-/// what is granted has reached it again.
+/// So over several changes, what was granted stays known if it is granted again before each further
+/// change.
 ///
-/// Values need no order, as for `calls_are_runs`.
+/// Values need no order, because only an increase compares them.
 pub fn known_stays<NID: NodeId, N: Node, V: ProgressPart<P> + Clone, P: Copy + Ord>()
     ensures without_change { (order : V → V → Option Ordering) →
         let by = comparisons_ordered NID.Ord P.Ord order V.ProgressPart V.Clone in
@@ -176,10 +177,10 @@ pub fn known_stays<NID: NodeId, N: Node, V: ProgressPart<P> + Clone, P: Copy + O
         KnownOverChanges NID N V P by N.eq }
 {}
 
-/// Elections meet commits. Where matches and votes are counted over memberships that share a config,
-/// as before and after one change, and a quorum has voted, some voter of both matches what is
-/// granted of matches and has voted. So a candidate whose log is at least that of each who voted
-/// for it lacks nothing that is committed.
+/// Elections meet commits. If matching log ids and votes are counted under memberships that share a
+/// config, as before and after one change, and a quorum has voted, then some voter of both
+/// memberships matches what is granted of the matching log ids and has voted. So a candidate whose
+/// log is at least as up to date as the log of each of its voters has everything that is committed.
 pub fn granted_meet<
     NID: NodeId,
     N: Node,
@@ -193,18 +194,18 @@ pub fn granted_meet<
     ensures lacks_nothing { ElectedLacksNothing NID N M V P W Q NID.eq NID.cmp P.cmp V.part_of Q.cmp W.part_of }
 {}
 
-/// Where no send of a list has its purge point at or past an index, none that was not skipped has
-/// it there: the premise of the sharper bound of `search_run`, from its events alone.
+/// If no send of a list has its purge point at or past an index, no send that was not skipped has
+/// it there. This is the premise of the sharper bound of `search_run`, from its events alone.
 pub fn none_purged_past<C: Ord + Copy, L: LogStateReader<C>>()
     ensures { PurgedWithinStays L C C.cmp L.log_view }
 {}
 
-/// Once `can_send` has been true for a follower to whom nothing was in flight, it stays true while
-/// the log only grows: `IsSendable` holds from then on, over sends, over responses that are accepted
-/// and over `give_up`, until a request id or an index is the greatest u64.
+/// Once `can_send` has been true for a follower to which nothing was in flight, it stays true while
+/// the log only grows. `IsSendable` holds from then on, over sends, over accepted responses and
+/// over `give_up`, until a request id or an index is the greatest u64.
 ///
-/// The premises: an ack of a snapshot is not past the leader's log, which an ack of logs can't be,
-/// and the log has what its snapshot has.
+/// The premises are that an ack of a snapshot is not past the leader's log, which an ack of logs
+/// cannot be, and that the log has what its snapshot has.
 pub fn can_send_stays<C: Ord + Copy, L: LogStateReader<C>>()
     ensures begins { BeginsSendable C }
     ensures sends { (log : L) → SendKeepsSendable C C.cmp (L.log_view log) }

@@ -1,5 +1,5 @@
-//! What each follower of a Raft leader has, what is sent to it next, what a quorum of them has
-//! reached, and how this goes on where the membership changes.
+//! What each follower of a Raft leader has, what is sent to it next, what a quorum has reached, and
+//! how this continues if the membership changes.
 #![tactic(auto)]
 
 pub mod catch_up;

@@ -43,48 +43,49 @@ pub trait Progress<ID: Copy + Ord, V: ProgressPart<P>, P: Copy + Ord, QS: Quorum
     ghost use Rattle.raft_progress.specs.progress.Updated.{IsGreaterOf, IsNotLower, IsNotLowerIfGreater, NeverFalls};
     ghost use Rattle.raft_progress.specs.progress.UpgradeFold.{IsUpgradeFold};
 
-    /// What it shows.
+    /// What contracts see of a progress.
     ghost shows: { Self → Shown ID V P QS };
 
-    /// The granted value: the greatest part that a quorum of the voters has reached, and at least
-    /// the default's.
+    /// Returns the granted value: the greatest part that a quorum of the voters has reached, which
+    /// is at least the default's part.
     fn granted(&self) -> &P
         ensures { result.now ≡ (shows self.now).granted };
 
-    /// The value of an id.
+    /// Returns the value of an id, if the id is known.
     fn try_get(&self, id: &ID) -> Option<&V>
         ensures { option_copied result ≡ (state ID.eq (shows self.now)).value id.now };
 
-    /// The value of an id that is there.
+    /// Returns the value of a known id. It requires that `try_get` returns a value.
     fn get(&self, id: &ID) -> &V
         requires { IsSome ((state ID.eq (shows self.now)).value id.now) }
         ensures { (state ID.eq (shows self.now)).value id.now ≡ Some result.now };
 
-    /// The value of an id, to be written.
+    /// Lends the value of an id for writing.
     ///
-    /// Nothing is counted and nothing moves. Where the part of a voter changes, the progress may be
-    /// out of order afterwards: `is_in_order` tells. Else it stays in order
+    /// Nothing is recomputed and nothing moves. If the part of a voter changes, the progress may be
+    /// out of order afterwards, which `is_in_order` tests. Otherwise it stays in order
     /// (`laws::kept_parts_keep_order`).
     fn get_mut(&mut self, id: &ID) -> Option<&mut V>
         ensures* writes_back { sem 𝓛
             (LendsValue Self.row V.row shows ID.eq self.entry id.now result) }
         ensures value { option_copied_mut result ≡ (state ID.eq (shows self.old)).value id.now };
 
-    /// Whether an id is a voter: `None` for an unknown one.
+    /// Whether an id is a voter, or `None` for an unknown id.
     fn is_voter(&self, id: &ID) -> Option<bool>
         ensures { result ≡ voter_of (state ID.eq (shows self.now)) id.now };
 
-    /// The number of voters, whose binary digits bound the quorum tests of an update.
+    /// Returns the number of voters. An update makes at most k quorum tests if this number is less
+    /// than 2^k.
     fn voter_count(&self) -> usize
         ensures { result ≡ (shows self.now).voter_count };
 
-    /// Whether the progress is in order: the condition of the updates and of an upgrade.
+    /// Whether the progress is in order, which updates and upgrades require.
     ///
-    /// A new progress is, and each call here but `get_mut` leaves it so. It can be lost only by a
-    /// write through `get_mut`, or through `VecProgress::iter_mut`, that changes an id or a voter's
-    /// part (`laws::kept_parts_keep_order`), and not each such write loses it. A clone of one in
-    /// order is in order where clones of values have the part of their source, and those of quorum
-    /// sets its quorums (`laws::clones_keep_order`). The test changes nothing.
+    /// A new progress is in order, and each function here except `get_mut` keeps it in order. Only
+    /// a write through `get_mut` or `VecProgress::iter_mut` that changes an id or a voter's part
+    /// can lose the order, and not each such write does (`laws::kept_parts_keep_order`). A clone of
+    /// a progress in order is in order if clones of values have the same part, and clones of quorum
+    /// sets the same quorums (`laws::clones_keep_order`). The test changes nothing.
     fn is_in_order(&mut self) -> bool
         ensures answer { IsTrue result ↔
             IsInOrder ID.eq P.cmp V.part_of QS.has_quorum (shows self.old) }
@@ -92,27 +93,28 @@ pub trait Progress<ID: Copy + Ord, V: ProgressPart<P>, P: Copy + Ord, QS: Quorum
         ensures ordered { IsTrue result →
             IsInOrder ID.eq P.cmp V.part_of QS.has_quorum (shows self.new) };
 
-    /// The quorum set.
+    /// Returns the quorum set.
     fn quorum_set(&self) -> &QS
         ensures { result.now ≡ (shows self.now).quorum_set };
 
-    /// The ids and their values: the voters, then the learners.
+    /// Returns the ids and their values: the voters, then the learners.
     fn iter(&self) -> std::slice::Iter<(ID, V)>
         ensures { iter_rest result ≡ (shows self.now).walk };
 
-    /// Changes the value of an id by `f`, and answers granted: as an error where the id is unknown.
+    /// Changes the value of an id by `f`. Returns granted, as an error if the id is unknown.
     ///
-    /// A value's part may not fall: what a follower has acknowledged it keeps. A voter whose part
-    /// exceeds granted moves up past the voters directly before it that have less, and where it
-    /// passes granted, the least front of the walk that is a quorum tells what is granted now. A
-    /// learner grants nothing. No memory is taken.
+    /// A value's part may not fall, because a follower keeps what it has acknowledged. A voter
+    /// whose part exceeds granted moves up past the voters directly before it whose parts are less.
+    /// If its part was at most granted before, the shortest prefix of the entries that is a quorum
+    /// determines granted. A learner never changes granted. The call never allocates.
     ///
-    /// Voters 0 to 4 as `id:value`, granted 3, and voter 1 goes from 2 to 4:
+    /// For example, voters 0 to 4 are `id:value`, granted is 3, and voter 1 goes from 2 to 4:
     ///
-    /// - before, `4:5 0:4 2:3 1:2 3:3`: those whose parts exceed granted stand first;
+    /// - before, `4:5 0:4 2:3 1:2 3:3`: the voters whose parts exceed granted come first;
     /// - written, `4:5 0:4 2:3 1:4 3:3`;
-    /// - moved, `4:5 0:4 1:4 2:3 3:3`: past voter 2, and not past voter 0, which has as much;
-    /// - tested, `4:5 0:4 1:4`: the front up to its new place has three of five, so 4 is granted.
+    /// - moved, `4:5 0:4 1:4 2:3 3:3`: past voter 2, and not past voter 0, which has the same part;
+    /// - tested, `4:5 0:4 1:4`: the prefix up to its new position has three of five voters, so
+    ///   granted is 4.
     fn update_with<F: FnOnce(&mut V)>(&mut self, id: &ID, f: F) -> Result<&P, &P>
         requires ordered { IsInOrder ID.eq P.cmp V.part_of QS.has_quorum (shows self.old) }
         requires callable { ForSome ((state ID.eq (shows self.old)).value id.now)
@@ -123,17 +125,18 @@ pub trait Progress<ID: Copy + Ord, V: ProgressPart<P>, P: Copy + Ord, QS: Quorum
             (IsAnsweredUpdate ID.eq P.cmp V.part_of QS.has_quorum
             (Leaves F.FnOnce f) id.now result)) };
 
-    /// Whether a value's part is below that of the id's value, so that it may not be written.
+    /// Whether a value's part is below the part of the id's present value.
     ///
-    /// It is the test for the condition of `update`, and of `increase_to` with a greater value.
+    /// If it is, `update` may not be called, and `increase_to` may not be called with a greater
+    /// value.
     fn would_fall(&self, id: &ID, value: &V) -> bool
         ensures answer { result
             ≡ falls P.cmp V.part_of ((state ID.eq (shows self.now)).value id.now) value.now }
         ensures not_lower { result ≡ false →
             IsNotLower ID.eq P.cmp V.part_of (shows self.now) id.now value.now };
 
-    /// Writes the value of an id, and answers granted: as an error where the id is unknown. The
-    /// part may not fall: `would_fall` tells.
+    /// Writes the value of an id. Returns granted, as an error if the id is unknown. The part may
+    /// not fall, which `would_fall` tests.
     fn update(&mut self, id: &ID, value: V) -> Result<&P, &P>
         requires ordered { IsInOrder ID.eq P.cmp V.part_of QS.has_quorum (shows self.old) }
         requires not_lower { IsNotLower ID.eq P.cmp V.part_of (shows self.old) id.now value }
@@ -141,8 +144,9 @@ pub trait Progress<ID: Copy + Ord, V: ProgressPart<P>, P: Copy + Ord, QS: Quorum
             (IsAnsweredUpdate ID.eq P.cmp V.part_of QS.has_quorum
             (λ v w. w ≡ value) id.now result)) };
 
-    /// Writes the value of an id where it is greater than the present one, and counts an update
-    /// either way. The part of a greater value may not fall: `would_fall` tells.
+    /// Writes the value of an id if it is greater than the present one, and counts an update in
+    /// either case. Returns granted, as an error if the id is unknown. The part of a greater value
+    /// may not fall, which `would_fall` tests.
     fn increase_to(&mut self, id: &ID, value: V) -> Result<&P, &P>
     where
         V: PartialOrd,
@@ -153,28 +157,30 @@ pub trait Progress<ID: Copy + Ord, V: ProgressPart<P>, P: Copy + Ord, QS: Quorum
             (IsAnsweredUpdate ID.eq P.cmp V.part_of QS.has_quorum
             (IsGreaterOf V.partial_cmp value) id.now result)) };
 
-    /// Whether the learners fit a quorum set: none stands twice, and none is a voter.
+    /// Whether the learners fit a quorum set: no learner is repeated, and none is a voter.
     ///
-    /// It is the test for the condition of `VecProgress::new` and of `upgrade_quorum_set`.
+    /// This is the precondition of `VecProgress::new` and of `upgrade_quorum_set`. The test returns
+    /// an error if an allocation fails.
     fn learners_fit(alloc: Global, quorum_set: &QS, learners: &[ID]) -> Result<bool, AllocError>
         ensures { IfOk result (λ fits.
             IsTrue fits ↔ LearnersFit ID.eq (QS.is_voter quorum_set.now) learners.now) };
 
-    /// Whether no value that an upgrade would take over is below the new default.
+    /// Whether no value that an upgrade would inherit is below the new default.
     ///
-    /// It is the test for the condition of `upgrade_quorum_set`: values never fall, and
-    /// those at the default are the least.
+    /// This is the precondition of `upgrade_quorum_set`, because values never fall, and no value is
+    /// below the default. The test returns an error if an allocation fails.
     fn can_upgrade(&self, quorum_set: &QS, learners: &[ID], default: &V) -> Result<bool, AllocError>
         ensures { IfOk result (λ can. IsTrue can ↔ CanUpgrade ID.eq P.cmp V.part_of
             (QS.is_voter quorum_set.now) learners.now default.now
             (state ID.eq (shows self.now)).value) };
 
-    /// A progress over another quorum set that takes over the values of the ids that it has too.
+    /// Returns a progress with another quorum set that inherits the values of the ids that stay, or
+    /// an allocation error.
     ///
-    /// Granted is counted afresh over the new quorum set, so it may be less than before: the new
-    /// voters may have reached less. The learners stand as they are given. The counts go on from
-    /// the present ones; each present id counts an update, also one that is gone. `self` stays as
-    /// it is, also where a growth is refused.
+    /// Granted is recomputed under the new quorum set, so it may be less than before, because the
+    /// new voters may have reached less. The learners are in the given order. The counts continue
+    /// from the present ones, and each present id counts an update, even an id that does not stay.
+    /// `self` stays as it is, also if an allocation fails.
     fn upgrade_quorum_set(
         &self,
         quorum_set: QS,

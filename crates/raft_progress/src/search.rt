@@ -7,14 +7,14 @@ ghost use Rattle.raft_progress.specs.search.Search.{CanSearch, NonePurgedPast, a
 use crate::entry::ProgressEntryOf;
 use raft_base::{LogIdOptionExt, LogStateReader};
 
-/// What comes to a search.
+/// An event of a search.
 #[derive(Drop)]
 pub enum SearchEvent<'a, L> {
-    /// The leader sends what comes next.
+    /// The leader sends what is to be sent next.
     Send {
         /// The leader's log.
         log: &'a L,
-        /// How many entries a request has at most.
+        /// The greatest number of entries in a request.
         max_entries: u64,
     },
     /// The follower responds that it does not have the log before those in flight.
@@ -26,19 +26,21 @@ pub enum SearchEvent<'a, L> {
     },
     /// The follower responds to a heartbeat that it does not match at an index.
     Heartbeat {
-        /// The index.
+        /// The index at which it does not match.
         conflict: u64,
     },
 }
 
-/// Takes events one after another, and answers how many conflicts were accepted.
+/// Takes events one after another, and returns the number of accepted conflicts.
 ///
-/// The match stays, and the end of the search never grows nor passes it. A send is skipped where
-/// `can_send` is false, and where its purge point is before that of an
-/// earlier send that was not skipped. A response that is refused changes nothing. Each probe halves
-/// the stretch that is left, so the accepted conflicts are few: at most the binary digits of the
-/// stretch from the match to the end of the search, and at most those of a sixteenth of it, or one
-/// more where a send that was not skipped had its purge point past the match.
+/// Matching stays, and the searching end never grows and never falls below the index after
+/// matching. A send is skipped if `can_send` is false, or if its purge point is before the purge
+/// point of an earlier send that was not skipped. A refused response changes nothing.
+///
+/// Each probe halves the remaining stretch, so there are few accepted conflicts: at most k if the
+/// stretch from matching to the searching end is less than 2^k. There are also at most k if a
+/// sixteenth of the stretch is less than 2^k, and one more if a send that was not skipped had its
+/// purge point past matching.
 pub fn search_run<C: Ord + Copy, L: LogStateReader<C>>(
     entry: &mut ProgressEntryOf<C>,
     events: &[SearchEvent<'_, L>],
@@ -65,7 +67,7 @@ pub fn search_run<C: Ord + Copy, L: LogStateReader<C>>(
     accepted
 }
 
-/// Takes an event, and counts it where it is a conflict that was accepted.
+/// Takes an event, and counts it if it is an accepted conflict.
 fn run_event<C: Ord + Copy, L: LogStateReader<C>>(
     entry: &mut ProgressEntryOf<C>,
     event: &SearchEvent<'_, L>,
@@ -88,7 +90,7 @@ fn run_event<C: Ord + Copy, L: LogStateReader<C>>(
             let purge_upto = log.purge_upto().copied().index();
             if entry.can_send(*log) && *purged <= purge_upto {
                 *purged = purge_upto;
-                // What it answers stands in the entry: what is in flight now, or that nothing is.
+                // The result is in the entry too: what is in flight now, or that nothing is.
                 let _ = entry.next_send(*log, *max_entries);
             }
         }
@@ -104,7 +106,7 @@ fn run_event<C: Ord + Copy, L: LogStateReader<C>>(
             }
         }
         SearchEvent::Heartbeat { conflict } => {
-            // Accepted or refused, it is not counted, and a refusal leaves the entry as it was.
+            // This response is never counted, and a refusal leaves the entry as it was.
             let _ = entry.update_conflicting(None, *conflict);
         }
     }

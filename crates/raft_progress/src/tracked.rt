@@ -1,4 +1,4 @@
-//! A membership and the progress that counts by it; both change only together.
+//! A membership and the progress that counts by it. Both change only together.
 ghost use Rattle.std.specs.Prelude.{◌≡◌, IfOk};
 ghost use Rattle.raft_members.specs.Learners.{learners_of};
 ghost use Rattle.raft_members.specs.Members.{members_of};
@@ -28,9 +28,9 @@ pub type MembershipProgress<NID, V, P> = VecProgress<
 
 /// A membership, and the progress of its voters and learners.
 ///
-/// A quorum of the progress is a quorum of the membership, and its learners are the membership's.
-/// Both change only together, by `replay`, `update` and `change_to`. So the progress is always in
-/// order, and counts by the membership.
+/// A quorum of the progress is a quorum of the membership, and the learners of the progress are
+/// those of the membership. Both change only together, by `replay`, `update` and `change_to`. So
+/// the progress is always in order, and counts by the membership.
 #[derive(Debug, PartialEq, Eq, Drop)]
 pub struct Tracked<NID: NodeId, N: Node, V: ProgressPart<P>, P: Copy + Ord> {
     membership: Membership<NID, N>,
@@ -46,8 +46,8 @@ impl<NID: NodeId, N: Node, V: ProgressPart<P> + Drop, P: Copy + Ord> Tracked<NID
     ghost use Rattle.raft_progress.specs.tracked.TrackedState.{IsReady};
     ghost use Rattle.raft_progress.specs.progress.VecProgress.{shown};
 
-    /// The membership, with a progress in which each voter and each learner has a clone of the
-    /// default.
+    /// Returns the membership with a progress in which each voter and each learner has a clone of
+    /// the default, or an allocation error.
     pub fn new(membership: Membership<NID, N>, default: V) -> Result<Self, AllocError>
     where
         V: Clone,
@@ -68,14 +68,14 @@ impl<NID: NodeId, N: Node, V: ProgressPart<P> + Drop, P: Copy + Ord> Tracked<NID
         })
     }
 
-    /// The membership.
+    /// Returns the membership.
     pub fn membership(&self) -> &Membership<NID, N>
         ensures { result.now ≡ (tracked self.now).membership }
     {
         &self.membership
     }
 
-    /// The progress of its voters and learners.
+    /// Returns the progress of its voters and learners.
     pub fn progress(&self) -> &MembershipProgress<NID, V, P>
         ensures { shown result.now ≡ (tracked self.now).progress }
     {
@@ -91,7 +91,8 @@ impl<NID: NodeId, N: Node, V: ProgressPart<P> + Clone + Drop, P: Copy + Ord> Tra
     ghost use Rattle.raft_progress.specs.tracked.Tracked.{tracked};
     ghost use Rattle.raft_progress.specs.tracked.TrackedState.{HasSameConfigs};
 
-    /// An equal membership, with a progress that has a clone of each value and all else the same.
+    /// Returns an equal membership with a progress that has a clone of each value and is otherwise
+    /// unchanged, or an allocation error.
     pub fn try_clone(&self) -> Result<Self, AllocError>
         requires clones_have_the_part { (v w : V) → V.is_clone v w → V.part_of w ≡ V.part_of v }
         requires clones_of_nodes_are_equal { ClonesAreEqual N.eq N.is_clone }
@@ -110,7 +111,7 @@ impl<NID: NodeId, N: Node, V: ProgressPart<P> + Clone + Drop, P: Copy + Ord> Tra
     }
 }
 
-/// The learners of a membership, ascending.
+/// Returns the learners of a membership, ascending.
 fn learners_of<NID: NodeId, N: Node>(
     alloc: Global,
     membership: &Membership<NID, N>,
@@ -120,8 +121,8 @@ fn learners_of<NID: NodeId, N: Node>(
         AreLearners NID.eq (members_of NID.cmp membership.now) ids.items) }
 {
     let mut ids = Vec::new(alloc);
-    // Pushed and not collected: std's `collect` survives a refused growth by asking for less, and a
-    // step that wanted memory would not say so.
+    // The ids are pushed and not collected. If an allocation fails, `collect` of std tries a
+    // smaller one, so the step would not return out of memory.
     for id in membership.learner_ids() {
         ids.push(id)?;
     }

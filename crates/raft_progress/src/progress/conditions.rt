@@ -1,5 +1,5 @@
-//! The tests for the conditions of calls: that learners fit, that a progress is in order, and that no
-//! value's part falls; and which ids a new quorum set and its learners have.
+//! Tests of preconditions: whether learners fit, whether a progress is in order, and whether a
+//! value's part falls. It also has the ids of a quorum set and its learners.
 ghost use Rattle.std.specs.Prelude.{◌≡◌, ◌↔◌, ◌++◌, IfOk, IsTrue};
 ghost use Rattle.std.specs.List.{IsDistinct, list_all, list_any};
 ghost use Rattle.std.specs.List.Sorted.{IsSorted};
@@ -11,7 +11,7 @@ ghost use Rattle.raft_progress.specs.progress.Steps.{falls};
 use super::part::ProgressPart;
 use std::alloc::AllocError;
 
-/// The ids, and then the learners.
+/// Returns the ids, followed by the learners.
 pub(crate) fn with_learners<ID: Copy + Ord>(
     ids: Vec<ID>,
     learners: &[ID],
@@ -25,8 +25,8 @@ pub(crate) fn with_learners<ID: Copy + Ord>(
     Ok(all)
 }
 
-/// Whether no id stands twice.
-// The ids are put in order, so that equal ones are neighbours.
+/// Whether no id is repeated.
+// The ids are sorted, so that equal ones are neighbours.
 pub(crate) fn are_distinct<ID: Copy + Ord>(mut ids: Vec<ID>) -> bool
     ensures { IsTrue result ↔ IsDistinct ID.eq ids.items }
 {
@@ -34,7 +34,7 @@ pub(crate) fn are_distinct<ID: Copy + Ord>(mut ids: Vec<ID>) -> bool
     have_no_equal_neighbours(&ids)
 }
 
-/// Whether no id of a list in order equals the one before it.
+/// Whether no id of a sorted list equals the one before it.
 fn have_no_equal_neighbours<ID: Copy + Ord>(ids: &[ID]) -> bool
     requires { IsSorted ID.cmp ids.now }
     ensures { IsTrue result ↔ IsDistinct ID.eq ids.now }
@@ -54,7 +54,7 @@ fn has_id<ID: Copy + Ord, V>(walk: &[(ID, V)], id: ID) -> bool
     walk.iter().any(|entry| entry.0 == id)
 }
 
-/// Whether no id stands twice.
+/// Whether no id is repeated.
 fn has_distinct_ids<ID: Copy + Ord, V>(walk: &[(ID, V)]) -> bool
     ensures { result ≡ ids_differ ID.eq walk.now }
 {
@@ -66,7 +66,7 @@ fn has_distinct_ids<ID: Copy + Ord, V>(walk: &[(ID, V)]) -> bool
     true
 }
 
-/// Whether no voter whose part exceeds `granted` stands directly behind a lesser one.
+/// Whether no voter whose part exceeds `granted` comes directly after one with a lesser part.
 fn is_falling<ID: Copy, V: ProgressPart<P>, P: Copy + Ord>(voters: &[(ID, V)], granted: P) -> bool
     ensures { result ≡ never_rises P.cmp V.part_of granted voters.now }
 {
@@ -80,7 +80,7 @@ fn is_falling<ID: Copy, V: ProgressPart<P>, P: Copy + Ord>(voters: &[(ID, V)], g
     true
 }
 
-/// Whether each voter's part is at least the least that is allowed.
+/// Whether each voter's part is at least `least`.
 fn is_at_least<ID: Copy, V: ProgressPart<P>, P: Copy + Ord>(voters: &[(ID, V)], least: P) -> bool
     ensures { result ≡ list_all (at_least P.cmp V.part_of least) voters.now }
 {
@@ -89,8 +89,8 @@ fn is_at_least<ID: Copy, V: ProgressPart<P>, P: Copy + Ord>(voters: &[(ID, V)], 
         .all(|entry| least.cmp(&entry.1.part()).is_le())
 }
 
-/// Whether no id of a walk stands twice, no voter past `granted` stands directly behind a lesser
-/// one, and none is below the least part that is allowed.
+/// Whether no id is repeated, no voter above `granted` comes directly after one with a lesser part,
+/// and no voter's part is below the least allowed one.
 pub(crate) fn is_ordered<ID: Copy + Ord, V: ProgressPart<P>, P: Copy + Ord>(
     walk: &[(ID, V)],
     voters: &[(ID, V)],
@@ -109,7 +109,7 @@ pub(crate) fn is_among<ID: Copy + Ord>(voters: &[ID], learners: &[ID], id: &ID) 
     voters.contains(id) || learners.contains(id)
 }
 
-/// Whether an id comes before the least one so far.
+/// Whether an id is below the least one so far, or there is none so far.
 pub(crate) fn is_before<ID: Copy + Ord>(id: ID, least: Option<ID>) -> bool
     ensures { result ≡ comes_before ID.cmp id least }
 {
@@ -119,7 +119,7 @@ pub(crate) fn is_before<ID: Copy + Ord>(id: ID, least: Option<ID>) -> bool
     }
 }
 
-/// Whether the value's part is below that of the present value.
+/// Whether the value's part is below the part of the present value.
 pub(crate) fn would_fall<V: ProgressPart<P>, P: Copy + Ord>(current: Option<&V>, value: &V) -> bool
     ensures { result ≡ falls P.cmp V.part_of (option_copied current.entry) value.now }
 {

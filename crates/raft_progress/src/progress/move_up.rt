@@ -1,4 +1,4 @@
-//! How a voter moves up in the walk.
+//! How a voter moves up among the entries.
 ghost use Rattle.std.specs.Prelude.{◌≡◌, ◌-◌, ◌<◌, length};
 ghost use Rattle.std.specs.List.{swap};
 ghost use Rattle.std.specs.Ordering.{is_lt};
@@ -8,7 +8,7 @@ ghost use Rattle.raft_progress.specs.Inner.Rises.{RisesTo};
 use super::part::ProgressPart;
 use std::mem;
 
-/// Whether the part of the entry at a place is less than another part.
+/// Whether the part of the entry at a position is less than another part.
 fn has_part_below<ID: Copy, V: ProgressPart<P>, P: Copy + Ord>(
     walk: &[(ID, V)],
     place: usize,
@@ -21,8 +21,9 @@ fn has_part_below<ID: Copy, V: ProgressPart<P>, P: Copy + Ord>(
     walk[place].1.part().cmp(&part).is_lt()
 }
 
-/// Exchanges the entry at a place with the one before it.
-// Id and value apart: to swap whole entries is to copy one of them aside and back.
+/// Swaps the entry at a position with the one before it.
+// Ids and values are swapped separately, because a swap of whole entries copies one of them aside
+// and back.
 fn swap_with_previous<ID: Copy, V>(walk: &mut Vec<(ID, V)>, place: usize)
     requires { (0 < place) × (place < length walk.old.items) }
     ensures { walk.new.items ≡ swap walk.old.items (place - 1) place }
@@ -34,7 +35,8 @@ fn swap_with_previous<ID: Copy, V>(walk: &mut Vec<(ID, V)>, place: usize)
     mem::swap(&mut before.1, &mut entry.1);
 }
 
-/// Moves an entry up past the entries directly before it whose part is less, and answers its place.
+/// Moves an entry up past the entries directly before it whose parts are less. Returns its new
+/// position.
 pub(crate) fn move_up<ID: Copy, V: ProgressPart<P>, P: Copy + Ord>(
     walk: &mut Vec<(ID, V)>,
     place: usize,

@@ -1,4 +1,4 @@
-//! The place of each id in the walk, in an ordered map that stands beside it.
+//! The position of each id among the entries, in a sorted list beside them.
 ghost use Rattle.std.specs.Prelude.{◌≡◌, ◌<◌, ◌≤◌, length, map, IfOk, Ok, Some};
 ghost use Rattle.std.specs.List.{IsDistinct};
 ghost use Rattle.std.specs.List.Sorted.{IsStrictlySortedBy};
@@ -9,25 +9,26 @@ ghost use Rattle.raft_progress.specs.Inner.Places.{AreAllPlaces, AreInverse, Tel
 
 use std::alloc::{AllocError, Global};
 
-/// Up to how many ids a look-up compares with one after another. More of them are halved.
+/// Up to this many ids are compared one after another by a look-up. More ids are searched by
+/// halving.
 const FEW: usize = 16;
 
-/// The place of each id of a walk, and the way back.
+/// The position of each id among the entries, and the reverse.
 ///
-/// The ids stand in order, each with its place. Which ids there are never changes, so each has a
-/// rank that stays, and a move finds the entries that it changes by their ranks, without a look-up.
+/// The ids are sorted, each with its position. The set of ids never changes, so each id has a fixed
+/// rank, and a move finds the list items that it changes by their ranks, without a look-up.
 #[derive(Drop)]
 pub(crate) struct Places<ID: Copy + Ord> {
-    /// The ids, ascending, each with its place.
+    /// The ids, ascending, each with its position.
     entries: Vec<(ID, usize)>,
-    /// The rank of each place's id: where it stands among the entries.
+    /// For each position, the rank of its id: the index of the id in `entries`.
     ranks: Vec<usize>,
     ghost ascending: { IsStrictlySortedBy ID.cmp (keys_of entries.items) } by { Prim.hlevel props },
     ghost inverse: { AreInverse (values_of entries.items) ranks.items } by { Prim.hlevel props },
 }
 
 impl<ID: Copy + Ord> Places<ID> {
-    /// The places of a walk.
+    /// Returns the positions of the ids of a progress, or an allocation error.
     pub(crate) fn of<V>(alloc: Global, walk: &[(ID, V)]) -> Result<Self, AllocError>
         requires { IsDistinct ID.eq (keys_of walk.now) }
         ensures tells { IfOk result (λ places.
@@ -39,7 +40,7 @@ impl<ID: Copy + Ord> Places<ID> {
         Ok(Places { entries, ranks })
     }
 
-    /// The same places.
+    /// Returns the same positions, or an allocation error.
     pub(crate) fn try_clone(&self) -> Result<Self, AllocError>
         ensures entries { IfOk result (λ made. made.entries.items ≡ self.now.entries.items) }
         ensures ranks { IfOk result (λ made. made.ranks.items ≡ self.now.ranks.items) }
@@ -49,7 +50,7 @@ impl<ID: Copy + Ord> Places<ID> {
         Ok(Places { entries, ranks })
     }
 
-    /// The place of an id.
+    /// Returns the position of an id, if the id is known.
     #[inline(always)]
     pub(crate) fn get(&self, id: &ID) -> Option<usize>
         ensures { result ≡ place_in ID.eq self.now.entries.items id.now }
@@ -64,7 +65,7 @@ impl<ID: Copy + Ord> Places<ID> {
         self.get_of_many(id)
     }
 
-    /// The same, by halving.
+    /// Returns the position of an id, found by halving.
     fn get_of_many(&self, id: &ID) -> Option<usize>
         ensures { result ≡ place_in ID.eq self.now.entries.items id.now }
     {
@@ -74,8 +75,8 @@ impl<ID: Copy + Ord> Places<ID> {
         }
     }
 
-    /// Writes the places that an entry's move from `last` up to `first` has changed. No memory is
-    /// taken.
+    /// Updates the positions after an entry was moved from `last` up to `first`. It never
+    /// allocates.
     #[inline(always)]
     pub(crate) fn record_move(&mut self, first: usize, last: usize)
         requires ascending { first ≤ last }
@@ -88,7 +89,7 @@ impl<ID: Copy + Ord> Places<ID> {
     }
 }
 
-/// The ids of a walk in order, each with its place.
+/// Returns the sorted ids of a progress, each with its position.
 fn sorted_entries<ID: Copy + Ord, V>(
     alloc: Global,
     walk: &[(ID, V)],
@@ -108,7 +109,7 @@ fn sorted_entries<ID: Copy + Ord, V>(
     Ok(entries)
 }
 
-/// Where each place's entry stands.
+/// Returns the rank of the id at each position.
 fn ranks_of<ID: Copy + Ord>(
     alloc: Global,
     entries: &[(ID, usize)],
@@ -127,8 +128,8 @@ fn ranks_of<ID: Copy + Ord>(
     Ok(ranks)
 }
 
-/// Moves the entry at `last` up to `first`, so that each entry between is one place further down.
-// Both lists are given as slices, so that where they stand is not read anew in each step.
+/// Moves the entry at `last` up to `first`, so that each entry between moves down by one position.
+// Both lists are passed as slices, so that their addresses are not read again at each turn.
 #[inline(always)]
 fn shift_between<ID: Copy + Ord>(
     entries: &mut [(ID, usize)],

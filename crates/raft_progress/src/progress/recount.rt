@@ -1,4 +1,4 @@
-//! The greatest part that a quorum has reached, counted afresh over all voters.
+//! The greatest part that a quorum has reached, recomputed from all voters.
 ghost use Rattle.std.specs.Prelude.{◌≡◌, ◌≤◌, length, filter, take};
 ghost use Rattle.std.specs.List.{IsDistinct};
 ghost use Rattle.std.specs.Map.{keys_of};
@@ -7,8 +7,8 @@ ghost use Rattle.raft_progress.specs.Inner.Recount.{IsGreatest, at_least, reache
 use super::part::ProgressPart;
 use raft_members::quorum::QuorumSet;
 
-/// Writes the ids of the voters whose part is at least `least` to the front of
-/// `room`, and answers how many they are.
+/// Writes the ids of the voters whose part is at least `least` to the beginning of the scratch
+/// space `room`. Returns their number.
 fn gather<ID: Copy, V: ProgressPart<P>, P: Copy + Ord>(
     voters: &[(ID, V)],
     least: P,
@@ -45,7 +45,7 @@ fn is_reached<ID: Copy + Ord, V: ProgressPart<P>, P: Copy + Ord, QS: QuorumSet<I
     quorum_set.is_quorum(&room[..n])
 }
 
-/// The greatest of the default's part and of the voters' parts that a quorum has reached.
+/// Returns the greatest of the default's part and of the voters' parts that a quorum has reached.
 pub(crate) fn count<ID: Copy + Ord, V: ProgressPart<P>, P: Copy + Ord, QS: QuorumSet<ID>>(
     quorum_set: &QS,
     voters: &[(ID, V)],

@@ -22,7 +22,7 @@ use super::vec_progress::VecProgress;
 use raft_members::quorum::QuorumSet;
 use std::alloc::{AllocError, Global};
 
-/// Makes one step.
+/// Makes one step, and returns its reply.
 fn answer<
     ID: Copy + Ord,
     V: ProgressPart<P> + PartialOrd + Clone + Drop,
@@ -47,7 +47,7 @@ fn answer<
     }
 }
 
-/// Upgrades to another quorum set, or leaves the progress as it is.
+/// Upgrades to another quorum set, or leaves the progress as it is. Returns the reply.
 fn upgrade<
     ID: Copy + Ord,
     V: ProgressPart<P> + Clone + Drop,
@@ -71,7 +71,8 @@ fn upgrade<
     }
 }
 
-/// Upgrades, or finds why not.
+/// Upgrades to another quorum set, or finds why the upgrade is refused. Returns the reply, or an
+/// allocation error.
 fn try_upgrade<
     ID: Copy + Ord,
     V: ProgressPart<P> + Clone + Drop,
@@ -95,7 +96,8 @@ fn try_upgrade<
     upgrade_unless_refused(progress, refusal, quorum_set, learners, default)
 }
 
-/// Asks first whether the learners fit, then whether a value is below the new default.
+/// Returns the reply that refuses an upgrade, if there is one: `BadLearners` comes before
+/// `BelowDefault`.
 fn find_refusal<ID: Copy + Ord, V: ProgressPart<P> + Drop, P: Copy + Ord, QS: QuorumSet<ID> + Drop>(
     progress: &VecProgress<ID, V, P, QS>,
     quorum_set: &QS,
@@ -121,9 +123,10 @@ fn find_refusal<ID: Copy + Ord, V: ProgressPart<P> + Drop, P: Copy + Ord, QS: Qu
     }
 }
 
-/// Upgrades to another quorum set, unless a refusal was found: then it is what is answered.
-// A function of its own, so that a clause says this: by those of `try_upgrade` want of memory may
-// be answered in place of any refusal.
+/// Upgrades to another quorum set, unless a refusal is given. Returns the refusal, or granted after
+/// the upgrade.
+// A separate function, so that a clause states that the refusal is returned. The clauses of
+// `try_upgrade` allow an allocation failure in place of any refusal.
 fn upgrade_unless_refused<
     ID: Copy + Ord,
     V: ProgressPart<P> + Clone + Drop,
@@ -161,7 +164,8 @@ fn upgrade_unless_refused<
     }
 }
 
-/// Writes a value where it is greater than the present one, unless its part is below.
+/// Writes a value if it is greater than the present one, unless its part is below the present part.
+/// Returns the reply.
 pub(crate) fn increase<
     ID: Copy + Ord,
     V: ProgressPart<P> + PartialOrd + Drop,
@@ -183,7 +187,7 @@ pub(crate) fn increase<
     }
 }
 
-/// Whether there is a value that the new one isn't greater than.
+/// Whether there is a present value that the new one is not greater than.
 fn is_not_greater<V: PartialOrd>(current: Option<&V>, value: &V) -> bool
     ensures { result ≡ stays V.partial_cmp (option_copied current.entry) value.now }
 {
@@ -193,9 +197,9 @@ fn is_not_greater<V: PartialOrd>(current: Option<&V>, value: &V) -> bool
     }
 }
 
-/// Makes the steps in order, with a reply for each.
+/// Makes the steps in order. Returns a reply for each step, or an allocation error.
 ///
-/// Granted never falls where none of the steps is an upgrade.
+/// Granted never falls if no step is an upgrade.
 pub fn replay_any<
     ID: Copy + Ord,
     V: ProgressPart<P> + PartialOrd + Clone + Drop,

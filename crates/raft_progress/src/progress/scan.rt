@@ -1,4 +1,4 @@
-//! The least front of the walk that is a quorum.
+//! The shortest prefix of the voters that is a quorum.
 ghost use Rattle.std.specs.Prelude.{◌≡◌, ◌+◌, ◌^◌, ◌<◌, ◌≤◌, length, take};
 ghost use Rattle.std.specs.List.{IsDistinct, prefix_len};
 ghost use Rattle.std.specs.Map.{keys_of};
@@ -9,8 +9,8 @@ ghost use Rattle.raft_progress.specs.Inner.Rises.{IsLeastFront};
 use super::part::ProgressPart;
 use raft_members::quorum::QuorumSet;
 
-/// Writes the ids of the first voters, those whose part exceeds `least`, to the front of
-/// `room`, and answers how many they are.
+/// Writes the ids of the first voters, those whose part exceeds `least`, to the beginning of the
+/// scratch space `room`. Returns their number.
 pub(crate) fn gather_leading<ID: Copy, V: ProgressPart<P>, P: Copy + Ord>(
     voters: &[(ID, V)],
     least: P,
@@ -31,21 +31,22 @@ pub(crate) fn gather_leading<ID: Copy, V: ProgressPart<P>, P: Copy + Ord>(
     n
 }
 
-/// What a scan of fronts has found.
+/// The result of a scan of prefixes.
 #[derive(Clone, Copy)]
 pub(crate) struct Scan {
-    /// The length of the least front that is a quorum.
+    /// The length of the shortest prefix that is a quorum, if there is one.
     pub front: Option<usize>,
-    /// How many fronts were tested.
+    /// The number of prefixes that were tested.
     pub tests: u64,
 }
 
-/// The least front above `low` and up to `high` that is a quorum, found by halving. The room begins
-/// with the ids of the front up to `high`.
+/// Finds the shortest prefix of the voters that is a quorum, among those longer than `low` and at
+/// most `high` long, by halving. The scratch space `room` begins with the ids of the first `high`
+/// voters.
 ///
-/// A front that contains a quorum is one, so a test halves the fronts that are left, and there are
-/// at most as many tests as the number of voters has binary digits. Within this bound the longest
-/// front that may be is tried: if it is no quorum, neither is any other, and one test tells.
+/// A prefix that contains a quorum is a quorum, so each test halves the remaining prefixes. There
+/// are at most k tests if the number of voters is less than 2^k. Each test takes the longest prefix
+/// that this bound allows. If that prefix is no quorum, no other one is, and one test is enough.
 #[inline(always)]
 pub(crate) fn least_front<ID: Copy + Ord, V, QS: QuorumSet<ID>>(
     quorum_set: &QS,
@@ -62,7 +63,8 @@ pub(crate) fn least_front<ID: Copy + Ord, V, QS: QuorumSet<ID>>(
         low high result.front result.tests }
 {
     let mut tests = 0;
-    // If a single front is left, as is usual when the voters follow their leader, one test tells.
+    // If a single prefix is left, as is usual when the voters follow their leader, one test is
+    // enough.
     let fronts = high.saturating_sub(low);
     if fronts == 1 {
         let passed = test_front(quorum_set, &room[..high], &mut tests);
@@ -81,12 +83,12 @@ pub(crate) fn least_front<ID: Copy + Ord, V, QS: QuorumSet<ID>>(
             failed = front;
         }
     }
-    // A test that passed has left the fronts that are shorter.
+    // A test that passes leaves only the shorter prefixes.
     let front = if end < high { Some(end + 1) } else { None };
     Scan { front, tests }
 }
 
-/// Tests whether a front is a quorum, and counts the test.
+/// Whether a prefix is a quorum. It counts the test.
 #[inline(always)]
 fn test_front<ID: Copy + Ord, QS: QuorumSet<ID>>(
     quorum_set: &QS,

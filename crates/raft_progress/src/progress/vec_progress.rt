@@ -23,10 +23,11 @@ use std::alloc::{AllocError, Global};
 /// The values of voters and learners in a vector, and the greatest part that a quorum of the voters
 /// has reached.
 ///
-/// The voters whose part exceeds the granted value come first, and their parts never rise along the
-/// vector. So the voters that have reached a part are a front of it, and a quorum is found by
-/// testing fronts. Voters up to granted are in no order, and learners, which come last, never move.
-/// An ordered map beside the vector tells the place of each id.
+/// The entries of the vector are the voters, then the learners. The voters whose part exceeds
+/// granted come first, and their parts never rise along the vector. So the voters that have reached
+/// such a part are a prefix of the entries, and a quorum is found by tests of prefixes. Voters up
+/// to granted are in no order, and learners never move. A sorted list beside the vector has the
+/// position of each id.
 #[derive(Drop)]
 pub struct VecProgress<ID: Copy + Ord, V, P, QS> {
     quorum_set: QS,
@@ -35,8 +36,8 @@ pub struct VecProgress<ID: Copy + Ord, V, P, QS> {
     voter_count: usize,
     walk: Vec<(ID, V)>,
     places: Places<ID>,
-    // Whether ids may have been written through `iter_mut`, so that
-    // places are searched for in the walk.
+    // Whether ids may have been written through `iter_mut`, so that positions are searched for
+    // among the entries.
     stale: bool,
     room: Vec<ID>,
     stat: Stat,
@@ -63,11 +64,12 @@ impl<
     ghost use Rattle.raft_progress.specs.progress.Statistics.{no_counts};
     ghost use Rattle.raft_progress.specs.progress.VecProgress.{shown};
 
-    /// A progress in which each voter and each learner has a clone of the default.
+    /// Returns a progress in which each voter and each learner has a clone of the default, or an
+    /// allocation error.
     ///
-    /// The walk begins with the voters of the quorum set, ascending, and goes on with the learners
-    /// as they are given. The default's part is granted from the start: every voter has it. The
-    /// room for quorum tests is reserved here, so that updates and reads take no memory.
+    /// The entries are the voters of the quorum set, ascending, followed by the learners in the
+    /// given order. The default's part is granted from the start, because every voter has it. The
+    /// scratch space for quorum tests is allocated here, so that updates and reads never allocate.
     pub fn new(
         alloc: Global,
         quorum_set: QS,
@@ -112,21 +114,22 @@ impl<
         })
     }
 
-    /// The allocator of its entries.
+    /// Returns the allocator of its entries.
     pub(crate) fn allocator(&self) -> Global {
         *self.walk.allocator()
     }
 
-    /// The part of the default.
+    /// Returns the part of the default.
     pub fn default_part(&self) -> &P
         ensures { result.now ≡ (shown self.now).default_part }
     {
         &self.default_part
     }
 
-    /// The place of an id in the walk, counted from 0. It may change with each update.
+    /// Returns the position of an id among the entries, counted from 0. It may change with each
+    /// update.
     ///
-    /// It goes by the original's name, and is no index of a log.
+    /// It has the original's name, and is not an index of a log.
     #[inline(always)]
     pub fn index(&self, id: &ID) -> Option<usize>
         ensures { result ≡ position (λ e. ID.eq id.now e.0) ((shown self.now).walk) }
@@ -137,8 +140,8 @@ impl<
         self.places.get(id)
     }
 
-    /// The same, searched for in the walk, whatever the map says.
-    // Marked as cold, so that a look-up in the map is not held up by what the search needs.
+    /// Returns the position of an id, searched for among the entries without the sorted list.
+    // It is cold, so that a look-up in the sorted list does not set up what the search needs.
     #[cold]
     fn place_in_walk(&self, id: &ID) -> Option<usize>
         ensures { result ≡ position (λ e. ID.eq id.now e.0) ((shown self.now).walk) }
@@ -146,7 +149,7 @@ impl<
         self.walk.iter().position(|entry| *id == entry.0)
     }
 
-    /// The value at the place that a look-up has found.
+    /// Returns the value at the position that a look-up has found.
     fn value_at(&self, found: Option<usize>) -> Option<&V>
         requires { ForSome found (λ place. place < length (shown self.now).walk) }
         ensures { (id : ID) → found ≡ position (λ e. ID.eq id e.0) (shown self.now).walk →
@@ -158,17 +161,17 @@ impl<
         }
     }
 
-    /// How much it has done.
+    /// Returns the counts of what it has done.
     pub fn stat(&self) -> &Stat
         ensures { result.now ≡ (shown self.now).stat }
     {
         &self.stat
     }
 
-    /// The ids and their values, to be written.
+    /// Lends the ids and their values for writing.
     ///
-    /// Nothing is counted and nothing moves. Where an id or the part of a voter changes,
-    /// the progress may be out of order afterwards: `is_in_order` tells. Else it stays in
+    /// Nothing is recomputed and nothing moves. If an id or the part of a voter changes, the
+    /// progress may be out of order afterwards, which `is_in_order` tests. Otherwise it stays in
     /// order (`laws::kept_parts_keep_order`).
     pub fn iter_mut(&mut self) -> std::slice::IterMut<(ID, V)>
         ensures* writes_back { sem 𝓛 (LendsWalk ID.row V.row P.row QS.row ID.Ord.own ID.PartialEq

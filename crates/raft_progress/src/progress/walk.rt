@@ -1,4 +1,4 @@
-//! The walk of a progress: its entries are made, and written one at a time.
+//! The entries of a progress: how they are made, written one at a time, and cloned.
 ghost use Rattle.std.specs.Prelude.{◌≡◌, ◌<◌, length, slice_get, OnOk, IfOk};
 ghost use Rattle.std.specs.List.{AllZip};
 ghost use Rattle.std.specs.Fn.{FnOnceTakesAtMut};
@@ -9,7 +9,7 @@ ghost use Rattle.raft_progress.specs.progress.Lends.{Leaves};
 use super::part::ProgressPart;
 use std::alloc::{AllocError, Global};
 
-/// Puts the ids at the end, each with a clone of the default.
+/// Appends the ids, each with a clone of the default.
 pub(crate) fn place_all<ID: Copy, V: Clone>(
     walk: &mut Vec<(ID, V)>,
     ids: &[ID],
@@ -23,7 +23,7 @@ pub(crate) fn place_all<ID: Copy, V: Clone>(
     Ok(())
 }
 
-/// Runs `f` on the value at a place, and answers its part before and afterwards.
+/// Runs `f` on the value at a position. Returns its part before and afterwards.
 #[inline(always)]
 pub(crate) fn write_at<ID: Copy, V: ProgressPart<P>, P: Copy, F: FnOnce(&mut V)>(
     walk: &mut Vec<(ID, V)>,
@@ -43,7 +43,7 @@ pub(crate) fn write_at<ID: Copy, V: ProgressPart<P>, P: Copy, F: FnOnce(&mut V)>
     (before, after)
 }
 
-/// A clone of each entry.
+/// Returns a clone of each entry.
 pub(crate) fn clone_walk<ID: Copy, V: Clone>(
     alloc: Global,
     walk: &[(ID, V)],
@@ -58,7 +58,7 @@ pub(crate) fn clone_walk<ID: Copy, V: Clone>(
     Ok(made)
 }
 
-/// The ids, as they stand.
+/// Returns a copy of the ids.
 pub(crate) fn copy_ids<ID: Copy>(alloc: Global, ids: &[ID]) -> Result<Vec<ID>, AllocError>
     ensures { IfOk result (λ made. made.items ≡ ids.now) }
 {

@@ -1,4 +1,4 @@
-//! The progress of a membership's voters and learners, where the membership is kept apart.
+//! The progress of a membership's voters and learners, with the membership kept apart from it.
 ghost use Rattle.std.specs.Prelude.{◌≡◌, ◌↔◌, IfOk, IsTrue};
 ghost use Rattle.raft_members.specs.Learners.{learners_of};
 ghost use Rattle.raft_members.specs.Majority.{is_voter_of};
@@ -18,16 +18,16 @@ use raft_members::membership::Membership;
 use raft_members::quorum::Joint;
 use std::alloc::AllocError;
 
-/// What a `MembershipProgress` has beside the calls of any progress: voters and learners come from
-/// one membership, so they fit.
+/// The functions of a `MembershipProgress` beside those of any progress. Voters and learners are
+/// those of one membership, so they fit.
 impl<NID: NodeId, V: ProgressPart<P> + Drop, P: Copy + Ord> VecProgress<
     NID,
     V,
     P,
     Joint<NID, Vec<NID>, Vec<Vec<NID>>>,
 > {
-    /// A new progress of a membership's voters, by the quorums of its configs, and of its
-    /// learners, ascending. Each has a clone of the default.
+    /// Returns a new progress of a membership's voters, with the quorums of its configs, and of its
+    /// learners, ascending, or an allocation error. Each id has a clone of the default.
     pub fn of<N: Node>(membership: &Membership<NID, N>, default: V) -> Result<Self, AllocError>
     where
         V: Clone,
@@ -45,9 +45,9 @@ impl<NID: NodeId, V: ProgressPart<P> + Drop, P: Copy + Ord> VecProgress<
         VecProgress::new(alloc, configs, &learners, default)
     }
 
-    /// Whether no value that `upgraded_to` would take over is below the new default.
+    /// Whether no value that `upgraded_to` would inherit is below the new default.
     ///
-    /// It is the test for the condition of `upgraded_to`.
+    /// This is the precondition of `upgraded_to`. The test returns an error if an allocation fails.
     pub fn can_upgrade_to<N: Node>(
         &self,
         membership: &Membership<NID, N>,
@@ -63,8 +63,8 @@ impl<NID: NodeId, V: ProgressPart<P> + Drop, P: Copy + Ord> VecProgress<
         self.can_upgrade(&configs, &learners, default)
     }
 
-    /// A progress over another membership that takes over the values of the ids that it has too.
-    /// All others have a clone of the default. `self` stays as it is.
+    /// Returns a progress with another membership that inherits the values of the ids that stay, or
+    /// an allocation error. All others have a clone of the default. `self` stays as it is.
     pub fn upgraded_to<N: Node>(
         &self,
         membership: &Membership<NID, N>,

@@ -23,7 +23,7 @@ use raft_members::error::ChangeMembershipError;
 use raft_members::membership::Membership;
 use std::alloc::{AllocError, Global};
 
-/// Makes one step.
+/// Makes one step, and returns its reply.
 fn answer<NID: NodeId, N: Node, V: ProgressPart<P> + PartialOrd + Clone + Drop, P: Copy + Ord>(
     cluster: &mut Tracked<NID, N, V, P>,
     step: Step<NID, N, V>,
@@ -44,7 +44,8 @@ fn answer<NID: NodeId, N: Node, V: ProgressPart<P> + PartialOrd + Clone + Drop, 
     }
 }
 
-/// Changes the membership and upgrades to the changed one, or leaves both as they are.
+/// Changes the membership and upgrades the progress to the changed one, or leaves both as they are.
+/// Returns the reply.
 fn change_members<NID: NodeId, N: Node, V: ProgressPart<P> + Clone + Drop, P: Copy + Ord>(
     cluster: &mut Tracked<NID, N, V, P>,
     change: ChangeMembers<NID, N>,
@@ -60,9 +61,10 @@ fn change_members<NID: NodeId, N: Node, V: ProgressPart<P> + Clone + Drop, P: Co
     answer_change(cluster, made, default)
 }
 
-/// Upgrades to the changed membership. Where the change was refused, this is what is answered.
-// A function of its own, so that a clause says this: by those of `change_members` want of memory
-// may be answered in place of any refusal.
+/// Upgrades to the changed membership, unless the change was refused. Returns the refusal, or
+/// granted after the upgrade.
+// A separate function, so that a clause states that the refusal is returned. The clauses of
+// `change_members` allow an allocation failure in place of any refusal.
 fn answer_change<NID: NodeId, N: Node, V: ProgressPart<P> + Clone + Drop, P: Copy + Ord>(
     cluster: &mut Tracked<NID, N, V, P>,
     made: Result<Membership<NID, N>, ChangeMembershipError<NID>>,
@@ -87,15 +89,14 @@ fn answer_change<NID: NodeId, N: Node, V: ProgressPart<P> + Clone + Drop, P: Cop
     }
 }
 
-/// Makes the steps in order, with a reply for each.
+/// Makes the steps in order. Returns a reply for each step, or an allocation error.
 ///
-/// Room for the replies is taken first: where it is refused nothing has changed. A step that is
-/// refused changes nothing either, and the next one is made.
+/// The replies are allocated first, so an allocation error leaves all as it was. A refused step
+/// changes nothing either, and the next one is made.
 ///
-/// What is granted at the end is counted afresh over the values and the membership as they then
-/// stand; it never falls where none of the steps is a change. Where that membership has a config,
-/// every quorum of it, and of each that one change makes of it, has a voter whose part is at least
-/// granted.
+/// At the end granted is recomputed from the values and the membership as they are then. It never
+/// falls if no step is a change. If that membership has a config, every quorum of it, and every
+/// quorum of what one change makes of it, has a voter whose part is at least granted.
 pub fn replay<NID: NodeId, N: Node, V: ProgressPart<P> + PartialOrd + Clone + Drop, P: Copy + Ord>(
     alloc: Global,
     cluster: &mut Tracked<NID, N, V, P>,

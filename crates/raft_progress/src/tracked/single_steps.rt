@@ -1,4 +1,4 @@
-//! Steps of a membership and its progress, one at a time, as a leader makes them.
+//! Single steps of a membership and its progress, as a leader makes them.
 ghost use Rattle.std.specs.Prelude.{◌≡◌, IfOk, None, Ok, OnErr, Some};
 ghost use Rattle.std.specs.Option.{ForSome};
 ghost use Rattle.raft_members.specs.Learners.{learners_of};
@@ -22,12 +22,12 @@ use raft_members::quorum::Joint;
 use std::alloc::AllocError;
 
 impl<NID: NodeId, N: Node, V: ProgressPart<P> + Drop, P: Copy + Ord> Tracked<NID, N, V, P> {
-    /// Writes the value of an id: what a replay does at `Step::Update`, with no list of steps and
-    /// no memory.
+    /// Writes the value of an id, as a replay does at `Step::Update`, without a list of steps. It
+    /// never allocates.
     ///
-    /// An unknown id and a part that would fall are answered, as `Unknown` and `WouldFall`.
-    /// What a value holds beside its part is changed on a copy that is written back: a leader
-    /// copies an entry from `progress`, calls `next_send` on the copy, and updates with it.
+    /// The reply is `Unknown` for an unknown id, and `WouldFall` if the part would fall. To change
+    /// what a value contains beside its part, change a copy and write it back: a leader copies an
+    /// entry from `progress`, calls `next_send` on the copy, and updates with it.
     pub fn update(&mut self, id: &NID, value: V) -> Reply<NID, P>
         ensures step { IsTrackedUpdate NID.eq P.cmp V.part_of
             (tracked self.old) id.now value result (tracked self.new) }
@@ -43,11 +43,11 @@ impl<NID: NodeId, N: Node, V: ProgressPart<P> + Drop, P: Copy + Ord> Tracked<NID
         self.progress.write(id, value)
     }
 
-    /// Goes over to a membership that is given, as one that has come through a leader's log, and
-    /// to its voters and learners. Ids that stay keep their values, and all others have the default.
+    /// Switches to the given membership, for example one that came through a leader's log, and to
+    /// its voters and learners. Ids that stay keep their values, and all others have the default.
     ///
-    /// It answers `Granted`; or `BelowDefault` with the least id whose value stays and is below the
-    /// default, or `OutOfMemory`, and then all is as it was.
+    /// The reply is `Granted`. Otherwise it is `BelowDefault` with the least id that stays and
+    /// whose value is below the default, or `OutOfMemory`, and all is as it was.
     pub fn change_to(&mut self, membership: Membership<NID, N>, default: V) -> Reply<NID, P>
     where
         V: Clone,
@@ -65,8 +65,8 @@ impl<NID: NodeId, N: Node, V: ProgressPart<P> + Drop, P: Copy + Ord> Tracked<NID
     }
 }
 
-/// Puts a membership, and the progress upgraded to it, in place of the old ones, unless an
-/// inherited value is below the new default.
+/// Replaces the membership, and upgrades the progress to it, unless an inherited value is below the
+/// new default. Returns the reply, or an allocation error.
 fn upgrade_to<NID: NodeId, N: Node, V: ProgressPart<P> + Clone + Drop, P: Copy + Ord>(
     cluster: &mut Tracked<NID, N, V, P>,
     next: Membership<NID, N>,
@@ -84,9 +84,11 @@ fn upgrade_to<NID: NodeId, N: Node, V: ProgressPart<P> + Clone + Drop, P: Copy +
     upgrade_unless_below(cluster, below, next, configs, &learners, default)
 }
 
-/// Upgrades to a membership, by its configs and its learners. Where an inherited value is below
-/// the new default, the least such id is what is answered.
-// A function of its own, so that a clause says this, as for a change that was refused.
+/// Upgrades to a membership, by its configs and its learners, unless an id is given whose inherited
+/// value is below the new default. Returns `BelowDefault` with that id, or granted after the
+/// upgrade.
+// A separate function, so that a clause states that `BelowDefault` is returned. The clauses of
+// `upgrade_to` allow an allocation failure in its place.
 fn upgrade_unless_below<NID: NodeId, N: Node, V: ProgressPart<P> + Clone + Drop, P: Copy + Ord>(
     cluster: &mut Tracked<NID, N, V, P>,
     below: Option<NID>,

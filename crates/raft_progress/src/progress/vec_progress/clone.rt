@@ -9,8 +9,8 @@ impl<ID: Copy + Ord, V: Clone, P: Copy + Ord, QS: Drop> VecProgress<ID, V, P, QS
     ghost use Rattle.raft_progress.specs.progress.Equal.{IsCloned};
     ghost use Rattle.raft_progress.specs.progress.VecProgress.{is_stale, shown};
 
-    /// A clone of the values over a quorum set, which reserves the room that `new` does. Where the
-    /// map here is not marked as stale, that of the clone is not, and so it tells every place.
+    /// Returns a clone of the values with a quorum set, and with the scratch space that `new`
+    /// allocates. If the sorted list of positions is not stale here, it is not stale in the clone.
     pub(crate) fn clone_over(&self, quorum_set: QS) -> Result<Self, AllocError>
         ensures cloned { IfOk result (λ made.
             IsCloned V.is_clone (λ old new. new ≡ quorum_set) (shown self.now) (shown made)) }
@@ -31,7 +31,7 @@ impl<ID: Copy + Ord, V: Clone, P: Copy + Ord, QS: Drop> VecProgress<ID, V, P, QS
     }
 }
 
-/// A clone reserves the room that `new` does.
+/// A clone has the scratch space that `new` allocates.
 impl<ID: Copy + Ord, V: Clone, P: Copy + Ord, QS: Clone> Clone for VecProgress<ID, V, P, QS> {
     ghost use Rattle.raft_progress.specs.progress.Equal.{IsCloned};
     ghost use Rattle.raft_progress.specs.progress.VecProgress.{shown};
@@ -55,7 +55,8 @@ impl<ID: Copy + Ord, V: Clone + PartialEq, P: Copy + Ord, QS: Clone + PartialEq>
     ghost use Rattle.raft_progress.specs.progress.Equal.{IsCloned, equal};
     ghost use Rattle.raft_progress.specs.progress.VecProgress.{shown};
 
-    /// An equal progress, where clones of values and of quorum sets equal their sources.
+    /// Returns an equal progress, or an allocation error. It requires that clones of values and of
+    /// quorum sets equal their sources.
     pub fn try_clone(&self) -> Result<Self, AllocError>
         requires values { ClonesAreEqual V.eq V.is_clone }
         requires quorum_sets { ClonesAreEqual QS.eq QS.is_clone }

@@ -3,7 +3,7 @@
 use super::VecProgress;
 use std::fmt;
 
-/// What is compared, and no more.
+/// The text has what is compared, and no more.
 impl<ID: Copy + Ord + fmt::Debug, V: fmt::Debug, P: fmt::Debug, QS: fmt::Debug> fmt::Debug
     for VecProgress<ID, V, P, QS> {
     fn fmt<W: fmt::Write>(&self, f: &mut fmt::Formatter<W>) -> fmt::Result {

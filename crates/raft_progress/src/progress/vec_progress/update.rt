@@ -1,4 +1,4 @@
-//! How a value is written, and what is granted after it.
+//! How a value is written, and how granted is recomputed.
 ghost use Rattle.std.specs.Prelude.{◌≡◌, ◌≤◌, ◌<◌, ℕ, Some, is_some, length, position, slice_get, true};
 ghost use Rattle.std.specs.Borrow.{sem};
 ghost use Rattle.std.specs.Fn.{FnOnceTakesAtMut};
@@ -30,7 +30,8 @@ impl<
     P: Copy + Ord,
     QS: QuorumSet<ID> + Drop,
 > VecProgress<ID, V, P, QS> {
-    /// The value of an id, to be written. The map is not marked as stale, since no id is lent.
+    /// Lends the value of an id for writing. The sorted list is not marked as stale, because no id
+    /// is lent.
     pub(super) fn value_mut(&mut self, id: &ID) -> Option<&mut V>
         ensures* writes_back { sem 𝓛 (LendsUnmarked ID.row V.row P.row QS.row ID.Ord.own
             ID.PartialEq ID.PartialOrd.own self.entry id.now result) }
@@ -45,9 +46,10 @@ impl<
         }
     }
 
-    /// Changes the value of an id by `f`, recounts granted, and answers whether the id is known.
-    // Each way to find the place has its own call of `apply_at`, the search in a cold function: by
-    // `self.apply_at(self.index(id), f)` an update takes 5 to 11 instructions more.
+    /// Changes the value of an id by `f`, and recomputes granted. Returns whether the id is known.
+    // Each way to find the position has its own call of `apply_at`, and the search is a cold
+    // function. With `self.apply_at(self.index(id), f)` an update would take 5 to 11 more
+    // instructions.
     #[inline(always)]
     pub(super) fn apply<F: FnOnce(&mut V)>(&mut self, id: &ID, f: F) -> bool
         requires ordered { IsInOrder ID.eq P.cmp V.part_of QS.has_quorum (shown self.old) }
@@ -68,7 +70,7 @@ impl<
         self.apply_at(found, f)
     }
 
-    /// Writes the value of an id, unless its part is below the present one.
+    /// Writes the value of an id, unless its part is below the present one. Returns the reply.
     // One look-up serves the test and the write. The value is moved once, and the closure of an
     // update would move it twice.
     #[inline(always)]
@@ -78,7 +80,7 @@ impl<
             (shown self.old) id.now value result (shown self.new) }
         ensures ordered { IsInOrder ID.eq P.cmp V.part_of QS.has_quorum (shown self.new) }
     {
-        // Read for the proof alone: it knows from then on that each of them fits a u64.
+        // This read is for the proof: it shows that each count fits a u64.
         let _counts = (self.stat.move_count, self.stat.is_quorum_count);
         let Some(place) = self.index(id) else {
             self.stat.update_count = self.stat.update_count.saturating_add(1);
@@ -96,8 +98,10 @@ impl<
         Reply::Granted(self.granted)
     }
 
-    /// The same for an id whose place is searched for in the walk.
-    // Marked as cold, so that an update that asks the map is not held up by what the search needs.
+    /// Changes the value of an id by `f`, and recomputes granted, with a search for the position.
+    /// Returns whether the id is known.
+    // It is cold, so that an update that uses the sorted list does not set up what the search
+    // needs.
     #[cold]
     fn apply_searching<F: FnOnce(&mut V)>(&mut self, id: &ID, f: F) -> bool
         requires ordered { IsInOrder ID.eq P.cmp V.part_of QS.has_quorum (shown self.old) }
@@ -115,7 +119,8 @@ impl<
         self.apply_at(found, f)
     }
 
-    /// The same for the id whose place a look-up has found.
+    /// Changes the value at a position that a look-up has found by `f`, and recomputes granted.
+    /// Returns whether the id is known.
     #[inline(always)]
     fn apply_at<F: FnOnce(&mut V)>(&mut self, found: Option<usize>, f: F) -> bool
         requires within { ForSome found (λ place. place < length (shown self.old).walk) }
@@ -133,7 +138,7 @@ impl<
         ensures known { result ≡ is_some found }
         ensures mark { is_stale self.new ≡ is_stale self.old }
     {
-        // Read for the proof alone: it knows from then on that each of them fits a u64.
+        // This read is for the proof: it shows that each count fits a u64.
         let _counts = (self.stat.move_count, self.stat.is_quorum_count);
         self.stat.update_count = self.stat.update_count.saturating_add(1);
         match found {
@@ -146,8 +151,7 @@ impl<
         }
     }
 
-    /// Puts the progress in order again, where the part of the value at a
-    /// place went from `before` to `after`.
+    /// Restores the order, after the part of the value at a position went from `before` to `after`.
     #[inline(always)]
     fn settle(&mut self, place: usize, before: P, after: P)
         requires within { place < length (shown self.old).walk }
@@ -169,7 +173,7 @@ impl<
         }
     }
 
-    /// Moves the voter at a place up, and answers its place.
+    /// Moves the voter at a position up. Returns its new position.
     #[inline(always)]
     fn raise(&mut self, place: usize) -> usize
         requires { place < (shown self.old).voter_count }
@@ -185,9 +189,11 @@ impl<
         to
     }
 
-    /// Looks for the least front past a place that is a quorum, while its parts exceed granted.
+    /// Searches for the shortest prefix past a position that is a quorum and whose parts exceed
+    /// granted.
     ///
-    /// Where the shortest one that may be a quorum has a voter up to granted, there is none.
+    /// If the last voter of the shortest prefix that may be a quorum has at most granted, there is
+    /// none.
     #[inline(always)]
     fn scan(&mut self, place: usize)
         requires within { place < (shown self.old).voter_count }
@@ -196,18 +202,18 @@ impl<
             (shown self.old) place (shown self.new) }
         ensures mark { is_stale self.new ≡ is_stale self.old }
     {
-        // Read for the proof alone: it knows from then on that it fits a u64.
+        // This read is for the proof: it shows that the count fits a u64.
         let _count = self.stat.is_quorum_count;
         let least = self.quorum_set.least_quorum_size();
-        // No front past the place of up to so many voters is a quorum.
+        // No prefix past the position with at most `short` voters is a quorum.
         let short = least.saturating_sub(1).max(place);
         if short < self.voter_count && is_below(&self.granted, &self.walk[short].1.part()) {
             self.test_from(short);
         }
     }
 
-    /// Looks for the least front past a place that is a quorum. The part of the voter at the place
-    /// exceeds granted.
+    /// Searches for the shortest prefix past a position that is a quorum. It requires that the part
+    /// of the voter at the position exceeds granted.
     #[inline(always)]
     fn test_from(&mut self, place: usize)
         requires within { place < (shown self.old).voter_count }
@@ -225,9 +231,9 @@ impl<
         }
     }
 
-    /// Tests the front of the only voter. The voter's part exceeds granted.
-    // No ids are gathered and no fronts are searched, so a cluster of one voter takes half as many
-    // instructions.
+    /// Tests whether the only voter is a quorum. It requires that the voter's part exceeds granted.
+    // No ids are gathered and no prefixes are searched, so a cluster of one voter takes half as
+    // many instructions.
     #[inline(always)]
     fn test_only_voter(&mut self)
         requires only { (shown self.old).voter_count ≡ 1 }
@@ -245,8 +251,8 @@ impl<
         }
     }
 
-    /// The same, by tests of fronts.
-    // Kept apart, so that an update that grants nothing has no need of its registers.
+    /// Searches for the shortest prefix past a position that is a quorum, by tests of prefixes.
+    // A separate function, so that an update that grants nothing does not need its registers.
     #[inline(never)]
     fn test_fronts(&mut self, place: usize)
         requires distinct { IsDistinct ID.eq (keys_of (shown self.old).walk) }

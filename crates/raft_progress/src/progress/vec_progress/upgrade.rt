@@ -1,4 +1,4 @@
-//! What an upgrade takes over into a new progress, and what it would refuse.
+//! What an upgrade inherits, and what it refuses.
 ghost use Rattle.std.specs.Prelude.{◌≡◌, ◌&&◌, ℕ, IfOk, None};
 ghost use Rattle.std.specs.Option.{ForSome};
 ghost use Rattle.raft_progress.specs.Inner.Conditions.{IsLeastPassing, among, is_value_below};
@@ -23,7 +23,7 @@ impl<
     P: Copy + Ord,
     QS: QuorumSet<ID> + Drop,
 > VecProgress<ID, V, P, QS> {
-    /// Goes on with the counts of another progress.
+    /// Continues the counts of another progress.
     pub(super) fn go_on_from(&mut self, stat: &Stat)
         ensures same { shown self.new ≡ record (shown self.old) { stat = stat.now } }
         ensures counts { (voters : ℕ) → CountsGoOn 0 voters stat.now stat.now }
@@ -40,7 +40,7 @@ impl<
         };
     }
 
-    /// Writes the value of an id, where it is known.
+    /// Writes the value of an id, if the id is known.
     pub(super) fn inherit(&mut self, id: &ID, value: V)
         requires ordered { IsInOrder ID.eq P.cmp V.part_of QS.has_quorum (shown self.old) }
         requires not_lower { IsNotLower ID.eq P.cmp V.part_of (shown self.old) id.now value }
@@ -51,7 +51,8 @@ impl<
         self.apply(id, |current| *current = value);
     }
 
-    /// The least id whose value an upgrade would take over and that is below the new default.
+    /// Returns the least id whose value an upgrade would inherit and whose part is below the new
+    /// default's, or an allocation error.
     pub(crate) fn least_below(
         &self,
         quorum_set: &QS,
@@ -71,7 +72,7 @@ impl<
         Ok(self.least_of(&voters, learners, default.part()))
     }
 
-    /// The least id among the voters and the learners whose value is below a part.
+    /// Returns the least id among the voters and the learners whose value is below a part.
     fn least_of(&self, voters: &[ID], learners: &[ID], part: P) -> Option<ID>
         ensures { IsLeastPassing ID.cmp (λ x. among ID.eq voters.now learners.now x
             && is_value_below P.cmp V.part_of part ((state ID.eq (shown self.now)).value x))
