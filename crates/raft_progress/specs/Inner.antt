@@ -1,4 +1,4 @@
--- What the private functions do, one step at a time. No public contract cites these words.
+-- What the private functions do, one step at a time. No public contract uses these definitions.
 pub mod Conditions
 pub mod Lent
 pub mod Placed

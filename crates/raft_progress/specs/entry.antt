@@ -1,4 +1,4 @@
--- What a leader keeps of a follower, and what responses and sends make of it.
+-- What a leader knows about a follower, and what responses and sends make of it.
 pub mod EntryTable
 pub mod EntryValid
 pub mod Send

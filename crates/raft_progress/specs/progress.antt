@@ -1,4 +1,4 @@
--- What a progress is and what its calls do.
+-- What a progress is, and what its functions do.
 pub mod ProgressState
 pub mod CountedValue
 pub mod Walk

@@ -1,4 +1,4 @@
--- What a progress is once a value that was lent has come back, its map of places too.
+-- What a progress is after a lent value has come back, with its list of positions.
 use Rattle.std.specs.Prelude.{◌≡◌, OnSome, Option}
 use Rattle.std.specs.Borrow.{Fml, LendsSo, MutBor, RattleType}
 use Rattle.std.specs.declared.cmp.Ord as order_ghosts
@@ -10,8 +10,8 @@ use Rattle.raft_progress.specs.contracts.progress.vec_progress.VecProgress.{the_
 
 module _ (ID V P QS : RattleType) (o : order_ghosts.Ghosts ID.Denot) (e : eq_ghosts.Ghosts ID.Denot)
     (q : partial_ghosts.Ghosts ID.Denot) where
-  -- once the value of an id has come back as w, p shows w there, nothing else has changed, and its
-  -- map is as stale as it was
+  -- after the value of an id has come back as w, p has w at this id, nothing else has changed, and
+  -- its list of positions is as stale as it was
   abbrev pub LendsUnmarked : MutBor (the_row ID V P QS o e q).Denot → ID.Denot
       → Option (MutBor V.Denot) → Fml
   LendsUnmarked p id value =

@@ -1,4 +1,4 @@
--- Entries that a default has been put into.
+-- Entries to which ids with the default are appended, and a value that is written at a position.
 use Rattle.std.specs.Prelude.{◌≡◌, ℕ, List, ◌++◌, Some, slice_get, slice_set}
 use Rattle.std.specs.List.{AllByRecursion}
 use Rattle.std.specs.Map.{keys_of}
@@ -12,8 +12,8 @@ pub record IsPlaced {ID V : Type 0} (IsClone : V → V → Type 0) (default : V)
   pub clones : AllByRecursion (λ e. IsClone default e.1) added
 
 module _ {ID V P : Type 0} (part : V → P) (Left : V → V → Type 0) where
-  -- the value at a place went to another by Left, and nothing else has changed; its part went from
-  -- `before` to `after`
+  -- the value at a position became one that Left allows, and nothing else has changed; its part
+  -- went from `before` to `after`
   abbrev pub IsWrittenAt : ℕ → List (ID × V) → List (ID × V) → P → P → Type 0
   IsWrittenAt place old new before after =
       (e : ID × V) × (w : V) × (slice_get old place ≡ Some e) × Left e.1 w

@@ -1,4 +1,4 @@
--- A map that tells the place of each id in a list of ids.
+-- The position of each id in a list of ids, as a sorted list.
 use Rattle.std.specs.Prelude.{◌≡◌, ℕ, ◌+◌, ◌<◌, ◌≤◌, Bool, true, false, cond, ◌&&◌, ◌==◌, nat_le, nat_lt, List, length, Option, Some, None}
 use Rattle.std.specs.List.{range_with_len}
 use Rattle.std.specs.List.Sorted.{IsPermutation}
@@ -6,15 +6,15 @@ use Rattle.std.specs.Map.{lookup}
 use Rattle.std.specs.Set.{is_member}
 use Rattle.std.proofs.Common.{get_or}
 
--- the place that the entries tell of an id
+-- the position of an id according to the entries
 abbrev pub place_in : {ID : Type 0} → (ID → ID → Bool) → List (ID × ℕ) → ID → Option ℕ
 place_in eq entries x = lookup (eq x) entries
 
--- the places from 0 on, each once, in any order
+-- the positions from 0 on, each once, in any order
 abbrev pub AreAllPlaces : List ℕ → Type 0
 AreAllPlaces places = IsPermutation (range_with_len 0 (length places)) places
 
--- each list tells where its numbers stand in the other
+-- each list contains the positions of its numbers in the other one
 pub record AreInverse (places ranks : List ℕ) : Type 0 where
   pub one_length : length ranks ≡ length places
   pub back : (r : ℕ) → r < length places → (get_or places r 0 < length ranks)
@@ -22,13 +22,13 @@ pub record AreInverse (places ranks : List ℕ) : Type 0 where
   pub forth : (p : ℕ) → p < length ranks → (get_or ranks p 0 < length places)
       × (get_or places (get_or ranks p 0) 0 ≡ p)
 
--- a look-up tells the place of each id of the list, and knows no other id
+-- a look-up returns the position of each id of the list, and none for any other id
 pub record TellsPlaces {ID : Type 0} (eq : ID → ID → Bool) (ids : List ID)
     (found : ID → Option ℕ) : Type 0 where
   pub here : (x : ID) (k : ℕ) → k < length ids → eq x (get_or ids k x) ≡ true → found x ≡ Some k
   pub unknown : (x : ID) → is_member eq ids x ≡ false → found x ≡ None
 
--- the places from before the entry at `last` moved up to `first`
+-- a look-up returns the positions from before the entry at `last` was moved up to `first`
 pub record TellsPlacesBefore {ID : Type 0} (eq : ID → ID → Bool) (ids : List ID) (first last : ℕ)
     (found : ID → Option ℕ) : Type 0 where
   pub before : (x : ID) (k : ℕ) → k < length ids → eq x (get_or ids k x) ≡ true → k < first
@@ -40,7 +40,7 @@ pub record TellsPlacesBefore {ID : Type 0} (eq : ID → ID → Bool) (ids : List
       → found x ≡ Some k
   pub unknown : (x : ID) → is_member eq ids x ≡ false → found x ≡ None
 
--- the place after that move
+-- the position after that move
 abbrev pub place_after : ℕ → ℕ → ℕ → ℕ
 place_after first last place =
     cond (place == last) first (cond (nat_le first place && nat_lt place last) (place + 1) place)

@@ -23,7 +23,7 @@ module _ {ID V P : Type 0} where
 
 module _ {ID V P : Type 0} (eq : ID → ID → Bool) (cmp : P → P → Ordering) (part : V → P)
     (is_quorum : (ID → Bool) → Bool) where
-  -- g is the greatest of the default and of those parts among the seen voters that a quorum of all
+  -- g is the greatest of the default and of those parts of the seen voters that a quorum of all
   -- voters has reached
   pub record IsGreatest (voters seen : List (ID × V)) (default g : P) : Type 0 where
     pub is_one : (g ≡ default) ⊎ ((e : ID × V) × Contains voters e × (part e.1 ≡ g)

@@ -1,4 +1,4 @@
--- Why the private steps of a replay refuse.
+-- Why the private steps of a replay are refused.
 use Rattle.std.specs.Prelude.{Bool, List, None, Option, Some}
 use Rattle.std.specs.declared.cmp.Ordering.{Ordering}
 use Rattle.raft_members.specs.declared.error.ChangeMembershipErrorOf.{ChangeMembershipErrorOf}
@@ -16,8 +16,8 @@ use Rattle.raft_progress.specs.declared.progress.steps.Reply.TheVariants.{Refuse
 
 module _ {ID V P : Type 0} (eq : ID → ID → Bool) (id_cmp : ID → ID → Ordering)
     (cmp : P → P → Ordering) (part : V → P) (is_voter : ID → Bool) where
-  -- the reply refuses an upgrade: the learners don't fit; else this is the least inherited id below
-  -- the default
+  -- the reply refuses an upgrade: the learners do not fit, or otherwise it contains the least
+  -- inherited id below the default
   abbrev pub RefusesUpgrade : List ID → V → (ID → Option V) → Reply ID P → Type 0
   RefusesUpgrade learners default old BadLearners = LearnersFit eq is_voter learners → ⊥
   RefusesUpgrade learners default old (BelowDefault id) =
@@ -25,8 +25,8 @@ module _ {ID V P : Type 0} (eq : ID → ID → Bool) (id_cmp : ID → ID → Ord
       × IsLeastBelow eq id_cmp cmp part is_voter learners default old id
   RefusesUpgrade learners default old reply = ⊥
 
--- the reply to a refusal of a change: it names the voter without a node, or none for an empty
--- config; a change of a membership alone is never in progress
+-- the reply to a refused change: it contains the voter without a node, or none for an empty config;
+-- a change of a membership alone is never in progress
 abbrev pub refusal_reply : {C K P : Type 0} → ChangeMembershipErrorOf C K → Reply K P
 refusal_reply (InProgress _) = OutOfMemory
 refusal_reply (EmptyMembership _) = Refused None

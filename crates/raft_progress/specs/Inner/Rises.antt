@@ -1,4 +1,4 @@
--- How an entry moves up by neighbours, and what a scan of fronts finds.
+-- How an entry moves up past its neighbours, and what a scan of prefixes finds.
 use Rattle.std.specs.Prelude.{◌≡◌, ℕ, ◌+◌, ◌^◌, ◌<◌, ◌≤◌, Bool, true, false, Option, Some, None, List, [], ◌∷◌, ◌++◌, length, ⊤}
 use Rattle.std.specs.declared.cmp.Ordering.{Ordering}
 use Rattle.std.specs.Ordering.{is_lt}
@@ -25,14 +25,14 @@ module _ {ID V P : Type 0} (cmp : P → P → Ordering) (part : V → P) where
     pub now_at : length front ≡ to
     pub lesser : AllByRecursion (λ f. is_lt (cmp (part f.1) (part entry.1)) ≡ true) passed
 
-  -- and it stands directly after one that isn't lesser, or first
+  -- the entry comes directly after one with at least its part, or is first
   pub record RisesTo (old : List (ID × V)) (from : ℕ) (new : List (ID × V)) (to : ℕ) : Type 0 where
     pub passes : Passed old from new to
     pub stops : LastAtLeast (part passes.entry.1) passes.front
 
 module _ {ID V : Type 0} (eq : ID → ID → Bool) (is_quorum : (ID → Bool) → Bool) where
-  -- the least front above low and up to high that is a quorum, if there is one, and the number of
-  -- fronts that were tested: at most as many as the number of voters has binary digits
+  -- the shortest prefix longer than low and at most high long that is a quorum, if there is one,
+  -- and the number of prefixes that were tested: at most k if the number of voters is less than 2^k
   pub record IsLeastFront (voters : List (ID × V)) (low high : ℕ) (found : Option ℕ) (tests : ℕ)
       : Type 0 where
     pub none : found ≡ None → (k : ℕ) → low < k → k ≤ high

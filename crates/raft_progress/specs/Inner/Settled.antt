@@ -9,7 +9,7 @@ use Rattle.raft_progress.specs.Inner.Rises.{IsLeastFront, RisesTo}
 use Rattle.raft_progress.specs.progress.Shown.{Shown}
 use Rattle.raft_progress.specs.progress.Statistics.{count_after}
 
--- the parts that no step changes
+-- what no step changes
 pub record IsSameGroup {ID V P QS : Type 0} (old new : Shown ID V P QS) : Type 0 where
   pub quorum_set : new.quorum_set ≡ old.quorum_set
   pub voter_count : new.voter_count ≡ old.voter_count
@@ -18,7 +18,7 @@ pub record IsSameGroup {ID V P QS : Type 0} (old new : Shown ID V P QS) : Type 0
 
 module _ {ID V P QS : Type 0} (eq : ID → ID → Bool) (cmp : P → P → Ordering) (part : V → P)
     (has_quorum : QS → (ID → Bool) → Bool) where
-  -- granted goes to the last part of the least front that was found
+  -- granted becomes the last part of the shortest prefix that was found
   pub record IsScanned (old : Shown ID V P QS) (place : ℕ) (new : Shown ID V P QS) : Type 0 where
     pub group : IsSameGroup old new
     pub same_walk : new.walk ≡ old.walk
@@ -34,7 +34,7 @@ module _ {ID V P QS : Type 0} (eq : ID → ID → Bool) (cmp : P → P → Order
         × (new.granted ≡ part f.1)
 
 module _ {ID V P QS : Type 0} (cmp : P → P → Ordering) (part : V → P) where
-  -- the voter has risen to a place, and nothing is granted yet
+  -- the voter has moved up to a position, and granted is not recomputed yet
   pub record IsRisen (old : Shown ID V P QS) (place to : ℕ) (new : Shown ID V P QS) : Type 0 where
     pub group : IsSameGroup old new
     pub granted : new.granted ≡ old.granted
@@ -44,7 +44,7 @@ module _ {ID V P QS : Type 0} (cmp : P → P → Ordering) (part : V → P) wher
 
 module _ {ID V P QS : Type 0} (eq : ID → ID → Bool) (cmp : P → P → Ordering) (part : V → P)
     (has_quorum : QS → (ID → Bool) → Bool) where
-  -- the voter has risen to a place, and the fronts past it were tested where they had to be
+  -- the voter has moved up to a position, and the prefixes past it were tested if granted may rise
   pub record IsRaised (old : Shown ID V P QS) (place : ℕ) (may_grant : Bool) (new : Shown ID V P QS)
       : Type 0 where
     pub middle : Shown ID V P QS
@@ -55,7 +55,7 @@ module _ {ID V P QS : Type 0} (eq : ID → ID → Bool) (cmp : P → P → Order
 
 module _ {ID V P QS : Type 0} (eq : ID → ID → Bool) (cmp : P → P → Ordering) (part : V → P)
     (has_quorum : QS → (ID → Bool) → Bool) where
-  -- the value at the place went from a part before
+  -- the part of the value at the position was `before`, and the order is restored
   pub record IsPutInOrder (old : Shown ID V P QS) (place : ℕ) (before : P) (new : Shown ID V P QS)
       : Type 0 where
     pub entry : ID × V

@@ -1,4 +1,4 @@
--- What the private steps of a replay do to all that a progress shows.
+-- What the private steps of a replay do to all that contracts see of a progress.
 use Rattle.std.specs.Prelude.{Bool, List, Option}
 use Rattle.std.specs.declared.cmp.Ordering.{Ordering}
 use Rattle.raft_members.specs.declared.change_members.ChangeMembers.{ChangeMembers}
@@ -12,7 +12,7 @@ use Rattle.raft_progress.specs.tracked.TrackedSteps.{IsChanged}
 use Rattle.raft_progress.specs.progress.UpgradeFold.{IsUpgradeFold}
 use Rattle.raft_progress.specs.declared.progress.steps.Reply.{Reply}
 
--- the answer of a progress
+-- the reply to a step of a progress
 abbrev pub Answered : {ID V P QS : Type 0} → (Shown ID V P QS → Type 0) → Shown ID V P QS
     → Reply ID P → Shown ID V P QS → Type 0
 Answered Done old reply new = IsAnswered (λ p. p.granted) Done old reply new
@@ -38,7 +38,7 @@ module _ {ID V P QS : Type 0} (eq : ID → ID → Bool) (cmp : P → P → Order
 module _ {ID V P QS : Type 0} (eq : ID → ID → Bool) (id_cmp : ID → ID → Ordering)
     (cmp : P → P → Ordering) (part : V → P) (IsClone : V → V → Type 0)
     (has_quorum : QS → (ID → Bool) → Bool) (is_voter : QS → ID → Bool) where
-  -- the progress goes over to another quorum set, or refuses to
+  -- the progress switches to another quorum set, or refuses to
   pub record IsShownUpgrade (old : Shown ID V P QS) (quorum_set : QS) (learners : List ID)
       (default : V) (reply : Reply ID P) (new : Shown ID V P QS) : Type 0 where
     pub values : IsAnsweredUpgrade eq id_cmp cmp part IsClone has_quorum is_voter (state eq old)

@@ -1,4 +1,4 @@
--- Where an honest run stands between its turns, and what one turn does.
+-- An honest run between its turns, and what one turn does.
 use Rattle.std.specs.Prelude.{◌≡◌, ℕ, ◌+◌, ◌<◌, ◌≤◌, ◌^◌, ◌⊎◌, max, Bool, true, Some, None, IsTrue}
 use Rattle.std.specs.declared.cmp.Ordering.{Ordering}
 use Rattle.raft_base.specs.LogId.{id_le, next_index, same_ids}
@@ -10,7 +10,7 @@ use Rattle.raft_progress.specs.declared.catch_up.TurnOutcome.{TurnOutcome}
 use Rattle.raft_progress.specs.declared.catch_up.TurnOutcome.TheVariants.{Ended, Refused, Acked}
 use Rattle.raft_progress.specs.declared.entry.ProgressEntryOf.{ProgressEntryOf}
 
--- where a run may begin, and stands between its turns
+-- what holds at the beginning of a run and between its turns
 pub record IsBetweenTurns {C : Type 0} (eq : C → C → Bool) (cmp : C → C → Ordering)
     (log : LogView C) (n : ℕ)
     (entry : ProgressEntryOf C) (agree : ℕ) : Type 0 where
@@ -28,8 +28,8 @@ pub record IsBetweenTurns {C : Type 0} (eq : C → C → Bool) (cmp : C → C �
       (prev_id log.id_at (max (next_index entry.matching) (next_index log.purge_upto)))))
 
 module _ {C : Type 0} (eq : C → C → Bool) (cmp : C → C → Ordering) (log : LogView C) (n : ℕ) where
-  -- a turn, whatever the counts before it: nothing was sent and all is matched, or one more
-  -- conflict or ack came
+  -- a turn, for any counts before it: nothing was sent and all logs match, or the response was one
+  -- more conflict or ack
   abbrev pub TurnDone : ProgressEntryOf C → ℕ → TurnOutcome → ProgressEntryOf C → ℕ → Type 0
   TurnDone entry agree Ended new after =
       ((c k : ℕ) → turn cmp log n (record { entry = entry; agree = agree; conflicts = c; acks = k })

@@ -7,8 +7,8 @@ use Rattle.raft_progress.specs.entry.Send.{can_be_sent}
 use Rattle.raft_progress.specs.inflight.Inflight.{is_idle}
 use Rattle.raft_progress.specs.declared.entry.ProgressEntryOf.{ProgressEntryOf}
 
--- a follower can agree below an index: the match is below it, the search does not end before
--- it, and the purge point is below it
+-- a follower can agree below an index: matching and the purge point are below it, and the searching
+-- end is not
 abbrev pub can_agree : ℕ → ℕ → ℕ → ℕ → Bool
 can_agree matched end purged agree = nat_le matched agree && nat_le agree end && nat_le purged agree
 
@@ -16,8 +16,8 @@ can_agree matched end purged agree = nat_le matched agree && nat_le agree end &&
 abbrev pub has_request_ids : ℕ → ℕ → Bool
 has_request_ids id length = nat_lt (id + 64 + length + 1) (2 ^ 64)
 
--- the match is the last log id; or the log goes on past the match and the purge point, and the
--- match is not above the log id before both
+-- matching is the last log id; or the log continues past matching and the purge point, and matching
+-- is not above the log id before both
 abbrev pub match_fits : {C : Type 0} → (C → C → Bool) → (C → C → Ordering) → LogView C
     → ProgressEntryOf C → Bool
 match_fits eq cmp log entry =
@@ -27,8 +27,8 @@ match_fits eq cmp log entry =
     && id_le cmp entry.matching
     (prev_id log.id_at (max (next_index entry.matching) (next_index log.purge_upto))))
 
--- nothing is in flight, a send can be made and takes an entry at least, the follower can agree
--- below the index, request ids are left, and the match fits
+-- nothing is in flight, a send can be made and takes at least one entry, the follower can agree
+-- below the index, request ids are left, and matching fits
 abbrev pub can_catch_up : {C : Type 0} → (C → C → Bool) → (C → C → Ordering) → LogView C
     → ProgressEntryOf C → ℕ → ℕ → Bool
 can_catch_up eq cmp log entry agree max_entries =
@@ -37,8 +37,8 @@ can_catch_up eq cmp log entry agree max_entries =
     && has_request_ids entry.curr_inflight_id (next_index log.last)
     && match_fits eq cmp log entry
 
--- all is sent and matched: nothing is in flight, the search ends after the last
--- log id, and the match is that one
+-- all is sent and matches: nothing is in flight, the searching end is after the last log id, and
+-- matching is the last log id
 pub record MatchesAll {C : Type 0} (eq : C → C → Bool) (log : LogView C) (entry : ProgressEntryOf C)
     : Type 0 where
   pub idle : is_idle entry.inflight ≡ true

@@ -12,15 +12,15 @@ use Rattle.raft_progress.specs.declared.entry.ProgressEntryOf.{ProgressEntryOf}
 use Rattle.raft_progress.specs.declared.inflight.InflightOf.{InflightOf}
 use Rattle.raft_progress.specs.declared.inflight.InflightOf.TheVariants.{None as Idle, Logs, Snapshot}
 
--- the entry, the index below which the follower's log agrees, and how many conflicts and acks came
+-- the entry, the index below which the follower's log agrees, and the numbers of conflicts and acks
 pub record HonestRun (C : Type 0) : Type 0 where
   pub entry : ProgressEntryOf C
   pub agree : ℕ
   pub conflicts : ℕ
   pub acks : ℕ
 
--- the response to logs: a conflict at the log before them where the follower does not
--- agree there, else an ack of them all
+-- the response to logs: a conflict at the log before them if the follower does not agree there, and
+-- otherwise an ack of all of them
 abbrev pub run_after_logs : {C : Type 0} → (C → C → Ordering) → HonestRun C → ProgressEntryOf C → ℕ
     → LogIdRangeOf C → HonestRun C
 run_after_logs cmp run entry id range =
@@ -38,14 +38,14 @@ run_after_logs cmp run entry id range =
       acks = run.acks + 1;
     }
 
--- the response to what an entry has in flight; nothing but logs is responded to
+-- the response to what an entry has in flight; only logs have a response
 abbrev pub run_after_response : {C : Type 0} → (C → C → Ordering) → HonestRun C → ProgressEntryOf C
     → InflightOf C → HonestRun C
 run_after_response cmp run entry Idle = record run { entry = entry }
 run_after_response cmp run entry (Snapshot id last) = record run { entry = entry }
 run_after_response cmp run entry (Logs id range) = run_after_logs cmp run entry id range
 
--- the response to a send, and none where nothing was sent
+-- the response to a send, and none if nothing was sent
 abbrev pub run_after_send : {C : Type 0} → (C → C → Ordering) → HonestRun C
     → Result (ProgressEntryOf C) (ProgressEntryOf C) → Option (HonestRun C)
 run_after_send cmp run (Err entry) = None
@@ -56,7 +56,7 @@ abbrev pub turn : {C : Type 0} → (C → C → Ordering) → LogView C → ℕ 
     → Option (HonestRun C)
 turn cmp log max_entries run = run_after_send cmp run (send_table cmp run.entry log max_entries)
 
--- so many turns lead to an end, after which nothing is sent
+-- that many turns lead to an end, after which nothing is sent
 abbrev pub TurnsLeadTo : {C : Type 0} → (C → C → Ordering) → LogView C → ℕ → ℕ → HonestRun C
     → HonestRun C → Type 0
 TurnsLeadTo cmp log max_entries zero run end = (turn cmp log max_entries run ≡ None) × (end ≡ run)
@@ -69,7 +69,7 @@ abbrev pub new_run : {C : Type 0} → ProgressEntryOf C → ℕ → HonestRun C
 new_run entry agree = record { entry = entry; agree = agree; conflicts = 0; acks = 0 }
 
 module _ {C : Type 0} (cmp : C → C → Ordering) (log : LogView C) (max_entries : ℕ) where
-  -- the honest run of an entry ends with another one, after so many conflicts and acks
+  -- the honest run of an entry ends with another one, after that many conflicts and acks
   abbrev pub HonestRunEnds : ProgressEntryOf C → ℕ → ProgressEntryOf C → ℕ → ℕ → Type 0
   HonestRunEnds entry agree end conflicts acks =
       (turns : ℕ) × (agreed : ℕ)

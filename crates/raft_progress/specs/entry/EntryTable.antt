@@ -9,7 +9,7 @@ use Rattle.raft_progress.specs.declared.inflight.InflightError.{InflightError}
 use Rattle.raft_progress.specs.declared.inflight.InflightError.TheVariants.{ConflictBelowMatching, IndexTooLarge, MatchingRegress}
 use Rattle.raft_progress.specs.declared.inflight.InflightOf.{InflightOf}
 
--- the follower matches up to an id, once the ack of it has left this in flight
+-- the follower matches up to a log id, after the ack of it has left this in flight
 abbrev pub with_matching : {C : Type 0} → (C → C → Ordering) → ProgressEntryOf C
     → Option (LogIdOf C)
     → Result (InflightOf C) InflightError → Result (ProgressEntryOf C) InflightError
@@ -24,15 +24,15 @@ with_matching cmp entry matching (Ok inflight) =
     })
     else Err IndexTooLarge)
 
--- an ack of all up to an id: the follower matches up to it
+-- an ack of all logs up to a log id: the follower matches up to it
 abbrev pub entry_after_ack : {C : Type 0} → (C → C → Ordering) → ProgressEntryOf C → ℕ
     → Option (LogIdOf C)
     → Result (ProgressEntryOf C) InflightError
 entry_after_ack cmp entry id matching =
     with_matching cmp entry matching (inflight_after_ack cmp entry.inflight id matching)
 
--- the search ends at an index, where it went on past it, once the
--- conflict there has left this in flight
+-- the searching end becomes an index if it was past the index, after the conflict there has left
+-- this in flight
 abbrev pub with_search_end : {C : Type 0} → ProgressEntryOf C → ℕ
     → Result (InflightOf C) InflightError
     → Result (ProgressEntryOf C) InflightError
@@ -43,7 +43,7 @@ with_search_end entry index (Ok inflight) =
     else Ok (record entry { inflight = inflight; searching_end = index }))
     else Ok (record entry { inflight = inflight })
 
--- a conflict at an index: the follower does not match there. That of a heartbeat has no
+-- a conflict at an index: the follower does not match there; the response to a heartbeat has no
 -- request id, and what is in flight stays
 abbrev pub entry_after_conflict : {C : Type 0} → ProgressEntryOf C → Option ℕ → ℕ
     → Result (ProgressEntryOf C) InflightError

@@ -14,8 +14,8 @@ use Rattle.raft_progress.specs.declared.entry.ProgressEntryOf.{ProgressEntryOf}
 use Rattle.raft_progress.specs.declared.inflight.InflightOf.{InflightOf}
 use Rattle.raft_progress.specs.declared.inflight.InflightOf.TheVariants.{None as Idle, Logs, Snapshot}
 
--- logs in flight begin after the match, and within the search for
--- it; a snapshot goes past the match
+-- logs in flight begin at or after matching, and before the searching end; a snapshot goes past
+-- matching
 abbrev pub sending_relations : {C : Type 0} → (C → C → Ordering) → ProgressEntryOf C → InflightOf C
     → List (Bool × Invalid)
 sending_relations cmp entry Idle = []
@@ -27,7 +27,7 @@ sending_relations cmp entry (Logs id range) =
 sending_relations cmp entry (Snapshot id last) =
     (id_lt cmp entry.matching last, SnapshotNotPastMatching) ∷ []
 
--- the match is below the end of the search, and what is in flight fits both
+-- matching is below the searching end, and what is in flight fits both
 abbrev pub entry_relations : {C : Type 0} → (C → C → Ordering) → ProgressEntryOf C
     → List (Bool × Invalid)
 entry_relations cmp entry =

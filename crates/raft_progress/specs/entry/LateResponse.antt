@@ -7,7 +7,8 @@ use Rattle.raft_progress.specs.inflight.Inflight.{id_of}
 use Rattle.raft_progress.specs.declared.entry.ProgressEntryOf.{ProgressEntryOf}
 use Rattle.raft_progress.specs.declared.inflight.InflightError.TheVariants.{InvalidRequestId}
 
--- an ack and a conflict that answer the request with this id are refused, as it is not in flight
+-- an ack and a conflict that respond to the request with this id are refused, because it is not in
+-- flight
 pub record RefusesResponsesTo {C : Type 0} (cmp : C → C → Ordering) (entry : ProgressEntryOf C)
     (id : ℕ) : Type 0 where
   pub acks : (matching : Option (LogIdOf C))

@@ -31,22 +31,24 @@ use Rattle.raft_progress.specs.declared.entry.ProgressEntryOf.{ProgressEntryOf}
 use Rattle.raft_progress.specs.declared.inflight.InflightOf.{InflightOf}
 use Rattle.raft_progress.specs.declared.inflight.InflightOf.TheVariants.{Snapshot}
 
--- where the next probe between a match and the end of the search starts: half of the sixteenths on
+-- the index at which the next probe between matching and the searching end starts: half of the
+-- sixteenths of the stretch further on
 abbrev pub calc_mid : ℕ → ℕ → ℕ
 calc_mid matched end = matched + (end - matched) / 16 * 8
 
--- the first index to send: that of the next probe, and none that is to be purged
+-- the first index to send: the one of the next probe, but none that is to be purged
 abbrev pub start_of : {C : Type 0} → ProgressEntryOf C → LogView C → ℕ
 start_of entry log =
     max (calc_mid (next_index entry.matching) entry.searching_end) (next_index log.purge_upto)
 
--- the index after the last one to send: no more entries than allowed, and no more than there are
+-- the index after the last one to send: at most as many entries as allowed, and at most as many as
+-- there are
 abbrev pub end_of : {C : Type 0} → ProgressEntryOf C → LogView C → ℕ → ℕ
 end_of entry log max_entries = min (start_of entry log + max_entries) (next_index log.last)
 
--- A send where nothing is in flight: a snapshot where each match that is still possible is purged,
--- or where there is no log to probe with; nothing where there is no log to send; else logs. What is
--- sent takes the next request id.
+-- A send if nothing is in flight: a snapshot if each index that may still match is purged, or if
+-- there is no log to probe with; nothing if there is no log to send; otherwise logs. What is sent
+-- has the next request id.
 abbrev pub idle_send_table : {C : Type 0} → (C → C → Ordering) → ProgressEntryOf C → LogView C → ℕ
     → Result (ProgressEntryOf C) (ProgressEntryOf C)
 idle_send_table cmp entry log max_entries =
@@ -63,15 +65,16 @@ idle_send_table cmp entry log max_entries =
     else if start == until then Err entry
     else Ok (record entry { curr_inflight_id = id; inflight = logs })
 
--- the entry after a send, as Err where nothing was sent: something is in flight
--- already, or there is no log to send
+-- the entry after a send, as Err if nothing was sent: something is in flight already, or there is
+-- no log to send
 abbrev pub send_table : {C : Type 0} → (C → C → Ordering) → ProgressEntryOf C → LogView C → ℕ
     → Result (ProgressEntryOf C) (ProgressEntryOf C)
 send_table cmp entry log max_entries =
     if is_idle entry.inflight then idle_send_table cmp entry log max_entries else Err entry
 
--- a send may be made where something is in flight; else the match is below the end of the search,
--- which is not past the log, and no index nor the request id is the greatest u64
+-- a send may be made if something is in flight; otherwise, matching must be below the searching
+-- end, the searching end must not be past the log, and neither an index nor the request id may be
+-- the greatest u64
 abbrev pub can_be_sent : {C : Type 0} → ProgressEntryOf C → LogView C → Bool
 can_be_sent entry log =
     if is_idle entry.inflight then
@@ -80,7 +83,7 @@ can_be_sent entry log =
     && nat_lt (next_index log.purge_upto) (2 ^ 64) && nat_lt (entry.curr_inflight_id + 1) (2 ^ 64))
     else true
 
--- a send answers what is in flight after it, as Ok or Err, as the table has it
+-- a send returns what is in flight after it, as Ok or Err, as the table has it
 abbrev pub IsSent : {C : Type 0} → Result (ProgressEntryOf C) (ProgressEntryOf C)
     → Result (Bor (InflightOf C)) (Bor (InflightOf C)) → ProgressEntryOf C → Type 0
 IsSent table result new =

@@ -1,4 +1,5 @@
--- A progress entry that may be sent to, now or once nothing is in flight, and what keeps it so.
+-- Progress entries to which a send may be made, now or when nothing is in flight, and what keeps
+-- them so.
 use Rattle.std.specs.Prelude.{◌≡◌, ℕ, ◌+◌, ◌^◌, ◌<◌, ◌≤◌, true, Option, Ok}
 use Rattle.std.specs.declared.cmp.Ordering.{Ordering}
 use Rattle.raft_base.specs.LogId.{next_index}
@@ -11,14 +12,14 @@ use Rattle.raft_progress.specs.declared.entry.ProgressEntryOf.{ProgressEntryOf}
 use Rattle.raft_progress.specs.declared.inflight.InflightOf.{InflightOf}
 use Rattle.raft_progress.specs.declared.inflight.InflightOf.TheVariants.{None as Idle, Logs, Snapshot}
 
--- the index after the last log id that is in flight, and 0 where nothing is
+-- the index after the last log id that is in flight, and 0 if nothing is
 abbrev pub end_in_flight : {C : Type 0} → InflightOf C → ℕ
 end_in_flight Idle = 0
 end_in_flight (Logs id range) = next_index range.last
 end_in_flight (Snapshot id last) = next_index last
 
--- the match is below the end of the search; neither that nor what is in flight is past the log; and
--- neither an index nor the request id is the greatest u64
+-- matching is below the searching end; neither the searching end nor what is in flight is past the
+-- log; and neither an index nor the request id is the greatest u64
 pub record IsSendable {C : Type 0} (entry : ProgressEntryOf C) (log : LogView C) : Type 0 where
   pub matched : next_index entry.matching ≤ entry.searching_end
   pub searched : entry.searching_end ≤ next_index log.last
@@ -28,31 +29,31 @@ pub record IsSendable {C : Type 0} (entry : ProgressEntryOf C) (log : LogView C)
   pub request : entry.curr_inflight_id + 1 < 2 ^ 64
 
 module _ (C : Type 0) where
-  -- an entry that may be sent to is so, if nothing is in flight
+  -- if nothing is in flight and a send may be made, the entry is sendable
   abbrev pub BeginsSendable : Type 0
   BeginsSendable =
       (entry : ProgressEntryOf C) (log : LogView C) → is_idle entry.inflight ≡ true
       → can_be_sent entry log ≡ true → IsSendable entry log
 
-  -- an entry that is so may be sent to
+  -- if an entry is sendable, a send may be made
   abbrev pub SendableCanSend : Type 0
   SendableCanSend =
       (entry : ProgressEntryOf C) (log : LogView C) → IsSendable entry log
       → can_be_sent entry log ≡ true
 
-  -- it stays so by a conflict that is accepted
+  -- an accepted conflict keeps an entry sendable
   abbrev pub ConflictKeepsSendable : Type 0
   ConflictKeepsSendable =
       (entry new : ProgressEntryOf C) (log : LogView C) (id : Option ℕ) (index : ℕ)
       → IsSendable entry log → entry_after_conflict entry id index ≡ Ok new → IsSendable new log
 
-  -- where what is in flight is given up
+  -- giving up what is in flight keeps an entry sendable
   abbrev pub GiveUpKeepsSendable : Type 0
   GiveUpKeepsSendable =
       (entry : ProgressEntryOf C) (log : LogView C) → IsSendable entry log
       → IsSendable (record entry { inflight = Idle }) log
 
-  -- where the log grows, whatever else changes in it
+  -- growth of the log keeps an entry sendable, whatever else changes in the log
   abbrev pub GrowthKeepsSendable : Type 0
   GrowthKeepsSendable =
       (entry : ProgressEntryOf C) (log later : LogView C)
@@ -60,14 +61,15 @@ module _ (C : Type 0) where
       → next_index later.purge_upto < 2 ^ 64 → IsSendable entry log → IsSendable entry later
 
 module _ (C : Type 0) (cmp : C → C → Ordering) where
-  -- by an ack that is accepted, if an ack of a snapshot is not past the log
+  -- an accepted ack keeps an entry sendable, if an ack of a snapshot is not past the log
   abbrev pub AckKeepsSendable : Type 0
   AckKeepsSendable =
       (entry new : ProgressEntryOf C) (log : LogView C) (id : ℕ) (matching : Option (LogIdOf C))
       → (is_sending_snapshot entry.inflight ≡ true → next_index matching ≤ next_index log.last)
       → IsSendable entry log → entry_after_ack cmp entry id matching ≡ Ok new → IsSendable new log
 
-  -- by a send, if the log has what its snapshot has, and another request id is left
+  -- a send keeps an entry sendable, if the log has what its snapshot has, and another request id is
+  -- left
   abbrev pub SendKeepsSendable : LogView C → Type 0
   SendKeepsSendable log =
       (entry sent : ProgressEntryOf C) (max_entries : ℕ)

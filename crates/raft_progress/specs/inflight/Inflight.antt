@@ -11,13 +11,13 @@ use Rattle.raft_progress.specs.declared.inflight.InflightOf.TheVariants.{None as
 use Rattle.raft_progress.specs.declared.inflight.RequestId.{RequestId}
 use Rattle.raft_progress.specs.declared.inflight.RequestId.TheVariants.{AppendEntries, Snapshot as SnapshotRequest}
 
--- the logs after prev up to last, under a request id, where there are any
+-- the logs after prev up to last, with a request id, if there are any
 abbrev pub logs_from : {C : Type 0} → (C → C → Ordering) → ℕ → Option (LogIdOf C)
     → Option (LogIdOf C) → InflightOf C
 logs_from cmp id prev last =
     if id_lt cmp prev last then Logs id (record { prev = prev; last = last }) else Idle
 
--- the same under another request id
+-- the logs or the snapshot with another request id
 abbrev pub with_id : {C : Type 0} → InflightOf C → ℕ → InflightOf C
 with_id Idle id = Idle
 with_id (Logs mine range) id = Logs id range

@@ -18,7 +18,7 @@ use Rattle.raft_progress.specs.declared.inflight.InflightError.TheVariants.{
 use Rattle.raft_progress.specs.declared.inflight.InflightOf.{InflightOf}
 use Rattle.raft_progress.specs.declared.inflight.InflightOf.TheVariants.{None as Idle, Logs, Snapshot}
 
--- an id lies between the ends of a range, by order and by index
+-- a log id is in a range or is the one before it, by order and by index
 abbrev pub is_within : {C : Type 0} → (C → C → Ordering) → LogIdRangeOf C → Option (LogIdOf C)
     → Bool
 is_within cmp range upto =
@@ -26,11 +26,12 @@ is_within cmp range upto =
     && index_le (index_of range.prev) (index_of upto)
     && index_le (index_of upto) (index_of range.last)
 
--- what is answered to a response to the request in flight, and to none other
+-- the given result if the request is the one in flight, and otherwise the error that it is not
 abbrev pub if_mine : {S : Type 0} → ℕ → ℕ → Result S InflightError → Result S InflightError
 if_mine mine id answer = if mine == id then answer else Err (InvalidRequestId (Some mine) id)
 
--- the follower has all up to an id: the logs after it stay in flight; a snapshot has come
+-- the follower has all logs up to a log id: the logs after it stay in flight; a snapshot has
+-- arrived
 abbrev pub inflight_after_ack : {C : Type 0} → (C → C → Ordering) → InflightOf C → ℕ
     → Option (LogIdOf C)
     → Result (InflightOf C) InflightError
@@ -50,8 +51,8 @@ inflight_after_conflict (Logs mine range) id index =
     else Err ConflictNotAtPrev)
 inflight_after_conflict (Snapshot mine last) id index = if_mine mine id (Err ConflictOnSnapshot)
 
--- a call does what a table says: the value becomes the table's, or the refusal is the
--- table's and the value is as it was
+-- a call does what a table says: the value becomes the table's value, or the error is the table's
+-- error and the value is as it was
 abbrev pub FollowsTable : {S E U : Type 0} → Result S E → S → Result U E → S → Type 0
 FollowsTable (Ok s) old (Ok u) new = new ≡ s
 FollowsTable (Err e) old (Err f) new = (f ≡ e) × (new ≡ old)

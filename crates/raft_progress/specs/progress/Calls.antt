@@ -17,7 +17,7 @@ use Rattle.raft_progress.specs.declared.progress.steps.AnyStep.TheVariants.{Incr
 use Rattle.raft_progress.specs.declared.progress.steps.Reply.{Reply}
 use Rattle.raft_progress.specs.declared.progress.steps.Reply.TheVariants.{Granted, Unknown}
 
--- two runs, one from where the other has left, are one
+-- two runs compose to one if the second begins where the first ended
 abbrev pub Compose : {S A R : Type 0} → (S → A → R → S → Type 0) → Type 0
 Compose {S} {A} {R} Step =
     (old middle new : S) (steps more : List A) (replies others : List R)
@@ -31,7 +31,7 @@ module _ (ID V P QS : Type 0) (by : Comparisons ID V P) (has_quorum : QS → (ID
   abbrev pub RunsCompose : Type 0
   RunsCompose = Compose (IsShownStep {QS = QS} by has_quorum is_voter)
 
-  -- over a run the values go on as a run of the values says
+  -- over a run the values change as a run of the values says
   abbrev pub RunsAreRunsOfValues : Type 0
   RunsAreRunsOfValues =
       (old new : Shown ID V P QS) (steps : List (AnyStep ID V QS)) (replies : List (Reply ID P))
@@ -45,15 +45,15 @@ module _ (ID V P QS : Type 0) (by : Comparisons ID V P) (has_quorum : QS → (ID
       → IsShownRun by has_quorum is_voter old steps replies new → list_any is_upgrade steps ≡ false
       → AtMost by.cmp old.granted new.granted
 
-  -- the step was made: of a known id it is answered by what is granted, and of an unknown one by
-  -- what is granted and that the id is unknown
+  -- the step was made: the reply for a known id is what is granted, and for an unknown id it is
+  -- `Unknown` with what is granted
   pub record IsMadeOf (id : ID) (step : AnyStep ID V QS) (old new : Shown ID V P QS) : Type 0 where
     pub known : (v : V) → (state by.eq old).value id ≡ Some v
         → IsShownStep by has_quorum is_voter old step (Granted new.granted) new
     pub unknown : (state by.eq old).value id ≡ None
         → IsShownStep by has_quorum is_voter old step (Unknown new.granted) new
 
-  -- an update that may be made, and was made, is a step
+  -- an update whose precondition held, and that was made, is a step
   abbrev pub UpdatesAreSteps : Type 0
   UpdatesAreSteps =
       (old new : Shown ID V P QS) (id : ID) (value : V)
@@ -62,7 +62,7 @@ module _ (ID V P QS : Type 0) (by : Comparisons ID V P) (has_quorum : QS → (ID
       → IsDone by has_quorum is_voter old (Update id value) new
       → IsInOrder by.eq by.cmp by.part has_quorum new → IsMadeOf id (Update id value) old new
 
-  -- so is an increase
+  -- an increase that was made is a step
   abbrev pub IncreasesAreSteps : Type 0
   IncreasesAreSteps =
       (old new : Shown ID V P QS) (id : ID) (value : V)
@@ -71,7 +71,7 @@ module _ (ID V P QS : Type 0) (by : Comparisons ID V P) (has_quorum : QS → (ID
       → IsDone by has_quorum is_voter old (IncreaseTo id value) new
       → IsInOrder by.eq by.cmp by.part has_quorum new → IsMadeOf id (IncreaseTo id value) old new
 
-  -- and an upgrade, answered by what is granted
+  -- an upgrade that was made is a step, and its reply is what is granted
   abbrev pub UpgradesAreSteps : Type 0
   UpgradesAreSteps =
       (old new : Shown ID V P QS) (quorum_set : QS) (learners : Vec ID Global) (default : V)

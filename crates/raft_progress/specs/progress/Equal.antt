@@ -4,7 +4,7 @@ use Rattle.std.specs.List.{AllZip}
 use Rattle.std.specs.Cmp.Lexicographic.{pointwise}
 use Rattle.raft_progress.specs.progress.Shown.{Shown}
 
--- equal quorum sets, granted values, numbers of voters, walks, default parts and counts
+-- equal quorum sets, granted values, numbers of voters, entries, default parts and counts
 abbrev pub equal : {ID V P QS : Type 0} → (ID → ID → Bool) → (V → V → Bool) → (P → P → Bool)
     → (QS → QS → Bool) → Shown ID V P QS → Shown ID V P QS → Bool
 equal id_eq value_eq part_eq set_eq a b =
@@ -16,7 +16,7 @@ equal id_eq value_eq part_eq set_eq a b =
     && (a.stat.update_count == b.stat.update_count && a.stat.move_count == b.stat.move_count
     && a.stat.is_quorum_count == b.stat.is_quorum_count)
 
--- a clone of each value, a quorum set that IsSetClone says, and all else the same
+-- a clone of each value, a quorum set that IsSetClone allows, and otherwise no change
 pub record IsCloned {ID V P QS : Type 0} (IsClone : V → V → Type 0) (IsSetClone : QS → QS → Type 0)
     (old new : Shown ID V P QS) : Type 0 where
   pub quorum_set : IsSetClone old.quorum_set new.quorum_set

@@ -1,5 +1,5 @@
--- Equality of progresses is an equivalence where that of their ids, values, parts and quorum
--- sets is.
+-- Equality of progresses is an equivalence if equality of their ids, values, parts and quorum sets
+-- is.
 use Rattle.std.specs.Prelude.{Bool}
 use Rattle.std.specs.Cmp.{IsEquivalence, IsPartialEquivalence, and_equiv, and_per, nat_eq_equiv, on_equiv, on_per, partial_equiv_from_equiv}
 use Rattle.std.specs.Cmp.Lexicographic.{lists_equiv, lists_per}

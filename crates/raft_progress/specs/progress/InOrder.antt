@@ -10,9 +10,9 @@ use Rattle.raft_progress.specs.progress.Shown.{Shown}
 
 module _ {ID V P QS : Type 0} (eq : ID → ID → Bool) (cmp : P → P → Ordering) (part : V → P)
     (has_quorum : QS → (ID → Bool) → Bool) where
-  -- a walk is in order with a granted value: its ids are distinct, the voters whose part
-  -- exceeds granted come first and their parts never rise, no voter's part is below the
-  -- default's, and granted is the counted value
+  -- the entries are in order for a granted value: their ids are distinct, the voters whose part
+  -- exceeds granted come first and their parts never rise, no voter's part is below the default's
+  -- part, and granted is the counted value
   pub record IsWalkInOrder (quorum_set : QS) (walk : List (ID × V)) (voter_count : ℕ)
       (default_part granted : P) : Type 0 where
     pub distinct : IsDistinct eq (keys_of walk)
@@ -22,6 +22,6 @@ module _ {ID V P QS : Type 0} (eq : ID → ID → Bool) (cmp : P → P → Order
     pub counted : IsCounted cmp part has_quorum
         (state_of eq quorum_set walk voter_count default_part) granted
 
-  -- a progress is in order if its walk is, with its granted value
+  -- a progress is in order if its entries are in order for its granted value
   abbrev pub IsInOrder : Shown ID V P QS → Type 0
   IsInOrder p = IsWalkInOrder p.quorum_set p.walk p.voter_count p.default_part p.granted

@@ -6,13 +6,13 @@ use Rattle.raft_progress.specs.progress.Equal.{IsCloned}
 use Rattle.raft_progress.specs.progress.InOrder.{IsInOrder}
 use Rattle.raft_progress.specs.progress.Shown.{Shown, state}
 
--- the progress with another value at an id, in the same place, and nothing else changed
+-- the progress with another value at an id, at the same position, and nothing else changed
 abbrev pub with_value : {ID V P QS : Type 0} → (ID → ID → Bool) → Shown ID V P QS → ID → V
     → Shown ID V P QS
 with_value eq p id w = record p { walk = set_value (eq id) p.walk w }
 
--- the ids and the voters' parts are as they were; what learners have, and what a value
--- holds beside its part, may differ
+-- the ids and the voters' parts are as they were; learners' values, and what a value contains
+-- beside its part, may differ
 pub record KeepsParts {ID V P QS : Type 0} (part : V → P) (old new : Shown ID V P QS) : Type 0 where
   pub quorum_set : new.quorum_set ≡ old.quorum_set
   pub voter_count : new.voter_count ≡ old.voter_count
@@ -23,22 +23,22 @@ pub record KeepsParts {ID V P QS : Type 0} (part : V → P) (old new : Shown ID 
       ≡ map (λ e. part e.1) (take old.voter_count old.walk)
 
 module _ (ID V P QS : Type 0) (eq : ID → ID → Bool) (part : V → P) where
-  -- a value in the place of another keeps ids and voters' parts, where it has the same part or the
-  -- id is no voter
+  -- a value in place of another keeps ids and voters' parts, if it has the same part or the id is
+  -- not a voter
   abbrev pub SamePartKeepsParts : Type 0
   SamePartKeepsParts =
       (p : Shown ID V P QS) (id : ID) (v w : V) → (state eq p).value id ≡ Some v
       → ((state eq p).is_voter id ≡ true → part w ≡ part v)
       → KeepsParts part p (with_value eq p id w)
 
-  -- where ids and voters' parts are as they were, a progress that was in order is in order
+  -- if ids and voters' parts are as they were, a progress that was in order is in order
   abbrev pub KeptPartsKeepOrder : (P → P → Ordering) → (QS → (ID → Bool) → Bool) → Type 0
   KeptPartsKeepOrder cmp has_quorum =
       (old new : Shown ID V P QS) → KeepsParts part old new
       → IsInOrder eq cmp part has_quorum old → IsInOrder eq cmp part has_quorum new
 
-  -- a clone of a progress in order is in order, where clones of values have the part of their
-  -- source, and those of quorum sets its quorums
+  -- a clone of a progress in order is in order, if clones of values have the same part, and clones
+  -- of quorum sets the same quorums
   abbrev pub ClonesKeepOrder : (P → P → Ordering) → (QS → (ID → Bool) → Bool) → (V → V → Type 0)
       → (QS → QS → Type 0) → Type 0
   ClonesKeepOrder cmp has_quorum IsClone IsSetClone =

@@ -1,4 +1,4 @@
--- What a progress becomes once what it lent has come back.
+-- What a progress becomes after what it lent has come back.
 use Rattle.std.specs.Prelude.{◌≡◌, ◌↔◌, Bool, [], ◌∷◌, IsOk, IsSome, MatchResult, OnSome, Option, Result}
 use Rattle.std.specs.Borrow.{Array, Bor, Fml, LendsSo, MutBor, RattleType, follows}
 use Rattle.std.specs.Fn.{FnOnceReturnsAtMut, Once}
@@ -16,15 +16,15 @@ use Rattle.raft_progress.specs.progress.Updated.{IsUpdated}
 use Rattle.raft_progress.specs.progress.VecProgress.{with_walk}
 use Rattle.raft_progress.specs.contracts.progress.vec_progress.VecProgress.{the_row}
 
--- what a closure may leave of a value
+-- what a closure may make of a value
 abbrev pub Leaves : {F T : Type 0} → Once F (MutBor T × Unit {0}) (Unit {0} × (MutBor T × Unit {0}))
     → F → T → T → Type 0
 Leaves call f v w = FnOnceReturnsAtMut call f v tt w
 
 module _ {ID V P QS : Type 0} (eq : ID → ID → Bool) (cmp : P → P → Ordering) (part : V → P)
     (has_quorum : QS → (ID → Bool) → Bool) where
-  -- After an update that was answered: the value went to another by Left, the progress is in order,
-  -- and the answer is granted: an Ok for a known id, and an error for an unknown one.
+  -- After an update that has returned: the value became one that Left allows, the progress is in
+  -- order, and the result is granted, as Ok for a known id and as an error for an unknown one.
   pub record IsAnsweredUpdate (Left : V → V → Type 0) (id : ID) (result : Result (Bor P) (Bor P))
       (old new : Shown ID V P QS) : Type 0 where
     pub updated : IsUpdated eq cmp part Left old id new
@@ -32,12 +32,12 @@ module _ {ID V P QS : Type 0} (eq : ID → ID → Bool) (cmp : P → P → Order
     pub granted : MatchResult result (λ ok. ok.now ≡ new.granted) (λ err. err.now ≡ new.granted)
     pub known : IsOk result ↔ IsSome ((state eq old).value id)
 
--- once granted has come back, what p shows is related to what it showed before
+-- after granted has come back, what contracts see of p is related to what they saw before
 abbrev pub LendsGranted : {ID V P QS : Type 0} (R : RattleType) → (R.Denot → Shown ID V P QS)
     → MutBor R.Denot → (Shown ID V P QS → Shown ID V P QS → Type 0) → Fml
 LendsGranted R shows p After = Rests R p (λ new. After (shows p.now) (shows new))
 
--- once the value of an id has come back as w, p shows w there and nothing else has changed
+-- after the value of an id has come back as w, p has w at this id and nothing else has changed
 abbrev pub LendsValue : {ID P QS : Type 0} (R V : RattleType) → (R.Denot → Shown ID V.Denot P QS)
     → (ID → ID → Bool) → MutBor R.Denot → ID → Option (MutBor V.Denot) → Fml
 LendsValue R V shows eq p id value =
@@ -46,7 +46,8 @@ LendsValue R V shows eq p id value =
 
 module _ (ID V P QS : RattleType) (o : order_ghosts.Ghosts ID.Denot) (e : eq_ghosts.Ghosts ID.Denot)
     (q : partial_ghosts.Ghosts ID.Denot) where
-  -- once its entries have come back, p has as many others in its walk, and nothing else has changed
+  -- after its entries have come back, p has other entries, as many as before, and nothing else has
+  -- changed
   abbrev pub LendsWalk : MutBor (the_row ID V P QS o e q).Denot → GName → Fml
   LendsWalk p name =
       follows (the_row ID V P QS o e q) (Array (Tuple (ID ∷ V ∷ [])) 0) p.ghost_name name

@@ -1,4 +1,4 @@
--- Matches that are in a log, and what is granted of them.
+-- Matching log ids that are in a log, and what is granted of them.
 use Rattle.std.specs.Prelude.{◌≡◌, ◌+◌, Bool, true, nat_lt, Option, Some, None, if◌then◌else◌}
 use Rattle.std.specs.Option.{option_cmp}
 use Rattle.std.specs.declared.cmp.Ordering.{Ordering}
@@ -8,8 +8,8 @@ use Rattle.raft_base.specs.declared.log_id.LogIdOf.{LogIdOf}
 use Rattle.raft_progress.specs.progress.InOrder.{IsInOrder}
 use Rattle.raft_progress.specs.progress.Shown.{Shown, state}
 
--- the log has the id at its index, or that index is purged, so that the log no longer knows it; an
--- absent id counts as logged
+-- the log has the log id at its index, or that index is purged, so that the log no longer has it;
+-- an absent log id counts as logged
 abbrev pub is_logged_or_purged : {C : Type 0} → (C → C → Bool) → LogView C → Option (LogIdOf C)
     → Bool
 is_logged_or_purged eq log None = true
@@ -19,7 +19,7 @@ is_logged_or_purged eq log (Some id) =
 
 module _ {ID V C QS : Type 0} (eq : ID → ID → Bool) (same : C → C → Bool)
     (part : V → Option (LogIdOf C)) (log : LogView C) where
-  -- the default's match is logged or purged, and so is the match of each voter
+  -- the default's matching log id is logged or purged, and so is the one of each voter
   pub record MatchesAreLogged (p : Shown ID V (Option (LogIdOf C)) QS) : Type 0 where
     pub default : is_logged_or_purged same log p.default_part ≡ true
     pub voters : (id : ID) (v : V) → (state eq p).is_voter id ≡ true
@@ -27,7 +27,7 @@ module _ {ID V C QS : Type 0} (eq : ID → ID → Bool) (same : C → C → Bool
 
 module _ (ID V C QS : Type 0) (eq : ID → ID → Bool) (same : C → C → Bool) (cmp : C → C → Ordering)
     (part : V → Option (LogIdOf C)) (has_quorum : QS → (ID → Bool) → Bool) where
-  -- where they are, what is granted is logged or purged too
+  -- if they are, what is granted is logged or purged too
   abbrev pub GrantedIsLogged : Type 0
   GrantedIsLogged =
       (p : Shown ID V (Option (LogIdOf C)) QS)

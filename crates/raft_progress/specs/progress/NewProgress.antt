@@ -8,13 +8,13 @@ use Rattle.std.specs.declared.cmp.Ordering.{Ordering}
 use Rattle.raft_progress.specs.progress.ProgressState.{ProgressState}
 use Rattle.raft_progress.specs.progress.Shown.{Shown}
 
--- no learner stands twice, and none is a voter
+-- no learner is repeated, and none is a voter
 pub record LearnersFit {ID : Type 0} (eq : ID → ID → Bool) (is_voter : ID → Bool)
     (learners : List ID) : Type 0 where
   pub distinct : IsDistinct eq learners
   pub no_voters : (x : ID) → is_member eq learners x ≡ true → is_voter x ≡ false
 
--- a value is there, and it is a clone of v
+-- a value is there, and is a clone of v
 abbrev pub HasClone : {V : Type 0} → (V → V → Type 0) → V → Option V → Type 0
 HasClone {V} IsClone v value = (w : V) × (value ≡ Some w) × IsClone v w
 
@@ -30,8 +30,8 @@ module _ {ID V P QS : Type 0} (eq : ID → ID → Bool) (IsClone : V → V → T
     pub others : (x : ID) → (is_voter x || is_member eq learners x) ≡ false → new.value x ≡ None
     pub default_part : new.default_part ≡ part default
 
--- the walk of a new progress: the voters, each once, ascending, and
--- then the learners as they were given
+-- the entries of a new progress: the voters, each once, ascending, and then the learners in the
+-- given order
 pub record IsFirstWalk {ID V P QS : Type 0} (id_cmp : ID → ID → Ordering) (learners : List ID)
     (made : Shown ID V P QS) : Type 0 where
   pub voters : List ID

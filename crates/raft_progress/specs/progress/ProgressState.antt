@@ -1,8 +1,9 @@
--- What a progress is: voters, learners and their values, apart from how they are kept.
+-- What a progress is: voters, learners and their values, apart from how they are stored.
 use Rattle.std.specs.Prelude.{◌≡◌, Bool, Option, Some, option_map}
 use Rattle.std.specs.Map.{update}
 
--- voters, learners and their values, apart from how they are kept: an id without a value is neither
+-- voters, learners and their values, apart from how they are stored: an id without a value is
+-- neither
 pub record ProgressState (ID V P QS : Type 0) : Type 0 where
   pub quorum_set : QS
   pub is_voter : ID → Bool
@@ -16,7 +17,7 @@ pub record IsSame {ID V P QS : Type 0} (old new : ProgressState ID V P QS) : Typ
   pub value : (x : ID) → new.value x ≡ old.value x
   pub default_part : new.default_part ≡ old.default_part
 
--- the value of one id is now v, and all else is as it was
+-- the value of one id is now v, and nothing else has changed
 pub record Writes {ID V P QS : Type 0} (eq : ID → ID → Bool) (old : ProgressState ID V P QS)
     (id : ID) (v : V) (new : ProgressState ID V P QS) : Type 0 where
   pub quorum_set : new.quorum_set ≡ old.quorum_set

@@ -1,8 +1,8 @@
--- A run of steps, each with its reply.
+-- Runs of steps, each with its reply.
 use Rattle.std.specs.Prelude.{List, [], ◌∷◌}
 
 module _ {S A R : Type 0} (Step : S → A → R → S → Type 0) (Same : S → S → Type 0) where
-  -- the steps may be answered so, one after another; no step and no reply leave all the same
+  -- the steps may have these replies, one after another; no steps and no replies change nothing
   abbrev pub Runs : S → List A → List R → S → Type 0
   Runs old [] [] new = Same old new
   Runs old (step ∷ steps) (reply ∷ replies) new =

@@ -1,5 +1,5 @@
--- What a step does to all that a progress shows: to its walk, to what
--- is granted and to the counts too.
+-- What a step does to all that contracts see of a progress: to its entries, to granted and to the
+-- counts too.
 use Rattle.std.specs.Prelude.{◌≡◌, Bool, true, false, List, Option}
 use Rattle.std.specs.declared.cmp.Ordering.{Ordering}
 use Rattle.raft_progress.specs.progress.Answered.{IsAnswered}
@@ -19,7 +19,7 @@ module _ {ID V P QS : Type 0} (eq : ID → ID → Bool) (cmp : P → P → Order
   abbrev pub IsUpdatedTo : Shown ID V P QS → ID → V → Shown ID V P QS → Type 0
   IsUpdatedTo old id value new = IsUpdated eq cmp part (λ v w. w ≡ value) old id new
 
-  -- the value of an id is updated to this one where this one is greater, and else to itself
+  -- the value of an id is updated to this one if this one is greater, and otherwise to itself
   abbrev pub IsIncreasedTo : (V → V → Option Ordering) → Shown ID V P QS → ID → V → Shown ID V P QS
       → Type 0
   IsIncreasedTo partial_cmp old id value new =
@@ -42,15 +42,16 @@ module _ {ID V P QS : Type 0} (by : Comparisons ID V P) (has_quorum : QS → (ID
       IsUpgradeFold by.eq by.id_cmp by.cmp by.part by.IsClone has_quorum is_voter old quorum_set
       learners.items default new
 
-  -- a step of a progress, over all that it shows: its values go on as a step says, it is done or
-  -- changes nothing, the reply tells what is granted, and it ends in order
+  -- a step of a progress, over all that contracts see of it: its values change as a step says, it
+  -- is done or changes nothing, the reply contains what is granted, and the progress is in order at
+  -- the end
   pub record IsShownStep (old : Shown ID V P QS) (step : AnyStep ID V QS) (reply : Reply ID P)
       (new : Shown ID V P QS) : Type 0 where
     pub values : IsStep by has_quorum is_voter (state by.eq old) step reply (state by.eq new)
     pub answered : IsAnswered (λ p. p.granted) (IsDone old step) old reply new
     pub ordered : IsInOrder by.eq by.cmp by.part has_quorum new
 
-  -- the steps may be answered so, one after another
+  -- the steps may have these replies, one after another
   abbrev pub IsShownRun : Shown ID V P QS → List (AnyStep ID V QS) → List (Reply ID P)
       → Shown ID V P QS → Type 0
   IsShownRun old steps replies new = Runs IsShownStep (λ a b. b ≡ a) old steps replies new

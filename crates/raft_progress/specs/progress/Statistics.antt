@@ -10,8 +10,8 @@ no_counts = record { update_count = 0; move_count = 0; is_quorum_count = 0 }
 abbrev pub count_after : ℕ → ℕ → ℕ
 count_after old more = min (old + more) (2 ^ 64 - 1)
 
--- the counts have gone on over some updates: each is counted, at most one move for each, and for
--- each at most as many quorum tests as the number of voters has binary digits
+-- the counts have continued over some updates: each update is counted, with at most one move, and
+-- with at most k quorum tests if the number of voters is less than 2^k
 pub record CountsGoOn (updates voters : ℕ) (old new : Stat) : Type 0 where
   pub updated : new.update_count ≡ count_after old.update_count updates
   pub moved : (k : ℕ) × (k ≤ updates) × (new.move_count ≡ count_after old.move_count k)

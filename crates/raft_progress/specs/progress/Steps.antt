@@ -1,4 +1,4 @@
--- What a step does to a progress, and what it is answered.
+-- What a step does to a progress, and its reply.
 use Rattle.std.specs.Prelude.{◌≡◌, Bool, true, false, Option, Some, None, List, not, MatchBool}
 use Rattle.std.specs.Ordering.{is_lt, partial_gt}
 use Rattle.std.specs.declared.cmp.Ordering.{Ordering}
@@ -20,12 +20,12 @@ use Rattle.raft_progress.specs.declared.progress.steps.Reply.TheVariants.{
   OutOfMemory,
 }
 
--- whether a value's part is below that of the present value
+-- whether a value's part is below the part of the present value
 abbrev pub falls : {V P : Type 0} → (P → P → Ordering) → (V → P) → Option V → V → Bool
 falls cmp part None value = false
 falls cmp part (Some current) value = is_lt (cmp (part value) (part current))
 
--- whether there is a value that the new one isn't greater than
+-- whether there is a value that the new one is not greater than
 abbrev pub stays : {V : Type 0} → (V → V → Option Ordering) → Option V → V → Bool
 stays partial_cmp None value = false
 stays partial_cmp (Some current) value = not (partial_gt partial_cmp value current)
@@ -48,7 +48,7 @@ module _ {ID V P QS : Type 0} (eq : ID → ID → Bool) (cmp : P → P → Order
 module _ {ID V P QS : Type 0} (eq : ID → ID → Bool) (cmp : P → P → Ordering)
     (partial_cmp : V → V → Option Ordering) (part : V → P)
     (has_quorum : QS → (ID → Bool) → Bool) where
-  -- a value that isn't greater changes nothing, and any other is written
+  -- a value that is not greater changes nothing, and any other is written
   abbrev pub IsIncreased : ProgressState ID V P QS → ID → V → Reply ID P → ProgressState ID V P QS
       → Type 0
   IsIncreased old id value reply new =
@@ -59,8 +59,8 @@ module _ {ID V P QS : Type 0} (eq : ID → ID → Bool) (cmp : P → P → Order
 module _ {ID V P QS : Type 0} (eq : ID → ID → Bool) (id_cmp : ID → ID → Ordering)
     (cmp : P → P → Ordering) (part : V → P) (IsClone : V → V → Type 0)
     (has_quorum : QS → (ID → Bool) → Bool) (is_voter : QS → ID → Bool) where
-  -- the progress goes over to another quorum set, learners and default, unless the learners don't
-  -- fit or an inherited value is below the default; or a growth was refused
+  -- the progress switches to another quorum set, learners and default, unless the learners do not
+  -- fit or an inherited value is below the default; or an allocation failed
   abbrev pub IsAnsweredUpgrade : ProgressState ID V P QS → QS → List ID → V → Reply ID P
       → ProgressState ID V P QS → Type 0
   IsAnsweredUpgrade old quorum_set learners default (Granted p) new =
@@ -79,8 +79,8 @@ module _ {ID V P QS : Type 0} (eq : ID → ID → Bool) (id_cmp : ID → ID → 
 
 module _ {ID V P QS : Type 0} (by : Comparisons ID V P) (has_quorum : QS → (ID → Bool) → Bool)
     (is_voter : QS → ID → Bool) where
-  -- From old, the step may be answered so and go on to new. No granted value is kept: it
-  -- is counted where a reply needs it.
+  -- From old, the step may have this reply and lead to new. No granted value is stored: it is
+  -- recomputed if a reply needs it.
   abbrev pub IsStep : ProgressState ID V P QS → AnyStep ID V QS → Reply ID P
       → ProgressState ID V P QS → Type 0
   IsStep old (Update id value) reply new =
@@ -91,7 +91,7 @@ module _ {ID V P QS : Type 0} (by : Comparisons ID V P) (has_quorum : QS → (ID
       IsAnsweredUpgrade by.eq by.id_cmp by.cmp by.part by.IsClone has_quorum is_voter old quorum_set
       learners.items default reply new
 
-  -- The steps may be answered so, one after another.
+  -- The steps may have these replies, one after another.
   abbrev pub IsRun : ProgressState ID V P QS → List (AnyStep ID V QS) → List (Reply ID P)
       → ProgressState ID V P QS → Type 0
   IsRun old steps replies new = Runs IsStep IsSame old steps replies new

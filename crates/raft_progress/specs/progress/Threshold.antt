@@ -1,5 +1,5 @@
--- Which parts granted is at least: those of the default, and those that a quorum has reached. Each
--- quorum that meets the others knows it, and no other value is counted.
+-- Which parts are at most granted: those up to the default's part, and those that a quorum has
+-- reached. Each quorum that meets the others knows granted, and no other value is counted.
 use Rattle.std.specs.Prelude.{◌≡◌, ◌↔◌, ◌⊎◌, Bool, true}
 use Rattle.std.specs.declared.cmp.Ordering.{Ordering}
 use Rattle.std.specs.declared.cmp.Ordering.TheVariants.{Equal}
@@ -10,7 +10,7 @@ use Rattle.raft_progress.specs.progress.Shown.{Shown, state}
 
 module _ {ID V P QS : Type 0} (cmp : P → P → Ordering) (part : V → P)
     (has_quorum : QS → (ID → Bool) → Bool) where
-  -- a quorum of the voters, one voter at least, has reached a part
+  -- a quorum of the voters, with at least one voter, has reached a part
   pub record QuorumReached (s : ProgressState ID V P QS) (p : P) : Type 0 where
     pub voter : ID
     pub has_reached : reached cmp part s p voter ≡ true
@@ -32,15 +32,15 @@ module _ {ID V P QS : Type 0} (cmp : P → P → Ordering) (part : V → P)
 
 module _ (ID V P QS : Type 0) (eq : ID → ID → Bool) (cmp : P → P → Ordering) (part : V → P)
     (has_quorum : QS → (ID → Bool) → Bool) where
-  -- any part, a voter's or not, is at most what is granted exactly where it is at most the
-  -- default's or a quorum has reached it
+  -- any part, a voter's or not, is at most granted exactly if it is at most the default's part or a
+  -- quorum has reached it
   abbrev pub GrantedIsThreshold : Type 0
   GrantedIsThreshold =
       (p : Shown ID V P QS) → IsInOrder eq cmp part has_quorum p → (q : P)
       → AtMost cmp q p.granted
       ↔ (AtMost cmp q p.default_part ⊎ QuorumReached cmp part has_quorum (state eq p) q)
 
-  -- where any two quorums share a voter, each quorum has a voter whose part is at least granted
+  -- if any two quorums share a voter, each quorum has a voter whose part is at least granted
   abbrev pub MeetingQuorumsKnowGranted : Type 0
   MeetingQuorumsKnowGranted =
       (p : Shown ID V P QS) → IsInOrder eq cmp part has_quorum p
@@ -49,7 +49,7 @@ module _ (ID V P QS : Type 0) (eq : ID → ID → Bool) (cmp : P → P → Order
 
 module _ (ID V P QS : Type 0) (cmp : P → P → Ordering) (part : V → P)
     (has_quorum : QS → (ID → Bool) → Bool) where
-  -- beside one counted value of a state, what is counted is what ties with it
+  -- beside one counted value of a state, exactly the parts that tie with it are counted
   abbrev pub CountedValuesTie : Type 0
   CountedValuesTie =
       (s : ProgressState ID V P QS) (g h : P) → IsCounted cmp part has_quorum s g

@@ -23,10 +23,9 @@ module _ {ID V P QS : Type 0} (eq : ID → ID → Bool) (cmp : P → P → Order
       (state eq old).is_voter id
       && (is_le (cmp (part v) old.granted) && is_lt (cmp old.granted (part w)))
 
-  -- The walk, granted and the counts after the value of a known id went from v to w. A voter that
-  -- rises past what was granted is risen in the walk. Quorums are tested only where granted may
-  -- rise, and at most as many as the number of voters has binary digits: the least k for which the
-  -- number is below 2 to the power of k.
+  -- The entries, granted and the counts after the value of a known id went from v to w. A voter
+  -- whose part rises past granted moves up among the entries. Quorums are tested only if granted
+  -- may rise, and at most k times if the number of voters is less than 2^k.
   pub record IsSettled (old : Shown ID V P QS) (id : ID) (v w : V) (new : Shown ID V P QS)
       : Type 0 where
     pub rises : rises_past_granted old id v w ≡ true
@@ -40,8 +39,8 @@ module _ {ID V P QS : Type 0} (eq : ID → ID → Bool) (cmp : P → P → Order
     pub tested_to_rise : is_lt (cmp old.granted new.granted) ≡ true → 1 ≤ tests
     pub not_tested : passes_granted old id v w ≡ false → (tests ≡ 0) × (new.granted ≡ old.granted)
 
-  -- After an update of an id, whose value went to another by Left: granted never falls, and of an
-  -- unknown id nothing but the count of updates has changed.
+  -- After an update of an id, whose value became one that Left allows: granted never falls, and for
+  -- an unknown id only the count of updates has changed.
   pub record IsUpdated (Left : V → V → Type 0) (old : Shown ID V P QS) (id : ID)
       (new : Shown ID V P QS) : Type 0 where
     pub counts : new.stat.update_count ≡ count_after old.stat.update_count 1
@@ -56,18 +55,18 @@ module _ {ID V P QS : Type 0} (eq : ID → ID → Bool) (cmp : P → P → Order
         }
 
 module _ {ID V P QS : Type 0} (eq : ID → ID → Bool) (cmp : P → P → Ordering) (part : V → P) where
-  -- the part of the value that an id has is not above that of another value
+  -- the part of the value that an id has is not above the part of another value
   abbrev pub IsNotLower : Shown ID V P QS → ID → V → Type 0
   IsNotLower old id value =
       ForSome ((state eq old).value id) (λ v. AtMost cmp (part v) (part value))
 
-  -- nor where the other value is greater
+  -- if another value is greater than the value that an id has, its part is not below
   abbrev pub IsNotLowerIfGreater : (V → V → Option Ordering) → Shown ID V P QS → ID → V → Type 0
   IsNotLowerIfGreater partial_cmp old id value =
       ForSome ((state eq old).value id)
       (λ v. partial_gt partial_cmp value v ≡ true → AtMost cmp (part v) (part value))
 
-  -- nor is it above that of any value that Left says may be left of it
+  -- the part of the value that an id has is not above the part of any value that Left allows
   abbrev pub NeverFalls : (V → V → Type 0) → Shown ID V P QS → ID → Type 0
   NeverFalls Left old id =
       (v w : V) → (state eq old).value id ≡ Some v → Left v w → AtMost cmp (part v) (part w)

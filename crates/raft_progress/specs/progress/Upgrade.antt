@@ -1,4 +1,4 @@
--- A progress over another quorum set that takes over the values of an old one.
+-- Progresses with another quorum set that inherit the values of an old one.
 use Rattle.std.specs.Prelude.{◌≡◌, Bool, true, false, ◌||◌, List, Option, Some, None}
 use Rattle.std.specs.Set.{is_member}
 use Rattle.std.specs.declared.cmp.Ordering.{Ordering}
@@ -7,15 +7,15 @@ use Rattle.raft_progress.specs.progress.ProgressState.{ProgressState}
 use Rattle.raft_progress.specs.progress.CountedValue.{AtMost}
 use Rattle.raft_progress.specs.progress.NewProgress.{HasClone}
 
--- a clone of the value that the id had, or of the default where it had none
+-- a clone of the value that the id had, or of the default if it had none
 abbrev pub Inherits : {V : Type 0} → (V → V → Type 0) → V → Option V → Option V → Type 0
 Inherits IsClone default None new = HasClone IsClone default new
 Inherits IsClone default (Some v) new = HasClone IsClone v new
 
 module _ {ID V P QS : Type 0} (eq : ID → ID → Bool) (IsClone : V → V → Type 0) (part : V → P)
     (is_voter : ID → Bool) where
-  -- the new set's voters and the learners, each with a clone of its old value or of the
-  -- default, and no other id with a value
+  -- the new set's voters and the learners, each with a clone of its old value or of the default,
+  -- and no other id with a value
   pub record IsUpgraded (quorum_set : QS) (learners : List ID) (default : V) (old : ID → Option V)
       (new : ProgressState ID V P QS) : Type 0 where
     pub same_quorum_set : new.quorum_set ≡ quorum_set
@@ -43,7 +43,7 @@ module _ {ID V P : Type 0} (eq : ID → ID → Bool) (cmp : P → P → Ordering
 
 module _ {ID V P : Type 0} (eq : ID → ID → Bool) (id_cmp : ID → ID → Ordering)
     (cmp : P → P → Ordering) (part : V → P) (is_voter : ID → Bool) where
-  -- the least such id
+  -- the least id whose inherited value is below the default
   pub record IsLeastBelow (learners : List ID) (default : V) (old : ID → Option V) (id : ID)
       : Type 0 where
     pub inherits_below : InheritsBelow eq cmp part is_voter learners default old id

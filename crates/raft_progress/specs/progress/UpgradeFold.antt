@@ -1,5 +1,5 @@
--- How a progress goes over to another quorum set: it begins anew, and the old values
--- are taken over one after another.
+-- How a progress switches to another quorum set: it begins anew, and inherits the old values one
+-- after another.
 use Rattle.std.specs.Prelude.{◌≡◌, Bool, List, [], ◌∷◌}
 use Rattle.std.specs.declared.cmp.Ordering.{Ordering}
 use Rattle.raft_progress.specs.progress.InOrder.{IsInOrder}
@@ -11,8 +11,8 @@ use Rattle.raft_progress.specs.declared.progress.stat.Stat.{Stat}
 module _ {ID V P QS : Type 0} (eq : ID → ID → Bool) (id_cmp : ID → ID → Ordering)
     (cmp : P → P → Ordering) (part : V → P) (IsClone : V → V → Type 0)
     (is_voter : QS → ID → Bool) where
-  -- a new progress that goes on with the counts of another: voters and learners have the
-  -- default, and its part is granted
+  -- a new progress that continues the counts of another: voters and learners have the default, and
+  -- its part is granted
   pub record BeginsAnew (stat : Stat) (quorum_set : QS) (learners : List ID) (default : V)
       (first : Shown ID V P QS) : Type 0 where
     pub values : IsNew eq IsClone part (is_voter quorum_set) quorum_set learners default
@@ -24,15 +24,15 @@ module _ {ID V P QS : Type 0} (eq : ID → ID → Bool) (id_cmp : ID → ID → 
 module _ {ID V P QS : Type 0} (eq : ID → ID → Bool) (id_cmp : ID → ID → Ordering)
     (cmp : P → P → Ordering) (part : V → P) (IsClone : V → V → Type 0)
     (has_quorum : QS → (ID → Bool) → Bool) (is_voter : QS → ID → Bool) where
-  -- the entries are taken over one after another: each by an update of its id, whose value is then
-  -- a clone of the entry's, and which ends in order
+  -- the entries are inherited one after another: each by an update of its id, which makes its value
+  -- a clone of the entry's value, and which ends in order
   abbrev pub TakesOverEach : List (ID × V) → Shown ID V P QS → Shown ID V P QS → Type 0
   TakesOverEach [] old new = new ≡ old
   TakesOverEach (e ∷ es) old new =
       (middle : Shown ID V P QS) × IsUpdated eq cmp part (λ v w. IsClone e.1 w) old e.0 middle
       × IsInOrder eq cmp part has_quorum middle × TakesOverEach es middle new
 
-  -- a progress that begins anew, after the entries of a walk have been taken over
+  -- a progress that begins anew, after the entries have been inherited
   pub record IsFold (walk : List (ID × V)) (stat : Stat) (quorum_set : QS) (learners : List ID)
       (default : V) (new : Shown ID V P QS) : Type 0 where
     pub first : Shown ID V P QS
@@ -40,8 +40,7 @@ module _ {ID V P QS : Type 0} (eq : ID → ID → Bool) (id_cmp : ID → ID → 
         first
     pub takes_over : TakesOverEach walk first new
 
-  -- an upgrade begins anew over the new quorum set, with the old
-  -- counts, and takes over the old walk
+  -- an upgrade begins anew with the new quorum set and the old counts, and inherits the old entries
   abbrev pub IsUpgradeFold : Shown ID V P QS → QS → List ID → V → Shown ID V P QS → Type 0
   IsUpgradeFold old quorum_set learners default new =
       IsFold old.walk old.stat quorum_set learners default new

@@ -1,5 +1,5 @@
--- What a `VecProgress` shows, and what is left of one whose entries have been lent. This file and
--- no other reads its private fields.
+-- What contracts see of a `VecProgress`, and what remains of one whose entries have been lent. No
+-- other file reads its private fields.
 use Rattle.raft_progress.specs.progress.Shown.{Shown}
 use Rattle.std.specs.Prelude.{Bool, List, ◌≤◌, true}
 use Rattle.std.specs.Vec.{with_items}
@@ -9,7 +9,7 @@ use Rattle.std.specs.declared.cmp.PartialEq as eq_ghosts
 use Rattle.std.specs.declared.cmp.PartialOrd as partial_ghosts
 use Rattle.raft_progress.specs.declared.progress.vec_progress.VecProgress.{VecProgress}
 
--- all but the map of places and the room, which updates write over
+-- all but the list of positions and the scratch space
 abbrev pub shown : {ID V P QS : Type 0} {o : order_ghosts.Ghosts ID} {e : eq_ghosts.Ghosts ID}
     {q : partial_ghosts.Ghosts ID}
     → VecProgress ID V P QS o e q → Shown ID V P QS
@@ -23,14 +23,14 @@ shown p =
       stat = p.stat;
     }
 
--- whether its map of places is not asked any more
+-- whether its list of positions is not used any more
 abbrev pub is_stale : {ID V P QS : Type 0} {o : order_ghosts.Ghosts ID} {e : eq_ghosts.Ghosts ID}
     {q : partial_ghosts.Ghosts ID}
     → VecProgress ID V P QS o e q → Bool
 is_stale p = p.stale
 
--- the progress with other entries in its walk, as many as before, and
--- a map that is not asked any more
+-- the progress with other entries, as many as before, and a list of positions that is not used any
+-- more
 abbrev pub with_walk : {ID V P QS : Type 0} {o : order_ghosts.Ghosts ID} {e : eq_ghosts.Ghosts ID}
     {q : partial_ghosts.Ghosts ID}
     → VecProgress ID V P QS o e q → List (ID × V) → VecProgress ID V P QS o e q

@@ -10,14 +10,14 @@ use Rattle.raft_progress.specs.declared.search.SearchEvent.TheVariants.{Send}
 use Rattle.std.specs.Prelude.{ℕ}
 
 module _ {L C : Type 0} (log_view : L → LogView C) (index : ℕ) where
-  -- a send has its purge point before an index
+  -- the purge point of a send is before an index
   abbrev pub IsPurgedWithin : SearchEvent L → Type 0
   IsPurgedWithin (Send log n) = next_index (log_view log.now).purge_upto ≤ index
   IsPurgedWithin event = ⊤
 
 module _ (L C : Type 0) (cmp : C → C → Ordering) (log_view : L → LogView C) where
-  -- where each send of a list has its purge point before an index, no send that was not skipped has
-  -- it at or past it
+  -- if the purge point of each send of a list is before an index, so is the purge point of each
+  -- send that was not skipped
   abbrev pub PurgedWithinStays : Type 0
   PurgedWithinStays =
       (search : Search C) (events : List (SearchEvent L)) (index : ℕ) → NonePurgedPast search index

@@ -10,8 +10,8 @@ use Rattle.raft_progress.specs.declared.entry.ProgressEntryOf.{ProgressEntryOf}
 use Rattle.raft_progress.specs.declared.search.SearchEvent.{SearchEvent}
 use Rattle.raft_progress.specs.declared.search.SearchEvent.TheVariants.{Send, Conflict, Heartbeat}
 
--- an entry in a search, the index after the last purge point that was sent over, and
--- how many conflicts were accepted
+-- an entry in a search, the index after the purge point of the last send, and the number of
+-- accepted conflicts
 pub record Search (C : Type 0) : Type 0 where
   pub entry : ProgressEntryOf C
   pub purged : ℕ
@@ -26,19 +26,18 @@ abbrev pub after_send : {S : Type 0} → Result S S → S
 after_send (Ok entry) = entry
 after_send (Err entry) = entry
 
--- the entry after a response: where it is refused, the entry as it was
+-- the entry after a response, which is unchanged if the response is refused
 abbrev pub after_response : {S E : Type 0} → S → Result S E → S
 after_response entry (Ok new) = new
 after_response entry (Err e) = entry
 
--- 1 where a response is accepted, 0 where it is refused
+-- 1 if a response is accepted, and 0 if it is refused
 abbrev pub one_if_accepted : {S E : Type 0} → Result S E → ℕ
 one_if_accepted (Ok new) = 1
 one_if_accepted (Err e) = 0
 
 module _ {L C : Type 0} (cmp : C → C → Ordering) (log_view : L → LogView C) where
-  -- a send over a log, unless it may not be made, or the purge point
-  -- has gone back since an earlier send
+  -- a send, unless it may not be made, or the purge point has moved back since an earlier send
   abbrev pub after_sending : Search C → LogView C → ℕ → Search C
   after_sending search log max_entries =
       if can_be_sent search.entry log && nat_le search.purged (next_index log.purge_upto)
@@ -68,16 +67,16 @@ module _ {L C : Type 0} (cmp : C → C → Ordering) (log_view : L → LogView C
   after_events search [] = search
   after_events search (event ∷ events) = after_events (after_event search event) events
 
--- no send that was not skipped had a purge point at or past an index: the last of them had the
--- furthest, as one whose purge point goes back is skipped
+-- no send that was not skipped had a purge point at or past an index; the last of them had the
+-- furthest one, because a send whose purge point moves back is skipped
 abbrev pub NonePurgedPast : {C : Type 0} → Search C → ℕ → Type 0
 NonePurgedPast search index = search.purged ≤ index
 
--- a search can begin: nothing is in flight, and the match is below the end of the search
+-- a search can begin: nothing is in flight, and matching is below the searching end
 abbrev pub CanSearch : {C : Type 0} → ProgressEntryOf C → Type 0
 CanSearch entry =
     (is_idle entry.inflight ≡ true) × (next_index entry.matching ≤ entry.searching_end)
 
--- from the match to the end of the search: so many indexes may be that of the last shared log
+-- the number of indexes, from matching to the searching end, at which the last shared log may be
 abbrev pub stretch : {C : Type 0} → ProgressEntryOf C → ℕ
 stretch entry = entry.searching_end - next_index entry.matching

@@ -1,4 +1,5 @@
--- What is granted over one membership meets what is granted over another: as matches meet votes.
+-- What is granted under one membership meets what is granted under another, as matching log ids
+-- meet votes.
 use Rattle.std.specs.Prelude.{◌≡◌, Bool, true, Some}
 use Rattle.std.specs.Ordering.{is_lt}
 use Rattle.std.specs.declared.cmp.Ordering.{Ordering}
@@ -9,8 +10,8 @@ use Rattle.raft_progress.specs.tracked.TrackedState.{IsReady, TrackedShown}
 
 module _ {K N M V P W Q : Type 0} (eq : K → K → Bool) (id_cmp : K → K → Ordering)
     (cmp : P → P → Ordering) (part : V → P) (vote_cmp : Q → Q → Ordering) (vote_part : W → Q) where
-  -- matches and votes, each over a membership, which share a config, as before and after one
-  -- change; and more is granted of the votes than their default: a quorum has voted
+  -- matching log ids and votes, each counted under a membership, which share a config, as before
+  -- and after one change; and more is granted of the votes than their default: a quorum has voted
   pub record IsElection (matches : TrackedShown K N V P) (votes : TrackedShown K M W Q) : Type 0
     where
       pub matches_ready : IsReady eq id_cmp cmp part matches
@@ -18,8 +19,8 @@ module _ {K N M V P W Q : Type 0} (eq : K → K → Bool) (id_cmp : K → K → 
       pub share_config : is_coherent eq matches.membership.configs votes.membership.configs ≡ true
       pub has_voted : is_lt (vote_cmp votes.progress.default_part votes.progress.granted) ≡ true
 
-  -- some voter of both memberships matches what is granted of matches, and has voted what is
-  -- granted of votes
+  -- some voter of both memberships matches what is granted of the matching log ids, and has voted
+  -- what is granted of the votes
   pub record HasMatchedAndVoted (matches : TrackedShown K N V P) (votes : TrackedShown K M W Q)
       : Type 0 where
     pub voter : K
@@ -47,7 +48,7 @@ module _ (K N M V P W Q : Type 0) (eq : K → K → Bool) (id_cmp : K → K → 
       → IsElection eq id_cmp cmp part vote_cmp vote_part matches votes
       → HasMatchedAndVoted eq id_cmp cmp part vote_cmp vote_part matches votes
 
-  -- so a candidate that has as much as each who voted for it has all that is granted
+  -- a candidate that has at least as much as each of its voters has all that is granted
   abbrev pub ElectedLacksNothing : Type 0
   ElectedLacksNothing =
       (matches : TrackedShown K N V P) (votes : TrackedShown K M W Q) (p : P)

@@ -9,8 +9,8 @@ use Rattle.raft_progress.specs.progress.CountedValue.{has_part}
 use Rattle.raft_progress.specs.progress.Shown.{state}
 use Rattle.raft_progress.specs.tracked.TrackedState.{TrackedShown}
 
--- where the membership has a config, each of its quorums contains a
--- voter whose part is at least granted
+-- if the membership has a config, each of its quorums contains a voter whose part is at least
+-- granted
 abbrev pub QuorumsKnowGranted : {K N V P : Type 0} → (K → K → Bool) → (P → P → Ordering) → (V → P)
     → TrackedShown K N V P → Type 0
 QuorumsKnowGranted eq cmp part t =
@@ -18,7 +18,7 @@ QuorumsKnowGranted eq cmp part t =
     → EachQuorumKnows eq t.membership.configs (state eq t.progress).is_voter
     (λ id. has_part cmp part t.progress.granted ((state eq t.progress).value id))
 
--- and so does each quorum of what one change makes of the membership, accepted or not
+-- each quorum of what one change makes of the membership, accepted or not, contains such a voter
 abbrev pub ChangedQuorumsKnowGranted : {K N V P : Type 0} → (K → K → Bool) → (K → K → Ordering)
     → (P → P → Ordering) → (V → P) → TrackedShown K N V P → Type 0
 ChangedQuorumsKnowGranted {K} {N} eq id_cmp cmp part t =

@@ -24,8 +24,8 @@ QuorumsKnow eq cmp part t p =
 
 module _ (K N V P : Type 0) (eq : K → K → Bool) (id_cmp : K → K → Ordering) (same : N → N → Bool)
     (cmp : P → P → Ordering) (part : V → P) (IsClone : V → V → Type 0) where
-  -- once a change of a membership with a config has been made, each quorum of the new membership
-  -- has a voter of the new progress whose present part is at least what was granted before
+  -- after a change of a membership with a config, each quorum of the new membership has a voter of
+  -- the new progress whose present part is at least what was granted before
   abbrev pub ChangeKeepsGranted : Type 0
   ChangeKeepsGranted =
       ((v w : V) → IsClone v w → part w ≡ part v)
@@ -36,14 +36,14 @@ module _ (K N V P : Type 0) (eq : K → K → Bool) (id_cmp : K → K → Orderi
       (Granted g) (tracked_state eq new)
       → 0 < length old.membership.configs → QuorumsKnow eq cmp part new old.progress.granted
 
--- what is granted after a reply, where g was granted before the step
+-- what is granted after a reply, if g was granted before the step
 abbrev pub granted_after : {ID P : Type 0} → P → Reply ID P → P
 granted_after g (Granted p) = p
 granted_after g (Unknown p) = p
 granted_after g reply = g
 
--- where g is granted at first, p is granted at each change that is made: no such change is answered
--- while less than p is granted
+-- if g is granted at first, p is granted at each change that is made: no change is made while less
+-- than p is granted
 abbrev pub GrantedAtChanges : {K N V P : Type 0} → (P → P → Ordering) → P → P → List (Step K N V)
     → List (Reply K P) → Type 0
 GrantedAtChanges cmp p g [] replies = ⊤
@@ -61,7 +61,8 @@ module _ (K N V P : Type 0) (by : Comparisons K V P) (same : N → N → Bool) w
       → (new.membership ≡ old.membership)
       × ((p : P) → QuorumsKnow by.eq by.cmp by.part old p → QuorumsKnow by.eq by.cmp by.part new p)
 
-  -- and over changes they do too, where what they know is granted at each change that is made
+  -- after a run with changes, its quorums know what they knew, if that is granted at each change
+  -- that is made
   abbrev pub KnownOverChanges : Type 0
   KnownOverChanges =
       ((v w : V) → by.IsClone v w → by.part w ≡ by.part v)

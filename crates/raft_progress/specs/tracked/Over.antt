@@ -1,4 +1,4 @@
--- A progress over a membership, kept apart from it.
+-- A progress that counts by a membership, kept apart from it.
 use Rattle.raft_members.specs.Members.{MemberList}
 use Rattle.raft_progress.specs.progress.Shown.{Shown}
 use Rattle.raft_progress.specs.tracked.TrackedState.{Configs, TrackedShown}

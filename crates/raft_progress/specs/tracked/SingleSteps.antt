@@ -1,5 +1,5 @@
--- What a step of its own does to a membership and its progress: an update, and going over to a
--- membership as it is given.
+-- What a single step does to a membership and its progress: an update, and a switch to a given
+-- membership.
 use Rattle.std.specs.Prelude.{◌≡◌, Bool}
 use Rattle.std.specs.declared.cmp.Ordering.{Ordering}
 use Rattle.raft_members.specs.Members.{MemberList, members_of}
@@ -13,7 +13,7 @@ use Rattle.raft_progress.specs.declared.progress.steps.Reply.{Reply}
 use Rattle.raft_progress.specs.declared.progress.steps.Reply.TheVariants.{Granted, BelowDefault, OutOfMemory}
 
 module _ {K N V P : Type 0} (eq : K → K → Bool) (cmp : P → P → Ordering) (part : V → P) where
-  -- the value of an id is written, or the write is refused, and the membership stays: what a replay
+  -- the value of an id is written, or the write is refused, and the membership stays, as a replay
   -- does at `Update`
   pub record IsTrackedUpdate (old : TrackedShown K N V P) (id : K) (value : V) (reply : Reply K P)
       (new : TrackedShown K N V P) : Type 0 where
@@ -25,8 +25,8 @@ module _ {K N V P : Type 0} (eq : K → K → Bool) (cmp : P → P → Ordering)
 
 module _ {K N V P : Type 0} (eq : K → K → Bool) (id_cmp : K → K → Ordering) (cmp : P → P → Ordering)
     (part : V → P) (IsClone : V → V → Type 0) where
-  -- both go over to a membership, unless an inherited value is below the default; or a growth was
-  -- refused
+  -- both switch to a membership, unless an inherited value is below the default; or an allocation
+  -- failed
   abbrev pub GoBothOver : TrackedState K N V P → MemberList K N → V → Reply K P
       → TrackedState K N V P → Type 0
   GoBothOver old next default (Granted p) new =
@@ -38,7 +38,7 @@ module _ {K N V P : Type 0} (eq : K → K → Bool) (id_cmp : K → K → Orderi
   GoBothOver old next default OutOfMemory new = IsSameTracked old new
   GoBothOver old next default reply new = ⊥
 
-  -- the same over all that they show
+  -- both switch to a membership, over all that contracts see of them
   pub record IsTrackedChangeTo (old : TrackedShown K N V P) (next : MemberList K N) (default : V)
       (reply : Reply K P) (new : TrackedShown K N V P) : Type 0 where
     pub values : GoBothOver (tracked_state eq old) next default reply (tracked_state eq new)

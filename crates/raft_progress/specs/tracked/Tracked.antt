@@ -1,4 +1,4 @@
--- What a `Tracked` shows. This file and no other reads its private fields.
+-- What contracts see of a `Tracked`. No other file reads its private fields.
 use Rattle.std.specs.declared.clone.Clone as clone_ghosts
 use Rattle.std.specs.declared.cmp.Ord as order_ghosts
 use Rattle.std.specs.declared.cmp.PartialEq as eq_ghosts
@@ -20,7 +20,7 @@ module _ {K N V P : Type 0} {ids : eq_ghosts.Ghosts K} {ids' : order_ghosts.Ghos
     {nodes'' : clone_ghosts.Ghosts N} {node : node_ghosts.Ghosts N}
     {values : part_ghosts.Ghosts V P} {parts : order_ghosts.Ghosts P} {parts' : eq_ghosts.Ghosts P}
     {parts'' : partial_ghosts.Ghosts P} where
-  -- its membership, and what its progress shows
+  -- its membership, and what contracts see of its progress
   abbrev pub tracked : Tracked K N V P ids ids' ids'' debug display hash zero nodes nodes' nodes''
       node values parts parts' parts''
       → TrackedShown K N V P

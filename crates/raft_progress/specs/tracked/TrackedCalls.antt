@@ -21,7 +21,7 @@ module _ (K N V P : Type 0) (by : Comparisons K V P) (same : N → N → Bool) w
   abbrev pub ReplaysCompose : Type 0
   ReplaysCompose = Compose (IsTrackedShownStep {V = V} {P = P} by same)
 
-  -- over a replay membership and values go on as a run of them says
+  -- over a replay, membership and values change as a run of them says
   abbrev pub ReplaysAreRunsOfValues : Type 0
   ReplaysAreRunsOfValues =
       (old new : TrackedShown K N V P) (steps : List (Step K N V)) (replies : List (Reply K P))
@@ -35,7 +35,7 @@ module _ (K N V P : Type 0) (by : Comparisons K V P) (same : N → N → Bool) w
       → IsTrackedShownRun by same old steps replies new → list_any is_change steps ≡ false
       → AtMost by.cmp old.progress.granted new.progress.granted
 
-  -- an update, however it was answered, is a step
+  -- an update is a step, whatever its reply
   abbrev pub TrackedUpdatesAreSteps : Type 0
   TrackedUpdatesAreSteps =
       (old new : TrackedShown K N V P) (id : K) (value : V) (reply : Reply K P)
@@ -43,8 +43,8 @@ module _ (K N V P : Type 0) (by : Comparisons K V P) (same : N → N → Bool) w
       → IsReady by.eq by.id_cmp by.cmp by.part new
       → IsTrackedShownStep by same old (Update id value) reply new
 
-  -- so is going over to a membership that says what a change makes of the present one, where that
-  -- is valid
+  -- a switch to a membership with the contents that a change makes of the present one is a step, if
+  -- that membership is valid
   abbrev pub TrackedChangesAreSteps : Type 0
   TrackedChangesAreSteps =
       (old new : TrackedShown K N V P) (change : ChangeMembers K N) (retain : Bool)

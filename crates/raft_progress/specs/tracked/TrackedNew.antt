@@ -9,7 +9,7 @@ use Rattle.raft_progress.specs.progress.UpgradeFold.{BeginsAnew}
 
 module _ {K N V P : Type 0} (eq : K → K → Bool) (id_cmp : K → K → Ordering) (cmp : P → P → Ordering)
     (part : V → P) (IsClone : V → V → Type 0) where
-  -- the progress begins over the configs and the learners of its membership, in the membership's
+  -- the progress begins with the configs and the learners of its membership, in the membership's
   -- order, and nothing is counted yet
   pub record BeginsOver (default : V) (made : TrackedShown K N V P) : Type 0 where
     pub configs : Configs K

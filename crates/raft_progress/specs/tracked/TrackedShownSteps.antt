@@ -1,4 +1,4 @@
--- What a step does to all that a tracked progress shows.
+-- What a step does to all that contracts see of a tracked progress.
 use Rattle.std.specs.Prelude.{◌≡◌, Bool, true, false, List}
 use Rattle.std.specs.declared.cmp.Ordering.{Ordering}
 use Rattle.raft_members.specs.Learners.{learners_of}
@@ -16,8 +16,8 @@ use Rattle.raft_progress.specs.declared.tracked.step.Step.TheVariants.{Update, I
 
 module _ {K N V P : Type 0} (eq : K → K → Bool) (id_cmp : K → K → Ordering) (cmp : P → P → Ordering)
     (part : V → P) (IsClone : V → V → Type 0) where
-  -- the progress goes over to the configs and the learners of the membership that is
-  -- there now, in the membership's order
+  -- the progress switches to the configs and the learners of the present membership, in the
+  -- membership's order
   pub record IsChangeFold (old : TrackedShown K N V P) (default : V) (new : TrackedShown K N V P)
       : Type 0 where
     pub configs : Configs K
@@ -45,7 +45,8 @@ module _ {K N V P : Type 0} (by : Comparisons K V P) where
       IsChangeFold by.eq by.id_cmp by.cmp by.part by.IsClone old default new
 
 module _ {K N V P : Type 0} (by : Comparisons K V P) (same : N → N → Bool) where
-  -- a step of a membership and its progress, over all that they show; it ends ready
+  -- a step of a membership and its progress, over all that contracts see of them; both are ready at
+  -- the end
   pub record IsTrackedShownStep (old : TrackedShown K N V P) (step : Step K N V) (reply : Reply K P)
       (new : TrackedShown K N V P) : Type 0 where
     pub values : IsTrackedStep by same (tracked_state by.eq old) step reply
@@ -53,7 +54,7 @@ module _ {K N V P : Type 0} (by : Comparisons K V P) (same : N → N → Bool) w
     pub answered : IsAnswered (λ t. t.progress.granted) (IsTrackedDone by old step) old reply new
     pub ready : IsReady by.eq by.id_cmp by.cmp by.part new
 
-  -- the steps may be answered so, one after another
+  -- the steps may have these replies, one after another
   abbrev pub IsTrackedShownRun : TrackedShown K N V P → List (Step K N V) → List (Reply K P)
       → TrackedShown K N V P → Type 0
   IsTrackedShownRun old steps replies new =

@@ -23,17 +23,17 @@ module _ {K : Type 0} (eq : K → K → Bool) where
   abbrev pub is_voter : Configs K → K → Bool
   is_voter configs id = list_any (λ c. is_member eq c.items id) configs.items
 
--- what a tracked progress shows: its membership and its progress
+-- what contracts see of a tracked progress: its membership and its progress
 pub record TrackedShown (K N V P : Type 0) : Type 0 where
   pub membership : MemberList K N
   pub progress : Shown K V P (Configs K)
 
--- a membership, and voters, learners and values apart from how they are kept
+-- a membership, and voters, learners and values apart from how they are stored
 pub record TrackedState (K N V P : Type 0) : Type 0 where
   pub membership : MemberList K N
   pub progress : ProgressState K V P (Configs K)
 
--- what a tracked progress shows, apart from how it is kept
+-- what contracts see of a tracked progress, apart from how it is stored
 abbrev pub tracked_state : {K N V P : Type 0} → (K → K → Bool) → TrackedShown K N V P
     → TrackedState K N V P
 tracked_state eq t = record { membership = t.membership; progress = state eq t.progress }

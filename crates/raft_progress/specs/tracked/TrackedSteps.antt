@@ -1,4 +1,4 @@
--- What a step does to a membership and its progress, and what it is answered.
+-- What a step does to a membership and its progress, and its reply.
 use Rattle.std.specs.Prelude.{◌≡◌, Bool, true, false, Some, None, List}
 use Rattle.std.specs.declared.cmp.Ordering.{Ordering}
 use Rattle.raft_members.specs.Change.{changed}
@@ -23,7 +23,7 @@ module _ {K N V P : Type 0} where
 
 module _ {K N V P : Type 0} (eq : K → K → Bool) (id_cmp : K → K → Ordering) (cmp : P → P → Ordering)
     (part : V → P) (IsClone : V → V → Type 0) where
-  -- the progress goes over to the configs and the learners of a membership, and is answered so
+  -- the progress switches to the configs and the learners of a membership, with this reply
   abbrev pub GoesOver : ProgressState K V P (Configs K) → Members K N → V → Reply K P
       → ProgressState K V P (Configs K) → Type 0
   GoesOver old m default reply new =
@@ -33,8 +33,8 @@ module _ {K N V P : Type 0} (eq : K → K → Bool) (id_cmp : K → K → Orderi
 
 module _ {K N V P : Type 0} (eq : K → K → Bool) (id_cmp : K → K → Ordering) (same : N → N → Bool)
     (cmp : P → P → Ordering) (part : V → P) (IsClone : V → V → Type 0) where
-  -- going over to a membership is answered so: it is refused for an empty config, else for the
-  -- first voter without a node, and else both go over to it; or a growth was refused
+  -- the reply to a switch to a membership: it is refused for an empty config, otherwise for the
+  -- first voter without a node, and otherwise both switch to it; or an allocation failed
   abbrev pub IsChangedTo : TrackedState K N V P → Members K N → V → Reply K P → TrackedState K N V P
       → Type 0
   IsChangedTo old next default (Granted p) new =
@@ -51,7 +51,7 @@ module _ {K N V P : Type 0} (eq : K → K → Bool) (id_cmp : K → K → Orderi
   IsChangedTo old next default OutOfMemory new = IsSameTracked old new
   IsChangedTo old next default reply new = ⊥
 
-  -- a change of the membership is answered so: both go over to what the change makes of it
+  -- the reply to a change of the membership: both switch to what the change makes of it
   abbrev pub IsChanged : TrackedState K N V P → ChangeMembers K N → Bool → V → Reply K P
       → TrackedState K N V P → Type 0
   IsChanged old change retain default reply new =
@@ -59,7 +59,7 @@ module _ {K N V P : Type 0} (eq : K → K → Bool) (id_cmp : K → K → Orderi
       (changed eq id_cmp (members_of id_cmp old.membership) change retain) default reply new
 
 module _ {K N V P : Type 0} (by : Comparisons K V P) (same : N → N → Bool) where
-  -- From old, the step may be answered so and go on to new.
+  -- From old, the step may have this reply and lead to new.
   abbrev pub IsTrackedStep : TrackedState K N V P → Step K N V → Reply K P → TrackedState K N V P
       → Type 0
   IsTrackedStep old (Update id value) reply new =
@@ -72,7 +72,7 @@ module _ {K N V P : Type 0} (by : Comparisons K V P) (same : N → N → Bool) w
   IsTrackedStep old (Change change retain default) reply new =
       IsChanged by.eq by.id_cmp same by.cmp by.part by.IsClone old change retain default reply new
 
-  -- The steps may be answered so, one after another.
+  -- The steps may have these replies, one after another.
   abbrev pub IsTrackedRun : TrackedState K N V P → List (Step K N V) → List (Reply K P)
       → TrackedState K N V P → Type 0
   IsTrackedRun old steps replies new = Runs IsTrackedStep IsSameTracked old steps replies new
