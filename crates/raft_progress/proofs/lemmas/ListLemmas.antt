@@ -36,7 +36,7 @@ pub or_right : (a b : Bool) → b ≡ true → (a || b) ≡ true
 or_right true b e = refl
 or_right false b e = e
 
--- a place within a list has an element
+-- a position within a list has an element
 pub element_at : {X : Type 0} (xs : List X) (i : ℕ) → i < length xs → (x : X) × (slice_get xs i ≡ Some x)
 element_at [] i l = absurd (omega arith)
 element_at (x ∷ xs) zero l = (x, refl)
@@ -53,7 +53,7 @@ pub member_flipped : {ID : Type 0} {eq : ID → ID → Bool} → IsEquivalence e
 member_flipped laws [] k = refl
 member_flipped laws (x ∷ xs) k = rw (laws.symm x k, member_flipped laws xs k) refl
 
--- what stands inside
+-- the value inside an option
 pub some_inside : {A : Type 0} (x y : A) → Some x ≡ Some y → x ≡ y
 some_inside x y h = cc
 

@@ -1,4 +1,4 @@
--- A whole honest run: what its test says, and what stands between its turns.
+-- A whole honest run: what its test says, and what holds between its turns.
 use Rattle.std.proofs.Common.{
   ◌≡◌,
   ℕ,
@@ -140,7 +140,7 @@ module _ {C : Type 0} (eq : C → C → Bool) (cmp : C → C → Ordering) where
         ltb-true _ _ q.4,
       )
 
--- from a start to here: a run, with so many conflicts and acks
+-- from a start to here: a run, with that many conflicts and acks
 pub record Along {C : Type 0} (eq : C → C → Bool) (cmp : C → C → Ordering) (log : LogView C) (n : ℕ) (entry0 : ProgressEntryOf C)
     (agree0 : ℕ) (entry : ProgressEntryOf C) (agree conflicts acks : ℕ) : Type 0 where
   pub ready : IsBetweenTurns eq cmp log n entry agree

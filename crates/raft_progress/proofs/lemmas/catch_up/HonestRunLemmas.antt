@@ -121,7 +121,7 @@ module _ {C : Type 0} (eq : C → C → Bool) (cmp : C → C → Ordering) (tota
             (record { prev = prev_id log.id_at (start_of entry log); last = prev_id log.id_at (end_of entry log n) });
       }
 
-      -- where nothing is in flight and logs are sent, they are the ids from start to end
+      -- if nothing is in flight and logs are sent, they are the ids from start to end
       pub sent_logs : (entry : ProgressEntryOf C) → is_idle entry.inflight ≡ true → next_index log.purge_upto ≤ entry.searching_end
           → start_of entry log < end_of entry log n → send_table cmp entry log n ≡ Ok (sending entry)
       sent_logs entry idle long lt =
@@ -187,7 +187,7 @@ module _ {C : Type 0} (eq : C → C → Bool) (cmp : C → C → Ordering) (tota
           let end_is : max entry.searching_end (next_index last) ≡ max entry.searching_end to = rw at1 refl in
           rw (t, b1, b2, b3, b4, none, forward, small, end_is) refl
 
-      -- what is open where a run stands: nothing, or logs
+      -- what is in flight between turns: nothing, or logs
       abbrev pub Sends : ProgressEntryOf C → Type 0
       Sends entry = (start_of entry log < end_of entry log n) × (next_index entry.matching < next_index log.last)
           × (next_index log.purge_upto < next_index log.last)

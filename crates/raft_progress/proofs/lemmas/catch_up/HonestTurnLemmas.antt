@@ -3,14 +3,14 @@ use Rattle.std.proofs.Common.{◌≡◌, ℕ, suc, ◌+◌, ◌-◌, ◌*◌, �
 use Rattle.raft_progress.specs.entry.Send.{calc_mid}
 use Rattle.raft_progress.proofs.lemmas.search.HalvingLemmas.{Near, near_halves}
 
--- where an honest run may stand
+-- what holds of an honest run between its turns
 pub record Stands (m e l p agree : ℕ) : Type 0 where
   pub matched : m ≤ agree
   pub agreed : agree ≤ e
   pub logged : e ≤ l
   pub kept : p ≤ agree
 
--- what falls at each turn
+-- what decreases at each turn
 abbrev pub measure : ℕ → ℕ → ℕ → ℕ
 measure m e l = e + 2 * (l - m)
 

@@ -67,7 +67,7 @@ module _ {C : Type 0} (cmp : C → C → Ordering) where
       → id_of sent.inflight ≡ Some id → mine ≡ id
   sent_is sent sending mine id e has h = let same : sending ≡ sent = cc in has (ap (λ s. id_of s.inflight) same ∙ h)
 
-  -- what is sent where nothing was in flight has the next id, if it has any
+  -- if nothing was in flight, what is sent has the next id, if it has one
   pub sends_next : (entry sent : ProgressEntryOf C) (log : LogView C) (max_entries id : ℕ)
       → idle_send_table cmp entry log max_entries ≡ Ok sent → id_of sent.inflight ≡ Some id → entry.curr_inflight_id + 1 ≡ id
   sends_next entry sent log max_entries id e h =

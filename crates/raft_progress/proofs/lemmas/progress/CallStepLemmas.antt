@@ -64,7 +64,7 @@ module _ {ID V P QS : Type 0} (by : Comparisons ID V P) (laws : IsEquivalence by
         };
   }
 
-  -- a value that is greater, where there is one, does not fall
+  -- a value that is greater than the present one, if there is one, does not fall
   rising : (value : V) (o : Option V) → ForSome o
       (λ v. partial_gt by.partial_cmp value v ≡ true → AtMost by.cmp (by.part v) (by.part value)) → stays by.partial_cmp o value ≡ false
       → falls by.cmp by.part o value ≡ false

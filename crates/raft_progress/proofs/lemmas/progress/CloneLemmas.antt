@@ -59,7 +59,7 @@ same_ids IsClone [] (f ∷ fs) a = absurd a
 same_ids IsClone (e ∷ es) [] a = absurd a
 same_ids IsClone (e ∷ es) (f ∷ fs) a = λ i. a.0.0 i ∷ same_ids IsClone es fs a.1 i
 
--- where a value equals its clone, entries equal theirs
+-- if a value equals its clone, entries equal their clones
 walks_equal : {ID V : Type 0} {eq : ID → ID → Bool} (laws : IsEquivalence eq) (value_eq : V → V → Bool) (IsClone : V → V → Type 0)
     → ClonesAreEqual value_eq IsClone → (es fs : List (ID × V)) → AllZip (λ d e. (e.0 ≡ d.0) × IsClone d.1 e.1) es fs
     → pointwise (λ d e. eq d.0 e.0 && value_eq d.1 e.1) es fs ≡ true
@@ -99,7 +99,7 @@ pub ok_from_match : {T E : Type 0} (P R : T → Type 0) (Q : E → Type 0) (r : 
 ok_from_match P R Q (Ok x) m f = f x m
 ok_from_match P R Q (Err e) m f = tt
 
--- where an item equals its clone, a list equals its own
+-- if an item equals its clone, a list equals its clone
 pub list_is_equal : {X : Type 0} (eq : X → X → Bool) (IsClone : X → X → Type 0) → ClonesAreEqual eq IsClone → (xs ys : List X)
     → AllZip IsClone xs ys → pointwise eq xs ys ≡ true
 list_is_equal eq IsClone c [] [] a = refl

@@ -33,7 +33,7 @@ module _ {S A R : Type 0} (Made : S → A → R → S → Type 0) (Keeps : S →
   run_keeps old [] (y ∷ ys) new run h = absurd run
   run_keeps old (x ∷ xs) [] new run h = absurd run
 
--- a step that is refused keeps granted, and one that is not does where what was done does
+-- a refused step keeps granted, and any other keeps it if what was done keeps it
 answered_keeps : {ID P S : Type 0} {cmp : P → P → Ordering} (o : IsTotalOrder cmp) (granted_of : S → P) (Done : S → Type 0) (old : S)
     (reply : Reply ID P) (new : S) → IsAnswered granted_of Done old reply new → (Done new → AtMost cmp (granted_of old) (granted_of new))
     → AtMost cmp (granted_of old) (granted_of new)
@@ -56,7 +56,7 @@ module _ {ID V P QS : Type 0} (by : Comparisons ID V P) (o : IsTotalOrder by.cmp
       answered_keeps o (λ p. p.granted) _ old reply new s.answered (λ u. u.not_lower)
   step_not_lower old (any_step.Upgrade quorum_set learners default) reply new h s = absurd (true≢false h)
 
-  -- granted is at least what it was, where no step is an upgrade
+  -- granted is at least what it was, if no step is an upgrade
   pub run_not_lower : (old : Shown ID V P QS) (steps : List (AnyStep ID V QS)) (replies : List (Reply ID P)) (new : Shown ID V P QS)
       → IsShownRun by has_quorum is_voter old steps replies new → list_any is_upgrade steps ≡ false → NotLower old new
   run_not_lower = run_keeps (IsShownStep by has_quorum is_voter) NotLower (λ s. AtMost-refl o s.granted)
@@ -74,7 +74,7 @@ module _ {K N V P : Type 0} (by : Comparisons K V P) (o : IsTotalOrder by.cmp) (
       answered_keeps o (λ t. t.progress.granted) _ old reply new s.answered (λ u. u.1.not_lower)
   pair_step_not_lower old (step_of.Change change retain default) reply new h s = absurd (true≢false h)
 
-  -- granted is at least what it was, where no step is a change
+  -- granted is at least what it was, if no step is a change
   pub tracked_run_not_lower : (old : TrackedShown K N V P) (steps : List (Step K N V)) (replies : List (Reply K P))
       (new : TrackedShown K N V P) → IsTrackedShownRun by same old steps replies new → list_any is_change steps ≡ false
       → TrackedNotLower old new

@@ -1,4 +1,4 @@
--- The test for a progress in order answers what it means.
+-- The test whether a progress is in order returns what its definition says.
 use Rattle.std.specs.Prelude.{◌≡◌, ℕ, ◌+◌, ◌≤◌, Bool, true, false, ◌&&◌, ◌||◌, List, [], ◌∷◌, length, drop, take, Some, if◌then◌else◌, ◌⊎◌}
 use Rattle.std.specs.declared.cmp.Ordering.{Ordering}
 use Rattle.std.specs.declared.cmp.Ordering.TheVariants.{Less, Equal, Greater}
@@ -57,7 +57,7 @@ and_lt true b h e = h
 and_lt false b h e = absurd (true≢false (sym e))
 
 module _ {ID V P : Type 0} {cmp : P → P → Ordering} (o : IsTotalOrder cmp) (part : V → P) (g : P) where
-  -- what an entry is not behind, no later one is
+  -- if an entry does not come after a lesser one, no later entry does
   behind : (e : ID × V) (es : List (ID × V)) → never_rises cmp part g (e ∷ es) ≡ true
       → AllByRecursion (λ f. is_lt (cmp g (part f.1)) ≡ true → AtMost cmp (part f.1) (part e.1)) es
   behind e [] h = tt
@@ -97,7 +97,7 @@ module _ {ID V P : Type 0} {cmp : P → P → Ordering} (o : IsTotalOrder cmp) (
       by true false t u r = r
       by false b t u r = r
 
--- one entry is behind none
+-- a single entry comes after none
 pub last_falls : {ID V P : Type 0} (cmp : P → P → Ordering) (part : V → P) (g : P) (es : List (ID × V)) (k : ℕ) → length es ≤ k + 1
     → never_rises cmp part g (drop k es) ≡ true
 last_falls cmp part g [] zero l = refl

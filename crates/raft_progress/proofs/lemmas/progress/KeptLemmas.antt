@@ -1,4 +1,4 @@
--- A progress whose ids and voters' parts are as they were is in order where it was.
+-- If the ids and voters' parts of a progress are as they were, it is in order if it was.
 use Rattle.std.specs.Prelude.{◌≡◌, ℕ, Bool, true, false, ◌||◌, cond, List, [], ◌∷◌, Option, Some, None, map, take}
 use Rattle.std.specs.Ordering.{is_le, is_lt}
 use Rattle.std.specs.declared.cmp.Ordering.{Ordering}
@@ -86,7 +86,7 @@ module _ {ID V P QS : Type 0} (cmp : P → P → Ordering) (part : V → P) (has
         ap (λ p. is_le (cmp p g)) there.2 ∙ c.others_at_most x there.0 there.1;
   }
 
--- ---- walks
+-- ---- entries
 
 module _ {ID V P : Type 0} (part : V → P) where
   all_alike : (R : P → Type 0) (xs ys : List (ID × V)) → map (λ e. part e.1) xs ≡ map (λ e. part e.1) ys
@@ -134,7 +134,8 @@ module _ {ID V P : Type 0} (part : V → P) where
       by here true i r = ap Some here
       by here false i r = r i
 
-  -- a value written at an id keeps the parts of the first entries, where it has the same part or the id is in none of them
+  -- a value written at an id keeps the parts of the first entries, if it has the same part or the
+  -- id is in none of them
   pub written_parts : (eq : ID → ID → Bool) (id : ID) (v w : V) (n : ℕ) (xs : List (ID × V)) → lookup (eq id) xs ≡ Some v
       → (is_member eq (take n (keys_of xs)) id ≡ true → part w ≡ part v)
       → map (λ e. part e.1) (take n (set_value (eq id) xs w)) ≡ map (λ e. part e.1) (take n xs)

@@ -52,7 +52,7 @@ module _ {C : Type 0} (same : C → C → Bool) (cmp : C → C → Ordering) (la
       by_index (nat_lt (b.index + 1) (next_index log.last_purged)) (log.id_at b.index) a b s
       (subst (λ (i : ℕ). (if nat_lt (i + 1) (next_index log.last_purged) then true else same_ids same (log.id_at i) (Some a)) ≡ true) at h)
 
--- what is granted compares as equal to the default's match, or to that of a voter
+-- what is granted compares as equal to the default's matching log id, or to that of a voter
 pub granted_is_logged : {ID V C QS : Type 0} (eq : ID → ID → Bool) (same : C → C → Bool) (cmp : C → C → Ordering)
     (part : V → Option (LogIdOf C)) (has_quorum : QS → (ID → Bool) → Bool) → IsEquivalence same
     → ((a b : C) → same a b ≡ is_eq (cmp a b)) → GrantedIsLogged ID V C QS eq same cmp part has_quorum

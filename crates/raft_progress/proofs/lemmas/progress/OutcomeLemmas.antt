@@ -50,7 +50,7 @@ use Rattle.raft_progress.proofs.lemmas.progress.UpdateLemmas.{same_keys, lookup_
 use Rattle.raft_progress.proofs.lemmas.ListLemmas.{of_both, length_take_le}
 use Rattle.raft_progress.proofs.lemmas.progress.StatisticsLemmas.{counted_none}
 
--- an id's value went from v to w; the walk was ws, and mid has it written
+-- an id's value went from v to w; the entries were ws, and in mid it is written
 pub record Outcome {ID V P QS : Type 0} (eq : ID → ID → Bool) (cmp : P → P → Ordering) (part : V → P) (has_quorum : QS → (ID → Bool) → Bool)
     (mid : Shown ID V P QS) (ws : List (ID × V)) (id : ID) (v w : V) (new : Shown ID V P QS) : Type 0 where
   pub ordered : IsInOrder eq cmp part has_quorum new

@@ -13,7 +13,7 @@ module _ {ID V P QS : Type 0} (eq : ID → ID → Bool) (id_cmp : ID → ID → 
     (IsClone : V → V → Type 0) (has_quorum : QS → (ID → Bool) → Bool) (is_voter : QS → ID → Bool)
     (old : Shown ID V P QS) (quorum_set : QS) (learners : List ID) (default : V)
   where
-    -- a refusal answers the upgrade
+    -- a reply that refuses the upgrade is a reply of the upgrade
     pub refused_upgrade : (reply : Reply ID P)
         → RefusesUpgrade eq id_cmp cmp part (is_voter quorum_set) learners default (state eq old).value reply
         → IsShownUpgrade eq id_cmp cmp part IsClone has_quorum is_voter old quorum_set learners default reply old

@@ -84,7 +84,7 @@ length_take [] (suc n) i l h = absurd (omega arith)
 length_take (x ∷ xs) (suc n) zero l h = omega arith
 length_take (x ∷ xs) (suc n) (suc i) l h = let r = length_take xs n i (omega arith) (omega arith) in omega arith
 
--- a front that leads does so whatever comes behind it
+-- if the entries of a prefix all pass, they do with any entries after it
 prefix_any : {X : Type 0} (p : X → Bool) (xs ys zs : List X) → length xs ≤ prefix_len p (xs ++ ys) → length xs ≤ prefix_len p (xs ++ zs)
 prefix_any p [] ys zs l = omega arith
 prefix_any {X} p (x ∷ xs) ys zs l = by (p x) l (prefix_any p xs ys zs)
@@ -124,7 +124,7 @@ module _ {ID V P QS : Type 0} {eq : ID → ID → Bool} (laws : IsEquivalence eq
   distinct' : IsDistinct eq (keys_of next)
   distinct' = rw same_keys r.distinct
 
-  -- the value is written and the voter keeps its place
+  -- the value is written and the voter keeps its position
   module _ (low : i < n → is_lt (cmp g (part w)) ≡ true → AtMost cmp (part w) (part e0.1)) where
     over : i < n → is_lt (cmp g (part w)) ≡ true → is_lt (cmp g (part e0.1)) ≡ true
     over l h = lt_le o g (part w) (part e0.1) h (low l h)
@@ -269,7 +269,7 @@ module _ {ID V P QS : Type 0} {eq : ID → ID → Bool} (laws : IsEquivalence eq
         ∙ ap (λ (f : ID × V). is_lt (cmp g (part f.1))) (get_or-append_seam p.front p.entry (p.passed ++ take after p.rest) e0)
         ∙ ap (λ x. is_lt (cmp g x)) part_is ∙ high)
 
-    -- the fronts before the voter were no quorum, and none of them has changed
+    -- the prefixes before the voter were no quorum, and none of them has changed
     fails_before : (l : ℕ) → 1 ≤ l → l ≤ to → front_test eq (has_quorum qs) (take n moved) l ≡ false
     fails_before l one far =
         let q = p.now_at in

@@ -95,7 +95,7 @@ module _ (Fits : ℕ → ℕ → Type 0)
     abbrev pub Open : ℕ → ℕ → ℕ → ℕ → Type 0
     Open m purged b e = (e < purged) ⊎ Fits b (e - m)
 
-    -- no more than b are left with a probe in flight whose logs stand after index c
+    -- at most b conflicts remain, with a probe in flight whose logs begin after index c
     abbrev pub Probing : ℕ → ℕ → ℕ → ℕ → Option ℕ → Type 0
     Probing m purged b e None = Unit {0}
     Probing m purged b e (Some c) = (c < m) ⊎ ((a : ℕ) × (b ≡ suc a) × Open m purged a (min e c))
@@ -157,7 +157,7 @@ module _ (Fits : ℕ → ℕ → Type 0)
         ]
 
     module _ {C : Type 0} (total m purged accepted : ℕ) (entry : ProgressEntryOf C) where
-      -- what a conflict answers keeps within total
+      -- what a conflict returns keeps within total
       abbrev pub Keeps : Result (ProgressEntryOf C) InflightError → Type 0
       Keeps after = Within total m purged (accepted + one_if_accepted after) (after_response entry after)
 
@@ -342,7 +342,8 @@ module _ (Fits : ℕ → ℕ → Type 0)
 
     -- one step of a search, and a whole one, keep what is left within total
     module _ {L C : Type 0} (cmp : C → C → Ordering) (log_view : L → LogView C) (total m last : ℕ) where
-      -- each send shows a log whose ids have their indexes, and past the match it has one to spare, up to the last purge point
+      -- each send is over a log whose ids have their indexes, and past matching one more conflict
+      -- is allowed, up to the last purge point
       abbrev pub SoundLog : LogView C → Type 0
       SoundLog log = ((i : ℕ) → IfSome (log.id_at i) (λ x. x.index ≡ i))
           × (next_index log.purge_upto ≤ last → m < next_index log.purge_upto → (b s : ℕ) → Fits b s → 1 ≤ s → (a : ℕ) × (b ≡ suc a))

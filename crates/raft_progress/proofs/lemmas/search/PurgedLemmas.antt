@@ -15,7 +15,7 @@ module _ {L C : Type 0} (cmp : C → C → Ordering) (log_view : L → LogView C
   either_within true s u l m = m
   either_within false s u l m = l
 
-  -- where no send of a list has its purge point at or past an index, none that was not skipped has
+  -- if no send of a list has its purge point at or past an index, none that was not skipped has
   pub none_purged_past : (search : Search C) (events : List (SearchEvent L)) → search.purged ≤ index
       → AllByRecursion (IsPurgedWithin log_view index) events → NonePurgedPast (after_events cmp log_view search events) index
   none_purged_past search [] l all = l

@@ -119,7 +119,7 @@ module _ {L C : Type 0} (cmp : C → C → Ordering) (log_view : L → LogView C
       let t = after_event cmp log_view s event in
       chained s.entry t.entry (after_events cmp log_view t events).entry (event_keeps s event) (events_keep t events)
 
-  -- after the last event the entry is that of the whole run
+  -- after the last event the entry is the one of the whole run
   pub kept_at_end : (s t : Search C) (events : List (SearchEvent L)) (i : ℕ) → length events ≤ i
       → after_events cmp log_view t (drop i events) ≡ after_events cmp log_view s events → Keeps s.entry t.entry
   kept_at_end s t events i le same = subst (λ (x : Search C). Keeps s.entry x.entry)

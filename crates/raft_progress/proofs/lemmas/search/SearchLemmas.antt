@@ -70,7 +70,7 @@ module _ {L C : Type 0} (cmp : C → C → Ordering) (log_view : L → LogView C
         sound (Conflict id index ∷ es) = (tt, sound es)
         sound (Heartbeat index ∷ es) = (tt, sound es)
 
-    -- at most the digits of a sixteenth of it, where no purge point that was sent over lies past the match
+    -- at most the digits of a sixteenth of it, if no purge point of a send was past matching
     pub within_near_digits : NonePurgedPast end (next_index entry.matching) → (k : ℕ) → stretch entry / 16 < 2 ^ k → count ≤ k
     within_near_digits none k fits = potential.accepted_within Near near_shrinks near_halves cmp log_view k (next_index entry.matching)
         end.purged entry events can.0 refl can.1 fits (omega arith) (sound events)
@@ -96,7 +96,7 @@ module _ {L C : Type 0} (cmp : C → C → Ordering) (log_view : L → LogView C
         sound (Conflict id index ∷ es) = (tt, sound es)
         sound (Heartbeat index ∷ es) = (tt, sound es)
 
--- an event at a place, and then those after it
+-- an event at a position, and then those after it
 pub next_event : {L C : Type 0} (cmp : C → C → Ordering) (log_view : L → LogView C) (s t : Search C) (events : List (SearchEvent L)) (i : ℕ)
     (x : SearchEvent L) → i < length events → x ≡ get_or events i x → after_event cmp log_view s x ≡ t
     → after_events cmp log_view t (drop (i + 1) events) ≡ after_events cmp log_view s (drop i events)
@@ -104,7 +104,7 @@ next_event cmp log_view s t events i x lt place st =
     let here = drop-cons events i x lt in
     rw (add-one, here, ← place, ← st) refl
 
--- after the last event the count is that of the whole run
+-- after the last event the count is the one of the whole run
 pub accepted_at_end : {L C : Type 0} (cmp : C → C → Ordering) (log_view : L → LogView C) (s t : Search C) (events : List (SearchEvent L))
     (i : ℕ) → length events ≤ i → after_events cmp log_view s (drop i events) ≡ t → s.accepted ≡ t.accepted
 accepted_at_end cmp log_view s t events i le same =

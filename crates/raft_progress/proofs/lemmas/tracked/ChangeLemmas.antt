@@ -1,4 +1,4 @@
--- What a change of the membership comes to, and how it is answered.
+-- The result of a change of the membership, and its reply.
 use Rattle.std.specs.Prelude.{Bool, ◌≡◌, true, Err, IfErr, IfOk, None, Ok, OnErr, Result, Some, refl}
 use Rattle.std.specs.declared.cmp.Ordering.{Ordering}
 use Rattle.std.proofs.Common.{refl, subst, sym, true≢false, ◌∙◌}
@@ -41,7 +41,7 @@ module _ {K N V P : Type 0} (eq : K → K → Bool) (id_cmp : K → K → Orderi
   goes_over old new list w says default reply g =
       (g.0, g.1, says_configs eq id_cmp same list w says g.0 g.2, says_learners eq id_cmp same list w says g.1 g.3, g.4)
 
-  -- an accepted change: both go over to the changed membership
+  -- an accepted change: both switch to the changed membership
   pub changed_step : (old : TrackedState K N V P) (change : ChangeMembers K N) (retain : Bool) (default : V) (next : MemberList K N)
       (new : TrackedState K N V P) → IsValid eq (changed eq id_cmp (members_of id_cmp old.membership) change retain)
       → Says same id_cmp next (changed eq id_cmp (members_of id_cmp old.membership) change retain) → (reply : Reply K P)
@@ -60,7 +60,7 @@ module _ {K N V P : Type 0} (eq : K → K → Bool) (id_cmp : K → K → Orderi
   changed_step old change retain default next new valid says OutOfMemory t = t
   changed_step old change retain default next new valid says reply t = absurd t
 
--- going over to a membership is answered by its reply, or by want of memory where nothing has changed
+-- the reply to a switch to a membership, or out of memory if nothing has changed
 pub change_or_memory : {K N V P E : Type 0} (eq : K → K → Bool) (id_cmp : K → K → Ordering) (cmp : P → P → Ordering) (part : V → P)
     (IsClone : V → V → Type 0) (old new : TrackedShown K N V P) (next : MemberList K N) (default : V) (made : Result (Reply K P) E)
     → IfOk made (λ reply. IsTrackedChangeTo eq id_cmp cmp part IsClone old next default reply new) → OnErr made (new ≡ old)
@@ -83,7 +83,7 @@ module _ {K N V P : Type 0} (eq : K → K → Bool) (id_cmp : K → K → Orderi
     same_tracked : IsSameTracked (tracked_state eq old) (tracked_state eq old)
     same_tracked = IsSameTracked-refl (tracked_state eq old)
 
-    -- a reply that may answer the change with nothing changed does
+    -- a reply that may answer the change with nothing changed
     unchanged : (reply given : Reply K P) → reply ≡ given → new ≡ old
         → IsChanged eq id_cmp same cmp part IsClone (tracked_state eq old) change retain default given (tracked_state eq old)
         → is_refused given ≡ true → Tells given old.progress.granted
@@ -97,7 +97,7 @@ module _ {K N V P : Type 0} (eq : K → K → Bool) (id_cmp : K → K → Orderi
               { refused = λ h. refl; done = λ h. absurd (true≢false (sym refused ∙ h)); tells = tells };
         })
 
-    -- a change is answered by what is made of the membership, or by why it is refused
+    -- the reply to a change is what is made of the membership, or why it is refused
     pub change_answered : {C : Type 0} (made : Result (MemberList K N) (ChangeMembershipErrorOf C K)) (reply : Reply K P)
         → IfOk made (λ m. IsValid eq after) → IfOk made (λ m. Says same id_cmp m after) → IfErr made (IsRefusal eq id_cmp after)
         → IfErr made (λ e. (reply ≡ refusal_reply e) × (new ≡ old))

@@ -35,7 +35,7 @@ module _ {K N V P : Type 0} {eq : K → K → Bool} (laws : IsEquivalence eq) {i
   up q h None e = e
   up q h (Some v) e = AtMost-trans o t.progress.granted q (part v) h e
 
-  -- where more is granted than the default, a quorum of the configs has reached it
+  -- if more is granted than the default, a quorum of the configs has reached it
   pub quorum_has : is_lt (cmp t.progress.default_part t.progress.granted) ≡ true → is_joint_majority eq t.membership.configs votes ≡ true
   quorum_has lt = by r.ordered.counted.is_one
     where

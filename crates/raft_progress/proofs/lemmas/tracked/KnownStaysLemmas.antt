@@ -111,7 +111,7 @@ module _ {K N V P : Type 0} (by : Comparisons K V P) (laws : IsEquivalence by.eq
   abbrev Knows : TrackedShown K N V P → P → Type 0
   Knows t p = QuorumsKnow by.eq by.cmp by.part t p
 
-  -- the membership is the same, and what each of its quorums knew it knows
+  -- the membership is the same, and each of its quorums knows what it knew
   abbrev Stays : TrackedShown K N V P → TrackedShown K N V P → Type 0
   Stays old new = (new.membership ≡ old.membership) × ((p : P) → Knows old p → Knows new p)
 
@@ -181,7 +181,7 @@ module _ {K N V P : Type 0} (by : Comparisons K V P) (laws : IsEquivalence by.eq
   changed_known clones old new p was known change retain default BadLearners s at = kept old new p (s.answered.refused refl) known
   changed_known clones old new p was known change retain default OutOfMemory s at = kept old new p (s.answered.refused refl) known
 
-  -- a reply tells what is granted after it
+  -- a reply contains what is granted after it
   told : (step : Step K N V) (old new : TrackedShown K N V P) (reply : Reply K P)
       → IsAnswered (λ t. t.progress.granted) (IsTrackedDone by old step) old reply new
       → granted_after old.progress.granted reply ≡ new.progress.granted

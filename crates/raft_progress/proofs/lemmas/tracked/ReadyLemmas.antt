@@ -1,4 +1,4 @@
--- What is known of a progress that is in order in some way.
+-- What is known of a progress that is in order by some proof.
 use Rattle.std.specs.Prelude.{◌≡◌, ℕ, ◌+◌, ◌<◌, ◌≤◌, Bool, true, false, List, [], ◌∷◌, Option, length, take}
 use Rattle.std.specs.Ordering.{is_eq, is_lt}
 use Rattle.std.specs.declared.cmp.Ordering.{Ordering}
@@ -35,7 +35,7 @@ use Rattle.raft_progress.proofs.lemmas.OrderLemmas.{AtMost-from_not_lt}
 use Rattle.raft_progress.proofs.lemmas.tracked.TrackedLemmas.{counts_increased, counts_written}
 use Rattle.raft_progress.proofs.lemmas.progress.UpdateLemmas.{lookup_alike}
 
--- the item at a place
+-- the item at a position
 item_at : {X : Type 0} (xs : List X) (i : ℕ) → i < length xs → (x : X) × (x ≡ get_or xs i x)
 item_at [] i l = absurd (omega arith)
 item_at (x ∷ xs) zero l = (x, refl)
@@ -81,7 +81,7 @@ module _ {ID V P QS : Type 0} {eq : ID → ID → Bool} (laws : IsEquivalence eq
             (take_all (length voters) voters (omega arith)) r.1),
       )
 
-  -- in order in some way is in order
+  -- in order by some proof is in order
   pub in_order_of : ∥ IsInOrder eq cmp part has_quorum p ∥₁ → IsInOrder eq cmp part has_quorum p
   in_order_of h =
       let voters = take p.voter_count p.walk in
@@ -102,7 +102,7 @@ module _ {ID V P QS : Type 0} {eq : ID → ID → Bool} (laws : IsEquivalence eq
         counted = counted_tied o part has_quorum (state eq p) k.0 p.granted k.1 (equal_from_test (cmp k.0 p.granted) tied);
       }
 
--- ready in some way is ready
+-- ready by some proof is ready
 pub ready_of : {K N V P : Type 0} {eq : K → K → Bool} (laws : IsEquivalence eq) (id_cmp : K → K → Ordering) {cmp : P → P → Ordering}
     (o : IsTotalOrder cmp) (part : V → P) → IsSet (List (List K)) → (t : TrackedShown K N V P) → ∥ IsReady eq id_cmp cmp part t ∥₁
     → IsReady eq id_cmp cmp part t

@@ -3,7 +3,7 @@ use Rattle.raft_base.specs.LogIndex.{next_index_of}
 use Rattle.raft_progress.specs.search.Search.{after_events, new_search}
 use Rattle.raft_progress.proofs.search.search_run.Given as goal
 
--- what is left of the events leads from here to where all of them lead from the start
+-- the remaining events lead from here to where all of them lead from the start
 abbrev pub invariant-loop-event : goal.invariant-loop-event
 invariant-loop-event g l = record {
   small : l.accepted ≤ l.event-index;

@@ -1,4 +1,5 @@
--- Two lists each of which tells where its numbers stand in the other, and how a move rewrites both.
+-- Two lists each of which has the positions of its numbers in the other, and how a move rewrites
+-- both.
 use Rattle.std.specs.Prelude.{◌≡◌, ◌≢◌, ℕ, ◌-◌, ◌<◌, ◌≤◌, Bool, cond, ◌==◌, List, [], ◌∷◌, ◌++◌, length, map, take, drop}
 use Rattle.std.specs.Map.{keys_of, values_of, lookup}
 use Rattle.std.specs.Option.{option_map}
@@ -18,7 +19,7 @@ same_lists (x ∷ xs) [] l h = absurd (omega arith)
 same_lists (x ∷ xs) (y ∷ ys) l h =
     ap (λ z. z ∷ xs) (h 0 (omega arith)) ∙ ap (λ zs. y ∷ zs) (same_lists xs ys (omega arith) (λ k m. h (suc k) (omega arith)))
 
--- places that are renumbered, and ranks that stand where the numbers went
+-- positions that are renumbered, and ranks that moved with them
 renumbered : (P R P' R' : List ℕ) (f g : ℕ → ℕ) → AreInverse P R → length P' ≡ length P → length R' ≡ length R
     → ((r : ℕ) → r < length P → get_or P' r 0 ≡ f (get_or P r 0)) → ((p : ℕ) → p < length R → get_or R' p 0 ≡ get_or R (g p) 0)
     → ((p : ℕ) → p < length R → f p < length R) → ((p : ℕ) → p < length R → g p < length R)
@@ -40,7 +41,7 @@ renumbered P R P' R' f g a lp lr fs gs fin gin gf fg = record { one_length = lr 
         let e = gs p m in
         (omega arith, ap (λ r. get_or P' r 0) e ∙ fs (get_or R (g p) 0) b.0 ∙ ap f b.1 ∙ fg p)
 
--- the place after the entries at `at` and before it have been exchanged
+-- the position after the entries at `at` and before it have been swapped
 abbrev pub exchanged : ℕ → ℕ → ℕ
 exchanged at place = cond (place == at) (at - 1) (cond (place == at - 1) at place)
 
@@ -59,7 +60,7 @@ exchanged_within at p n l m = grind (arith, nat_tests)
 exchanged_twice : (at p : ℕ) → 0 < at → exchanged at (exchanged at p) ≡ p
 exchanged_twice at p l = grind (arith, nat_tests)
 
--- two neighbours change places
+-- two neighbours swap positions
 module _ (P R : List ℕ) (a : AreInverse P R) (at u l : ℕ) (second : 0 < at) (within : at < length R) (us : u ≡ get_or R (at - 1) 0)
     (ls : l ≡ get_or R at 0) where
   u_within : u < length P
@@ -126,7 +127,7 @@ module _ (P R : List ℕ) (a : AreInverse P R) (at u l : ℕ) (second : 0 < at) 
       same_lists _ _ (n ∙ sym (length-map P (exchanged at)))
       (λ k m. let w : k < length P = omega arith in swapped_places k w ∙ sym (get_or-map (exchanged at) P k 0 0 w))
 
--- what an entry's new place makes of the ids and of the places
+-- what an entry's new position makes of the ids and of the positions
 pub keys_rewritten : {ID : Type 0} (es : List (ID × ℕ)) (i : ℕ) (d : ID × ℕ) (w : ℕ)
     → keys_of (set es i ((get_or es i d).0, w)) ≡ keys_of es
 keys_rewritten [] i d w = refl
@@ -138,7 +139,7 @@ values_rewritten [] i x w = refl
 values_rewritten (e ∷ es) zero x w = refl
 values_rewritten (e ∷ es) (suc i) x w = ap (λ vs. e.1 ∷ vs) (values_rewritten es i x w)
 
--- places that are all renumbered renumber what is told of each id
+-- if all positions are renumbered, so is the position of each id
 parted : {ID : Type 0} → List ID → List ℕ → List (ID × ℕ)
 parted [] vs = []
 parted (k ∷ ks) [] = []
@@ -162,7 +163,7 @@ lookup_renumbered f test es fs k v =
     ∙ parted-map f (keys_of es) (values_of es) ∙ ap (map (λ e. (e.0, f e.1))) (parted_itself es))
     ∙ lookup-map_values f test es
 
--- where an entry moves up step by step, its last step is an exchange
+-- if an entry moves up step by step, its last step is a swap
 after_step : (place last : ℕ) → 0 < place → place ≤ last → (p : ℕ)
     → exchanged place (place_after place last p) ≡ place_after (place - 1) last p
 after_step place last l m p = grind (arith, nat_tests)
@@ -170,8 +171,9 @@ after_step place last l m p = grind (arith, nat_tests)
 after_none : (last p : ℕ) → place_after last last p ≡ p
 after_none last p = grind (arith, nat_tests)
 
--- Where an entry moves up past many, its place and the rank of its place are written last. So until then the two
--- lists are those of a move that has come as far as `place`, once the entry is put down there.
+-- When an entry moves up past several others, its position and the rank of its position are written
+-- last. Until then the two lists are those of a move that ends at `place`, except for the entry
+-- itself.
 pub record Lifted (P R : List ℕ) (last risen place : ℕ) (P' R' : List ℕ) : Type 0 where
   pub inverse : AreInverse (set P' risen place) (set R' place risen)
   pub places : set P' risen place ≡ map (place_after place last) P

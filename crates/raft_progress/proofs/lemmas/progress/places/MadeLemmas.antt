@@ -1,4 +1,4 @@
--- The entries of a walk in order, and the ranks of all places.
+-- The sorted ids of a progress, and the ranks of all positions.
 use Rattle.std.specs.Prelude.{◌≡◌, ◌≢◌, ℕ, ◌+◌, ◌<◌, Bool, true, false, List, [], ◌∷◌, ◌++◌, length, Option, Some, None}
 use Rattle.std.specs.Cmp.{IsEquivalence, IsTotalOrder}
 use Rattle.std.specs.List.{IsDistinct, range_with_len, list_any}
@@ -33,7 +33,7 @@ any_default [] i d e l = absurd (omega arith)
 any_default (x ∷ xs) zero d e l = refl
 any_default (x ∷ xs) (suc i) d e l = any_default xs i d e (omega arith)
 
--- an entry is its id and its place
+-- an entry is its id and its position
 entry_at : {ID : Type 0} (es : List (ID × ℕ)) (i : ℕ) (d : ID × ℕ) (x : ID) (v : ℕ) → i < length es
     → get_or es i d ≡ (get_or (keys_of es) i x, get_or (values_of es) i v)
 entry_at [] i d x v l = absurd (omega arith)
@@ -57,12 +57,12 @@ eqb_flips x y = elim (cases_eq x y) [
       ne_eqb x y n ∙ sym (ne_eqb y x (λ e. n (sym e)))
 ]
 
--- one place more
+-- one more position
 pub range_more : (n : ℕ) → range_with_len 0 (n + 1) ≡ range_with_len 0 n ++ n ∷ []
 range_more n = sym (map-id (range_with_len 0 (n + 1))) ∙ map-range_with_len_more (λ k. k) 0 n n (omega arith)
     ∙ ap (λ ks. ks ++ n ∷ []) (map-id (range_with_len 0 n))
 
--- places from 0 on, each once
+-- positions from 0 on, each once
 module _ (P : List ℕ) (all : AreAllPlaces P) where
   pub place_below : (r : ℕ) → r < length P → get_or P r 0 < length P
   place_below r l =
@@ -96,7 +96,7 @@ module _ (P : List ℕ) (all : AreAllPlaces P) where
       (p, omega arith, get_or-range_with_len 0 (length P) p p l ∙ omega arith) in
       (h.0, h.1, any_default P h.0 0 p h.1 ∙ h.2)
 
-  -- the ranks of the first places are written
+  -- the ranks of the first positions are written
   pub ranks_more : (R : List ℕ) (i : ℕ) → length R ≡ length P → i < length P → ((r : ℕ) → r < i → get_or R (get_or P r 0) 0 ≡ r) → (r : ℕ)
       → r < i + 1 → get_or (set R (get_or P i 0) i) (get_or P r 0) 0 ≡ r
   ranks_more R i w l h r m = elim (cases_eq r i) [
@@ -140,7 +140,7 @@ module _ {ID : Type 0} {eq : ID → ID → Bool} {cmp : ID → ID → Ordering} 
       ∙ ap (λ x. cmp x (get_or (e ∷ es) k e).0) (sym (key_at (e ∷ es) (k + 1) e e.0 m))) ∙ sorted k e (omega arith) m)
       (apart_from_distinct eq (keys_of (e ∷ es)) k (k + 1) e.0 distinct (omega arith) l))
 
-  -- entries that are those of a list of ids in another order
+  -- entries that have a list of ids in another order
   module _ (ids : List ID) (made es : List (ID × ℕ)) (distinct : IsDistinct eq ids) (keys : keys_of made ≡ ids)
       (places : values_of made ≡ range_with_len 0 (length ids)) (moved : IsPermutation made es) where
     pub length_moved : length es ≡ length ids

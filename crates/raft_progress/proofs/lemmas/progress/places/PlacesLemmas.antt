@@ -1,4 +1,4 @@
--- A map that tells the places of ids.
+-- Lists of the positions of ids.
 use Rattle.std.specs.Prelude.{
   ◌≡◌,
   ℕ,
@@ -39,7 +39,7 @@ use Rattle.raft_progress.proofs.lemmas.progress.places.MadeLemmas.{place_at}
 use Rattle.raft_progress.proofs.lemmas.progress.walk.MovedLemmas.{member_moved}
 use Rattle.raft_progress.proofs.lemmas.progress.walk.WalkLemmas.{lookup_absent}
 
--- the id at a place is that of the entry there
+-- the id at a position is the id of the entry there
 pub key_at : {ID V : Type 0} (es : List (ID × V)) (i : ℕ) (d : ID × V) (x : ID) → i < length es
     → (get_or es i d).0 ≡ get_or (keys_of es) i x
 key_at [] i d x l = absurd (omega arith)
@@ -77,7 +77,7 @@ passed_length cmp part old from new to p =
     let d = length-append p.passed p.rest in
     ap length p.now ∙ omega arith ∙ sym (ap length p.was)
 
--- what has passed nothing stands where it stood
+-- an entry that has passed none is at its old position
 pub same_unless_passed : {ID V P : Type 0} (cmp : P → P → Ordering) (part : V → P) (old : List (ID × V)) (from : ℕ) (new : List (ID × V))
     (to : ℕ) → Passed cmp part old from new to → from ≤ to → new ≡ old
 same_unless_passed {ID} {V} cmp part old from new to p l = by p.passed refl
@@ -87,7 +87,8 @@ same_unless_passed {ID} {V} cmp part old from new to p l = by p.passed refl
         ∙ sym (p.was ∙ ap (λ (es : List (ID × V)). p.front ++ (es ++ (p.entry ∷ p.rest))) none)
     by (e ∷ es) some = let q = p.now_at in let w = p.was_at in let n = ap length some in absurd (omega arith)
 
--- where an entry has moved up: the places before it and behind it stay, its own is the new one, and those that it passed are one more
+-- after an entry has moved up: the positions before and after the move's range stay, the entry's
+-- position is the new one, and those that it passed are one more
 module _ (first last : ℕ) where
   after_before : (k : ℕ) → first ≤ last → k < first → place_after first last k ≡ k
   after_before k up l = grind (arith, nat_tests)
@@ -117,7 +118,7 @@ module _ {ID : Type 0} {eq : ID → ID → Bool} (laws : IsEquivalence eq) where
           by' true t h = ltb-true k i t
           by' false t h = let u = ltb-false k i t in absurd (n (omega arith))
 
-  -- the map tells what a search of the walk finds
+  -- the list of positions has what a search of the entries finds
   pub place_is : {V : Type 0} (walk : List (ID × V)) (found : ID → Option ℕ) → TellsPlaces eq (keys_of walk) found → (id : ID)
       → found id ≡ position (λ (e : ID × V). eq id e.0) walk
   place_is [] found t id = t.unknown id refl
@@ -129,7 +130,7 @@ module _ {ID : Type 0} {eq : ID → ID → Bool} (laws : IsEquivalence eq) where
           t.here id i (rw (length-keys_of (e ∷ es)) p.0) (ap (eq id) (sym (key_at (e ∷ es) i e id p.0)) ∙ p.1)
       by None h = t.unknown id (sym (is_some-lookup (eq id) (e ∷ es)) ∙ ap is_some (lookup_absent (eq id) (e ∷ es) h))
 
-  -- what is told from before a move is some place, from which the move leads to the present one
+  -- a position from before a move is one from which the move leads to the present position
   module _ (ids : List ID) (first last : ℕ) (up : first ≤ last) (found : ID → Option ℕ)
       (t : TellsPlacesBefore eq ids first last found) where
     told_before : (x : ID) (k : ℕ) → k < length ids → eq x (get_or ids k x) ≡ true
@@ -158,7 +159,7 @@ module _ {ID : Type 0} {eq : ID → ID → Bool} (laws : IsEquivalence eq) where
         by false u true v = let h = ltb-true last k v in (k, t.behind x k l at h, after_behind first last k h)
         by false u false v = within k l at (ltb-false k first u) (ltb-false last k v)
 
-    -- and a map that is moved along tells the present ones
+    -- a list of positions that is updated with the move has the present positions
     pub tells_after : (found' : ID → Option ℕ) → ((x : ID) → found' x ≡ option_map (place_after first last) (found x))
         → TellsPlaces eq ids found'
     tells_after found' is = record {
@@ -166,7 +167,7 @@ module _ {ID : Type 0} {eq : ID → ID → Bool} (laws : IsEquivalence eq) where
       unknown = λ x m. is x ∙ ap (option_map (place_after first last)) (t.unknown x m);
     }
 
-  -- an entry has moved up, and the map tells the places from before
+  -- an entry has moved up, and the list has the positions from before
   module _ {V : Type 0} (front passed : List (ID × V)) (e : ID × V) (rest : List (ID × V)) (found : ID → Option ℕ)
       (t : TellsPlaces eq (keys_of (front ++ (passed ++ (e ∷ rest)))) found) where
     abbrev Old : List ID
@@ -266,14 +267,14 @@ module _ {ID : Type 0} {eq : ID → ID → Bool} (laws : IsEquivalence eq) where
       (subst (λ (n : ℕ). TellsPlacesBefore eq (keys_of (p.front ++ (p.entry ∷ (p.passed ++ p.rest)))) n from found) p.now_at
       (subst (λ (n : ℕ). TellsPlacesBefore eq (keys_of (p.front ++ (p.entry ∷ (p.passed ++ p.rest)))) (length p.front) n found) p.was_at b))
 
-  -- the same ids, and a map that tells the same
+  -- the same ids, and a list with the same positions
   pub tells_alike : (ids ids' : List ID) (found found' : ID → Option ℕ) → ids' ≡ ids → ((x : ID) → found' x ≡ found x)
       → TellsPlaces eq ids found → TellsPlaces eq ids' found'
   tells_alike ids ids' found found' same is t =
       subst (λ (ks : List ID). TellsPlaces eq ks found') (sym same) record
       { here = λ x k l h. is x ∙ t.here x k l h; unknown = λ x m. is x ∙ t.unknown x m }
 
-  -- each place that is told has a rank
+  -- each position in the list has a rank
   pub place_ranked : (es : List (ID × ℕ)) (ranks : List ℕ) → AreInverse (values_of es) ranks → (ids : List ID) (k : ℕ) → k < length ids
       → TellsPlaces eq ids (place_in eq es) → k < length ranks
   place_ranked es ranks a [] k l t = absurd (omega arith)

@@ -131,7 +131,7 @@ module _ {ID V P QS : Type 0} {eq : ID → ID → Bool} (laws : IsEquivalence eq
     lead_within : lead walk g ≤ length (take n walk)
     lead_within = prefix_len-le-length (exceeds cmp part g) (take n walk)
 
-    -- where granted is counted, the voters above it are no quorum
+    -- if granted is counted, the voters above it are no quorum
     pub lead_fails : IsCounted cmp part has_quorum (St walk) g → 1 ≤ lead walk g
         → front_test eq (has_quorum qs) (take n walk) (lead walk g) ≡ false
     lead_fails c l = by (front_test eq (has_quorum qs) (take n walk) (lead walk g)) refl
@@ -156,7 +156,7 @@ module _ {ID V P QS : Type 0} {eq : ID → ID → Bool} (laws : IsEquivalence eq
     above_fails c x h = sym above_quorum ∙ lead_fails c
         (above_one (λ es. is_member eq (keys_of es) x) refl (take n walk) (lead walk g) (above_front x ∙ h))
 
-  -- where the voters above g are no quorum, none that is reached is above
+  -- if the voters above g are no quorum, no part above g is reached
   others_stay : (walk : List (ID × V)) (g : P) → ((x : ID) → above walk g x ≡ true → has_quorum qs (above walk g) ≡ false)
       → (x : ID) (v : V) → IsReached cmp part has_quorum (St walk) x v → AtMost cmp (part v) g
   others_stay walk g fails x v r = by (is_lt (cmp g (part v))) refl
@@ -176,7 +176,7 @@ module _ {ID V P QS : Type 0} {eq : ID → ID → Bool} (laws : IsEquivalence eq
           absurd (true≢false (sym (superset (reached cmp part (St walk) (part v)) (above walk g) (λ y h. up y h t) r.quorum)
           ∙ fails x here))
 
-  -- either some part ties with g, or those of at least g exceed it
+  -- either some part ties with g, or the parts that are at least g exceed it
   tie_or_not : (g : P) (xs : List (ID × V))
       → ((k : ℕ) × (e : ID × V) × (k < length xs) × (cmp (part (get_or xs k e).1) g ≡ Equal))
       ⊎ (filter (at_least cmp part g) xs ≡ filter (exceeds cmp part g) xs)
@@ -249,7 +249,7 @@ module _ {ID V P QS : Type 0} {eq : ID → ID → Bool} (laws : IsEquivalence eq
             let at : lookup (eq x) walk ≡ Some v = sym (lookup_alike laws id x t walk) ∙ was in
             rw (same_voters x, h, written x, t, at) (same (is_member-alike laws id x t (take n (keys_of walk)) ∙ h))
 
-    -- granted stays where no voter passes it
+    -- granted stays if no voter passes it
     pub counted_still : (g : P) → IsDistinct eq (keys_of walk) → IsFalling cmp part g (take n walk)
         → (is_member eq (take n (keys_of walk)) id ≡ true → is_lt (cmp g (part w)) ≡ is_lt (cmp g (part v)))
         → (is_member eq (take n (keys_of walk)) id ≡ true → cmp (part v) g ≡ Equal → cmp (part w) g ≡ Equal)
@@ -299,7 +299,7 @@ module _ {ID V P QS : Type 0} {eq : ID → ID → Bool} (laws : IsEquivalence eq
 
     module _ (g : P) (c : IsCounted cmp part has_quorum (St walk) g) (d' : IsDistinct eq (keys_of walk'))
         (fall' : IsFalling cmp part g (take n walk')) where
-      -- no front is a quorum
+      -- no prefix is a quorum
       pub counted_none : front_test eq (has_quorum qs) (take n walk') (lead walk' g) ≡ false → IsCounted cmp part has_quorum (St walk') g
       counted_none f = record {
         is_one = elim c.is_one [
@@ -333,7 +333,7 @@ module _ {ID V P QS : Type 0} {eq : ID → ID → Bool} (laws : IsEquivalence eq
                     ∙ f))
               ]
 
-      -- the least front that is a quorum
+      -- the shortest prefix that is a quorum
       pub counted_front : (k : ℕ) (f : ID × V) → 1 ≤ k → k ≤ lead walk' g → front_test eq (has_quorum qs) (take n walk') k ≡ true
           → ((l : ℕ) → 1 ≤ l → l < k → front_test eq (has_quorum qs) (take n walk') l ≡ false) → f ≡ get_or (take n walk') (k - 1) f
           → (AtMost cmp g (part f.1)) × IsCounted cmp part has_quorum (St walk') (part f.1)

@@ -137,7 +137,7 @@ module _ {ID V P : Type 0} {eq : ID → ID → Bool} (laws : IsEquivalence eq) (
           by Equal t = refl
           by Greater t = absurd (true≢false (sym (laws.symm y x ∙ e) ∙ ties y x ∙ ap Rattle.std.specs.Ordering.is_eq t))
 
--- a value below the default stands in the way
+-- a value below the default prevents an upgrade
 pub below_refuses : {ID V P : Type 0} (eq : ID → ID → Bool) (id_cmp : ID → ID → Ordering) {cmp : P → P → Ordering} (o : IsTotalOrder cmp)
     (part : V → P) (is_voter : ID → Bool) (learners : List ID) (default : V) (old : ID → Option V) (id : ID)
     → IsLeastBelow eq id_cmp cmp part is_voter learners default old id → CanUpgrade eq cmp part is_voter learners default old → ⊥

@@ -1,4 +1,4 @@
--- Taking over the entries of a walk, one after another.
+-- Inheriting the entries of a progress, one after another.
 use Rattle.std.specs.Prelude.{◌≡◌, ℕ, ◌+◌, Bool, List, [], ◌∷◌, ◌++◌, drop, length}
 use Rattle.std.specs.declared.cmp.Ordering.{Ordering}
 use Rattle.std.specs.Map.{keys_of}
@@ -53,7 +53,7 @@ module _ {ID V P QS : Type 0} (eq : ID → ID → Bool) (id_cmp : ID → ID → 
       subst (λ (k : ℕ). CountsGoOn k new.voter_count s new.stat) more
       (each_counts es (n + 1) s m new (counts_more eq cmp part (λ v w. IsClone e.1 w) n s first e.0 m u c) rest)
 
-  -- nothing has been taken over yet
+  -- nothing has been inherited yet
   pub fold_none : (stat : Stat) (quorum_set : QS) (learners : List ID) (default : V) (first : Shown ID V P QS)
       → BeginsAnew eq id_cmp cmp part IsClone is_voter stat quorum_set learners default first
       → IsFold eq id_cmp cmp part IsClone has_quorum is_voter [] stat quorum_set learners default first
@@ -67,11 +67,12 @@ module _ {ID V P QS : Type 0} (eq : ID → ID → Bool) (id_cmp : ID → ID → 
         learners default new
     fold_more e new u r = record { first = f.first; begins = f.begins; takes_over = each_more es f.first old new e f.takes_over u r }
 
-    -- the learners stand as they were given
+    -- the learners are in the given order
     pub fold_learners : drop old.voter_count (keys_of old.walk) ≡ learners
     fold_learners = each_learners es f.first old f.takes_over ∙ learners_first id_cmp learners f.first f.begins.walk
 
-    -- an update is counted for each entry, with at most one move, and as many quorum tests as the number of voters has binary digits
+    -- an update is counted for each entry, with at most one move, and with at most k quorum tests
+    -- if the number of voters is less than 2^k
     pub fold_counts : ((voters : ℕ) → CountsGoOn 0 voters stat stat) → CountsGoOn (length es) old.voter_count stat old.stat
     fold_counts none =
         let all : length es + 0 ≡ length es = omega arith in

@@ -1,4 +1,5 @@
--- Learners fit where no id stands twice among the voters and them, and a list in order tells whether one does.
+-- Learners fit if no id among the voters and them is repeated, and a sorted list shows whether one
+-- is.
 use Rattle.std.specs.Prelude.{◌≡◌, ℕ, ◌+◌, ◌<◌, Bool, true, false, ◌||◌, List, [], ◌∷◌, ◌++◌, length}
 use Rattle.std.specs.declared.cmp.Ordering.{Ordering}
 use Rattle.std.specs.Cmp.{IsEquivalence, IsTotalOrder}

@@ -57,7 +57,7 @@ module _ {ID V P QS : Type 0} {eq : ID → ID → Bool} (laws : IsEquivalence eq
       by [] = refl
       by (y ∷ ys) = rw (sym (laws.congr e.0 x y.0 h), by ys) refl
 
-  -- the present value of a known id that was not taken over is a clone of the default
+  -- the present value of a known id that was not inherited is a clone of the default
   pub is_default : (v : V) → s.value e.0 ≡ Some v → (is_in e.0 ≡ true) × IsClone default v
   is_default v h = by (is_in e.0) refl
     where
@@ -121,7 +121,7 @@ pub own_value : {ID V : Type 0} {eq : ID → ID → Bool} (laws : IsEquivalence 
     → IsDistinct eq (keys_of es) → lookup (eq (get_or es k d).0) es ≡ Some (get_or es k d).1
 own_value laws es k d l h = lookup_from_place laws es k (get_or es k d).0 (get_or es k d).1 h (slice_get-get_or es k d l)
 
--- nothing has been taken over yet
+-- nothing has been inherited yet
 pub upgraded_none : {ID V P QS : Type 0} (eq : ID → ID → Bool) (IsClone : V → V → Type 0) (part : V → P) (is_voter : ID → Bool) (qs : QS)
     (learners : List ID) (default : V) (s : ProgressState ID V P QS) → IsNew eq IsClone part is_voter qs learners default s
     → IsUpgraded eq IsClone part is_voter qs learners default (λ x. None) s

@@ -1,4 +1,4 @@
--- Voters that come first where their part exceeds granted, and whose parts never rise there.
+-- Voters that come first if their part exceeds granted, and whose parts never rise there.
 use Rattle.std.specs.Prelude.{◌≡◌, ℕ, ◌+◌, ◌<◌, Bool, true, false, cond, List, [], ◌∷◌, ◌++◌, length, filter, take}
 use Rattle.std.specs.Ordering.{is_le, is_lt}
 use Rattle.std.specs.declared.cmp.Ordering.{Ordering}
@@ -25,7 +25,7 @@ module _ {ID V P : Type 0} {cmp : P → P → Ordering} (o : IsTotalOrder cmp) (
         by false h = refl
         by true h = absurd (true≢false (sym (up (part f.1) (part e.1) h (a.0 (over (part f.1) h))) ∙ n))
 
-    -- the voters that pass are a front
+    -- the voters that pass are a prefix
     pub filter_is_front : (voters : List (ID × V)) → IsFalling cmp part g voters
         → filter (λ e. t (part e.1)) voters ≡ take (prefix_len (λ e. t (part e.1)) voters) voters
     filter_is_front [] s = refl
@@ -38,7 +38,7 @@ module _ {ID V P : Type 0} {cmp : P → P → Ordering} (o : IsTotalOrder cmp) (
             ap (λ xs. e ∷ xs) i ∙ ap (λ k. take k (e ∷ es)) one
         by false h i = filter_none (λ f. t (part f.1)) es (none_behind e es h s.0)
 
-    -- a voter that passes is in that front
+    -- a voter that passes is in that prefix
     pub in_front : (voters : List (ID × V)) → IsFalling cmp part g voters → (i : ℕ) (d : ID × V) → i < length voters
         → t (part (get_or voters i d).1) ≡ true → i < prefix_len (λ e. t (part e.1)) voters
     in_front [] s i d l h = absurd (omega arith)
@@ -67,7 +67,7 @@ module _ {ID V P : Type 0} {cmp : P → P → Ordering} (o : IsTotalOrder cmp) (
   falling_last [] e rest s = s.0
   falling_last (f ∷ fs) e rest s = falling_last fs e rest s.1
 
-  -- what isn't below the last of a front isn't below any before it
+  -- a part that is not below the last one of a prefix is not below any before it
   below_first : (e : ID × V) → is_lt (cmp g (part e.1)) ≡ true → (p : P) (f : ID × V) (fs : List (ID × V))
       → LastAtLeast cmp part (part e.1) (f ∷ fs) → AllByRecursion (λ h. is_lt (cmp g (part h.1)) ≡ true → AtMost cmp (part h.1) p) (f ∷ fs)
       → AtMost cmp (part e.1) p

@@ -1,4 +1,4 @@
--- Fronts of the voters.
+-- Prefixes of the voters.
 use Rattle.std.specs.Prelude.{◌≡◌, ℕ, ◌+◌, ◌-◌, ◌/◌, ◌^◌, ◌<◌, ◌≤◌, Bool, true, false, ◌||◌, Some, None, List, [], ◌∷◌, length, min, take}
 use Rattle.std.specs.Bool.{then_some}
 use Rattle.std.specs.Cmp.{IsEquivalence}
@@ -12,7 +12,7 @@ use Rattle.raft_progress.specs.Inner.Rises.{IsLeastFront}
 use Rattle.raft_progress.proofs.lemmas.progress.UpdateLemmas.{IsDistinct-voters}
 
 module _ {ID V : Type 0} (eq : ID → ID → Bool) where
-  -- a longer front has the members of a shorter one
+  -- a longer prefix has the members of a shorter one
   pub front_grows : (voters : List (ID × V)) (k n : ℕ) → k ≤ n → (x : ID) → is_member eq (keys_of (take k voters)) x ≡ true
       → is_member eq (keys_of (take n voters)) x ≡ true
   front_grows voters zero n l x m = absurd (true≢false (sym m))
@@ -26,7 +26,7 @@ module _ {ID V : Type 0} (eq : ID → ID → Bool) where
       by true i r = refl
       by false i r = r i
 
-  -- no front of one that isn't a quorum is a quorum
+  -- no prefix of a prefix that is not a quorum is a quorum
   pub front_fails : (is_quorum : (ID → Bool) → Bool)
       (superset : (s t : ID → Bool) → ((x : ID) → s x ≡ true → t x ≡ true) → is_quorum s ≡ true → is_quorum t ≡ true)
       (voters : List (ID × V)) (k n : ℕ) → k ≤ n → front_test eq is_quorum voters n ≡ false → front_test eq is_quorum voters k ≡ false
@@ -44,8 +44,9 @@ fewer_digits left zero one l = absurd (omega arith)
 fewer_digits left (suc i) one l = let e = two-pow-succ i in (i, refl, omega arith)
 
 module _ {ID V : Type 0} (eq : ID → ID → Bool) (is_quorum : (ID → Bool) → Bool) (voters : List (ID × V)) (low high : ℕ) where
-  -- no front up to `failed` is a quorum, and where a test has passed, the front directly past `end` is; between these at most `left` fronts
-  -- are left, and for each that halving leaves a test of a front may still be made
+  -- no prefix up to `failed` is a quorum, and if a test has passed, the prefix one longer than
+  -- `end` is; between these at most `left` prefixes remain, and for each halving of them one more
+  -- test is allowed
   pub record Halves (failed end left tests : ℕ) : Type 0 where
     pub fails : (k : ℕ) → low < k → k ≤ failed → front_test eq is_quorum voters k ≡ false
     pub above : low ≤ failed
@@ -84,7 +85,7 @@ module _ {ID V : Type 0} (eq : ID → ID → Bool) (is_quorum : (ID → Bool) �
         (f.0, omega arith, f.2)
 
     module _ (goes : failed < end) (front : ℕ) (is : front ≡ failed + 1 + min (left / 2) (end - failed - 1)) where
-      -- the front that was tested is a quorum
+      -- the prefix that was tested is a quorum
       pub halves_passed : front_test eq is_quorum voters front ≡ true → Halves failed (front - 1) (left / 2) (tests + 1)
       halves_passed passed =
           let a = h.above in
@@ -101,7 +102,7 @@ module _ {ID V : Type 0} (eq : ID → ID → Bool) (is_quorum : (ID → Bool) �
             few = few_more goes;
           }
 
-      -- the front that was tested is no quorum
+      -- the prefix that was tested is not a quorum
       pub halves_failed : (superset : (s t : ID → Bool) → ((x : ID) → s x ≡ true → t x ≡ true) → is_quorum s ≡ true → is_quorum t ≡ true)
           → front_test eq is_quorum voters front ≡ false → Halves front end (left / 2) (tests + 1)
       halves_failed superset missed =
@@ -118,7 +119,7 @@ module _ {ID V : Type 0} (eq : ID → ID → Bool) (is_quorum : (ID → Bool) �
             few = few_more goes;
           }
 
-    -- no front is left
+    -- no prefix is left
     module _ (over : end ≤ failed) where
       few_all : (k : ℕ) → length voters < 2 ^ k → tests ≤ k
       few_all k l = let q = h.few k l in let e = q.1 in omega arith
@@ -149,7 +150,7 @@ module _ {ID V : Type 0} (eq : ID → ID → Bool) (is_quorum : (ID → Bool) �
   fewest zero one l = absurd (omega arith)
   fewest (suc k) one l = omega arith
 
-  -- where a single front is left, one test tells
+  -- if a single prefix is left, one test is enough
   pub single_front : high ≡ low + 1 → high ≤ length voters → (passed : Bool) → passed ≡ front_test eq is_quorum voters high
       → IsLeastFront eq is_quorum voters low high (then_some passed high) 1
   single_front single fits true is = record {
@@ -188,7 +189,7 @@ front_of voters room high k l is = sym (take_take room k high l) ∙ ap (take k)
     keys_shorter [] (suc k) (suc n) l = refl
     keys_shorter (e ∷ es) (suc k) (suc n) l = ap (λ ks. e.0 ∷ ks) (keys_shorter es k n (omega arith))
 
--- a test of the first of the ids that were gathered is a test of that front
+-- a test of the first of the gathered ids is a test of that prefix
 pub front_tested : {ID V : Type 0} {eq : ID → ID → Bool} (laws : IsEquivalence eq) (is_quorum : (ID → Bool) → Bool) (voters : List (ID × V))
     (distinct : IsDistinct eq (keys_of voters)) (room : List ID) (high k : ℕ) (l : k ≤ high)
     (gathered : take high room ≡ keys_of (take high voters)) (answer : Bool)

@@ -1,4 +1,4 @@
--- Where the learners stand in a walk: no update moves them.
+-- The positions of the learners: no update moves them.
 use Rattle.std.specs.Prelude.{◌≡◌, ℕ, ◌+◌, Bool, true, false, cond, ◌||◌, Option, Some, None, List, [], ◌∷◌, ◌++◌, length, take, drop}
 use Rattle.std.specs.declared.cmp.Ordering.{Ordering}
 use Rattle.std.specs.Ordering.{is_le}
@@ -13,7 +13,7 @@ use Rattle.raft_progress.specs.progress.Shown.{Shown, state}
 use Rattle.raft_progress.specs.progress.Updated.{IsSettled, IsUpdated, rises_past_granted}
 use Rattle.raft_progress.specs.progress.Walk.{put_after_last, walk_after_rise}
 
--- what stands behind some entries and as many more
+-- what comes after some entries and as many more
 drop_past : {ID V : Type 0} (xs ys : List (ID × V)) (n m : ℕ) → m ≡ length xs + n → drop m (keys_of (xs ++ ys)) ≡ drop n (keys_of ys)
 drop_past [] ys n m e = let z : m ≡ n = omega arith in ap (λ k. drop k (keys_of ys)) z
 drop_past (x ∷ xs) ys n zero e = absurd (omega arith)
@@ -80,7 +80,7 @@ module _ {ID V P QS : Type 0} (eq : ID → ID → Bool) (cmp : P → P → Order
       by None h = ap (λ (p : Shown ID V P QS). drop old.voter_count (keys_of p.walk)) (u.unknown h)
       by (Some v) h = let k = u.known v h in settled_stay v k.0 k.3
 
--- in a new progress they stand behind the voters
+-- in a new progress they come after the voters
 pub learners_first : {ID V P QS : Type 0} (id_cmp : ID → ID → Ordering) (learners : List ID) (made : Shown ID V P QS)
     → IsFirstWalk id_cmp learners made → drop made.voter_count (keys_of made.walk) ≡ learners
 learners_first id_cmp learners made f = ap (λ ks. drop made.voter_count ks) f.ids ∙ ap (λ n. drop n (f.voters ++ learners)) f.first

@@ -1,4 +1,4 @@
--- An entry that has moved up in a walk.
+-- An entry that has moved up.
 use Rattle.std.specs.Prelude.{◌≡◌, ℕ, ◌+◌, ◌<◌, Bool, true, false, cond, ◌||◌, List, [], ◌∷◌, ◌++◌, length, Some}
 use Rattle.std.specs.declared.cmp.Ordering.{Ordering}
 use Rattle.std.specs.Ordering.{is_le, is_lt}
@@ -78,7 +78,7 @@ module _ {ID V : Type 0} {eq : ID → ID → Bool} (laws : IsEquivalence eq) whe
   lookup_moved [] xs e ys d x = lookup_passed xs e ys d x
   lookup_moved (f ∷ fs) xs e ys d x = ap (λ r. cond (eq x f.0) (Some f.1) r) (lookup_moved fs xs e ys d.1 x)
 
--- the walk is the risen one
+-- the entries are those of the definition
 module _ {ID V P : Type 0} {cmp : P → P → Ordering} (o : IsTotalOrder cmp) (part : V → P) where
   none_reaches : (e : ID × V) (xs : List (ID × V)) → AllByRecursion (λ f. is_lt (cmp (part f.1) (part e.1)) ≡ true) xs
       → list_any (λ h. is_le (cmp (part e.1) (part h.1))) xs ≡ false
@@ -118,7 +118,7 @@ module _ {ID V P : Type 0} {cmp : P → P → Ordering} (o : IsTotalOrder cmp) (
   all_below is_id [] ys d h = tt
   all_below is_id (x ∷ xs) ys d h = (h 0 (omega arith), all_below is_id xs ys d (λ k l. h (suc k) (omega arith)))
 
-  -- an entry that rises has risen in the walk
+  -- an entry that moves up by neighbours has moved up by the definition
   pub is_risen : (is_id : ID → Bool) (old : List (ID × V)) (from : ℕ) (new : List (ID × V)) (to : ℕ) (d : ID × V)
       → RisesTo cmp part old from new to → is_id (get_or old from d).0 ≡ true → ((k : ℕ) → k < from → is_id (get_or old k d).0 ≡ false)
       → new ≡ walk_after_rise cmp part is_id [] old

@@ -71,7 +71,7 @@ last_split (x ∷ y ∷ ys) (suc n) l =
     let r = last_split (y ∷ ys) n (omega arith) in
     record { init = x ∷ r.init; last = r.last; is = ap (λ zs. x ∷ zs) r.is; init_length = ap suc r.init_length }
 
--- the elements on both sides of a cut have changed places
+-- the elements on both sides of a cut have swapped positions
 pub swap_at_cut : {X : Type 0} (front back : List X) (n : ℕ) (d e : X) → 0 < n → length front ≡ n → 0 < length back
     → set front (n - 1) (get_or back 0 e) ++ set back 0 (get_or front (n - 1) d) ≡ swap (front ++ back) (n - 1) n
 swap_at_cut front [] n d e some l more = absurd (omega arith)
@@ -113,7 +113,7 @@ module _ {ID V P : Type 0} (cmp : P → P → Ordering) (part : V → P) where
   last_from_get p (x ∷ y ∷ ys) zero d l h = absurd (omega arith)
   last_from_get p (x ∷ y ∷ ys) (suc n) d l h = last_from_get p (y ∷ ys) n d (omega arith) h
 
-  -- the place that it has passed down to is in the list
+  -- the position that it has passed down to is in the list
   pub passed_within : (old : List (ID × V)) (from : ℕ) (new : List (ID × V)) (to : ℕ) → Passed cmp part old from new to → to < length new
   passed_within old from new to r = rw (r.now, ← r.now_at) (length_less r.front r.entry (r.passed ++ r.rest))
 

@@ -1,4 +1,4 @@
--- Fronts that are too short to be a quorum need no test.
+-- Prefixes that are too short to be a quorum need no test.
 use Rattle.std.specs.Prelude.{◌≡◌, ℕ, ◌+◌, ◌-◌, ◌^◌, ◌<◌, ◌≤◌, Bool, true, false, cond, None, Some, List, [], ◌∷◌, max, slice_get, take}
 use Rattle.std.specs.Bool.{then_some}
 use Rattle.std.specs.declared.cmp.Ordering.{Ordering}
@@ -36,7 +36,7 @@ lead_ends {X} p (x ∷ xs) (suc n) d fails = by (p x) (lead_ends p xs n d fails)
 module _ {ID V P QS : Type 0} {eq : ID → ID → Bool} (laws : IsEquivalence eq) (cmp : P → P → Ordering) (part : V → P)
     (has_quorum : QS → (ID → Bool) → Bool) (old : Shown ID V P QS) (distinct : IsDistinct eq (keys_of (take old.voter_count old.walk)))
     (size : ℕ) (least : QuorumsHaveAtLeast eq (has_quorum old.quorum_set) size) (place low : ℕ) (is : low ≡ max (size - 1) place) where
-  -- a front with fewer ids than each quorum is none
+  -- a prefix with fewer ids than each quorum is none
   short_fails : (k : ℕ) → k < size → front_test eq (has_quorum old.quorum_set) (take old.voter_count old.walk) k ≡ false
   short_fails k l = by (front_test eq (has_quorum old.quorum_set) voters k) refl
     where
@@ -49,7 +49,7 @@ module _ {ID V P QS : Type 0} {eq : ID → ID → Bool} (laws : IsEquivalence eq
           let h = least (keys_of (take k voters)) (IsDistinct-voters laws k voters distinct) e in
           absurd (omega (arith, length-keys_of (take k voters), length_take_le voters k))
 
-  -- a scan past `low` tells the same as one past the place
+  -- a scan past `low` has the same result as one past the position
   pub scanned_from : (new : Shown ID V P QS) → IsScanned eq cmp part has_quorum old low new → IsScanned eq cmp part has_quorum old place new
   scanned_from new s = record {
     group = s.group;
@@ -77,7 +77,7 @@ module _ {ID V P QS : Type 0} {eq : ID → ID → Bool} (laws : IsEquivalence eq
       by k l h q true t = h (ltb-true low k t) (q (ltb-true low k t))
       by k l h q false t = let m = ltb-false low k t in short_fails k (omega arith)
 
-  -- where no front past `low` has parts that all exceed granted, none past the place is a quorum
+  -- if no prefix past `low` has only parts that exceed granted, none past the position is a quorum
   pub not_scanned : prefix_len (exceeds cmp part old.granted) (take old.voter_count old.walk) ≤ low → old.stat.is_quorum_count < 2 ^ 64
       → IsScanned eq cmp part has_quorum old place old
   not_scanned ends fits = record {

@@ -6,7 +6,7 @@ use Rattle.raft_progress.proofs.lemmas.progress.places.PlacesLemmas.{any_default
 use Rattle.raft_progress.proofs.lemmas.progress.walk.RisingLemmas.{passed_none, passed_more, passed_within, rises_stop, rises_front}
 use Rattle.raft_progress.proofs.progress.move_up.move_up.Goals as goal
 
--- the place before a place in a list is in it too
+-- the position before a position in a list is in it too
 before_within : {n : ℕ} (m : ℕ) → n < m → n - 1 < m
 before_within m h = omega arith
 

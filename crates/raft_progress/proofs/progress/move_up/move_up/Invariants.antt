@@ -2,7 +2,7 @@ use Rattle.std.proofs.Common.{◌≡◌, get_or}
 use Rattle.raft_progress.specs.Inner.Rises.{Passed}
 use Rattle.raft_progress.proofs.progress.move_up.move_up.Given as goal
 
--- the entry has passed those down to its place, and the part is still its part
+-- the entry has passed those down to its position, and the part is still its part
 abbrev pub invariant-loop-at : goal.invariant-loop-at
 invariant-loop-at g l = record {
   passes : Passed g.P.Ord.cmp g.V.ProgressPart.part_of l.fn.walk.items l.place l.walk.items l.at;

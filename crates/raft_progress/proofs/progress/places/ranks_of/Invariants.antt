@@ -5,7 +5,7 @@ use Rattle.raft_progress.proofs.progress.places.ranks_of.Given as goal
 abbrev pub invariant-loop-rank : goal.invariant-loop-rank
 invariant-loop-rank g l = length l.ranks.items ≡ l.rank
 
--- the places of the entries so far lead back to them
+-- the positions of the entries so far lead back to them
 abbrev pub invariant-loop-rank-2 : goal.invariant-loop-rank-2
 invariant-loop-rank-2 g l = record {
   one_length : length l.ranks.items ≡ length l.entries;

@@ -3,7 +3,7 @@ use Rattle.std.specs.Map.{keys_of}
 use Rattle.raft_progress.specs.Inner.Recount.{at_least}
 use Rattle.raft_progress.proofs.progress.recount.gather.Given as goal
 
--- the front of the room has the ids of the voters so far
+-- the scratch space begins with the ids of the voters so far
 abbrev pub invariant-loop-entry : goal.invariant-loop-entry
 invariant-loop-entry g l = record {
   within : l.n ≤ l.entry-index;

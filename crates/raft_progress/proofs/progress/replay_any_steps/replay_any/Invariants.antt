@@ -7,7 +7,7 @@ use Rattle.raft_progress.specs.progress.VecProgress.{shown}
 use Rattle.raft_progress.proofs.lemmas.progress.Traits.{compared}
 use Rattle.raft_progress.proofs.progress.replay_any_steps.replay_any.Given as goal
 
--- the steps so far have been made, and there is room for the replies to the others
+-- the steps so far have been made, and there is capacity for the replies to the others
 abbrev pub invariant-loop-step : goal.invariant-loop-step
 invariant-loop-step g l =
     let by = compared g.ID.PartialEq.eq g.ID.Ord.cmp g.P.Ord.cmp g.V.PartialOrd.partial_cmp g.V.ProgressPart.part_of g.V.Clone.is_clone in

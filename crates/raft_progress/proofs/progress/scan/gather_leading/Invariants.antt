@@ -4,7 +4,7 @@ use Rattle.std.specs.Map.{keys_of}
 use Rattle.raft_progress.specs.Inner.Recount.{exceeds}
 use Rattle.raft_progress.proofs.progress.scan.gather_leading.Given as goal
 
--- all voters so far lead, and the front of the room has their ids
+-- all voters so far lead, and the scratch space begins with their ids
 abbrev pub invariant-loop-entry : goal.invariant-loop-entry
 invariant-loop-entry g l = record {
   at : l.n ≡ l.entry-index;

@@ -2,7 +2,7 @@ use Rattle.std.proofs.Common.{◌-◌, ◌<◌, ◌^◌, length}
 use Rattle.raft_progress.proofs.lemmas.progress.walk.FrontLemmas.{Halves}
 use Rattle.raft_progress.proofs.progress.scan.least_front.Given as goal
 
--- the fronts that are left are halved by each test
+-- each test halves the remaining prefixes
 abbrev pub invariant-loop-failed : goal.invariant-loop-failed
 invariant-loop-failed g l = record {
   halves : Halves g.ID.PartialEq.eq (g.QS.QuorumSet.has_quorum l.quorum_set) l.voters l.low l.high l.failed l.end l.left l.tests;

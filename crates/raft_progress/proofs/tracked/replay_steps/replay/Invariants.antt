@@ -6,7 +6,7 @@ use Rattle.raft_progress.specs.tracked.TrackedShownSteps.{IsTrackedShownRun}
 use Rattle.raft_progress.proofs.lemmas.progress.Traits.{compared}
 use Rattle.raft_progress.proofs.tracked.replay_steps.replay.Given as goal
 
--- the steps so far have been made, and there is room for the replies to the others
+-- the steps so far have been made, and there is capacity for the replies to the others
 abbrev pub invariant-loop-step : goal.invariant-loop-step
 invariant-loop-step g l =
     let by = compared g.NID.PartialEq.eq g.NID.Ord.cmp g.P.Ord.cmp g.V.PartialOrd.partial_cmp g.V.ProgressPart.part_of g.V.Clone.is_clone in

@@ -8,7 +8,7 @@ use Rattle.raft_progress.proofs.lemmas.progress.UpdateLemmas.{IsDistinct-voters}
 use Rattle.raft_progress.proofs.lemmas.ListLemmas.{length_take_le}
 use Rattle.raft_progress.proofs.progress.vec_progress.VecProgress.test_fronts.Goals as goal
 
--- where a front that was found ends, over the voters, which lead with `high` of them
+-- the end of a prefix that was found, over the voters, of which the first `high` lead
 module _ {ID V : Type 0} {eq : ID → ID → Bool} {has_quorum : (ID → Bool) → Bool} {place high tests : ℕ} {found : Option ℕ}
     (leads : ID × V → Bool) (n : ℕ) (lent : List (ID × V)) (count : high ≡ prefix_len leads (take n lent))
     (least : IsLeastFront eq has_quorum (take n lent) place high found tests) where
@@ -18,7 +18,7 @@ module _ {ID V : Type 0} {eq : ID → ID → Bool} {has_quorum : (ID → Bool) �
       let top = prefix_len-le-length leads (take n lent) in
       (least.above k is, omega arith)
 
-  -- and as it is said of the walk
+  -- the same over the entries
   least_of_walk : (walk : List (ID × V)) → lent ≡ walk
       → IsLeastFront eq has_quorum (take n walk) place (prefix_len leads (take n walk)) found tests
   least_of_walk walk same =

@@ -79,6 +79,6 @@ returns-clause-answer g c =
           c.args.self.now.granted k r.counted)),
     )
 
--- only the room has changed
+-- only the scratch space has changed
 pub returns-clause-ordered : goal.returns-clause-ordered
 returns-clause-ordered g c = (returns-clause-answer g c).0

@@ -7,7 +7,7 @@ use Rattle.raft_progress.specs.progress.UpgradeFold.{IsFold}
 use Rattle.raft_progress.specs.progress.VecProgress.{shown}
 use Rattle.raft_progress.proofs.progress.vec_progress.VecProgressProgress.upgrade_quorum_set.Given as goal
 
--- the entries so far have been taken over
+-- the entries so far have been inherited
 abbrev pub invariant-loop-entry : goal.invariant-loop-entry
 invariant-loop-entry g l = record {
   ordered : IsInOrder g.ID.PartialEq.eq g.P.Ord.cmp g.V.ProgressPart.part_of g.QS.QuorumSet.has_quorum (shown l.made);
