@@ -8,41 +8,41 @@ use std::fmt;
 
 /// The last log id that a node has accepted, and the leader that sent it.
 ///
-/// What was accepted of one leader says nothing of another leader's log: a later leader may have to
-/// cut it off again. So the log id counts only beside the leader.
+/// A log id that was accepted from one leader says nothing about another leader's log, because a
+/// later leader may have to truncate it. So the log id counts only for its leader.
 #[derive(Clone, Default, PartialEq, Eq, Drop)]
 pub struct AcceptedIn<L, C> {
     pub(crate) leader_id: L,
     pub(crate) log_id: Option<LogIdOf<C>>,
 }
 
-/// What a node has accepted, over a kind of leader ids.
+/// What a node has accepted, for a kind of leader ids.
 pub type AcceptedOf<NID, K> = AcceptedIn<
     <K as LeaderKind<NID>>::Leader,
     <K as LeaderKind<NID>>::Committed,
 >;
 
-/// What a node has accepted, over the default leader ids.
+/// What a node has accepted, with the default leader ids.
 pub type Accepted<NID> = AcceptedOf<NID, LeaderAdv>;
 
 impl<L: Eq + Copy, C: Copy> AcceptedIn<L, C> {
     ghost use Rattle.raft_state.specs.Accepted.{accepted_from, leader_of, accepted_id};
 
-    /// The last log id that was accepted of a leader.
+    /// Returns what is accepted if this is the last log id that was accepted from a leader.
     pub fn new(leader_id: L, log_id: Option<LogIdOf<C>>) -> Self
         ensures { result ≡ accepted_from leader_id log_id }
     {
         AcceptedIn { leader_id, log_id }
     }
 
-    /// The leader.
+    /// Returns the leader.
     pub fn leader_id(&self) -> &L
         ensures { result.now ≡ leader_of self.now }
     {
         &self.leader_id
     }
 
-    /// The last log id that was accepted of this leader, and none of any other one.
+    /// Returns the last log id that was accepted from this leader, and `None` for any other leader.
     pub fn last_accepted_log_id(&self, leader_id: &L) -> Option<&LogIdOf<C>>
         ensures { option_copied result ≡ accepted_id L.eq self.now leader_id.now }
     {
@@ -57,8 +57,8 @@ impl<L: Eq + Copy, C: Copy> AcceptedIn<L, C> {
 impl<L: Eq + Copy, C: Ord + Copy> AcceptedIn<L, C> {
     ghost use Rattle.raft_state.specs.Accepted.{after_accept};
 
-    /// Takes a log id that was accepted of a leader, if it is greater than the last one of this
-    /// leader.
+    /// Takes a log id that was accepted from a leader, if it is greater than the last one that was
+    /// accepted from this leader.
     pub(crate) fn update(&mut self, leader_id: L, log_id: Option<LogIdOf<C>>)
         ensures { self.new ≡ after_accept L.eq C.cmp self.old leader_id log_id }
     {
@@ -71,8 +71,8 @@ impl<L: Eq + Copy, C: Ord + Copy> AcceptedIn<L, C> {
 impl<L, C: Ord + Copy> AcceptedIn<L, C> {
     ghost use Rattle.raft_state.specs.Accepted.{accepted_upto};
 
-    /// Keeps no more than a log that ends with this log id has: where the accepted one is above it,
-    /// this one takes its place.
+    /// Accepts at most what a log that ends with `last` has: if the accepted log id is above
+    /// `last`, it becomes `last`.
     pub(crate) fn keep_upto(&mut self, last: Option<LogIdOf<C>>)
         ensures { self.new ≡ accepted_upto C.cmp self.old last }
     {
@@ -82,7 +82,7 @@ impl<L, C: Ord + Copy> AcceptedIn<L, C> {
     }
 }
 
-// By hand, for the name that the type goes by.
+// Handwritten, because the text has the name `Accepted` and not `AcceptedIn`.
 impl<L: fmt::Debug, C: fmt::Debug> fmt::Debug for AcceptedIn<L, C> {
     fn fmt<W: fmt::Write>(&self, f: &mut fmt::Formatter<W>) -> fmt::Result {
         f.debug_struct("Accepted")

@@ -21,9 +21,9 @@ use raft_members::{EffectiveMembershipOf, Membership};
 use std::alloc::AllocError;
 
 impl<NID: NodeId, N: Node, I: Instant, L: Drop, C: Ord + Copy + Drop> RaftStateIn<NID, N, I, L, C> {
-    /// Whether `append_entries` may be called with entries: `log_ids.can_extend` is true of them,
-    /// their indexes are consecutive from the end of the log on, which is 0 for an empty log, and each
-    /// that stores a membership comes after the effective one.
+    /// Whether the preconditions of `append_entries` hold: `log_ids.can_extend` is true of the
+    /// entries, their indexes are consecutive from the end of the log on (from 0 for an empty log),
+    /// and each entry that stores a membership comes after the effective membership.
     pub fn can_append_entries<Ent: RaftLogId<C> + RaftPayload<Membership<NID, N>>>(
         &self,
         entries: &[Ent],
@@ -36,10 +36,10 @@ impl<NID: NodeId, N: Node, I: Instant, L: Drop, C: Ord + Copy + Drop> RaftStateI
             && can_follow(*self.membership_state.effective().log_id(), entries)
     }
 
-    /// Appends entries to the log, and makes the memberships that they store effective, one after the
-    /// other. It may be called if `can_append_entries` is true, so the log then is the log before and
-    /// the log ids of the entries after it. The memberships are clones. A valid state stays valid, and
-    /// a sound one sound.
+    /// Appends entries to the log, and makes the memberships that they store effective, one after
+    /// the other. It requires `can_append_entries`, so the log afterwards is the log before
+    /// followed by the log ids of the entries. The memberships are cloned. A valid state stays
+    /// valid, and a sound one sound.
     ///
     /// After an error nothing has changed.
     pub fn append_entries<Ent: RaftLogId<C> + RaftPayload<Membership<NID, N>>>(
@@ -75,7 +75,7 @@ impl<NID: NodeId, N: Node, I: Instant, L: Drop, C: Ord + Copy + Drop> RaftStateI
         ensures sound { IsSound C.eq C.cmp self.old → IsSound C.eq C.cmp self.new }
         ensures no_memory { entries.now ≡ [] → IsOk result }
     {
-        // Read for the proof alone: by its contract the keys are in order.
+        // This read is for the proof: by its contract the keys are in order.
         let _keys = self.log_ids.key_log_ids();
         if !store_membership(entries) {
             return self.extend_log_ids(entries);
@@ -86,7 +86,7 @@ impl<NID: NodeId, N: Node, I: Instant, L: Drop, C: Ord + Copy + Drop> RaftStateI
         Ok(())
     }
 
-    /// The memberships once those of entries are effective.
+    /// Returns the memberships after those of the entries have become effective.
     fn memberships_after<Ent: RaftLogId<C> + RaftPayload<Membership<NID, N>>>(
         &self,
         entries: &[Ent],
@@ -119,7 +119,8 @@ fn store_membership<NID: NodeId, N: Node, Ent: RaftPayload<Membership<NID, N>>>(
     entries.iter().any(|entry| entry.get_membership().is_some())
 }
 
-/// Whether entries have consecutive indexes, the first one the index after a log id, or 0 after none.
+/// Whether the entries have consecutive indexes, from the index after a log id on, or from 0 if it
+/// is absent.
 fn are_consecutive<C: Copy, Ent: RaftLogId<C>>(last: Option<LogIdOf<C>>, entries: &[Ent]) -> bool
     ensures { result ≡ are_consecutive last (map Ent.id_of entries.now) }
 {
@@ -134,7 +135,7 @@ fn are_consecutive<C: Copy, Ent: RaftLogId<C>>(last: Option<LogIdOf<C>>, entries
     true
 }
 
-/// Whether an index is the one after a log id, or 0 after none.
+/// Whether an index is the one after a log id, or 0 if it is absent.
 fn is_next<C: Copy>(last: Option<LogIdOf<C>>, index: u64) -> bool
     ensures { result ≡ nat_eq index (next_index last) }
 {
@@ -144,8 +145,8 @@ fn is_next<C: Copy>(last: Option<LogIdOf<C>>, index: u64) -> bool
     }
 }
 
-/// Whether each entry with a membership comes after the one before it, the first one after a log
-/// id.
+/// Whether each entry with a membership comes after the one before it, and the first one after a
+/// log id.
 fn can_follow<
     C: Ord + Copy,
     NID: NodeId,

@@ -16,12 +16,12 @@ use raft_progress::catch_up::{can_catch_up_entry, catch_up_entry};
 use raft_progress::entry::ProgressEntryOf;
 use raft_progress::progress::{Progress, VecProgress};
 
-/// The progress of a leader's followers: for each what it has, by their matches.
+/// The progress of a leader's followers: an entry for each, compared by its matching log id.
 pub type FollowersOf<C, NID, QS> = VecProgress<NID, ProgressEntryOf<C>, Option<LogIdOf<C>>, QS>;
 
 impl<NID: NodeId, N: Node, I: Instant, L: Drop, C: Ord + Copy + Drop> RaftStateIn<NID, N, I, L, C> {
-    /// Whether `catch_up` may be called: the state is valid, its purge point is in its log, and
-    /// [`can_catch_up_entry`] over that log.
+    /// Whether the preconditions of `catch_up` hold: the state is valid, its purge point is in its
+    /// log, and [`can_catch_up_entry`] is true for that log.
     pub fn can_catch_up(&self, entry: &ProgressEntryOf<C>, agree: u64, max_entries: u64) -> bool
         ensures { result ≡ state_can_catch_up C.eq C.cmp self.now entry.now agree max_entries }
     {
@@ -30,9 +30,9 @@ impl<NID: NodeId, N: Node, I: Instant, L: Drop, C: Ord + Copy + Drop> RaftStateI
             && can_catch_up_entry(self, entry, agree, max_entries)
     }
 
-    /// Sends to a follower whose log agrees with this one below an index, and takes its responses,
-    /// until it has all. Answers how many conflicts came, and how many acks; see
-    /// [`catch_up_entry`].
+    /// Sends to a follower whose log agrees with this one below the index `agree`, and takes its
+    /// responses, until it has all. Returns the number of conflicts and the number of acks; see
+    /// [`catch_up_entry`]. It requires `can_catch_up`.
     pub fn catch_up(
         &self,
         entry: &mut ProgressEntryOf<C>,
@@ -49,18 +49,19 @@ impl<NID: NodeId, N: Node, I: Instant, L: Drop, C: Ord + Copy + Drop> RaftStateI
             next_index (view_of self.now).last - next_index entry.old.matching in
             result.1 * max_entries < left + max_entries }
     {
-        // Read for the proof alone: by its contract the log has all that is sent.
+        // This read is for the proof: by its contract the log has all that is sent.
         let _is_logged = self.purge_upto_is_logged();
         catch_up_entry(self, entry, agree, max_entries)
     }
 
-    /// Catches up followers one after another, each with the index below which it agrees, and
-    /// answers how many were. Each of those is one update, to the end of its honest run. One that
-    /// is unknown or that `can_catch_up` denies is passed over: nothing that the progress shows
-    /// changes, neither walk nor granted nor counts.
+    /// Catches up followers one after another, each with the index below which its log agrees.
+    /// Returns the number of followers that were caught up. Each of them is updated once, at the
+    /// end of its honest run. A follower that is unknown, or for which `can_catch_up` is false, is
+    /// skipped and changes nothing: neither the entries of the progress, nor granted, nor the
+    /// counts.
     ///
-    /// Where at least one voter was caught up, and those that were are a quorum, the last log id is
-    /// granted, or more where a voter's match was past it before.
+    /// If at least one voter was caught up, and the followers that were caught up are a quorum, the
+    /// last log id is granted, or more if a voter matched past it before.
     pub fn catch_up_all<QS: QuorumSet<NID> + Drop>(
         &self,
         progress: &mut FollowersOf<C, NID, QS>,
@@ -82,7 +83,7 @@ impl<NID: NodeId, N: Node, I: Instant, L: Drop, C: Ord + Copy + Drop> RaftStateI
         count
     }
 
-    /// Catches a follower up where it is known and can be, and answers whether it did.
+    /// Catches a follower up if it is known and `can_catch_up` is true. Returns whether it did.
     fn visit<QS: QuorumSet<NID> + Drop>(
         &self,
         progress: &mut FollowersOf<C, NID, QS>,
@@ -105,10 +106,10 @@ impl<NID: NodeId, N: Node, I: Instant, L: Drop, C: Ord + Copy + Drop> RaftStateI
                     return false;
                 }
                 let mut entry = found;
-                // A round counts followers, so how many conflicts and acks came is of no use here.
+                // A round counts followers, so the numbers of conflicts and acks are not used.
                 let _ = self.catch_up(&mut entry, agree, max_entries);
-                // The id was found above, so this is no `Err`; what is granted the caller reads of the
-                // progress, once the round is over.
+                // The id was found above, so this is no `Err`. The caller reads granted from the
+                // progress after the round.
                 let _ = progress.update(id, entry);
                 true
             }

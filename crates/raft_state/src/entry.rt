@@ -13,14 +13,14 @@ use std::alloc::{AllocError, Global};
 use std::fmt;
 pub use traits::{FromAppData, RaftEntry, RaftPayload};
 
-/// A log entry: what is appended to each node's log under one log id.
+/// A log entry: what is appended to each node's log with one log id.
 ///
-/// Two entries are equal if their log ids and their payloads are. The default entry is blank.
+/// Two entries are equal if their log ids and their payloads are equal. The default entry is blank.
 #[derive(Clone, PartialEq, Drop)]
 pub struct EntryOf<C, NID: NodeId, N: Node, D> {
-    /// What identifies the entry in the whole cluster.
+    /// Identifies the entry in the whole cluster.
     pub log_id: LogIdOf<C>,
-    /// What the entry holds.
+    /// What the entry contains.
     pub payload: EntryPayload<NID, N, D>,
 }
 
@@ -28,14 +28,15 @@ pub struct EntryOf<C, NID: NodeId, N: Node, D> {
 pub type Entry<NID, N, D> = EntryOf<CommittedLeaderId<NID>, NID, N, D>;
 
 impl<C: Copy, NID: NodeId, N: Node, D> EntryOf<C, NID, N, D> {
-    /// The entry itself, as a caller's own entry type may lend the one that it holds.
+    /// Returns the entry itself. A caller's own entry type may lend the entry that it contains.
     pub fn as_ref(&self) -> &Self
         ensures { result.now ≡ self.now }
     {
         self
     }
 
-    /// An equal entry, with clones of the data and of the nodes. A blank one takes no memory.
+    /// Returns an equal entry with clones of the data and of the nodes, or an allocation error. A
+    /// blank entry needs no allocation.
     pub fn try_clone(&self) -> Result<Self, AllocError>
     where
         D: Clone + PartialEq + Drop,
@@ -67,7 +68,7 @@ impl<C: Default, NID: NodeId, N: Node, D> Default for EntryOf<C, NID, N, D> {
     }
 }
 
-/// The log id that stands in until an entry is given its own.
+/// Returns the log id that an entry has until it is given its own.
 fn default_log_id<C: Default>() -> LogIdOf<C>
     ensures { IsDefaultLogId C.is_default result }
 {
@@ -160,7 +161,8 @@ impl<C: Default, NID: NodeId, N: Node, D> FromAppData<D> for EntryOf<C, NID, N, 
     }
 }
 
-// By hand, for the name that the type goes by, and for data that has no debug text.
+// Handwritten, because the text has the name `Entry` and not `EntryOf`, and because data need not
+// have a debug text.
 impl<C: fmt::Debug, NID: NodeId, N: Node, D> fmt::Debug for EntryOf<C, NID, N, D> {
     fn fmt<W: fmt::Write>(&self, f: &mut fmt::Formatter<W>) -> fmt::Result {
         f.debug_struct("Entry")

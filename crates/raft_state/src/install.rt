@@ -31,17 +31,18 @@ impl<
     C: Ord + Copy + Default + Drop + 'static,
     L: LeaderIdentity<Id = NID, Committed = C> + Drop,
 > RaftStateIn<NID, N, I, L, C> {
-    /// Whether `install_snapshot` may be called with a snapshot:
+    /// Whether the preconditions of `install_snapshot` hold:
     ///
-    /// - Its last log id is past what is committed, by log id and by index, and an index is after it.
+    /// - Its last log id is past what is committed, by log id and by index, and an index is after
+    ///   it.
     /// - Its membership is not past its last log id, by log id and by index.
     /// - `can_accept` is true.
-    /// - The committed membership is not above the snapshot's, by log id and by index, unless the log
-    ///   has the snapshot's last log id and the committed membership is in the log past it.
+    /// - The committed membership is not above the snapshot's, by log id and by index, unless the
+    ///   log has the snapshot's last log id and the committed membership is in the log past it.
     /// - If the log has the snapshot's last log id and the effective membership is past it, the
     ///   effective membership is not below the snapshot's.
     ///
-    /// A snapshot that is not past what is committed has nothing new.
+    /// A snapshot that is not past what is committed contains nothing new.
     pub fn can_install_snapshot(&self, meta: &SnapshotMetaOf<C, NID, N>) -> bool
         ensures { result ≡ may_install L.order C.cmp C.eq meta.now self.now }
     {
@@ -57,16 +58,16 @@ impl<
         }
     }
 
-    /// Installs a leader's snapshot in place of the log up to its last log id. It may be called if
-    /// `can_install_snapshot` is true. That log id is then committed, accepted from the vote's leader,
-    /// and the purge point, and the log is purged to it. The snapshot's membership is the committed
-    /// one, unless one past it in the log is already known to be committed. If the log does not have
-    /// that log id, all of the log is dropped, with its memberships: all that was committed is in the
-    /// snapshot. A valid state stays valid, and a sound one sound.
+    /// Installs a leader's snapshot in place of the log up to its last log id. It requires
+    /// `can_install_snapshot`. That log id is then committed, accepted from the vote's leader, and
+    /// the purge point, and the log is purged to it. The snapshot's membership is the committed
+    /// one, unless one past it in the log is already known to be committed. If the log does not
+    /// have that log id, all of the log is dropped, with its memberships, because the snapshot has
+    /// all that was committed. A valid state stays valid, and a sound one sound.
     ///
-    /// The progress of storage is left as it is. Once storage has the snapshot, the caller writes to
-    /// `io_state_mut`, by `update_applied` and `update_snapshot` if its log id is above theirs, and by
-    /// `update_purged`.
+    /// The progress of storage is left as it is. When storage has the snapshot, the caller writes
+    /// to `io_state_mut`, by `update_applied` and `update_snapshot` if its log id is above theirs,
+    /// and by `update_purged`.
     ///
     /// After an error nothing has changed.
     pub fn install_snapshot(&mut self, meta: SnapshotMetaOf<C, NID, N>) -> Result<(), AllocError>
@@ -101,7 +102,7 @@ impl<
         let Some(upto) = last_log_id else {
             return Ok(());
         };
-        // Read for the proof alone: by its contract the keys are in order.
+        // This read is for the proof: by its contract the keys are in order.
         let _keys = self.log_ids.key_log_ids();
         let snapshot_meta = meta.try_clone()?;
         let log_ids = self.log_ids_from(upto)?;
@@ -126,7 +127,7 @@ impl<
             && upto.index != u64::MAX
     }
 
-    /// Whether no committed membership is lost for a snapshot with this membership.
+    /// Whether a snapshot with this membership loses no committed membership.
     fn keeps_committed(&self, upto: LogIdOf<C>, stored: &StoredMembershipOf<C, NID, N>) -> bool
         ensures { result ≡ keeps_committed C.cmp C.eq upto stored.now self.now }
     {
@@ -147,7 +148,7 @@ impl<
             || log_id_at_most(*stored.log_id(), effective)
     }
 
-    /// The log ids from the last one of a snapshot on.
+    /// Returns the log ids from the last one of a snapshot on.
     fn log_ids_from(&self, upto: LogIdOf<C>) -> Result<LogIdListOf<C>, AllocError>
         requires { IsTrue
             (may_be_purged_to C.cmp (last_id (log_to_keep C.eq upto self.now)) upto) }
@@ -159,7 +160,7 @@ impl<
         Ok(log_ids)
     }
 
-    /// The log ids that stay for a snapshot.
+    /// Returns the log ids that stay after a snapshot is installed.
     fn log_to_keep(&self, upto: LogIdOf<C>) -> Result<LogIdListOf<C>, AllocError>
         ensures { IfOk result (λ log_ids. full_log log_ids ≡ log_to_keep C.eq upto self.now) }
     {
@@ -171,7 +172,7 @@ impl<
         Ok(log_ids)
     }
 
-    /// The memberships once a snapshot with this membership is installed.
+    /// Returns the memberships after a snapshot with this membership is installed.
     fn memberships_with(
         &self,
         upto: LogIdOf<C>,
@@ -192,7 +193,7 @@ impl<
     }
 }
 
-/// The membership of a snapshot.
+/// Returns the membership of a snapshot.
 fn membership_of<C: Copy + Drop, NID: NodeId, N: Node>(
     meta: SnapshotMetaOf<C, NID, N>,
 ) -> StoredMembershipOf<C, NID, N>

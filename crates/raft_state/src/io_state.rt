@@ -1,4 +1,4 @@
-//! How far a node's storage has got.
+//! The progress of a node's storage.
 ghost use Rattle.std.specs.Prelude.{◌≡◌, false, IsTrue};
 ghost use Rattle.std.specs.Option.{option_copied};
 ghost use Rattle.raft_base.specs.LogId.{id_lt};
@@ -9,14 +9,14 @@ pub use log_io_id::{LogIOId, LogIOIdOf};
 use raft_base::{LeaderAdv, LeaderKind, LogIdOf, VoteIn};
 use std::fmt;
 
-/// How far a node's storage has got: what is on disk and what is applied, while the node's own
-/// state may be ahead of it.
+/// The progress of a node's storage: what is on disk and what is applied. The node's own state may
+/// be ahead of it.
 #[derive(Clone, Copy, Default, PartialEq, Eq)]
 pub struct IOStateIn<L, C> {
     building_snapshot: bool,
     /// The vote that is on disk.
     pub vote: VoteIn<L>,
-    /// How far the log is on disk.
+    /// The last log id of the log that is on disk, and its leader.
     pub flushed: LogIOIdOf<C>,
     /// The last log id that is applied to the state machine.
     pub applied: Option<LogIdOf<C>>,
@@ -26,19 +26,19 @@ pub struct IOStateIn<L, C> {
     pub purged: Option<LogIdOf<C>>,
 }
 
-/// How far storage has got, over a kind of leader ids.
+/// The progress of storage, for a kind of leader ids.
 pub type IOStateOf<NID, K> = IOStateIn<
     <K as LeaderKind<NID>>::Leader,
     <K as LeaderKind<NID>>::Committed,
 >;
 
-/// How far storage has got, over the default leader ids.
+/// The progress of storage, with the default leader ids.
 pub type IOState<NID> = IOStateOf<NID, LeaderAdv>;
 
 impl<L: Copy, C: Ord + Copy> IOStateIn<L, C> {
     ghost use Rattle.raft_state.specs.IOState.{io_state, is_building, with_building};
 
-    /// How far storage has got, while no snapshot is being built.
+    /// Returns the progress of a storage in which no snapshot is being built.
     pub fn new(
         vote: VoteIn<L>,
         flushed: LogIOIdOf<C>,
@@ -58,21 +58,22 @@ impl<L: Copy, C: Ord + Copy> IOStateIn<L, C> {
         }
     }
 
-    /// Takes the vote that is on disk now.
+    /// Takes the vote that is now on disk.
     pub fn update_vote(&mut self, vote: VoteIn<L>)
         ensures { self.new ≡ record self.old { vote = vote } }
     {
         self.vote = vote;
     }
 
-    /// The vote that is on disk.
+    /// Returns the vote that is on disk.
     pub fn vote(&self) -> &VoteIn<L>
         ensures { result.now ≡ self.now.vote }
     {
         &self.vote
     }
 
-    /// Takes a greater log id that is applied now: `log_id_below` of the field and it is true.
+    /// Takes a greater log id that is now applied. It requires that `log_id_below` is true of the
+    /// field and the new log id.
     pub fn update_applied(&mut self, log_id: Option<LogIdOf<C>>)
         requires { IsTrue (id_lt C.cmp self.old.applied log_id) }
         ensures { self.new ≡ record self.old { applied = log_id } }
@@ -80,15 +81,15 @@ impl<L: Copy, C: Ord + Copy> IOStateIn<L, C> {
         self.applied = log_id;
     }
 
-    /// The last log id that is applied.
+    /// Returns the last log id that is applied.
     pub fn applied(&self) -> Option<&LogIdOf<C>>
         ensures { option_copied result ≡ self.now.applied }
     {
         self.applied.as_ref()
     }
 
-    /// Takes a greater log id that is the last one in the snapshot on disk now: `log_id_below` of
-    /// the field and it is true.
+    /// Takes a greater log id that is now the last one in the snapshot on disk. It requires that
+    /// `log_id_below` is true of the field and the new log id.
     pub fn update_snapshot(&mut self, log_id: Option<LogIdOf<C>>)
         requires { IsTrue (id_lt C.cmp self.old.snapshot log_id) }
         ensures { self.new ≡ record self.old { snapshot = log_id } }
@@ -96,7 +97,7 @@ impl<L: Copy, C: Ord + Copy> IOStateIn<L, C> {
         self.snapshot = log_id;
     }
 
-    /// The last log id in the snapshot that is on disk.
+    /// Returns the last log id in the snapshot that is on disk.
     pub fn snapshot(&self) -> Option<&LogIdOf<C>>
         ensures { option_copied result ≡ self.now.snapshot }
     {
@@ -117,14 +118,14 @@ impl<L: Copy, C: Ord + Copy> IOStateIn<L, C> {
         self.building_snapshot
     }
 
-    /// Takes the last log id that is purged from disk now.
+    /// Takes the last log id that is now purged from disk.
     pub fn update_purged(&mut self, log_id: Option<LogIdOf<C>>)
         ensures { self.new ≡ record self.old { purged = log_id } }
     {
         self.purged = log_id;
     }
 
-    /// The last log id that is purged from disk.
+    /// Returns the last log id that is purged from disk.
     pub fn purged(&self) -> Option<&LogIdOf<C>>
         ensures { option_copied result ≡ self.now.purged }
     {
@@ -132,7 +133,7 @@ impl<L: Copy, C: Ord + Copy> IOStateIn<L, C> {
     }
 }
 
-// By hand, for the name that the type goes by.
+// Handwritten, because the text has the name `IOState` and not `IOStateIn`.
 impl<L: fmt::Debug, C: fmt::Debug> fmt::Debug for IOStateIn<L, C> {
     fn fmt<W: fmt::Write>(&self, f: &mut fmt::Formatter<W>) -> fmt::Result {
         f.debug_struct("IOState")

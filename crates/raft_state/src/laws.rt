@@ -1,9 +1,9 @@
-//! What holds of every log, as a contract: a caller that needs the fact calls its function, which
-//! does nothing.
+//! Laws of logs. A caller that needs one in a proof calls its function, which does nothing.
 ghost use Rattle.raft_state.specs.Sending.{SendsFromLog};
 
-/// Over a log that has all its log ids from the purge point on, a send puts logs in flight from its
-/// start to its end, each end by its log id in the log, or the snapshot, and never nothing.
+/// Over a log that has all its log ids from the purge point on, a send puts in flight either the
+/// logs from its start to its end, with the log ids of the log at both ends, or the snapshot. It
+/// never puts nothing in flight.
 ///
 /// A valid state whose purge point is in its log is such a log.
 pub fn sends_from_log<C: Ord>()

@@ -1,4 +1,4 @@
-//! Who leads, as a state's vote and its effective membership say.
+//! The leader of a node, according to its vote and its effective membership.
 ghost use Rattle.std.specs.Prelude.{◌≡◌, ◌&&◌, IfOk, IsOk, None, Some};
 ghost use Rattle.std.specs.Set.{ClonesAreEqual};
 ghost use Rattle.raft_members.specs.Majority.{is_voter_of};
@@ -18,7 +18,7 @@ impl<
     C: Ord + Copy + Default + Drop + 'static,
     L: LeaderIdentity<Id = NID, Committed = C> + Drop,
 > RaftStateIn<NID, N, I, L, C> {
-    /// What the node of an id is, as its vote and the effective membership say.
+    /// Returns the role of the node of an id, according to the vote and the effective membership.
     pub fn calc_server_state(&self, id: &NID) -> ServerState
         ensures { result ≡ server_state_of NID.eq NID.cmp L.voted
             (in_effect self.now.membership_state) (vote_of self.now) id.now }
@@ -43,8 +43,8 @@ impl<
     }
 
     /// Whether the node of an id leads or asks to lead: it has a node in the effective membership,
-    /// and the vote is for it. It need not be a voter: a leader that a change keeps as a learner leads
-    /// on until another vote, or a membership without it, takes its place.
+    /// and the vote is for it. It need not be a voter. A leader that a change keeps as a learner
+    /// continues to lead until another vote, or a membership without it, takes its place.
     pub fn is_leading(&self, id: &NID) -> bool
         ensures { result ≡ is_leading NID.eq NID.cmp L.voted
             (in_effect self.now.membership_state) (vote_of self.now) id.now }
@@ -52,7 +52,7 @@ impl<
         self.membership_state.contains(id) && L::voted_for(self.vote.get().leader_id()) == Some(*id)
     }
 
-    /// Whether the node of an id is the leader: it is leading, and its vote is committed.
+    /// Whether the node of an id is the leader: it is leading, and the vote is committed.
     pub fn is_leader(&self, id: &NID) -> bool
         ensures { result ≡ (is_leading NID.eq NID.cmp L.voted
             (in_effect self.now.membership_state) (vote_of self.now) id.now
@@ -61,8 +61,8 @@ impl<
         self.is_leading(id) && self.vote.get().is_committed()
     }
 
-    /// The node that requests belong to: the one that a committed vote is for, if the membership in
-    /// effect has it. Where there is none, no memory is taken.
+    /// Returns the node that a committed vote is for, if the effective membership has it. Requests
+    /// for the leader are forwarded to it. If there is no such node, nothing is allocated.
     pub fn forward_to_leader(&self) -> Result<ForwardToLeader<NID, N>, AllocError>
         requires { ClonesAreEqual N.eq N.is_clone }
         ensures node { IfOk result (ForwardsTo N.eq (known_leader NID.cmp L.voted

@@ -1,5 +1,5 @@
-//! What a Raft node keeps of its own log and its own state, as plain data: its log ids, its
-//! memberships, its snapshot, its vote, and how far its storage has got.
+//! The log and the state of a Raft node, as plain data: its log ids, its memberships, its snapshot,
+//! its vote, and the progress of its storage.
 #![tactic(auto)]
 
 pub mod accepted;

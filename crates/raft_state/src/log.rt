@@ -1,4 +1,4 @@
-//! The edits and the look-ups of a state's log: what is appended, committed and purged, and where
+//! Changes of a state's log, and look-ups in it: what is appended, committed and purged, and where
 //! entries conflict.
 ghost use Rattle.std.specs.Prelude.{◌≡◌, ◌+◌, ◌<◌, ◌≤◌, ℕ, true, false, IsTrue, IfOk, IfNone, IfSome, IsOk, OnOk, OnErr, None, Some, [], map, max, length, take, slice_get, nat_le, nat_lt, if◌then◌else◌};
 ghost use Rattle.std.specs.List.{list_all, prefix_len};
@@ -26,13 +26,13 @@ use raft_base::{Instant, LogIdOf, LogStateReader, Node, NodeId, RaftLogId};
 use std::alloc::AllocError;
 
 impl<NID: NodeId, N: Node, I: Instant, L: Drop, C: Ord + Copy + Drop> RaftStateIn<NID, N, I, L, C> {
-    /// Appends log ids of one leader to the log, as `LogIdListOf::extend_from_same_leader`;
-    /// `log_ids.can_extend_from_same_leader` tests them.
+    /// Appends log ids of one leader to the log, as `LogIdListOf::extend_from_same_leader`. It
+    /// requires `log_ids.can_extend_from_same_leader`.
     ///
     /// A valid state stays valid, and a sound one sound, if an empty log begins at index 0. Missing
-    /// indexes are given to the last leader before them. Memberships stay as they are: if the entries
-    /// store memberships, call `append_entries` instead, which makes these effective too. Otherwise
-    /// the state counts by old quorums.
+    /// indexes get the leader of the log id before them. Memberships stay as they are: if the
+    /// entries store memberships, call `append_entries` instead, which makes these effective too.
+    /// Otherwise the state counts by old quorums.
     pub fn extend_log_ids_from_same_leader<LID: RaftLogId<C>>(
         &mut self,
         new_log_ids: &[LID],
@@ -58,13 +58,13 @@ impl<NID: NodeId, N: Node, I: Instant, L: Drop, C: Ord + Copy + Drop> RaftStateI
             IsSound C.eq C.cmp self.new }
         ensures no_memory { new_log_ids.now ≡ [] → IsOk result }
     {
-        // Read for the proof alone: by its contract the keys are in order.
+        // This read is for the proof: by its contract the keys are in order.
         let _keys = self.log_ids.key_log_ids();
         self.log_ids.extend_from_same_leader(new_log_ids)?;
         Ok(())
     }
 
-    /// Appends log ids to the log, as `LogIdListOf::extend`; `log_ids.can_extend` tests them.
+    /// Appends log ids to the log, as `LogIdListOf::extend`. It requires `log_ids.can_extend`.
     ///
     /// Memberships stay as they are, a valid state valid, and a sound state sound, as with
     /// `extend_log_ids_from_same_leader`.
@@ -93,14 +93,14 @@ impl<NID: NodeId, N: Node, I: Instant, L: Drop, C: Ord + Copy + Drop> RaftStateI
             IsSound C.eq C.cmp self.new }
         ensures no_memory { new_log_ids.now ≡ [] → IsOk result }
     {
-        // Read for the proof alone: by its contract the keys are in order.
+        // This read is for the proof: by its contract the keys are in order.
         let _keys = self.log_ids.key_log_ids();
         self.log_ids.extend(new_log_ids)?;
         Ok(())
     }
 
-    /// Whether `update_committed` may be called with a log id: it is not greater than the committed
-    /// one, or the memberships allow it.
+    /// Whether the precondition of `update_committed` holds: the log id is not greater than the
+    /// committed one, or `membership_state.can_commit` is true of it.
     pub fn can_commit(&self, log_id: &Option<LogIdOf<C>>) -> bool
         ensures { result ≡ state_may_commit C.cmp log_id.now self.now }
     {
@@ -111,11 +111,11 @@ impl<NID: NodeId, N: Node, I: Instant, L: Drop, C: Ord + Copy + Drop> RaftStateI
         }
     }
 
-    /// Takes a greater committed log id, commits the effective membership if that is not past it, and
-    /// returns the log id that was committed before. Another log id changes nothing, and nothing is
-    /// returned. It may be called if `can_commit` is true. Memory may be allocated only if a
-    /// membership is committed. If the log id is not past the log, a valid state stays valid. If
-    /// `is_logged` is true of the log id, a sound state stays sound.
+    /// Takes a greater committed log id, commits the effective membership if it is not past the log
+    /// id, and returns the log id that was committed before. Another log id changes nothing, and
+    /// `None` is returned. It requires `can_commit`. It allocates only if a membership is
+    /// committed. If the log id is not past the log, a valid state stays valid. If `is_logged` is
+    /// true of the log id, a sound state stays sound.
     ///
     /// After an error nothing has changed.
     pub fn update_committed(
@@ -139,7 +139,7 @@ impl<NID: NodeId, N: Node, I: Instant, L: Drop, C: Ord + Copy + Drop> RaftStateI
             none_or_logged C.eq (view_of self.new) self.new.committed ≡ true) }
         ensures no_memory { state_commits C.cmp committed.now self.old ≡ false → IsOk result }
     {
-        // Read for the proof alone: by its contract the keys are in order.
+        // This read is for the proof: by its contract the keys are in order.
         let _keys = self.log_ids.key_log_ids();
         if log_id_below(self.committed, *committed) {
             let before = self.committed;
@@ -151,8 +151,8 @@ impl<NID: NodeId, N: Node, I: Instant, L: Drop, C: Ord + Copy + Drop> RaftStateI
         }
     }
 
-    /// Whether `first_conflicting_index` may be called with entries: `can_ask` is true of the log
-    /// id of each.
+    /// Whether the precondition of `first_conflicting_index` holds: `can_ask` is true of the log id
+    /// of each entry.
     pub fn can_ask_all<Ent: RaftLogId<C>>(&self, entries: &[Ent]) -> bool
         ensures { result ≡ list_all (λ e. may_ask C.cmp (view_of self.now) (Ent.id_of e))
             entries.now }
@@ -165,11 +165,12 @@ impl<NID: NodeId, N: Node, I: Instant, L: Drop, C: Ord + Copy + Drop> RaftStateI
         true
     }
 
-    /// Returns the place of the first entry that the log does not have, or the number of entries if
-    /// it has them all. It may be called if `can_ask_all` is true.
+    /// Returns the position of the first entry that the log does not have, or the number of entries
+    /// if it has them all. It requires `can_ask_all`.
     ///
-    /// Log ids up to the committed index are not compared, as in `has_log_id`: what is committed,
-    /// each log has. Use `is_purged_or_logged` to compare a log id with all that is not purged.
+    /// Log ids up to the committed index are not compared, as in `has_log_id`, because each log has
+    /// what is committed. Use `is_purged_or_logged` to compare a log id with all that is not
+    /// purged.
     pub fn first_conflicting_index<Ent: RaftLogId<C>>(&self, entries: &[Ent]) -> usize
         requires { IsTrue (list_all (λ e. may_ask C.cmp (view_of self.now) (Ent.id_of e))
             entries.now) }
@@ -190,10 +191,10 @@ impl<NID: NodeId, N: Node, I: Instant, L: Drop, C: Ord + Copy + Drop> RaftStateI
         entries.len()
     }
 
-    /// Whether the log has the id of an entry.
+    /// Whether the log has the log id of an entry.
     ///
-    /// The range is the one that an earlier look-up found, and is replaced if this one finds another.
-    /// Most entries have the leader of the entry before them, so they need no look-up.
+    /// The range is the one that an earlier look-up found, and is replaced if this one finds
+    /// another. Most entries have the leader of the entry before them, so they need no look-up.
     fn has_entry<Ent: RaftLogId<C>>(&self, entry: &Ent, range: &mut Option<LeaderRange<C>>) -> bool
         requires { IfSome range.old
             (λ r. HasOneLeader (full_log self.now.log_ids) r.leader_id r.first r.last) }
@@ -238,8 +239,8 @@ impl<NID: NodeId, N: Node, I: Instant, L: Drop, C: Ord + Copy + Drop> RaftStateI
         }
     }
 
-    /// Whether `purge_log` may be called with a log id: the list may be purged to it, its index is
-    /// not below the first one, and there is an index after it.
+    /// Whether the precondition of `purge_log` holds: the list may be purged to the log id, its
+    /// index is not below the first index, and there is an index after it.
     pub fn can_purge_log(&self, upto: &LogIdOf<C>) -> bool
         ensures { result ≡ may_purge C.cmp (full_log self.now.log_ids) upto.now }
     {
@@ -252,10 +253,9 @@ impl<NID: NodeId, N: Node, I: Instant, L: Drop, C: Ord + Copy + Drop> RaftStateI
         }
     }
 
-    /// Takes the log as purged up to a log id. It may be called if `can_purge_log` is true. Memory is
-    /// allocated only for an empty log. If the log id at that index is at most the purge point, a
-    /// valid state stays valid. If that index is at most the purge point's, a sound state stays
-    /// sound.
+    /// Marks the log as purged up to a log id. It requires `can_purge_log`. It allocates only for
+    /// an empty log. If the log id at that index is at most the purge point, a valid state stays
+    /// valid. If that index is at most the index of the purge point, a sound state stays sound.
     ///
     /// After an error nothing has changed.
     pub fn purge_log(&mut self, upto: &LogIdOf<C>) -> Result<(), AllocError>
@@ -283,7 +283,7 @@ impl<NID: NodeId, N: Node, I: Instant, L: Drop, C: Ord + Copy + Drop> RaftStateI
             IsTrue (index_le (Some upto.now.index) (index_of self.old.purge_upto)) →
             IsSound C.eq C.cmp self.new }
     {
-        // Read for the proof alone: by its contract the keys are in order.
+        // This read is for the proof: by its contract the keys are in order.
         let _keys = self.log_ids.key_log_ids();
         self.log_ids.purge(upto)?;
         self.purged_next = upto.index + 1;

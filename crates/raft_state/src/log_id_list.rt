@@ -1,4 +1,4 @@
-//! The log ids of a whole log, kept by few of them.
+//! The log ids of a whole log, stored by few keys.
 ghost use Rattle.std.specs.Prelude.{◌≡◌, ℕ, ◌+◌, ◌≤◌, ◌<◌, ◌&&◌, min, max, length, map, [], None, Some, IsOkAnd, IfOk, IfNone, IfSome, IsOk, OnOk, OnErr, IsTrue, nat_eq, nat_le, nat_lt, if◌then◌else◌};
 ghost use Rattle.std.specs.Option.{is_some, option_copied, option_or};
 ghost use Rattle.raft_base.specs.LogId.{id_le};
@@ -21,15 +21,15 @@ use std::alloc::{AllocError, Global};
 use std::fmt;
 use std::marker::Model;
 
-/// The log ids of a log, kept by its keys: the first log id, the first one of
-/// each later leader, and the last one.
+/// The log ids of a log, stored by its keys: the first log id, the first one of each later leader,
+/// and the last one.
 ///
-/// A log id between two keys has the leader of the key before it, so the keys tell the log id at
-/// each index from the first key's to the last key's. That is the full log, of which the contracts
-/// speak. The first log id is mostly that of the last purged entry.
+/// A log id between two keys has the leader of the key before it, so the keys determine the log id
+/// at each index from the first key's to the last key's. These log ids are the full log, of which
+/// the contracts speak. The first log id is mostly that of the last purged entry.
 ///
 /// Keys rise by index and by leader, and only the last two may share a leader. Two lists are equal
-/// if their full logs are, which is exactly where their keys are.
+/// if their full logs are equal, which is exactly if their keys are.
 #[derive(Drop)]
 pub struct LogIdListOf<C: Ord + Copy> {
     key_log_ids: Vec<LogIdOf<C>>,
@@ -51,7 +51,7 @@ impl<C: Ord + Copy> Model for LogIdListOf<C> {
 }
 
 impl<C: Ord + Copy> LogIdListOf<C> {
-    /// The list with these keys, where `is_key_list` is true of them.
+    /// Returns the list with these keys. It requires that `is_key_list` is true of them.
     pub fn new(key_log_ids: Vec<LogIdOf<C>>) -> Self
         requires { IsTrue (may_be_keys C.cmp key_log_ids.items) }
         ensures { result ≡ key_log_ids.items }
@@ -59,8 +59,8 @@ impl<C: Ord + Copy> LogIdListOf<C> {
         LogIdListOf { key_log_ids }
     }
 
-    /// The list without log ids, in place of a `Default`, which
-    /// has no allocator. No memory is taken.
+    /// Returns the list without log ids. It replaces `Default`, which has no allocator. It never
+    /// allocates, so the result is always `Ok`.
     pub fn try_default(alloc: Global) -> Result<Self, AllocError>
         ensures { IsOkAnd result (λ list. full_log list ≡ []) }
     {
@@ -69,7 +69,7 @@ impl<C: Ord + Copy> LogIdListOf<C> {
         })
     }
 
-    /// A list with the same keys.
+    /// Returns a list with the same keys, or an allocation error.
     pub fn try_clone(&self) -> Result<Self, AllocError>
         ensures { IfOk result (λ list. list ≡ self.now) }
     {
@@ -78,9 +78,9 @@ impl<C: Ord + Copy> LogIdListOf<C> {
         Ok(LogIdListOf { key_log_ids })
     }
 
-    /// Appends log ids of one leader, one after the other, where `can_extend_from_same_leader` is
-    /// true. It looks at the first and the last one alone, and takes room for two keys at most, for
-    /// no log ids none.
+    /// Appends log ids of one leader, one after the other. It requires
+    /// `can_extend_from_same_leader`. It reads only the first and the last one, and allocates for
+    /// at most two keys, and for none if there are no log ids.
     pub fn extend_from_same_leader<LID: RaftLogId<C>>(
         &mut self,
         new_ids: &[LID],
@@ -103,7 +103,7 @@ impl<C: Ord + Copy> LogIdListOf<C> {
         Ok(())
     }
 
-    /// Whether these log ids may be appended one after the other, and are of one leader.
+    /// Whether these log ids may be appended one after the other, and have one leader.
     pub fn can_extend_from_same_leader<LID: RaftLogId<C>>(&self, new_ids: &[LID]) -> bool
         ensures { result ≡ all_follow_of_one_leader C.cmp C.eq (last_id (full_log self.now))
             (map LID.id_of new_ids.now) }
@@ -111,8 +111,8 @@ impl<C: Ord + Copy> LogIdListOf<C> {
         self.can_extend(new_ids) && keys::share_leader(new_ids)
     }
 
-    /// Appends log ids, one after the other, where `can_extend` is true. Room is taken first: for
-    /// two keys at most if the log ids have one leader, otherwise for a key each.
+    /// Appends log ids, one after the other. It requires `can_extend`. It allocates first: for at
+    /// most two keys if the log ids have one leader, and otherwise for a key each.
     pub fn extend<LID: RaftLogId<C>>(&mut self, new_ids: &[LID]) -> Result<(), AllocError>
         requires { IsTrue (all_follow C.cmp (last_id (full_log self.old))
             (map LID.id_of new_ids.now)) }
@@ -140,11 +140,11 @@ impl<C: Ord + Copy> LogIdListOf<C> {
         keys::may_all_follow(self.last().copied(), new_ids)
     }
 
-    /// Appends a log id, where `can_append` is true. The indexes that are missing before it go to
-    /// the leader of the last one.
+    /// Appends a log id. It requires `can_append`. Indexes that are missing before it get the
+    /// leader of the last log id.
     ///
-    /// Where the last two log ids share a leader it moves the last key, and takes no memory. So in
-    /// a row of log ids of one leader, none after the second can fail.
+    /// If the last two log ids share a leader, the last key is moved, and nothing is allocated. So
+    /// of several log ids of one leader that are appended in turn, only the first two can fail.
     pub fn append(&mut self, new_log_id: LogIdOf<C>) -> Result<(), AllocError>
         requires { IsTrue (follows C.cmp (last_id (full_log self.old)) new_log_id) }
         ensures ok { OnOk result (IsTrue (same_log C.eq (full_log self.new)
@@ -163,15 +163,15 @@ impl<C: Ord + Copy> LogIdListOf<C> {
         Ok(())
     }
 
-    /// Whether a log id may be appended: the list is empty, or its last one has a
-    /// lesser index and no greater leader.
+    /// Whether a log id may be appended: the list is empty, or its last log id has a lesser index
+    /// and no greater leader.
     pub fn can_append(&self, new_log_id: LogIdOf<C>) -> bool
         ensures { result ≡ follows C.cmp (last_id (full_log self.now)) new_log_id }
     {
         keys::may_follow(self.last().copied(), new_log_id)
     }
 
-    /// Keeps the log ids with index below `at`. It takes no memory.
+    /// Keeps the log ids with an index below `at`. It never allocates.
     pub fn truncate(&mut self, at: u64)
         ensures log { full_log self.new ≡ front (full_log self.old) at }
         ensures last { last_id (full_log self.new)
@@ -185,12 +185,12 @@ impl<C: Ord + Copy> LogIdListOf<C> {
         keys::truncate(&mut self.key_log_ids, at);
     }
 
-    /// Removes the log ids below `upto`, where `can_purge` is true. What remains keeps its leaders,
-    /// also at the index of `upto`.
+    /// Removes the log ids below `upto`. It requires `can_purge`. The remaining log ids keep their
+    /// leaders, even the one at the index of `upto`.
     ///
-    /// Of an empty list, or past the last index, `upto` alone remains; below
-    /// the first index nothing changes, else the first index is then that of
-    /// `upto`. Only an empty list wants memory.
+    /// If the list is empty, or `upto` is past its last index, only `upto` remains. If `upto` is
+    /// below the first index, nothing changes. Otherwise the first index becomes the index of
+    /// `upto`. It allocates only for an empty list.
     pub fn purge(&mut self, upto: &LogIdOf<C>) -> Result<(), AllocError>
         requires { IsTrue (may_be_purged_to C.cmp (last_id (full_log self.old)) upto.now) }
         ensures ok { OnOk result (full_log self.new ≡ log_after_purge (full_log self.old)
@@ -212,8 +212,8 @@ impl<C: Ord + Copy> LogIdListOf<C> {
         Ok(())
     }
 
-    /// Whether the log may be purged up to a log id: its index is not past the last
-    /// one, or its leader is no lesser one.
+    /// Whether the log may be purged up to a log id: its index is not past the last one, or its
+    /// leader is not less than the last one's.
     pub fn can_purge(&self, upto: &LogIdOf<C>) -> bool
         ensures { result ≡ may_be_purged_to C.cmp (last_id (full_log self.now)) upto.now }
     {
@@ -223,7 +223,7 @@ impl<C: Ord + Copy> LogIdListOf<C> {
         }
     }
 
-    /// The log id at an index, if it is there: from the first one's index to the last one's it is.
+    /// Returns the log id at an index, from the first index to the last one, and `None` for others.
     pub fn get(&self, index: u64) -> Option<LogIdOf<C>>
         ensures id { result ≡ id_at (full_log self.now) index }
         ensures found { is_some result ≡ (nat_le (first_index (full_log self.now)) index
@@ -242,21 +242,21 @@ impl<C: Ord + Copy> LogIdListOf<C> {
         keys::range_at(&self.key_log_ids, index)
     }
 
-    /// The first log id, if there is one.
+    /// Returns the first log id, if there is one.
     pub fn first(&self) -> Option<&LogIdOf<C>>
         ensures { option_copied result ≡ first_id (full_log self.now) }
     {
         self.key_log_ids.first()
     }
 
-    /// The last log id, if there is one.
+    /// Returns the last log id, if there is one.
     pub fn last(&self) -> Option<&LogIdOf<C>>
         ensures { option_copied result ≡ last_id (full_log self.now) }
     {
         self.key_log_ids.last()
     }
 
-    /// The keys: at most one more than the log has leaders.
+    /// Returns the keys: at most one more than the log has leaders.
     pub fn key_log_ids(&self) -> &[LogIdOf<C>]
         ensures keys { result.now ≡ self.now }
         ensures canonical { IsTrue (may_be_keys C.cmp result.now) }
@@ -265,8 +265,8 @@ impl<C: Ord + Copy> LogIdListOf<C> {
         &self.key_log_ids
     }
 
-    /// The keys of the last leader: the last two keys where they share a leader, else the last one.
-    /// Two there are exactly where the last two log ids share a leader.
+    /// Returns the keys of the last leader: the last two keys if they share a leader, and otherwise
+    /// the last one. There are two exactly if the last two log ids share a leader.
     pub fn by_last_leader(&self) -> &[LogIdOf<C>]
         ensures keys { result.now ≡ by_last_leader C.eq self.now }
         ensures two_keys { nat_eq (length result.now) 2
@@ -292,7 +292,7 @@ impl<C: Ord + Copy> PartialEq for LogIdListOf<C> {
 
     ghost laws = { partial_equiv_from_equiv (same_full_log-equiv C.Eq.laws) };
 
-    // Equal keys and equal full logs are the same.
+    // Full logs are equal exactly if the keys are.
     fn eq(&self, other: &Self) -> bool {
         self.key_log_ids == other.key_log_ids
     }
@@ -304,7 +304,7 @@ impl<C: Ord + Copy> Eq for LogIdListOf<C> {
     ghost laws = { same_full_log-equiv C.Eq.laws };
 }
 
-// By hand, for the name that the type goes by.
+// Handwritten, because the text has the name `LogIdList` and not `LogIdListOf`.
 impl<C: Ord + Copy + fmt::Debug> fmt::Debug for LogIdListOf<C> {
     fn fmt<W: fmt::Write>(&self, f: &mut fmt::Formatter<W>) -> fmt::Result {
         f.debug_struct("LogIdList")

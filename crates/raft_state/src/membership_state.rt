@@ -27,12 +27,12 @@ use std::marker::Model;
 use std::mem::replace;
 use std::rc::Rc;
 
-/// The last committed membership of a node, and the last one that it has seen, the effective one.
+/// The last committed membership of a node, and the last one in its log, the effective one.
 ///
-/// A membership is effective as soon as it stands in the log, committed or not. It may only be
-/// proposed once the one before it is committed, so at most one is not committed; and where a new
-/// leader cuts that one off, the committed one is effective again. Two states are equal if both
-/// memberships are, with their log ids.
+/// A membership is effective as soon as it is in the log, committed or not. It may only be proposed
+/// after the one before it is committed, so at most one is not committed. If a new leader truncates
+/// that one, the committed one is effective again. Two states are equal if both memberships are
+/// equal, with their log ids.
 #[derive(Drop)]
 pub struct MembershipStateOf<C, NID: NodeId, N: Node> {
     committed: Rc<EffectiveMembershipOf<C, NID, N>>,
@@ -51,7 +51,7 @@ impl<C, NID: NodeId, N: Node> Model for MembershipStateOf<C, NID, N> {
 }
 
 impl<C: Copy + Drop, NID: NodeId, N: Node> MembershipStateOf<C, NID, N> {
-    /// The memberships of a node.
+    /// Returns the memberships of a node.
     pub fn new(
         committed: Rc<EffectiveMembershipOf<C, NID, N>>,
         effective: Rc<EffectiveMembershipOf<C, NID, N>>,
@@ -64,7 +64,8 @@ impl<C: Copy + Drop, NID: NodeId, N: Node> MembershipStateOf<C, NID, N> {
         }
     }
 
-    /// No membership yet, in place of a `Default`, which has no allocator.
+    /// Returns the memberships of a node that has none yet, or an allocation error. It replaces
+    /// `Default`, which has no allocator.
     pub fn try_default(alloc: Global) -> Result<Self, AllocError>
         ensures committed { IfOk result (λ m. IsNoMembership m.committed) }
         ensures effective { IfOk result (λ m. IsNoMembership m.effective) }
@@ -74,7 +75,7 @@ impl<C: Copy + Drop, NID: NodeId, N: Node> MembershipStateOf<C, NID, N> {
         Ok(MembershipStateOf::new(committed, effective))
     }
 
-    /// The same memberships, shared.
+    /// Returns the same memberships, shared, or an allocation error.
     pub fn try_clone(&self) -> Result<Self, AllocError>
         ensures { IfOk result (λ copy. copy ≡ self.now) }
     {
@@ -98,8 +99,8 @@ impl<C: Copy + Drop, NID: NodeId, N: Node> MembershipStateOf<C, NID, N> {
         self.effective.is_voter(id)
     }
 
-    /// Where the requests for a leader go: to its node, if the effective membership has it. Where
-    /// there is none, no memory is taken.
+    /// Returns where the requests for a leader go: to its node, if the effective membership has it.
+    /// If it does not, nothing is allocated.
     pub(crate) fn forward_to(
         &self,
         leader: Option<NID>,
@@ -119,21 +120,21 @@ impl<C: Copy + Drop, NID: NodeId, N: Node> MembershipStateOf<C, NID, N> {
         }
     }
 
-    /// The last committed membership.
+    /// Returns the last committed membership.
     pub fn committed(&self) -> &Rc<EffectiveMembershipOf<C, NID, N>>
         ensures { result.now.value ≡ self.now.committed }
     {
         &self.committed
     }
 
-    /// The effective membership.
+    /// Returns the effective membership.
     pub fn effective(&self) -> &Rc<EffectiveMembershipOf<C, NID, N>>
         ensures { result.now.value ≡ self.now.effective }
     {
         &self.effective
     }
 
-    /// What changes the effective membership.
+    /// Returns the handler that changes the effective membership.
     pub fn change_handler(&self) -> ChangeHandlerOf<'_, C, NID, N>
         ensures { result.state.now ≡ self.now }
     {
@@ -146,8 +147,8 @@ impl<C: Ord + Copy + Drop, NID: NodeId, N: Node> MembershipStateOf<C, NID, N> {
     ghost use Rattle.std.specs.Io.BufRead.{Rests};
     ghost use Rattle.raft_state.specs.contracts.membership_state.MembershipStateOf.{the_row};
 
-    /// Whether `commit` may be called with a log id: where that commits the effective membership,
-    /// its index is not the lesser one. Of the ids of one log this is always so.
+    /// Whether the precondition of `commit` holds: if the effective membership is to be committed,
+    /// the index of the log id is not the lesser one. For log ids of one log this is always so.
     pub fn can_commit(&self, log_id: &Option<LogIdOf<C>>) -> bool
         ensures { result ≡ may_commit C.cmp log_id.now self.now }
     {
@@ -155,11 +156,11 @@ impl<C: Ord + Copy + Drop, NID: NodeId, N: Node> MembershipStateOf<C, NID, N> {
         !log_id_at_most(effective, *log_id) || index_at_most(effective.index(), log_id.index())
     }
 
-    /// Takes the log as committed up to a log id. The effective membership is committed with it, if
-    /// it is not past it: only there can the answer be want of memory, though sharing takes none.
-    /// It may be called where `can_commit` is true.
+    /// Marks the log as committed up to a log id. The effective membership is committed too, if it
+    /// is not past the log id. It requires `can_commit`.
     ///
-    /// After an error nothing has changed.
+    /// It returns an allocation error only if the effective membership is committed, and it shares
+    /// that membership without an allocation. After an error nothing has changed.
     pub fn commit(&mut self, log_id: &Option<LogIdOf<C>>) -> Result<(), AllocError>
         requires { IsTrue (may_commit C.cmp log_id.now self.old) }
         ensures ok { OnOk result (self.new ≡ after_commit C.cmp log_id.now self.old) }
@@ -172,13 +173,13 @@ impl<C: Ord + Copy + Drop, NID: NodeId, N: Node> MembershipStateOf<C, NID, N> {
         Ok(())
     }
 
-    /// Takes over a committed membership that comes with a snapshot of the log up to an index, and
-    /// answers the effective membership if it is not the one from before.
+    /// Takes a committed membership that comes with a snapshot of the log up to an index. Returns
+    /// the effective membership if it is not the one from before.
     ///
-    /// Where the snapshot has the effective membership in it, only the new one is left. Else that
-    /// one may be of a log that conflicts with the leader's, so their indexes are compared and not
-    /// their log ids. Only where the new one takes the place of both can the answer be want of
-    /// memory, though sharing takes none.
+    /// If the snapshot includes the effective membership, only the new one is left. Otherwise the
+    /// effective membership may be from a log that conflicts with the leader's, so their indexes
+    /// are compared, and not their log ids. It returns an allocation error only if the new
+    /// membership replaces both.
     ///
     /// After an error nothing has changed.
     pub fn update_committed(
@@ -203,8 +204,8 @@ impl<C: Ord + Copy + Drop, NID: NodeId, N: Node> MembershipStateOf<C, NID, N> {
         }
     }
 
-    /// Takes over the membership of a snapshot up to an index, as `update_committed` does. True
-    /// where another membership is effective than before.
+    /// Takes the membership of a snapshot up to an index, as `update_committed` does. Returns
+    /// whether another membership is effective than before.
     pub(crate) fn take_over(
         &mut self,
         membership: Rc<EffectiveMembershipOf<C, NID, N>>,
@@ -236,7 +237,7 @@ impl<C: Ord + Copy + Drop, NID: NodeId, N: Node> MembershipStateOf<C, NID, N> {
         Ok(changed)
     }
 
-    /// Puts a membership in the place of both.
+    /// Replaces both memberships.
     fn replace_both(
         &mut self,
         membership: Rc<EffectiveMembershipOf<C, NID, N>>,
@@ -250,8 +251,8 @@ impl<C: Ord + Copy + Drop, NID: NodeId, N: Node> MembershipStateOf<C, NID, N> {
         Ok(())
     }
 
-    /// Whether `append` may be called with a membership: it has a greater log id and a greater
-    /// index than the effective one.
+    /// Whether the precondition of `append` holds: the membership has a greater log id and a
+    /// greater index than the effective one.
     pub fn can_append(&self, membership: &EffectiveMembershipOf<C, NID, N>) -> bool
         ensures { result ≡ may_append C.cmp membership.now self.now }
     {
@@ -260,9 +261,9 @@ impl<C: Ord + Copy + Drop, NID: NodeId, N: Node> MembershipStateOf<C, NID, N> {
         log_id_below(effective, new) && index_below(effective.index(), new.index())
     }
 
-    /// Makes a membership effective that was added to the log. The one before it is committed, for
-    /// else the new one could not have been proposed. No memory is taken. It may be called where
-    /// `can_append` is true.
+    /// Makes a membership effective that was added to the log. The membership before it becomes the
+    /// committed one, because otherwise the new one could not have been proposed. It requires
+    /// `can_append`. It never allocates.
     pub fn append(&mut self, membership: Rc<EffectiveMembershipOf<C, NID, N>>)
         requires { IsTrue (may_append C.cmp membership.value self.old) }
         ensures { self.new ≡ after_append membership.value self.old }
@@ -270,19 +271,18 @@ impl<C: Ord + Copy + Drop, NID: NodeId, N: Node> MembershipStateOf<C, NID, N> {
         self.committed = replace(&mut self.effective, membership);
     }
 
-    /// Whether `truncate` may be called with an index: it is past the committed membership.
+    /// Whether the precondition of `truncate` holds: the index is past the committed membership.
     pub fn can_truncate(&self, since: u64) -> bool
         ensures { result ≡ index_lt (index_at self.now.committed) (Some since) }
     {
         index_below(self.committed.log_id().index(), Some(since))
     }
 
-    /// Takes the log as cut off from an index on, which is past the committed membership. Where the
-    /// effective membership is cut off with it, the committed one is effective again and is
-    /// answered: only there can the answer be want of memory, though sharing takes none. It may be
-    /// called where `can_truncate` is true.
+    /// Marks the log as truncated from an index on. If the effective membership is truncated too,
+    /// the committed one is effective again and is returned. It requires `can_truncate`.
     ///
-    /// After an error nothing has changed.
+    /// It returns an allocation error only if the effective membership is truncated. After an error
+    /// nothing has changed.
     pub fn truncate(
         &mut self,
         since: u64,
@@ -303,8 +303,8 @@ impl<C: Ord + Copy + Drop, NID: NodeId, N: Node> MembershipStateOf<C, NID, N> {
         }
     }
 
-    /// Takes the log as cut off from an index on, as `truncate` does. True where the committed
-    /// membership is effective again.
+    /// Marks the log as truncated from an index on, as `truncate` does. Returns whether the
+    /// committed membership is effective again.
     pub(crate) fn revert(&mut self, since: u64) -> Result<bool, AllocError>
         ensures ok { OnOk result (self.new ≡ after_truncate since self.old) }
         ensures reverted { IfOk result (λ reverted. reverted ≡ is_cut since self.old) }
@@ -320,7 +320,8 @@ impl<C: Ord + Copy + Drop, NID: NodeId, N: Node> MembershipStateOf<C, NID, N> {
     }
 }
 
-/// The committed membership is not above the effective one, by log id and by index.
+/// In a valid state the committed membership is not above the effective one, by log id and by
+/// index.
 impl<C: Ord + Copy + Drop, NID: NodeId, N: Node> Validate for MembershipStateOf<C, NID, N> {
     ghost broken = { λ m. first_false (membership_relations C.cmp m) };
 
@@ -360,7 +361,7 @@ impl<C: Copy + Eq + Drop, NID: NodeId, N: Node> Eq for MembershipStateOf<C, NID,
     ghost laws = { same_memberships-equiv C.Eq.laws NID.Eq.laws N.Eq.laws };
 }
 
-// By hand, for the name that the type goes by.
+// Handwritten, because the text has the name `MembershipState` and not `MembershipStateOf`.
 impl<C: fmt::Debug, NID: NodeId, N: Node> fmt::Debug for MembershipStateOf<C, NID, N> {
     fn fmt<W: fmt::Write>(&self, f: &mut fmt::Formatter<W>) -> fmt::Result {
         f.debug_struct("MembershipState")

@@ -1,5 +1,5 @@
-//! The whole state of a node: how it is made and read. Its other calls are in `append`, `catch_up`,
-//! `install`, `leads`, `log`, `snapshot`, `sound`, `truncate` and `validate`.
+//! The whole state of a node: how it is made and read. Its other functions are in `append`,
+//! `catch_up`, `install`, `leads`, `log`, `snapshot`, `sound`, `truncate` and `validate`.
 ghost use Rattle.std.specs.Prelude.{◌≡◌, ◌&&◌, true, false, IsTrue, IfOk, None, Some, if◌then◌else◌};
 ghost use Rattle.std.specs.Option.{option_copied};
 ghost use Rattle.std.specs.Ordering.{partial_ge};
@@ -35,17 +35,17 @@ use raft_base::{
 use std::alloc::{AllocError, Global};
 use std::fmt;
 
-/// The whole state of a node, as it is once storage has done all that it was told.
+/// The whole state of a node, as it is after storage has done all that it was told to do.
 ///
-/// A node decides by this state and not by what is on disk, which may be behind: `io_state` says
-/// how far storage has got.
+/// A node decides by this state and not by what is on disk, which may be behind. The progress of
+/// storage is in `io_state`.
 #[derive(PartialEq, Eq, Drop)]
 pub struct RaftStateIn<NID: NodeId, N: Node, I: Instant, L, C: Ord + Copy> {
     /// The vote, and the moment of its last update.
     pub vote: UTime<VoteIn<L>, I>,
     /// The last log id that is known to be committed.
     pub committed: Option<LogIdOf<C>>,
-    /// The index after the last purged one, and 0 where nothing was purged.
+    /// The index after the last purged one, or 0 if nothing was purged.
     pub purged_next: u64,
     /// The log ids, from the last purged one on.
     pub log_ids: LogIdListOf<C>,
@@ -53,18 +53,18 @@ pub struct RaftStateIn<NID: NodeId, N: Node, I: Instant, L, C: Ord + Copy> {
     pub membership_state: MembershipStateOf<C, NID, N>,
     /// The last snapshot.
     pub snapshot_meta: SnapshotMetaOf<C, NID, N>,
-    /// What the node is, as it was last calculated. Only a caller writes it, by `calc_server_state`,
-    /// when the vote or a membership has changed.
+    /// The role of the node, as it was last calculated. Only the caller writes it, by
+    /// `calc_server_state`, when the vote or a membership has changed.
     pub server_state: ServerState,
     /// What the node has accepted of the leader's log.
     pub accepted: AcceptedIn<L, C>,
-    /// How far storage has got. Only a caller writes it, when storage has done something.
+    /// The progress of storage. Only the caller writes it, when storage has done something.
     pub io_state: IOStateIn<L, C>,
-    /// The log id up to which the log is to be purged, as soon as nobody reads it.
+    /// The log id up to which the log is to be purged, when nobody reads it any more.
     pub purge_upto: Option<LogIdOf<C>>,
 }
 
-/// The state of a node over a kind of leader ids.
+/// The state of a node, for a kind of leader ids.
 pub type RaftStateOf<NID, N, I, K> = RaftStateIn<
     NID,
     N,
@@ -73,7 +73,7 @@ pub type RaftStateOf<NID, N, I, K> = RaftStateIn<
     <K as LeaderKind<NID>>::Committed,
 >;
 
-/// The state of a node over the default leader ids.
+/// The state of a node, with the default leader ids.
 pub type RaftState<NID, N, I> = RaftStateOf<NID, N, I, LeaderAdv>;
 
 impl<NID: NodeId, N: Node, I: Instant, L: Drop, C: Ord + Copy + Drop> LogStateReader<C>
@@ -151,8 +151,8 @@ impl<
     C: Ord + Copy + Default + Drop + 'static,
     L: LeaderIdentity<Id = NID, Committed = C> + Drop,
 > RaftStateIn<NID, N, I, L, C> {
-    /// The state of a new node, in place of a `Default`, which has no allocator. Its vote is of term
-    /// 0, before each term in which a node votes.
+    /// Returns the state of a new node, or an allocation error. It replaces `Default`, which has no
+    /// allocator. Its vote is of term 0, before each term in which a node votes.
     pub fn try_default(alloc: Global) -> Result<Self, AllocError>
         ensures new { IfOk result IsNewState }
         ensures new_vote { IfOk result (λ s. (leader : L) × (elected : C)
@@ -162,7 +162,7 @@ impl<
         ensures valid { IfOk result (λ s. broken_relation C.cmp s ≡ None) }
         ensures sound { IfOk result (IsSound C.eq C.cmp) }
     {
-        // What can be refused is made first, so that little is owned at each way out.
+        // What may fail is made first, so that little is owned at each exit.
         let membership_state = MembershipStateOf::try_default(alloc)?;
         let snapshot_meta = SnapshotMetaOf::try_default(alloc)?;
         let leader_id = L::default();
@@ -185,7 +185,8 @@ impl<
         })
     }
 
-    /// The same state, with the memberships shared and with clones of the nodes in the snapshot's.
+    /// Returns an equal state, with the memberships shared and with clones of the nodes in the
+    /// snapshot's membership, or an allocation error.
     pub fn try_clone(&self) -> Result<Self, AllocError>
         requires { ClonesAreEqual N.eq N.is_clone }
         ensures snapshot { IfOk result (λ copy.
@@ -196,8 +197,8 @@ impl<
         self.with_snapshot_meta(self.snapshot_meta.try_clone()?)
     }
 
-    /// Whether the node has a log or has ever voted. Only a node that is not initialized may begin
-    /// a new cluster.
+    /// Whether the node has a log or has voted. Only a node that is not initialized may start a new
+    /// cluster.
     pub fn is_initialized(&self) -> bool
         ensures { (unset : L) × L.Default.is_default unset × (result
             ≡ is_initialized L.eq (full_log self.now.log_ids) (vote_of self.now) unset) }
@@ -207,7 +208,7 @@ impl<
         self.log_ids.last().is_some() || vote.committed || vote.leader_id != unset
     }
 
-    /// The last log id that was accepted of the vote's leader.
+    /// Returns the last log id that was accepted from the vote's leader.
     pub fn accepted(&self) -> Option<&LogIdOf<C>>
         ensures { option_copied result
             ≡ accepted_id L.eq self.now.accepted (vote_of self.now).leader_id }
@@ -216,8 +217,8 @@ impl<
             .last_accepted_log_id(self.vote.get().leader_id())
     }
 
-    /// Whether `update_accepted` may be called: the vote is committed, and its leader is no lesser
-    /// one than that of what was accepted before.
+    /// Whether the preconditions of `update_accepted` hold: the vote is committed, and its leader
+    /// is at least the leader of what was accepted before.
     pub fn can_accept(&self) -> bool
         ensures { result ≡ ((vote_of self.now).committed
             && partial_ge L.order (vote_of self.now).leader_id (leader_of self.now.accepted)) }
@@ -226,13 +227,12 @@ impl<
         vote.is_committed() && is_no_lesser(vote.leader_id(), self.accepted.leader_id())
     }
 
-    /// Takes a log id that was accepted of the vote's leader, if it is greater than the last one. It
-    /// may be called if `can_accept` is true. If the log id is not past the log, a sound state stays
-    /// sound.
+    /// Takes a log id that was accepted from the vote's leader, if it is greater than the last one.
+    /// It requires `can_accept`. If the log id is not past the log, a sound state stays sound.
     ///
-    /// A follower calls this once it has appended a leader's entries, or found that it has them: up
-    /// to there, and no further, its log is the leader's, so it may commit what is committed up to
-    /// there. A leader calls it for each entry that it appends to its own log.
+    /// A follower calls this after it has appended a leader's entries, or has found that it has
+    /// them. Up to that log id, and no further, its log is the leader's, so it may commit what is
+    /// committed up to there. A leader calls it for each entry that it appends to its own log.
     pub fn update_accepted(&mut self, accepted: Option<LogIdOf<C>>)
         requires committed { (vote_of self.old).committed ≡ true }
         requires no_lesser_leader { IsTrue (partial_ge L.order (vote_of self.old).leader_id
@@ -249,10 +249,10 @@ impl<
         self.accepted.update(leader_id, accepted);
     }
 
-    /// Promises a vote, if it is at least the present one, and returns whether it did. The moment of
-    /// the vote's last update stays. A sound state stays sound.
+    /// Promises a vote, if it is at least the present one, and returns whether it did. The moment
+    /// of the vote's last update stays. A sound state stays sound.
     ///
-    /// A vote never falls: a node that has promised a vote takes nothing from a lesser leader.
+    /// A vote never falls: a node that has promised a vote accepts nothing from a lesser leader.
     pub fn promise(&mut self, vote: VoteIn<L>) -> bool
         ensures answer { result ≡ partial_ge (vote_cmp L.order) vote (vote_of self.old) }
         ensures taken { self.new ≡ (if result
@@ -275,21 +275,21 @@ impl<NID: NodeId, N: Node, I: Instant, L: Drop, C: Ord + Copy + Drop> RaftStateI
     ghost use Rattle.raft_state.specs.contracts.raft_state.RaftStateIn.{the_row};
     ghost use Rattle.raft_state.specs.contracts.io_state.IOStateIn.{the_row as the_io_row};
 
-    /// The vote.
+    /// Returns the vote.
     pub fn vote_ref(&self) -> &VoteIn<L>
         ensures { result.now ≡ vote_of self.now }
     {
         self.vote.get()
     }
 
-    /// The moment of the vote's last update, if there was one.
+    /// Returns the moment of the vote's last update, if there was one.
     pub fn vote_last_modified(&self) -> Option<I>
         ensures { result ≡ moment_of self.now.vote }
     {
         self.vote.utime()
     }
 
-    /// How far storage has got, to be written. Nothing else changes.
+    /// Lends the progress of storage for writing. Nothing else changes.
     pub fn io_state_mut(&mut self) -> &mut IOStateIn<L, C>
         ensures* written { sem 𝓛 (Lends (the_row NID.row N.row I.row L.row C.row NID.PartialEq
             NID.Ord.own NID.PartialOrd.own NID.Debug NID.Display NID.Hash.own NID.Default
@@ -301,7 +301,7 @@ impl<NID: NodeId, N: Node, I: Instant, L: Drop, C: Ord + Copy + Drop> RaftStateI
         &mut self.io_state
     }
 
-    /// How far storage has got.
+    /// Returns the progress of storage.
     pub fn io_state(&self) -> &IOStateIn<L, C>
         ensures { result.now ≡ self.now.io_state }
     {
@@ -310,7 +310,7 @@ impl<NID: NodeId, N: Node, I: Instant, L: Drop, C: Ord + Copy + Drop> RaftStateI
 }
 
 impl<NID: NodeId, N: Node, I: Instant, L: Copy, C: Ord + Copy + Drop> RaftStateIn<NID, N, I, L, C> {
-    /// The same state with another snapshot. The memberships are shared.
+    /// Returns an equal state with another snapshot. The memberships are shared.
     fn with_snapshot_meta(
         &self,
         snapshot_meta: SnapshotMetaOf<C, NID, N>,
@@ -335,7 +335,7 @@ impl<NID: NodeId, N: Node, I: Instant, L: Copy, C: Ord + Copy + Drop> RaftStateI
     }
 }
 
-/// The same vote, with its moment.
+/// Returns an equal vote with its moment.
 fn same_vote<L: Copy, I: Instant>(vote: &UTime<VoteIn<L>, I>) -> UTime<VoteIn<L>, I>
     ensures { result ≡ vote.now }
 {
@@ -345,7 +345,7 @@ fn same_vote<L: Copy, I: Instant>(vote: &UTime<VoteIn<L>, I>) -> UTime<VoteIn<L>
     }
 }
 
-/// The memberships are shared, and the nodes in the snapshot's are cloned.
+/// A clone shares the memberships, and clones the nodes in the snapshot's membership.
 impl<NID: NodeId, N: Node, I: Instant, L: Copy, C: Ord + Copy + Drop> Clone
     for RaftStateIn<NID, N, I, L, C> {
     ghost is_clone = { λ state copy.
@@ -357,7 +357,7 @@ impl<NID: NodeId, N: Node, I: Instant, L: Copy, C: Ord + Copy + Drop> Clone
     }
 }
 
-// By hand, for the name that the type goes by.
+// Handwritten, because the text has the name `RaftState` and not `RaftStateIn`.
 impl<NID: NodeId, N: Node, I: Instant, L: fmt::Debug, C: Ord + Copy + fmt::Debug> fmt::Debug
     for RaftStateIn<NID, N, I, L, C> {
     fn fmt<W: fmt::Write>(&self, f: &mut fmt::Formatter<W>) -> fmt::Result {

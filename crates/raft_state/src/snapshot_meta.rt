@@ -1,4 +1,4 @@
-//! What is known of a snapshot.
+//! The metadata of a snapshot.
 ghost use Rattle.std.specs.Prelude.{IfOk, IsOkAnd};
 ghost use Rattle.std.specs.Set.{ClonesAreEqual};
 
@@ -7,24 +7,25 @@ use raft_members::StoredMembershipOf;
 use std::alloc::{AllocError, Global};
 use std::fmt;
 
-/// What is known of a snapshot of the state machine: how far it goes, and the membership there.
+/// The metadata of a snapshot of the state machine: its last log id, and the membership there.
 #[derive(Clone, PartialEq, Eq, Drop)]
 pub struct SnapshotMetaOf<C, NID: NodeId, N: Node> {
     /// The last log id that is in the snapshot.
     pub last_log_id: Option<LogIdOf<C>>,
     /// The last membership that is in the snapshot.
     pub last_membership: StoredMembershipOf<C, NID, N>,
-    /// The name of the snapshot. Two that differ in it may differ in their bytes.
+    /// The name of the snapshot. Snapshots with different names may have different bytes.
     pub snapshot_id: String,
 }
 
-/// What is known of a snapshot, with the default leader ids.
+/// The metadata of a snapshot, with the default leader ids.
 pub type SnapshotMeta<NID, N> = SnapshotMetaOf<CommittedLeaderId<NID>, NID, N>;
 
 impl<C: Copy, NID: NodeId, N: Node> SnapshotMetaOf<C, NID, N> {
     ghost use Rattle.raft_state.specs.SnapshotMeta.{IsNoSnapshot, IsSnapshotCopy};
 
-    /// No snapshot, in place of a `Default`, which has no allocator. No memory is taken.
+    /// Returns the metadata of no snapshot. It replaces `Default`, which has no allocator. It never
+    /// allocates, so the result is always `Ok`.
     pub fn try_default(alloc: Global) -> Result<Self, AllocError>
         ensures { IsOkAnd result IsNoSnapshot }
     {
@@ -35,7 +36,7 @@ impl<C: Copy, NID: NodeId, N: Node> SnapshotMetaOf<C, NID, N> {
         })
     }
 
-    /// What is known of the same snapshot, with clones of the nodes.
+    /// Returns equal metadata with clones of the nodes, or an allocation error.
     pub fn try_clone(&self) -> Result<Self, AllocError>
         requires { ClonesAreEqual N.eq N.is_clone }
         ensures { IfOk result (IsSnapshotCopy NID.eq N.eq self.now) }
@@ -48,7 +49,7 @@ impl<C: Copy, NID: NodeId, N: Node> SnapshotMetaOf<C, NID, N> {
     }
 }
 
-// By hand, for the name that the type goes by.
+// Handwritten, because the text has the name `SnapshotMeta` and not `SnapshotMetaOf`.
 impl<C: fmt::Debug, NID: NodeId, N: Node> fmt::Debug for SnapshotMetaOf<C, NID, N> {
     fn fmt<W: fmt::Write>(&self, f: &mut fmt::Formatter<W>) -> fmt::Result {
         f.debug_struct("SnapshotMeta")

@@ -1,4 +1,4 @@
-//! When an engine may build on a state, and which log ids its log has.
+//! Sound states, and which log ids a log has.
 ghost use Rattle.std.specs.Prelude.{◌≡◌, ◌↔◌, IsTrue};
 ghost use Rattle.raft_state.specs.Inner.SoundTest.{passes_sound};
 ghost use Rattle.raft_state.specs.Sound.{IsSound, purged_or_logged};
@@ -10,12 +10,12 @@ use raft_base::order::{log_id_at_most, same_optional_log_ids};
 use raft_base::{Instant, LogIdOf, Node, NodeId, Validate};
 
 impl<NID: NodeId, N: Node, I: Instant, L: Drop, C: Ord + Copy + Drop> RaftStateIn<NID, N, I, L, C> {
-    /// Whether the state is sound, which is what an engine may build on: the state is valid, its log
-    /// has the purge point and the committed log id, what was accepted is not past the log, both
-    /// memberships are purged or in the log, and the effective membership is the committed one if
-    /// its log id is at most the committed log id.
+    /// Whether the state is sound, which is what an engine may build on: the state is valid, its
+    /// log has the purge point and the committed log id, what was accepted is not past the log,
+    /// both memberships are purged or in the log, and the effective membership is the committed one
+    /// if its log id is at most the committed log id.
     ///
-    /// A new state is sound, and the calls that change a state keep it sound: each under the
+    /// A new state is sound, and the functions that change a state keep it sound: each under the
     /// condition of its test, and some under one more test, which their documentation names.
     pub fn is_sound(&self) -> bool
         ensures { IsTrue result ↔ IsSound C.eq C.cmp self.now }
@@ -39,8 +39,8 @@ impl<NID: NodeId, N: Node, I: Instant, L: Drop, C: Ord + Copy + Drop> RaftStateI
                 || same_optional_log_ids(effective, committed))
     }
 
-    /// Whether a log id is absent, or the log has it at its index. Of what is purged the log has the
-    /// last log id alone.
+    /// Whether a log id is absent, or the log has it at its index. Of what is purged the log has
+    /// only the last log id.
     pub fn is_logged(&self, log_id: &Option<LogIdOf<C>>) -> bool
         ensures { result ≡ none_or_logged C.eq (view_of self.now) log_id.now }
     {
@@ -52,7 +52,7 @@ impl<NID: NodeId, N: Node, I: Instant, L: Drop, C: Ord + Copy + Drop> RaftStateI
 
     /// Whether a log id is absent, its index is purged, or the log has it at its index.
     ///
-    /// It compares also log ids up to the committed index, which `has_log_id` takes as known.
+    /// It also compares log ids up to the committed index, which `has_log_id` takes as known.
     pub fn is_purged_or_logged(&self, log_id: &Option<LogIdOf<C>>) -> bool
         ensures { result ≡ purged_or_logged C.eq self.now log_id.now }
     {

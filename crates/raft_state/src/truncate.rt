@@ -1,4 +1,4 @@
-//! Cutting off the end of a log, with the memberships in it.
+//! Truncating a log, with the memberships in it.
 ghost use Rattle.std.specs.Prelude.{◌≡◌, ◌<◌, ℕ, None, false, true, IsTrue, IfOk, IsOk, OnOk, OnErr};
 ghost use Rattle.raft_state.specs.Accepted.{accepted_upto};
 ghost use Rattle.raft_state.specs.FullLog.{full_log};
@@ -17,11 +17,12 @@ use raft_base::{Instant, LogIdOf, LogIdOptionExt, Node, NodeId};
 use std::alloc::AllocError;
 
 impl<NID: NodeId, N: Node, I: Instant, L: Drop, C: Ord + Copy + Drop> RaftStateIn<NID, N, I, L, C> {
-    /// Whether `truncate_log` may be called with an index: it is past what is committed, the
-    /// committed log id is not above the last one that stays, and the memberships may be cut there.
+    /// Whether the precondition of `truncate_log` holds: the index is past what is committed, the
+    /// committed log id is not above the last one that stays, and `membership_state.can_truncate`
+    /// is true of the index.
     ///
-    /// The second says more than the first only where the committed log id is not in the log: log
-    /// ids compare by their leaders first.
+    /// The second condition follows from the first if the committed log id is in the log. Otherwise
+    /// it need not, because log ids are compared by their leaders first.
     pub fn can_truncate_log(&self, since: u64) -> bool
         ensures { result ≡ may_truncate C.cmp since self.now }
     {
@@ -31,10 +32,10 @@ impl<NID: NodeId, N: Node, I: Instant, L: Drop, C: Ord + Copy + Drop> RaftStateI
     }
 
     /// Truncates the log from an index on, as a follower does with log ids that conflict with the
-    /// leader's. It may be called if `can_truncate_log` is true. What was accepted past the log's new
-    /// end is accepted only up to that end. Returns whether the effective membership was truncated
-    /// too, in which case the committed one is effective again: only then may memory be allocated.
-    /// A valid state stays valid, and a sound one sound.
+    /// leader's. It requires `can_truncate_log`. What was accepted past the log's new end is then
+    /// accepted only up to that end. Returns whether the effective membership was truncated too, in
+    /// which case the committed one is effective again. It allocates only then. A valid state stays
+    /// valid, and a sound one sound.
     ///
     /// After an error nothing has changed.
     pub fn truncate_log(&mut self, since: u64) -> Result<bool, AllocError>
@@ -59,7 +60,7 @@ impl<NID: NodeId, N: Node, I: Instant, L: Drop, C: Ord + Copy + Drop> RaftStateI
             none_or_logged C.eq (view_of self.new) self.new.committed ≡ true) }
         ensures no_memory { is_cut since self.old.membership_state ≡ false → IsOk result }
     {
-        // Read for the proof alone: by its contract the keys are in order.
+        // This read is for the proof: by its contract the keys are in order.
         let _keys = self.log_ids.key_log_ids();
         let reverted = self.membership_state.revert(since)?;
         self.log_ids.truncate(since);
@@ -68,11 +69,11 @@ impl<NID: NodeId, N: Node, I: Instant, L: Drop, C: Ord + Copy + Drop> RaftStateI
     }
 }
 
-/// The last log id with an index below this one, if there is one.
+/// Returns the last log id with an index below this one, if there is one.
 pub(crate) fn last_below<C: Ord + Copy>(log_ids: &LogIdListOf<C>, index: u64) -> Option<LogIdOf<C>>
     ensures { result ≡ last_id (front (full_log log_ids.now) index) }
 {
-    // Read for the proof alone: by its contract the keys are in order.
+    // This read is for the proof: by its contract the keys are in order.
     let _keys = log_ids.key_log_ids();
     let last = log_ids.last().copied();
     if index_below(last.index(), Some(index)) {

@@ -1,4 +1,4 @@
-//! When a state is valid, and what a valid one has in its log.
+//! Valid states, and what a valid state has in its log.
 ghost use Rattle.std.specs.Prelude.{◌≡◌, ℕ, true, IsTrue, None, Some};
 ghost use Rattle.raft_base.specs.Logged.{Logged};
 ghost use Rattle.raft_base.specs.LogId.{id_le, index_of};
@@ -13,7 +13,8 @@ use crate::raft_state::RaftStateIn;
 use raft_base::order::log_id_at_most;
 use raft_base::{Instant, Invalid, LogIdOf, LogStateReader, Node, NodeId, Validate};
 
-/// The relations between the log ids of a state in turn, and then those of its memberships.
+/// The relations between the log ids of a state are tested in turn, and then those of its
+/// memberships.
 impl<NID: NodeId, N: Node, I: Instant, L: Drop, C: Ord + Copy + Drop> Validate
     for RaftStateIn<NID, N, I, L, C> {
     ghost broken = { broken_relation C.cmp };
@@ -44,30 +45,30 @@ impl<NID: NodeId, N: Node, I: Instant, L: Drop, C: Ord + Copy + Drop> RaftStateI
     /// Whether the purge point is absent or the log id at its index. In a valid state the log then
     /// has each log id from there on.
     ///
-    /// A valid state may have a purge point that is not in its log: its relations compare log ids
-    /// by their leaders first.
+    /// A valid state may have a purge point that is not in its log, because its relations compare
+    /// log ids by their leaders first.
     pub fn purge_upto_is_logged(&self) -> bool
         ensures exact { result ≡ none_or_logged C.eq (view_of self.now) self.now.purge_upto }
         ensures logged { broken_relation C.cmp self.now ≡ None → IsTrue result →
             Logged C.cmp (view_of self.now) }
     {
-        // Read for the proof alone: by its contract the keys are in order.
+        // This read is for the proof: by its contract the keys are in order.
         let _keys = self.log_ids.key_log_ids();
         self.is_logged(&self.purge_upto)
     }
 
-    /// Whether the committed log id is absent or the log id at its index, as the last purged one is.
-    /// The log may then be cut off anywhere past it.
+    /// Whether the committed log id is absent or the log id at its index, as the last purged one
+    /// is. Then the log may be truncated anywhere past it.
     ///
-    /// A valid state may have committed a log id that is not in its log: its relations compare log
-    /// ids by their leaders first.
+    /// A valid state may have committed a log id that is not in its log, because its relations
+    /// compare log ids by their leaders first.
     pub fn committed_is_logged(&self) -> bool
         ensures exact { result ≡ none_or_logged C.eq (view_of self.now) self.now.committed }
         ensures cut { IsTrue result → (since : ℕ) →
             IsTrue (index_lt (index_of self.now.committed) (Some since)) → IsTrue (id_le C.cmp
             self.now.committed (last_id (front (full_log self.now.log_ids) since))) }
     {
-        // Read for the proof alone: by its contract the keys are in order.
+        // This read is for the proof: by its contract the keys are in order.
         let _keys = self.log_ids.key_log_ids();
         self.is_logged(&self.committed)
     }
@@ -89,7 +90,7 @@ fn fits_purged_next<C: Copy>(next: u64, first: Option<LogIdOf<C>>) -> bool
     }
 }
 
-/// Whether the purge point is where it may be, and the case of its breach.
+/// Returns whether the relation of the purge point holds, and the case of `Invalid` if it does not.
 fn upto_relation<C: Ord + Copy>(
     upto: Option<LogIdOf<C>>,
     committed: Option<LogIdOf<C>>,

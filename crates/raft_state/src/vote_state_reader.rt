@@ -10,7 +10,7 @@ pub trait VoteStateReader<L> {
     /// The vote.
     ghost vote_of: { Self → VoteIn L };
 
-    /// The vote.
+    /// Returns the vote.
     fn vote_ref(&self) -> &VoteIn<L>
         ensures { result.now ≡ vote_of self.now };
 }

@@ -1,4 +1,4 @@
-//! What log entries hold.
+//! The payloads of log entries.
 ghost use Rattle.std.specs.Prelude.{IfOk, IsOk, IsTrue};
 ghost use Rattle.std.specs.Set.{ClonesAreEqual};
 ghost use Rattle.raft_state.specs.Entry.{is_blank_payload, same_payload};
@@ -9,19 +9,20 @@ use raft_members::Membership;
 use std::alloc::{AllocError, Global};
 use std::fmt;
 
-/// What a log entry holds.
+/// What a log entry contains.
 #[derive(Clone, PartialEq, Drop)]
 pub enum EntryPayload<NID: NodeId, N: Node, D> {
-    /// Nothing: a new leader commits such an entry, and with it all entries before it.
+    /// Nothing. A new leader commits such an entry, and with it all entries before it.
     Blank,
     /// The program's own data.
     Normal(D),
-    /// A change of the membership, as the membership that it leads to.
+    /// A change of the membership: the membership that it leads to.
     Membership(Membership<NID, N>),
 }
 
 impl<NID: NodeId, N: Node, D: Clone + PartialEq + Drop> EntryPayload<NID, N, D> {
-    /// An equal payload, with a clone of the data or of the nodes. A blank one takes no memory.
+    /// Returns an equal payload with a clone of the data or of the nodes, or an allocation error. A
+    /// blank payload needs no allocation.
     pub fn try_clone(&self) -> Result<Self, AllocError>
         requires nodes { ClonesAreEqual N.eq N.is_clone }
         requires data { ClonesAreEqual D.eq D.is_clone }
@@ -61,7 +62,7 @@ impl<NID: NodeId, N: Node, D> RaftPayload<Membership<NID, N>> for EntryPayload<N
     ghost blank_stores_none = { λ payload is_blank. none_in_blank payload is_blank };
 }
 
-// By hand, for the program's data need not have a text.
+// Handwritten, because the program's data need not have a text.
 impl<NID: NodeId, N: Node, D> fmt::Debug for EntryPayload<NID, N, D> {
     fn fmt<W: fmt::Write>(&self, f: &mut fmt::Formatter<W>) -> fmt::Result {
         match self {

@@ -1,6 +1,7 @@
-//! What a log entry offers, for entry types of a caller's own.
+//! The traits of log entries, for a caller's own entry types.
 //!
-//! The traits are over any type of memberships, which is `Membership<NID, N>` for the entries here.
+//! The traits are generic in the type of memberships, which is `Membership<NID, N>` for the entries
+//! here.
 ghost use Rattle.std.specs.Prelude.{◌≡◌, Bool, None, Some, false, true};
 ghost use Rattle.std.specs.declared.option.Option.{Option};
 ghost use Rattle.std.specs.Option.{option_copied};
@@ -16,11 +17,11 @@ pub trait RaftPayload<M> {
     /// The membership that a value stores, if there is one.
     ghost membership: { Self → Option M };
 
-    /// Whether it is blank.
+    /// Whether the value is blank.
     fn is_blank(&self) -> bool
         ensures { result ≡ blank self.now };
 
-    /// The membership, if there is one.
+    /// Returns the membership, if there is one.
     fn get_membership(&self) -> Option<&M>
         ensures { option_copied result ≡ membership self.now };
 
@@ -30,36 +31,36 @@ pub trait RaftPayload<M> {
 
 /// A log entry. The first parameter is the committed leader id of its log id.
 ///
-/// Whatever log id it is given, an entry holds what it held before.
+/// If an entry is given another log id, its contents stay.
 pub trait RaftEntry<C, M>: RaftPayload<M> + RaftLogId<C> + Debug + Display + Sized {
     ghost use Rattle.raft_base.specs.declared.log_id.LogIdOf.{LogIdOf};
 
-    /// A blank entry.
+    /// Returns a blank entry with a log id.
     fn new_blank(log_id: LogIdOf<C>) -> Self
         ensures log_id { Self.id_of result ≡ log_id }
         ensures blank { Self.blank result ≡ true };
 
-    /// An entry that stores a membership.
+    /// Returns an entry with a log id that stores a membership.
     fn new_membership(log_id: LogIdOf<C>, membership: M) -> Self
         ensures log_id { Self.id_of result ≡ log_id }
         ensures membership { Self.membership result ≡ Some membership }
         ensures not_blank { Self.blank result ≡ false };
 
-    /// Under another log id an entry stores the same membership.
+    /// An entry that is given another log id stores the same membership.
     ghost keeps_membership: { (a : Self) (id : LogIdOf C)
         → Self.membership (Self.with_id a id) ≡ Self.membership a };
 
-    /// And it is blank where it was.
+    /// An entry that is given another log id is blank exactly if it was blank.
     ghost keeps_blank: { (a : Self) (id : LogIdOf C)
         → Self.blank (Self.with_id a id) ≡ Self.blank a };
 }
 
-/// A log entry that is made of a program's own data, before it is given its log id.
+/// A log entry that is made from a program's own data, before it is given its log id.
 pub trait FromAppData<T> {
-    /// Holds of each entry that may be made of the data.
+    /// Whether an entry may be made from the data.
     ghost is_made_of: { T → Self → Type 0 };
 
-    /// An entry of the data.
+    /// Returns an entry with the data.
     fn from_app_data(app_data: T) -> Self
         ensures { is_made_of app_data result };
 }

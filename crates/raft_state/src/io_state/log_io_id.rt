@@ -1,26 +1,26 @@
-//! How far a log has been written.
+//! How far a log is on disk.
 ghost use Rattle.std.specs.Prelude.{◌≡◌};
 
 use raft_base::{CommittedLeaderId, DisplayOption, LogIdOf};
 use std::fmt;
 
-/// How far a log has been written: the last log id that is on disk, and the leader whose log it is.
+/// How far a log is on disk: the last log id that is on disk, and the leader whose log it is.
 ///
-/// The leader says which log this is: under a later leader the same node may write other entries at
-/// the same indexes.
+/// The leader identifies the log, because under a later leader the same node may write other
+/// entries at the same indexes.
 #[derive(Clone, Copy, Default, PartialEq, Eq)]
 pub struct LogIOIdOf<C> {
-    /// The leader whose log is written.
+    /// The leader whose log is on disk.
     pub committed_leader_id: C,
     /// The last log id that is on disk.
     pub log_id: Option<LogIdOf<C>>,
 }
 
-/// How far a log has been written, over the default leader ids.
+/// How far a log is on disk, with the default leader ids.
 pub type LogIOId<NID> = LogIOIdOf<CommittedLeaderId<NID>>;
 
 impl<C: Copy> LogIOIdOf<C> {
-    /// A leader's log that is written up to a log id.
+    /// Returns this for a leader's log that is on disk up to a log id.
     pub fn new(committed_leader_id: C, log_id: Option<LogIdOf<C>>) -> Self
         ensures { result ≡ record { committed_leader_id = committed_leader_id; log_id = log_id } }
     {
@@ -31,7 +31,7 @@ impl<C: Copy> LogIOIdOf<C> {
     }
 }
 
-// By hand, for the name that the type goes by.
+// Handwritten, because the text has the name `LogIOId` and not `LogIOIdOf`.
 impl<C: fmt::Debug> fmt::Debug for LogIOIdOf<C> {
     fn fmt<W: fmt::Write>(&self, f: &mut fmt::Formatter<W>) -> fmt::Result {
         f.debug_struct("LogIOId")

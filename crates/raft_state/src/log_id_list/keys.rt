@@ -1,4 +1,4 @@
-//! The work of a list over plain keys. The list keeps them in order.
+//! The operations of a list over plain keys. The list keeps its keys in order.
 ghost use Rattle.std.specs.Prelude.{◌≡◌, ◌+◌, ◌<◌, ◌≤◌, ◌&&◌, length, map, nat_le, if◌then◌else◌, None, IfSome, IfNone, IsOk, OnOk, OnErr, IsTrue, [], vec_len};
 ghost use Rattle.std.specs.Vec.{vec_capacity};
 ghost use Rattle.raft_state.specs.FullLog.{full_log, end_index};
@@ -12,8 +12,8 @@ ghost use Rattle.raft_state.specs.Inner.KeyEdits.{keys_after_append, keys_after_
 use raft_base::{LogIdOf, RaftLogId};
 use std::alloc::AllocError;
 
-/// Whether these may be the keys of a list: indexes and leaders rise, and
-/// only the last two may share a leader.
+/// Whether these may be the keys of a list: indexes and leaders rise, and only the last two may
+/// share a leader.
 pub fn is_key_list<C: Ord + Copy>(keys: &[LogIdOf<C>]) -> bool
     ensures { result ≡ may_be_keys C.cmp keys.now }
 {
@@ -25,7 +25,7 @@ pub fn is_key_list<C: Ord + Copy>(keys: &[LogIdOf<C>]) -> bool
     true
 }
 
-/// Whether a key may come next after another one, at the end or before it.
+/// Whether a key may be followed by another one, at the end of the list or before it.
 fn key_may_follow<C: Ord + Copy>(key: LogIdOf<C>, next: LogIdOf<C>, at_end: bool) -> bool
     ensures { result ≡ key_follows C.cmp key next at_end }
 {
@@ -47,7 +47,7 @@ pub fn may_follow<C: Ord + Copy>(last: Option<LogIdOf<C>>, id: LogIdOf<C>) -> bo
     }
 }
 
-/// Whether log ids may come one after the other, the first one after the last one.
+/// Whether log ids may come one after the other, with the first one after `last`.
 pub fn may_all_follow<C: Ord + Copy, LID: RaftLogId<C>>(
     last: Option<LogIdOf<C>>,
     ids: &[LID],
@@ -75,7 +75,7 @@ pub fn share_leader<C: Ord + Copy, LID: RaftLogId<C>>(ids: &[LID]) -> bool
     }
 }
 
-/// Appends a log id, in place of the last key where the last two share a leader.
+/// Appends a log id. It replaces the last key if the last two share a leader.
 pub fn append<C: Ord + Copy>(keys: &mut Vec<LogIdOf<C>>, id: LogIdOf<C>) -> Result<(), AllocError>
     ensures ok { OnOk result (keys.new.items ≡ keys_after_append C.eq keys.old.items id) }
     ensures err { OnErr result (keys.new.items ≡ keys.old.items) }
@@ -93,8 +93,8 @@ pub fn append<C: Ord + Copy>(keys: &mut Vec<LogIdOf<C>>, id: LogIdOf<C>) -> Resu
     Ok(())
 }
 
-/// Appends log ids that may come one after the other. If they have one leader, the first and the
-/// last one make their keys.
+/// Appends log ids that may come one after the other. If they have one leader, only the first and
+/// the last one become keys.
 pub fn extend<C: Ord + Copy, LID: RaftLogId<C>>(
     keys: &mut Vec<LogIdOf<C>>,
     ids: &[LID],
@@ -112,7 +112,7 @@ pub fn extend<C: Ord + Copy, LID: RaftLogId<C>>(
     }
 }
 
-/// Appends log ids one after the other. Room is taken first, so that none is refused after another.
+/// Appends log ids one after the other. It allocates first, so that no later one fails.
 fn extend_by_each<C: Ord + Copy, LID: RaftLogId<C>>(
     keys: &mut Vec<LogIdOf<C>>,
     ids: &[LID],
@@ -129,7 +129,7 @@ fn extend_by_each<C: Ord + Copy, LID: RaftLogId<C>>(
     Ok(())
 }
 
-/// Appends log ids of one leader: their keys are those of the first and the last one.
+/// Appends log ids of one leader. Only the first and the last one become keys.
 pub fn extend_by_ends<C: Ord + Copy, LID: RaftLogId<C>>(
     keys: &mut Vec<LogIdOf<C>>,
     ids: &[LID],
@@ -151,7 +151,7 @@ pub fn extend_by_ends<C: Ord + Copy, LID: RaftLogId<C>>(
     Ok(())
 }
 
-/// Leaves the keys of the log ids below an index.
+/// Keeps the keys of the log ids below an index.
 pub fn truncate<C: Ord + Copy>(keys: &mut Vec<LogIdOf<C>>, at: u64)
     requires { IsTrue (may_be_keys C.cmp keys.old.items) }
     ensures { keys.new.items ≡ keys_below keys.old.items at }
@@ -171,7 +171,7 @@ pub fn truncate<C: Ord + Copy>(keys: &mut Vec<LogIdOf<C>>, at: u64)
     }
     let last = keys[kept - 1];
     if last.index < end {
-        // The next key's place is free for the new last one.
+        // The position of the next key is free for the new last one.
         keys[kept] = LogIdOf::new(last.leader_id, end);
         keys.truncate(kept + 1);
     } else {
@@ -179,7 +179,7 @@ pub fn truncate<C: Ord + Copy>(keys: &mut Vec<LogIdOf<C>>, at: u64)
     }
 }
 
-/// Leaves the keys of what a purge leaves.
+/// Keeps the keys of what a purge leaves.
 pub fn purge<C: Ord + Copy>(keys: &mut Vec<LogIdOf<C>>, upto: LogIdOf<C>) -> Result<(), AllocError>
     requires { IsTrue (may_be_keys C.cmp keys.old.items) }
     ensures ok { OnOk result (keys.new.items ≡ keys_after_purge keys.old.items upto) }
@@ -207,7 +207,7 @@ pub fn purge<C: Ord + Copy>(keys: &mut Vec<LogIdOf<C>>, upto: LogIdOf<C>) -> Res
     Ok(())
 }
 
-/// The log id at an index, under the leader of the last key that is not past it.
+/// Returns the log id at an index, with the leader of the last key that is not past it.
 pub fn get<C: Ord + Copy>(keys: &[LogIdOf<C>], index: u64) -> Option<LogIdOf<C>>
     requires { IsTrue (may_be_keys C.cmp keys.now) }
     ensures { result ≡ id_at (full_log keys.now) index }
@@ -272,7 +272,8 @@ pub fn range_at<C: Ord + Copy>(keys: &[LogIdOf<C>], index: u64) -> Option<Leader
     })
 }
 
-/// How many keys are not past an index: by halving down to a few, which are counted.
+/// Returns how many keys are not past an index. It halves the keys down to a few, which are
+/// counted.
 fn count_to<C: Ord + Copy>(keys: &[LogIdOf<C>], index: u64) -> usize
     requires { Rises 0 keys.now (end_index keys.now) }
     ensures bound { result ≤ length keys.now }
@@ -288,7 +289,7 @@ fn count_to<C: Ord + Copy>(keys: &[LogIdOf<C>], index: u64) -> usize
     count
 }
 
-/// Two bounds, at most eight apart, of how many keys are not past an index: by halving.
+/// Returns two bounds, at most eight apart, of how many keys are not past an index, by halving.
 fn count_bounds<C: Ord + Copy>(keys: &[LogIdOf<C>], index: u64) -> (usize, usize)
     requires { Rises 0 keys.now (end_index keys.now) }
     ensures least { result.0 ≤ keys_to keys.now index }
@@ -307,16 +308,18 @@ fn count_bounds<C: Ord + Copy>(keys: &[LogIdOf<C>], index: u64) -> (usize, usize
     (least, least + size)
 }
 
-/// Returns the half if a key's index is past another, otherwise 0. The mask is the upper half of
-/// the difference of both, which is all ones if the difference is below 0. Of a comparison the
-/// compiler makes a branch, which in halving is mispredicted every other time.
+/// Returns the half if the index of a key is past another index, and otherwise 0.
+///
+/// The mask is the upper half of the difference of the two indexes, which is all ones if the
+/// difference is negative. The compiler turns a comparison into a branch, which a search by halving
+/// mispredicts every other time.
 fn half_if_past(half: usize, key: u64, index: u64) -> usize
     ensures { result ≡ (if nat_le key index then 0 else half) }
 {
     half & ((index as u128).wrapping_sub(key as u128) >> 64) as usize
 }
 
-/// The last two keys where they share a leader, else the last one.
+/// Returns the last two keys if they share a leader, and otherwise the last one.
 pub fn by_last_leader<C: Ord + Copy>(keys: &[LogIdOf<C>]) -> &[LogIdOf<C>]
     ensures { result.now ≡ last_leader_keys C.eq keys.now }
 {

@@ -1,4 +1,4 @@
-//! What changes the effective membership.
+//! The handler that changes the effective membership.
 ghost use Rattle.std.specs.Prelude.{◌≡◌, ◌<◌, None, IfOk, IfErr, true, length};
 ghost use Rattle.std.specs.Result.{result_err};
 ghost use Rattle.std.specs.Set.{ClonesAreEqual};
@@ -17,14 +17,14 @@ use raft_members::{
 };
 use std::fmt::Debug;
 
-/// Changes the effective membership, once it is committed.
+/// Changes the effective membership, if it is committed.
 #[derive(Drop)]
 pub struct ChangeHandlerOf<'m, C, NID: NodeId, N: Node> {
     /// The memberships of the node.
     pub state: &'m MembershipStateOf<C, NID, N>,
 }
 
-/// The same, with the default leader ids.
+/// Changes the effective membership, if it is committed, with the default leader ids.
 pub type ChangeHandler<'m, NID, N> = ChangeHandlerOf<'m, CommittedLeaderId<NID>, NID, N>;
 
 impl<'m, C: Ord + Copy + Default + Debug + Drop, NID: NodeId, N: Node> ChangeHandlerOf<
@@ -33,16 +33,16 @@ impl<'m, C: Ord + Copy + Default + Debug + Drop, NID: NodeId, N: Node> ChangeHan
     NID,
     N,
 > {
-    /// What a change makes of the effective membership, as `Membership::change` says. It is refused
-    /// as long as an earlier change is in progress.
+    /// Returns what a change makes of the effective membership, as `Membership::change` does. It
+    /// returns an error while an earlier change is in progress.
     ///
-    /// With `retain`, a voter that is in no config any more stays as a learner; without it, the
-    /// voter loses its node. Nothing becomes effective: that is for `append_entries` of an entry
-    /// with this membership, or for `append`.
+    /// With `retain`, a voter that is in no config any more stays as a learner. Without it, the
+    /// voter loses its node. Nothing becomes effective: call `append_entries` with an entry that
+    /// stores this membership, or `append`.
     ///
-    /// A leader asks only once an entry of its own is committed, which nothing here can tell. From one
-    /// joint membership two leaders, one after the other, may else go over to either config, and
-    /// quorums of the two need not meet.
+    /// A leader calls this only after an entry of its own is committed, which nothing here can
+    /// test. Otherwise two leaders, one after the other, may switch from one joint membership to
+    /// either config, and quorums of the two need not meet.
     pub fn apply(
         &self,
         change: ChangeMembers<NID, N>,
@@ -73,7 +73,7 @@ impl<'m, C: Ord + Copy + Default + Debug + Drop, NID: NodeId, N: Node> ChangeHan
         }
     }
 
-    /// Refuses while the effective membership is not committed. No memory is taken.
+    /// Returns an error while the effective membership is not committed. It never allocates.
     pub fn ensure_committed(&self) -> Result<(), InProgressOf<C>>
         ensures { result_err result ≡ in_progress C.eq self.now.state.now }
     {
@@ -90,7 +90,7 @@ impl<'m, C: Ord + Copy + Default + Debug + Drop, NID: NodeId, N: Node> ChangeHan
     }
 }
 
-/// The refusal of a change of a membership alone, which is never in progress.
+/// Returns the error of a change of a membership alone, which is never in progress.
 fn refusal_of<C: Ord + Copy + Default + Debug, NID: NodeId>(
     refused: ChangeMembershipError<NID>,
 ) -> ChangeMembershipErrorOf<C, NID>
