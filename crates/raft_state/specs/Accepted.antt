@@ -1,11 +1,11 @@
--- What a node has accepted of a leader's log. This file and no other reads the private fields.
+-- What a node has accepted of a leader's log. No other file reads the private fields.
 use Rattle.std.specs.Prelude.{Bool, Option, None, if◌then◌else◌}
 use Rattle.std.specs.declared.cmp.Ordering.{Ordering}
 use Rattle.raft_base.specs.declared.log_id.LogIdOf.{LogIdOf}
 use Rattle.raft_base.specs.LogId.{id_le, id_lt}
 use Rattle.raft_state.specs.declared.accepted.AcceptedIn.{AcceptedIn}
 
--- a log id that was accepted of a leader
+-- a log id that was accepted from a leader
 abbrev pub accepted_from : {L C : Type 0} → L → Option (LogIdOf C) → AcceptedIn L C
 accepted_from leader id = record { leader_id = leader; log_id = id }
 
@@ -17,17 +17,17 @@ leader_of accepted = accepted.leader_id
 abbrev pub last_accepted : {L C : Type 0} → AcceptedIn L C → Option (LogIdOf C)
 last_accepted accepted = accepted.log_id
 
--- the log id that was accepted of this leader, and none of any other one
+-- the log id that was accepted from this leader, and none for any other leader
 abbrev pub accepted_id : {L C : Type 0} → (L → L → Bool) → AcceptedIn L C → L → Option (LogIdOf C)
 accepted_id eq accepted leader = if eq leader accepted.leader_id then accepted.log_id else None
 
--- a greater log id of this leader takes the place of what was accepted
+-- a greater log id of this leader replaces what was accepted
 abbrev pub after_accept : {L C : Type 0} → (L → L → Bool) → (C → C → Ordering) → AcceptedIn L C → L
     → Option (LogIdOf C) → AcceptedIn L C
 after_accept eq cmp accepted leader id =
     if id_lt cmp (accepted_id eq accepted leader) id then accepted_from leader id else accepted
 
--- what was accepted of a log that ends with this log id: no more than that
+-- what is accepted of a log that ends with this log id: at most that log id
 abbrev pub accepted_upto : {L C : Type 0} → (C → C → Ordering) → AcceptedIn L C
     → Option (LogIdOf C) → AcceptedIn L C
 accepted_upto cmp accepted last =

@@ -14,8 +14,8 @@ use Rattle.raft_state.specs.MembershipMoves.{after_append}
 use Rattle.raft_state.specs.Memberships.{Memberships}
 use Rattle.raft_state.specs.declared.raft_state.RaftStateIn.{RaftStateIn}
 
--- each entry with a membership has a greater log id and a greater index than the one before it, the
--- first one than the log id of the effective membership
+-- each entry with a membership has a greater log id and a greater index than the one before it, and
+-- the first one than the log id of the effective membership
 abbrev pub memberships_follow : {C E : Type 0} → (C → C → Ordering) → (E → LogIdOf C) → (E → Bool)
     → Option (LogIdOf C) → List E → Bool
 memberships_follow cmp id_of stores last [] = true
@@ -25,12 +25,12 @@ memberships_follow cmp id_of stores last (e ∷ es) =
     && memberships_follow cmp id_of stores (Some (id_of e)) es
     else memberships_follow cmp id_of stores last es
 
--- a log begins at index 0 where it is empty before
+-- a log begins at index 0 if it was empty before
 abbrev pub begins_at_zero : {C : Type 0} → List (LogIdOf C) → List (LogIdOf C) → Bool
 begins_at_zero [] ids = index_le (index_of (first_id ids)) (Some 0)
 begins_at_zero (id ∷ log) ids = true
 
--- log ids have consecutive indexes, the first one the index after a log id, or 0 after none
+-- log ids have consecutive indexes, from the index after a log id on, or from 0 if it is absent
 abbrev pub are_consecutive : {C : Type 0} → Option (LogIdOf C) → List (LogIdOf C) → Bool
 are_consecutive last [] = true
 are_consecutive last (id ∷ ids) =
@@ -53,13 +53,13 @@ may_append_entries cmp id_of membership es s =
     && memberships_follow cmp id_of (λ e. is_some (membership e))
     (log_id_of s.membership_state.effective) es
 
--- a stored membership is the one of an entry, under its log id
+-- a stored membership is the one of an entry, with its log id
 abbrev pub IsStoredBy : {C K N : Type 0} → (K → K → Bool) → (N → N → Bool) → LogIdOf C
     → MemberList K N → StoredMembershipOf C K N → Type 0
 IsStoredBy eq same id w stored = (log_id_of stored ≡ Some id)
     × IsTrue (same_members eq same w (membership_of stored))
 
--- where an entry stores a membership, that one was made effective, and then what follows holds
+-- if an entry stores a membership, that one was made effective, and then what follows holds
 abbrev AppendsOne : {K N C : Type 0} → (K → K → Bool) → (N → N → Bool)
     → LogIdOf C → Option (MemberList K N) → (Memberships C K N → Type 0) → Memberships C K N
     → Type 0

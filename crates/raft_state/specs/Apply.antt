@@ -12,14 +12,14 @@ use Rattle.raft_members.specs.declared.error.InProgressOf.{InProgressOf}
 use Rattle.raft_state.specs.MembershipMoves.{is_effective_committed}
 use Rattle.raft_state.specs.Memberships.{Memberships, in_effect}
 
--- what a change makes of the effective membership; with `retain` voters that go stay as learners
+-- what a change makes of the effective membership; with `retain` removed voters stay as learners
 abbrev pub members_after_change : {C K N : Type 0} → (K → K → Bool) → (K → K → Ordering)
     → Memberships C K N
     → ChangeMembers K N → (retain : Bool) → Members K N
 members_after_change eq cmp m change retain =
     changed eq cmp (members_of cmp (in_effect m)) change retain
 
--- the refusal while the effective membership is not committed
+-- the error while the effective membership is not committed
 abbrev pub in_progress : {C K N : Type 0} → (C → C → Bool) → Memberships C K N
     → Option (InProgressOf C)
 in_progress leader m =

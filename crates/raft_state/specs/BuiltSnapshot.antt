@@ -11,8 +11,8 @@ use Rattle.raft_state.specs.Valid.{none_or_logged}
 use Rattle.raft_state.specs.declared.raft_state.RaftStateIn.{RaftStateIn}
 use Rattle.raft_state.specs.declared.snapshot_meta.SnapshotMetaOf.{SnapshotMetaOf}
 
--- a snapshot goes further than the last one, and not past what is committed; neither the purge point
--- nor its own membership is past it
+-- a snapshot goes further than the last one, and not past what is committed; neither the purge
+-- point nor its membership is past it
 abbrev pub may_build_snapshot : {K N I L C : Type 0} → (C → C → Ordering) → SnapshotMetaOf C K N
     → RaftStateIn K N I L C → Bool
 may_build_snapshot cmp meta s =

@@ -8,8 +8,8 @@ use Rattle.raft_state.specs.StateView.{view_of}
 use Rattle.raft_state.specs.Valid.{broken_relation, none_or_logged}
 use Rattle.raft_state.specs.declared.raft_state.RaftStateIn.{RaftStateIn}
 
--- the state is valid, its purge point is in its log, and the
--- follower can be caught up over that log
+-- the state is valid, its purge point is in its log, and the follower can be caught up with that
+-- log
 abbrev pub state_can_catch_up : {K N I L C : Type 0} → (C → C → Bool) → (C → C → Ordering)
     → RaftStateIn K N I L C → ProgressEntryOf C → ℕ → ℕ → Bool
 state_can_catch_up eq cmp s entry agree max_entries =

@@ -6,7 +6,7 @@ use Rattle.raft_base.specs.declared.log_id.LogIdOf.{LogIdOf}
 use Rattle.raft_state.specs.MembershipMoves.{after_commit, commits, may_commit}
 use Rattle.raft_state.specs.declared.raft_state.RaftStateIn.{RaftStateIn}
 
--- a greater log id is committed, and with it the effective membership if it is not past it
+-- a greater log id is committed, and with it the effective membership if it is not past that log id
 abbrev pub state_after_commit : {K N I L C : Type 0} → (C → C → Ordering) → Option (LogIdOf C)
     → RaftStateIn K N I L C → RaftStateIn K N I L C
 state_after_commit cmp id s =
@@ -19,12 +19,12 @@ abbrev pub state_commits : {K N I L C : Type 0} → (C → C → Ordering) → O
     → RaftStateIn K N I L C → Bool
 state_commits cmp id s = id_lt cmp s.committed id && commits cmp id s.membership_state
 
--- the log id that was committed before, where a greater one now is
+-- the log id that was committed before, if a greater one is now committed
 abbrev pub committed_before : {K N I L C : Type 0} → (C → C → Ordering) → Option (LogIdOf C)
     → RaftStateIn K N I L C → Option (Option (LogIdOf C))
 committed_before cmp id s = if id_lt cmp s.committed id then Some s.committed else None
 
--- a greater log id may be committed where it may be for the memberships
+-- a greater log id may be committed if the memberships allow it
 abbrev pub state_may_commit : {K N I L C : Type 0} → (C → C → Ordering) → Option (LogIdOf C)
     → RaftStateIn K N I L C → Bool
 state_may_commit cmp id s =

@@ -1,4 +1,4 @@
--- What a log entry holds.
+-- What a log entry contains.
 use Rattle.std.specs.Prelude.{◌≡◌, Bool, Option, Some, None, true, false}
 use Rattle.raft_base.specs.declared.log_id.LogIdOf.{LogIdOf}
 use Rattle.raft_members.specs.Members.{MemberList, same_members}

@@ -1,4 +1,4 @@
--- The full log that a few keys stand for, and when two logs are the same.
+-- The full log that a few keys determine, and when two logs are the same.
 use Rattle.std.specs.Prelude.{ℕ, zero, suc, ◌+◌, ◌-◌, nat_eq, Bool, ◌&&◌, List, [], ◌∷◌, ◌++◌}
 use Rattle.std.specs.Cmp.Lexicographic.{pointwise}
 use Rattle.raft_base.specs.LogId.{next_index}
@@ -10,16 +10,16 @@ abbrev pub ids_of : {C : Type 0} → C → ℕ → ℕ → List (LogIdOf C)
 ids_of c i zero = []
 ids_of c i (suc n) = record { leader_id = c; index = i } ∷ ids_of c (i + 1) n
 
--- the index of the first of these log ids, or e where there is none
+-- the index of the first of these log ids, or e if there is none
 abbrev pub first_index_or : {C : Type 0} → List (LogIdOf C) → ℕ → ℕ
 first_index_or [] e = e
 first_index_or (k ∷ ks) e = k.index
 
--- the index of the first of these log ids, 0 where there is none
+-- the index of the first of these log ids, or 0 if there is none
 abbrev pub first_index : {C : Type 0} → List (LogIdOf C) → ℕ
 first_index log = first_index_or log 0
 
--- the index after that of the last of these log ids, 0 where there is none
+-- the index after the last of these log ids, or 0 if there is none
 abbrev pub end_index : {C : Type 0} → List (LogIdOf C) → ℕ
 end_index log = next_index (last_id log)
 
@@ -35,6 +35,6 @@ ids_of_keys (k ∷ ks) e =
 abbrev pub full_log : {C : Type 0} → List (LogIdOf C) → List (LogIdOf C)
 full_log keys = ids_of_keys keys (end_index keys)
 
--- the same indexes, under leaders that are equal by their own equality
+-- the same indexes, and leaders that are equal by their `==`
 abbrev pub same_log : {C : Type 0} → (C → C → Bool) → List (LogIdOf C) → List (LogIdOf C) → Bool
 same_log eq = pointwise (λ a b. eq a.leader_id b.leader_id && nat_eq a.index b.index)

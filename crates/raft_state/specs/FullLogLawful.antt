@@ -1,4 +1,4 @@
--- That full logs are the same has the laws of equality.
+-- The relation of equal full logs has the laws of equality.
 use Rattle.std.specs.Prelude.{Bool, List}
 use Rattle.std.specs.Cmp.{IsEquivalence, on_equiv}
 use Rattle.std.specs.Cmp.Lexicographic.{lists_equiv}
@@ -10,7 +10,7 @@ pub same_log-equiv : {C : Type 0} {eq : C → C → Bool} → IsEquivalence eq
     → IsEquivalence (same_log eq)
 same_log-equiv e = lists_equiv (same_id-equiv e)
 
--- and with them that logs of keys are
+-- so has the relation of keys with equal full logs
 pub same_full_log-equiv : {C : Type 0} {eq : C → C → Bool} → IsEquivalence eq
     → IsEquivalence (λ (a b : List (LogIdOf C)). same_log eq (full_log a) (full_log b))
 same_full_log-equiv e = on_equiv full_log (same_log-equiv e)

@@ -1,4 +1,4 @@
--- Words that only private functions and invariants cite.
+-- Definitions that only private functions and invariants use.
 pub mod KeyList
 pub mod KeyEdits
 pub mod LeaderRange

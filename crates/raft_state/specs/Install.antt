@@ -1,4 +1,4 @@
--- When a leader's snapshot may take the place of the log up to its last log id, and what it leaves.
+-- When a leader's snapshot may replace the log up to its last log id, and what it leaves.
 use Rattle.std.specs.Prelude.{◌+◌, ◌^◌, Bool, false, not, ◌&&◌, ◌||◌, nat_lt, List, [], Option, Some, None, if◌then◌else◌}
 use Rattle.std.specs.Ordering.{partial_ge}
 use Rattle.std.specs.declared.cmp.Ordering.{Ordering}
@@ -22,13 +22,14 @@ abbrev pub is_logged : {K N I L C : Type 0} → (C → C → Bool) → LogIdOf C
     → Bool
 is_logged eq id s = same_ids eq (id_at (full_log s.log_ids) id.index) (Some id)
 
--- the log that stays for a snapshot up to a log id: all of it if it has that one, otherwise nothing
+-- the log that stays for a snapshot up to a log id: all of it if it has that log id, and otherwise
+-- nothing
 abbrev pub log_to_keep : {K N I L C : Type 0} → (C → C → Bool) → LogIdOf C → RaftStateIn K N I L C
     → List (LogIdOf C)
 log_to_keep eq id s = if is_logged eq id s then full_log s.log_ids else []
 
--- the memberships once a snapshot with this membership is installed: if the log does not have its
--- last log id, its membership takes the place of both
+-- the memberships after a snapshot with this membership is installed: if the log does not have its
+-- last log id, its membership replaces both
 abbrev pub memberships_after_install : {K N I L C : Type 0} → (C → C → Ordering) → (C → C → Bool)
     → LogIdOf C → StoredMembershipOf C K N → RaftStateIn K N I L C → Memberships C K N
 memberships_after_install cmp eq id stored s =
@@ -48,7 +49,7 @@ abbrev pub is_not_past : {C K N : Type 0} → (C → C → Ordering) → LogIdOf
 is_not_past cmp id stored =
     id_le cmp (log_id_of stored) (Some id) && index_le (index_at stored) (Some id.index)
 
--- the vote is committed, and its leader is no lesser one than that of what was accepted
+-- the vote is committed, and its leader is at least the leader of what was accepted
 abbrev pub may_accept : {K N I L C : Type 0} → (L → L → Option Ordering) → RaftStateIn K N I L C
     → Bool
 may_accept order s =
@@ -60,7 +61,7 @@ abbrev pub is_not_above : {C K N : Type 0} → (C → C → Ordering) → Stored
 is_not_above cmp a b = id_le cmp (log_id_of a) (log_id_of b) && index_le (index_at a) (index_at b)
 
 -- no committed membership is lost: it is not above the snapshot's, or the log has the snapshot's
--- last log id and goes on past it with the committed membership
+-- last log id and continues past it with the committed membership
 abbrev pub keeps_committed : {K N I L C : Type 0} → (C → C → Ordering) → (C → C → Bool) → LogIdOf C
     → StoredMembershipOf C K N → RaftStateIn K N I L C → Bool
 keeps_committed cmp eq id stored s =
@@ -88,14 +89,14 @@ abbrev pub may_install : {K N I L C : Type 0} → (L → L → Option Ordering) 
 may_install order cmp eq meta s =
     may_install_to order cmp eq meta.last_membership s meta.last_log_id
 
--- the log once a snapshot up to a log id is installed
+-- the log after a snapshot up to a log id is installed
 abbrev pub log_after_install : {K N I L C : Type 0} → (C → C → Bool) → LogIdOf C
     → RaftStateIn K N I L C → List (LogIdOf C)
 log_after_install eq id s = log_after_purge (log_to_keep eq id s) id
 
--- the state then, but for its log and its snapshot: the log id is committed and the purge point, the
--- snapshot's membership is committed, and what was accepted of the vote's leader is at least the log
--- id and not past the log
+-- the state then, except for its log and its snapshot: the log id is committed and the purge point,
+-- the snapshot's membership is committed, and what was accepted from the vote's leader is at least
+-- the log id and not past the log
 abbrev pub state_after_install : {K N I L C : Type 0} → (L → L → Bool) → (C → C → Ordering)
     → (C → C → Bool) → LogIdOf C → StoredMembershipOf C K N → RaftStateIn K N I L C
     → RaftStateIn K N I L C

@@ -1,4 +1,4 @@
--- What a node is, as its vote and the effective membership say.
+-- The role of a node, according to its vote and the effective membership.
 use Rattle.std.specs.Prelude.{◌≡◌, Bool, not, ◌&&◌, ◌||◌, List, Option, Some, None, IsTrue, is_some, if◌then◌else◌}
 use Rattle.std.specs.Option.{option_eq}
 use Rattle.std.specs.declared.cmp.Ordering.{Ordering}
@@ -11,7 +11,8 @@ use Rattle.raft_members.specs.Members.{MemberList, node_at}
 use Rattle.raft_state.specs.LogReads.{last_id}
 use Rattle.raft_members.specs.declared.error.ForwardToLeader.{ForwardToLeader}
 
--- there is a log id, or the vote is not that of a new node: it is committed, or for another leader
+-- there is a log id, or the vote is not the vote of a new node: it is committed, or for another
+-- leader
 abbrev pub is_initialized : {L C : Type 0} → (L → L → Bool) → List (LogIdOf C) → VoteIn L → L → Bool
 is_initialized eq log vote unset =
     is_some (last_id log) || (vote.committed || not (eq vote.leader_id unset))
@@ -22,15 +23,15 @@ abbrev pub is_leading : {K N L : Type 0} → (K → K → Bool) → (K → K →
 is_leading eq cmp voted m vote id =
     is_some (node_at cmp m.nodes id) && option_eq eq (voted vote.leader_id) (Some id)
 
--- a leading node is the leader where its vote is committed, else a candidate; of the others
--- voters follow and the rest learn
+-- a leading node is the leader if its vote is committed, and otherwise a candidate; of the other
+-- nodes, voters are followers and the rest are learners
 abbrev pub server_state_of : {K N L : Type 0} → (K → K → Bool) → (K → K → Ordering) → (L → Option K)
     → MemberList K N → VoteIn L → K → ServerState
 server_state_of eq cmp voted m vote id =
     if is_leading eq cmp voted m vote id then (if vote.committed then Leader else Candidate)
     else (if is_voter_of eq m.configs id then Follower else Learner)
 
--- an id with its node, where there is one
+-- an id with its node, if there is one
 abbrev pub with_node : {K N : Type 0} → K → Option N → Option (K × N)
 with_node id None = None
 with_node id (Some node) = Some (id, node)
@@ -41,13 +42,13 @@ abbrev pub known_node : {K N : Type 0} → (K → K → Ordering) → MemberList
 known_node cmp m None = None
 known_node cmp m (Some id) = with_node id (node_at cmp m.nodes id)
 
--- the node that a committed vote is for, where the membership has it
+-- the node that a committed vote is for, if the membership has it
 abbrev pub known_leader : {K N L : Type 0} → (K → K → Ordering) → (L → Option K) → MemberList K N
     → VoteIn L → Option (K × N)
 known_leader cmp voted m vote =
     if vote.committed then known_node cmp m (voted vote.leader_id) else None
 
--- a request is forwarded to an equal node under this id, or to no one
+-- a request is forwarded to an equal node with this id, or to no node
 abbrev pub ForwardsTo : {K N : Type 0} → (N → N → Bool) → Option (K × N) → ForwardToLeader K N
     → Type 0
 ForwardsTo same None to = (to.leader_id ≡ None) × (to.leader_node ≡ None)

@@ -1,4 +1,4 @@
--- When the calls of a list may be made.
+-- When the operations of a list may be called.
 use Rattle.std.specs.Prelude.{nat_lt, nat_le, Bool, true, ◌&&◌, ◌||◌, List, [], ◌∷◌, Option, Some, None}
 use Rattle.std.specs.Option.{option_eq}
 use Rattle.std.specs.Ordering.{is_le}
@@ -11,7 +11,7 @@ abbrev pub follows : {C : Type 0} → (C → C → Ordering) → Option (LogIdOf
 follows cmp None id = true
 follows cmp (Some last) id = nat_lt last.index id.index && is_le (cmp last.leader_id id.leader_id)
 
--- each of these log ids may come after the one before it, the first one after this last one
+-- each of these log ids may come after the one before it, and the first one after this last one
 abbrev pub all_follow : {C : Type 0} → (C → C → Ordering) → Option (LogIdOf C) → List (LogIdOf C)
     → Bool
 all_follow cmp last [] = true
@@ -22,13 +22,13 @@ abbrev pub ends_share_leader : {C : Type 0} → (C → C → Bool) → List (Log
 ends_share_leader eq ids =
     option_eq (λ a b. eq a.leader_id b.leader_id) (first_id ids) (last_id ids)
 
--- log ids of one leader may come one after the other, the first one after this last one
+-- log ids of one leader may come one after the other, and the first one after this last one
 abbrev pub all_follow_of_one_leader : {C : Type 0} → (C → C → Ordering) → (C → C → Bool)
     → Option (LogIdOf C) → List (LogIdOf C) → Bool
 all_follow_of_one_leader cmp eq last ids = all_follow cmp last ids && ends_share_leader eq ids
 
--- a log with this last log id may be purged up to that one: past the last
--- index only with no lesser leader
+-- a log with this last log id may be purged up to the other one, which has no lesser leader if it
+-- is past the last index
 abbrev pub may_be_purged_to : {C : Type 0} → (C → C → Ordering) → Option (LogIdOf C) → LogIdOf C
     → Bool
 may_be_purged_to cmp None upto = true

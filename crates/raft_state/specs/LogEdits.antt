@@ -1,4 +1,4 @@
--- What the calls of a list do to its full log.
+-- What the operations of a list do to its full log.
 use Rattle.std.specs.Prelude.{ℕ, ◌+◌, ◌-◌, nat_lt, nat_le, List, [], ◌∷◌, ◌++◌, filter, if◌then◌else◌}
 use Rattle.raft_base.specs.declared.log_id.LogIdOf.{LogIdOf}
 use Rattle.raft_state.specs.FullLog.{ids_of, first_index, end_index}
@@ -9,25 +9,25 @@ missing_ids [] i = []
 missing_ids (k ∷ []) i = ids_of k.leader_id (k.index + 1) (i - (k.index + 1))
 missing_ids (k ∷ l ∷ ks) i = missing_ids (l ∷ ks) i
 
--- the log, then the missing indexes under its last leader, then the log id
+-- the log, then the missing indexes with its last leader, then the log id
 abbrev pub log_after_append : {C : Type 0} → List (LogIdOf C) → LogIdOf C → List (LogIdOf C)
 log_after_append log id = log ++ missing_ids log id.index ++ id ∷ []
 
--- the log once these log ids are appended, one after the other
+-- the log after these log ids are appended, one after the other
 abbrev pub log_after_extend : {C : Type 0} → List (LogIdOf C) → List (LogIdOf C) → List (LogIdOf C)
 log_after_extend log [] = log
 log_after_extend log (id ∷ ids) = log_after_extend (log_after_append log id) ids
 
--- the log ids with index below a
+-- the log ids with an index below a
 abbrev pub front : {C : Type 0} → List (LogIdOf C) → ℕ → List (LogIdOf C)
 front log a = filter (λ id. nat_lt id.index a) log
 
--- the log ids with index at least a
+-- the log ids with an index of at least a
 abbrev pub rest : {C : Type 0} → List (LogIdOf C) → ℕ → List (LogIdOf C)
 rest log a = filter (λ id. nat_le a id.index) log
 
--- what a purge leaves: past the last index or of an empty log the log id alone; below the first
--- index all; else the rest from its index on, under the leaders of the log
+-- what a purge leaves: only the log id for an empty log or past the last index; all below the first
+-- index; and otherwise the rest from its index on, with the leaders of the log
 abbrev pub log_after_purge : {C : Type 0} → List (LogIdOf C) → LogIdOf C → List (LogIdOf C)
 log_after_purge log upto =
     if nat_le (end_index log) upto.index then upto ∷ []

@@ -1,4 +1,4 @@
--- What is read from a full log.
+-- Look-ups in a full log.
 use Rattle.std.specs.Prelude.{ℕ, ◌+◌, ◌==◌, Bool, false, List, [], ◌∷◌, Option, Some, None, find, if◌then◌else◌}
 use Rattle.raft_base.specs.declared.log_id.LogIdOf.{LogIdOf}
 
@@ -30,7 +30,7 @@ leader_changes eq c [] = 0
 leader_changes eq c (id ∷ ids) =
     (if eq c id.leader_id then 0 else 1) + leader_changes eq id.leader_id ids
 
--- how many leaders a log has, one after the other
+-- the number of leaders of a log, one after the other
 abbrev pub leader_count : {C : Type 0} → (C → C → Bool) → List (LogIdOf C) → ℕ
 leader_count eq [] = 0
 leader_count eq (id ∷ ids) = 1 + leader_changes eq id.leader_id ids

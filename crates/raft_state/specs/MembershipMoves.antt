@@ -1,5 +1,5 @@
 -- What a commit, an append, a truncation and a snapshot make of the two memberships. Log ids are
--- ordered by leader, then by index, and an absent one is below each that is there.
+-- ordered by leader, then by index, and an absent one is below each present one.
 use Rattle.std.specs.Prelude.{ℕ, Bool, true, not, ◌&&◌, ◌||◌, Option, Some, None, if◌then◌else◌}
 use Rattle.std.specs.declared.cmp.Ordering.{Ordering}
 use Rattle.raft_base.specs.declared.log_id.LogIdOf.{LogIdOf}
@@ -10,12 +10,12 @@ use Rattle.raft_members.specs.Stored.{log_id_of}
 use Rattle.raft_members.specs.declared.membership.stored.StoredMembershipOf.{StoredMembershipOf}
 use Rattle.raft_state.specs.Memberships.{Memberships, in_effect, index_at}
 
--- a log that is committed up to a log id has the effective membership in it
+-- a log that is committed up to a log id contains the effective membership
 abbrev pub commits : {C K N : Type 0} → (C → C → Ordering) → Option (LogIdOf C) → Memberships C K N
     → Bool
 commits cmp upto m = id_le cmp (log_id_of m.effective) upto
 
--- the effective membership is committed where the log is committed up to it
+-- the effective membership is committed if the log is committed up to it
 abbrev pub after_commit : {C K N : Type 0} → (C → C → Ordering) → Option (LogIdOf C)
     → Memberships C K N → Memberships C K N
 after_commit cmp upto m =
@@ -27,7 +27,7 @@ abbrev pub may_commit : {C K N : Type 0} → (C → C → Ordering) → Option (
 may_commit cmp upto m =
     if commits cmp upto m then index_le (index_at m.effective) (index_of upto) else true
 
--- a new membership is effective, and the one before it is committed: at most one is not
+-- a new membership is effective, and the one before it is committed, so at most one is not
 abbrev pub after_append : {C K N : Type 0} → StoredMembershipOf C K N → Memberships C K N
     → Memberships C K N
 after_append new m = record { committed = m.effective; effective = new }
@@ -43,17 +43,17 @@ may_append cmp new m =
 abbrev pub is_cut : {C K N : Type 0} → ℕ → Memberships C K N → Bool
 is_cut since m = index_le (Some since) (index_at m.effective)
 
--- where it is cut off with that log, the committed one is effective again
+-- if the effective membership is truncated with the log, the committed one is effective again
 abbrev pub after_truncate : {C K N : Type 0} → ℕ → Memberships C K N → Memberships C K N
 after_truncate since m =
     if is_cut since m then record { committed = m.committed; effective = m.committed } else m
 
--- a snapshot up to index `upto` has the effective membership in it
+-- a snapshot up to index `upto` contains the effective membership
 abbrev pub is_covered : {C K N : Type 0} → ℕ → Memberships C K N → Bool
 is_covered upto m = index_le (index_at m.effective) (Some upto)
 
--- a committed membership comes with a snapshot up to index `upto`. Where the snapshot has the
--- effective one in it, the new one is the only one left. Else it is effective if its index is not
+-- a committed membership comes with a snapshot up to index `upto`: if the snapshot contains the
+-- effective one, only the new one is left; otherwise the new one is effective if its index is not
 -- lesser, and it is the committed one if its log id is greater
 abbrev pub after_update_committed : {C K N : Type 0} → (C → C → Ordering) → StoredMembershipOf C K N
     → ℕ → Memberships C K N → Memberships C K N
@@ -64,7 +64,7 @@ after_update_committed cmp new upto m =
       effective = if index_le (index_at m.effective) (index_at new) then new else m.effective;
     }
 
--- the new one takes the place of both
+-- the new membership replaces both
 abbrev pub replaces_both : {C K N : Type 0} → (C → C → Ordering) → StoredMembershipOf C K N → ℕ
     → Memberships C K N → Bool
 replaces_both cmp new upto m =
@@ -81,7 +81,7 @@ effect_changes eq same old new = not (same_members eq same (in_effect new) (in_e
 abbrev pub is_effective_committed : {C K N : Type 0} → (C → C → Bool) → Memberships C K N → Bool
 is_effective_committed leader m = same_ids leader (log_id_of m.effective) (log_id_of m.committed)
 
--- the effective membership where a call answers it, else nothing
+-- the effective membership if a call returns it, and otherwise nothing
 abbrev pub effective_where : {C K N : Type 0} → Bool → Memberships C K N
     → Option (StoredMembershipOf C K N)
 effective_where answers m = if answers then Some m.effective else None

@@ -8,8 +8,8 @@ use Rattle.raft_base.specs.declared.log_id.validate.Invalid.TheVariants.{Members
 use Rattle.raft_members.specs.Stored.{log_id_of}
 use Rattle.raft_state.specs.Memberships.{Memberships, index_at}
 
--- the committed membership is not above the effective one, by log id and by index; each
--- with the case that tells its breach
+-- the committed membership is not above the effective one, by log id and by index; each relation
+-- with the case of its breach
 abbrev pub membership_relations : {C K N : Type 0} → (C → C → Ordering) → Memberships C K N
     → List (Bool × Invalid)
 membership_relations cmp m =

@@ -1,11 +1,11 @@
--- The two memberships that a node has to know.
+-- The two memberships that a node must know.
 use Rattle.std.specs.Prelude.{◌≡◌, ℕ, Bool, ◌&&◌, [], Option, None}
 use Rattle.raft_base.specs.LogId.{index_of}
 use Rattle.raft_members.specs.Members.{MemberList}
 use Rattle.raft_members.specs.Stored.{log_id_of, membership_of, same_stored}
 use Rattle.raft_members.specs.declared.membership.stored.StoredMembershipOf.{StoredMembershipOf}
 
--- the last committed membership, and the last one that the node has seen, the effective one
+-- the last committed membership, and the last one in the log, the effective one
 pub record Memberships (C K N : Type 0) : Type 0 where
   pub committed : StoredMembershipOf C K N
   pub effective : StoredMembershipOf C K N
@@ -14,7 +14,7 @@ pub record Memberships (C K N : Type 0) : Type 0 where
 abbrev pub in_effect : {C K N : Type 0} → Memberships C K N → MemberList K N
 in_effect m = membership_of m.effective
 
--- the index of the log entry that stored a membership, where there is one
+-- the index of the log entry that stored a membership, if there is one
 abbrev pub index_at : {C K N : Type 0} → StoredMembershipOf C K N → Option ℕ
 index_at stored = index_of (log_id_of stored)
 

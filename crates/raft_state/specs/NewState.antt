@@ -22,8 +22,8 @@ pub record IsNewState {K N I L C : Type 0} (s : RaftStateIn K N I L C) : Type 0 
   pub server_state : s.server_state ≡ Learner
   pub moment : moment_of s.vote ≡ None
 
--- its votes are for the leader that is the default, and not committed; nothing is accepted of that
--- leader, and storage has done nothing
+-- its votes are uncommitted and for the default leader; nothing is accepted from that leader, and
+-- storage has done nothing
 pub record HasNewVote {K N I L C : Type 0} (leader : L) (elected : C) (s : RaftStateIn K N I L C)
     : Type 0 where
   pub vote : vote_of s ≡ record { leader_id = leader; committed = false }

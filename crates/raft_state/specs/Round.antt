@@ -16,28 +16,28 @@ use Rattle.raft_progress.specs.progress.Statistics.{count_after}
 use Rattle.raft_progress.specs.progress.Updated.{IsUpdated}
 use Rattle.raft_progress.specs.declared.entry.ProgressEntryOf.{ProgressEntryOf}
 
--- the followers of a leader: a progress of entries, by their matches
+-- the followers of a leader: a progress of entries, compared by their matching log ids
 abbrev pub Followers : Type 0 → Type 0 → Type 0 → Type 0
 Followers ID C QS = Shown ID (ProgressEntryOf C) (Option (LogIdOf C)) QS
 
 module _ {ID C QS : Type 0} (eq : ID → ID → Bool) (cmp : C → C → Ordering)
     (has_quorum : QS → (ID → Bool) → Bool) where
-  -- they are in order by their matches
+  -- the followers are in order by their matching log ids
   abbrev pub IsInOrderByMatch : Followers ID C QS → Type 0
   IsInOrderByMatch p = IsInOrder eq (option_cmp (log_id_cmp cmp)) (λ e. e.matching) has_quorum p
 
 module _ {ID C QS : Type 0} (eq : ID → ID → Bool) (cmp : C → C → Ordering)
     (has_quorum : QS → (ID → Bool) → Bool) (log : LogView C) (max_entries : ℕ)
     (can : ProgressEntryOf C → ℕ → ℕ → Bool) where
-  -- a follower is passed over: it is unknown or cannot be caught up, and what is shown stays:
-  -- walk, granted and counts too
+  -- a follower is skipped: it is unknown or cannot be caught up, and nothing changes that contracts
+  -- see of the progress
   pub record IsPassedOver (old : Followers ID C QS) (id : ID) (agree : ℕ)
       (new : Followers ID C QS) : Type 0 where
     pub cannot : ForSome ((state eq old).value id) (λ entry. can entry agree max_entries ≡ false)
     pub same : new ≡ old
 
-  -- a follower runs: it can be caught up, one update writes the end of its
-  -- honest run, and all is in order again
+  -- a follower runs: it can be caught up, one update writes the end of its honest run, and the
+  -- progress is in order again
   pub record HasRun (old : Followers ID C QS) (id : ID) (agree : ℕ)
       (new : Followers ID C QS) : Type 0 where
     pub entry : ProgressEntryOf C
@@ -65,7 +65,7 @@ module _ {ID C QS : Type 0} (eq : ID → ID → Bool) (cmp : C → C → Orderin
       × Visits old pair.0 pair.1 did middle × IsRound middle pairs rest new
 
 module _ {ID C QS : Type 0} (eq : ID → ID → Bool) where
-  -- a follower has all
+  -- a follower has all logs
   abbrev pub IsCaughtUp : (C → C → Bool) → LogView C → Followers ID C QS → ID → Type 0
   IsCaughtUp same_leader log p id = (entry : ProgressEntryOf C)
       × ((state eq p).value id ≡ Some entry) × MatchesAll same_leader log entry
@@ -76,7 +76,7 @@ module _ {ID C QS : Type 0} (eq : ID → ID → Bool) where
       ((id : ID) × ((state eq p).is_voter id ≡ true) × (is_member eq ran id ≡ true))
       × (has_quorum p.quorum_set (λ id. (state eq p).is_voter id && is_member eq ran id) ≡ true)
 
-  -- no voter's match is past the last log id
+  -- no voter matches past the last log id
   abbrev pub NonePastLast : (C → C → Ordering) → LogView C → Followers ID C QS → Type 0
   NonePastLast cmp log p = (id : ID) (entry : ProgressEntryOf C) → (state eq p).is_voter id ≡ true
       → (state eq p).value id ≡ Some entry → IsTrue (id_le cmp entry.matching log.last)
@@ -84,10 +84,10 @@ module _ {ID C QS : Type 0} (eq : ID → ID → Bool) where
 module _ {ID C QS : Type 0} (eq : ID → ID → Bool) (same_leader : C → C → Bool)
     (cmp : C → C → Ordering) (has_quorum : QS → (ID → Bool) → Bool) (log : LogView C)
     (max_entries : ℕ) (can : ProgressEntryOf C → ℕ → ℕ → Bool) where
-  -- after a round in which so many of the followers ran: each of those has all, every other value
+  -- after a round in which `count` followers ran: each of those has all logs, every other value
   -- stays, and so do voters, quorum set and default part; each run is an update, and without one
-  -- nothing has changed; granted never falls, and where a quorum ran, the last log id is granted, or
-  -- more where a voter's match was past it before
+  -- nothing has changed; granted never falls, and if a quorum ran, the last log id is granted, or
+  -- more if a voter matched past it before
   pub record IsRoundEnd (old : Followers ID C QS) (pairs : List (ID × ℕ)) (count : ℕ)
       (new : Followers ID C QS) (ran : List ID) : Type 0 where
     pub counted : count ≡ length ran

@@ -10,8 +10,8 @@ use Rattle.raft_progress.specs.declared.entry.ProgressEntryOf.{ProgressEntryOf}
 use Rattle.raft_progress.specs.declared.inflight.InflightOf.{InflightOf}
 use Rattle.raft_progress.specs.declared.inflight.InflightOf.TheVariants.{None as Idle, Logs, Snapshot}
 
--- logs from the start of a send to its end, each end by its log id in the log and with its index;
--- or the snapshot; and never nothing
+-- logs from the start of a send to its end, with the log ids of the log at both ends and with their
+-- indexes; or the snapshot; and never nothing
 abbrev pub FromLog : {C : Type 0} → LogView C → ℕ → ProgressEntryOf C → InflightOf C → Type 0
 FromLog log max_entries entry Idle = ⊥
 FromLog log max_entries entry (Snapshot id last) = last ≡ log.snapshot
@@ -21,7 +21,7 @@ FromLog log max_entries entry (Logs id range) =
     × (range.last ≡ prev_id log.id_at (end_of entry log max_entries))
     × (next_index range.last ≡ end_of entry log max_entries)
 
--- where nothing is in flight and a send may be made over such a log, what is sent is from the log
+-- if nothing is in flight and a send may be made over such a log, what is sent is from the log
 abbrev pub SendsFromLog : {C : Type 0} → (C → C → Ordering) → Type 0
 SendsFromLog {C} cmp =
     (log : LogView C) (entry new : ProgressEntryOf C) (max_entries : ℕ) → Logged cmp log

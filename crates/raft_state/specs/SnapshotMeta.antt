@@ -1,4 +1,4 @@
--- What is known of a snapshot.
+-- The metadata of a snapshot.
 use Rattle.std.specs.Prelude.{◌≡◌, Bool, [], None, IsTrue, string_bytes}
 use Rattle.raft_members.specs.Members.{same_members}
 use Rattle.raft_members.specs.Stored.{log_id_of, membership_of}

@@ -1,4 +1,4 @@
--- When an engine may build on a state: a valid state whose log has what the state says of it.
+-- Sound states: valid states whose log has what the state says about it.
 use Rattle.std.specs.Prelude.{◌≡◌, Bool, nat_le, ◌||◌, Option, None, IsTrue}
 use Rattle.std.specs.declared.cmp.Ordering.{Ordering}
 use Rattle.raft_base.specs.LogId.{id_le, next_index}
@@ -20,7 +20,7 @@ purged_or_logged eq s id =
 
 -- a state is sound: it is valid, the log has the purge point and the committed log id, what was
 -- accepted is not past the log, both memberships are purged or in the log, and the effective
--- membership is committed once its log id is
+-- membership is committed if its log id is
 pub record IsSound {K N I L C : Type 0} (eq : C → C → Bool) (cmp : C → C → Ordering)
     (s : RaftStateIn K N I L C) : Type 0 where
   pub valid : broken_relation cmp s ≡ None

@@ -1,4 +1,4 @@
--- What a state shows of its vote and of its log.
+-- The vote and the log of a state.
 use Rattle.std.specs.Prelude.{Option, None, ◌==◌, if◌then◌else◌}
 use Rattle.raft_base.specs.LogView.{LogView}
 use Rattle.raft_base.specs.UTime.{data_of}
@@ -12,11 +12,12 @@ use Rattle.raft_state.specs.declared.raft_state.RaftStateIn.{RaftStateIn}
 abbrev pub vote_of : {K N I L C : Type 0} → RaftStateIn K N I L C → VoteIn L
 vote_of s = data_of s.vote
 
--- the last log id that was purged is still known: where any was, it is the first one of the log
+-- the last log id that was purged is still known: if any was purged, it is the first one of the log
 abbrev pub last_purged : {K N I L C : Type 0} → RaftStateIn K N I L C → Option (LogIdOf C)
 last_purged s = if s.purged_next == 0 then None else first_id (full_log s.log_ids)
 
--- the log ids of the full log, and those that tell how far it has come
+-- the log ids of the full log, and those up to which it is committed, applied, in a snapshot and
+-- purged
 abbrev pub view_of : {K N I L C : Type 0} → RaftStateIn K N I L C → LogView C
 view_of s = record {
   id_at = id_at (full_log s.log_ids);

@@ -1,4 +1,4 @@
--- When a state's log may be cut off from an index on.
+-- When a state's log may be truncated from an index on.
 use Rattle.std.specs.Prelude.{ℕ, Bool, ◌&&◌, Some}
 use Rattle.std.specs.declared.cmp.Ordering.{Ordering}
 use Rattle.raft_base.specs.LogId.{id_le, index_of}
@@ -9,7 +9,7 @@ use Rattle.raft_state.specs.LogReads.{last_id}
 use Rattle.raft_state.specs.Memberships.{index_at}
 use Rattle.raft_state.specs.declared.raft_state.RaftStateIn.{RaftStateIn}
 
--- nothing that is committed is cut off: the index is past the committed one, the committed log id
+-- nothing that is committed is truncated: the index is past the committed one, the committed log id
 -- is not above the last one that stays, and the index is past the committed membership
 abbrev pub may_truncate : {K N I L C : Type 0} → (C → C → Ordering) → ℕ → RaftStateIn K N I L C
     → Bool

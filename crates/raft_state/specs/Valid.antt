@@ -34,7 +34,7 @@ upto_relation cmp upto committed None = (id_le cmp upto committed, UptoPastCommi
 upto_relation cmp upto committed (Some snapshot) =
     (id_le cmp upto (Some snapshot), UptoPastSnapshot)
 
--- each relation, with the case that tells its breach
+-- each relation, with the case of its breach
 abbrev pub state_relations : {K N I L C : Type 0} → (C → C → Ordering) → RaftStateIn K N I L C
     → List (Bool × Invalid)
 state_relations cmp s = let log = view_of s in

@@ -64,7 +64,7 @@ module _ {C K N E : Type 0} (cmp : C → C → Ordering) (id_of : E → LogIdOf 
 
 module _ {C K N E : Type 0} (eq : K → K → Bool) (same : N → N → Bool) (id_of : E → LogIdOf C)
     (membership : E → Option (MemberList K N)) where
-  -- the membership of an entry is effective, and then those of the entries after it
+  -- the membership of an entry becomes effective, and then those of the entries after it
   pub one_appended : (e : E) (es : List E) (w : MemberList K N) (stored : StoredMembershipOf C K N) (old new : Memberships C K N)
       → membership e ≡ Some w
       → IsStoredBy eq same (id_of e) w stored → AppendsMemberships eq same id_of membership es (after_append stored old) new
@@ -77,7 +77,7 @@ module _ {C K N E : Type 0} (eq : K → K → Bool) (same : N → N → Bool) (i
 
 module _ {C K N E : Type 0} (eq : K → K → Bool) (same : N → N → Bool) (id_of : E → LogIdOf C)
     (membership : E → Option (MemberList K N)) where
-  -- where no entry stores a membership all stay as they are
+  -- if no entry stores a membership, all stay as they are
   pub none_stored : (es : List E) (m : Memberships C K N) → list_any (λ e. is_some (membership e)) es ≡ false
       → AppendsMemberships eq same id_of membership es m m
   none_stored [] m none = refl
@@ -89,7 +89,7 @@ module _ {C K N E : Type 0} (eq : K → K → Bool) (same : N → N → Bool) (i
       by None stores later = none_appended eq same id_of membership e es m m stores (later (rw stores at none))
       by (Some w) stores later = let some : true ≡ false = rw stores at none in cc
 
-  -- the effective membership is that of the last entry that stores one
+  -- the effective membership is the one of the last entry that stores one
   pub last_effective : (es : List E) (m new : Memberships C K N) → AppendsMemberships eq same id_of membership es m new
       → log_id_of new.effective ≡ last_stored id_of (λ e. is_some (membership e)) (log_id_of m.effective) es
   last_effective [] m new is = rw is refl

@@ -1,4 +1,4 @@
--- A state that is cut off past what is committed stays valid.
+-- A state that is truncated past what is committed stays valid.
 use Rattle.std.proofs.Common.{
   ◌≡◌,
   ℕ,

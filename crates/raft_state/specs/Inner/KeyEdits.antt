@@ -1,9 +1,9 @@
--- What the calls of a list do to its keys.
+-- What the operations of a list do to its keys.
 use Rattle.std.specs.Prelude.{ℕ, zero, suc, nat_lt, nat_le, Bool, List, [], ◌∷◌, if◌then◌else◌}
 use Rattle.raft_base.specs.declared.log_id.LogIdOf.{LogIdOf}
 use Rattle.raft_state.specs.FullLog.{end_index}
 
--- the keys after k once a log id is appended: the last one gives way where the last two share a
+-- the keys after k when a log id is appended: the last one is replaced if the last two share a
 -- leader
 abbrev pub rest_after_append : {C : Type 0} → (C → C → Bool) → LogIdOf C → List (LogIdOf C)
     → LogIdOf C
@@ -12,19 +12,19 @@ rest_after_append eq k [] id = id ∷ []
 rest_after_append eq k (l ∷ []) id = if eq k.leader_id l.leader_id then id ∷ [] else l ∷ id ∷ []
 rest_after_append eq k (l ∷ m ∷ ks) id = l ∷ rest_after_append eq l (m ∷ ks) id
 
--- the keys once a log id is appended
+-- the keys after a log id is appended
 abbrev pub keys_after_append : {C : Type 0} → (C → C → Bool) → List (LogIdOf C) → LogIdOf C
     → List (LogIdOf C)
 keys_after_append eq [] id = id ∷ []
 keys_after_append eq (k ∷ ks) id = k ∷ rest_after_append eq k ks id
 
--- the keys once these log ids are appended, one after the other
+-- the keys after these log ids are appended, one after the other
 abbrev pub keys_after_extend : {C : Type 0} → (C → C → Bool) → List (LogIdOf C) → List (LogIdOf C)
     → List (LogIdOf C)
 keys_after_extend eq ks [] = ks
 keys_after_extend eq ks (id ∷ ids) = keys_after_extend eq (keys_after_append eq ks id) ids
 
--- a last key at index j, where key k is not there itself
+-- a last key at index j, unless key k is at that index
 abbrev pub end_at : {C : Type 0} → LogIdOf C → ℕ → List (LogIdOf C)
 end_at k j = if nat_lt k.index j then record { leader_id = k.leader_id; index = j } ∷ [] else []
 
@@ -43,7 +43,7 @@ abbrev pub keys_below : {C : Type 0} → List (LogIdOf C) → ℕ → List (LogI
 keys_below ks zero = []
 keys_below ks (suc j) = keys_up_to ks j
 
--- the keys for the log ids from index a on, where key k is not past it
+-- the keys for the log ids from index a on, if key k is not past it
 abbrev pub rest_from : {C : Type 0} → LogIdOf C → List (LogIdOf C) → ℕ → List (LogIdOf C)
 rest_from k [] a = record { leader_id = k.leader_id; index = a } ∷ []
 rest_from k (l ∷ ks) a =

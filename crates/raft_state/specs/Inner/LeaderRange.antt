@@ -1,4 +1,4 @@
--- Stretches of a log that one leader wrote.
+-- Ranges of a log with one leader.
 use Rattle.std.specs.Prelude.{◌≡◌, ℕ, ◌≤◌, List, Some}
 use Rattle.raft_base.specs.declared.log_id.LogIdOf.{LogIdOf}
 use Rattle.raft_state.specs.LogReads.{id_at}

@@ -1,4 +1,4 @@
--- What stands between the visits of a round, and what is granted after it.
+-- What holds between the visits of a round, and what is granted after it.
 use Rattle.std.proofs.Common.{
   ◌≡◌,
   ◌⊎◌,
@@ -95,7 +95,7 @@ module _ {ID C QS : Type 0} {eq : ID → ID → Bool} (e : IsEquivalence eq) (cm
         default_part = more.default_part ∙ one.default_part;
       }
 
-  -- a value is as it was, or its id is that of a follower that ran
+  -- a value is as it was, or its id is the id of a follower that ran
   visit_value : (old : Followers ID C QS) (id : ID) (agree : ℕ) (did : Bool) (new : Followers ID C QS)
       → Visits eq cmp has_quorum log n can old id agree did new
       → (x : ID) → ((state eq new).value x ≡ (state eq old).value x) ⊎ ((did ≡ true) × (eq x id ≡ true))
@@ -156,7 +156,7 @@ module _ {ID C QS : Type 0} {eq : ID → ID → Bool} (e : IsEquivalence eq) (cm
   among old [] ran new r x h = let g : is_member eq [] x ≡ true = rw r.0 at h in cc
   among old (pair ∷ pairs) ran new r x h = ran_among r.0 pair.0 r.1 (keys_of pairs) x (rw r.3 at h) (among r.2 pairs r.1 new r.5 x)
 
-  -- each run is an update, and where none ran nothing has changed
+  -- each run is an update, and if none ran nothing has changed
   pub record Counts (ran : ℕ) (old new : Followers ID C QS) : Type 0 where
     pub updates : 1 ≤ ran → new.stat.update_count ≡ count_after old.stat.update_count ran
     pub none_ran : ran ≡ 0 → new ≡ old
@@ -311,7 +311,7 @@ module _ {ID C QS : Type 0} {same_leader : C → C → Bool} {eq : ID → ID →
       } in
       rw (← alike s new.granted mine.2.last) (ordered.counted.others_at_most x v full)
 
-  -- and not more, where no voter was past the last id
+  -- and not more, if no voter was past the last id
   pub grants_no_more : QuorumRan eq has_quorum old ran → NonePastLast eq cmp log old → id_le cmp new.granted log.last ≡ true
   grants_no_more q below = upper
     where

@@ -24,7 +24,7 @@ module _ {C : Type 0} {cmp : C → C → Ordering} (total : IsTotalOrder cmp) wh
   at_most a b c h g = let ids = optional-log_id_cmp-total total in
       AtMost-trans ids a b c h (AtMost-from_lt (option_cmp (log_id_cmp cmp)) b c g)
 
-  -- a purge point that may be where it is stays so
+  -- a purge point that may be at its log id may stay there
   upto_stays : (upto old new snapshot : Option (LogIdOf C)) → id_lt cmp old new ≡ true → (upto_relation cmp upto old snapshot).0 ≡ true
       → (upto_relation cmp upto new snapshot).0 ≡ true
   upto_stays upto old new None up h = at_most upto old new h up

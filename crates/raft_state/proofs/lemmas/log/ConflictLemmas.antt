@@ -1,4 +1,5 @@
--- A walk along a list up to the first value that fails a test: its place is the length of the prefix that passes.
+-- A search along a list up to the first value that fails a test: its position is the length of the
+-- prefix that passes.
 use Rattle.std.proofs.Common.{
   ◌≡◌,
   ℕ,
@@ -31,11 +32,11 @@ use Rattle.std.specs.List.{list_all, prefix_len}
 use Rattle.std.proofs.lemmas.List.Sums.{prefix_len-drop_all, prefix_len-drop_no, prefix_len-drop_yes, prefix_len-le-length}
 
 module _ {A : Type 0} (test : A → Bool) (xs : List A) (i : ℕ) (x : A) (inside : i < length xs) (is : x ≡ get_or xs i x) where
-  -- the walk stops here
+  -- the search stops here
   pub fails_here : test x ≡ false → prefix_len test xs ≡ i + prefix_len test (drop i xs) → i ≡ prefix_len test xs
   fails_here fails before = let here = prefix_len-drop_no test xs i x inside (ap test (sym is) ∙ fails) in omega arith
 
-  -- the walk goes on
+  -- the search goes on
   pub passes_here : test x ≡ true → prefix_len test xs ≡ i + prefix_len test (drop i xs)
       → prefix_len test xs ≡ (i + 1) + prefix_len test (drop (i + 1) xs)
   passes_here passes before = let here = prefix_len-drop_yes test xs i x inside (ap test (sym is) ∙ passes) in omega arith
@@ -65,7 +66,7 @@ module _ {A : Type 0} (test : A → Bool) where
           subst (λ (n : ℕ). IfSome (slice_get (x ∷ xs) n) (λ y. test y ≡ false)) (sym next) h
       by false is h = is
 
-  -- a walk to the end
+  -- a search to the end
   pub passes_all : (xs : List A) (i : ℕ) → length xs ≤ i → prefix_len test xs ≡ i + prefix_len test (drop i xs)
       → length xs ≡ prefix_len test xs
   passes_all xs i end walked = let none = prefix_len-drop_all test xs i end in let le = prefix_len-le-length test xs in omega arith

@@ -41,7 +41,7 @@ CanAppend cmp [] id = Unit {0}
 CanAppend cmp (k ∷ []) id = (k.index < id.index) × IsTrue (is_le (cmp k.leader_id id.leader_id))
 CanAppend cmp (k ∷ l ∷ ks) id = CanAppend cmp (l ∷ ks) id
 
--- so many ids of a leader, and then more
+-- some ids of a leader, and then more
 pub ids_split : {C : Type 0} (c : C) (i a b : ℕ) → ids_of c i (a + b) ≡ ids_of c i a ++ ids_of c (i + a) b
 ids_split c i zero b = let e : zero + b ≡ b = omega arith in let f : i + zero ≡ i = omega arith in rw (e, f) refl
 ids_split c i (suc a) b = let e : suc a + b ≡ suc (a + b) = omega arith in let f : i + suc a ≡ (i + 1) + a = omega arith in
@@ -104,7 +104,7 @@ module _ {C : Type 0} (eq : C → C → Bool) (same : (c : C) → eq c c ≡ tru
   appended_full k l ks id = let e = ends l ks in let q = appended_before (ids_of k.leader_id k.index (l.index - k.index)) e.0 e.1 id in
       rw e.2 q
 
-  -- two keys of one leader, the last of which gives way
+  -- two keys of one leader, the last of which is replaced
   full_gives_way : (k l id : LogIdOf C) → k.index < l.index → l.index < id.index → eq k.leader_id l.leader_id ≡ true
       → SameLog eq (full_log (k ∷ id ∷ [])) (log_after_append (full_log (k ∷ l ∷ [])) id)
   full_gives_way k l id kl li e =
@@ -137,7 +137,7 @@ module _ {C : Type 0} (eq : C → C → Bool) (same : (c : C) → eq c c ≡ tru
       rw (appended_full k l (m ∷ ks) id) (same_append (ids_of k.leader_id k.index (l.index - k.index))
       (ids_of k.leader_id k.index (l.index - k.index)) _ _ (same_refl _) (full_added cmp l (m ∷ ks) id s.2 can))
 
-  -- the last key gives way
+  -- the last key is replaced
   pub gives_way : (ks : List (LogIdOf C)) (n : ℕ) (id x y : LogIdOf C) → length ks ≡ suc (suc n) → x ≡ get_or ks n x
       → y ≡ get_or ks (suc n) y → eq x.leader_id y.leader_id ≡ true → set ks (suc n) id ≡ keys_after_append eq ks id
   gives_way [] n id x y len p q e = absurd (omega arith)

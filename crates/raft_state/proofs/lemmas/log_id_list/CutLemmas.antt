@@ -154,7 +154,7 @@ none_below : {C : Type 0} (log : List (LogIdOf C)) → front log 0 ≡ []
 none_below [] = refl
 none_below (x ∷ xs) = let t : nat_lt x.index 0 ≡ false = grind (arith, nat_tests) in rw t (none_below xs)
 
--- the keys of a truncation have the front of the full log
+-- the keys of a truncation have the beginning of the full log
 pub full_cut : {C : Type 0} (cmp : C → C → Ordering) (ks : List (LogIdOf C)) (a : ℕ) → IsKeyList cmp ks
     → full_log (keys_below ks a) ≡ front (full_log ks) a
 full_cut cmp ks zero s = sym (none_below (full_log ks))
@@ -338,7 +338,7 @@ purged_first {C} cmp (k ∷ ks) upto s = elim (cases_lt upto.index (end_index (k
       ]))
 ]
 
--- the edits by place
+-- the edits by position
 cut_test : {C : Type 0} (t : Bool) (k l : LogIdOf C) (ks : List (LogIdOf C)) (j n : ℕ) (d : LogIdOf C)
     → (if t then suc (keys_to ks j) else 0) ≡ n → n < suc (length ks)
     → ((m : ℕ) → keys_to ks j ≡ m → m < length ks → rest_up_to l ks j ≡ take m ks ++ end_at (get_or (l ∷ ks) m d) j)
@@ -430,7 +430,7 @@ pub last_is : {C : Type 0} (cmp : C → C → Ordering) (ks : List (LogIdOf C)) 
     → slice_get ks (length ks - 1) ≡ last_id (full_log ks)
 last_is cmp ks s = last_place ks ∙ sym (last_full cmp ks s)
 
--- the last two keys, by place
+-- the last two keys, by position
 few_last : {C : Type 0} (eq : C → C → Bool) (ks : List (LogIdOf C)) → length ks < 2 → ks ≡ by_last_leader eq ks
 few_last eq [] lt = refl
 few_last eq (k ∷ []) lt = refl
@@ -523,7 +523,7 @@ purged_moved {C} ks upto key first n some place le count kept bound here =
     let cons : drop b.0 ks ≡ get_or ks b.0 first ∷ drop (suc b.0) ks = drop-cons ks b.0 first (let e = b.1 in omega arith) in
     rw (rest_is, one, cons) (sym (purged_within ks upto key some place le ∙ kept_at ks upto.index b.0 first (sym count ∙ b.1) at))
 
--- the front of a front is the front
+-- a prefix of a prefix is the shorter prefix
 pub front_twice : {C : Type 0} (log : List (LogIdOf C)) (a : ℕ) → front (front log a) a ≡ front log a
 front_twice [] a = refl
 front_twice (k ∷ ks) a = by_test (nat_lt k.index a) refl (front_twice ks a)

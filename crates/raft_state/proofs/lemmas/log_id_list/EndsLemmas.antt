@@ -37,7 +37,7 @@ use Rattle.raft_state.specs.LogReads.{first_id, last_id}
 use Rattle.raft_state.proofs.lemmas.log_id_list.AppendLemmas.{some_after}
 use Rattle.raft_state.proofs.lemmas.log_id_list.IdOrderLemmas.{equal_of, leaders_trans}
 
--- the last of these log ids, or x where there is none
+-- the last of these log ids, or x if there is none
 abbrev pub last_or : {C : Type 0} → LogIdOf C → List (LogIdOf C) → LogIdOf C
 last_or x [] = x
 last_or x (y ∷ ys) = last_or y ys
@@ -47,7 +47,7 @@ abbrev pub OfLeader : {C : Type 0} → (C → C → Bool) → C → List (LogIdO
 OfLeader eq c [] = Unit {0}
 OfLeader eq c (id ∷ ids) = IsTrue (eq c id.leader_id) × OfLeader eq c ids
 
--- the last of these keys has a leader that equals that of y
+-- the last of these keys has a leader that equals the leader of y
 abbrev pub EndsWith : {C : Type 0} → (C → C → Bool) → List (LogIdOf C) → LogIdOf C → Type 0
 EndsWith eq [] y = ⊥
 EndsWith eq (k ∷ []) y = IsTrue (eq k.leader_id y.leader_id)
@@ -59,7 +59,7 @@ module _ {C : Type 0} (eq : C → C → Bool) (eqs : IsEquivalence eq) where
   after_first_key k l [] z some = absurd (omega arith)
   after_first_key k l (x ∷ xs) z some = refl
 
-  -- an append by the last key's leader gives way to the next one by that leader
+  -- a key that was appended with the last key's leader is replaced by the next one with that leader
   merged_after : (k : LogIdOf C) (ks : List (LogIdOf C)) (y z : LogIdOf C) → EndsWith eq (k ∷ ks) y
       → rest_after_append eq k (rest_after_append eq k ks y) z ≡ rest_after_append eq k ks z
   merged_after k [] y z h = rw h refl
@@ -128,7 +128,7 @@ module _ {C : Type 0} (cmp : C → C → Ordering) (eq : C → C → Bool) (tota
   tied : (a b : C) → is_le (cmp a b) ≡ true → is_le (cmp b a) ≡ true → eq a b ≡ true
   tied a b h g = law a b ∙ tied_of (cmp a b) (cmp b a) (total.antisymm a b) h g
 
-  -- what stands between leaders that are equal is equal to them
+  -- a leader between equal leaders equals them
   between : (c : C) (x : LogIdOf C) (ids : List (LogIdOf C)) → is_le (cmp c x.leader_id) ≡ true
       → is_le (cmp (last_or x ids).leader_id c) ≡ true → IsTrue (all_follow cmp (Some x) ids) → OfLeader eq c (x ∷ ids)
   between c x [] up down h = (tied c x.leader_id up down, tt)
@@ -148,7 +148,7 @@ module _ {C : Type 0} (cmp : C → C → Ordering) (eq : C → C → Bool) (tota
       between x.leader_id y ids step.1 (ap is_le (tied_back total x.leader_id z
       (equal_of (cmp x.leader_id z) (sym (law x.leader_id z) ∙ e)))) b.1
 
--- the ends of log ids, by place
+-- the ends of log ids, by position
 pub last_of_some : {C : Type 0} (x : LogIdOf C) (ids : List (LogIdOf C)) → last_id (x ∷ ids) ≡ Some (last_or x ids)
 last_of_some x [] = refl
 last_of_some x (y ∷ ids) = last_of_some y ids
@@ -169,7 +169,7 @@ last_mapped id_of (l ∷ ls) =
     let e : length (l ∷ ls) - 1 ≡ length ls = omega arith in
     rw e (last_of_some (id_of l) (map id_of ls) ∙ last_of_map id_of l ls)
 
--- the test of the ends asks the first and the last one
+-- the test of the ends compares the first and the last one
 pub ends_by_place : {C L : Type 0} (eq : C → C → Bool) (id_of : L → LogIdOf C) (ls : List L) (f l : L) → Some f ≡ slice_get ls 0
     → Some l ≡ slice_get ls (length ls - 1) → eq (id_of f).leader_id (id_of l).leader_id ≡ ends_share_leader eq (map id_of ls)
 ends_by_place eq id_of ls f l first last = rw (first_mapped id_of ls, last_mapped id_of ls, ← first, ← last) refl

@@ -1,4 +1,5 @@
--- Two key lists are equal exactly where their full logs are, and have at most one key more than leaders.
+-- Two key lists are equal exactly if their full logs are, and have at most one key more than
+-- leaders.
 use Rattle.std.proofs.Common.{
   ◌≡◌,
   ℕ,
@@ -191,7 +192,7 @@ module _ {C : Type 0} (eq : C → C → Bool) (eqs : IsEquivalence eq)
       let now : leader_count eq (full_log (k ∷ l ∷ m ∷ ks)) ≡ 1 + leader_count eq (full_log (l ∷ m ∷ ks)) = more ∙ rw differs refl in
       let before = few_keys (l ∷ m ∷ ks) s.2 in omega arith
 
-  -- two key lists are equal exactly where their full logs are
+  -- two key lists are equal exactly if their full logs are
   pub keys_decide : (ks ls : List (LogIdOf C)) → IsKeyList cmp ks → IsKeyList cmp ls
       → same_log eq ks ls ≡ same_log eq (full_log ks) (full_log ls)
   keys_decide ks ls s r = both_ways (same_log eq ks ls) (same_log eq (full_log ks) (full_log ls))

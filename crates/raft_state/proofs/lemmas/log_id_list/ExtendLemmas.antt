@@ -106,7 +106,7 @@ last_or_new : {C : Type 0} (id : LogIdOf C) (ids : List (LogIdOf C)) (o : Option
 last_or_new id [] o = refl
 last_or_new id (x ∷ xs) o = rw (last_of_some x xs) refl
 
--- and after several ones that of the last one
+-- and after several ones the leader of the last one
 pub last_added_all : {C : Type 0} (eq : C → C → Bool) (ks ids : List (LogIdOf C))
     → last_id (keys_after_extend eq ks ids) ≡ option_or (last_id ids) (last_id ks)
 last_added_all eq ks [] = refl

@@ -59,7 +59,7 @@ none_at b j (x ∷ xs) h lt =
     let h0 = h.0 in let t : (x.index == j) ≡ false = grind (arith, nat_tests) in
     rw t (none_at (b + 1) j xs h.1 (omega arith))
 
--- past the last index nothing is cut off
+-- past the last index nothing is truncated
 pub front_all : {C : Type 0} (b a : ℕ) (xs : List (LogIdOf C)) → From b xs → b + length xs ≤ a → front xs a ≡ xs
 front_all b a [] h le = refl
 front_all b a (x ∷ xs) h le =

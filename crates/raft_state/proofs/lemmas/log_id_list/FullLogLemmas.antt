@@ -92,7 +92,7 @@ past_first : {C : Type 0} (ks : List (LogIdOf C)) (j e : ℕ) (k : LogIdOf C) �
 past_first [] j e k h = inl h
 past_first (l ∷ ls) j e k h = inr (let o = or_some (covering ls j) l k in grind (arith, nat_tests))
 
--- the id at an index is that of the last key that is not past it
+-- the id at an index has the leader of the last key that is not past it
 pub at_filled : {C : Type 0} (b : ℕ) (ks : List (LogIdOf C)) (e j : ℕ) → Rises b ks e
     → id_at (ids_of_keys ks e) j ≡ (if nat_lt j e then option_map
     (λ (k : LogIdOf C). let id : LogIdOf C = record { leader_id = k.leader_id; index = j } in id) (covering ks j) else None)
@@ -117,7 +117,7 @@ at_filled {C} b (k ∷ ks) e j r =
       ]
     ])
 
--- the key before place n
+-- the key before position n
 abbrev pub key_before : {C : Type 0} → List (LogIdOf C) → ℕ → LogIdOf C → Option (LogIdOf C)
 key_before ks zero d = None
 key_before ks (suc m) d = Some (get_or ks m d)
@@ -132,7 +132,7 @@ cover_test : {C : Type 0} (t : Bool) (n : ℕ) (o : Option (LogIdOf C)) (k : Log
 cover_test true n o k ks d e = rw e (cover_step n k ks d)
 cover_test false n o k ks d e = refl
 
--- the key that covers an index stands just before the first key past it
+-- the key that covers an index comes directly before the first key past it
 pub covering_at : {C : Type 0} (ks : List (LogIdOf C)) (j : ℕ) (d : LogIdOf C) → covering ks j ≡ key_before ks (keys_to ks j) d
 covering_at [] j d = refl
 covering_at (k ∷ ks) j d = cover_test (nat_le k.index j) (keys_to ks j) (covering ks j) k ks d (covering_at ks j d)
@@ -148,7 +148,7 @@ pub counts_within : {C : Type 0} (ks : List (LogIdOf C)) (j : ℕ) → keys_to k
 counts_within [] j = omega arith
 counts_within (k ∷ ks) j = let h = counts_within ks j in grind (arith, nat_tests)
 
--- a key is not past j exactly where its place is below the count
+-- a key is not past j exactly if its position is below the count
 pub counted_by_place : {C : Type 0} (b : ℕ) (ks : List (LogIdOf C)) (e j m : ℕ) (d : LogIdOf C) → Rises b ks e → m < length ks
     → nat_le (get_or ks m d).index j ≡ nat_lt m (keys_to ks j)
 counted_by_place b [] e j m d r lt = absurd (omega arith)
@@ -172,7 +172,7 @@ pub below_end : {C : Type 0} (b : ℕ) (ks : List (LogIdOf C)) (e j : ℕ) → R
 below_end b [] e j r h = absurd (omega arith)
 below_end b (k ∷ ks) e j r h = let g = rises_end b (k ∷ ks) e r in let q = below_end (k.index + 1) ks e j r.1 in grind (arith, nat_tests)
 
--- the index after the last one, by place
+-- the index after the last one, by position
 pub next_by_place : {C : Type 0} (k : LogIdOf C) (ks : List (LogIdOf C)) (d : LogIdOf C)
     → end_index (k ∷ ks) ≡ (get_or (k ∷ ks) (length ks) d).index + 1
 next_by_place k [] d = refl
@@ -215,7 +215,7 @@ below_next cmp [] j d s l b h = absurd (omega arith)
 below_next cmp (k ∷ ks) j d s l b (inl h) = let n = next_by_place k ks d in let h1 = h.1 in grind (arith, n, h1)
 below_next cmp (k ∷ ks) j d s l b (inr h) = below_end 0 (k ∷ ks) _ j (key_list_rises_zero cmp (k ∷ ks) s) (omega arith)
 
--- the answer of a look-up by the count of keys that are not past j
+-- the result of a look-up from the count of keys that are not past j
 pub some_found : {C : Type 0} (cmp : C → C → Ordering) (ks : List (LogIdOf C)) (j n : ℕ) (key : LogIdOf C) → IsKeyList cmp ks → (n ≡ 0 → ⊥)
     → n ≤ length ks → n ≡ keys_to ks j → key ≡ get_or ks (n - 1) key → ((n ≡ length ks) × (j ≤ key.index)) ⊎ (n ≡ length ks → ⊥)
     → id_at (full_log ks) j ≡ Some (record { leader_id = key.leader_id; index = j })

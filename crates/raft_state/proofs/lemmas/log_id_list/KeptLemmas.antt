@@ -196,7 +196,7 @@ last_found b (x ∷ xs) y h is =
     let e = from_end b x xs h in let n : end_index (x ∷ xs) ≡ y.index + 1 = ap next_index is in
     sym (front_last b y.index (x ∷ xs) h (omega arith)) ∙ rw (front_all b (suc y.index) (x ∷ xs) h (omega arith)) is
 
--- what is cut off or purged is not there any more, and the rest is
+-- what is truncated or purged is not in the log any more, and the rest is
 pub front_reads : {C : Type 0} (xs : List (LogIdOf C)) (a i : ℕ) → i < a → id_at (front xs a) i ≡ id_at xs i
 front_reads [] a i lt = refl
 front_reads (x ∷ xs) a i lt = elim (cases_lt x.index a) [
@@ -280,7 +280,7 @@ front_end {C} (x ∷ xs) a h = elim (cases_lt x.index a) [
 ]
 
 module _ {C : Type 0} (log : List (LogIdOf C)) (upto : LogIdOf C) (row : From (first_index log) log) where
-  -- within a log, what a purge leaves ends where the log does
+  -- within a log, what a purge leaves ends at the end of the log
   rest_ends : (xs : List (LogIdOf C)) → From (first_index xs) xs → nat_le (end_index xs) upto.index ≡ false
       → last_id (rest xs upto.index) ≡ last_id xs
   rest_ends [] h e = cc

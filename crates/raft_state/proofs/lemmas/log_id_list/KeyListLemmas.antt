@@ -1,4 +1,4 @@
--- Keys of a list as lemmas walk them.
+-- Keys of a list as lemmas read them.
 use Rattle.std.proofs.Common.{◌<◌, List, [], ◌∷◌, IsTrue}
 use Rattle.std.specs.Ordering.{is_le, is_lt}
 use Rattle.std.specs.declared.cmp.Ordering.{Ordering}

@@ -80,7 +80,7 @@ module _ {C : Type 0} (eq : C → C → Bool) where
   two_keys_of_last (k ∷ l ∷ []) = two_of_test (eq k.leader_id l.leader_id) k l
   two_keys_of_last (k ∷ l ∷ m ∷ ks) = two_keys_of_last (l ∷ m ∷ ks)
 
-  -- by place
+  -- by position
   pub last_two_differ : (same : (c : C) → eq c c ≡ true) (ks : List (LogIdOf C)) → ((n : ℕ) → length ks ≡ suc (suc n) → Differ eq same ks n)
       → last_two_share_leader eq ks ≡ false
   last_two_differ same [] d = refl

@@ -79,7 +79,8 @@ module _ {C : Type 0} (cmp : C → C → Ordering) (eq : C → C → Bool) (tota
   append_ends ks id s h = last_full cmp (keys_after_append eq ks id) (is_key_list cmp (keys_after_append eq ks id) (append_keeps ks id s h))
       ∙ last_added eq ks id
 
-  -- and shares its leader with the one before it exactly where it shares that of the last one before the append
+  -- and shares its leader with the one before it exactly if it shares the leader of the last one
+  -- before the append
   pub append_shares : (ks : List (LogIdOf C)) (id : LogIdOf C) → IsKeyList cmp ks → IsTrue (follows cmp (last_id (full_log ks)) id)
       → IfSome (last_id (full_log ks)) (λ last. last_two_share_leader eq (full_log (keys_after_append eq ks id))
       ≡ eq last.leader_id id.leader_id)
@@ -106,7 +107,7 @@ module _ {C : Type 0} (cmp : C → C → Ordering) (eq : C → C → Bool) (tota
       (full_after_all eq eqs cmp (strictly_less cmp eq total law) (upto_equal cmp eq total law) ks ids s
       (rw (last_full cmp ks s) at h))
 
-  -- of which the last one is the last one then, if there are any
+  -- the last one of these is then the last one of the log, if there are any
   pub extend_ends : (ks ids : List (LogIdOf C)) → IsKeyList cmp ks → IsTrue (all_follow cmp (last_id (full_log ks)) ids)
       → last_id (full_log (keys_after_extend eq ks ids)) ≡ option_or (last_id ids) (last_id (full_log ks))
   extend_ends ks ids s h = last_full cmp (keys_after_extend eq ks ids)
@@ -131,7 +132,7 @@ module _ {C : Type 0} (cmp : C → C → Ordering) (eq : C → C → Bool) (tota
       → first_index (log_after_purge (full_log ks) upto) ≡ max (first_index (full_log ks)) upto.index
   purged_log_begins ks upto s = ap first_index (sym (full_purged cmp ks upto s)) ∙ purge_begins ks upto s
 
-  -- two key lists are equal exactly where their full logs are
+  -- two key lists are equal exactly if their full logs are
   pub keys_decide : (ks ls : List (LogIdOf C)) → IsKeyList cmp ks → IsKeyList cmp ls
       → same_log eq ks ls ≡ same_log eq (full_log ks) (full_log ls)
   keys_decide ks ls s r = Equal.keys_decide eq eqs cmp (apart cmp eq total law) ks ls s r

@@ -66,7 +66,7 @@ from_place i [] n id h e = cc
 from_place i (x ∷ xs) zero id h e = let h0 = h.0 in let f : x ≡ id = cc in let g : x.index ≡ id.index = ap (λ y. y.index) f in omega arith
 from_place i (x ∷ xs) (suc n) id h e = let r = from_place (i + 1) xs n id h.1 e in omega arith
 
--- the log id at a place is the one at its index, and the one at an index stands at its place
+-- the log id at a position is the one at its index, and the one at an index is at its position
 found_place : {C : Type 0} (i : ℕ) (xs : List (LogIdOf C)) (n : ℕ) (id : LogIdOf C) → From i xs → slice_get xs n ≡ Some id
     → id_at xs id.index ≡ Some id
 found_place i [] n id h e = cc

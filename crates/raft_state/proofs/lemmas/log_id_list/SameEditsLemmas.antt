@@ -1,4 +1,4 @@
--- Logs that are the same stay so under each edit, and show equal log ids.
+-- Equal logs stay equal under each edit, and have equal log ids.
 use Rattle.std.proofs.Common.{
   ◌≡◌,
   ℕ,

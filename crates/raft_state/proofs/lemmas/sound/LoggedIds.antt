@@ -109,7 +109,7 @@ module _ {C : Type 0} (eq : C → C → Bool) where
       let w = index_within b id.index log f.0 row f.1 in let w1 = w.1 in
       has_id_at b log i row from (omega arith)
 
-  -- a cut past it leaves it
+  -- a truncation past it leaves it
   pub front_has : (log : List (LogIdOf C)) (since : ℕ) (o : Option (LogIdOf C)) → next_index o ≤ since → in_log eq log o ≡ true
       → in_log eq (front log since) o ≡ true
   front_has log since None le h = refl

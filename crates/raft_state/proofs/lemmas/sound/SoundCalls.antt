@@ -82,7 +82,7 @@ use Rattle.raft_state.specs.declared.accepted.AcceptedIn.{AcceptedIn}
 use Rattle.raft_state.specs.declared.raft_state.RaftStateIn.{RaftStateIn}
 use Rattle.raft_state.specs.declared.snapshot_meta.SnapshotMetaOf.{SnapshotMetaOf}
 
--- what was accepted is not past the log to whose end it is cut
+-- what was accepted is not past the log to whose end it is lowered
 pub accepted_fits : {L C : Type 0} {cmp : C → C → Ordering} → IsTotalOrder cmp → (accepted : AcceptedIn L C) (last : Option (LogIdOf C))
     → id_le cmp (last_accepted (accepted_upto cmp accepted last)) last ≡ true
 accepted_fits {L} {C} {cmp} total accepted last = by (id_le cmp accepted.log_id last) refl

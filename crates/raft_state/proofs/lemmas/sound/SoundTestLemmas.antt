@@ -1,4 +1,4 @@
--- The test of a sound state tells exactly whether it is one.
+-- The test of a sound state decides whether it is one.
 use Rattle.std.proofs.Common.{◌≡◌, ◌↔◌, Bool, true, false, not, ◌||◌, Option, Some, None, IsTrue, refl, sym, ◌∙◌}
 use Rattle.std.proofs.lemmas.Bool.{and_parts}
 use Rattle.std.specs.Cmp.Derive.{both_true}

@@ -1,4 +1,4 @@
--- The keys of a log with the purge point in it show a log that has all its log ids from there on.
+-- If the purge point is in the log, the log has all its log ids from there on.
 use Rattle.std.proofs.Common.{
   ◌≡◌,
   ℕ,
@@ -54,7 +54,7 @@ use Rattle.raft_state.specs.Valid.{fits_purged_next, none_or_logged}
 abbrev pub log_of_keys : {C : Type 0} → List (LogIdOf C) → Option (LogIdOf C) → LogView C → LogView C
 log_of_keys keys purge rest = record rest { id_at = id_at (full_log keys); last = last_id (full_log keys); purge_upto = purge }
 
--- the purge point is in the log; where there is none, the log begins at index 0
+-- the purge point is in the log; if there is none, the log begins at index 0
 abbrev pub PurgeIn : {C : Type 0} → List (LogIdOf C) → Option (LogIdOf C) → Type 0
 PurgeIn keys None = first_index (full_log keys) ≡ 0
 PurgeIn keys (Some upto) = IsTrue (is_some (id_at (full_log keys) upto.index))
@@ -186,7 +186,7 @@ logged_keys {C} cmp total (k ∷ ks) purge rest s inside =
 at_zero : (i : ℕ) → is_le (nat_cmp i 0) ≡ true → i ≡ 0
 at_zero i h = grind (arith, nat_tests)
 
--- where nothing is to be purged, the log of a valid state begins at index 0
+-- if nothing is to be purged, the log of a valid state begins at index 0
 pub begins : {C : Type 0} (cmp : C → C → Ordering) (next : ℕ) (log : List (LogIdOf C)) (t : Bool) → t ≡ (next == 0)
     → (if t then index_le (index_of (first_id log)) (Some 0) else next_index (first_id log) == next) ≡ true
     → id_le cmp (if t then None else first_id log) None ≡ true → first_index log ≡ 0

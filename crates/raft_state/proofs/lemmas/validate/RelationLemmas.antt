@@ -1,4 +1,4 @@
--- Relations that are tested in turn: none is broken exactly where each holds.
+-- Relations that are tested in turn: none is broken exactly if each holds.
 use Rattle.std.proofs.Common.{◌≡◌, Bool, true, false, Option, Some, None, if◌then◌else◌, refl}
 
 -- relations of which none is broken: the first one holds, and so do the others

@@ -5,11 +5,11 @@ use Rattle.raft_state.proofs.lemmas.log_id_list.FullLogLemmas.{counted_by_place}
 use Rattle.raft_state.proofs.log_id_list.keys.count_to.Goals as goal
 use Rattle.raft_state.proofs.log_id_list.keys.count_to.Goals.{then-key-index, else-key-index}
 
--- the place of a key that is not past j is below the count n
+-- the position of a key that is not past j is below the count n
 below_count : (index j place n : ℕ) → nat_le index j ≡ nat_lt place n → index ≤ j → place < n
 below_count index j place n e le = grind (arith, nat_tests)
 
--- the place of a key that is past j is not
+-- the position of a key that is past j is not below it
 past_count : (index j place n : ℕ) → nat_le index j ≡ nat_lt place n → j < index → n ≤ place
 past_count index j place n e lt = grind (arith, nat_tests)
 

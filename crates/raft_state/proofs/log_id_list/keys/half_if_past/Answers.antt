@@ -5,7 +5,8 @@ use Rattle.std.proofs.lemmas.Nat.{and_mask}
 use Rattle.std.specs.Int.Bits.{and_zero_r, bit_and}
 use Rattle.raft_state.proofs.log_id_list.keys.half_if_past.Goals as goal
 
--- the upper half of a difference of two 64-bit numbers at 128 bits is all ones where it goes below 0
+-- the upper half of a difference of two 64-bit numbers at 128 bits is all ones if the difference is
+-- negative
 masked : (half key index : ℕ) → half < 2 ^ 64 → key < 2 ^ 64 → index < 2 ^ 64
     → bit_and half ((index + (2 ^ 128 - key)) % 2 ^ 128 / 2 ^ 64) ≡ (if nat_le key index then 0 else half)
 masked half key index h k i = elim (cases_lt index key) [
