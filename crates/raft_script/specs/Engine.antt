@@ -1,4 +1,4 @@
--- What an engine holds, and what a step does to it.
+-- What an engine contains, and what a step does to it.
 use Rattle.std.specs.Prelude.{◌≡◌, ◌||◌, ℕ, Bool, List, [], ◌∷◌, Option, Some, None, if◌then◌else◌, is_some, nat_eq, true}
 use Rattle.std.specs.Ordering.{nat_cmp, as_partial_cmp}
 use Rattle.std.specs.Option.{option_map}
@@ -38,19 +38,19 @@ by_number =
       IsClone = λ v w. w ≡ v;
     }
 
--- what a membership and its progress show
+-- what contracts see of a membership and its progress
 abbrev pub EngineShown : Type 0
 EngineShown = TrackedShown ℕ EmptyNode ℕ ℕ
 
--- a membership and its progress, apart from how they are kept
+-- a membership and its progress, apart from how they are stored
 abbrev pub EngineState : Type 0
 EngineState = TrackedState ℕ EmptyNode ℕ ℕ
 
--- what an engine's membership and its progress show, if the engine has them
+-- what contracts see of an engine's membership and its progress, if the engine has them
 abbrev pub shown_of : Engine → Option EngineShown
 shown_of engine = option_map tracked engine.tracked
 
--- an engine's membership and its progress, apart from how they are kept, if it has them
+-- an engine's membership and its progress, apart from how they are stored, if it has them
 abbrev pub engine_state : Engine → Option EngineState
 engine_state engine =
     option_map (λ t. tracked_state.tracked_state nat_eq (tracked t)) engine.tracked
@@ -69,11 +69,11 @@ pub record IsStart (configs : List (List ℕ)) (learners : List ℕ) (default : 
   pub default_part : made.progress.default_part ≡ default
   pub counts_by : CountsBy nat_eq nat_cmp made
 
--- the step may be answered so, from one tracked progress to another
+-- the step may have this reply, from one tracked progress to another
 abbrev pub IsEngineStep : EngineState → Step ℕ EmptyNode ℕ → Reply ℕ ℕ → EngineState → Type 0
 IsEngineStep old step reply new = IsTrackedRun by_number same_node old (step ∷ []) (reply ∷ []) new
 
--- a tracked progress answers each step, and without one there is no reply
+-- a tracked progress replies to each step, and without one there is no reply
 abbrev pub AnswersStep : Option EngineState → Step ℕ EmptyNode ℕ → Option (Reply ℕ ℕ)
     → Option EngineState → Type 0
 AnswersStep None step None new = new ≡ None
@@ -82,8 +82,8 @@ AnswersStep (Some old) step None new = ⊥
 AnswersStep (Some old) step (Some reply) new =
     (next : EngineState) × (new ≡ Some next) × IsEngineStep old step reply next
 
--- granted is counted afresh, and each quorum, now and after one change of the membership, has
--- a voter with at least that value
+-- granted is the counted value, and each quorum, now and after one change of the membership, has a
+-- voter with at least that value
 abbrev pub GrantedIsKnown : EngineShown → Type 0
 GrantedIsKnown t =
     IsCounted nat_cmp part (has_quorum nat_eq) (state nat_eq t.progress) t.progress.granted

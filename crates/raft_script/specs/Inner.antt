@@ -1,2 +1,2 @@
--- What the functions do on the way to a contract of the program.
+-- Definitions that only private functions use.
 pub mod Taken

@@ -5,11 +5,11 @@ use Rattle.std.specs.Io.Buffered.{reader_remaining}
 use Rattle.std.specs.Io.KnownBytes.{Consumes, append_known}
 use Rattle.raft_script.specs.declared.script.dialogue.Dialogue.{Dialogue}
 
--- what is not read yet, where that is known
+-- what is not read yet, if that is known
 abbrev pub unread : {R : Type 0} → (R → Option (List ℕ)) → Dialogue R → Option (List ℕ)
 unread remaining dialogue = reader_remaining remaining dialogue.input
 
--- what is written, and then what is held back to be written, where that is known
+-- what is written, and then what is held back to be written, if that is known
 abbrev pub contents : {R : Type 0} → Option (List ℕ) → Dialogue R → Option (List ℕ)
 contents written dialogue = append_known written dialogue.replies.items
 
@@ -17,7 +17,7 @@ contents written dialogue = append_known written dialogue.replies.items
 abbrev pub has_line_feed : List ℕ → Bool
 has_line_feed text = list_any (λ byte. byte == 10) text
 
--- the lines of a text: what stands between its line feeds
+-- the lines of a text: the parts between its line feeds
 abbrev pub lines : List ℕ → List (List ℕ)
 lines text = slice_split (λ byte. byte == 10) text
 
@@ -28,6 +28,6 @@ TakesLine (Some text) line is_last None = ⊥
 TakesLine (Some text) line true (Some rest) = (lines text ≡ line ∷ []) × (rest ≡ [])
 TakesLine (Some text) line false (Some rest) = lines text ≡ line ∷ lines rest
 
--- a text may lose some bytes at its front
+-- a text may lose some bytes at its beginning
 abbrev pub TakesPart : Option (List ℕ) → Option (List ℕ) → Type 0
 TakesPart old new = (part : List ℕ) × Consumes old new part

@@ -27,7 +27,7 @@ abbrev pub has_bytes : List ℕ → Bool
 has_bytes [] = false
 has_bytes (byte ∷ bytes) = true
 
--- the words of a line: what stands between its spaces
+-- the words of a line: the parts between its spaces
 abbrev pub words : List ℕ → List (List ℕ)
 words line = filter has_bytes (slice_split (λ byte. byte == 32) line)
 
@@ -36,7 +36,7 @@ abbrev pub Is : List ℕ → List ℕ → Type 0
 Is text word = word ≡ text
 
 infixr 60 ◌▸◌
--- first a word that fits, and then others that do
+-- first a word that fits, and then other words that do
 abbrev pub ◌▸◌ : (List ℕ → Type 0) → (List (List ℕ) → Type 0) → List (List ℕ) → Type 0
 (First ▸ Others) [] = ⊥
 (First ▸ Others) (word ∷ others) = First word × Others others
@@ -56,7 +56,7 @@ kind_word (SetNodes nodes) = codes "set-nodes"
 kind_word (RemoveNodes ids) = codes "remove-nodes"
 kind_word (ReplaceAllNodes nodes) = codes "replace-nodes"
 
--- whether a change speaks of an id
+-- whether a change has an id
 abbrev pub speaks_of : ChangeMembers ℕ EmptyNode → ℕ → Bool
 speaks_of (AddVoterIds ids) id = contains nat_cmp ids id
 speaks_of (AddVoters nodes) id = is_some (get nat_cmp nodes id)
@@ -67,11 +67,11 @@ speaks_of (SetNodes nodes) id = is_some (get nat_cmp nodes id)
 speaks_of (RemoveNodes ids) id = contains nat_cmp ids id
 speaks_of (ReplaceAllNodes nodes) id = is_some (get nat_cmp nodes id)
 
--- what happens to voters that go: they stay as learners, or they go
+-- what happens to removed voters: they stay as learners, or they go
 abbrev pub retain_word : Bool → List ℕ
 retain_word retain = if retain then codes "retain" else codes "drop"
 
--- the words of a command: its name, what it is given, and no more
+-- the words of a command: its name, its arguments, and no more
 abbrev pub Spells : Command → List (List ℕ) → Type 0
 Spells (Init default configs learners) =
     Is (codes "init") ▸ IsNumberOf default ▸ IsConfigsOf configs.items

@@ -1,4 +1,4 @@
--- What a line does to what an engine holds, and what is written for it.
+-- What a line does to an engine, and what is written for it.
 use Rattle.std.specs.Prelude.{◌≡◌, ℕ, Bool, true, false, List, [], Option, Some, None, IsSomeAnd, ◌⊎◌, map}
 use Rattle.std.specs.BTreeSet.{keys}
 use Rattle.std.specs.Io.KnownBytes.{Appends}
@@ -11,8 +11,8 @@ use Rattle.raft_script.specs.declared.script.command.Command.{Command}
 use Rattle.raft_script.specs.declared.script.command.Command.TheVariants.{Init}
 use Rattle.raft_script.specs.declared.script.command.Command.TheVariants as command
 
--- an init starts anew and prints nothing, or is refused memory, changes nothing and says so;
--- a step is answered, and its reply is printed
+-- an init begins anew and prints nothing, or its allocation fails, and it changes nothing and says
+-- so; a step has a reply, which is printed
 abbrev pub RunsCommand : Option EngineState → Command → Option EngineState → List ℕ → Type 0
 RunsCommand old (Init default configs learners) new text =
     (IsSomeAnd new (IsStart (map keys configs.items) learners.keys default) × (text ≡ []))
@@ -31,19 +31,19 @@ abbrev pub IsStepTooEarly : Option EngineState → Command → Type 0
 IsStepTooEarly held (Init default configs learners) = ⊥
 IsStepTooEarly held (command.Step step) = held ≡ None
 
--- a line can't be run: a bad one, and a step before any init
+-- a line cannot be run if it is a bad line, or a step before any init
 abbrev pub CannotRun : Option EngineState → List ℕ → Type 0
 CannotRun held line =
     IsBadLine line ⊎ ((said : Command) × SaysCommand line said × IsStepTooEarly held said)
 
--- a line is run, or it can't be run, changes nothing and has its number printed
+-- a line is run, or it cannot be run, changes nothing and has its number printed
 abbrev pub AnswersLine : ℕ → Option EngineState → List ℕ → Bool → Option EngineState → List ℕ
     → Type 0
 AnswersLine number old line true new text = RunsLine old line new text
 AnswersLine number old line false new text =
     CannotRun old line × (new ≡ old) × (text ≡ bad_line_text number)
 
--- what a fault leaves: all as it was, or what the run made; its text may not be written whole
+-- what an error leaves: all as it was, or what the run made; its text may not be written whole
 abbrev pub IsLeftByFault : (Option EngineState → List ℕ → Type 0)
     → Option EngineState → Option EngineState → Type 0
 IsLeftByFault Runs old new = (new ≡ old) ⊎ ((text : List ℕ) × Runs new text)

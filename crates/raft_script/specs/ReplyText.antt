@@ -27,6 +27,6 @@ reply_text (BelowDefault id) = line (codes "below-default " ++ decimal id)
 reply_text BadLearners = line (codes "bad-learners")
 reply_text OutOfMemory = line (codes "no-memory")
 
--- what is written for the line of a number that can't be run
+-- what is written for the line with a number that cannot be run
 abbrev pub bad_line_text : ℕ → List ℕ
 bad_line_text number = line (codes "bad line " ++ decimal number)

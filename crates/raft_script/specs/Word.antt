@@ -22,11 +22,11 @@ parts word = if pointwise nat_eq word (codes "-") then [] else slice_split (λ b
 abbrev pub IsList : List ℕ → Type 0
 IsList word = All IsNumber (parts word)
 
--- whether a number stands in a list
+-- whether a number is in a list
 abbrev pub stands_in : List ℕ → ℕ → Bool
 stands_in word n = list_any (λ part. digits_value 10 part == n) (parts word)
 
--- a set has exactly the numbers that stand in a list
+-- a set has exactly the numbers of a list
 abbrev pub HasNumbersOf : BTreeSet ℕ → List ℕ → Type 0
 HasNumbersOf set word = (n : ℕ) → contains nat_cmp set n ≡ stands_in word n
 

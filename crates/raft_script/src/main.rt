@@ -1,4 +1,5 @@
-//! Reads a script of a membership and its progress from standard input and answers each step.
+//! Reads a script of a membership and its progress from standard input, and writes a reply to each
+//! step.
 #![tactic(auto)]
 
 mod script;

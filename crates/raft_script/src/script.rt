@@ -1,4 +1,4 @@
-//! Runs a script: a line at a time, from its words to its reply.
+//! Runs a script line by line, from the words of a line to its reply.
 
 mod command;
 mod dialogue;
@@ -19,10 +19,10 @@ use raft_progress::progress::Reply;
 use std::alloc::Global;
 use std::io::{self, Read, Write};
 
-/// Runs the script that `reader` gives, and writes a reply a line to `writer`.
+/// Runs the script of `reader`, and writes a line to `writer` for each reply.
 ///
-/// The answer is the exit status: 0 at the end of input, 2 after a line of no known form, which
-/// is named and ends the script, and 1 after a fault of input or output or for want of memory.
+/// Returns the exit status: 0 at the end of input; 2 after a line that cannot be run, which is
+/// named and ends the script; and 1 after an input or output error, or if an allocation fails.
 /// Replies are written together, but each before more input is waited for.
 pub fn run<R: Read + Drop, W: Write>(alloc: Global, reader: R, writer: &mut W) -> u8
     ensures status { result ≢ 1 → HasStatus (R.remaining reader) result }
@@ -35,19 +35,19 @@ pub fn run<R: Read + Drop, W: Write>(alloc: Global, reader: R, writer: &mut W) -
     }
 }
 
-/// Runs the lines of the reader, and writes their replies.
+/// Runs the lines of the reader, and writes their replies. Returns the exit status.
 fn run_lines<R: Read + Drop, W: Write>(alloc: Global, reader: R, writer: &mut W) -> io::Result<u8>
     ensures { IfOk result (λ status. Prints (W.contents writer.old) (W.contents writer.new)
         (RunsScript (R.remaining reader) status)) }
 {
     let mut dialogue = Dialogue::new(alloc, reader)?;
     let ended = answer_lines(alloc, &mut dialogue, writer);
-    // After a fault too, what was answered is written.
+    // The replies so far are written even after an error.
     write_out(&mut dialogue.replies, writer)?;
     ended
 }
 
-/// Answers one line after another, and gives the status.
+/// Runs one line after another, and returns the exit status.
 fn answer_lines<R: Read, W: Write>(
     alloc: Global,
     dialogue: &mut Dialogue<R>,
@@ -77,7 +77,7 @@ fn answer_lines<R: Read, W: Write>(
     Ok(1)
 }
 
-/// Runs the line of a number, or names it where it can't be run. Answers whether it could.
+/// Runs the line with a number, or names it if it cannot be run. Returns whether it could be run.
 fn answer_line<W: Write>(
     alloc: Global,
     engine: &mut Engine,
@@ -109,7 +109,7 @@ fn answer_line<W: Write>(
     }
 }
 
-/// Runs a command, and answers whether it could: a step can't before any `init`.
+/// Runs a command. Returns whether it could be run: a step cannot before any `init`.
 fn run_command<W: Write>(
     alloc: Global,
     engine: &mut Engine,

@@ -1,5 +1,5 @@
-//! The tests of the program, each in a file with the name of the module that it tests, and in
-//! `support` what they share.
+//! The tests of the program, each in a file with the name of the module that it tests. The file
+//! `support` has what they share.
 
 mod command;
 mod dialogue;

@@ -37,7 +37,7 @@ use Rattle.raft_script.specs.Input.{TakesLine, lines}
 abbrev Plain : List ℕ → Type 0
 Plain text = All (λ byte. (byte == 10) ≡ false) text
 
--- all is taken, where there is no line feed
+-- all is taken, if there is no line feed
 abbrev IsWhole : List ℕ → List ℕ → List ℕ → Type 0
 IsWhole text read rest = Plain text × (read ≡ text) × (rest ≡ [])
 
@@ -45,7 +45,7 @@ IsWhole text read rest = Plain text × (read ≡ text) × (rest ≡ [])
 abbrev IsCut : List ℕ → List ℕ → List ℕ → Type 0
 IsCut text read rest = (front : List ℕ) × Plain front × (text ≡ front ++ 10 ∷ rest) × (read ≡ front ++ 10 ∷ [])
 
--- one more byte at the front
+-- one more byte at the beginning
 longer : (x : ℕ) (xs read rest : List ℕ) → (x == 10) ≡ false → IsWhole xs read rest ⊎ IsCut xs read rest
     → IsWhole (x ∷ xs) (x ∷ read) rest ⊎ IsCut (x ∷ xs) (x ∷ read) rest
 longer x xs read rest other (inl (plain, all, none)) =
@@ -71,7 +71,7 @@ cut : (text : List ℕ) → IsWhole text (take_through 10 text) (drop_through 10
 cut [] = inl ((λ k d l. absurd (omega arith)), refl, refl)
 cut (x ∷ xs) = cut_by x xs (x == 10) refl (cut xs)
 
--- what a line is once its line feed is taken off, and whether there was none
+-- what a line is after its line feed is removed, and whether there was none
 abbrev pub IsTrimmed : List ℕ → List ℕ → Bool → Type 0
 IsTrimmed read line is_last =
     ((read ≡ []) × (line ≡ []) × (is_last ≡ true))
@@ -106,7 +106,7 @@ takes_known text read line is_last rest (inr (front, plain, is, taken)) trimmed 
     subst (λ (b : Bool). TakesLine (Some text) line b (Some rest)) (sym more.1)
     (ap lines is ∙ slice_split_at (λ byte. byte == 10) front 10 rest plain refl ∙ ap (λ l. l ∷ lines rest) (sym more.0))
 
--- a read up to a line feed, which is then taken off, takes a line
+-- reading up to a line feed, and removing the line feed, takes a line
 pub takes_line : (old new : Option (List ℕ)) (read line : List ℕ) (is_last : Bool) → IfSome old (λ text. read ≡ take_through 10 text)
     → DropsThrough old new 10 → IsTrimmed read line is_last → TakesLine old line is_last new
 takes_line None new read line is_last bytes drops trimmed = tt
@@ -127,7 +127,7 @@ not_not : (a b : Bool) → a ≡ not b → b ≡ not a
 not_not a true is = sym (ap not is)
 not_not a false is = sym (ap not is)
 
--- a line feed is taken off
+-- a line feed is removed
 pub trimmed : {F : Type 0} (g : Once F (MutBor ℕ × Unit {0}) (Bool × (MutBor ℕ × Unit {0}))) (read line : List ℕ) (f : F)
     (taken_byte : Option ℕ) (is_last : Bool)
     → ((x : ℕ) (b : Bool) (y : ℕ) → FnOnceReturnsAtMut g f x b y → (b ≡ (x == 10)) × (y ≡ x))

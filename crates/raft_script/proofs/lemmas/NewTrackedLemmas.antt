@@ -21,7 +21,7 @@ or_or : (a b : Bool) → (a || (a || b)) ≡ (a || b)
 or_or true b = refl
 or_or false b = refl
 
--- there is a node exactly where one was needed or given
+-- there is a node exactly if one was needed or given
 node_there : {N : Type 0} (IsDefault : N → Type 0) (learner voter : Bool) (given made : Option N) → WithDefault IsDefault None learner given
     → WithDefault IsDefault given voter made → is_some made ≡ (voter || learner)
 node_there IsDefault true voter (Some g) made one two = ap is_some two ∙ sym (or_true voter)

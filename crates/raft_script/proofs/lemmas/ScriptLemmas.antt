@@ -15,7 +15,8 @@ pub record Leads (number : ℕ) (held : Option EngineState) (said left : List (L
   pub breaks : (more : List ℕ) (others : List (List ℕ)) → RunsFirst number held left more others
       → RunsFirst 1 None said (replies ++ more) others
 
--- the lines of a known script lead to those of the rest, which is unread; where nothing is known, some lines lead to any
+-- the lines of a known script lead to those of the rest, which is unread; if nothing is known, some
+-- lines lead to any
 abbrev pub IsLeft : Option (List ℕ) → ℕ → Option EngineState → Option (List ℕ) → List ℕ → Type 0
 IsLeft None number held unread replies = (left : List (List ℕ)) → (said : List (List ℕ)) × Leads number held said left replies
 IsLeft (Some text) number held unread replies = (rest : List ℕ) × (unread ≡ Some rest) × Leads number held (lines text) (lines rest) replies
@@ -125,7 +126,7 @@ module _ (script before unread now : Option (List ℕ)) (passed : ℕ) (held : O
     go text None takes = absurd takes
     go text (Some others) takes = subst (λ (ls : List (List ℕ)). RunsLines (passed + 1) held ls 0 reply) (sym takes.0) one
 
-  -- a line can't be run
+  -- a line cannot be run
   pub passed_to_bad : (next : Option EngineState) (is_last runs : Bool) → runs ≡ false → TakesLine unread line is_last left
       → Prints between new (AnswersLine (passed + 1) held line runs next) → Prints before new (RunsScript script 2)
   passed_to_bad next is_last true is takes prints = absurd (true≢false is)
@@ -162,7 +163,7 @@ kept_printed (Some xs) None new replies all kept = absurd all
 kept_printed (Some xs) (Some ys) None replies all kept = absurd kept
 kept_printed (Some xs) (Some ys) (Some zs) replies all kept = kept ∙ all
 
--- a line can't be read
+-- a line cannot be read
 pub broken_inside : (script before unread now : Option (List ℕ)) (passed : ℕ) (held : Option EngineState)
     → Passed script before passed held unread now → (left new : Option (List ℕ)) → TakesPart unread left → Keeps now new
     → BreaksOff script left before new
@@ -175,7 +176,7 @@ broken_inside (Some text) before unread now passed held (replies, prints, (rest,
       (subst (λ (o : Option (List ℕ)). TakesPart o left) same takes, kept_printed before now new replies prints kept),
 )
 
--- a line that is read can't be answered
+-- a line that is read cannot be run
 pub broken_after : (script before unread now : Option (List ℕ)) (passed : ℕ) (held : Option EngineState)
     → Passed script before passed held unread now → (left new : Option (List ℕ)) (line : List ℕ) (is_last : Bool)
     → TakesLine unread line is_last left → BreaksOff script left before new
@@ -202,7 +203,7 @@ passed_all script before unread now passed held (replies, prints, is) used = (
   out [] some = absurd (omega arith)
   out (line ∷ others) some = inr (inl (refl, used, refl))
 
--- what is printed to what is held back is printed behind what is written
+-- what is printed after what is held back is printed after what is written
 pub held_back : (written : Option (List ℕ)) (old new : List ℕ) (Fits : List ℕ → Type 0) → Prints (Some old) (Some new) Fits
     → Prints (append_known written old) (append_known written new) Fits
 held_back None old new Fits (text, more, fits) = (text, tt, fits)

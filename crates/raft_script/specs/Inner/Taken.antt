@@ -9,17 +9,17 @@ use Rattle.raft_script.specs.Line.{◌▸◌, Is, kind_word, retain_word, speaks
 use Rattle.raft_script.specs.Word.{IsListOf}
 use Rattle.raft_script.specs.declared.script.command.Words.{Words}
 
--- the words that are left
+-- the words that remain
 abbrev pub left_in : Words → List (List ℕ)
 left_in line = words line.rest.now
 
--- the first word fits, and the others are left
+-- the first word fits, and the others remain
 pub record Takes (Fits : List ℕ → Type 0) (old left : Words) : Type 0 where
   pub word : List ℕ
   pub first : left_in old ≡ word ∷ left_in left
   pub fits : Fits word
 
--- whatever the words
+-- any words
 abbrev pub Whatever : List (List ℕ) → Type 0
 Whatever others = Unit {0}
 
@@ -39,11 +39,11 @@ LacksChange left =
     (change : ChangeMembers ℕ EmptyNode)
     → ¬ (Is (kind_word change) ▸ IsListOf (speaks_of change) ▸ Whatever) left
 
--- neither word on what goes comes first
+-- neither word for removed voters comes first
 abbrev pub LacksRetain : List (List ℕ) → Type 0
 LacksRetain left = (retain : Bool) → Lacks (Is (retain_word retain)) left
 
--- the change of a kind that speaks of these ids
+-- the change of a kind with these ids
 abbrev pub IsChangeOf : List ℕ → BTreeSet ℕ → ChangeMembers ℕ EmptyNode → Type 0
 IsChangeOf kind ids change =
     (kind ≡ kind_word change) × ((id : ℕ) → speaks_of change id ≡ contains nat_cmp ids id)
@@ -52,6 +52,6 @@ IsChangeOf kind ids change =
 abbrev pub IsNoKind : List ℕ → Type 0
 IsNoKind kind = (change : ChangeMembers ℕ EmptyNode) → kind ≢ kind_word change
 
--- a node at each id, and nowhere else
+-- a node at each id, and at no other id
 abbrev pub AreNodesOf : BTreeSet ℕ → BTreeMap ℕ EmptyNode → Type 0
 AreNodesOf ids nodes = (id : ℕ) → is_some (get nat_cmp nodes id) ≡ contains nat_cmp ids id

@@ -1,4 +1,4 @@
-//! What a line says.
+//! Parsing the words of a line.
 ghost use Rattle.std.specs.Prelude.{◌≡◌, ◌≢◌, ◌↔◌, IfOk, IfSome, IsErrOf, SomeIff};
 ghost use Rattle.std.specs.BTreeSet.{contains};
 ghost use Rattle.std.specs.Ordering.{nat_cmp};
@@ -26,7 +26,7 @@ pub enum Command {
     Step(ScriptStep),
 }
 
-/// Why a line can't be run.
+/// Why a line cannot be run.
 #[derive(Debug, Drop)]
 pub enum LineError {
     /// It has none of the known forms.
@@ -44,7 +44,7 @@ impl From<AllocError> for LineError {
     }
 }
 
-/// What a line says: nothing where it has no words.
+/// Returns the command of a line, or `None` if the line has no words.
 pub fn parse(alloc: Global, line: &[u8]) -> Result<Option<Command>, LineError>
     ensures no_words { (result ≡ Ok None) ↔ SaysNothing line.now }
     ensures command { IfOk result (λ said. IfSome said (SaysCommand line.now)) }
@@ -57,7 +57,7 @@ pub fn parse(alloc: Global, line: &[u8]) -> Result<Option<Command>, LineError>
     }
 }
 
-/// The words of a line, which stand between spaces.
+/// The words of a line, which are separated by spaces.
 #[derive(Drop)]
 struct Words<'a> {
     rest: &'a [u8],
@@ -67,7 +67,7 @@ impl<'a> Words<'a> {
     ghost use Rattle.std.specs.Prelude.{MatchOption, OnErr, OnOk, [], ◌∷◌, codes};
     ghost use Rattle.raft_script.specs.Inner.Taken.{Lacks, LacksChange, LacksRetain, Takes, TakesChange, left_in};
 
-    /// The next word.
+    /// Returns the next word, if there is one.
     fn next(&mut self) -> Option<&'a [u8]>
         ensures { MatchOption result (left_in self.old ≡ [])
             (λ word. left_in self.old ≡ word.now ∷ left_in self.new) }
@@ -82,7 +82,7 @@ impl<'a> Words<'a> {
         Some(&from[..end])
     }
 
-    /// The next word, where the line goes on.
+    /// Returns the next word, or an error at the end of the line.
     fn word(&mut self) -> Result<&'a [u8], LineError>
         ensures ok { IfOk result (λ word. left_in self.old ≡ word.now ∷ left_in self.new) }
         ensures err { OnErr result (left_in self.old ≡ []) }
@@ -90,7 +90,7 @@ impl<'a> Words<'a> {
         self.next().ok_or(LineError::BadLine)
     }
 
-    /// The line ends.
+    /// Returns an error unless the line ends here.
     fn end(mut self) -> Result<(), LineError>
         ensures ok { OnOk result (left_in self.entry ≡ []) }
         ensures err { OnErr result (left_in self.entry ≢ []) }
@@ -101,7 +101,7 @@ impl<'a> Words<'a> {
         }
     }
 
-    /// The number that the next word says.
+    /// Returns the number that the next word says.
     fn number(&mut self) -> Result<u64, LineError>
         ensures ok { IfOk result (λ n. Takes (IsNumberOf n) self.old self.new) }
         ensures err { OnErr result (Lacks IsNumber (left_in self.old)) }
@@ -109,7 +109,7 @@ impl<'a> Words<'a> {
         number(self.word()?).ok_or(LineError::BadLine)
     }
 
-    /// The numbers of the list that the next word says.
+    /// Returns the numbers of the list that the next word says.
     fn list(&mut self, alloc: Global) -> Result<BTreeSet<u64>, LineError>
         ensures ok { IfOk result (λ set.
             Takes (IsListOf (contains nat_cmp set)) self.old self.new) }
@@ -118,7 +118,7 @@ impl<'a> Words<'a> {
         list(alloc, self.word()?)
     }
 
-    /// The configs that the next word says.
+    /// Returns the configs that the next word says.
     fn configs(&mut self, alloc: Global) -> Result<Vec<BTreeSet<u64>>, LineError>
         ensures ok { IfOk result (λ sets. Takes (IsConfigsOf sets.items) self.old self.new) }
         ensures bad_line { IsErrOf result LineError.BadLine → Lacks IsConfigs (left_in self.old) }
@@ -126,7 +126,7 @@ impl<'a> Words<'a> {
         configs(alloc, self.word()?)
     }
 
-    /// The change that the next two words say: its kind, and the ids that it speaks of.
+    /// Returns the change that the next two words say: its kind, and its ids.
     fn members(&mut self, alloc: Global) -> Result<ChangeMembers<u64, EmptyNode>, LineError>
         ensures ok { IfOk result (λ change. TakesChange change self.old self.new) }
         ensures bad_line { IsErrOf result LineError.BadLine → LacksChange (left_in self.old) }
@@ -136,7 +136,7 @@ impl<'a> Words<'a> {
         change_of(alloc, kind, ids)
     }
 
-    /// Whether the next word says that voters which go stay as learners.
+    /// Whether the next word says that removed voters stay as learners.
     fn retain(&mut self) -> Result<bool, LineError>
         ensures ok { IfOk result (λ retain. Takes (Is (retain_word retain)) self.old self.new) }
         ensures err { OnErr result (LacksRetain (left_in self.old)) }
@@ -148,7 +148,7 @@ impl<'a> Words<'a> {
         }
     }
 
-    /// The command of this name that the words say.
+    /// Returns the command with this name that the words say.
     fn command(self, alloc: Global, name: &[u8]) -> Result<Command, LineError>
         ensures ok { IfOk result (λ said. Spells said (name.now ∷ left_in self.entry)) }
         ensures bad_line { IsErrOf result LineError.BadLine
@@ -163,7 +163,7 @@ impl<'a> Words<'a> {
         }
     }
 
-    /// The start of a membership and its progress.
+    /// Returns the command that begins with a membership and its progress.
     fn init(mut self, alloc: Global) -> Result<Command, LineError>
         ensures ok { IfOk result (λ said. Spells said (codes "init" ∷ left_in self.entry)) }
         ensures bad_line { IsErrOf result LineError.BadLine
@@ -180,7 +180,7 @@ impl<'a> Words<'a> {
         })
     }
 
-    /// An update.
+    /// Returns an update.
     fn update(mut self) -> Result<Command, LineError>
         ensures ok { IfOk result (λ said. Spells said (codes "update" ∷ left_in self.entry)) }
         ensures err { OnErr result (SpellsNone (codes "update" ∷ left_in self.entry)) }
@@ -191,7 +191,7 @@ impl<'a> Words<'a> {
         Ok(Command::Step(Step::Update(id, value)))
     }
 
-    /// An update where the value is greater.
+    /// Returns an update that is made only if the value is greater.
     fn increase(mut self) -> Result<Command, LineError>
         ensures ok { IfOk result (λ said. Spells said (codes "increase" ∷ left_in self.entry)) }
         ensures err { OnErr result (SpellsNone (codes "increase" ∷ left_in self.entry)) }
@@ -202,7 +202,7 @@ impl<'a> Words<'a> {
         Ok(Command::Step(Step::IncreaseTo(id, value)))
     }
 
-    /// A change of the membership.
+    /// Returns a change of the membership.
     fn change(mut self, alloc: Global) -> Result<Command, LineError>
         ensures ok { IfOk result (λ said. Spells said (codes "change" ∷ left_in self.entry)) }
         ensures bad_line { IsErrOf result LineError.BadLine
@@ -220,7 +220,7 @@ impl<'a> Words<'a> {
     }
 }
 
-/// The change of a kind that speaks of these ids.
+/// Returns the change of a kind with these ids.
 fn change_of(
     alloc: Global,
     kind: &[u8],
@@ -250,14 +250,14 @@ fn change_of(
     }
 }
 
-/// A node at each id.
+/// Returns a node for each id.
 fn nodes_of(alloc: Global, ids: BTreeSet<u64>) -> Result<BTreeMap<u64, EmptyNode>, AllocError>
     ensures { IfOk result (AreNodesOf ids) }
 {
     ids.into_nodes(alloc)
 }
 
-/// The configs of a word: `none` has none, and others are lists joined by slashes.
+/// Returns the configs of a word: `none` has none, and others are lists that are joined by slashes.
 fn configs(alloc: Global, word: &[u8]) -> Result<Vec<BTreeSet<u64>>, LineError>
     ensures configs { IfOk result (λ configs. IsConfigsOf configs.items word.now) }
     ensures bad_line { IsErrOf result LineError.BadLine → ¬ IsConfigs word.now }
@@ -273,7 +273,8 @@ fn configs(alloc: Global, word: &[u8]) -> Result<Vec<BTreeSet<u64>>, LineError>
     Ok(configs)
 }
 
-/// The numbers of a list, ascending and each once: `-` has none, and others are joined by commas.
+/// Returns the numbers of a list, ascending and each once: `-` has none, and others are joined by
+/// commas.
 fn list(alloc: Global, word: &[u8]) -> Result<BTreeSet<u64>, LineError>
     ensures list { IfOk result (λ numbers. IsListOf (contains nat_cmp numbers) word.now) }
     ensures bad_line { IsErrOf result LineError.BadLine → ¬ IsList word.now }
@@ -289,7 +290,7 @@ fn list(alloc: Global, word: &[u8]) -> Result<BTreeSet<u64>, LineError>
     Ok(numbers)
 }
 
-/// The value of decimal digits, where there are any and it fits.
+/// Returns the value of decimal digits, if there are any and it fits.
 fn number(word: &[u8]) -> Option<u64>
     ensures { SomeIff result (IsNumber word.now) (digits_value 10 word.now) }
 {

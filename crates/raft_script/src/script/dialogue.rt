@@ -1,4 +1,4 @@
-//! The input and the output of a program that someone may talk to.
+//! The input and the output of a program that may be used interactively.
 ghost use Rattle.std.specs.Prelude.{◌≡◌, [], false, IfOk, OnErr, OnOk};
 ghost use Rattle.std.specs.Io.Buffered.{reader_buffer};
 ghost use Rattle.std.specs.Io.KnownBytes.{Consumes, Keeps, append_known};
@@ -7,18 +7,20 @@ ghost use Rattle.raft_script.specs.Input.{TakesLine, TakesPart, contents, has_li
 use std::alloc::Global;
 use std::io::{self, BufRead, BufReader, ErrorKind, Read, Write};
 
-/// The room for what is read ahead, and for replies that are not yet written.
+/// The capacity of the buffers for input that is read ahead, and for replies that are not yet
+/// written.
 const BUFFER_SIZE: usize = 65536;
 
-/// From so many bytes on, replies are held back no longer. One reply has less than that many, so
-/// that the room never grows.
+/// Replies are written at the latest when they have this many bytes. One reply has fewer bytes than
+/// that, so the buffer never grows.
 const MOST_HELD_BACK: usize = BUFFER_SIZE / 2;
 
-/// An input, with the replies to what it has given.
+/// An input, with the replies to what was read.
 ///
 /// Replies are held back and written together, but each of them before more input is waited for.
 // The writer is lent to each call. No contract of std says that a `BufWriter` keeps the reference
-// that it is made of, so nothing would be known at the end of what the writer behind it holds.
+// from which it is made, so at the end nothing would be known about the contents of the writer
+// behind it.
 #[derive(Drop)]
 pub struct Dialogue<R> {
     pub input: BufReader<R>,
@@ -26,7 +28,7 @@ pub struct Dialogue<R> {
 }
 
 impl<R: Read> Dialogue<R> {
-    /// A dialogue of which nothing is read or answered.
+    /// Returns a dialogue in which nothing is read or written yet.
     pub fn new(alloc: Global, reader: R) -> io::Result<Dialogue<R>>
     where
         R: Drop,
@@ -38,7 +40,7 @@ impl<R: Read> Dialogue<R> {
         Ok(Dialogue { input, replies })
     }
 
-    /// Reads a line without its line feed, and answers whether it is the last one.
+    /// Reads a line without its line feed. Returns whether it is the last one.
     pub fn read_line<W: Write>(&mut self, line: &mut Vec<u8>, writer: &mut W) -> io::Result<bool>
         ensures line { IfOk result (λ is_last. TakesLine
             (unread R.remaining self.old) line.new.items is_last (unread R.remaining self.new)) }
@@ -49,7 +51,7 @@ impl<R: Read> Dialogue<R> {
         ensures nothing_held_back { OnOk result (has_line_feed (reader_buffer self.old.input) ≡ false
             → self.new.replies.items ≡ []) }
     {
-        // Where no whole line has been read ahead, more input is waited for.
+        // If no whole line has been read ahead, more input is waited for.
         if self.replies.len() >= MOST_HELD_BACK || !self.input.buffer().contains(&b'\n') {
             write_out(&mut self.replies, writer)?;
         }
@@ -57,7 +59,7 @@ impl<R: Read> Dialogue<R> {
     }
 }
 
-/// Writes the bytes, and takes those away that are written: all of them, unless a write fails.
+/// Writes the bytes, and removes those that are written: all of them, unless a write fails.
 pub fn write_out<W: Write>(bytes: &mut Vec<u8>, writer: &mut W) -> io::Result<()>
     ensures contents { Keeps (append_known (W.contents writer.old) bytes.old.items)
         (append_known (W.contents writer.new) bytes.new.items) }
@@ -79,7 +81,7 @@ pub fn write_out<W: Write>(bytes: &mut Vec<u8>, writer: &mut W) -> io::Result<()
     Err(io::Error::from(ErrorKind::Interrupted))
 }
 
-/// Reads a line without its line feed, and answers whether it is the last one.
+/// Reads a line without its line feed. Returns whether it is the last one.
 fn read_line<B: BufRead>(input: &mut B, line: &mut Vec<u8>) -> io::Result<bool>
     ensures line { IfOk result (λ is_last.
         TakesLine (B.remaining input.old) line.new.items is_last (B.remaining input.new)) }

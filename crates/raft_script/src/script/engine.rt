@@ -1,4 +1,4 @@
-//! The membership and its progress that a script runs.
+//! The membership and its progress that a script changes.
 ghost use Rattle.std.specs.Prelude.{◌≡◌};
 
 use raft_base::EmptyNode;
@@ -11,7 +11,7 @@ use std::collections::BTreeSet;
 /// A step of the engine.
 pub type ScriptStep = Step<u64, EmptyNode, u64>;
 
-/// The membership of the last `init` that succeeded, as it has become, and its progress.
+/// The membership of the last `init` that succeeded, as it is now, and its progress.
 #[derive(Drop)]
 pub struct Engine {
     tracked: Option<Tracked<u64, EmptyNode, u64, u64>>,
@@ -21,14 +21,14 @@ impl Engine {
     ghost use Rattle.std.specs.Prelude.{IfOk, OnErr, OnOk, IfSome, IsNone, IsSomeAnd, map};
     ghost use Rattle.raft_script.specs.Engine.{AnswersStep, GrantedIsKnown, IsStart, engine_state, shown_of};
 
-    /// An engine before any `init`.
+    /// Returns an engine before any `init`.
     pub fn new() -> Engine
         ensures { IsNone (engine_state result) }
     {
         Engine { tracked: None }
     }
 
-    /// Goes over to a new membership, in which voters and learners have the default. An id that is
+    /// Switches to a new membership, in which voters and learners have the default. An id that is
     /// both is a voter.
     pub fn init(
         &mut self,
@@ -46,7 +46,7 @@ impl Engine {
         Ok(())
     }
 
-    /// Makes a step; before any `init` there is no reply.
+    /// Makes a step, and returns its reply, or `None` before any `init`.
     pub fn answer(
         &mut self,
         alloc: Global,

@@ -18,13 +18,13 @@ pub fn write<W: Write>(writer: &mut W, reply: &Reply<u64, u64>) -> io::Result<()
         Reply::Refused(Some(id)) => writeln!(writer, "refused no-node {id}"),
         Reply::Refused(None) => writer.write_all(b"refused empty\n"),
         Reply::BelowDefault(id) => writeln!(writer, "below-default {id}"),
-        // No change of a membership is answered so: its learners fit its configs.
+        // A change of a membership never has this reply, because its learners fit its configs.
         Reply::BadLearners => writer.write_all(b"bad-learners\n"),
         Reply::OutOfMemory => writer.write_all(b"no-memory\n"),
     }
 }
 
-/// Writes that the line of a number can't be run, and a line feed.
+/// Writes that the line with a number cannot be run, and a line feed.
 pub fn write_bad_line<W: Write>(writer: &mut W, number: u64) -> io::Result<()>
     ensures { OnOk result
         (Appends (W.contents writer.old) (W.contents writer.new) (bad_line_text number)) }

@@ -1,4 +1,4 @@
-//! What a line says.
+//! Tests of parsing a line.
 
 use crate::tests::support::{assert_answers, push_times};
 use std::test::Fail;

@@ -8,7 +8,7 @@ use std::io::{self, Read, Write};
 use std::process::Abort;
 use std::test::Fail;
 
-/// Gives its text a few bytes a read, and fails at the read numbered `bad`.
+/// Returns its text a few bytes a read, and fails at the read numbered `bad`.
 #[derive(Drop)]
 struct FailingReader<'a> {
     text: &'a [u8],
@@ -53,7 +53,7 @@ impl Write for FailingWriter {
     }
 }
 
-/// How many line feeds stand before the last bytes of a text.
+/// Returns the number of line feeds before the last bytes of a text.
 fn line_feeds(text: &[u8], left: usize) -> usize {
     let mut count = 0usize;
     for byte in text.iter().take(text.len().saturating_sub(left)) {
@@ -64,7 +64,7 @@ fn line_feeds(text: &[u8], left: usize) -> usize {
     count
 }
 
-/// The replies to the first lines of the script: the first line has none.
+/// Returns the replies to the first lines of the script. The first line has none.
 fn replies_to(lines: usize) -> &'static [u8] {
     let mut end = 0;
     let mut left = lines.saturating_sub(1);
@@ -81,7 +81,7 @@ fn replies_to(lines: usize) -> &'static [u8] {
     }
 }
 
-/// Runs the script with a reader that fails at a read, and answers whether it came so far.
+/// Runs the script with a reader that fails at a read. Returns whether that read was reached.
 fn assert_read_fault<R: Abort>(rt: &R, alloc: Global, bad: u64) -> bool {
     let mut out = Vec::new(alloc);
     let mut reader = FailingReader {
@@ -113,7 +113,8 @@ fn tells_of_a_failing_reader(rt: HostRuntime) {
     assert!(rt; faults > 10);
 }
 
-/// Runs the script with a writer that fails from a write on, and answers whether it came so far.
+/// Runs the script with a writer that fails from a write on. Returns whether that write was
+/// reached.
 fn assert_write_fault<R: Abort>(rt: &R, alloc: Global, bad: u64) -> bool {
     let mut writer = FailingWriter {
         text: Vec::new(alloc),
@@ -143,7 +144,7 @@ fn tells_of_a_failing_writer(rt: HostRuntime) {
     assert!(rt; faults > 5);
 }
 
-/// Gives its text a byte a read.
+/// Returns its text a byte a read.
 #[derive(Drop)]
 struct ByteReader<'a> {
     text: &'a [u8],
@@ -158,8 +159,8 @@ impl Read for ByteReader<'_> {
     }
 }
 
-/// Runs a beginning of the script, and answers whether its whole lines have their replies, and a
-/// line that is cut inside is a bad line: each line ends in a word of one byte.
+/// Runs a beginning of the script. Returns whether its whole lines have their replies, and a line
+/// that is cut inside is a bad line: each line ends in a word of one byte.
 fn answers_cut<R: Read + Drop>(
     alloc: Global,
     reader: R,
@@ -196,7 +197,7 @@ fn answers_a_cut_script(rt: HostRuntime) -> Result<(), Fail> {
     Ok(())
 }
 
-/// One who types a piece at a time, and notes before each how much of the answer has come.
+/// A typist who types a piece at a time, and notes before each piece how many bytes were written.
 #[derive(Drop)]
 struct Typist<'a> {
     pieces: &'a [&'static str],

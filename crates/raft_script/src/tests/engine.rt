@@ -1,10 +1,10 @@
-//! What is held.
+//! Tests of what the engine contains.
 
 use crate::script::run;
 use std::test::Fail;
 
-/// An `init` that is refused memory leaves what was held. Where memory is refused elsewhere, the
-/// script ends. With memory at hand the first answer is the only one.
+/// If the allocations of an `init` fail, the engine keeps what it had. If others fail, the script
+/// ends. With enough memory the first reply is the only one.
 #[test]
 fn an_init_may_be_refused_memory(rt: HostRuntime) -> Result<(), Fail> {
     let mut out = Vec::new(rt.alloc());

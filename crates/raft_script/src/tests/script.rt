@@ -62,7 +62,7 @@ init 2 1 3;update 3 4;change add 5 retain 2;update 5 6;change set-nodes 3,6 drop
     =granted 2;granted 2;granted 2;granted 2;granted 2;granted 2;unknown 2;granted 2;granted 2;\
     granted 5;below-default 7;granted 6;";
 
-/// Scripts that end at a line that can't be run, in the same form.
+/// Scripts that end at a line that cannot be run, in the same form.
 const ENDED: &[u8] = b"\
 update 1 5;=bad line 1;
 ; ;increase 1 5;init 0 1 -;=bad line 3;";
@@ -92,8 +92,8 @@ fn answers_scripts(rt: HostRuntime) -> Result<(), Fail> {
     assert_rows(&rt, rt.alloc(), ENDED, 2)
 }
 
-/// The replies to a script, and its status. Unless the status is 1, they are the replies of a run of
-/// the whole script.
+/// Returns the replies to a script, and its status. Unless the status is 1, they are the replies of
+/// a run of the whole script.
 fn replies_to(alloc: Global, script: &[u8]) -> (Vec<u8>, u8)
     ensures { result.1 ≢ 1 → RunsScript (Some script.now) result.1 result.0.items }
 {

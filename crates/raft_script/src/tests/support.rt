@@ -1,4 +1,4 @@
-//! A script with its replies, and runs of scripts that are told what they answer.
+//! A script with its replies, and runs of scripts that are compared with given replies.
 
 use crate::script::run;
 use std::alloc::{AllocError, Global};
@@ -20,7 +20,7 @@ change replace 2,3 retain 4
 increase 2 7
 update 1";
 
-/// What they are answered.
+/// The replies to the script.
 pub const REPLIES: &[u8] = b"\
 granted 0
 granted 3
@@ -35,7 +35,7 @@ granted 5
 bad line 12
 ";
 
-/// The text of a row, with line feeds.
+/// Returns the text of a row, with line feeds.
 pub fn text_of(alloc: Global, row: &[u8]) -> Result<Vec<u8>, Fail> {
     let mut text = Vec::new(alloc);
     for byte in row {
@@ -66,7 +66,7 @@ pub fn assert_answers<R: Abort>(
     Ok(())
 }
 
-/// Repeats a piece.
+/// Appends a piece several times.
 pub fn push_times(text: &mut Vec<u8>, piece: &[u8], times: u64) -> Result<(), AllocError> {
     for _ in 0..times {
         text.extend_from_slice(piece)?;

@@ -68,21 +68,21 @@ parts_of_other word other = ap (λ (b : Bool). if b then [] else slice_split (λ
 pub lists_of_other : (word : List ℕ) → false ≡ pointwise nat_eq word (codes "none") → lists word ≡ slice_split (λ byte. byte == 47) word
 lists_of_other word other = ap (λ (b : Bool). if b then [] else slice_split (λ byte. byte == 47) word) (sym other)
 
--- where one word lacks something, not all have it
+-- if one word lacks something, not all have it
 pub not_all : (P : List ℕ → Type 0) (all : List (List ℕ)) (i : ℕ) (word : List ℕ) → i < length all → word ≡ get_or all i word → ¬ (P word)
     → ¬ (All P all)
 not_all P all i word within is lacks have = lacks (subst P (sym is) (have i word within))
 
--- what no number was read from is none
+-- a word from which no number was read is no number
 pub no_number : (word : List ℕ) (n : Option ℕ) → SomeIff n (IsNumber word) (digits_value 10 word) → n ≡ None → ¬ (IsNumber word)
 no_number word n says none = subst (λ (o : Option ℕ). SomeIff o (IsNumber word) (digits_value 10 word)) none says
 
--- what a number was read from
+-- a word from which a number was read
 pub number_of : (word : List ℕ) (n : Option ℕ) (m : ℕ) → SomeIff n (IsNumber word) (digits_value 10 word) → n ≡ Some m
     → IsNumber word × (m ≡ digits_value 10 word)
 number_of word n m says some = subst (λ (o : Option ℕ). SomeIff o (IsNumber word) (digits_value 10 word)) some says
 
--- what holds where a call gave a value, known from its answer with another error
+-- what holds if a call returned a value, known from its result with another error type
 pub where_ok : {T E F : Type 0} (r : Result T E) (m : Result T F) (x : T) (Q : Type 0) → is_ok m ≡ is_ok r → m ≡ Ok x → OnOk r Q → Q
 where_ok (Ok y) m x Q same is q = q
 where_ok (Err e) m x Q same is q = absurd (true≢false (sym (ap is_ok is) ∙ same))

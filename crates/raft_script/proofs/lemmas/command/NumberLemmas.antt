@@ -22,7 +22,7 @@ module _ (word : List ℕ) (i : ℕ) (within : i < length word) (b : ℕ) (byte 
       above (omega arith)
 
   module _ (n : ℕ) (so_far : n ≡ digits_value 10 (take i word)) where
-    -- digits whose number doesn't fit
+    -- digits whose number does not fit
     pub too_great : ¬ (n * 10 + digit_value b < 2 ^ 64) → ¬ (IsNumeral 10 word × (digits_value 10 word < 2 ^ 64))
     too_great above (numeral, fits) =
         let more : digits_value 10 (take (i + 1) word) ≡ n * 10 + digit_value b =

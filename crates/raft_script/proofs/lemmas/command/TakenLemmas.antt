@@ -14,22 +14,22 @@ use Rattle.raft_script.specs.declared.script.command.Words.{Words}
 use Rattle.raft_script.specs.declared.script.command.Command.TheVariants.{Init}
 use Rattle.raft_script.specs.declared.script.command.Command.TheVariants as command
 
--- where the others don't fit
+-- if the other words do not fit
 pub others_lack : {Taken : List ℕ → Type 0} {old left : Words} (Fits : List ℕ → Type 0) (Others : List (List ℕ) → Type 0)
     → Takes Taken old left → ¬ (Others (left_in left)) → ¬ ((Fits ▸ Others) (left_in old))
 others_lack Fits Others taken lack fit = let opened = subst (Fits ▸ Others) taken.first fit in lack opened.1
 
--- where the first word doesn't fit
+-- if the first word does not fit
 pub first_lacks : {Looser Fits : List ℕ → Type 0} (weaker : (word : List ℕ) → Fits word → Looser word) (old : List (List ℕ))
     (Others : List (List ℕ) → Type 0) → Lacks Looser old → ¬ ((Fits ▸ Others) old)
 first_lacks weaker [] Others lack fit = fit
 first_lacks weaker (word ∷ others) Others lack fit = lack (weaker word fit.0, tt)
 
--- texts that a test tells apart
+-- texts that a test distinguishes
 apart : (a b : List ℕ) → bytes_eq a b ≡ false → a ≢ b
 apart a b other same = true≢false (sym ((bytes_eq-Decides a b).1 same) ∙ other)
 
--- a change, where what it is given does not fit
+-- a change whose arguments do not fit
 pub no_change : (left : List (List ℕ)) → ((change : ChangeMembers ℕ EmptyNode) (retain : Bool) (default : ℕ)
     → ¬ ((Is (kind_word change) ▸ IsListOf (speaks_of change) ▸ Is (retain_word retain) ▸ IsNumberOf default ▸ End) left))
     → SpellsNone (codes "change" ∷ left)
@@ -38,7 +38,7 @@ no_change left lack (command.Step (Update id value)) said = apart (codes "change
 no_change left lack (command.Step (IncreaseTo id value)) said = apart (codes "change") (codes "increase") refl said.0
 no_change left lack (command.Step (Change change retain default)) said = lack change retain default said.1
 
--- where no kind and ids of a change come first
+-- if no kind and ids of a change come first
 pub change_lacks : (left : List (List ℕ)) → LacksChange left → SpellsNone (codes "change" ∷ left)
 change_lacks left lack = no_change left (λ change retain default. without_others left change
     (Is (retain_word retain) ▸ IsNumberOf default ▸ End) (lack change)) where
@@ -49,7 +49,7 @@ change_lacks left lack = no_change left (λ change retain default. without_other
       without_others (word ∷ []) change Others none fit = fit.1
       without_others (word ∷ next ∷ others) change Others none fit = none (fit.0, (fit.1.0, tt))
 
--- where nothing is said of voters that go
+-- if nothing is said about removed voters
 pub retain_lacks : {taken : ChangeMembers ℕ EmptyNode} (old : Words) {left : Words} → TakesChange taken old left
     → LacksRetain (left_in left) → SpellsNone (codes "change" ∷ left_in old)
 retain_lacks old {left} takes lack = no_change (left_in old) (λ change retain default.

@@ -30,24 +30,24 @@ use Rattle.std.proofs.lemmas.List.Sums.{passes_at_first, prefix_len-le-length}
 use Rattle.std.proofs.Math.Numerals.{one-add}
 use Rattle.raft_script.specs.Line.{has_bytes, words}
 
--- what is left of parts without the empty ones
+-- the parts without the empty ones
 abbrev filled : List (List ℕ) → List (List ℕ)
 filled = filter has_bytes
 
 abbrev parts : List ℕ → List (List ℕ)
 parts = slice_split (λ byte. byte == 32)
 
--- a space before all else makes no word
+-- a space at the beginning makes no word
 space_first : (x : ℕ) (xs : List ℕ) → (x == 32) ≡ true → words (x ∷ xs) ≡ words xs
 space_first x xs is = ap (λ (b : Bool). filled (cond b ([] ∷ parts xs) (onto_first x (parts xs)))) is
 
--- one more byte at the front of a word
+-- one more byte at the beginning of a word
 longer : (x y : ℕ) (word : List ℕ) (rest ps : List (List ℕ)) → filled (onto_first y ps) ≡ (y ∷ word) ∷ rest
     → filled (onto_first x (onto_first y ps)) ≡ (x ∷ y ∷ word) ∷ rest
 longer x y word rest [] is = cc
 longer x y word rest (p ∷ ps) is = cc
 
--- how many bytes stand before the first space
+-- the number of bytes before the first space
 abbrev before : List ℕ → ℕ
 before = position_or_len (λ b. b == 32)
 
@@ -72,7 +72,7 @@ first_word : (x : ℕ) (xs : List ℕ) → (x == 32) ≡ false → words (x ∷ 
 first_word x [] other = opened x [] other
 first_word x (y ∷ ys) other = opened x (y ∷ ys) other ∙ by_test x y ys (y == 32) refl (λ is. first_word y ys is)
 
--- how many bytes are no word yet
+-- the number of bytes before the first word
 abbrev spaces : List ℕ → ℕ
 spaces = position_or_len (λ b. not (b == 32))
 
@@ -81,7 +81,7 @@ skip_by : (x : ℕ) (xs : List ℕ) (b : Bool) → (x == 32) ≡ b → words (dr
 skip_by x xs true is next = rw one-add (next ∙ sym (space_first x xs is))
 skip_by x xs false is next = refl
 
--- spaces at the front make no words
+-- spaces at the beginning make no words
 pub skipped : (line : List ℕ) → words (drop (spaces line) line) ≡ words line
 skipped [] = refl
 skipped (x ∷ xs) = skip_by x xs (x == 32) refl (skipped xs)
@@ -91,7 +91,7 @@ take_by : (x : ℕ) (xs : List ℕ) (b : Bool) → (x == 32) ≡ b → b ≡ fal
 take_by x xs false is other = rw one-add (first_word x xs is)
 take_by x xs true is other = cc
 
--- what begins with no space has its first word up to the next one
+-- bytes that begin with no space have their first word up to the next one
 pub taken : (from : List ℕ) → 0 < length from → (get_or from 0 0 == 32) ≡ false
     → words from ≡ take (before from) from ∷ words (drop (before from) from)
 taken [] some other = absurd (omega arith)
@@ -120,7 +120,7 @@ no_words line place is none =
     let past : length line ≤ spaces line = missed (spaces line) (length line) _ refl (sym is ∙ none) in
     sym (skipped line) ∙ ap words (drop_all (spaces line) line past)
 
--- the first word of a line, where one begins and how long it is
+-- the first word of a line, from where it begins and how long it is
 pub one_word : (line from : List ℕ) (place : Option ℕ) (start : ℕ) (size : Option ℕ) (n : ℕ)
     → place ≡ cond (ltb (spaces line) (length line)) (Some (spaces line)) None → place ≡ Some start
     → from ≡ take (length line - start) (drop start line) → size ≡ cond (ltb (before from) (length from)) (Some (before from)) None
