@@ -75,7 +75,7 @@ impl<L: LeaderIdentity> VoteIn<L> {
     /// Marks the vote's leader as elected by a quorum. This never lowers the vote.
     pub fn commit(&mut self)
         ensures committed { self.new ≡ record self.old { committed = true } }
-        ensures not_lowered { IsTrue (partial_le (vote_cmp L.order) self.old self.new) }
+        ensures monotone { IsTrue (partial_le (vote_cmp L.order) self.old self.new) }
     {
         self.committed = true;
     }

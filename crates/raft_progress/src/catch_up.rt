@@ -72,7 +72,7 @@ pub fn catch_up_entry<C: Ord + Copy, L: LogStateReader<C>>(
     ensures run { HonestRunEnds C.cmp (L.log_view log.now) max_entries
         entry.old agree entry.new result.0 result.1 }
     ensures caught_up { MatchesAll C.eq (L.log_view log.now) entry.new }
-    ensures not_lowered { IsTrue (id_le C.cmp entry.old.matching entry.new.matching) }
+    ensures monotone { IsTrue (id_le C.cmp entry.old.matching entry.new.matching) }
     ensures conflicts { (k : ℕ) → stretch entry.old / 16 < 2 ^ k → result.0 ≤ k }
     ensures acks { let left =
         next_index (L.log_view log.now).last - next_index entry.old.matching in

@@ -143,7 +143,7 @@ impl<C: Ord + Copy> ProgressEntryOf<C> {
             self.old result self.new }
         ensures matched { OnOk result (self.new.matching ≡ matching) }
         ensures valid { OnOk result (first_false (entry_relations C.cmp self.new) ≡ None) }
-        ensures not_lowered { IsTrue (id_le C.cmp self.old.matching self.new.matching) }
+        ensures monotone { IsTrue (id_le C.cmp self.old.matching self.new.matching) }
     {
         // All tests come first, so that a refusal leaves the entry as it was.
         self.inflight.check_ack(request_id, matching)?;

@@ -116,7 +116,7 @@ pub fn calls_are_runs<
     ensures values { (order : V → V → Option Ordering) →
         let by = comparisons_ordered ID.Ord P.Ord order V.ProgressPart V.Clone in
         RunsAreRunsOfValues ID V P QS by QS.has_quorum QS.is_voter }
-    ensures never_falls { (order : V → V → Option Ordering) →
+    ensures monotone { (order : V → V → Option Ordering) →
         let by = comparisons_ordered ID.Ord P.Ord order V.ProgressPart V.Clone in
         RunsNeverFall ID V P QS by QS.has_quorum QS.is_voter }
     ensures updates { (order : V → V → Option Ordering) →
@@ -143,7 +143,7 @@ pub fn tracked_calls_are_runs<NID: NodeId, N: Node, V: ProgressPart<P> + Clone, 
     ensures values { (order : V → V → Option Ordering) →
         let by = comparisons_ordered NID.Ord P.Ord order V.ProgressPart V.Clone in
         ReplaysAreRunsOfValues NID N V P by N.eq }
-    ensures never_falls { (order : V → V → Option Ordering) →
+    ensures monotone { (order : V → V → Option Ordering) →
         let by = comparisons_ordered NID.Ord P.Ord order V.ProgressPart V.Clone in
         ReplaysNeverFall NID N V P by N.eq }
     ensures updates { (order : V → V → Option Ordering) →

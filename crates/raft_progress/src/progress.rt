@@ -119,7 +119,7 @@ pub trait Progress<ID: Copy + Ord, V: ProgressPart<P>, P: Copy + Ord, QS: Quorum
         requires ordered { IsInOrder ID.eq P.cmp V.part_of QS.has_quorum (shows self.old) }
         requires callable { ForSome ((state ID.eq (shows self.old)).value id.now)
             (FnOnceTakesAtMut F.FnOnce f) }
-        requires not_lower { NeverFalls ID.eq P.cmp V.part_of (Leaves F.FnOnce f)
+        requires monotone { NeverFalls ID.eq P.cmp V.part_of (Leaves F.FnOnce f)
             (shows self.old) id.now }
         ensures* after { sem 𝓛 (LendsGranted Self.row shows self.entry
             (IsAnsweredUpdate ID.eq P.cmp V.part_of QS.has_quorum
@@ -132,14 +132,14 @@ pub trait Progress<ID: Copy + Ord, V: ProgressPart<P>, P: Copy + Ord, QS: Quorum
     fn would_fall(&self, id: &ID, value: &V) -> bool
         ensures answer { result
             ≡ falls P.cmp V.part_of ((state ID.eq (shows self.now)).value id.now) value.now }
-        ensures not_lower { result ≡ false →
+        ensures monotone { result ≡ false →
             IsNotLower ID.eq P.cmp V.part_of (shows self.now) id.now value.now };
 
     /// Writes the value of an id. Returns granted, as an error if the id is unknown. The part may
     /// not fall, which `would_fall` tests.
     fn update(&mut self, id: &ID, value: V) -> Result<&P, &P>
         requires ordered { IsInOrder ID.eq P.cmp V.part_of QS.has_quorum (shows self.old) }
-        requires not_lower { IsNotLower ID.eq P.cmp V.part_of (shows self.old) id.now value }
+        requires monotone { IsNotLower ID.eq P.cmp V.part_of (shows self.old) id.now value }
         ensures* after { sem 𝓛 (LendsGranted Self.row shows self.entry
             (IsAnsweredUpdate ID.eq P.cmp V.part_of QS.has_quorum
             (λ v w. w ≡ value) id.now result)) };
@@ -151,7 +151,7 @@ pub trait Progress<ID: Copy + Ord, V: ProgressPart<P>, P: Copy + Ord, QS: Quorum
     where
         V: PartialOrd,
         requires ordered { IsInOrder ID.eq P.cmp V.part_of QS.has_quorum (shows self.old) }
-        requires not_lower { IsNotLowerIfGreater ID.eq P.cmp V.part_of V.partial_cmp
+        requires monotone { IsNotLowerIfGreater ID.eq P.cmp V.part_of V.partial_cmp
             (shows self.old) id.now value }
         ensures* after { sem 𝓛 (LendsGranted Self.row shows self.entry
             (IsAnsweredUpdate ID.eq P.cmp V.part_of QS.has_quorum

@@ -95,7 +95,7 @@ impl<NID: NodeId, N: Node, V: ProgressPart<P> + Clone + Drop, P: Copy + Ord> Tra
     /// unchanged, or an allocation error.
     pub fn try_clone(&self) -> Result<Self, AllocError>
         requires clones_have_the_part { (v w : V) → V.is_clone v w → V.part_of w ≡ V.part_of v }
-        requires clones_of_nodes_are_equal { ClonesAreEqual N.eq N.is_clone }
+        requires clones_are_equal { ClonesAreEqual N.eq N.is_clone }
         ensures membership { IfOk result (λ made. IsTrue (same_members NID.eq N.eq
             (tracked self.now).membership (tracked made).membership)) }
         ensures progress { IfOk result (λ made. IsCloned V.is_clone HasSameConfigs

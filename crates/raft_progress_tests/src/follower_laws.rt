@@ -33,7 +33,7 @@ fn take_responses<NID: NodeId, N: Node, V: ProgressPart<P> + Clone + Drop, P: Co
     cluster: &mut Tracked<NID, N, V, P>,
     responses: Vec<(NID, V)>,
 )
-    ensures never_falls { AtMost P.cmp
+    ensures monotone { AtMost P.cmp
         (tracked cluster.old).progress.granted (tracked cluster.new).progress.granted }
     ensures known { (p : P) → QuorumsKnow NID.eq P.cmp V.part_of (tracked cluster.old) p →
         QuorumsKnow NID.eq P.cmp V.part_of (tracked cluster.new) p }

@@ -69,7 +69,7 @@ pub fn acked<
     QS: QuorumSet<ID> + Drop,
 >(progress: &mut VecProgress<ID, V, P, QS>, id: &ID, value: V)
     requires ordered { IsInOrder ID.eq P.cmp V.part_of QS.has_quorum (shown progress.old) }
-    requires not_lower { IsNotLower ID.eq P.cmp V.part_of (shown progress.old) id.now value }
+    requires monotone { IsNotLower ID.eq P.cmp V.part_of (shown progress.old) id.now value }
     ensures { (order : V → V → Option Ordering) →
         let by = comparisons_ordered ID.Ord P.Ord order V.ProgressPart V.Clone in
         (reply : Reply ID P) × IsShownStep by QS.has_quorum QS.is_voter (shown progress.old)
@@ -87,7 +87,7 @@ fn heard<
     QS: QuorumSet<ID> + Drop,
 >(progress: &mut VecProgress<ID, V, P, QS>, id: &ID, value: V)
     requires ordered { IsInOrder ID.eq P.cmp V.part_of QS.has_quorum (shown progress.old) }
-    requires not_lower { IsNotLowerIfGreater ID.eq P.cmp V.part_of V.partial_cmp
+    requires monotone { IsNotLowerIfGreater ID.eq P.cmp V.part_of V.partial_cmp
         (shown progress.old) id.now value }
     ensures { let by = comparisons ID.Ord P.Ord V.PartialOrd V.ProgressPart V.Clone in
         (reply : Reply ID P) × IsShownStep by QS.has_quorum QS.is_voter (shown progress.old)

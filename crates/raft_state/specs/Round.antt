@@ -103,7 +103,7 @@ module _ {ID C QS : Type 0} (eq : ID → ID → Bool) (same_leader : C → C →
     pub updates : 1 ≤ count
         → new.stat.update_count ≡ count_after old.stat.update_count count
     pub none_ran : count ≡ 0 → new ≡ old
-    pub not_lower : IsTrue (id_le cmp old.granted new.granted)
+    pub monotone : IsTrue (id_le cmp old.granted new.granted)
     pub last_at_most : QuorumRan eq has_quorum old ran → IsTrue (id_le cmp log.last new.granted)
     pub last_at_least : QuorumRan eq has_quorum old ran → NonePastLast eq cmp log old
         → IsTrue (id_le cmp new.granted log.last)

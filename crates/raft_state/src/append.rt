@@ -46,7 +46,7 @@ impl<NID: NodeId, N: Node, I: Instant, L: Drop, C: Ord + Copy + Drop> RaftStateI
         &mut self,
         entries: &[Ent],
     ) -> Result<(), AllocError>
-        requires clones { ClonesAreEqual N.eq N.is_clone }
+        requires clones_are_equal { ClonesAreEqual N.eq N.is_clone }
         requires may { IsTrue
             (may_append_entries C.cmp Ent.id_of Ent.membership entries.now self.old) }
         ensures log { OnOk result (IsTrue (same_log C.eq (full_log self.new.log_ids)
@@ -91,7 +91,7 @@ impl<NID: NodeId, N: Node, I: Instant, L: Drop, C: Ord + Copy + Drop> RaftStateI
         &self,
         entries: &[Ent],
     ) -> Result<MembershipStateOf<C, NID, N>, AllocError>
-        requires clones { ClonesAreEqual N.eq N.is_clone }
+        requires clones_are_equal { ClonesAreEqual N.eq N.is_clone }
         requires follow { IsTrue (memberships_follow C.cmp Ent.id_of
             (λ e. is_some (Ent.membership e))
             (log_id_of self.now.membership_state.effective) entries.now) }

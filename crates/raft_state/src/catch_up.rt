@@ -43,7 +43,7 @@ impl<NID: NodeId, N: Node, I: Instant, L: Drop, C: Ord + Copy + Drop> RaftStateI
         ensures run { HonestRunEnds C.cmp (view_of self.now) max_entries
             entry.old agree entry.new result.0 result.1 }
         ensures caught_up { MatchesAll C.eq (view_of self.now) entry.new }
-        ensures not_lowered { IsTrue (id_le C.cmp entry.old.matching entry.new.matching) }
+        ensures monotone { IsTrue (id_le C.cmp entry.old.matching entry.new.matching) }
         ensures conflicts { (k : ℕ) → stretch entry.old / 16 < 2 ^ k → result.0 ≤ k }
         ensures acks { let left =
             next_index (view_of self.now).last - next_index entry.old.matching in

@@ -71,7 +71,7 @@ impl<
     ///
     /// After an error nothing has changed.
     pub fn install_snapshot(&mut self, meta: SnapshotMetaOf<C, NID, N>) -> Result<(), AllocError>
-        requires clones { ClonesAreEqual N.eq N.is_clone }
+        requires clones_are_equal { ClonesAreEqual N.eq N.is_clone }
         requires may { IsTrue (may_install L.order C.cmp C.eq meta self.old) }
         ensures log { OnOk result (IfSome meta.last_log_id (λ upto.
             full_log self.new.log_ids ≡ log_after_install C.eq upto self.old)) }

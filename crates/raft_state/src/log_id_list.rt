@@ -91,7 +91,7 @@ impl<C: Ord + Copy> LogIdListOf<C> {
             (log_after_extend (full_log self.old) (map LID.id_of new_ids.now)))) }
         ensures last { OnOk result (last_id (full_log self.new)
             ≡ option_or (last_id (map LID.id_of new_ids.now)) (last_id (full_log self.old))) }
-        ensures not_lowered { OnOk result (IsTrue (id_le C.cmp (last_id (full_log self.old))
+        ensures monotone { OnOk result (IsTrue (id_le C.cmp (last_id (full_log self.old))
             (last_id (full_log self.new)))) }
         ensures kept { OnOk result (KeepsIds C.eq (full_log self.old) (full_log self.new)) }
         ensures own { OnOk result
@@ -120,7 +120,7 @@ impl<C: Ord + Copy> LogIdListOf<C> {
             (log_after_extend (full_log self.old) (map LID.id_of new_ids.now)))) }
         ensures last { OnOk result (last_id (full_log self.new)
             ≡ option_or (last_id (map LID.id_of new_ids.now)) (last_id (full_log self.old))) }
-        ensures not_lowered { OnOk result (IsTrue (id_le C.cmp (last_id (full_log self.old))
+        ensures monotone { OnOk result (IsTrue (id_le C.cmp (last_id (full_log self.old))
             (last_id (full_log self.new)))) }
         ensures kept { OnOk result (KeepsIds C.eq (full_log self.old) (full_log self.new)) }
         ensures own { OnOk result

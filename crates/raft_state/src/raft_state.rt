@@ -257,7 +257,7 @@ impl<
         ensures answer { result ≡ partial_ge (vote_cmp L.order) vote (vote_of self.old) }
         ensures taken { self.new ≡ (if result
             then record self.old { vote = utime_of vote (moment_of self.old.vote) } else self.old) }
-        ensures not_lowered { IsTrue
+        ensures monotone { IsTrue
             (partial_ge (vote_cmp L.order) (vote_of self.new) (vote_of self.old)) }
         ensures sound { IsSound C.eq C.cmp self.old → IsSound C.eq C.cmp self.new }
     {

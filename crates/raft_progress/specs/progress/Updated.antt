@@ -45,7 +45,7 @@ module _ {ID V P QS : Type 0} (eq : ID → ID → Bool) (cmp : P → P → Order
       (new : Shown ID V P QS) : Type 0 where
     pub counts : new.stat.update_count ≡ count_after old.stat.update_count 1
     pub same_voter_count : new.voter_count ≡ old.voter_count
-    pub not_lower : AtMost cmp old.granted new.granted
+    pub monotone : AtMost cmp old.granted new.granted
     pub known : (v : V) → (state eq old).value id ≡ Some v
         → (w : V) × Left v w × Writes eq (state eq old) id w (state eq new)
         × IsSettled old id v w new

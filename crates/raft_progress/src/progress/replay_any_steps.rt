@@ -222,7 +222,7 @@ pub fn replay_any<
     ensures ordered { IsInOrder ID.eq P.cmp V.part_of QS.has_quorum (shown progress.new) }
     ensures granted { IsCounted P.cmp V.part_of QS.has_quorum
         (state ID.eq (shown progress.new)) (shown progress.new).granted }
-    ensures never_falls { list_any is_upgrade steps.items ≡ false →
+    ensures monotone { list_any is_upgrade steps.items ≡ false →
         AtMost P.cmp (shown progress.old).granted (shown progress.new).granted }
     ensures err { OnErr result (shown progress.new ≡ shown progress.old) }
 {

@@ -29,7 +29,7 @@ fn answer<NID: NodeId, N: Node, V: ProgressPart<P> + PartialOrd + Clone + Drop, 
     step: Step<NID, N, V>,
 ) -> Reply<NID, P>
     requires clones_have_the_part { (v w : V) → V.is_clone v w → V.part_of w ≡ V.part_of v }
-    requires clones_of_nodes_are_equal { ClonesAreEqual N.eq N.is_clone }
+    requires clones_are_equal { ClonesAreEqual N.eq N.is_clone }
     ensures { let by = comparisons NID.Ord P.Ord V.PartialOrd V.ProgressPart V.Clone in
         IsTrackedShownStep by N.eq (tracked cluster.old) step result (tracked cluster.new) }
 {
@@ -53,7 +53,7 @@ fn change_members<NID: NodeId, N: Node, V: ProgressPart<P> + Clone + Drop, P: Co
     default: V,
 ) -> Reply<NID, P>
     requires clones_have_the_part { (v w : V) → V.is_clone v w → V.part_of w ≡ V.part_of v }
-    requires clones_of_nodes_are_equal { ClonesAreEqual N.eq N.is_clone }
+    requires clones_are_equal { ClonesAreEqual N.eq N.is_clone }
     ensures { IsShownChange NID.eq NID.cmp N.eq P.cmp V.part_of V.is_clone
         (tracked cluster.old) change retain default result (tracked cluster.new) }
 {
@@ -103,7 +103,7 @@ pub fn replay<NID: NodeId, N: Node, V: ProgressPart<P> + PartialOrd + Clone + Dr
     steps: Vec<Step<NID, N, V>>,
 ) -> Result<Vec<Reply<NID, P>>, AllocError>
     requires clones_have_the_part { (v w : V) → V.is_clone v w → V.part_of w ≡ V.part_of v }
-    requires clones_of_nodes_are_equal { ClonesAreEqual N.eq N.is_clone }
+    requires clones_are_equal { ClonesAreEqual N.eq N.is_clone }
     ensures run { let by = comparisons NID.Ord P.Ord V.PartialOrd V.ProgressPart V.Clone in
         IfOk result (λ replies. IsTrackedRun by N.eq
         (tracked_state NID.eq (tracked cluster.old)) steps.items replies.items
@@ -115,7 +115,7 @@ pub fn replay<NID: NodeId, N: Node, V: ProgressPart<P> + PartialOrd + Clone + Dr
     ensures ready { IsReady NID.eq NID.cmp P.cmp V.part_of (tracked cluster.new) }
     ensures granted { IsCounted P.cmp V.part_of (has_quorum NID.eq)
         (state NID.eq (tracked cluster.new).progress) (tracked cluster.new).progress.granted }
-    ensures never_falls { list_any is_change steps.items ≡ false →
+    ensures monotone { list_any is_change steps.items ≡ false →
         AtMost P.cmp (tracked cluster.old).progress.granted (tracked cluster.new).progress.granted }
     ensures quorums { QuorumsKnowGranted NID.eq P.cmp V.part_of (tracked cluster.new) }
     ensures changed_quorums { ChangedQuorumsKnowGranted NID.eq NID.cmp P.cmp V.part_of

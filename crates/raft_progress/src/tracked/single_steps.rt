@@ -34,7 +34,7 @@ impl<NID: NodeId, N: Node, V: ProgressPart<P> + Drop, P: Copy + Ord> Tracked<NID
         ensures ready { IsReady NID.eq NID.cmp P.cmp V.part_of (tracked self.new) }
         ensures granted { IsCounted P.cmp V.part_of (has_quorum NID.eq)
             (state NID.eq (tracked self.new).progress) (tracked self.new).progress.granted }
-        ensures never_falls { AtMost P.cmp (tracked self.old).progress.granted
+        ensures monotone { AtMost P.cmp (tracked self.old).progress.granted
             (tracked self.new).progress.granted }
         ensures quorums { QuorumsKnowGranted NID.eq P.cmp V.part_of (tracked self.new) }
         ensures changed_quorums { ChangedQuorumsKnowGranted NID.eq NID.cmp P.cmp V.part_of

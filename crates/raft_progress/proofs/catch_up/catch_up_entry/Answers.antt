@@ -5,7 +5,7 @@ use Rattle.raft_progress.proofs.lemmas.catch_up.CatchUpLemmas.{
   begins,
   ends_run,
   id_left,
-  not_lowered,
+  monotone,
   ready_from,
 }
 use Rattle.raft_progress.proofs.catch_up.catch_up_entry.Goals as goal
@@ -30,10 +30,10 @@ returns-in-Ended-clause-run g c = rw c.in-Ended.ensures.1
     c.requires.logged c.args.max_entries c.args.entry.now c.args.agree c.turns.entry c.turns.agreed c.turns.conflicts c.turns.acks
     c.turns.invariant c.in-Ended.ensures.0)
 
-pub returns-in-Ended-clause-not_lowered : goal.returns-in-Ended-clause-not_lowered
-returns-in-Ended-clause-not_lowered g c =
+pub returns-in-Ended-clause-monotone : goal.returns-in-Ended-clause-monotone
+returns-in-Ended-clause-monotone g c =
     let end = c.in-Ended.ensures in
-    rw end.1 (not_lowered g.C.PartialEq.eq g.C.Ord.cmp g.met.C.Ord.total g.met.C.Eq.laws.refl g.met.C.Ord.matches_eq
+    rw end.1 (monotone g.C.PartialEq.eq g.C.Ord.cmp g.met.C.Ord.total g.met.C.Eq.laws.refl g.met.C.Ord.matches_eq
     (g.L.LogStateReader.log_view c.args.log.now) c.args.max_entries c.args.entry.now c.turns.entry c.args.agree c.requires.logged
     (ready_from g.C.PartialEq.eq g.C.Ord.cmp (g.L.LogStateReader.log_view c.args.log.now) c.args.max_entries c.args.entry.now
     c.args.agree c.requires.can).0 end.3)

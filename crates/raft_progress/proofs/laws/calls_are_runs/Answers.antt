@@ -42,8 +42,8 @@ returns-clause-values g c order =
     (IsStep by g.QS.QuorumSet.has_quorum g.QS.QuorumSet.is_voter) IsSame (state g.ID.PartialEq.eq) (λ old step reply new s. s.values)
     IsSame-refl old steps replies new run
 
-pub returns-clause-never_falls : goal.returns-clause-never_falls
-returns-clause-never_falls g c order =
+pub returns-clause-monotone : goal.returns-clause-monotone
+returns-clause-monotone g c order =
     let by : Comparisons g.row.ID.Denot g.row.V.Denot g.row.P.Denot =
     compared g.ID.PartialEq.eq g.ID.Ord.cmp g.P.Ord.cmp order g.V.ProgressPart.part_of g.V.Clone.is_clone in
     λ old new steps replies run none. run_not_lower by g.met.P.Ord.total g.QS.QuorumSet.has_quorum g.QS.QuorumSet.is_voter old steps

@@ -35,8 +35,8 @@ returns-clause-values g c order =
     λ old new steps replies run. run_seen (IsTrackedShownStep by g.N.PartialEq.eq) (IsTrackedStep by g.N.PartialEq.eq) IsSameTracked
     (tracked_state g.NID.PartialEq.eq) (λ old step reply new s. s.values) IsSameTracked-refl old steps replies new run
 
-pub returns-clause-never_falls : goal.returns-clause-never_falls
-returns-clause-never_falls g c order =
+pub returns-clause-monotone : goal.returns-clause-monotone
+returns-clause-monotone g c order =
     let by : Comparisons g.row.NID.Denot g.row.V.Denot g.row.P.Denot =
     compared g.NID.PartialEq.eq g.NID.Ord.cmp g.P.Ord.cmp order g.V.ProgressPart.part_of g.V.Clone.is_clone in
     λ old new steps replies run none. tracked_run_not_lower by g.met.P.Ord.total g.N.PartialEq.eq old steps replies new run none

@@ -362,9 +362,9 @@ module _ {C : Type 0} (eq : C → C → Bool) (cmp : C → C → Ordering) (tota
       t.congr b l a (is_equal (option_cmp (log_id_cmp cmp) b l) (tied b l k)) in
       rw (t.antisymm a b, s, ← t.antisymm a l) h
 
-  pub not_lowered : (log : LogView C) (n : ℕ) (entry new : ProgressEntryOf C) (agree : ℕ) → Logged cmp log
+  pub monotone : (log : LogView C) (n : ℕ) (entry new : ProgressEntryOf C) (agree : ℕ) → Logged cmp log
       → IsBetweenTurns eq cmp log n entry agree → MatchesAll eq log new → id_le cmp entry.matching new.matching ≡ true
-  not_lowered log n entry new agree logged ready caught =
+  monotone log n entry new agree logged ready caught =
       le_same entry.matching log.last new.matching (elim ready.left [
         | inl same ↦ le_of_eq (option_cmp (log_id_cmp cmp) entry.matching log.last) (tied entry.matching log.last same)
         | inr way ↦ (let from = max (next_index entry.matching) (next_index log.purge_upto) in

@@ -51,9 +51,9 @@ module _ {ID V P QS : Type 0} (by : Comparisons ID V P) (o : IsTotalOrder by.cmp
   step_not_lower : (old : Shown ID V P QS) (step : AnyStep ID V QS) (reply : Reply ID P) (new : Shown ID V P QS) → is_upgrade step ≡ false
       → IsShownStep by has_quorum is_voter old step reply new → NotLower old new
   step_not_lower old (any_step.Update id value) reply new h s =
-      answered_keeps o (λ p. p.granted) _ old reply new s.answered (λ u. u.not_lower)
+      answered_keeps o (λ p. p.granted) _ old reply new s.answered (λ u. u.monotone)
   step_not_lower old (any_step.IncreaseTo id value) reply new h s =
-      answered_keeps o (λ p. p.granted) _ old reply new s.answered (λ u. u.not_lower)
+      answered_keeps o (λ p. p.granted) _ old reply new s.answered (λ u. u.monotone)
   step_not_lower old (any_step.Upgrade quorum_set learners default) reply new h s = absurd (true≢false h)
 
   -- granted is at least what it was, if no step is an upgrade
@@ -69,9 +69,9 @@ module _ {K N V P : Type 0} (by : Comparisons K V P) (o : IsTotalOrder by.cmp) (
   pair_step_not_lower : (old : TrackedShown K N V P) (step : Step K N V) (reply : Reply K P) (new : TrackedShown K N V P)
       → is_change step ≡ false → IsTrackedShownStep by same old step reply new → TrackedNotLower old new
   pair_step_not_lower old (step_of.Update id value) reply new h s =
-      answered_keeps o (λ t. t.progress.granted) _ old reply new s.answered (λ u. u.1.not_lower)
+      answered_keeps o (λ t. t.progress.granted) _ old reply new s.answered (λ u. u.1.monotone)
   pair_step_not_lower old (step_of.IncreaseTo id value) reply new h s =
-      answered_keeps o (λ t. t.progress.granted) _ old reply new s.answered (λ u. u.1.not_lower)
+      answered_keeps o (λ t. t.progress.granted) _ old reply new s.answered (λ u. u.1.monotone)
   pair_step_not_lower old (step_of.Change change retain default) reply new h s = absurd (true≢false h)
 
   -- granted is at least what it was, if no step is a change

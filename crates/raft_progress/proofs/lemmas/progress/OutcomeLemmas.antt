@@ -57,7 +57,7 @@ pub record Outcome {ID V P QS : Type 0} (eq : ID → ID → Bool) (cmp : P → P
   pub written : Writes eq (state_of eq mid.quorum_set ws mid.voter_count mid.default_part) id w (state eq new)
   pub voter_count : new.voter_count ≡ mid.voter_count
   pub updates : new.stat.update_count ≡ mid.stat.update_count
-  pub not_lower : AtMost cmp mid.granted new.granted
+  pub monotone : AtMost cmp mid.granted new.granted
   pub rises : (is_member eq (take mid.voter_count (keys_of ws)) id && (is_lt (cmp (part v) (part w)) && is_lt (cmp mid.granted (part w))))
       ≡ true → (new.walk ≡ walk_after_rise cmp part (eq id) [] (set_value (eq id) ws w))
       × (new.stat.move_count ≡ count_after mid.stat.move_count 1)
@@ -140,7 +140,7 @@ module _ {ID V P QS : Type 0} {eq : ID → ID → Bool} (laws : IsEquivalence eq
             mid.default_part refl refl refl;
         voter_count = refl;
         updates = refl;
-        not_lower = AtMost-refl o mid.granted;
+        monotone = AtMost-refl o mid.granted;
         rises = λ h. absurd (true≢false (sym h ∙ down));
         stays = λ h. (wrote, refl);
         tests = 0;
@@ -225,7 +225,7 @@ module _ {ID V P QS : Type 0} {eq : ID → ID → Bool} (laws : IsEquivalence eq
           written = written_m m refl record { quorum_set = refl; voter_count = refl; default_part = refl; updates = refl };
           voter_count = raised.risen.group.voter_count;
           updates = raised.risen.group.updates;
-          not_lower = subst (AtMost cmp mid.granted) (sym raised.risen.granted) (AtMost-refl o mid.granted);
+          monotone = subst (AtMost cmp mid.granted) (sym raised.risen.granted) (AtMost-refl o mid.granted);
           rises = λ h. (walk_risen, raised.risen.moves);
           stays = λ h. absurd (true≢false (sym rise ∙ h));
           tests = 0;
@@ -296,7 +296,7 @@ module _ {ID V P QS : Type 0} {eq : ID → ID → Bool} (laws : IsEquivalence eq
         written = written_m new s.same_walk s.group;
         voter_count = s.group.voter_count ∙ raised.risen.group.voter_count;
         updates = s.group.updates ∙ raised.risen.group.updates;
-        not_lower = never_less s.found refl;
+        monotone = never_less s.found refl;
         rises = λ h. (s.same_walk ∙ walk_risen, s.moves ∙ raised.risen.moves);
         stays = λ h. absurd (true≢false (sym rise ∙ h));
         tests = s.tests;

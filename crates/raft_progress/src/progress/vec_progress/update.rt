@@ -55,7 +55,7 @@ impl<
         requires ordered { IsInOrder ID.eq P.cmp V.part_of QS.has_quorum (shown self.old) }
         requires callable { ForSome ((state ID.eq (shown self.old)).value id.now)
             (FnOnceTakesAtMut F.FnOnce f) }
-        requires not_lower { NeverFalls ID.eq P.cmp V.part_of (Leaves F.FnOnce f)
+        requires monotone { NeverFalls ID.eq P.cmp V.part_of (Leaves F.FnOnce f)
             (shown self.old) id.now }
         ensures updated { IsUpdated ID.eq P.cmp V.part_of (Leaves F.FnOnce f)
             (shown self.old) id.now (shown self.new) }
@@ -107,7 +107,7 @@ impl<
         requires ordered { IsInOrder ID.eq P.cmp V.part_of QS.has_quorum (shown self.old) }
         requires callable { ForSome ((state ID.eq (shown self.old)).value id.now)
             (FnOnceTakesAtMut F.FnOnce f) }
-        requires not_lower { NeverFalls ID.eq P.cmp V.part_of (Leaves F.FnOnce f)
+        requires monotone { NeverFalls ID.eq P.cmp V.part_of (Leaves F.FnOnce f)
             (shown self.old) id.now }
         ensures updated { IsUpdated ID.eq P.cmp V.part_of (Leaves F.FnOnce f)
             (shown self.old) id.now (shown self.new) }
@@ -127,7 +127,7 @@ impl<
         requires ordered { IsInOrder ID.eq P.cmp V.part_of QS.has_quorum (shown self.old) }
         requires callable { (place : ℕ) (e : ID × V) → found ≡ Some place →
             slice_get (shown self.old).walk place ≡ Some e → FnOnceTakesAtMut F.FnOnce f e.1 }
-        requires not_lower { (place : ℕ) (e : ID × V) (w : V) → found ≡ Some place →
+        requires monotone { (place : ℕ) (e : ID × V) (w : V) → found ≡ Some place →
             slice_get (shown self.old).walk place ≡ Some e → Leaves F.FnOnce f e.1 w →
             AtMost P.cmp (V.part_of e.1) (V.part_of w) }
         ensures updated { (id : ID) → found ≡ position (λ e. ID.eq id e.0) (shown self.old).walk →

@@ -43,7 +43,7 @@ impl<
     /// Writes the value of an id, if the id is known.
     pub(super) fn inherit(&mut self, id: &ID, value: V)
         requires ordered { IsInOrder ID.eq P.cmp V.part_of QS.has_quorum (shown self.old) }
-        requires not_lower { IsNotLower ID.eq P.cmp V.part_of (shown self.old) id.now value }
+        requires monotone { IsNotLower ID.eq P.cmp V.part_of (shown self.old) id.now value }
         ensures updated { IsUpdated ID.eq P.cmp V.part_of (λ v w. w ≡ value)
             (shown self.old) id.now (shown self.new) }
         ensures ordered { IsInOrder ID.eq P.cmp V.part_of QS.has_quorum (shown self.new) }

@@ -21,11 +21,11 @@ writes : {ID V P QS : Type 0} (eq : ID → ID → Bool) (cmp : P → P → Order
     → Writes eq (state eq old) id end (state eq new)
 writes eq cmp part old new id v end up known = let k = up.known v known in subst (λ w. Writes eq (state eq old) id w (state eq new)) k.1 k.2
 
-pub update-requires-clause-not_lower : goal.update-requires-clause-not_lower
-update-requires-clause-not_lower g c = λ old known.
+pub update-requires-clause-monotone : goal.update-requires-clause-monotone
+update-requires-clause-monotone g c = λ old known.
     let is : Some c.in-Some.found ≡ Some old = sym c.in-Some.is ∙ c.copied.ensures ∙ c.try_get.ensures ∙ known in
     let same : c.in-Some.found ≡ old = cc in
-    rw same at c.update_matching.ensures.not_lowered
+    rw same at c.update_matching.ensures.monotone
 
 pub returns-then-is_err-clause-granted : goal.returns-then-is_err-clause-granted
 returns-then-is_err-clause-granted g c = AtMost-refl (optional-log_id_cmp-total g.met.C.Ord.total) (shown c.args.followers.now).granted

@@ -34,10 +34,10 @@ loop-id-preserved g c =
           (new, step, refl),
     )
 
-pub returns-clause-never_falls : goal.returns-clause-never_falls
-returns-clause-never_falls g c =
+pub returns-clause-monotone : goal.returns-clause-monotone
+returns-clause-monotone g c =
     let so_far = c.loop-id.invariant in
-    c.tracked_calls_are_runs.ensures.never_falls (λ v w. None) (tracked c.args.cluster.now) (tracked c.loop-id.cluster) so_far.0 so_far.1
+    c.tracked_calls_are_runs.ensures.monotone (λ v w. None) (tracked c.args.cluster.now) (tracked c.loop-id.cluster) so_far.0 so_far.1
     so_far.3 so_far.2
 
 pub returns-clause-known : goal.returns-clause-known

@@ -14,6 +14,6 @@ returns g c order =
     let new = shown c.update.follows.lender-at-none in
     let h = c.update.follows.holds-at-none in
     let value = (state g.ID.PartialEq.eq old).value c.args.id.now in
-    let made = c.calls_are_runs.ensures.updates order old new c.args.id.now c.args.value c.requires.ordered c.requires.not_lower h.updated
+    let made = c.calls_are_runs.ensures.updates order old new c.args.id.now c.args.value c.requires.ordered c.requires.monotone h.updated
     h.ordered in
     known_or_not value value refl (λ v e. (Granted new.granted, made.known v e)) (λ e. (Unknown new.granted, made.unknown e))

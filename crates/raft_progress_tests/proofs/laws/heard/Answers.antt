@@ -15,6 +15,6 @@ returns g c =
     let h = c.increase_to.follows.holds-at-none in
     let value = (state g.ID.PartialEq.eq old).value c.args.id.now in
     let made = c.calls_are_runs.ensures.increases g.V.PartialOrd.partial_cmp old new c.args.id.now c.args.value c.requires.ordered
-    c.requires.not_lower h.updated
+    c.requires.monotone h.updated
     h.ordered in
     known_or_not value value refl (λ v e. (Granted new.granted, made.known v e)) (λ e. (Unknown new.granted, made.unknown e))

@@ -185,15 +185,15 @@ module _ {ID C QS : Type 0} {eq : ID → ID → Bool} (e : IsEquivalence eq) (cm
   -- granted never falls
   visit_not_lower : IsTotalOrder cmp → (old : Followers ID C QS) (id : ID) (agree : ℕ) (did : Bool) (new : Followers ID C QS)
       → Visits eq cmp has_quorum log n can old id agree did new → id_le cmp old.granted new.granted ≡ true
-  visit_not_lower total old id agree true new v = v.updated.not_lower
+  visit_not_lower total old id agree true new v = v.updated.monotone
   visit_not_lower total old id agree false new v = rw v.same (AtMost-refl (optional-log_id_cmp-total total) old.granted)
 
-  pub not_lower : IsTotalOrder cmp → (old : Followers ID C QS) (pairs : List (ID × ℕ)) (ran : List ID) (new : Followers ID C QS)
+  pub monotone : IsTotalOrder cmp → (old : Followers ID C QS) (pairs : List (ID × ℕ)) (ran : List ID) (new : Followers ID C QS)
       → IsRound eq cmp has_quorum log n can old pairs ran new → id_le cmp old.granted new.granted ≡ true
-  not_lower total old [] ran new r = rw r.1 (AtMost-refl (optional-log_id_cmp-total total) old.granted)
-  not_lower total old (pair ∷ pairs) ran new r =
+  monotone total old [] ran new r = rw r.1 (AtMost-refl (optional-log_id_cmp-total total) old.granted)
+  monotone total old (pair ∷ pairs) ran new r =
       AtMost-trans (optional-log_id_cmp-total total) old.granted r.2.granted new.granted
-      (visit_not_lower total old pair.0 pair.1 r.0 r.2 r.4) (not_lower total r.2 pairs r.1 new r.5)
+      (visit_not_lower total old pair.0 pair.1 r.0 r.2 r.4) (monotone total r.2 pairs r.1 new r.5)
 
   -- some followers ran so far and are caught up, and any round from here is one from the start
   pub record Along (same_leader : C → C → Bool) (old : Followers ID C QS) (pairs : List (ID × ℕ)) (count : ℕ) (now : Followers ID C QS)
@@ -347,7 +347,7 @@ module _ {ID C QS : Type 0} {same_leader : C → C → Bool} {eq : ID → ID →
     default_part = stays.default_part;
     updates = λ some. rw is (all.updates (rw is at some));
     none_ran = λ none. all.none_ran (sym is ∙ none);
-    not_lower = not_lower e cmp has_quorum log n can total old pairs ran new round;
+    monotone = monotone e cmp has_quorum log n can total old pairs ran new round;
     last_at_most = grants;
     last_at_least = grants_no_more;
   }

@@ -20,7 +20,7 @@ module _ {ID V P QS : Type 0} (eq : ID → ID → Bool) (cmp : P → P → Order
   updated_weaker Left Right follows old id new u = record {
     counts = u.counts;
     same_voter_count = u.same_voter_count;
-    not_lower = u.not_lower;
+    monotone = u.monotone;
     known = λ v e. let k = u.known v e in (k.0, follows v k.0 k.1, k.2, k.3);
     unknown = u.unknown;
   }

@@ -57,11 +57,11 @@ returns-clause-run g c =
     IsSame-refl
     (shown c.args.progress.now) c.args.steps.items c.loop-step.replies.items (shown c.loop-step.progress) (returns-clause-shown_run g c)
 
-pub returns-clause-never_falls : goal.returns-clause-never_falls
-returns-clause-never_falls g c = λ none.
+pub returns-clause-monotone : goal.returns-clause-monotone
+returns-clause-monotone g c = λ none.
     let by = compared g.ID.PartialEq.eq g.ID.Ord.cmp g.P.Ord.cmp g.V.PartialOrd.partial_cmp g.V.ProgressPart.part_of g.V.Clone.is_clone in
     run_not_lower by g.met.P.Ord.total g.QS.QuorumSet.has_quorum g.QS.QuorumSet.is_voter (shown c.args.progress.now) c.args.steps.items
     c.loop-step.replies.items (shown c.loop-step.progress) (returns-clause-shown_run g c) none
 
-pub returns-in_err-replies-clause-never_falls : goal.returns-in_err-replies-clause-never_falls
-returns-in_err-replies-clause-never_falls g c = λ none. AtMost-refl g.met.P.Ord.total c.args.progress.now.granted
+pub returns-in_err-replies-clause-monotone : goal.returns-in_err-replies-clause-monotone
+returns-in_err-replies-clause-monotone g c = λ none. AtMost-refl g.met.P.Ord.total c.args.progress.now.granted

@@ -96,11 +96,11 @@ returns-clause-changed_quorums g c = λ some.
     (ready_of g.met.NID.Eq.laws g.NID.Ord.cmp g.met.P.Ord.total g.V.ProgressPart.part_of
     (Coded-set (coded_list (coded_list g.row.NID.coded))) (tracked c.loop-step.cluster) c.loop-step.cluster.ready) some).1
 
-pub returns-clause-never_falls : goal.returns-clause-never_falls
-returns-clause-never_falls g c = λ none.
+pub returns-clause-monotone : goal.returns-clause-monotone
+returns-clause-monotone g c = λ none.
     let by = compared g.NID.PartialEq.eq g.NID.Ord.cmp g.P.Ord.cmp g.V.PartialOrd.partial_cmp g.V.ProgressPart.part_of g.V.Clone.is_clone in
     tracked_run_not_lower by g.met.P.Ord.total g.N.PartialEq.eq (tracked c.args.cluster.now) c.args.steps.items c.loop-step.replies.items
     (tracked c.loop-step.cluster) (returns-clause-shown_run g c) none
 
-pub returns-in_err-replies-clause-never_falls : goal.returns-in_err-replies-clause-never_falls
-returns-in_err-replies-clause-never_falls g c = λ none. AtMost-refl g.met.P.Ord.total (tracked c.args.cluster.now).progress.granted
+pub returns-in_err-replies-clause-monotone : goal.returns-in_err-replies-clause-monotone
+returns-in_err-replies-clause-monotone g c = λ none. AtMost-refl g.met.P.Ord.total (tracked c.args.cluster.now).progress.granted

@@ -35,8 +35,8 @@ returns-clause-last g c =
     (extend_ends g.C.Ord.cmp g.C.PartialEq.eq g.met.C.Ord.total g.met.C.Ord.matches_eq g.met.C.Eq.laws c.self.inside.key_log_ids.items
     (map g.LID.RaftLogId.id_of c.args.new_ids.now) (is_key_list g.C.Ord.cmp c.self.inside.key_log_ids.items c.self.invariant) can)
 
-pub returns-clause-not_lowered : goal.returns-clause-not_lowered
-returns-clause-not_lowered g c =
+pub returns-clause-monotone : goal.returns-clause-monotone
+returns-clause-monotone g c =
     let keys = c.self.inside.key_log_ids.items in
     let ids = (map g.LID.RaftLogId.id_of c.args.new_ids.now) in
     let are = is_key_list g.C.Ord.cmp keys c.self.invariant in

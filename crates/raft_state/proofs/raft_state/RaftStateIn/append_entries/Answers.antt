@@ -104,4 +104,4 @@ returns-clause-sound g c sound =
     s.membership_state c.in_ok-membership_state.membership_state
     may.1 c.in_ok-membership_state.ensures old) sound.valid in
     extend_sound g.C.Ord.cmp g.C.PartialEq.eq g.met.C.Ord.total g.met.C.Ord.matches_eq g.met.C.Eq.laws s c.extend.new.self
-    c.in_ok-membership_state.membership_state are kept c.in_ok-extend.ensures.not_lowered valid members sound
+    c.in_ok-membership_state.membership_state are kept c.in_ok-extend.ensures.monotone valid members sound

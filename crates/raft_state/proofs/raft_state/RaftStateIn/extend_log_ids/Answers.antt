@@ -28,4 +28,4 @@ returns-clause-sound g c sound zero =
     (map g.LID.RaftLogId.id_of c.args.new_log_ids.now) c.extend.new.self s.membership_state
     c.in_ok-extend.ensures.ok c.in_ok-extend.ensures.last c.requires zero (λ members. members) sound.valid in
     extend_sound g.C.Ord.cmp g.C.PartialEq.eq g.met.C.Ord.total g.met.C.Ord.matches_eq g.met.C.Eq.laws s c.extend.new.self
-    s.membership_state are kept c.in_ok-extend.ensures.not_lowered valid members sound
+    s.membership_state are kept c.in_ok-extend.ensures.monotone valid members sound

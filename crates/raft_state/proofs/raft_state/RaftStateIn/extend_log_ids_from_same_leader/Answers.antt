@@ -31,4 +31,4 @@ returns-clause-sound g c sound zero =
     c.in_ok-extend_from_same_leader.ensures.ok c.in_ok-extend_from_same_leader.ensures.last (and_parts _ _ c.requires).0 zero
     (λ members. members) sound.valid in
     extend_sound g.C.Ord.cmp g.C.PartialEq.eq g.met.C.Ord.total g.met.C.Ord.matches_eq g.met.C.Eq.laws s c.extend_from_same_leader.new.self
-    s.membership_state are kept c.in_ok-extend_from_same_leader.ensures.not_lowered valid members sound
+    s.membership_state are kept c.in_ok-extend_from_same_leader.ensures.monotone valid members sound

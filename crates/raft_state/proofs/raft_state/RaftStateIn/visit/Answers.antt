@@ -4,11 +4,11 @@ use Rattle.raft_progress.specs.progress.VecProgress.{shown}
 use Rattle.raft_state.proofs.lemmas.catch_up.RoundLemmas.{writes}
 use Rattle.raft_state.proofs.raft_state.RaftStateIn.visit.Goals as goal
 
-pub update-requires-clause-not_lower : goal.update-requires-clause-not_lower
-update-requires-clause-not_lower g c = λ old known.
+pub update-requires-clause-monotone : goal.update-requires-clause-monotone
+update-requires-clause-monotone g c = λ old known.
     let is : Some c.in-Some.found ≡ Some old = sym c.in-Some.is ∙ c.copied.ensures ∙ c.try_get.ensures ∙ known in
     let same : c.in-Some.found ≡ old = cc in
-    rw same at c.catch_up.ensures.not_lowered
+    rw same at c.catch_up.ensures.monotone
 
 pub returns-else-not-can_catch_up-clause-visited : goal.returns-else-not-can_catch_up-clause-visited
 returns-else-not-can_catch_up-clause-visited g c =

@@ -17,7 +17,7 @@ apply_at-requires g c =
       within = rw found (search rules);
       ordered = c.requires.ordered;
       callable = λ place e is at. c.requires.callable e.1 (was g.met.ID.Eq.laws p.walk.items c.args.id.now place e (sym found ∙ is) at);
-      not_lower = λ place e w is at left. c.requires.not_lower e.1 w
+      monotone = λ place e w is at left. c.requires.monotone e.1 w
           (was g.met.ID.Eq.laws p.walk.items c.args.id.now place e (sym found ∙ is) at) left;
     }
 

@@ -45,13 +45,13 @@ returns-in-Some g c =
     let is = wrote g.met.ID.Eq.laws ws id c.in-Some.place h.0 (sym found ∙ c.in-Some.is) h.2 h.1 in
     outcome g.met.ID.Eq.laws g.met.P.Ord.total g.V.ProgressPart.part_of g.QS.QuorumSet.has_quorum g.met.QS.QuorumSet.superset _
     (shown c.settle.new.self) ws c.requires.ordered id c.in-Some.place h.0 (sym found ∙ c.in-Some.is) here h.1
-    (c.requires.not_lower c.in-Some.place h.0 h.1 c.in-Some.is h.2 h.3) h.4 (before id found) (h.4 ∙ is) c.write_at-before.result.0 h.5
+    (c.requires.monotone c.in-Some.place h.0 h.1 c.in-Some.is h.2 h.3) h.4 (before id found) (h.4 ∙ is) c.write_at-before.result.0 h.5
     fits c.settle.ensures.put in
     record {
       updated = λ id found. record {
         counts = (left id found).updates ∙ c.saturating_add-self.ensures;
         same_voter_count = (left id found).voter_count;
-        not_lower = (left id found).not_lower;
+        monotone = (left id found).monotone;
         known = λ v e.
             let same : h.0.1 ≡ v = some_inside _ _ (sym (before id found) ∙ e) in
             let oc = left id found in (
@@ -84,7 +84,7 @@ returns-in-None-clause-updated g c = λ id found.
     record {
       counts = c.saturating_add-self.ensures;
       same_voter_count = refl;
-      not_lower = AtMost-refl g.met.P.Ord.total c.args.self.now.granted;
+      monotone = AtMost-refl g.met.P.Ord.total c.args.self.now.granted;
       known = λ v e. absurd (no_value _ _ gone e);
       unknown = λ e. ap (λ n. record (shown c.args.self.now) { stat = record c.args.self.now.stat { update_count = n } })
           c.saturating_add-self.ensures;

@@ -9,9 +9,9 @@ apply_at-requires-clause-callable g c = λ place e found at.
     c.requires.callable e.1 (was g.met.ID.Eq.laws c.args.self.now.walk.items c.args.id.now place e
     (sym c.place_in_walk-found.ensures ∙ found) at)
 
-pub apply_at-requires-clause-not_lower : goal.apply_at-requires-clause-not_lower
-apply_at-requires-clause-not_lower g c = λ place e w found at left.
-    c.requires.not_lower e.1 w (was g.met.ID.Eq.laws c.args.self.now.walk.items c.args.id.now place e
+pub apply_at-requires-clause-monotone : goal.apply_at-requires-clause-monotone
+apply_at-requires-clause-monotone g c = λ place e w found at left.
+    c.requires.monotone e.1 w (was g.met.ID.Eq.laws c.args.self.now.walk.items c.args.id.now place e
     (sym c.place_in_walk-found.ensures ∙ found) at) left
 
 pub returns-clause-updated : goal.returns-clause-updated

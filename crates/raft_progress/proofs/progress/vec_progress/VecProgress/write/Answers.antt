@@ -28,7 +28,7 @@ returns-in_default-clause-step g c =
         done = λ r. record {
           counts = c.saturating_add-self.ensures;
           same_voter_count = refl;
-          not_lower = AtMost-refl g.met.P.Ord.total p.granted;
+          monotone = AtMost-refl g.met.P.Ord.total p.granted;
           known = λ v e. absurd (no_value _ _ gone e);
           unknown = λ e. ap (λ n. record (shown p) { stat = record p.stat { update_count = n } }) c.saturating_add-self.ensures;
         };
@@ -136,7 +136,7 @@ returns g c =
           done = λ r. record {
             counts = oc.updates ∙ c.saturating_add-self-2.ensures;
             same_voter_count = oc.voter_count;
-            not_lower = oc.not_lower;
+            monotone = oc.monotone;
             known = λ v is.
                 let same : e.1 ≡ v = some_inside _ _ (sym present ∙ is) in (
                   value,

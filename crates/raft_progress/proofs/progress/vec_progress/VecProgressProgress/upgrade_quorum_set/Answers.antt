@@ -44,8 +44,8 @@ loop-entry-init g c =
           });
     }
 
-pub inherit-requires-clause-not_lower : goal.inherit-requires-clause-not_lower
-inherit-requires-clause-not_lower g c = λ v h.
+pub inherit-requires-clause-monotone : goal.inherit-requires-clause-monotone
+inherit-requires-clause-monotone g c = λ v h.
     let is : c.entry-item.result ≡ get_or c.args.self.now.walk.items c.loop-entry.entry-index c.entry-item.result =
     rw (← c.deref-entry-items.ensures.value) c.entry-item.is in
     let l : c.loop-entry.entry-index < length c.args.self.now.walk.items = rw (← c.deref-entry-items.ensures.value) (omega arith) in
