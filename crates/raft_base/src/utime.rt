@@ -95,7 +95,7 @@ impl<T: Clone + PartialEq + Drop, I: Instant> UTime<T, I> {
 
     /// Returns an equal value with the same moment and a clone of the data, or an allocation error.
     pub fn try_clone(&self) -> Result<Self, AllocError>
-        requires { ClonesAreEqual T.eq T.is_clone }
+        requires clones_are_equal { ClonesAreEqual T.eq T.is_clone }
         ensures value { IfOk result (λ copy. IsTrue (T.eq (data_of self.now) (data_of copy))) }
         ensures moment { IfOk result (λ copy. moment_of copy ≡ moment_of self.now) }
     {

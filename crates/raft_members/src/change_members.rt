@@ -45,7 +45,7 @@ impl<NID: NodeId, N: Node> ChangeMembers<NID, N> {
 
     /// Returns an equal change with clones of the nodes, or an allocation error.
     pub fn try_clone(&self, alloc: Global) -> Result<Self, AllocError>
-        requires { ClonesAreEqual N.eq N.is_clone }
+        requires clones_are_equal { ClonesAreEqual N.eq N.is_clone }
         ensures { IfOk result (IsSameChange NID.eq N.eq self.now) }
     {
         match self {

@@ -144,7 +144,7 @@ impl<NID: NodeId, N: Node> ForwardToLeader<NID, N> {
     /// Returns an equal error with a clone of the node, or an allocation error. It does not
     /// allocate if there is no node.
     pub fn try_clone(&self) -> Result<Self, AllocError>
-        requires { ClonesAreEqual N.eq N.is_clone }
+        requires clones_are_equal { ClonesAreEqual N.eq N.is_clone }
         ensures leader_id { IfOk result (λ copy. copy.leader_id ≡ self.now.leader_id) }
         ensures leader_node { IfOk result (λ copy.
             IsTrue (option_eq N.eq self.now.leader_node copy.leader_node)) }

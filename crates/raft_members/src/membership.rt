@@ -123,7 +123,7 @@ impl<NID: NodeId, N: Node> Membership<NID, N> {
 
     /// Returns an equal membership with clones of the nodes, or an allocation error.
     pub fn try_clone(&self) -> Result<Self, AllocError>
-        requires { ClonesAreEqual N.eq N.is_clone }
+        requires clones_are_equal { ClonesAreEqual N.eq N.is_clone }
         ensures equal { IfOk result (λ m. IsTrue (same_members NID.eq N.eq self.now m)) }
         ensures configs { IfOk result (λ m. m.configs ≡ self.now.configs) }
     {
@@ -139,7 +139,7 @@ impl<NID: NodeId, N: Node> Membership<NID, N> {
         old: BTreeMap<NID, N>,
         new: &BTreeMap<NID, N>,
     ) -> Result<BTreeMap<NID, N>, AllocError>
-        requires { ClonesAreEqual N.eq N.is_clone }
+        requires clones_are_equal { ClonesAreEqual N.eq N.is_clone }
         ensures nodes { IfOk result (λ nodes. HasNodes N.eq NID.cmp nodes.entries
             (λ id. option_or (get NID.cmp old id) (get NID.cmp new.now id))) }
         ensures no_memory { AddsNoId NID.cmp old.entries new.now.entries → IsOk result }

@@ -64,7 +64,7 @@ impl<
     /// Returns the node that a committed vote is for, if the effective membership has it. Requests
     /// for the leader are forwarded to it. If there is no such node, nothing is allocated.
     pub fn forward_to_leader(&self) -> Result<ForwardToLeader<NID, N>, AllocError>
-        requires { ClonesAreEqual N.eq N.is_clone }
+        requires clones_are_equal { ClonesAreEqual N.eq N.is_clone }
         ensures node { IfOk result (ForwardsTo N.eq (known_leader NID.cmp L.voted
             (in_effect self.now.membership_state) (vote_of self.now))) }
         ensures no_memory { known_leader NID.cmp L.voted

@@ -105,7 +105,7 @@ impl<C: Copy + Drop, NID: NodeId, N: Node> MembershipStateOf<C, NID, N> {
         &self,
         leader: Option<NID>,
     ) -> Result<ForwardToLeader<NID, N>, AllocError>
-        requires { ClonesAreEqual N.eq N.is_clone }
+        requires clones_are_equal { ClonesAreEqual N.eq N.is_clone }
         ensures node { IfOk result (ForwardsTo N.eq
             (known_node NID.cmp (in_effect self.now) leader)) }
         ensures no_memory { known_node NID.cmp (in_effect self.now) leader

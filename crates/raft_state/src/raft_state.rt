@@ -188,7 +188,7 @@ impl<
     /// Returns an equal state, with the memberships shared and with clones of the nodes in the
     /// snapshot's membership, or an allocation error.
     pub fn try_clone(&self) -> Result<Self, AllocError>
-        requires { ClonesAreEqual N.eq N.is_clone }
+        requires clones_are_equal { ClonesAreEqual N.eq N.is_clone }
         ensures snapshot { IfOk result (λ copy.
             IsSnapshotCopy NID.eq N.eq self.now.snapshot_meta copy.snapshot_meta) }
         ensures rest { IfOk result (λ copy.

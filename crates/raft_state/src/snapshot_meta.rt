@@ -38,7 +38,7 @@ impl<C: Copy, NID: NodeId, N: Node> SnapshotMetaOf<C, NID, N> {
 
     /// Returns equal metadata with clones of the nodes, or an allocation error.
     pub fn try_clone(&self) -> Result<Self, AllocError>
-        requires { ClonesAreEqual N.eq N.is_clone }
+        requires clones_are_equal { ClonesAreEqual N.eq N.is_clone }
         ensures { IfOk result (IsSnapshotCopy NID.eq N.eq self.now) }
     {
         Ok(SnapshotMetaOf {

@@ -30,7 +30,7 @@ impl<NID: NodeId, N: Node> Membership<NID, N> {
     /// A voter of this membership that is in no new config becomes a learner with `retain`. Without
     /// `retain` it loses its node too.
     pub fn next_coherent(&self, goal: BTreeSet<NID>, retain: bool) -> Result<Self, AllocError>
-        requires { ClonesAreEqual N.eq N.is_clone }
+        requires clones_are_equal { ClonesAreEqual N.eq N.is_clone }
         ensures { IfOk result (λ m. Says N.eq NID.cmp m
             (next_members NID.eq (members_of NID.cmp self.now) goal.keys retain)) }
     {
@@ -56,7 +56,7 @@ impl<NID: NodeId, N: Node> Membership<NID, N> {
         change: ChangeMembers<NID, N>,
         retain: bool,
     ) -> Result<Self, ChangeMembershipError<NID>>
-        requires { ClonesAreEqual N.eq N.is_clone }
+        requires clones_are_equal { ClonesAreEqual N.eq N.is_clone }
         ensures valid { IfOk result (λ _. IsValid NID.eq
             (changed NID.eq NID.cmp (members_of NID.cmp self.now) change retain)) }
         ensures valid_itself { IfOk result (λ m. IsValid NID.eq (members_of NID.cmp m)) }
@@ -88,7 +88,7 @@ impl<NID: NodeId, N: Node> Membership<NID, N> {
 
     /// Returns what a change makes of this membership, before it is tested for validity.
     fn changed(&self, change: ChangeMembers<NID, N>, retain: bool) -> Result<Self, AllocError>
-        requires { ClonesAreEqual N.eq N.is_clone }
+        requires clones_are_equal { ClonesAreEqual N.eq N.is_clone }
         ensures { IfOk result (λ m. Says N.eq NID.cmp m
             (changed NID.eq NID.cmp (members_of NID.cmp self.now) change retain)) }
     {
@@ -106,7 +106,7 @@ impl<NID: NodeId, N: Node> Membership<NID, N> {
 
     /// Returns the next membership on the way to these voters and the voters of the last config.
     fn with_voter_ids(&self, ids: BTreeSet<NID>, retain: bool) -> Result<Self, AllocError>
-        requires { ClonesAreEqual N.eq N.is_clone }
+        requires clones_are_equal { ClonesAreEqual N.eq N.is_clone }
         ensures { IfOk result (λ m. Says N.eq NID.cmp m
             (next_members NID.eq (members_of NID.cmp self.now)
             (union_of NID.cmp (last_config self.now.configs) ids.keys) retain)) }
@@ -119,7 +119,7 @@ impl<NID: NodeId, N: Node> Membership<NID, N> {
     /// Returns the next membership on the way to these voters and the voters of the last config,
     /// with the nodes of the new voters whose ids have none.
     fn with_voters(&self, voters: BTreeMap<NID, N>, retain: bool) -> Result<Self, AllocError>
-        requires { ClonesAreEqual N.eq N.is_clone }
+        requires clones_are_equal { ClonesAreEqual N.eq N.is_clone }
         ensures { IfOk result (λ m. Says N.eq NID.cmp m
             (changed NID.eq NID.cmp (members_of NID.cmp self.now) (AddVoters voters) retain)) }
     {
@@ -131,7 +131,7 @@ impl<NID: NodeId, N: Node> Membership<NID, N> {
 
     /// Returns the next membership on the way to the voters of the last config without these.
     fn without_voters(&self, ids: &BTreeSet<NID>, retain: bool) -> Result<Self, AllocError>
-        requires { ClonesAreEqual N.eq N.is_clone }
+        requires clones_are_equal { ClonesAreEqual N.eq N.is_clone }
         ensures { IfOk result (λ m. Says N.eq NID.cmp m
             (next_members NID.eq (members_of NID.cmp self.now)
             (without NID.eq (last_config self.now.configs) ids.now.keys) retain)) }
@@ -155,7 +155,7 @@ impl<NID: NodeId, N: Node> Membership<NID, N> {
 
     /// Returns this membership, with copies of those of these nodes whose ids have none.
     fn with_added(&self, more: BTreeMap<NID, N>) -> Result<Self, AllocError>
-        requires { ClonesAreEqual N.eq N.is_clone }
+        requires clones_are_equal { ClonesAreEqual N.eq N.is_clone }
         ensures { IfOk result (λ m. Says N.eq NID.cmp m (with_nodes (members_of NID.cmp self.now)
             (λ id. option_or (node_at NID.cmp self.now.nodes id) (get NID.cmp more id)))) }
     {
@@ -166,7 +166,7 @@ impl<NID: NodeId, N: Node> Membership<NID, N> {
     /// Returns this membership, with the nodes of `more` added or in place of the nodes at their
     /// ids.
     fn with_set(&self, more: BTreeMap<NID, N>) -> Result<Self, AllocError>
-        requires { ClonesAreEqual N.eq N.is_clone }
+        requires clones_are_equal { ClonesAreEqual N.eq N.is_clone }
         ensures { IfOk result (λ m. Says N.eq NID.cmp m (with_nodes (members_of NID.cmp self.now)
             (λ id. option_or (get NID.cmp more id) (node_at NID.cmp self.now.nodes id)))) }
     {
@@ -175,7 +175,7 @@ impl<NID: NodeId, N: Node> Membership<NID, N> {
 
     /// Returns this membership without the nodes at these ids.
     fn without_nodes(&self, ids: &BTreeSet<NID>) -> Result<Self, AllocError>
-        requires { ClonesAreEqual N.eq N.is_clone }
+        requires clones_are_equal { ClonesAreEqual N.eq N.is_clone }
         ensures { IfOk result (λ m. Says N.eq NID.cmp m (with_nodes (members_of NID.cmp self.now)
             (λ id. cond (contains NID.cmp ids.now id) None (node_at NID.cmp self.now.nodes id)))) }
     {

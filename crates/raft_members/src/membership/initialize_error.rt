@@ -51,7 +51,7 @@ pub struct NotInMembers<NID: NodeId, N: Node> {
 impl<NID: NodeId, N: Node> NotInMembers<NID, N> {
     /// Returns an equal error with clones of the nodes, or an allocation error.
     pub fn try_clone(&self) -> Result<Self, AllocError>
-        requires { ClonesAreEqual N.eq N.is_clone }
+        requires clones_are_equal { ClonesAreEqual N.eq N.is_clone }
         ensures node_id { IfOk result (λ copy. copy.node_id ≡ self.now.node_id) }
         ensures membership { IfOk result (λ copy.
             IsTrue (same_members NID.eq N.eq self.now.membership copy.membership)) }
@@ -72,7 +72,7 @@ impl<
     /// Returns an equal error with clones of the nodes, or an allocation error. If the error has no
     /// membership, it does not allocate.
     pub fn try_clone(&self) -> Result<Self, AllocError>
-        requires { ClonesAreEqual N.eq N.is_clone }
+        requires clones_are_equal { ClonesAreEqual N.eq N.is_clone }
         ensures equal { IfOk result (IsCopyOf NID.eq N.eq self.now) }
         ensures no_memory { IsTrue (is_not_allowed self.now) → IsOk result }
     {

@@ -25,7 +25,7 @@ pub fn kept<NID: Copy + Ord, N: Eq + Clone + Drop>(
     new: &[BTreeSet<NID>],
     retain: bool,
 ) -> Result<BTreeMap<NID, N>, AllocError>
-    requires { ClonesAreEqual N.eq N.is_clone }
+    requires clones_are_equal { ClonesAreEqual N.eq N.is_clone }
     ensures nodes { IfOk result (λ n. HasNodes N.eq NID.cmp n.entries (λ q.
         cond (keeps_node NID.eq (ids_of_configs old.now) (ids_of_configs new.now) retain q)
         (get NID.cmp nodes.now q) None)) }
@@ -64,7 +64,7 @@ fn put_copy<NID: Copy + Ord, N: Eq + Clone + Drop>(
     id: NID,
     node: &N,
 ) -> Result<(), AllocError>
-    requires { ClonesAreEqual N.eq N.is_clone }
+    requires clones_are_equal { ClonesAreEqual N.eq N.is_clone }
     ensures { OnOk result (PutsEqual N.eq NID.cmp kept.old.entries kept.new.entries id node.now) }
 {
     let copy = node.clone()?;
@@ -79,7 +79,7 @@ pub fn copy<NID: Copy + Ord, N: Eq + Clone + Drop>(
     alloc: Global,
     nodes: &BTreeMap<NID, N>,
 ) -> Result<BTreeMap<NID, N>, AllocError>
-    requires { ClonesAreEqual N.eq N.is_clone }
+    requires clones_are_equal { ClonesAreEqual N.eq N.is_clone }
     ensures nodes { IfOk result (λ n. HasNodes N.eq NID.cmp n.entries (get NID.cmp nodes.now)) }
     ensures entries { IfOk result (λ n.
         IsTrue (same_nodes NID.eq N.eq nodes.now.entries n.entries)) }
@@ -97,7 +97,7 @@ fn copy_each<NID: Copy + Ord, N: Eq + Clone + Drop>(
     alloc: Global,
     nodes: &BTreeMap<NID, N>,
 ) -> Result<BTreeMap<NID, N>, AllocError>
-    requires { ClonesAreEqual N.eq N.is_clone }
+    requires clones_are_equal { ClonesAreEqual N.eq N.is_clone }
     ensures nodes { IfOk result (λ n. HasNodes N.eq NID.cmp n.entries (get NID.cmp nodes.now)) }
     ensures entries { IfOk result (λ n.
         IsTrue (same_nodes NID.eq N.eq nodes.now.entries n.entries)) }
@@ -114,7 +114,7 @@ pub fn added<NID: Copy + Ord, N: Eq + Clone + Drop>(
     nodes: BTreeMap<NID, N>,
     more: &BTreeMap<NID, N>,
 ) -> Result<BTreeMap<NID, N>, AllocError>
-    requires { ClonesAreEqual N.eq N.is_clone }
+    requires clones_are_equal { ClonesAreEqual N.eq N.is_clone }
     ensures nodes { IfOk result (λ n. HasNodes N.eq NID.cmp n.entries
         (λ q. option_or (get NID.cmp nodes q) (get NID.cmp more.now q))) }
     ensures no_memory { AddsNoId NID.cmp nodes.entries more.now.entries → IsOk result }

@@ -46,7 +46,7 @@ impl<C: Copy, NID: NodeId, N: Node> StoredMembershipOf<C, NID, N> {
 
     /// Returns an equal stored membership with clones of the nodes, or an allocation error.
     pub fn try_clone(&self) -> Result<Self, AllocError>
-        requires { ClonesAreEqual N.eq N.is_clone }
+        requires clones_are_equal { ClonesAreEqual N.eq N.is_clone }
         ensures log_id { IfOk result (λ stored. log_id_of stored ≡ log_id_of self.now) }
         ensures membership { IfOk result (λ stored.
             IsTrue (same_members NID.eq N.eq (membership_of self.now) (membership_of stored))) }

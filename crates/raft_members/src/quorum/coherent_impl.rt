@@ -72,7 +72,7 @@ fn next_children<QS: Clone + Eq + Drop>(
     children: &[QS],
     goal: QS,
 ) -> Result<Vec<QS>, AllocError>
-    requires { ClonesAreEqual QS.eq QS.is_clone }
+    requires clones_are_equal { ClonesAreEqual QS.eq QS.is_clone }
     ensures { IfOk result (λ next. IsNext QS.eq children.now goal next.items) }
 {
     let mut next = Vec::with_capacity(alloc, 2)?;

@@ -66,7 +66,7 @@ impl<ID, QS> Joint<ID, QS, Vec<QS>> {
 impl<ID, QS: Clone + Eq + Drop> Joint<ID, QS, Vec<QS>> {
     /// Returns an equal joint of clones of the children, or an allocation error.
     pub fn try_clone(&self) -> Result<Self, AllocError>
-        requires { ClonesAreEqual QS.eq QS.is_clone }
+        requires clones_are_equal { ClonesAreEqual QS.eq QS.is_clone }
         ensures { IfOk result (λ joint. IsTrue (pointwise QS.eq self.now.items joint.items)) }
     {
         let children = self.children.clone()?;

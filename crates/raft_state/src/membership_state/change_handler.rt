@@ -48,7 +48,7 @@ impl<'m, C: Ord + Copy + Default + Debug + Drop, NID: NodeId, N: Node> ChangeHan
         change: ChangeMembers<NID, N>,
         retain: bool,
     ) -> Result<Membership<NID, N>, ChangeMembershipErrorOf<C, NID>>
-        requires { ClonesAreEqual N.eq N.is_clone }
+        requires clones_are_equal { ClonesAreEqual N.eq N.is_clone }
         ensures committed { IfOk result (λ _. in_progress C.eq self.now.state.now ≡ None) }
         ensures valid { IfOk result (λ _. IsValid NID.eq
             (members_after_change NID.eq NID.cmp self.now.state.now change retain)) }
