@@ -3,5 +3,6 @@ use Rattle.raft_members.proofs.quorum.joint.Joint+ID+QS+Vec+QS.try_clone.Goals a
 
 pub returns : goal.returns
 returns g c =
-    rw (c.new.ensures, ← c.self.view_is) (list_clones g.QS.PartialEq.eq g.QS.Clone.is_clone c.requires.clones_are_equal c.self.inside.children.items
+    rw (c.new.ensures, ← c.self.view_is) (list_clones g.QS.PartialEq.eq g.QS.Clone.is_clone c.requires.clones_are_equal
+    c.self.inside.children.items
     c.in_ok-children.children.items c.in_ok-children.ensures.cases.0)
