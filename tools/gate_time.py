@@ -1,9 +1,11 @@
 #!/usr/bin/env python3
-"""Runs the gate and prints what each of its phases took: tools/gate_time.py [COMMAND ..].
+"""Runs the gate and prints what each of its phases took.
+
+    tools/gate_time.py [COMMAND ..]
 
 The command is `rt ci` if none is given. Its output passes through, and its status is this
-program's. A phase is the proof of a crate, of its tests, the trying of its edits, or what is left.
-The wall time of a phase goes from its first process to its last, and its processor time is that of
+program's. A phase is the proof of a crate, the proof of its tests, or the trying of its mutants.
+The wall time of a phase goes from its first process to its last. Its processor time is the sum of
 all its processes, read from /proc until each has ended.
 """
 import os

@@ -1,8 +1,10 @@
 #!/usr/bin/env bash
 # Runs the tests that the gate has built once more, with `refuse_growths.c` in front of the heap: each
-# growth of memory of a call is refused in turn, or all of them. Prints a line for each such call, and
-# fails where one is wrong, where nothing refused its growths, or where the calls and the numbers of their
-# growths are not those of `growths.txt`, which has a line for each, as often as the call is made.
+# allocation of a call is refused in turn, or all of them. Prints a line for each such call. It fails if a
+# call is wrong, if none of its allocations was refused, or if the calls and the numbers of their
+# allocations are not those of `growths.txt`, which has a line for each time that a call is made.
+#
+# Usage: tools/growths.sh
 set -u -o pipefail
 cd "$(dirname "$0")/.."
 toolchain=$(dirname "$(rt doc | head -n 1)")/toolchain/bin
@@ -13,10 +15,10 @@ trap 'rm -rf "$folder"' EXIT
 right=0
 wrong=0
 
-# Notes calls that have run, with their growths, for a crate.
+# Notes calls that have run, with the numbers of their allocations, for a crate.
 note() { sed "s/^/$1, /" >> "$folder/ran"; }
 
-# Runs a crate's tests one by one, and judges what they say of growths.
+# Runs a crate's tests one by one, and judges what they print about allocations.
 run_tests() {
     local program=crates/$1/out/$1_tests tests said lines
     tests=$("$program" --list | sed -n 's/: test$//p')
@@ -44,7 +46,7 @@ script=('init 0 1,2 3' 'update 1 5' 'update 2 3' 'change add-ids 3 retain 0' 'up
     'change replace 2,3 retain 4' 'increase 2 7' 'update 1')
 run_script() { printf '%s\n' "$@" | crates/raft_script/out/raft_script; }
 
-# What the script answers where a line wants memory: all is as it was, and the later lines go on.
+# Prints the replies if the allocation of a line fails: all is as it was, and the later lines go on.
 answers_without() {
     local lines=("${script[@]}")
     lines[$1]='increase 99 0'
@@ -57,7 +59,7 @@ for line in "${!script[@]}"; do
     [[ ${script[line]} == change* ]] && answers+=("2 $(answers_without "$line")")
 done
 
-# Whether a run is right that was refused a growth: it answers so, or ends with a fault.
+# Whether a run with a refused allocation is right: it has these replies, or ends with an error.
 is_right() {
     local answer
     [ "$1" = 1 ] && [[ $whole == "$2"* ]] && [ "$3" = $'refused\nfault' ] && return
@@ -66,7 +68,7 @@ is_right() {
     done
 }
 
-# Refuses each growth of the program in turn, until a run meets no refusal.
+# Refuses each allocation of the program in turn, until a run has none left to refuse.
 run_program() {
     local count=0 output status errors
     while :; do

@@ -1,5 +1,7 @@
 #!/usr/bin/env bash
 # Runs every test and each program as they are, without a proof. The last line has their number.
+#
+# Usage: tools/quick.sh
 set -u -o pipefail
 cd "$(dirname "$0")/../crates"
 passed=0

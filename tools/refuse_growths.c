@@ -1,10 +1,10 @@
-/* Stands in front of the C library's heap, and refuses the growths that a program names.
+/* Replaces the heap functions of the C library, and refuses the allocations that a program names.
 
-   It is told by requests for more bytes than a machine has, which without it are refused like any
-   other: ONE + n bytes have the n-th growth from then on refused, and EACH bytes have each. END
-   bytes end that, and are granted where a growth was refused. A program that makes no such requests
-   has the number of its growth in REFUSE_GROWTH, and says "refused" on standard error where it came
-   to that. Each request for memory is a growth, also one that makes a block shorter. */
+   A program names them by requests for more bytes than a machine has, which would fail anyway: after
+   ONE + n bytes the n-th allocation from then on fails, and after EACH bytes all of them do. END bytes
+   end that, and succeed if an allocation was refused. A program that makes no such requests has the
+   number of its allocation in REFUSE_GROWTH, and prints "refused" on standard error if that one is
+   reached. Each request for memory is an allocation, also one that makes a block shorter. */
 typedef __SIZE_TYPE__ size;
 
 extern void *__libc_malloc(size);

@@ -1,0 +1,99 @@
+#!/usr/bin/env bash
+# Runs the programs that the gate has built, and says which runs are wrong.
+#
+# Usage: tools/programs.sh [statuses | seeds]
+#
+# `statuses` compares the exit status, the output and the standard error of `raft-state`, also for odd
+# input. `seeds` runs the simulated cluster: 2,000 seeds for each kind of leader ids, each of which must be
+# safe and converge, and the first of them with each planted fault, which some must show. Without a word
+# the tool does both.
+set -u -o pipefail
+cd "$(dirname "$0")/.."
+crate=crates/raft_script
+passed=0
+failed=0
+errors=$(mktemp)
+trap 'rm -f "$errors"' EXIT
+
+# Counts a run: its name, whether it is right, and what is wrong otherwise.
+count() {
+    if [ "$2" = right ]; then
+        passed=$((passed + 1))
+    else
+        failed=$((failed + 1))
+        echo "programs: $1: $3"
+    fi
+}
+
+# Compares a run of `raft-state`: its name, the status, output and standard error that are due, and its command.
+compare() {
+    local name=$1 due="$2 $3 $4" output status is=wrong
+    shift 4
+    output=$("$@" 2> "$errors")
+    status=$?
+    [ "$due" = "$status $output $(cat "$errors")" ] && is=right
+    count "$name" $is "status $status, wrote '$output', said '$(cat "$errors")'"
+}
+
+# `timeout` ends a run with status 124.
+run() { timeout 60 $crate/out/raft_script; }
+run_into_full_device() { run > /dev/full; }
+run_into_closed_pipe() { run | head -n 1; }
+begin() { printf 'init 0 1 -\nupdate 1 5\n'; }
+# Ten megabytes of a piece, over and over.
+ten_megabytes() { yes "$1" | tr -d '\n' | head -c 10000000; }
+
+statuses() {
+    compare "the end of input" 0 "granted 5" "" run < <(begin)
+    compare "a change of members" 0 "$(cat $crate/change.stdout)" "" run < $crate/change.stdin
+    compare "no input" 0 "" "" run < /dev/null
+    compare "no line feed" 0 "granted 5" "" run < <(printf 'init 0 1 -\nupdate 1 5')
+    compare "the end inside a word" 2 $'granted 5\nbad line 3' "" run < <(begin; printf 'upd')
+    compare "a bad line" 2 $'granted 5\nbad line 3' "" run < <(begin; printf 'x\nupdate 1 6\n')
+    compare "a long number" 2 $'granted 5\nbad line 3' "" run \
+        < <(begin; printf 'update 1 '; ten_megabytes 9; printf '\nupdate 1 6\n')
+    compare "a long line of digits" 2 "bad line 1" "" run < <(ten_megabytes 1234567890)
+    compare "a long list" 0 "granted 5" "" run \
+        < <(printf 'init 0 '; ten_megabytes 1,; printf '1 -\nupdate 1 5\n')
+    compare "zero bytes" 2 "bad line 1" "" run < <(head -c 10000000 /dev/zero)
+    compare "zero bytes after a reply" 2 $'granted 5\nbad line 3' "" run \
+        < <(begin; head -c 10000000 /dev/zero)
+    compare "empty lines" 0 "granted 5" "" run < <(yes '' | head -n 100000; begin)
+    compare "a bad line after empty lines" 2 "bad line 100001" "" run \
+        < <(yes '' | head -n 100000; printf 'x\n')
+    compare "an error of input" 1 "" "fault" run < /
+    compare "an error of output" 1 "" "fault" run_into_full_device < <(begin)
+    compare "output closed early, input without end" 1 "granted 5" "fault" run_into_closed_pipe \
+        < <(begin; yes 'increase 1 5')
+}
+
+# Compares a run of the cluster: its status, the least and the greatest number of seeds that fail, and its words.
+run_seeds() {
+    local due=$1 least=$2 most=$3 said status wrong is=wrong
+    shift 3
+    said=$(timeout 120 crates/cluster/out/cluster "$@" 2>&1)
+    status=$?
+    wrong=$(grep -cE '^seed .*(committed at|not in the log of|unsettled by)' <<< "$said")
+    echo "seeds $*: $wrong failed; $(grep ' settled$' <<< "$said")"
+    [ "$status" = "$due" ] && [ "$wrong" -ge "$least" ] && [ "$wrong" -le "$most" ] && is=right
+    count "seeds $*" $is "status $status, $(tail -n 1 <<< "$said")"
+}
+
+seeds() {
+    local kind fault
+    for kind in "" standard; do
+        run_seeds 0 0 0 1 2000 1500 0 $kind
+        run_seeds 1 1 2000 1 2000 1500 0 $kind count-alone
+        for fault in any-candidate no-joint no-cut no-write; do
+            run_seeds 1 1 300 1 300 1500 0 $kind "$fault"
+        done
+    done
+}
+
+case "$*" in
+    "") statuses; seeds ;;
+    statuses | seeds) "$1" ;;
+    *) grep '^# Usage' "$0" >&2; exit 2 ;;
+esac
+echo "programs: $passed runs are right, $failed are wrong"
+[ "$failed" = 0 ]
