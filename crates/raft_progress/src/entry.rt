@@ -1,5 +1,5 @@
 //! What a leader knows about a follower: how far their logs match, and what is in flight to it.
-ghost use Rattle.std.specs.Prelude.{◌≡◌, ◌^◌, ◌<◌, ◌≤◌, nat_le, Ok, Err, None, if◌then◌else◌, IsTrue, OnOk, ℕ};
+ghost use Rattle.std.specs.Prelude.{◌≡◌, ◌^◌, ◌<◌, ◌≤◌, nat_le, Ok, Err, None, if◌then◌else◌, IsSome, IsTrue, OnOk, ℕ};
 ghost use Rattle.raft_base.specs.LogId.{id_le, next_index};
 ghost use Rattle.raft_base.specs.Validate.{first_false};
 ghost use Rattle.raft_progress.specs.entry.EntryTable.{entry_after_conflict, entry_after_ack};
@@ -162,14 +162,18 @@ impl<C: Ord + Copy> ProgressEntryOf<C> {
     /// Takes the response that the follower does not match at an index. The searching end becomes
     /// that index if it was past it. A refused response leaves the entry as it was.
     ///
-    /// The response to a heartbeat has no request id, and what is in flight stays in flight.
+    /// The response to a heartbeat has no request id, and what is in flight stays in flight. A valid
+    /// entry stays valid if the response has a request id. The response to a heartbeat may end the
+    /// search before the logs in flight, and the entry is not valid until their response is taken.
     pub fn update_conflicting(
         &mut self,
         request_id: Option<u64>,
         conflict: u64,
     ) -> Result<(), InflightError>
-        ensures { FollowsTable (entry_after_conflict self.old request_id conflict) self.old result
-            self.new }
+        ensures table { FollowsTable (entry_after_conflict self.old request_id conflict) self.old
+            result self.new }
+        ensures valid { IsSome request_id → first_false (entry_relations C.cmp self.old) ≡ None →
+            first_false (entry_relations C.cmp self.new) ≡ None }
     {
         let mut inflight = self.inflight;
         if let Some(id) = request_id {

@@ -7,7 +7,8 @@ ghost use Rattle.raft_members.specs.Inner.Configs.{ids_of_configs};
 ghost use Rattle.raft_members.specs.Inner.Nodes.{PutsEqual, lesser};
 ghost use Rattle.std.specs.List.Sorted.{IsStrictlySortedBy};
 ghost use Rattle.std.specs.Set.{ClonesAreEqual};
-ghost use Rattle.std.specs.BTreeMap.{get};
+ghost use Rattle.std.specs.BTreeMap.{get, keys};
+ghost use Rattle.std.specs.Cmp.Lexicographic.{pointwise};
 ghost use Rattle.std.specs.BTreeSet.{contains};
 ghost use Rattle.raft_members.specs.Valid.{FirstWithoutNode};
 ghost use Rattle.raft_members.specs.Change.{keeps_node};
@@ -85,10 +86,30 @@ pub fn copy<NID: Copy + Ord, N: Eq + Clone + Drop>(
         IsTrue (same_nodes NID.eq N.eq nodes.now.entries n.entries)) }
 {
     let clones = nodes.clone()?;
-    if *nodes == clones {
+    if have_equal_ids(nodes, &clones) {
         return Ok(clones);
     }
     copy_each(alloc, nodes)
+}
+
+/// Whether two maps have equal ids, one by one, from the last id to the first.
+// `==` of the maps would compare the nodes too.
+fn have_equal_ids<NID: Copy + Ord, N>(nodes: &BTreeMap<NID, N>, clones: &BTreeMap<NID, N>) -> bool
+    ensures { IsTrue result → IsTrue (pointwise NID.eq (keys nodes.now) (keys clones.now)) }
+{
+    if nodes.len() != clones.len() {
+        return false;
+    }
+    let mut rest = clones.keys().rev();
+    for id in nodes.keys().rev() {
+        let Some(other) = rest.next() else {
+            return false;
+        };
+        if id != other {
+            return false;
+        }
+    }
+    true
 }
 
 /// Returns copies of the nodes, inserted one by one.

@@ -28,6 +28,8 @@ impl<NID: NodeId, N: Node, V: ProgressPart<P> + Drop, P: Copy + Ord> Tracked<NID
     /// The reply is `Unknown` for an unknown id, and `WouldFall` if the part would fall. To change
     /// what a value contains beside its part, change a copy and write it back: a leader copies an
     /// entry from `progress`, calls `next_send` on the copy, and updates with it.
+    // Inlined, because a call passes the value over the stack: of an entry these are 120 bytes.
+    #[inline(always)]
     pub fn update(&mut self, id: &NID, value: V) -> Reply<NID, P>
         ensures step { IsTrackedUpdate NID.eq P.cmp V.part_of
             (tracked self.old) id.now value result (tracked self.new) }

@@ -1,13 +1,13 @@
 -- Entries that are copied one by one, in order.
-use Rattle.std.specs.Prelude.{◌≡◌, Bool, true, false, cond, Some, List, [], ◌∷◌, ◌++◌, IsTrue, refl, not, ◌&&◌, ◌||◌}
-use Rattle.std.proofs.Common.{◌∙◌, ap, sym, append_assoc, append-nil}
+use Rattle.std.specs.Prelude.{◌≡◌, Bool, length, true, false, cond, Some, List, [], ◌∷◌, ◌++◌, IsTrue, refl, not, ◌&&◌, ◌||◌}
+use Rattle.std.proofs.Common.{◌∙◌, ap, sym, append_assoc, append-nil, length-append, arith}
 use Rattle.std.specs.declared.cmp.Ordering.{Ordering}
 use Rattle.std.specs.declared.cmp.Ordering.TheVariants.{Less, Greater}
 use Rattle.std.specs.Cmp.{IsTotalOrder, IsEquivalence, first_so, second_so}
-use Rattle.std.specs.Cmp.Lexicographic.{lists_equiv}
+use Rattle.std.specs.Cmp.Lexicographic.{as_long, lists_equiv, pointwise}
 use Rattle.std.specs.Ordering.{ordering_reverse}
-use Rattle.std.specs.List.{filter}
-use Rattle.std.specs.List.{AllByRecursion}
+use Rattle.std.specs.List.{AllByRecursion, AllZip, filter}
+use Rattle.std.specs.Set.{ClonesAreEqual}
 use Rattle.std.specs.List.Sorted.{IsStrictlySortedBy}
 use Rattle.std.proofs.lemmas.Map.Keys.{sorted_head, sorted_tail}
 use Rattle.std.specs.Map.{lookup, keys_of}
@@ -161,3 +161,44 @@ equal_members same e m w c h = both_true (rw c ((lists_equiv (lists_equiv e)).re
 -- an item moves from the remaining ones to the done ones
 pub moved_on : {X : Type 0} (done : List X) (x : X) (ahead all : List X) → all ≡ done ++ x ∷ ahead → all ≡ (done ++ x ∷ []) ++ ahead
 moved_on done x ahead all h = h ∙ sym (append_assoc done (x ∷ []) ahead)
+
+-- clones of nodes are equal nodes where their ids are equal
+module _ {K N : Type 0} (eq : K → K → Bool) (same : N → N → Bool) (C : K → K → Type 0) (D : N → N → Type 0)
+    (equal : ClonesAreEqual same D) where
+  pub cloned_nodes : (xs ys : List (K × N)) → AllZip (λ p q. C p.0 q.0 × D p.1 q.1) xs ys
+      → IsTrue (pointwise eq (keys_of xs) (keys_of ys)) → IsTrue (same_nodes eq same xs ys)
+  cloned_nodes [] [] z h = refl
+  cloned_nodes [] (y ∷ ys) z h = absurd z
+  cloned_nodes (x ∷ xs) [] z h = absurd z
+  cloned_nodes (x ∷ xs) (y ∷ ys) z h =
+      both_true (both_true (first_so (eq x.0 y.0) (pointwise eq (keys_of xs) (keys_of ys)) h) (equal x.1 y.1 z.0.1))
+      (cloned_nodes xs ys z.1 (second_so (eq x.0 y.0) (pointwise eq (keys_of xs) (keys_of ys)) h))
+
+module _ {K : Type 0} (eq : K → K → Bool) (xs ys : List K) where
+  -- behind what is left of them two lists agree
+  abbrev pub AgreeBehind : List K → List K → Type 0
+  AgreeBehind ahead left = (us : List K) × (vs : List K) × (xs ≡ ahead ++ us) × (ys ≡ left ++ vs) × (pointwise eq us vs ≡ true)
+
+  -- nothing is behind at first
+  pub agree_first : (ahead left : List K) → xs ≡ ahead → ys ≡ left → AgreeBehind ahead left
+  agree_first ahead left a l = ([], [], a ∙ sym (append-nil ahead), l ∙ sym (append-nil left), refl)
+
+  -- the last of either is equal
+  pub agree_next : (ahead left a l : List K) (x y : K) → AgreeBehind ahead left → ahead ≡ a ++ x ∷ [] → left ≡ l ++ y ∷ []
+      → eq x y ≡ true → AgreeBehind a l
+  agree_next ahead left a l x y h e f same = (
+    x ∷ h.0,
+    y ∷ h.1,
+    h.2 ∙ ap (λ zs. zs ++ h.0) e ∙ append_assoc a (x ∷ []) h.0,
+    h.3 ∙ ap (λ zs. zs ++ h.1) f ∙ append_assoc l (y ∷ []) h.1,
+    both_true same h.4,
+  )
+
+  -- nothing is left of the first, and the second is as long
+  pub agree_all : (ahead left : List K) → AgreeBehind ahead left → ahead ≡ [] → length xs ≡ length ys → pointwise eq xs ys ≡ true
+  agree_all ahead [] h e n = rw (h.2, e, h.3) h.4
+  agree_all ahead (z ∷ zs) h e n =
+      let first : length xs ≡ length h.0 = ap length (h.2 ∙ ap (λ l. l ++ h.0) e) in
+      let second : length ys ≡ length (z ∷ (zs ++ h.1)) = ap length h.3 in
+      let long : length h.0 ≡ length h.1 = as_long eq h.0 h.1 h.4 in
+      absurd (omega (arith, length-append zs h.1))

@@ -16,7 +16,7 @@ returns-in-Some g c = λ old conflicts acks.
     let end = next_index c.args.range.prev in
     let refused = some_if (nat_lt c.args.agree.now end) (end - 1) c.in-Some.index (rw c.refused_at.ensures at c.in-Some.is) in
     let kept = kept_after (with_search_end entry c.in-Some.index (inflight_after_conflict entry.inflight c.args.id c.in-Some.index)) entry
-    c.update_conflicting.result c.update_conflicting.new.self c.update_conflicting.ensures in
+    c.update_conflicting.result c.update_conflicting.new.self c.update_conflicting.ensures.table in
     rw (refused.0, refused.1, kept) refl
 
 pub returns-in-None : goal.returns-in-None
