@@ -5,7 +5,7 @@ use Rattle.raft_members.proofs.membership.nodes.copy.Goals as goal
 
 pub returns-then-have_equal_ids : goal.returns-then-have_equal_ids
 returns-then-have_equal_ids g c =
-    let same = cloned_nodes g.NID.PartialEq.eq g.N.PartialEq.eq g.NID.Clone.is_clone g.N.Clone.is_clone c.requires
+    let same = cloned_nodes g.NID.PartialEq.eq g.N.PartialEq.eq g.NID.Clone.is_clone g.N.Clone.is_clone c.requires.clones_are_equal
     c.args.nodes.now.entries c.in_ok-clones.clones.entries c.in_ok-clones.ensures.cases
     (c.if-have_equal_ids.ensures refl) in
     record {
