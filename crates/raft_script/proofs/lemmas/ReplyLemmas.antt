@@ -35,7 +35,7 @@ answered first old step steps replies last new n is one run many ends =
     subst (λ (f : Option EngineState). AnswersStep f step last (Some new)) (sym is)
     (subst (λ (l : Option (Reply ℕ ℕ)). AnswersStep (Some old) step l (Some new)) (sym first_reply) (new, refl, found.2))
 
--- a step with a reply leaves what its reply leaves if that is not written
+-- an error after a step leaves the step, if its reply is not written
 pub left_by_step : (old : Option EngineState) (said : Command) (step : Step ℕ EmptyNode ℕ) (answer : Option (Reply ℕ ℕ)) (reply : Reply ℕ ℕ)
     (new : Option EngineState) → said ≡ command.Step step → answer ≡ Some reply → AnswersStep old step answer new
     → IsLeftByFault (RunsCommand old said) old new
