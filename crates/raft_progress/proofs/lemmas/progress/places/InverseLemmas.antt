@@ -172,8 +172,8 @@ after_none : (last p : ℕ) → place_after last last p ≡ p
 after_none last p = grind (arith, nat_tests)
 
 -- When an entry moves up past several others, its position and the rank of its position are written
--- last. Until then the two lists are those of a move that ends at `place`, except for the entry
--- itself.
+-- last. Until then the two lists would be those of a move that ends at `place`, if the entry were
+-- put there.
 pub record Lifted (P R : List ℕ) (last risen place : ℕ) (P' R' : List ℕ) : Type 0 where
   pub inverse : AreInverse (set P' risen place) (set R' place risen)
   pub places : set P' risen place ≡ map (place_after place last) P
