@@ -33,6 +33,7 @@ pub use violation::Violation;
 pub struct Checker<T, N, D, C> {
     configs: C,
     servers: Vec<Server<T, N, D>>,
+    /// The newest leader is first, because most events are about it.
     leaders: Vec<Leader<T, N, D>>,
     alloc: Global,
 }
@@ -134,7 +135,7 @@ impl<T: Term, N: Copy + Eq, D: Copy + Eq, C: Configs<N, D> + Drop> Checker<T, N,
         self.leaders.reserve(1)?;
         voter.make_room()?;
         voter.reach(rank);
-        self.leaders.push(leader).unwrap();
+        self.leaders.insert(0, leader).unwrap();
         Ok(())
     }
 

@@ -26,11 +26,11 @@ use Rattle.std.specs.Prelude.{
   set,
 }
 use Rattle.std.specs.List.{find, list_any, position, position_or_len, slice_get}
-use Rattle.std.specs.Option.{MatchOption, option_or}
+use Rattle.std.specs.Option.{MatchOption}
 use Rattle.std.proofs.Common.{refl, sym, ap, ◌∙◌, subst, inl, inr, arith}
 use Rattle.std.proofs.lemmas.Bool.{cases_Bool, ltb-false, ltb-true}
 use Rattle.std.proofs.lemmas.Option.{slice_get_cases, slice_get_past, slice_get-get_or}
-use Rattle.std.proofs.lemmas.List.Folds.{find-set, find_past, find-append, find_at}
+use Rattle.std.proofs.lemmas.List.Folds.{find-set, find_past, find_at}
 use Rattle.std.proofs.lemmas.List.Quantifiers.{position-Some}
 use Rattle.raft_safety.specs.Log.{Entry}
 use Rattle.raft_safety.specs.Events.{Event, GrantVote, Ack}
@@ -225,49 +225,35 @@ module _ {T ID D : Type 0} (k : Tests T ID D (Option D)) (exact : AreExact k) wh
           (SeesLeader k new u d)) (sym there)
           (stays es new u d (others u d e) (find_leader k leaders u d) (sees u d))
 
-  -- a candidate that has not campaigned in the term before is added
-  pub see_leader_push : (es new : List (TraceEvent T ID D)) (leaders : List (Leader T ID D))
-      (l : Leader T ID D) (t : T) (c : ID) → find_leader k leaders t c ≡ None
-      → same_leader k l.term l.id t c ≡ true → SeesLeaders k es leaders
+  -- a candidate is added
+  pub see_leader_added : (es new : List (TraceEvent T ID D)) (leaders : List (Leader T ID D))
+      (l : Leader T ID D) (t : T) (c : ID) → same_leader k l.term l.id t c ≡ true
+      → SeesLeaders k es leaders
       → ((u : T) (d : ID) → same_leader k t c u d ≡ false → SameFor es new u d)
-      → SeesLeader k new t c l → SeesLeaders k new (leaders ++ l ∷ [])
-  see_leader_push es new leaders l t c absent is_l sees others one u d =
-      subst (λ (o : Option (Leader T ID D)). MatchOption o (SeesNoLeader k new u d)
-      (SeesLeader k new u d))
-      (sym (find-append (λ (x : Leader T ID D). same_leader k x.term x.id u d) leaders (l ∷ [])))
-      (go (same_leader k t c u d) refl)
+      → SeesLeader k new t c l → SeesLeaders k new (l ∷ leaders)
+  see_leader_added es new leaders l t c is_l sees others one u d =
+      go (same_leader k t c u d) refl
     where
-      rest : (o : Option (Leader T ID D))
-          → MatchOption o (SeesNoLeader k new u d) (SeesLeader k new u d)
-          → MatchOption (option_or o None) (SeesNoLeader k new u d) (SeesLeader k new u d)
-      rest None h = h
-      rest (Some x) h = h
-
       go : (b : Bool) → same_leader k t c u d ≡ b
-          → MatchOption (option_or (find_leader k leaders u d)
-          (find (λ (x : Leader T ID D). same_leader k x.term x.id u d) (l ∷ [])))
-          (SeesNoLeader k new u d) (SeesLeader k new u d)
+          → MatchOption (find_leader k (l ∷ leaders) u d) (SeesNoLeader k new u d)
+          (SeesLeader k new u d)
       go true e =
           let q = leader_right k exact t u c d e in
           let q0 : t ≡ u = q.0 in
           let q1 : c ≡ d = q.1 in
-          let none : find_leader k leaders u d ≡ None =
-          subst (λ (x : T). find_leader k leaders x d ≡ None) q0
-          (subst (λ (x : ID). find_leader k leaders t x ≡ None) q1 absent) in
           let is : same_leader k l.term l.id u d ≡ true =
           subst (λ (x : T). same_leader k l.term l.id x d ≡ true) q0
           (subst (λ (x : ID). same_leader k l.term l.id t x ≡ true) q1 is_l) in
           let seen : SeesLeader k new u d l =
           subst (λ (x : T). SeesLeader k new x d l) q0
           (subst (λ (x : ID). SeesLeader k new t x l) q1 one) in
-          rw (none, is) seen
+          rw is seen
       go false e =
           let w = leader_right k exact l.term t l.id c is_l in
           let w0 : l.term ≡ t = w.0 in
           let w1 : l.id ≡ c = w.1 in
           let is : same_leader k l.term l.id u d ≡ false = rw (w0, w1) e in
-          rw is (rest (find_leader k leaders u d)
-          (stays es new u d (others u d e) (find_leader k leaders u d) (sees u d)))
+          rw is (stays es new u d (others u d e) (find_leader k leaders u d) (sees u d))
 
   -- ---- events that change nothing for a leader
 

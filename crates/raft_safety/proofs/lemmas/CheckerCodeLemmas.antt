@@ -15,6 +15,7 @@ use Rattle.std.specs.Prelude.{
   ◌||◌,
   nat_lt,
   nat_le,
+  nat_eq,
   min,
   max,
   if◌then◌else◌,
@@ -69,6 +70,21 @@ pub common_more : {E : Type 0} (same : E → E → Bool) (a b : List E) (i : ℕ
     else 0)
 common_more same a b i d e h g =
     λ q. common_len same (drop_more a i d h q) (drop_more b i e g q)
+
+-- what a list has in common with another is no longer than the other
+pub common_within : {E : Type 0} (same : E → E → Bool) (a b : List E) → common_len same a b ≤ length b
+common_within same [] b = omega arith
+common_within same (x ∷ a) [] = omega arith
+common_within same (x ∷ a) (y ∷ b) = go (same x y) (common_within same a b)
+  where
+    go : (c : Bool) → common_len same a b ≤ length b
+        → (if c then suc (common_len same a b) else 0) ≤ suc (length b)
+    go true h = omega arith
+    go false h = omega arith
+
+-- a list does not begin with a longer one
+pub not_longer : (n p l : ℕ) → n ≤ l → l < p → nat_eq n p ≡ false
+not_longer n p l h g = grind (arith, nat_tests)
 
 pub common_end : {E : Type 0} (same : E → E → Bool) (a b : List E) (i : ℕ)
     → i ≡ min (length a) (length b) → common_len same (drop i a) (drop i b) ≡ 0

@@ -175,7 +175,6 @@ use Rattle.raft_safety.proofs.lemmas.CheckedLeaderLemmas.{
   commit_of_other,
   apply_same,
   any_set_or,
-  any_push,
   vote_no_ack,
   campaign_of_other,
   grant_to_other,
@@ -187,7 +186,7 @@ use Rattle.raft_safety.proofs.lemmas.CheckedLeaderLemmas.{
   append_same,
   restart_same,
   see_leader_set,
-  see_leader_push,
+  see_leader_added,
 }
 
 -- ---- an event breaks no rule exactly if it is allowed
@@ -850,7 +849,7 @@ module _ {T ID D : Type 0} (k : Tests T ID D (Option D)) (exact : AreExact k) wh
       → lnew.acked.items ≡ []
       → LeaderIs lnew t c (length s.log.items) s.log.items (c ∷ []) lnew.elected None
       → (broken_rule k (Campaigned c t) es ≡ None)
-      × HasSeen k (Campaigned c t ∷ es) (set servers i new) (leaders ++ lnew ∷ [])
+      × HasSeen k (Campaigned c t ∷ es) (set servers i new) (lnew ∷ leaders)
   campaign_seen es t c servers leaders i s new lnew at_i is absent seen above same_id term log dur kept elected acked same = (
     ok,
     record {
@@ -861,8 +860,7 @@ module _ {T ID D : Type 0} (k : Tests T ID D (Option D)) (exact : AreExact k) wh
           at_i is same_id seen
           (sees_vote k exact (events_in k es c) s new t c at_s above term log dur kept);
       see_leaders =
-          see_leader_push k exact es (Campaigned c t ∷ es) leaders lnew t c
-          (none_found (λ (x : Leader T ID D). same_leader k x.term x.id t c) leaders absent) is_key seen.see_leaders
+          see_leader_added k exact es (Campaigned c t ∷ es) leaders lnew t c is_key seen.see_leaders
           (λ u d apart. campaign_of_other k exact es t u c d apart)
           (record {
             campaigned = rw me refl;
@@ -881,8 +879,8 @@ module _ {T ID D : Type 0} (k : Tests T ID D (Option D)) (exact : AreExact k) wh
             committed = λ x. none.committed x ∙ sym (ap (λ y. config_committed (hold_no_config k) y x) same.committed);
             within = rw same.committed tt;
           });
-      see_commits = λ r p. seen.see_commits r p ∙ sym (any_push (knows k.rank (same_entry k) r p) leaders lnew
-          ∙ ap (λ x. x || list_any (knows k.rank (same_entry k) r p) leaders) (knows_none r p));
+      see_commits = λ r p. seen.see_commits r p
+          ∙ sym (ap (λ x. x || list_any (knows k.rank (same_entry k) r p) leaders) (knows_none r p));
     },
   )
     where

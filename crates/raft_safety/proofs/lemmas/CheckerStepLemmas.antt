@@ -318,7 +318,7 @@ module _ {T ID D : Type 0} (k : Tests T ID D (Option D)) (exact : AreExact k) wh
       → lnew.acked.items ≡ []
       → LeaderIs lnew t c (length s.log.items) s.log.items (c ∷ []) lnew.elected None
       → (broken_rule k (Campaigned c t) es ≡ None)
-      × HasSeen k (Campaigned c t ∷ es) (set servers i new) (leaders ++ lnew ∷ [])
+      × HasSeen k (Campaigned c t ∷ es) (set servers i new) (lnew ∷ leaders)
   campaign_done es t c old servers leaders i s0 s new lnew place is0 is absent seen above =
       let one : s0 ≡ s =
       same_item servers i s0 s (place_within (λ (x : Server T ID D). k.same_id x.id c) servers i s place.0) is0 is in

@@ -4,7 +4,9 @@ ghost use Rattle.raft_safety.specs.CheckerState.{ack_rule, append_rule, commit_r
 
 use super::configs::Configs;
 use super::leader::Leader;
-use super::logs::{after, common_len, effective_config, first, holds_no_config, last_term};
+use super::logs::{
+    after, begins_with, common_len, effective_config, first, holds_no_config, last_term,
+};
 use super::server::Server;
 use crate::entry::Entry;
 use crate::rule::Rule;
@@ -192,10 +194,7 @@ pub fn knows<T: Term, N: Copy + Eq, D: Copy + Eq>(
     ensures { result ≡ knows T.rank (same_entry_by T.eq D.eq) rank prefix.now leader.now }
 {
     match leader.committed {
-        Some(len) => {
-            leader.term.rank() <= rank
-                && common_len(prefix, first(&leader.log, len)) == prefix.len()
-        }
+        Some(len) => leader.term.rank() <= rank && begins_with(first(&leader.log, len), prefix),
         None => false,
     }
 }

@@ -1,5 +1,5 @@
 //! Comparing logs.
-ghost use Rattle.std.specs.Prelude.{◌≡◌, ◌≤◌, Option, None, drop, length, take};
+ghost use Rattle.std.specs.Prelude.{◌≡◌, ◌≤◌, Option, None, drop, length, nat_eq, take};
 ghost use Rattle.raft_safety.specs.Configs.{effective_config};
 ghost use Rattle.raft_safety.specs.Log.{last_term};
 ghost use Rattle.raft_safety.specs.CheckerState.{common_len, config_in, no_config_in, same_entry_by};
@@ -28,6 +28,17 @@ pub fn common_len<T: Term, D: Copy + Eq>(a: &[Entry<T, D>], b: &[Entry<T, D>]) -
         }
     }
     len
+}
+
+/// Whether a log begins with these entries.
+pub fn begins_with<T: Term, D: Copy + Eq>(log: &[Entry<T, D>], prefix: &[Entry<T, D>]) -> bool
+    ensures { result ≡ nat_eq (common_len (same_entry_by T.eq D.eq) prefix.now log.now)
+        (length prefix.now) }
+{
+    if log.len() < prefix.len() {
+        return false;
+    }
+    common_len(prefix, log) == prefix.len()
 }
 
 /// Returns the rank of the term of the last entry, 0 for an empty log.

@@ -2,7 +2,7 @@
 ghost use Rattle.std.specs.Prelude.{◌≡◌, ◌+◌, ◌<◌, ◌≤◌, ◌++◌, ◌&&◌, ◌||◌, [], OnOk, OnErr, drop, length, map, max, min, nat_eq, nat_le, take, vec_capacity, vec_len};
 ghost use Rattle.raft_safety.specs.CheckerState.{at_most, common_len, kept_after, kept_from, same_entry_by};
 
-use super::logs::common_len;
+use super::logs::{begins_with, common_len};
 use crate::entry::Entry;
 use crate::term::Term;
 use std::alloc::{AllocError, Global};
@@ -56,7 +56,7 @@ impl<T: Term, N: Copy + Eq, D: Copy + Eq> Server<T, N, D> {
             && (nat_le self.now.term rank
             || nat_le (length prefix.now) (kept_from 0 self.now.kept.items rank))) }
     {
-        common_len(prefix, &self.log) == prefix.len()
+        begins_with(&self.log, prefix)
             && (self.term <= rank || prefix.len() <= kept_since(&self.kept, rank))
     }
 

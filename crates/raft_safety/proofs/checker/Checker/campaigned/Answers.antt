@@ -55,9 +55,9 @@ returns-in_err-make_room-clause-answer g c =
 
 pub returns-clause-answer : goal.returns-clause-answer
 returns-clause-answer g c =
-    let ok : IsOk c.push.result =
-    c.push.ensures.succeeds (omega (arith, c.in_ok-reserve.ensures.ok)) in
-    λ exact es seen. rw (c.push.ensures.items, c.in_ok-reserve.ensures.items, ok)
+    let ok : IsOk c.insert.result =
+    c.insert.ensures.succeeds (omega (arith, c.in_ok-reserve.ensures.ok)) in
+    λ exact es seen. rw (c.insert.ensures.items, c.in_ok-reserve.ensures.items, ok)
     (campaign_done _ exact es c.args.term c.args.server
     c.args.self.now.servers.items c.server_at.new.servers.items c.args.self.now.leaders.items c.in_ok-i.i
     c.index.result.now c.index_mut-voter.result.now c.reach.new.self c.in_ok-leader.leader
