@@ -465,6 +465,10 @@ heard =
     ∷ Campaigned 1 1
     ∷ []
 
+-- server 9 is no member, and has acknowledged the leader's entry
+abbrev pub foreign_ack : List Row
+foreign_ack = led ++ Appended 9 1 0 0 (entry 1 10 ∷ []) ∷ Acked 9 1 0 1 ∷ []
+
 -- servers 0 and 1, a majority of the old config, have acknowledged the joint one
 abbrev pub joint_on_old : List Row
 joint_on_old =
@@ -482,6 +486,7 @@ pub record AreRefused : Type 0 where
   pub led_safe : IsSafeTrace three (reverse led)
   pub behind_safe : IsSafeTrace three (reverse behind)
   pub heard_safe : IsSafeTrace five (reverse heard)
+  pub foreign_ack_safe : IsSafeTrace three (reverse foreign_ack)
   pub joint_on_old_safe : IsSafeTrace three (reverse joint_on_old)
   -- votes
   pub second_vote : then_allowed three led (Granted 1 1 2) ≡ false
@@ -498,8 +503,13 @@ pub record AreRefused : Type 0 where
   -- acknowledgements
   pub ack_without_entry : then_allowed three led (Acked 1 1 0 1) ≡ false
   pub acked_lost : then_allowed three led (Restarted 0 0) ≡ false
+  -- what comes from another cluster: server 8, which has never campaigned here, leads it in term 7
+  pub foreign_vote_request : then_allowed three led (Granted 1 7 8) ≡ false
+  pub foreign_entries : then_allowed three led (Appended 1 7 8 0 (entry 7 70 ∷ [])) ≡ false
+  pub foreign_heartbeat : then_allowed three led (Appended 1 7 8 0 []) ≡ false
   -- commits
   pub no_quorum : then_allowed three led (Committed 0 1 1 1) ≡ false
+  pub foreign_ack_does_not_count : then_allowed three foreign_ack (Committed 0 1 1 1) ≡ false
   pub earlier_term_by_count : then_allowed five figure_8_c (Committed 0 4 2 2) ≡ false
   pub applied_uncommitted : then_allowed three led (Applied 0 1 0 1) ≡ false
   -- configs

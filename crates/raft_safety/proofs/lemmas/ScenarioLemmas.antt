@@ -14,6 +14,7 @@ use Rattle.raft_safety.specs.Scenarios.{
   IsFigure8,
   Row,
   behind,
+  foreign_ack,
   by_leader_id,
   entry,
   figure_8_c,
@@ -161,6 +162,7 @@ refused = record {
   led_safe = safe three.initial (reverse led) refl;
   behind_safe = safe three.initial (reverse behind) refl;
   heard_safe = safe five.initial (reverse heard) refl;
+  foreign_ack_safe = safe three.initial (reverse foreign_ack) refl;
   joint_on_old_safe = safe three.initial (reverse joint_on_old) refl;
   second_vote = refl;
   vote_after_leader = refl;
@@ -174,7 +176,11 @@ refused = record {
   written_in_other_term = refl;
   ack_without_entry = refl;
   acked_lost = refl;
+  foreign_vote_request = refl;
+  foreign_entries = refl;
+  foreign_heartbeat = refl;
   no_quorum = refl;
+  foreign_ack_does_not_count = refl;
   earlier_term_by_count = refl;
   applied_uncommitted = refl;
   change_before_own_commit = refl;
