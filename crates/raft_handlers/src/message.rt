@@ -1,0 +1,82 @@
+//! What servers send to one another: requests, and the responses to them.
+//!
+//! `L` is a leader id as a vote has it, and `C` the committed leader id, as a log id has it.
+
+use raft_base::{LogIdOf, LogIdOptionExt, Node, NodeId, VoteIn};
+use raft_state::{EntryOf, SnapshotMetaOf};
+
+/// A candidate's request for a vote.
+#[derive(Debug, Clone, Copy, PartialEq, Eq)]
+pub struct VoteRequest<L, C> {
+    /// The vote that the candidate asks for, which is not committed.
+    pub vote: VoteIn<L>,
+    /// The last log id of the candidate.
+    pub last_log_id: Option<LogIdOf<C>>,
+}
+
+/// A voter's response to a request for a vote.
+#[derive(Debug, Clone, Copy, PartialEq, Eq)]
+pub struct VoteResponse<L> {
+    /// The vote of the responder once it has handled the request.
+    pub vote: VoteIn<L>,
+    /// Whether the responder has granted the vote that was asked for.
+    pub granted: bool,
+}
+
+/// A leader's request to append entries. Without entries it is a heartbeat, or asks whether the
+/// follower's log has `prev`.
+#[derive(Drop)]
+pub struct AppendEntries<L, C, NID: NodeId, N: Node, D> {
+    /// The leader, which a quorum has elected.
+    pub leader_id: L,
+    /// The number of the request. A heartbeat has none.
+    pub request: Option<u64>,
+    /// The log id before the entries in the leader's log, or none if they begin the log.
+    pub prev: Option<LogIdOf<C>>,
+    /// The entries, with consecutive indexes after that of `prev`.
+    pub entries: Vec<EntryOf<C, NID, N, D>>,
+    /// The last log id that the leader has committed.
+    pub committed: Option<LogIdOf<C>>,
+}
+
+/// A leader's request to install a snapshot in place of the log up to the snapshot's last log id.
+#[derive(Drop)]
+pub struct InstallSnapshot<L, C, NID: NodeId, N: Node> {
+    /// The leader, which a quorum has elected.
+    pub leader_id: L,
+    /// The number of the request.
+    pub request: u64,
+    /// What is known of the snapshot.
+    pub meta: SnapshotMetaOf<C, NID, N>,
+}
+
+/// What a follower has made of a leader's request.
+#[derive(Debug, Clone, Copy, PartialEq, Eq)]
+pub enum Outcome<L, C> {
+    /// The follower's log matches the leader's up to this log id.
+    Matches(Option<LogIdOf<C>>),
+    /// The follower's log does not have the leader's log id at this index.
+    Conflict(u64),
+    /// The follower has promised this vote, and the leader's vote is not at least this one.
+    HigherVote(VoteIn<L>),
+}
+
+/// A follower's response to a leader's request.
+#[derive(Debug, Clone, Copy, PartialEq, Eq)]
+pub struct Response<L, C> {
+    /// The number of the request. The response to a heartbeat has none.
+    pub request: Option<u64>,
+    /// What the follower has made of the request.
+    pub outcome: Outcome<L, C>,
+}
+
+impl<L, C: Copy, NID: NodeId, N: Node, D> AppendEntries<L, C, NID, N, D> {
+    /// Returns the last log id that the request speaks of: that of the last entry, or `prev` if
+    /// there are no entries.
+    pub fn last_log_id(&self) -> Option<LogIdOf<C>> {
+        match self.entries.last() {
+            Some(entry) => Some(entry.log_id),
+            None => self.prev,
+        }
+    }
+}
