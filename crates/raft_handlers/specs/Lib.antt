@@ -1,1 +1,3 @@
+pub mod Append
+pub mod Entries
 pub mod Vote

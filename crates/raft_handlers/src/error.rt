@@ -22,6 +22,18 @@ pub enum HandlerError {
     /// What is to be committed is not in the log.
     #[error("the committed log id is not in the log")]
     CommittedNotLogged,
+    /// The snapshot may not take the place of the log.
+    #[error("the snapshot does not fit")]
+    SnapshotDoesNotFit,
+    /// The server has a log or has voted, so it belongs to a cluster.
+    #[error("the server belongs to a cluster already")]
+    NotAllowed,
+    /// The server is not a member of the new cluster.
+    #[error("the server is not a member of the new cluster")]
+    NotInMembers,
+    /// A config of the membership is empty, or a voter has no node.
+    #[error("the membership could not decide")]
+    InvalidMembership,
 }
 
 impl From<AllocError> for HandlerError {

@@ -5,12 +5,19 @@
 //! sends, writes to disk before it answers, and restarts its timer.
 #![tactic(auto)]
 
+pub mod append;
 pub mod error;
+mod log;
 pub mod message;
+pub mod snapshot;
+pub mod start;
 pub mod state;
 pub mod vote;
 
+pub use append::handle_append_entries;
 pub use error::HandlerError;
 pub use message::{AppendEntries, InstallSnapshot, Outcome, Response, VoteRequest, VoteResponse};
+pub use snapshot::handle_install_snapshot;
+pub use start::start_cluster;
 pub use state::State;
 pub use vote::handle_vote_request;

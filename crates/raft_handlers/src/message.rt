@@ -2,7 +2,10 @@
 //!
 //! `L` is a leader id as a vote has it, and `C` the committed leader id, as a log id has it.
 
-use raft_base::{LogIdOf, LogIdOptionExt, Node, NodeId, VoteIn};
+ghost use Rattle.std.specs.Prelude.{◌≡◌};
+ghost use Rattle.raft_handlers.specs.Append.{last_of};
+
+use raft_base::{LogIdOf, Node, NodeId, VoteIn};
 use raft_state::{EntryOf, SnapshotMetaOf};
 
 /// A candidate's request for a vote.
@@ -73,7 +76,9 @@ pub struct Response<L, C> {
 impl<L, C: Copy, NID: NodeId, N: Node, D> AppendEntries<L, C, NID, N, D> {
     /// Returns the last log id that the request speaks of: that of the last entry, or `prev` if
     /// there are no entries.
-    pub fn last_log_id(&self) -> Option<LogIdOf<C>> {
+    pub fn last_log_id(&self) -> Option<LogIdOf<C>>
+        ensures { result ≡ last_of self.now.prev self.now.entries.items }
+    {
         match self.entries.last() {
             Some(entry) => Some(entry.log_id),
             None => self.prev,

@@ -1,0 +1,74 @@
+-- What a follower makes of a leader's request to append entries.
+use Rattle.std.specs.Prelude.{◌≡◌, ℕ, ◌<◌, Bool, List, [], ◌∷◌, Option, Some, None, Result, Ok, Err, IsTrue, drop, if◌then◌else◌}
+use Rattle.std.specs.List.{list_all, prefix_len}
+use Rattle.std.specs.Option.{option_or}
+use Rattle.std.specs.declared.cmp.Ordering.{Ordering}
+use Rattle.raft_base.specs.LogId.{id_lt, same_ids}
+use Rattle.raft_base.specs.declared.log_id.LogIdOf.{LogIdOf}
+use Rattle.raft_base.specs.declared.vote.VoteIn.{VoteIn}
+use Rattle.raft_handlers.specs.Entries.{entry_ids}
+use Rattle.raft_handlers.specs.declared.message.AppendEntries.{AppendEntries}
+use Rattle.raft_handlers.specs.declared.message.Outcome.{Outcome}
+use Rattle.raft_handlers.specs.declared.message.Outcome.TheVariants.{Matches, Conflict, HigherVote}
+use Rattle.raft_state.specs.FullLog.{end_index, full_log}
+use Rattle.raft_state.specs.LogReads.{id_at, last_id}
+use Rattle.raft_state.specs.Sound.{purged_or_logged}
+use Rattle.raft_state.specs.declared.entry.EntryOf.{EntryOf}
+use Rattle.raft_state.specs.declared.raft_state.RaftStateIn.{RaftStateIn}
+
+-- an answer that the log matches, up to a log id of which this holds
+abbrev pub IfMatches : {L C : Type 0} → Outcome L C → (Option (LogIdOf C) → Type 0) → Type 0
+IfMatches (Matches upto) p = p upto
+IfMatches (Conflict at) p = Unit {0}
+IfMatches (HigherVote vote) p = Unit {0}
+
+-- an answer that the log conflicts, at an index of which this holds
+abbrev pub IfConflict : {L C : Type 0} → Outcome L C → (ℕ → Type 0) → Type 0
+IfConflict (Matches upto) p = Unit {0}
+IfConflict (Conflict at) p = p at
+IfConflict (HigherVote vote) p = Unit {0}
+
+-- the vote that an elected leader's requests stand for
+abbrev pub elected : {L : Type 0} → L → VoteIn L
+elected leader = record { leader_id = leader; committed = Bool.true }
+
+-- the log id of the last of these entries, or `prev` where there is none
+abbrev pub last_of : {C K N D : Type 0} → Option (LogIdOf C) → List (EntryOf C K N D)
+    → Option (LogIdOf C)
+last_of prev es = option_or (last_id (entry_ids es)) prev
+
+-- the log of a state has an entry, or its index is purged
+abbrev pub has_entry : {K N I L C D : Type 0} → (C → C → Bool) → RaftStateIn K N I L C
+    → EntryOf C K N D → Bool
+has_entry eq s e = purged_or_logged eq s (Some e.log_id)
+
+-- the log has each of these entries
+abbrev pub has_all : {K N I L C D : Type 0} → (C → C → Bool) → RaftStateIn K N I L C
+    → List (EntryOf C K N D) → Bool
+has_all eq s es = list_all (has_entry eq s) es
+
+-- the first entry that a log does not have, and those after it
+abbrev pub new_of : {K N I L C D : Type 0} → (C → C → Bool) → RaftStateIn K N I L C
+    → List (EntryOf C K N D) → List (EntryOf C K N D)
+new_of eq s es = drop (prefix_len (has_entry eq s) es) es
+
+-- the index from which on new entries take the place of a log: past its end if there are none
+abbrev pub replaced_since : {C K N D : Type 0} → List (LogIdOf C) → List (EntryOf C K N D) → ℕ
+replaced_since log [] = end_index log
+replaced_since log (e ∷ es) = e.log_id.index
+
+-- below an index a log has what it had before
+abbrev pub KeepsBelow : {C : Type 0} → (C → C → Bool) → ℕ → List (LogIdOf C) → List (LogIdOf C)
+    → Type 0
+KeepsBelow eq since old new =
+    (i : ℕ) → i < since → IsTrue (same_ids eq (id_at new i) (id_at old i))
+
+-- the lesser one of two log ids
+abbrev pub least : {C : Type 0} → (C → C → Ordering) → Option (LogIdOf C) → Option (LogIdOf C)
+    → Option (LogIdOf C)
+least cmp a b = if id_lt cmp a b then a else b
+
+-- the greater one of two log ids
+abbrev pub greatest : {C : Type 0} → (C → C → Ordering) → Option (LogIdOf C)
+    → Option (LogIdOf C) → Option (LogIdOf C)
+greatest cmp a b = if id_lt cmp a b then b else a

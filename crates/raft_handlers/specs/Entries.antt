@@ -1,0 +1,91 @@
+-- Log ids of entries, and what a log and its memberships are once it is truncated.
+use Rattle.std.specs.Prelude.{ℕ, Bool, true, ◌-◌, ◌&&◌, ◌||◌, nat_le, List, [], ◌∷◌, Option, Some, None, map, is_some, slice_get, if◌then◌else◌}
+use Rattle.std.specs.declared.cmp.Ordering.{Ordering}
+use Rattle.raft_base.specs.LogId.{id_le, id_lt, index_of, same_ids}
+use Rattle.raft_base.specs.LogIndex.{index_le, index_lt}
+use Rattle.raft_base.specs.declared.log_id.LogIdOf.{LogIdOf}
+use Rattle.raft_members.specs.Stored.{log_id_of}
+use Rattle.raft_state.specs.Appended.{are_consecutive, last_stored, memberships_follow}
+use Rattle.raft_state.specs.Entry.{payload_membership}
+use Rattle.raft_state.specs.FullLog.{full_log}
+use Rattle.raft_state.specs.LogConditions.{all_follow}
+use Rattle.raft_state.specs.LogEdits.{front}
+use Rattle.raft_state.specs.LogReads.{id_at, last_id}
+use Rattle.raft_state.specs.MembershipMoves.{after_truncate}
+use Rattle.raft_state.specs.Memberships.{Memberships}
+use Rattle.raft_state.specs.Truncate.{may_truncate}
+use Rattle.raft_state.specs.declared.entry.EntryOf.{EntryOf}
+use Rattle.raft_state.specs.declared.raft_state.RaftStateIn.{RaftStateIn}
+
+-- the log id of an entry
+abbrev pub id_of_entry : {C K N D : Type 0} → EntryOf C K N D → LogIdOf C
+id_of_entry e = e.log_id
+
+-- the log ids of entries
+abbrev pub entry_ids : {C K N D : Type 0} → List (EntryOf C K N D) → List (LogIdOf C)
+entry_ids es = map (λ e. e.log_id) es
+
+-- an entry stores a membership
+abbrev pub stores_membership : {C K N D : Type 0} → EntryOf C K N D → Bool
+stores_membership e = is_some (payload_membership e.payload)
+
+-- the log ends before an index
+abbrev pub ends_before : {K N I L C : Type 0} → ℕ → RaftStateIn K N I L C → Bool
+ends_before since s = index_lt (index_of (last_id (full_log s.log_ids))) (Some since)
+
+-- the log may be truncated at an index, or ends before it
+abbrev pub may_cut : {K N I L C : Type 0} → (C → C → Ordering) → ℕ → RaftStateIn K N I L C → Bool
+may_cut cmp since s = ends_before since s || may_truncate cmp since s
+
+-- the last log id below an index
+abbrev pub last_below : {K N I L C : Type 0} → ℕ → RaftStateIn K N I L C → Option (LogIdOf C)
+last_below since s = last_id (front (full_log s.log_ids) since)
+
+-- the memberships once the log is truncated at an index, if it does not end before it
+abbrev pub memberships_below : {K N I L C : Type 0} → ℕ → RaftStateIn K N I L C → Memberships C K N
+memberships_below since s =
+    if ends_before since s then s.membership_state else after_truncate since s.membership_state
+
+-- the log id of the effective membership then
+abbrev pub effective_below : {K N I L C : Type 0} → ℕ → RaftStateIn K N I L C → Option (LogIdOf C)
+effective_below since s = log_id_of (memberships_below since s).effective
+
+-- entries may be appended after a last log id and an effective membership: their indexes are
+-- consecutive, their leaders do not fall, and each membership comes after the one before it
+abbrev pub may_append_after : {C K N D : Type 0} → (C → C → Ordering) → Option (LogIdOf C)
+    → Option (LogIdOf C) → List (EntryOf C K N D) → Bool
+may_append_after cmp last effective es =
+    all_follow cmp last (entry_ids es) && are_consecutive last (entry_ids es)
+    && memberships_follow cmp (λ e. e.log_id) (λ e. is_some (payload_membership e.payload))
+    effective es
+
+-- the log id of the effective membership once entries are appended
+abbrev pub effective_with : {C K N D : Type 0} → Option (LogIdOf C) → List (EntryOf C K N D)
+    → Option (LogIdOf C)
+effective_with effective es =
+    last_stored (λ e. e.log_id) (λ e. is_some (payload_membership e.payload)) effective es
+
+-- a log has a log id once these log ids are in place of it from the index of the first one on
+abbrev pub has_with : {C : Type 0} → (C → C → Bool) → List (LogIdOf C) → List (LogIdOf C)
+    → Option (LogIdOf C) → Bool
+has_with eq log new None = true
+has_with eq log [] (Some id) = same_ids eq (id_at log id.index) (Some id)
+has_with eq log (first ∷ new) (Some id) =
+    if nat_le first.index id.index
+    then same_ids eq (slice_get (first ∷ new) (id.index - first.index)) (Some id)
+    else same_ids eq (id_at log id.index) (Some id)
+
+-- a log id may be committed with this effective membership: if that is at most the log id, its
+-- index is not the greater one
+abbrev pub allows_commit : {C : Type 0} → (C → C → Ordering) → Option (LogIdOf C)
+    → Option (LogIdOf C) → Bool
+allows_commit cmp effective id =
+    if id_le cmp effective id then index_le (index_of effective) (index_of id) else true
+
+-- what is past the committed log id may be committed once the log has new entries
+abbrev pub may_commit_with : {C K N D : Type 0} → (C → C → Bool) → (C → C → Ordering)
+    → List (LogIdOf C) → Option (LogIdOf C) → List (EntryOf C K N D) → Option (LogIdOf C)
+    → Option (LogIdOf C) → Bool
+may_commit_with eq cmp log effective new before id =
+    if id_lt cmp before id
+    then has_with eq log (entry_ids new) id && allows_commit cmp effective id else true

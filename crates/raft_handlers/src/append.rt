@@ -1,0 +1,148 @@
+//! A follower: the entries that a leader sends.
+ghost use Rattle.std.specs.Prelude.{◌≡◌, ◌≢◌, ◌+◌, ◌≤◌, length, None, true, false, IsTrue, IfOk, IfErr, IfSome, IfNone, OnOk, OnErr, nat_eq, take};
+ghost use Rattle.std.specs.List.{prefix_len};
+ghost use Rattle.std.specs.Ordering.{partial_ge};
+ghost use Rattle.std.specs.Set.{ClonesAreEqual};
+ghost use Rattle.raft_base.specs.UTime.{moment_of, utime_of};
+ghost use Rattle.raft_base.specs.Vote.{vote_cmp};
+ghost use Rattle.raft_handlers.specs.Append.{elected, greatest, has_all, has_entry, last_of, least, new_of, replaced_since, IfConflict, IfMatches, KeepsBelow};
+ghost use Rattle.raft_handlers.specs.Entries.{entry_ids};
+ghost use Rattle.raft_handlers.specs.declared.error.HandlerError.TheVariants.{OutOfMemory};
+ghost use Rattle.raft_handlers.specs.declared.message.Outcome.TheVariants.{HigherVote};
+ghost use Rattle.raft_state.specs.Appended.{are_consecutive};
+ghost use Rattle.raft_state.specs.FullLog.{full_log};
+ghost use Rattle.raft_state.specs.LogEdits.{front};
+ghost use Rattle.raft_state.specs.LogReads.{last_id};
+ghost use Rattle.raft_state.specs.Sound.{purged_or_logged, IsSound};
+ghost use Rattle.raft_state.specs.StateView.{vote_of};
+
+use crate::error::HandlerError;
+use crate::log::{append_new, can_cut, cut, is_next};
+use crate::message::{AppendEntries, Outcome, Response};
+use crate::state::State;
+use raft_base::order::log_id_below;
+use raft_base::{Instant, LeaderIdentity, LogIdOf, LogStateReader, Node, NodeId, VoteIn};
+use raft_state::{EntryOf, RaftStateIn, VoteStateReader};
+
+/// Handles a leader's request to append entries. What conflicts with them is truncated, what is
+/// new is appended, and what the leader has committed of them is committed.
+pub fn handle_append_entries<
+    NID: NodeId,
+    N: Node,
+    I: Instant,
+    L: LeaderIdentity<Id = NID> + Drop,
+    D,
+>(
+    state: &mut State<NID, N, I, L>,
+    request: &AppendEntries<L, L::Committed, NID, N, D>,
+) -> Result<Response<L, L::Committed>, HandlerError>
+    requires clones { ClonesAreEqual N.eq N.is_clone }
+    ensures request { IfOk result (λ response. response.request ≡ request.now.request) }
+    ensures higher_vote { partial_ge (vote_cmp L.order) (elected request.now.leader_id)
+        (vote_of state.old) ≡ false → result ≡ Ok (record {
+          request = request.now.request;
+          outcome = HigherVote (vote_of state.old);
+        }) }
+    ensures not_followed { partial_ge (vote_cmp L.order) (elected request.now.leader_id)
+        (vote_of state.old) ≡ false → state.new ≡ state.old }
+    ensures followed { OnOk result (IsTrue (partial_ge (vote_cmp L.order)
+        (elected request.now.leader_id) (vote_of state.old)) →
+        vote_of state.new ≡ elected request.now.leader_id) }
+    ensures sound { IsSound L.Committed.eq L.Committed.cmp state.old →
+        IsSound L.Committed.eq L.Committed.cmp state.new }
+{
+    let vote = VoteIn {
+        leader_id: request.leader_id,
+        committed: true,
+    };
+    let promised = *state.vote_ref();
+    if vote >= promised {
+        let outcome = match_log(state, request)?;
+        let _promised = state.promise(vote);
+        Ok(Response {
+            request: request.request,
+            outcome,
+        })
+    } else {
+        Ok(Response {
+            request: request.request,
+            outcome: Outcome::HigherVote(promised),
+        })
+    }
+}
+
+/// Makes the log match a leader's as far as the request says.
+fn match_log<NID: NodeId, N: Node, I: Instant, L: Drop, C: Ord + Copy + Drop, M, D>(
+    state: &mut RaftStateIn<NID, N, I, L, C>,
+    request: &AppendEntries<M, C, NID, N, D>,
+) -> Result<Outcome<M, C>, HandlerError>
+    requires clones { ClonesAreEqual N.eq N.is_clone }
+    ensures refused { IfErr result (λ e. e ≢ OutOfMemory → state.new ≡ state.old) }
+    ensures sound { IsSound C.eq C.cmp state.old → IsSound C.eq C.cmp state.new }
+    ensures vote { state.new.vote ≡ state.old.vote }
+{
+    match request.prev {
+        Some(prev) if !state.is_purged_or_logged(&request.prev) => {
+            if !can_cut(state, prev.index) {
+                return Err(HandlerError::TruncatesCommitted);
+            }
+            cut(state, prev.index)?;
+            Ok(Outcome::Conflict(prev.index))
+        }
+        _ => {
+            take_entries(state, request)?;
+            Ok(Outcome::Matches(request.last_log_id()))
+        }
+    }
+}
+
+/// Takes the entries of a request whose `prev` the log has.
+fn take_entries<NID: NodeId, N: Node, I: Instant, L: Drop, C: Ord + Copy + Drop, M, D>(
+    state: &mut RaftStateIn<NID, N, I, L, C>,
+    request: &AppendEntries<M, C, NID, N, D>,
+) -> Result<(), HandlerError>
+    requires clones { ClonesAreEqual N.eq N.is_clone }
+    ensures refused { IfErr result (λ e. e ≢ OutOfMemory → state.new ≡ state.old) }
+    ensures sound { IsSound C.eq C.cmp state.old → IsSound C.eq C.cmp state.new }
+    ensures vote { state.new.vote ≡ state.old.vote }
+{
+    let Some(place) = first_new(state, request.prev, &request.entries) else {
+        return Err(HandlerError::NotInOrder);
+    };
+    let committed = least(request.committed, request.last_log_id());
+    append_new(state, &request.entries[place..], committed)
+}
+
+/// The lesser one of two log ids that may be absent.
+fn least<C: Ord + Copy>(a: Option<LogIdOf<C>>, b: Option<LogIdOf<C>>) -> Option<LogIdOf<C>>
+    ensures { result ≡ least C.cmp a b }
+{
+    if log_id_below(a, b) { a } else { b }
+}
+
+/// Returns the place of the first entry that the log does not have, or the number of entries if it
+/// has them all. None if the entries up to there do not have consecutive indexes after `prev`.
+fn first_new<NID: NodeId, N: Node, I: Instant, L: Drop, C: Ord + Copy + Drop, D>(
+    state: &RaftStateIn<NID, N, I, L, C>,
+    prev: Option<LogIdOf<C>>,
+    entries: &[EntryOf<C, NID, N, D>],
+) -> Option<usize>
+    ensures place { IfSome result (λ place. place
+        ≡ prefix_len (has_entry C.eq state.now) entries.now) }
+    ensures within { IfSome result (λ place. place ≤ length entries.now) }
+    ensures consecutive { IfSome result (λ place. IsTrue
+        (are_consecutive prev (entry_ids (take (place + 1) entries.now)))) }
+    ensures gap { IfNone result (are_consecutive prev (entry_ids entries.now) ≡ false) }
+{
+    let mut last = prev;
+    for (place, entry) in entries.iter().enumerate() {
+        if !is_next(last, entry.log_id.index) {
+            return None;
+        }
+        if !state.is_purged_or_logged(&Some(entry.log_id)) {
+            return Some(place);
+        }
+        last = Some(entry.log_id);
+    }
+    Some(entries.len())
+}

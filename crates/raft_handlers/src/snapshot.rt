@@ -1,0 +1,87 @@
+//! A follower: a snapshot that a leader sends.
+ghost use Rattle.std.specs.Prelude.{◌≡◌, false, true, IsTrue, IfOk, IfErr, IfSome, OnOk, OnErr};
+ghost use Rattle.std.specs.Ordering.{partial_ge};
+ghost use Rattle.std.specs.Set.{ClonesAreEqual};
+ghost use Rattle.raft_base.specs.LogId.{id_lt};
+ghost use Rattle.raft_base.specs.UTime.{moment_of, utime_of};
+ghost use Rattle.raft_base.specs.Vote.{vote_cmp};
+ghost use Rattle.raft_handlers.specs.Append.{elected};
+ghost use Rattle.raft_handlers.specs.declared.error.HandlerError.TheVariants.{OutOfMemory, SnapshotDoesNotFit};
+ghost use Rattle.raft_handlers.specs.declared.message.Outcome.TheVariants.{HigherVote, Matches};
+ghost use Rattle.raft_state.specs.FullLog.{full_log};
+ghost use Rattle.raft_state.specs.Install.{log_after_install, may_install, state_after_install};
+ghost use Rattle.raft_state.specs.SnapshotMeta.{IsSnapshotCopy};
+ghost use Rattle.raft_state.specs.Sound.{IsSound};
+ghost use Rattle.raft_state.specs.StateView.{vote_of};
+
+use crate::error::HandlerError;
+use crate::message::{InstallSnapshot, Outcome, Response};
+use crate::state::State;
+use raft_base::order::log_id_below;
+use raft_base::{Instant, LeaderIdentity, Node, NodeId, VoteIn};
+use raft_state::{SnapshotMetaOf, VoteStateReader};
+
+/// Handles a leader's request to install a snapshot. It takes the place of the log up to its last
+/// log id, unless all of it is committed already: then the log stays as it is.
+///
+/// Let the state machine and the disk take the snapshot before you answer.
+///
+/// After an error nothing has changed.
+pub fn handle_install_snapshot<
+    NID: NodeId,
+    N: Node,
+    I: Instant,
+    L: LeaderIdentity<Id = NID> + Drop,
+>(
+    state: &mut State<NID, N, I, L>,
+    request: InstallSnapshot<L, L::Committed, NID, N>,
+) -> Result<Response<L, L::Committed>, HandlerError>
+    requires clones { ClonesAreEqual N.eq N.is_clone }
+    ensures err { OnErr result (state.new ≡ state.old) }
+    ensures sound { IsSound L.Committed.eq L.Committed.cmp state.old →
+        IsSound L.Committed.eq L.Committed.cmp state.new }
+{
+    let vote = VoteIn {
+        leader_id: request.leader_id,
+        committed: true,
+    };
+    let number = Some(request.request);
+    let promised = *state.vote_ref();
+    if vote >= promised {
+        let upto = request.meta.last_log_id;
+        let _promised = state.promise(vote);
+        if let Err(refused) = install(state, request.meta) {
+            *state.vote.get_mut() = promised;
+            return Err(refused);
+        }
+        Ok(Response {
+            request: number,
+            outcome: Outcome::Matches(upto),
+        })
+    } else {
+        Ok(Response {
+            request: number,
+            outcome: Outcome::HigherVote(promised),
+        })
+    }
+}
+
+/// Installs a snapshot of the leader that the vote is for, unless all of it is committed.
+fn install<NID: NodeId, N: Node, I: Instant, L: LeaderIdentity<Id = NID> + Drop>(
+    state: &mut State<NID, N, I, L>,
+    meta: SnapshotMetaOf<L::Committed, NID, N>,
+) -> Result<(), HandlerError>
+    requires clones { ClonesAreEqual N.eq N.is_clone }
+    ensures err { OnErr result (state.new ≡ state.old) }
+    ensures sound { IsSound L.Committed.eq L.Committed.cmp state.old →
+        IsSound L.Committed.eq L.Committed.cmp state.new }
+{
+    if !log_id_below(state.committed, meta.last_log_id) {
+        return Ok(());
+    }
+    if !state.can_install_snapshot(&meta) {
+        return Err(HandlerError::SnapshotDoesNotFit);
+    }
+    state.install_snapshot(meta)?;
+    Ok(())
+}

@@ -1,0 +1,56 @@
+//! The start of a cluster, by one of its members.
+ghost use Rattle.std.specs.Prelude.{◌≡◌, ◌++◌, [], ◌∷◌, Some, false, true, IsTrue, IfOk, IfErr, OnOk, OnErr, is_some};
+ghost use Rattle.std.specs.Set.{ClonesAreEqual};
+ghost use Rattle.raft_handlers.specs.declared.error.HandlerError.TheVariants.{NotAllowed, NotInMembers};
+ghost use Rattle.raft_members.specs.Members.{node_at};
+ghost use Rattle.raft_state.specs.FullLog.{full_log};
+ghost use Rattle.raft_state.specs.Leads.{is_initialized};
+ghost use Rattle.raft_state.specs.Sound.{IsSound};
+ghost use Rattle.raft_state.specs.StateView.{vote_of};
+
+use crate::error::HandlerError;
+use crate::state::State;
+use raft_base::{Instant, LeaderIdentity, LogIdOf, Node, NodeId};
+use raft_members::Membership;
+use raft_state::{EntryOf, EntryPayload, VoteStateReader};
+use std::slice;
+
+/// Starts a cluster with a membership, as one of its members. The first entry of each log, at index
+/// 0, holds the membership, which is effective from then on. Returns that entry: write it to disk,
+/// and then become a candidate.
+///
+/// Only a server without log and without vote may start a cluster.
+///
+/// After an error nothing has changed.
+pub fn start_cluster<NID: NodeId, N: Node, I: Instant, L: LeaderIdentity<Id = NID> + Drop, D: Drop>(
+    state: &mut State<NID, N, I, L>,
+    id: &NID,
+    membership: Membership<NID, N>,
+) -> Result<EntryOf<L::Committed, NID, N, D>, HandlerError>
+    requires clones { ClonesAreEqual N.eq N.is_clone }
+    ensures member { OnOk result (IsTrue (is_some (node_at NID.cmp membership.nodes id.now))) }
+    ensures err { OnErr result (state.new ≡ state.old) }
+    ensures sound { IsSound L.Committed.eq L.Committed.cmp state.old →
+        IsSound L.Committed.eq L.Committed.cmp state.new }
+{
+    if state.is_initialized() {
+        return Err(HandlerError::NotAllowed);
+    }
+    if !membership.contains(id) {
+        return Err(HandlerError::NotInMembers);
+    }
+    if membership.ensure_valid().is_err() {
+        return Err(HandlerError::InvalidMembership);
+    }
+    let leader_id = L::to_committed(state.vote_ref().leader_id());
+    let entry = EntryOf {
+        log_id: LogIdOf::new(leader_id, 0),
+        payload: EntryPayload::Membership(membership),
+    };
+    let entries = slice::from_ref(&entry);
+    if !state.can_append_entries(entries) {
+        return Err(HandlerError::MembershipNotInOrder);
+    }
+    state.append_entries(entries)?;
+    Ok(entry)
+}
