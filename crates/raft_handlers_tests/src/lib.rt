@@ -1,0 +1,13 @@
+//! Tests of `raft_handlers`: requests, and what servers answer.
+#![tactic(auto)]
+
+#[cfg(test)]
+mod append;
+#[cfg(test)]
+mod snapshot;
+#[cfg(test)]
+mod start;
+#[cfg(test)]
+mod states;
+#[cfg(test)]
+mod vote;

@@ -1,0 +1,31 @@
+//! The start of a cluster.
+
+use crate::states::{StateOf, follower, id, members};
+use raft_base::{LeaderAdv, LeaderKind, LeaderStd, LogStateReader};
+use raft_handlers::{HandlerError, start_cluster};
+use std::alloc::Global;
+use std::test::Fail;
+
+/// Whether a new server that is a member starts a cluster, once.
+fn starts_once<K: LeaderKind<u64>>(alloc: Global) -> Result<bool, HandlerError> {
+    let mut state = StateOf::<K>::try_default(alloc)?;
+    let other = start_cluster::<_, _, _, _, u64>(&mut state, &4, members(alloc)?);
+    let entry = start_cluster::<_, _, _, _, u64>(&mut state, &1, members(alloc)?)?;
+    let again = start_cluster::<_, _, _, _, u64>(&mut state, &1, members(alloc)?);
+    Ok(
+        other.is_err()
+            && again.is_err()
+            && id::<K>(Some((0, 0))).is_some()
+            && state.last_log_id().copied() == Some(entry.log_id)
+            && entry.log_id.index == 0
+            && state.is_voter(&2)
+            && state.is_sound(),
+    )
+}
+
+#[test]
+fn a_cluster_starts_once(rt: HostRuntime) -> Result<(), Fail> {
+    assert!(rt; starts_once::<LeaderAdv>(rt.alloc()) == Ok(true));
+    assert!(rt; starts_once::<LeaderStd>(rt.alloc()) == Ok(true));
+    Ok(())
+}

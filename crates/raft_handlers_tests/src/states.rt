@@ -1,0 +1,79 @@
+//! States of servers, as plain rows over any kind of leader ids. The nodes are 1, 2 and 3.
+
+use raft_base::{EmptyNode, LeaderKind, LogIdOf, UTime, VoteOf};
+use raft_handlers::{HandlerError, State};
+use raft_members::Membership;
+use raft_state::{EntryOf, EntryPayload, LogIdListOf, is_key_list};
+use std::alloc::{AllocError, Global};
+use std::collections::{BTreeMap, BTreeSet};
+
+/// A log id by the term of node 1, and its index.
+pub type Row = Option<(u64, u64)>;
+
+/// The state of a server over a kind of leader ids.
+pub type StateOf<K> = State<u64, EmptyNode, u64, <K as LeaderKind<u64>>::Leader>;
+
+/// A log entry over a kind of leader ids.
+pub type Entry<K> = EntryOf<<K as LeaderKind<u64>>::Committed, u64, EmptyNode, u64>;
+
+/// The log id of a row.
+pub fn id<K: LeaderKind<u64>>(row: Row) -> Option<LogIdOf<K::Committed>> {
+    match row {
+        Some((term, index)) => Some(LogIdOf::new(K::new_committed(term, 1), index)),
+        None => None,
+    }
+}
+
+/// Blank entries of these terms and indexes.
+pub fn entries<K: LeaderKind<u64>>(
+    alloc: Global,
+    rows: &[(u64, u64)],
+) -> Result<Vec<Entry<K>>, AllocError> {
+    let mut entries = Vec::new(alloc);
+    for (term, index) in rows {
+        entries.push(Entry::<K> {
+            log_id: LogIdOf::new(K::new_committed(*term, 1), *index),
+            payload: EntryPayload::Blank,
+        })?;
+    }
+    Ok(entries)
+}
+
+/// The membership of the voters 1, 2 and 3.
+pub fn members(alloc: Global) -> Result<Membership<u64, EmptyNode>, AllocError> {
+    let nodes: BTreeMap<u64, EmptyNode> = (1..=3).map(|id| (id, EmptyNode::new())).collect(alloc)?;
+    let voters: BTreeSet<u64> = [1, 2, 3].iter().copied().collect(alloc)?;
+    Membership::new_unchecked(vec![in alloc; voters]?, nodes)
+}
+
+/// A server whose vote is for the leader 1 of term 3, whose log is (1, 0), (1, 1), (2, 2), (2, 3),
+/// of which all up to a row is committed.
+pub fn follower<K: LeaderKind<u64>>(
+    alloc: Global,
+    committed: Row,
+) -> Result<StateOf<K>, AllocError> {
+    let mut keys = Vec::new(alloc);
+    for (term, index) in [(1, 0), (2, 2), (2, 3)] {
+        keys.push(LogIdOf::new(K::new_committed(term, 1), index))?;
+    }
+    let mut state = StateOf::<K>::try_default(alloc)?;
+    state.vote = UTime::without_utime(VoteOf::<u64, K>::new_committed(3, 1));
+    if is_key_list(&keys) {
+        state.log_ids = LogIdListOf::new(keys);
+    }
+    state.committed = id::<K>(committed);
+    Ok(state)
+}
+
+/// What a server answers to a request.
+#[derive(Debug, Clone, Copy, PartialEq, Eq)]
+pub enum Answer {
+    /// Its log matches up to this row.
+    Matches(Row),
+    /// Its log conflicts at this index.
+    Conflict(u64),
+    /// It has promised a higher vote.
+    HigherVote,
+    /// It refuses.
+    Refused(HandlerError),
+}
