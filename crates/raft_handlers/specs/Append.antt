@@ -1,17 +1,21 @@
 -- What a follower makes of a leader's request to append entries.
-use Rattle.std.specs.Prelude.{◌≡◌, ℕ, ◌<◌, Bool, List, [], ◌∷◌, Option, Some, None, Result, Ok, Err, IsTrue, drop, if◌then◌else◌}
+use Rattle.std.specs.Prelude.{◌≡◌, ℕ, ◌<◌, Bool, true, false, List, [], ◌∷◌, Option, Some, IsTrue, drop, if◌then◌else◌}
 use Rattle.std.specs.List.{list_all, prefix_len}
 use Rattle.std.specs.Option.{option_or}
 use Rattle.std.specs.declared.cmp.Ordering.{Ordering}
-use Rattle.raft_base.specs.LogId.{id_lt, same_ids}
+use Rattle.raft_base.specs.LogId.{id_lt, index_of, same_ids}
 use Rattle.raft_base.specs.declared.log_id.LogIdOf.{LogIdOf}
 use Rattle.raft_base.specs.declared.vote.VoteIn.{VoteIn}
-use Rattle.raft_handlers.specs.Entries.{entry_ids}
+use Rattle.raft_handlers.specs.Entries.{entry_ids, memberships_below}
 use Rattle.raft_handlers.specs.declared.message.AppendEntries.{AppendEntries}
 use Rattle.raft_handlers.specs.declared.message.Outcome.{Outcome}
 use Rattle.raft_handlers.specs.declared.message.Outcome.TheVariants.{Matches, Conflict, HigherVote}
+use Rattle.raft_state.specs.Appended.{AppendsMemberships}
+use Rattle.raft_state.specs.Entry.{payload_membership}
 use Rattle.raft_state.specs.FullLog.{end_index, full_log}
 use Rattle.raft_state.specs.LogReads.{id_at, last_id}
+use Rattle.raft_state.specs.MembershipMoves.{after_commit}
+use Rattle.raft_state.specs.Memberships.{Memberships}
 use Rattle.raft_state.specs.Sound.{purged_or_logged}
 use Rattle.raft_state.specs.declared.entry.EntryOf.{EntryOf}
 use Rattle.raft_state.specs.declared.raft_state.RaftStateIn.{RaftStateIn}
@@ -30,7 +34,7 @@ IfConflict (HigherVote vote) p = Unit {0}
 
 -- the vote that an elected leader's requests stand for
 abbrev pub elected : {L : Type 0} → L → VoteIn L
-elected leader = record { leader_id = leader; committed = Bool.true }
+elected leader = record { leader_id = leader; committed = true }
 
 -- the log id of the last of these entries, or `prev` where there is none
 abbrev pub last_of : {C K N D : Type 0} → Option (LogIdOf C) → List (EntryOf C K N D)
@@ -72,3 +76,24 @@ least cmp a b = if id_lt cmp a b then a else b
 abbrev pub greatest : {C : Type 0} → (C → C → Ordering) → Option (LogIdOf C)
     → Option (LogIdOf C) → Option (LogIdOf C)
 greatest cmp a b = if id_lt cmp a b then b else a
+
+-- the memberships of a state before these new entries are appended
+abbrev pub memberships_before : {K N I L C D : Type 0} → List (EntryOf C K N D)
+    → RaftStateIn K N I L C → Memberships C K N
+memberships_before [] s = s.membership_state
+memberships_before (e ∷ es) s = memberships_below e.log_id.index s
+
+-- each membership of these new entries was made effective, one after the other, in place of those
+-- of the log that they replace, and then what is committed up to a log id
+abbrev pub TakesMemberships : {K N I L C D : Type 0} → (C → C → Ordering) → (K → K → Bool)
+    → (N → N → Bool) → List (EntryOf C K N D) → Option (LogIdOf C) → RaftStateIn K N I L C
+    → Memberships C K N → Type 0
+TakesMemberships {K} {N} {I} {L} {C} cmp eq same new upto s m =
+    (appended : Memberships C K N) × AppendsMemberships eq same (λ e. e.log_id)
+    (λ e. payload_membership e.payload) new (memberships_before new s) appended
+    × (m ≡ (if id_lt cmp s.committed upto then after_commit cmp upto appended else appended))
+
+-- a log id has this index, and the log does not have it, nor is its index purged
+abbrev pub IsConflict : {K N I L C : Type 0} → (C → C → Bool) → ℕ → Option (LogIdOf C)
+    → RaftStateIn K N I L C → Type 0
+IsConflict eq at prev s = (index_of prev ≡ Some at) × (purged_or_logged eq s prev ≡ false)

@@ -1,11 +1,12 @@
 //! A follower: the entries that a leader sends.
 ghost use Rattle.std.specs.Prelude.{◌≡◌, ◌≢◌, ◌+◌, ◌≤◌, length, None, true, false, IsTrue, IfOk, IfErr, IfSome, IfNone, OnOk, OnErr, nat_eq, take};
 ghost use Rattle.std.specs.List.{prefix_len};
+ghost use Rattle.std.specs.Option.{option_or};
 ghost use Rattle.std.specs.Ordering.{partial_ge};
 ghost use Rattle.std.specs.Set.{ClonesAreEqual};
 ghost use Rattle.raft_base.specs.UTime.{moment_of, utime_of};
 ghost use Rattle.raft_base.specs.Vote.{vote_cmp};
-ghost use Rattle.raft_handlers.specs.Append.{elected, greatest, has_all, has_entry, last_of, least, new_of, replaced_since, IfConflict, IfMatches, KeepsBelow};
+ghost use Rattle.raft_handlers.specs.Append.{elected, greatest, has_all, has_entry, last_of, least, new_of, replaced_since, IfConflict, IfMatches, IsConflict, KeepsBelow, TakesMemberships};
 ghost use Rattle.raft_handlers.specs.Entries.{entry_ids};
 ghost use Rattle.raft_handlers.specs.declared.error.HandlerError.TheVariants.{OutOfMemory};
 ghost use Rattle.raft_handlers.specs.declared.message.Outcome.TheVariants.{HigherVote};
@@ -45,9 +46,53 @@ pub fn handle_append_entries<
         }) }
     ensures not_followed { partial_ge (vote_cmp L.order) (elected request.now.leader_id)
         (vote_of state.old) ≡ false → state.new ≡ state.old }
-    ensures followed { OnOk result (IsTrue (partial_ge (vote_cmp L.order)
-        (elected request.now.leader_id) (vote_of state.old)) →
-        vote_of state.new ≡ elected request.now.leader_id) }
+    ensures vote { OnOk result (IsTrue (partial_ge (vote_cmp L.order)
+        (elected request.now.leader_id) (vote_of state.old)) → state.new.vote
+        ≡ utime_of (elected request.now.leader_id) (moment_of state.old.vote)) }
+    ensures upto { IfOk result (λ response. IfMatches response.outcome (λ upto. upto
+        ≡ last_of request.now.prev request.now.entries.items)) }
+    ensures has_prev { IfOk result (λ response. IfMatches response.outcome (λ _. IsTrue
+        (purged_or_logged L.Committed.eq state.new request.now.prev))) }
+    ensures has_entries { IfOk result (λ response. IfMatches response.outcome (λ _. IsTrue
+        (has_all L.Committed.eq state.new request.now.entries.items))) }
+    ensures consecutive { IfOk result (λ response. IfMatches response.outcome (λ _. IsTrue
+        (are_consecutive request.now.prev (entry_ids request.now.entries.items)))) }
+    ensures kept { IfOk result (λ response. IfMatches response.outcome (λ _. KeepsBelow
+        L.Committed.eq (replaced_since (full_log state.old.log_ids)
+        (new_of L.Committed.eq state.old request.now.entries.items))
+        (full_log state.old.log_ids) (full_log state.new.log_ids))) }
+    ensures nothing_new { IfOk result (λ response. IfMatches response.outcome (λ _.
+        new_of L.Committed.eq state.old request.now.entries.items ≡ [] →
+        state.new.log_ids ≡ state.old.log_ids)) }
+    ensures ends { IfOk result (λ response. IfMatches response.outcome (λ _.
+        last_id (full_log state.new.log_ids) ≡ option_or (last_id (entry_ids
+        (new_of L.Committed.eq state.old request.now.entries.items)))
+        (last_id (full_log state.old.log_ids)))) }
+    ensures memberships { IfOk result (λ response. IfMatches response.outcome (λ upto.
+        TakesMemberships L.Committed.cmp NID.eq N.eq
+        (new_of L.Committed.eq state.old request.now.entries.items)
+        (least L.Committed.cmp request.now.committed upto) state.old
+        state.new.membership_state)) }
+    ensures committed { IfOk result (λ response. IfMatches response.outcome (λ upto.
+        state.new.committed ≡ greatest L.Committed.cmp state.old.committed
+        (least L.Committed.cmp request.now.committed upto))) }
+    ensures conflict { IfOk result (λ response. IfConflict response.outcome (λ at.
+        IsConflict L.Committed.eq at request.now.prev state.old)) }
+    ensures truncated { IfOk result (λ response. IfConflict response.outcome (λ at.
+        full_log state.new.log_ids ≡ front (full_log state.old.log_ids) at)) }
+    ensures rest { state.new ≡ record state.old {
+      vote = state.new.vote;
+      log_ids = state.new.log_ids;
+      membership_state = state.new.membership_state;
+      accepted = state.new.accepted;
+      committed = state.new.committed;
+    } }
+    ensures refused { IfErr result (λ e. e ≢ OutOfMemory → state.new ≡ state.old) }
+    ensures out_of_memory { OnErr result (KeepsBelow L.Committed.eq
+        (replaced_since (full_log state.old.log_ids)
+        (new_of L.Committed.eq state.old request.now.entries.items))
+        (full_log state.old.log_ids) (full_log state.new.log_ids)) }
+    ensures not_committed { OnErr result (state.new.committed ≡ state.old.committed) }
     ensures sound { IsSound L.Committed.eq L.Committed.cmp state.old →
         IsSound L.Committed.eq L.Committed.cmp state.new }
 {
@@ -77,22 +122,70 @@ fn match_log<NID: NodeId, N: Node, I: Instant, L: Drop, C: Ord + Copy + Drop, M,
     request: &AppendEntries<M, C, NID, N, D>,
 ) -> Result<Outcome<M, C>, HandlerError>
     requires clones { ClonesAreEqual N.eq N.is_clone }
+    ensures upto { IfOk result (λ outcome. IfMatches outcome (λ upto. upto
+        ≡ last_of request.now.prev request.now.entries.items)) }
+    ensures has_prev { IfOk result (λ outcome. IfMatches outcome (λ _. IsTrue
+        (purged_or_logged C.eq state.new request.now.prev))) }
+    ensures has_entries { IfOk result (λ outcome. IfMatches outcome (λ _. IsTrue
+        (has_all C.eq state.new request.now.entries.items))) }
+    ensures consecutive { IfOk result (λ outcome. IfMatches outcome (λ _. IsTrue
+        (are_consecutive request.now.prev (entry_ids request.now.entries.items)))) }
+    ensures kept { IfOk result (λ outcome. IfMatches outcome (λ _. KeepsBelow C.eq
+        (replaced_since (full_log state.old.log_ids)
+        (new_of C.eq state.old request.now.entries.items))
+        (full_log state.old.log_ids) (full_log state.new.log_ids))) }
+    ensures nothing_new { IfOk result (λ outcome. IfMatches outcome (λ _.
+        new_of C.eq state.old request.now.entries.items ≡ [] →
+        state.new.log_ids ≡ state.old.log_ids)) }
+    ensures ends { IfOk result (λ outcome. IfMatches outcome (λ _.
+        last_id (full_log state.new.log_ids) ≡ option_or (last_id (entry_ids
+        (new_of C.eq state.old request.now.entries.items)))
+        (last_id (full_log state.old.log_ids)))) }
+    ensures memberships { IfOk result (λ outcome. IfMatches outcome (λ upto. TakesMemberships
+        C.cmp NID.eq N.eq (new_of C.eq state.old request.now.entries.items)
+        (least C.cmp request.now.committed upto) state.old state.new.membership_state)) }
+    ensures committed { IfOk result (λ outcome. IfMatches outcome (λ upto. state.new.committed
+        ≡ greatest C.cmp state.old.committed (least C.cmp request.now.committed upto))) }
+    ensures conflict { IfOk result (λ outcome. IfConflict outcome (λ at.
+        IsConflict C.eq at request.now.prev state.old)) }
+    ensures truncated { IfOk result (λ outcome. IfConflict outcome (λ at.
+        full_log state.new.log_ids ≡ front (full_log state.old.log_ids) at)) }
+    ensures rest { state.new ≡ record state.old {
+      log_ids = state.new.log_ids;
+      membership_state = state.new.membership_state;
+      accepted = state.new.accepted;
+      committed = state.new.committed;
+    } }
     ensures refused { IfErr result (λ e. e ≢ OutOfMemory → state.new ≡ state.old) }
+    ensures out_of_memory { OnErr result (KeepsBelow C.eq
+        (replaced_since (full_log state.old.log_ids)
+        (new_of C.eq state.old request.now.entries.items))
+        (full_log state.old.log_ids) (full_log state.new.log_ids)) }
+    ensures not_committed { OnErr result (state.new.committed ≡ state.old.committed) }
     ensures sound { IsSound C.eq C.cmp state.old → IsSound C.eq C.cmp state.new }
-    ensures vote { state.new.vote ≡ state.old.vote }
 {
-    match request.prev {
-        Some(prev) if !state.is_purged_or_logged(&request.prev) => {
-            if !can_cut(state, prev.index) {
-                return Err(HandlerError::TruncatesCommitted);
-            }
-            cut(state, prev.index)?;
-            Ok(Outcome::Conflict(prev.index))
-        }
-        _ => {
-            take_entries(state, request)?;
-            Ok(Outcome::Matches(request.last_log_id()))
-        }
+    let Some(at) = conflict_of(state, request.prev) else {
+        take_entries(state, request)?;
+        return Ok(Outcome::Matches(request.last_log_id()));
+    };
+    if !can_cut(state, at) {
+        return Err(HandlerError::TruncatesCommitted);
+    }
+    cut(state, at)?;
+    Ok(Outcome::Conflict(at))
+}
+
+/// The index of a log id, if the log does not have it and its index is not purged.
+fn conflict_of<NID: NodeId, N: Node, I: Instant, L: Drop, C: Ord + Copy + Drop>(
+    state: &RaftStateIn<NID, N, I, L, C>,
+    prev: Option<LogIdOf<C>>,
+) -> Option<u64>
+    ensures conflict { IfSome result (λ at. IsConflict C.eq at prev state.now) }
+    ensures none { IfNone result (IsTrue (purged_or_logged C.eq state.now prev)) }
+{
+    match prev {
+        Some(id) if !state.is_purged_or_logged(&prev) => Some(id.index),
+        _ => None,
     }
 }
 
@@ -102,9 +195,37 @@ fn take_entries<NID: NodeId, N: Node, I: Instant, L: Drop, C: Ord + Copy + Drop,
     request: &AppendEntries<M, C, NID, N, D>,
 ) -> Result<(), HandlerError>
     requires clones { ClonesAreEqual N.eq N.is_clone }
+    requires prev { IsTrue (purged_or_logged C.eq state.old request.now.prev) }
+    ensures has_prev { OnOk result (IsTrue
+        (purged_or_logged C.eq state.new request.now.prev)) }
+    ensures has_entries { OnOk result (IsTrue
+        (has_all C.eq state.new request.now.entries.items)) }
+    ensures consecutive { OnOk result (IsTrue
+        (are_consecutive request.now.prev (entry_ids request.now.entries.items))) }
+    ensures kept { KeepsBelow C.eq (replaced_since (full_log state.old.log_ids)
+        (new_of C.eq state.old request.now.entries.items))
+        (full_log state.old.log_ids) (full_log state.new.log_ids) }
+    ensures nothing_new { new_of C.eq state.old request.now.entries.items ≡ [] →
+        state.new.log_ids ≡ state.old.log_ids }
+    ensures ends { OnOk result (last_id (full_log state.new.log_ids) ≡ option_or (last_id
+        (entry_ids (new_of C.eq state.old request.now.entries.items)))
+        (last_id (full_log state.old.log_ids))) }
+    ensures memberships { OnOk result (TakesMemberships C.cmp NID.eq N.eq
+        (new_of C.eq state.old request.now.entries.items)
+        (least C.cmp request.now.committed (last_of request.now.prev request.now.entries.items))
+        state.old state.new.membership_state) }
+    ensures committed { OnOk result (state.new.committed ≡ greatest C.cmp state.old.committed
+        (least C.cmp request.now.committed
+        (last_of request.now.prev request.now.entries.items))) }
+    ensures rest { state.new ≡ record state.old {
+      log_ids = state.new.log_ids;
+      membership_state = state.new.membership_state;
+      accepted = state.new.accepted;
+      committed = state.new.committed;
+    } }
     ensures refused { IfErr result (λ e. e ≢ OutOfMemory → state.new ≡ state.old) }
+    ensures not_committed { OnErr result (state.new.committed ≡ state.old.committed) }
     ensures sound { IsSound C.eq C.cmp state.old → IsSound C.eq C.cmp state.new }
-    ensures vote { state.new.vote ≡ state.old.vote }
 {
     let Some(place) = first_new(state, request.prev, &request.entries) else {
         return Err(HandlerError::NotInOrder);

@@ -1,15 +1,18 @@
 //! The end of a log, replaced by new entries.
 ghost use Rattle.std.specs.Prelude.{◌≡◌, ◌≢◌, ◌&&◌, [], None, true, false, IsTrue, IfOk, IfErr, OnOk, OnErr, nat_eq};
+ghost use Rattle.std.specs.Option.{option_or};
 ghost use Rattle.std.specs.Set.{ClonesAreEqual};
 ghost use Rattle.raft_base.specs.LogId.{id_lt, index_of, next_index};
 ghost use Rattle.raft_base.specs.LogIndex.{index_lt};
-ghost use Rattle.raft_handlers.specs.Append.{replaced_since, greatest, KeepsBelow};
+ghost use Rattle.raft_handlers.specs.Append.{greatest, replaced_since, KeepsBelow, TakesMemberships};
 ghost use Rattle.raft_handlers.specs.Entries.{allows_commit, effective_below, effective_with, ends_before, entry_ids, has_with, last_below, may_append_after, may_commit_with, may_cut, memberships_below};
 ghost use Rattle.raft_handlers.specs.declared.error.HandlerError.TheVariants.{OutOfMemory};
 ghost use Rattle.raft_members.specs.Stored.{log_id_of};
 ghost use Rattle.raft_state.specs.FullLog.{full_log};
 ghost use Rattle.raft_state.specs.LogConditions.{follows};
 ghost use Rattle.raft_state.specs.LogEdits.{front};
+ghost use Rattle.raft_state.specs.LogKept.{HasIds};
+ghost use Rattle.raft_state.specs.LogReads.{last_id};
 ghost use Rattle.raft_state.specs.Commit.{state_after_commit, state_may_commit};
 ghost use Rattle.raft_state.specs.Sound.{IsSound};
 ghost use Rattle.raft_state.specs.StateView.{view_of};
@@ -53,7 +56,8 @@ pub(crate) fn cut<NID: NodeId, N: Node, I: Instant, L: Drop, C: Ord + Copy + Dro
 {
     // Read for the proof alone: by its contract the keys are in order.
     let _keys = state.log_ids.key_log_ids();
-    if ends_before(state, since) {
+    let ends = ends_before(state, since);
+    if ends {
         return Ok(());
     }
     state.truncate_log(since)?;
@@ -114,14 +118,25 @@ pub(crate) fn append_new<NID: NodeId, N: Node, I: Instant, L: Drop, C: Ord + Cop
     committed: Option<LogIdOf<C>>,
 ) -> Result<(), HandlerError>
     requires clones { ClonesAreEqual N.eq N.is_clone }
-    ensures kept { KeepsBelow C.eq
-        (replaced_since (full_log state.old.log_ids) new.now)
+    ensures kept { KeepsBelow C.eq (replaced_since (full_log state.old.log_ids) new.now)
         (full_log state.old.log_ids) (full_log state.new.log_ids) }
-    ensures refused { IfErr result (λ e. e ≢ OutOfMemory → state.new ≡ state.old) }
-    ensures sound { IsSound C.eq C.cmp state.old → IsSound C.eq C.cmp state.new }
+    ensures own { OnOk result (HasIds C.eq (entry_ids new.now) (full_log state.new.log_ids)) }
+    ensures unchanged { new.now ≡ [] → state.new.log_ids ≡ state.old.log_ids }
+    ensures ends { OnOk result (last_id (full_log state.new.log_ids)
+        ≡ option_or (last_id (entry_ids new.now)) (last_id (full_log state.old.log_ids))) }
+    ensures memberships { OnOk result (TakesMemberships C.cmp NID.eq N.eq new.now committed
+        state.old state.new.membership_state) }
     ensures committed { OnOk result
         (state.new.committed ≡ greatest C.cmp state.old.committed committed) }
+    ensures rest { state.new ≡ record state.old {
+      log_ids = state.new.log_ids;
+      membership_state = state.new.membership_state;
+      accepted = state.new.accepted;
+      committed = state.new.committed;
+    } }
+    ensures refused { IfErr result (λ e. e ≢ OutOfMemory → state.new ≡ state.old) }
     ensures not_committed { OnErr result (state.new.committed ≡ state.old.committed) }
+    ensures sound { IsSound C.eq C.cmp state.old → IsSound C.eq C.cmp state.new }
 {
     let Some(first) = new.first() else {
         let effective = *state.membership_state.effective().log_id();
