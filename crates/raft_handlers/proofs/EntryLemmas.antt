@@ -2,6 +2,7 @@
 use Rattle.std.proofs.Common.{
   ◌≡◌,
   ℕ,
+  zero,
   suc,
   ◌+◌,
   ◌-◌,
@@ -24,10 +25,13 @@ use Rattle.std.proofs.Common.{
   map,
   nat_eq,
   nat_le,
-  is_some,
   refl,
   sym,
   ap,
+  add-one,
+  take,
+  drop,
+  length,
   arith,
   ◌∙◌,
 }
@@ -35,35 +39,37 @@ use Rattle.std.proofs.lemmas.Bool.{and_parts, or_right}
 use Rattle.std.proofs.lemmas.Bool.Decides.{nat_tests}
 use Rattle.std.proofs.lemmas.Option.{slice_get-map}
 use Rattle.std.specs.Prelude.{slice_get}
-use Rattle.std.specs.List.{list_all}
-use Rattle.std.specs.Option.{option_map}
+use Rattle.std.proofs.lemmas.List.{append-nil, drop_all, map-append, take-append-drop}
+use Rattle.std.proofs.lemmas.List.Folds.{list_all-append}
+use Rattle.std.specs.List.{list_all, prefix_len}
+use Rattle.std.specs.Option.{option_map, option_or}
 use Rattle.std.specs.Cmp.{IsEquivalence}
 use Rattle.std.specs.Cmp.Derive.{both_true}
 use Rattle.std.specs.declared.cmp.Ordering.{Ordering}
-use Rattle.raft_base.specs.LogId.{id_lt, next_index, same_ids}
+use Rattle.raft_base.specs.LogId.{id_lt, index_of, next_index, same_ids}
+use Rattle.raft_base.specs.LogIndex.{index_lt}
 use Rattle.raft_base.specs.declared.log_id.LogIdOf.{LogIdOf}
-use Rattle.raft_handlers.specs.Append.{has_entry, KeepsBelow}
-use Rattle.raft_handlers.specs.Entries.{allows_commit, effective_with, entry_ids, has_with, may_append_after, may_commit_with, stores_membership}
+use Rattle.raft_handlers.specs.Append.{follow_on, has_entry, memberships_before, replaced_since, KeepsBelow}
+use Rattle.raft_handlers.specs.Entries.{allows_commit, entry_ids, has_with, may_commit_with, memberships_below}
 use Rattle.raft_members.specs.Stored.{log_id_of}
+use Rattle.raft_members.specs.MajorityLawful.{list_all-weaker}
+use Rattle.raft_state.proofs.lemmas.log.ConflictLemmas.{place_passes}
+use Rattle.raft_state.proofs.lemmas.log_id_list.EndsLemmas.{last_of_map, last_of_some}
+use Rattle.raft_state.proofs.lemmas.log_id_list.FrontLemmas.{front_all, last_at}
 use Rattle.raft_state.proofs.lemmas.log_id_list.IdOrderLemmas.{leaders_trans}
+use Rattle.raft_state.proofs.lemmas.log_id_list.KeptLemmas.{front_reads}
+use Rattle.raft_state.proofs.lemmas.log_id_list.OrderLemmas.{From}
 use Rattle.raft_state.proofs.lemmas.log_id_list.SameLogLemmas.{equal_found}
-use Rattle.raft_state.proofs.lemmas.sound.LoggedIds.{in_log}
+use Rattle.raft_state.proofs.lemmas.sound.LoggedIds.{in_log, is_kept}
 use Rattle.raft_state.specs.Appended.{are_consecutive}
 use Rattle.raft_state.specs.Commit.{state_may_commit}
 use Rattle.raft_state.specs.FullLog.{end_index, full_log}
-use Rattle.raft_state.specs.LogConditions.{follows}
-use Rattle.raft_state.specs.LogKept.{HasIds}
-use Rattle.raft_state.specs.LogReads.{id_at}
+use Rattle.raft_state.specs.LogEdits.{front}
+use Rattle.raft_state.specs.LogKept.{HasIds, KeepsIds}
+use Rattle.raft_state.specs.LogReads.{id_at, last_id}
 use Rattle.raft_state.specs.Sound.{purged_or_logged}
 use Rattle.raft_state.specs.declared.entry.EntryOf.{EntryOf}
 use Rattle.raft_state.specs.declared.raft_state.RaftStateIn.{RaftStateIn}
-
--- an entry that comes next, without a membership and with one
-module _ {C K N D : Type 0} (cmp : C → C → Ordering) (last effective : Option (LogIdOf C)) (e : EntryOf C K N D)
-    (es : List (EntryOf C K N D)) (next : follows cmp last e.log_id && nat_eq e.log_id.index (next_index last) ≡ true) where
-  pub may_step : stores_membership e ≡ false
-      → may_append_after cmp last effective (e ∷ es) ≡ may_append_after cmp (Some e.log_id) effective es
-  may_step stores = let b = and_parts _ _ next in rw (b.0, b.1, stores) refl
 
 -- what two log ids equal to a third one are
 pub same_through : {C : Type 0} (eq : C → C → Bool) → IsEquivalence eq → (a b : Option (LogIdOf C)) (id : LogIdOf C)
@@ -155,3 +161,214 @@ own_present eq s (e ∷ es) own =
     both_true (or_right (nat_le (e.log_id.index + 1) s.purged_next)
     (same_ids eq (id_at (full_log s.log_ids) e.log_id.index) (Some e.log_id)) (own 0 e.log_id refl))
     (own_present eq s es (λ n id at. own (suc n) id at))
+
+-- a log that ends before an index is truncated nowhere there
+pub front_whole : {C : Type 0} (b since : ℕ) (log : List (LogIdOf C)) → From b log → index_lt (index_of (last_id log)) (Some since) ≡ true
+    → front log since ≡ log
+front_whole b since [] row ends = refl
+front_whole b since (x ∷ xs) row ends =
+    let y = last_at b x xs row in let y2 = y.2 in let f = rw y.1 at ends in
+    let lt : y.0.index < since = grind (arith, nat_tests) in
+    front_all b since (x ∷ xs) row (omega arith)
+
+-- the first entry, by its place
+pub no_first : {A : Type 0} (xs : List A) → None ≡ slice_get xs 0 → xs ≡ []
+no_first [] h = refl
+no_first (x ∷ xs) h = cc
+
+pub replaced_first : {C K N D : Type 0} (log : List (LogIdOf C)) (es : List (EntryOf C K N D)) (first : EntryOf C K N D)
+    → slice_get es 0 ≡ Some first → replaced_since log es ≡ first.log_id.index
+replaced_first log [] first h = cc
+replaced_first log (e ∷ es) first h = let is : e ≡ first = cc in rw is refl
+
+pub first_next : {C K N D : Type 0} (last : Option (LogIdOf C)) (es : List (EntryOf C K N D)) (first : EntryOf C K N D)
+    → slice_get es 0 ≡ Some first → are_consecutive last (entry_ids es) ≡ true → first.log_id.index ≡ next_index last
+first_next last [] first h row = cc
+first_next last (e ∷ es) first h row =
+    let is : e ≡ first = cc in
+    let b = and_parts _ _ row in let t : nat_eq e.log_id.index (next_index last) ≡ true = b.0 in
+    rw (← is) (grind (arith, nat_tests))
+
+pub ends_alike : {C K N D : Type 0} (es : List (EntryOf C K N D)) (first : EntryOf C K N D) (a b : Option (LogIdOf C))
+    → slice_get es 0 ≡ Some first → option_or (last_id (entry_ids es)) a ≡ option_or (last_id (entry_ids es)) b
+ends_alike [] first a b h = cc
+ends_alike (e ∷ es) first a b h = rw (last_of_some e.log_id (entry_ids es)) refl
+
+pub memberships_first : {K N I L C D : Type 0} (s : RaftStateIn K N I L C) (es : List (EntryOf C K N D)) (first : EntryOf C K N D)
+    → slice_get es 0 ≡ Some first → memberships_before es s ≡ memberships_below first.log_id.index s
+memberships_first s [] first h = cc
+memberships_first s (e ∷ es) first h = let is : e ≡ first = cc in rw is refl
+
+-- what a look-up among new log ids says
+pub has_with_some : {C K N D : Type 0} (eq : C → C → Bool) (log : List (LogIdOf C)) (es : List (EntryOf C K N D))
+    (first e : EntryOf C K N D) (id : LogIdOf C) → slice_get es 0 ≡ Some first → first.log_id.index ≤ id.index
+    → slice_get es (id.index - first.log_id.index) ≡ Some e
+    → same_ids eq (Some e.log_id) (Some id) ≡ has_with eq log (entry_ids es) (Some id)
+has_with_some eq log [] first e id h le here = cc
+has_with_some {C} {K} {N} {D} eq log (x ∷ xs) first e id h le here =
+    let is : x ≡ first = cc in
+    let low : x.log_id.index ≤ id.index = rw is le in
+    let t : nat_le x.log_id.index id.index ≡ true = grind (arith, nat_tests) in
+    let there = rw (← is) at here in
+    let found = slice_get-map (λ (y : EntryOf C K N D). y.log_id) (x ∷ xs) (id.index - x.log_id.index) in
+    rw (t, found, there) refl
+
+pub has_with_none : {C K N D : Type 0} (eq : C → C → Bool) (log : List (LogIdOf C)) (es : List (EntryOf C K N D))
+    (first : EntryOf C K N D) (id : LogIdOf C) → slice_get es 0 ≡ Some first → first.log_id.index ≤ id.index
+    → slice_get es (id.index - first.log_id.index) ≡ None → false ≡ has_with eq log (entry_ids es) (Some id)
+has_with_none eq log [] first id h le here = cc
+has_with_none {C} {K} {N} {D} eq log (x ∷ xs) first id h le here =
+    let is : x ≡ first = cc in
+    let low : x.log_id.index ≤ id.index = rw is le in
+    let t : nat_le x.log_id.index id.index ≡ true = grind (arith, nat_tests) in
+    let there = rw (← is) at here in
+    let found = slice_get-map (λ (y : EntryOf C K N D). y.log_id) (x ∷ xs) (id.index - x.log_id.index) in
+    rw (t, found, there) refl
+
+pub has_with_alone : {C : Type 0} (eq : C → C → Bool) (log : List (LogIdOf C)) (o : Option (LogIdOf C))
+    → has_with eq log [] o ≡ true → in_log eq log o ≡ true
+has_with_alone eq log None h = refl
+has_with_alone eq log (Some id) h = h
+
+pub has_after_entries : {C K N D : Type 0} (eq : C → C → Bool) → IsEquivalence eq → (old new : List (LogIdOf C))
+    (es : List (EntryOf C K N D)) (first : EntryOf C K N D) (id : Option (LogIdOf C)) → slice_get es 0 ≡ Some first
+    → KeepsBelow eq first.log_id.index old new → HasIds eq (entry_ids es) new → has_with eq old (entry_ids es) id ≡ true
+    → in_log eq new id ≡ true
+has_after_entries eq eqs old new [] first id h kept own has = cc
+has_after_entries eq eqs old new (e ∷ es) first id h kept own has =
+    let is : e ≡ first = cc in
+    has_after eq eqs old new (entry_ids es) e.log_id id (rw is kept) own has
+
+-- below the first new entry the log reads as before
+pub kept_through : {C K N D : Type 0} (eq : C → C → Bool) (old new : List (LogIdOf C)) (since : ℕ) (last : Option (LogIdOf C))
+    (es : List (EntryOf C K N D)) (first : EntryOf C K N D) → last ≡ last_id (front old since)
+    → are_consecutive last (entry_ids es) ≡ true → slice_get es 0 ≡ Some first → since ≡ first.log_id.index
+    → KeepsIds eq (front old since) new → KeepsBelow eq since old new
+kept_through eq old new since last es first is row h at kept i lt =
+    let n = first_next last es first h row in
+    let end : next_index last ≡ end_index (front old since) = ap next_index is in
+    rw (front_reads old since i lt) at (kept i (omega arith))
+
+-- entries that have consecutive log ids after the first one
+pub follow_of : {C K N D : Type 0} (last : Option (LogIdOf C)) (es : List (EntryOf C K N D))
+    → are_consecutive last (entry_ids es) ≡ true → follow_on es ≡ true
+follow_of last [] h = refl
+follow_of last (e ∷ es) h = (and_parts _ _ h).1
+
+consecutive_join : {C K N D : Type 0} (last : Option (LogIdOf C)) (es : List (EntryOf C K N D)) (x : EntryOf C K N D)
+    (xs : List (EntryOf C K N D)) → are_consecutive last (entry_ids es ++ x.log_id ∷ []) ≡ true → follow_on (x ∷ xs) ≡ true
+    → are_consecutive last (entry_ids (es ++ x ∷ xs)) ≡ true
+consecutive_join last [] x xs h follow = both_true ((and_parts _ _ h).0) follow
+consecutive_join last (e ∷ es) x xs h follow =
+    let b = and_parts _ _ h in both_true b.0 (consecutive_join (Some e.log_id) es x xs b.1 follow)
+
+ids_end : {C K N D : Type 0} (es : List (EntryOf C K N D)) (x : EntryOf C K N D)
+    → entry_ids (es ++ x ∷ []) ≡ entry_ids es ++ x.log_id ∷ []
+ids_end [] x = refl
+ids_end (e ∷ es) x = ap (λ ids. e.log_id ∷ ids) (ids_end es x)
+
+take_next : {A : Type 0} (n : ℕ) (xs : List A) (x : A) (rest : List A) → drop n xs ≡ x ∷ rest → take (suc n) xs ≡ take n xs ++ x ∷ []
+take_next zero [] x rest h = cc
+take_next zero (y ∷ ys) x rest h = let is : y ≡ x = cc in rw is refl
+take_next (suc n) [] x rest h = cc
+take_next (suc n) (y ∷ ys) x rest h = ap (λ zs. y ∷ zs) (take_next n ys x rest h)
+
+take_whole : {A : Type 0} (n : ℕ) (xs : List A) → drop n xs ≡ [] → take n xs ≡ xs
+take_whole zero [] h = refl
+take_whole zero (y ∷ ys) h = cc
+take_whole (suc n) [] h = refl
+take_whole (suc n) (y ∷ ys) h = ap (λ zs. y ∷ zs) (take_whole n ys h)
+
+has_alike : {K N I L C : Type 0} (eq : C → C → Bool) (old new : RaftStateIn K N I L C) (id : Option (LogIdOf C))
+    → new.purged_next ≡ old.purged_next → new.log_ids ≡ old.log_ids → purged_or_logged eq old id ≡ true
+    → purged_or_logged eq new id ≡ true
+has_alike eq old new id purged logs has = rw (is_kept eq new id, purged, logs) (sym (is_kept eq old id) ∙ has)
+
+drop_one_more : {A : Type 0} (n : ℕ) (xs : List A) → drop n xs ≡ [] → drop (suc n) xs ≡ []
+drop_one_more zero [] h = refl
+drop_one_more zero (y ∷ ys) h = cc
+drop_one_more (suc n) [] h = refl
+drop_one_more (suc n) (y ∷ ys) h = drop_one_more n ys h
+
+-- a state after a request, of whose entries so many were in the log before
+module _ {K N I L C D : Type 0} (eq : C → C → Bool) (eqs : IsEquivalence eq) (old new : RaftStateIn K N I L C)
+    (prev : Option (LogIdOf C)) (es : List (EntryOf C K N D)) (n : ℕ) where
+  -- the log id of the first new entry comes after those before it
+  row_to : (x : EntryOf C K N D) (xs : List (EntryOf C K N D)) → are_consecutive prev (entry_ids (take (n + 1) es)) ≡ true
+      → drop n es ≡ x ∷ xs → are_consecutive prev (entry_ids (take n es) ++ x.log_id ∷ []) ≡ true
+  row_to x xs row is =
+      let next : take (n + 1) es ≡ take n es ++ x ∷ [] = rw add-one (take_next n es x xs is) in
+      rw (next, ids_end (take n es) x) at row
+
+  pub prev_stays : are_consecutive prev (entry_ids (take (n + 1) es)) ≡ true
+      → KeepsBelow eq (replaced_since (full_log old.log_ids) (drop n es)) (full_log old.log_ids) (full_log new.log_ids)
+      → new.purged_next ≡ old.purged_next → (drop n es ≡ [] → new.log_ids ≡ old.log_ids)
+      → purged_or_logged eq old prev ≡ true → purged_or_logged eq new prev ≡ true
+  prev_stays row kept purged none has = by (drop n es) refl kept
+    where
+      by : (fresh : List (EntryOf C K N D)) → drop n es ≡ fresh
+          → KeepsBelow eq (replaced_since (full_log old.log_ids) fresh) (full_log old.log_ids) (full_log new.log_ids)
+          → purged_or_logged eq new prev ≡ true
+      by [] is kept = has_alike eq old new prev purged (none is) has
+      by (x ∷ xs) is kept =
+          stays_present eq eqs old new x.log_id.index prev (consecutive_to prev (take n es) x.log_id (row_to x xs row is)) kept purged has
+
+  pub entries_present : n ≡ prefix_len (has_entry eq old) es → are_consecutive prev (entry_ids (take (n + 1) es)) ≡ true
+      → KeepsBelow eq (replaced_since (full_log old.log_ids) (drop n es)) (full_log old.log_ids) (full_log new.log_ids)
+      → new.purged_next ≡ old.purged_next → (drop n es ≡ [] → new.log_ids ≡ old.log_ids)
+      → HasIds eq (entry_ids (drop n es)) (full_log new.log_ids) → list_all (has_entry eq new) es ≡ true
+  entries_present place row kept purged none own = by (drop n es) refl kept own
+    where
+      before : list_all (has_entry eq old) (take n es) ≡ true
+      before = place_passes (has_entry eq old) es n place
+
+      by : (fresh : List (EntryOf C K N D)) → drop n es ≡ fresh
+          → KeepsBelow eq (replaced_since (full_log old.log_ids) fresh) (full_log old.log_ids) (full_log new.log_ids)
+          → HasIds eq (entry_ids fresh) (full_log new.log_ids) → list_all (has_entry eq new) es ≡ true
+      by [] is kept own =
+          list_all-weaker (has_entry eq old) (has_entry eq new) (λ e h. has_alike eq old new (Some e.log_id) purged (none is) h) es
+          (rw (take_whole n es is) at before)
+      by (x ∷ xs) is kept own =
+          let first = all_stay_present eq eqs old new prev (take n es) x.log_id (row_to x xs row is) kept purged before in
+          let parts = list_all-append (has_entry eq new) (take n es) (x ∷ xs) in
+          let whole : take n es ++ x ∷ xs ≡ es = rw is at (take-append-drop n es) in
+          rw (← whole, parts) (both_true first (own_present eq new (x ∷ xs) own))
+
+  pub entries_consecutive : are_consecutive prev (entry_ids (take (n + 1) es)) ≡ true → follow_on (drop n es) ≡ true
+      → are_consecutive prev (entry_ids es) ≡ true
+  entries_consecutive row follow = by (drop n es) refl follow
+    where
+      by : (fresh : List (EntryOf C K N D)) → drop n es ≡ fresh → follow_on fresh ≡ true → are_consecutive prev (entry_ids es) ≡ true
+      by [] is follow =
+          let whole : take (n + 1) es ≡ es = rw add-one (take_whole (suc n) es (drop_one_more n es is)) in
+          rw whole at row
+      by (x ∷ xs) is follow =
+          let whole : take n es ++ x ∷ xs ≡ es = rw is at (take-append-drop n es) in
+          rw whole at (consecutive_join prev (take n es) x xs (row_to x xs row is) follow)
+
+-- a walk along entries, which is at a place and has consecutive log ids up to there
+module _ {C K N D : Type 0} (prev last : Option (LogIdOf C)) (es : List (EntryOf C K N D)) (i : ℕ)
+    (split : (ys : List (LogIdOf C)) → are_consecutive prev (entry_ids (take i es) ++ ys) ≡ are_consecutive last ys) where
+  pub gap_here : (e : EntryOf C K N D) (rest : List (EntryOf C K N D)) → drop i es ≡ e ∷ rest
+      → nat_eq e.log_id.index (next_index last) ≡ false → are_consecutive prev (entry_ids es) ≡ false
+  gap_here e rest is gap =
+      let whole : take i es ++ e ∷ rest ≡ es = rw is at (take-append-drop i es) in
+      let ids = map-append (λ (x : EntryOf C K N D). x.log_id) (take i es) (e ∷ rest) in
+      let here : are_consecutive last (entry_ids (e ∷ rest)) ≡ false = rw gap refl in
+      ap (λ xs. are_consecutive prev (entry_ids xs)) (sym whole) ∙ ap (are_consecutive prev) ids ∙ split (entry_ids (e ∷ rest)) ∙ here
+
+  pub ends_here : length es ≤ i → are_consecutive prev (entry_ids (take (length es + 1) es)) ≡ true
+  ends_here end =
+      let all = take_whole i es (drop_all i es end) in
+      let more : take (length es + 1) es ≡ es = take_whole (length es + 1) es (drop_all (length es + 1) es (omega arith)) in
+      let none = append-nil (entry_ids es) in
+      rw (more, ← none) (rw all at (split []))
+
+-- the log id of the last entry
+pub last_of_entries : {C K N D : Type 0} (prev : Option (LogIdOf C)) (es : List (EntryOf C K N D)) (e : EntryOf C K N D)
+    → slice_get es (length es - 1) ≡ Some e → Some e.log_id ≡ option_or (last_id (entry_ids es)) prev
+last_of_entries prev [] e h = cc
+last_of_entries {C} {K} {N} {D} prev (x ∷ xs) e h =
+    let n : length (x ∷ xs) - 1 ≡ length xs = omega arith in
+    let here = rw n at h in
+    rw (last_of_some x.log_id (entry_ids xs), last_of_map (λ (y : EntryOf C K N D). y.log_id) x xs, here) refl

@@ -10,7 +10,7 @@ use Rattle.raft_handlers.specs.Entries.{entry_ids, memberships_below}
 use Rattle.raft_handlers.specs.declared.message.AppendEntries.{AppendEntries}
 use Rattle.raft_handlers.specs.declared.message.Outcome.{Outcome}
 use Rattle.raft_handlers.specs.declared.message.Outcome.TheVariants.{Matches, Conflict, HigherVote}
-use Rattle.raft_state.specs.Appended.{AppendsMemberships}
+use Rattle.raft_state.specs.Appended.{are_consecutive, AppendsMemberships}
 use Rattle.raft_state.specs.Entry.{payload_membership}
 use Rattle.raft_state.specs.FullLog.{end_index, full_log}
 use Rattle.raft_state.specs.LogReads.{id_at, last_id}
@@ -60,6 +60,11 @@ new_of eq s es = drop (prefix_len (has_entry eq s) es) es
 abbrev pub replaced_since : {C K N D : Type 0} → List (LogIdOf C) → List (EntryOf C K N D) → ℕ
 replaced_since log [] = end_index log
 replaced_since log (e ∷ es) = e.log_id.index
+
+-- entries have consecutive indexes after the first one
+abbrev pub follow_on : {C K N D : Type 0} → List (EntryOf C K N D) → Bool
+follow_on [] = true
+follow_on (e ∷ es) = are_consecutive (Some e.log_id) (entry_ids es)
 
 -- below an index a log has what it had before
 abbrev pub KeepsBelow : {C : Type 0} → (C → C → Bool) → ℕ → List (LogIdOf C) → List (LogIdOf C)

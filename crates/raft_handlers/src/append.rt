@@ -1,5 +1,5 @@
 //! A follower: the entries that a leader sends.
-ghost use Rattle.std.specs.Prelude.{◌≡◌, ◌≢◌, ◌+◌, ◌≤◌, length, None, true, false, IsTrue, IfOk, IfErr, IfSome, IfNone, OnOk, OnErr, nat_eq, take};
+ghost use Rattle.std.specs.Prelude.{◌≡◌, ◌≢◌, ◌+◌, ◌≤◌, [], length, None, true, false, IsTrue, IfOk, IfErr, IfSome, IfNone, OnOk, OnErr, nat_eq, take};
 ghost use Rattle.std.specs.List.{prefix_len};
 ghost use Rattle.std.specs.Option.{option_or};
 ghost use Rattle.std.specs.Ordering.{partial_ge};
@@ -22,7 +22,7 @@ use crate::log::{append_new, can_cut, cut, is_next};
 use crate::message::{AppendEntries, Outcome, Response};
 use crate::state::State;
 use raft_base::order::log_id_below;
-use raft_base::{Instant, LeaderIdentity, LogIdOf, LogStateReader, Node, NodeId, VoteIn};
+use raft_base::{Instant, LeaderIdentity, LogIdOf, LogIdOptionExt, Node, NodeId, VoteIn};
 use raft_state::{EntryOf, RaftStateIn, VoteStateReader};
 
 /// Handles a leader's request to append entries. What conflicts with them is truncated, what is
@@ -165,8 +165,10 @@ fn match_log<NID: NodeId, N: Node, I: Instant, L: Drop, C: Ord + Copy + Drop, M,
     ensures sound { IsSound C.eq C.cmp state.old → IsSound C.eq C.cmp state.new }
 {
     let Some(at) = conflict_of(state, request.prev) else {
-        take_entries(state, request)?;
-        return Ok(Outcome::Matches(request.last_log_id()));
+        let last = request.last_log_id();
+        let committed = least(request.committed, last);
+        take_entries(state, request.prev, &request.entries, committed)?;
+        return Ok(Outcome::Matches(last));
     };
     if !can_cut(state, at) {
         return Err(HandlerError::TruncatesCommitted);
@@ -183,40 +185,38 @@ fn conflict_of<NID: NodeId, N: Node, I: Instant, L: Drop, C: Ord + Copy + Drop>(
     ensures conflict { IfSome result (λ at. IsConflict C.eq at prev state.now) }
     ensures none { IfNone result (IsTrue (purged_or_logged C.eq state.now prev)) }
 {
-    match prev {
-        Some(id) if !state.is_purged_or_logged(&prev) => Some(id.index),
-        _ => None,
+    if state.is_purged_or_logged(&prev) {
+        None
+    } else {
+        prev.index()
     }
 }
 
-/// Takes the entries of a request whose `prev` the log has.
-fn take_entries<NID: NodeId, N: Node, I: Instant, L: Drop, C: Ord + Copy + Drop, M, D>(
+/// Takes entries after a log id that the log has, and commits up to a log id, but not past them.
+fn take_entries<NID: NodeId, N: Node, I: Instant, L: Drop, C: Ord + Copy + Drop, D>(
     state: &mut RaftStateIn<NID, N, I, L, C>,
-    request: &AppendEntries<M, C, NID, N, D>,
+    prev: Option<LogIdOf<C>>,
+    entries: &[EntryOf<C, NID, N, D>],
+    committed: Option<LogIdOf<C>>,
 ) -> Result<(), HandlerError>
     requires clones { ClonesAreEqual N.eq N.is_clone }
-    requires prev { IsTrue (purged_or_logged C.eq state.old request.now.prev) }
-    ensures has_prev { OnOk result (IsTrue
-        (purged_or_logged C.eq state.new request.now.prev)) }
-    ensures has_entries { OnOk result (IsTrue
-        (has_all C.eq state.new request.now.entries.items)) }
-    ensures consecutive { OnOk result (IsTrue
-        (are_consecutive request.now.prev (entry_ids request.now.entries.items))) }
-    ensures kept { KeepsBelow C.eq (replaced_since (full_log state.old.log_ids)
-        (new_of C.eq state.old request.now.entries.items))
+    requires prev { IsTrue (purged_or_logged C.eq state.old prev) }
+    ensures has_prev { OnOk result (IsTrue (purged_or_logged C.eq state.new prev)) }
+    ensures has_entries { OnOk result (IsTrue (has_all C.eq state.new entries.now)) }
+    ensures consecutive { OnOk result
+        (IsTrue (are_consecutive prev (entry_ids entries.now))) }
+    ensures kept { KeepsBelow C.eq
+        (replaced_since (full_log state.old.log_ids) (new_of C.eq state.old entries.now))
         (full_log state.old.log_ids) (full_log state.new.log_ids) }
-    ensures nothing_new { new_of C.eq state.old request.now.entries.items ≡ [] →
+    ensures nothing_new { new_of C.eq state.old entries.now ≡ [] →
         state.new.log_ids ≡ state.old.log_ids }
-    ensures ends { OnOk result (last_id (full_log state.new.log_ids) ≡ option_or (last_id
-        (entry_ids (new_of C.eq state.old request.now.entries.items)))
+    ensures ends { OnOk result (last_id (full_log state.new.log_ids) ≡ option_or
+        (last_id (entry_ids (new_of C.eq state.old entries.now)))
         (last_id (full_log state.old.log_ids))) }
     ensures memberships { OnOk result (TakesMemberships C.cmp NID.eq N.eq
-        (new_of C.eq state.old request.now.entries.items)
-        (least C.cmp request.now.committed (last_of request.now.prev request.now.entries.items))
-        state.old state.new.membership_state) }
-    ensures committed { OnOk result (state.new.committed ≡ greatest C.cmp state.old.committed
-        (least C.cmp request.now.committed
-        (last_of request.now.prev request.now.entries.items))) }
+        (new_of C.eq state.old entries.now) committed state.old state.new.membership_state) }
+    ensures committed { OnOk result
+        (state.new.committed ≡ greatest C.cmp state.old.committed committed) }
     ensures rest { state.new ≡ record state.old {
       log_ids = state.new.log_ids;
       membership_state = state.new.membership_state;
@@ -227,11 +227,10 @@ fn take_entries<NID: NodeId, N: Node, I: Instant, L: Drop, C: Ord + Copy + Drop,
     ensures not_committed { OnErr result (state.new.committed ≡ state.old.committed) }
     ensures sound { IsSound C.eq C.cmp state.old → IsSound C.eq C.cmp state.new }
 {
-    let Some(place) = first_new(state, request.prev, &request.entries) else {
+    let Some(place) = first_new(state, prev, entries) else {
         return Err(HandlerError::NotInOrder);
     };
-    let committed = least(request.committed, request.last_log_id());
-    append_new(state, &request.entries[place..], committed)
+    append_new(state, &entries[place..], committed)
 }
 
 /// The lesser one of two log ids that may be absent.

@@ -1,10 +1,10 @@
 //! The end of a log, replaced by new entries.
-ghost use Rattle.std.specs.Prelude.{◌≡◌, ◌≢◌, ◌&&◌, [], None, true, false, IsTrue, IfOk, IfErr, OnOk, OnErr, nat_eq};
+ghost use Rattle.std.specs.Prelude.{◌≡◌, ◌≢◌, ◌&&◌, [], None, true, false, IsTrue, IfOk, IfErr, OnOk, OnErr, nat_eq, if◌then◌else◌};
 ghost use Rattle.std.specs.Option.{option_or};
 ghost use Rattle.std.specs.Set.{ClonesAreEqual};
 ghost use Rattle.raft_base.specs.LogId.{id_lt, index_of, next_index};
 ghost use Rattle.raft_base.specs.LogIndex.{index_lt};
-ghost use Rattle.raft_handlers.specs.Append.{greatest, replaced_since, KeepsBelow, TakesMemberships};
+ghost use Rattle.raft_handlers.specs.Append.{follow_on, greatest, replaced_since, KeepsBelow, TakesMemberships};
 ghost use Rattle.raft_handlers.specs.Entries.{allows_commit, effective_below, effective_with, ends_before, entry_ids, has_with, last_below, may_append_after, may_commit_with, may_cut, memberships_below};
 ghost use Rattle.raft_handlers.specs.declared.error.HandlerError.TheVariants.{OutOfMemory};
 ghost use Rattle.raft_members.specs.Stored.{log_id_of};
@@ -14,6 +14,7 @@ ghost use Rattle.raft_state.specs.LogEdits.{front};
 ghost use Rattle.raft_state.specs.LogKept.{HasIds};
 ghost use Rattle.raft_state.specs.LogReads.{last_id};
 ghost use Rattle.raft_state.specs.Commit.{state_after_commit, state_may_commit};
+ghost use Rattle.raft_state.specs.MembershipMoves.{after_commit};
 ghost use Rattle.raft_state.specs.Sound.{IsSound};
 ghost use Rattle.raft_state.specs.StateView.{view_of};
 ghost use Rattle.raft_state.specs.Valid.{none_or_logged};
@@ -120,6 +121,7 @@ pub(crate) fn append_new<NID: NodeId, N: Node, I: Instant, L: Drop, C: Ord + Cop
     requires clones { ClonesAreEqual N.eq N.is_clone }
     ensures kept { KeepsBelow C.eq (replaced_since (full_log state.old.log_ids) new.now)
         (full_log state.old.log_ids) (full_log state.new.log_ids) }
+    ensures consecutive { OnOk result (IsTrue (follow_on new.now)) }
     ensures own { OnOk result (HasIds C.eq (entry_ids new.now) (full_log state.new.log_ids)) }
     ensures unchanged { new.now ≡ [] → state.new.log_ids ≡ state.old.log_ids }
     ensures ends { OnOk result (last_id (full_log state.new.log_ids)
@@ -278,6 +280,13 @@ fn commit<NID: NodeId, N: Node, I: Instant, L: Drop, C: Ord + Copy + Drop>(
     requires may { IsTrue (state_may_commit C.cmp committed state.old) }
     ensures ok { OnOk result (state.new ≡ state_after_commit C.cmp committed state.old) }
     ensures err { OnErr result (state.new ≡ state.old) }
+    ensures log { state.new.log_ids ≡ state.old.log_ids }
+    ensures memberships { OnOk result (state.new.membership_state
+        ≡ (if id_lt C.cmp state.old.committed committed
+        then after_commit C.cmp committed state.old.membership_state
+        else state.old.membership_state)) }
+    ensures committed { OnOk result
+        (state.new.committed ≡ greatest C.cmp state.old.committed committed) }
     ensures memory { IfErr result (λ e. e ≡ OutOfMemory) }
     ensures sound { IsSound C.eq C.cmp state.old →
         (IsTrue (id_lt C.cmp state.old.committed committed) →

@@ -5,7 +5,7 @@
 ghost use Rattle.std.specs.Prelude.{◌≡◌};
 ghost use Rattle.raft_handlers.specs.Append.{last_of};
 
-use raft_base::{LogIdOf, Node, NodeId, VoteIn};
+use raft_base::{LogIdOf, Node, NodeId, RaftLogId, VoteIn};
 use raft_state::{EntryOf, SnapshotMetaOf};
 
 /// A candidate's request for a vote.
@@ -80,7 +80,7 @@ impl<L, C: Copy, NID: NodeId, N: Node, D> AppendEntries<L, C, NID, N, D> {
         ensures { result ≡ last_of self.now.prev self.now.entries.items }
     {
         match self.entries.last() {
-            Some(entry) => Some(entry.log_id),
+            Some(entry) => Some(*entry.get_log_id()),
             None => self.prev,
         }
     }

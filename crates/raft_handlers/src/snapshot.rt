@@ -34,7 +34,7 @@ pub fn handle_install_snapshot<
     L: LeaderIdentity<Id = NID> + Drop,
 >(
     state: &mut State<NID, N, I, L>,
-    request: InstallSnapshot<L, L::Committed, NID, N>,
+    request: &InstallSnapshot<L, L::Committed, NID, N>,
 ) -> Result<Response<L, L::Committed>, HandlerError>
     requires clones { ClonesAreEqual N.eq N.is_clone }
     ensures err { OnErr result (state.new ≡ state.old) }
@@ -50,14 +50,16 @@ pub fn handle_install_snapshot<
     if vote >= promised {
         let upto = request.meta.last_log_id;
         let _promised = state.promise(vote);
-        if let Err(refused) = install(state, request.meta) {
-            *state.vote.get_mut() = promised;
-            return Err(refused);
+        match install(state, &request.meta) {
+            Ok(()) => Ok(Response {
+                request: number,
+                outcome: Outcome::Matches(upto),
+            }),
+            Err(refused) => {
+                *state.vote.get_mut() = promised;
+                Err(refused)
+            }
         }
-        Ok(Response {
-            request: number,
-            outcome: Outcome::Matches(upto),
-        })
     } else {
         Ok(Response {
             request: number,
@@ -69,7 +71,7 @@ pub fn handle_install_snapshot<
 /// Installs a snapshot of the leader that the vote is for, unless all of it is committed.
 fn install<NID: NodeId, N: Node, I: Instant, L: LeaderIdentity<Id = NID> + Drop>(
     state: &mut State<NID, N, I, L>,
-    meta: SnapshotMetaOf<L::Committed, NID, N>,
+    meta: &SnapshotMetaOf<L::Committed, NID, N>,
 ) -> Result<(), HandlerError>
     requires clones { ClonesAreEqual N.eq N.is_clone }
     ensures err { OnErr result (state.new ≡ state.old) }
@@ -79,9 +81,9 @@ fn install<NID: NodeId, N: Node, I: Instant, L: LeaderIdentity<Id = NID> + Drop>
     if !log_id_below(state.committed, meta.last_log_id) {
         return Ok(());
     }
-    if !state.can_install_snapshot(&meta) {
+    if !state.can_install_snapshot(meta) {
         return Err(HandlerError::SnapshotDoesNotFit);
     }
-    state.install_snapshot(meta)?;
+    state.install_snapshot(meta.try_clone()?)?;
     Ok(())
 }

@@ -13,11 +13,10 @@ use crate::state::State;
 use raft_base::{Instant, LeaderIdentity, LogIdOf, Node, NodeId};
 use raft_members::Membership;
 use raft_state::{EntryOf, EntryPayload, VoteStateReader};
-use std::slice;
 
 /// Starts a cluster with a membership, as one of its members. The first entry of each log, at index
-/// 0, holds the membership, which is effective from then on. Returns that entry: write it to disk,
-/// and then become a candidate.
+/// 0, holds the membership, which is effective from then on. Returns that entry, alone: write it to
+/// disk, and then become a candidate.
 ///
 /// Only a server without log and without vote may start a cluster.
 ///
@@ -26,7 +25,7 @@ pub fn start_cluster<NID: NodeId, N: Node, I: Instant, L: LeaderIdentity<Id = NI
     state: &mut State<NID, N, I, L>,
     id: &NID,
     membership: Membership<NID, N>,
-) -> Result<EntryOf<L::Committed, NID, N, D>, HandlerError>
+) -> Result<Vec<EntryOf<L::Committed, NID, N, D>>, HandlerError>
     requires clones { ClonesAreEqual N.eq N.is_clone }
     ensures member { OnOk result (IsTrue (is_some (node_at NID.cmp membership.nodes id.now))) }
     ensures err { OnErr result (state.new ≡ state.old) }
@@ -43,14 +42,14 @@ pub fn start_cluster<NID: NodeId, N: Node, I: Instant, L: LeaderIdentity<Id = NI
         return Err(HandlerError::InvalidMembership);
     }
     let leader_id = L::to_committed(state.vote_ref().leader_id());
-    let entry = EntryOf {
+    let mut entries = Vec::new(*membership.get_joint_config().allocator());
+    entries.extend(Some(EntryOf {
         log_id: LogIdOf::new(leader_id, 0),
         payload: EntryPayload::Membership(membership),
-    };
-    let entries = slice::from_ref(&entry);
-    if !state.can_append_entries(entries) {
+    }))?;
+    if !state.can_append_entries(&entries) {
         return Err(HandlerError::MembershipNotInOrder);
     }
-    state.append_entries(entries)?;
-    Ok(entry)
+    state.append_entries(&entries)?;
+    Ok(entries)
 }

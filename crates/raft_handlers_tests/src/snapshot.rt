@@ -22,7 +22,7 @@ fn answers<K: LeaderKind<u64>>(
         request: 7,
         meta,
     };
-    let is_answered = match (handle_install_snapshot(&mut state, request), right.0) {
+    let is_answered = match (handle_install_snapshot(&mut state, &request), right.0) {
         (Ok(response), right) => {
             response.request == Some(7)
                 && match (response.outcome, right) {

@@ -1,6 +1,6 @@
 //! The start of a cluster.
 
-use crate::states::{StateOf, follower, id, members};
+use crate::states::{StateOf, members};
 use raft_base::{LeaderAdv, LeaderKind, LeaderStd, LogStateReader};
 use raft_handlers::{HandlerError, start_cluster};
 use std::alloc::Global;
@@ -10,14 +10,13 @@ use std::test::Fail;
 fn starts_once<K: LeaderKind<u64>>(alloc: Global) -> Result<bool, HandlerError> {
     let mut state = StateOf::<K>::try_default(alloc)?;
     let other = start_cluster::<_, _, _, _, u64>(&mut state, &4, members(alloc)?);
-    let entry = start_cluster::<_, _, _, _, u64>(&mut state, &1, members(alloc)?)?;
+    let entries = start_cluster::<_, _, _, _, u64>(&mut state, &1, members(alloc)?)?;
     let again = start_cluster::<_, _, _, _, u64>(&mut state, &1, members(alloc)?);
     Ok(
         other.is_err()
             && again.is_err()
-            && id::<K>(Some((0, 0))).is_some()
-            && state.last_log_id().copied() == Some(entry.log_id)
-            && entry.log_id.index == 0
+            && entries.len() == 1
+            && state.last_log_id().copied() == entries.last().map(|entry| entry.log_id)
             && state.is_voter(&2)
             && state.is_sound(),
     )
