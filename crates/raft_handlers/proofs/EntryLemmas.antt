@@ -32,6 +32,7 @@ use Rattle.std.proofs.Common.{
   take,
   drop,
   length,
+  length-drop,
   arith,
   ◌∙◌,
 }
@@ -89,7 +90,7 @@ has_after eq eqs old new ids first (Some id) kept own h = by (nat_le first.index
   where
     by : (t : Bool) → t ≡ nat_le first.index id.index
         → (if t then same_ids eq (slice_get (first ∷ ids) (id.index - first.index)) (Some id)
-          else same_ids eq (id_at old id.index) (Some id)) ≡ true
+        else same_ids eq (id_at old id.index) (Some id)) ≡ true
         → same_ids eq (id_at new id.index) (Some id) ≡ true
     by true le h =
         let f = equal_found eq (slice_get (first ∷ ids) (id.index - first.index)) id h in
@@ -279,7 +280,7 @@ take_whole zero (y ∷ ys) h = cc
 take_whole (suc n) [] h = refl
 take_whole (suc n) (y ∷ ys) h = ap (λ zs. y ∷ zs) (take_whole n ys h)
 
-has_alike : {K N I L C : Type 0} (eq : C → C → Bool) (old new : RaftStateIn K N I L C) (id : Option (LogIdOf C))
+pub has_alike : {K N I L C : Type 0} (eq : C → C → Bool) (old new : RaftStateIn K N I L C) (id : Option (LogIdOf C))
     → new.purged_next ≡ old.purged_next → new.log_ids ≡ old.log_ids → purged_or_logged eq old id ≡ true
     → purged_or_logged eq new id ≡ true
 has_alike eq old new id purged logs has = rw (is_kept eq new id, purged, logs) (sym (is_kept eq old id) ∙ has)
@@ -289,6 +290,12 @@ drop_one_more zero [] h = refl
 drop_one_more zero (y ∷ ys) h = cc
 drop_one_more (suc n) [] h = refl
 drop_one_more (suc n) (y ∷ ys) h = drop_one_more n ys h
+
+-- the rest of a list from a place on
+pub slice_rest : {A : Type 0} (n : ℕ) (xs : List A) → take (length xs - n) (drop n xs) ≡ drop n xs
+slice_rest n xs =
+    let len = length-drop n xs in
+    take_whole (length xs - n) (drop n xs) (drop_all (length xs - n) (drop n xs) (omega arith))
 
 -- a state after a request, of whose entries so many were in the log before
 module _ {K N I L C D : Type 0} (eq : C → C → Bool) (eqs : IsEquivalence eq) (old new : RaftStateIn K N I L C)
