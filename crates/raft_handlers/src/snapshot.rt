@@ -1,16 +1,13 @@
 //! A follower: a snapshot that a leader sends.
-ghost use Rattle.std.specs.Prelude.{◌≡◌, false, true, IsTrue, IfOk, IfErr, IfSome, OnOk, OnErr};
+ghost use Rattle.std.specs.Prelude.{◌≡◌, Ok, Some, false, IsTrue, IfOk, IfSome, OnOk, OnErr};
 ghost use Rattle.std.specs.Ordering.{partial_ge};
 ghost use Rattle.std.specs.Set.{ClonesAreEqual};
 ghost use Rattle.raft_base.specs.LogId.{id_lt};
-ghost use Rattle.raft_base.specs.UTime.{moment_of, utime_of};
 ghost use Rattle.raft_base.specs.Vote.{vote_cmp};
-ghost use Rattle.raft_handlers.specs.Append.{elected};
-ghost use Rattle.raft_handlers.specs.declared.error.HandlerError.TheVariants.{OutOfMemory, SnapshotDoesNotFit};
-ghost use Rattle.raft_handlers.specs.declared.message.Outcome.TheVariants.{HigherVote, Matches};
+ghost use Rattle.raft_handlers.specs.Append.{elected, greatest, IfMatches};
+ghost use Rattle.raft_handlers.specs.declared.message.Outcome.TheVariants.{HigherVote};
 ghost use Rattle.raft_state.specs.FullLog.{full_log};
-ghost use Rattle.raft_state.specs.Install.{log_after_install, may_install, state_after_install};
-ghost use Rattle.raft_state.specs.SnapshotMeta.{IsSnapshotCopy};
+ghost use Rattle.raft_state.specs.Install.{log_after_install};
 ghost use Rattle.raft_state.specs.Sound.{IsSound};
 ghost use Rattle.raft_state.specs.StateView.{vote_of};
 
@@ -37,6 +34,20 @@ pub fn handle_install_snapshot<
     request: &InstallSnapshot<L, L::Committed, NID, N>,
 ) -> Result<Response<L, L::Committed>, HandlerError>
     requires clones { ClonesAreEqual N.eq N.is_clone }
+    ensures answer { IfOk result (λ response. response.request ≡ Some request.now.request) }
+    ensures higher_vote { partial_ge (vote_cmp L.order) (elected request.now.leader_id)
+        (vote_of state.old) ≡ false → result ≡ Ok (record {
+          request = Some request.now.request;
+          outcome = HigherVote (vote_of state.old);
+        }) }
+    ensures not_followed { partial_ge (vote_cmp L.order) (elected request.now.leader_id)
+        (vote_of state.old) ≡ false → state.new ≡ state.old }
+    ensures upto { IfOk result (λ response. IfMatches response.outcome (λ upto. upto
+        ≡ request.now.meta.last_log_id)) }
+    ensures committed { IfOk result (λ response. IfMatches response.outcome (λ upto.
+        state.new.committed ≡ greatest L.Committed.cmp state.old.committed upto)) }
+    ensures known { id_lt L.Committed.cmp state.old.committed request.now.meta.last_log_id
+        ≡ false → state.new ≡ record state.old { vote = state.new.vote } }
     ensures err { OnErr result (state.new ≡ state.old) }
     ensures sound { IsSound L.Committed.eq L.Committed.cmp state.old →
         IsSound L.Committed.eq L.Committed.cmp state.new }
@@ -74,6 +85,17 @@ fn install<NID: NodeId, N: Node, I: Instant, L: LeaderIdentity<Id = NID> + Drop>
     meta: &SnapshotMetaOf<L::Committed, NID, N>,
 ) -> Result<(), HandlerError>
     requires clones { ClonesAreEqual N.eq N.is_clone }
+    ensures committed { OnOk result (state.new.committed
+        ≡ greatest L.Committed.cmp state.old.committed meta.now.last_log_id) }
+    ensures purge_point { OnOk result
+        (IsTrue (id_lt L.Committed.cmp state.old.committed meta.now.last_log_id) →
+        state.new.purge_upto ≡ meta.now.last_log_id) }
+    ensures log { OnOk result
+        (IsTrue (id_lt L.Committed.cmp state.old.committed meta.now.last_log_id) →
+        IfSome meta.now.last_log_id (λ upto. full_log state.new.log_ids
+        ≡ log_after_install L.Committed.eq upto state.old)) }
+    ensures known { id_lt L.Committed.cmp state.old.committed meta.now.last_log_id ≡ false →
+        state.new ≡ state.old }
     ensures err { OnErr result (state.new ≡ state.old) }
     ensures sound { IsSound L.Committed.eq L.Committed.cmp state.old →
         IsSound L.Committed.eq L.Committed.cmp state.new }
