@@ -1,7 +1,8 @@
 -- What the steps of a request leave, past the end of the log.
-use Rattle.std.proofs.Common.{◌≡◌, Bool, true, false, List, Option, Some, if◌then◌else◌, refl}
+use Rattle.std.proofs.Common.{◌≡◌, Bool, true, false, List, Option, Some, None, if◌then◌else◌, refl}
 use Rattle.std.specs.Prelude.{Result, Ok, Err, OnErr}
 use Rattle.std.specs.List.{list_all}
+use Rattle.std.specs.declared.cmp.Ordering.{Ordering}
 use Rattle.raft_base.specs.declared.log_id.LogIdOf.{LogIdOf}
 use Rattle.raft_base.specs.declared.utime.UTime.{UTime}
 use Rattle.raft_base.specs.declared.vote.VoteIn.{VoteIn}
@@ -10,6 +11,12 @@ use Rattle.raft_handlers.specs.Append.{has_entry, IfMatches}
 use Rattle.raft_handlers.specs.declared.message.Outcome.{Outcome}
 use Rattle.raft_handlers.specs.declared.message.Outcome.TheVariants.{Matches, Conflict, HigherVote}
 use Rattle.raft_members.specs.MajorityLawful.{list_all-weaker}
+use Rattle.raft_state.proofs.lemmas.log_id_list.IdOrderLemmas.{none_at_most}
+use Rattle.raft_state.specs.Accepted.{last_accepted}
+use Rattle.raft_state.specs.FullLog.{full_log}
+use Rattle.raft_state.specs.LogReads.{last_id}
+use Rattle.raft_state.specs.Sound.{IsSound}
+use Rattle.raft_state.specs.declared.accepted.AcceptedIn.{AcceptedIn}
 use Rattle.raft_state.specs.declared.entry.EntryOf.{EntryOf}
 use Rattle.raft_state.specs.declared.raft_state.RaftStateIn.{RaftStateIn}
 
@@ -46,3 +53,17 @@ module _ {K N I L C : Type 0} (t : Bool) (s new : RaftStateIn K N I L C) (vote :
       → list_all (has_entry eq new) es ≡ true
   promised_has eq es has = list_all-weaker (has_entry eq s) (has_entry eq new)
       (λ e h. has_alike eq s new (Some e.log_id) promised_purged promised_log h) es has
+
+-- a sound state that has accepted nothing, under any vote, is sound
+pub unaccepted_sound : {K N I L C : Type 0} (cmp : C → C → Ordering) (eq : C → C → Bool) (s : RaftStateIn K N I L C)
+    (vote : UTime (VoteIn L) I) (accepted : AcceptedIn L C) → last_accepted accepted ≡ None → IsSound eq cmp s
+    → IsSound eq cmp (record s { vote = vote; accepted = accepted })
+unaccepted_sound cmp eq s vote accepted none sound = record {
+  valid = sound.valid;
+  purge_point = sound.purge_point;
+  committed = sound.committed;
+  accepted = rw none (none_at_most cmp (last_id (full_log s.log_ids)));
+  committed_membership = sound.committed_membership;
+  effective_membership = sound.effective_membership;
+  known = sound.known;
+}
