@@ -1,8 +1,9 @@
-//! The start of a cluster.
+//! The start of a cluster, and a restart.
 
-use crate::states::{StateOf, members};
-use raft_base::{LeaderAdv, LeaderKind, LeaderStd, LogStateReader};
-use raft_handlers::{HandlerError, start_cluster};
+use crate::states::{StateOf, entries, id, members};
+use raft_base::{LeaderAdv, LeaderKind, LeaderStd, LogStateReader, VoteOf};
+use raft_handlers::{HandlerError, Stored, restart_server, start_cluster};
+use raft_state::SnapshotMetaOf;
 use std::alloc::Global;
 use std::test::Fail;
 
@@ -26,5 +27,31 @@ fn starts_once<K: LeaderKind<u64>>(alloc: Global) -> Result<bool, HandlerError> 
 fn a_cluster_starts_once(rt: HostRuntime) -> Result<(), Fail> {
     assert!(rt; starts_once::<LeaderAdv>(rt.alloc()) == Ok(true));
     assert!(rt; starts_once::<LeaderStd>(rt.alloc()) == Ok(true));
+    Ok(())
+}
+
+/// Whether a server that restarts with three entries has its vote and its log again, and what was
+/// applied of it is committed.
+fn restarts<K: LeaderKind<u64>>(alloc: Global) -> Result<bool, HandlerError> {
+    let vote = VoteOf::<u64, K>::new(3, 2);
+    let stored = Stored {
+        vote,
+        snapshot: SnapshotMetaOf::try_default(alloc)?,
+        entries: entries::<K>(alloc, &[(1, 0), (1, 1), (2, 2)])?,
+        committed: id::<K>(Some((1, 1))),
+    };
+    let state: StateOf<K> = restart_server(alloc, &stored)?;
+    Ok(
+        *state.vote.get() == vote
+            && state.last_log_id().copied() == id::<K>(Some((2, 2)))
+            && state.committed == stored.committed
+            && state.is_sound(),
+    )
+}
+
+#[test]
+fn a_restart_keeps_vote_and_log(rt: HostRuntime) -> Result<(), Fail> {
+    assert!(rt; restarts::<LeaderAdv>(rt.alloc()) == Ok(true));
+    assert!(rt; restarts::<LeaderStd>(rt.alloc()) == Ok(true));
     Ok(())
 }
