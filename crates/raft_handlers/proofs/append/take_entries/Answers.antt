@@ -9,7 +9,8 @@ returns-clause-has_prev g c =
     let new = c.append_new.new.state in
     let rest = slice_rest c.in-Some.place c.args.entries.now in
     let purged : new.purged_next ≡ old.purged_next = ap (λ s. s.purged_next) c.append_new.ensures.rest in
-    on_ok_weaker c.append_new.result (λ _. prev_stays g.C.PartialEq.eq g.met.C.Eq.laws old new c.args.prev c.args.entries.now c.in-Some.place
+    on_ok_weaker c.append_new.result (λ _. prev_stays g.C.PartialEq.eq g.met.C.Eq.laws old new c.args.prev c.args.entries.now
+    c.in-Some.place
     c.in-Some.ensures.consecutive (rw rest at c.append_new.ensures.kept) purged (rw rest at c.append_new.ensures.unchanged) c.requires.prev)
     c.append_new.ensures.own
 

@@ -94,7 +94,8 @@ pub returns-clause-ends : goal.returns-clause-ends
 returns-clause-ends g c =
     let first = c.in-Some.first.now in
     let begins : slice_get c.args.new.now 0 ≡ Some first = sym (rw c.in-Some.is at c.first.ensures.value) in
-    let alike = ends_alike c.args.new.now first (last_id (full_log c.cut.new.state.log_ids)) (last_id (full_log c.args.state.now.log_ids)) begins in
+    let alike = ends_alike c.args.new.now first (last_id (full_log c.cut.new.state.log_ids)) (last_id (full_log c.args.state.now.log_ids))
+    begins in
     on_ok_weaker c.commit-2.result (λ _. rw c.commit-2.ensures.log (c.in_ok-append_entries.ensures.last ∙ alike)) c.commit-2.ensures.ok
 
 pub returns-clause-memberships : goal.returns-clause-memberships

@@ -12,7 +12,8 @@ returns-then-ends_before g c =
     let ks = c.args.state.now.log_ids in
     let canonical = rw c.key_log_ids-keys.ensures.keys at c.key_log_ids-keys.ensures.canonical in
     let row = from_first g.C.Ord.cmp ks (is_key_list g.C.Ord.cmp ks canonical) in
-    let below : index_lt (index_of (last_id (full_log ks))) (Some c.args.since) ≡ true = sym c.ends_before.ensures ∙ c.if-ends_before.true in
+    let below : index_lt (index_of (last_id (full_log ks))) (Some c.args.since) ≡ true =
+    sym c.ends_before.ensures ∙ c.if-ends_before.true in
     c.copied.ensures ∙ c.last_log_id.ensures ∙ all_stay (first_index (full_log ks)) c.args.since (full_log ks) row below
 
 pub returns-then-since-eq0 : goal.returns-then-since-eq0
@@ -23,5 +24,6 @@ returns-else-since-eq0 g c =
     let ks = c.args.state.now.log_ids in
     let canonical = rw c.key_log_ids-keys.ensures.keys at c.key_log_ids-keys.ensures.canonical in
     let row = from_first g.C.Ord.cmp ks (is_key_list g.C.Ord.cmp ks canonical) in
-    let below : index_lt (index_of (last_id (full_log ks))) (Some c.args.since) ≡ false = sym c.ends_before.ensures ∙ c.if-ends_before.false in
+    let below : index_lt (index_of (last_id (full_log ks))) (Some c.args.since) ≡ false =
+    sym c.ends_before.ensures ∙ c.if-ends_before.false in
     c.get_log_id.ensures ∙ some_stay (first_index (full_log ks)) c.args.since (full_log ks) row below c.if-since-eq0.false
