@@ -1,5 +1,5 @@
 //! A follower: the entries that a leader sends.
-ghost use Rattle.std.specs.Prelude.{◌≡◌, ◌≢◌, ◌+◌, ◌≤◌, [], length, None, true, false, IsTrue, IfOk, IfErr, IfSome, IfNone, OnOk, OnErr, nat_eq, take};
+ghost use Rattle.std.specs.Prelude.{◌≡◌, ◌≢◌, ◌+◌, ◌≤◌, [], length, false, IsTrue, IfOk, IfErr, IfSome, IfNone, OnOk, OnErr, take};
 ghost use Rattle.std.specs.List.{prefix_len};
 ghost use Rattle.std.specs.Option.{option_or};
 ghost use Rattle.std.specs.Ordering.{partial_ge};

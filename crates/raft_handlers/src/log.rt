@@ -1,5 +1,5 @@
 //! The end of a log, replaced by new entries.
-ghost use Rattle.std.specs.Prelude.{◌≡◌, ◌≢◌, ◌&&◌, [], None, true, false, IsTrue, IfOk, IfErr, OnOk, OnErr, nat_eq, if◌then◌else◌};
+ghost use Rattle.std.specs.Prelude.{◌≡◌, ◌≢◌, ◌&&◌, [], false, IsTrue, IfOk, IfErr, OnOk, OnErr, nat_eq, if◌then◌else◌};
 ghost use Rattle.std.specs.Option.{option_or};
 ghost use Rattle.std.specs.Set.{ClonesAreEqual};
 ghost use Rattle.raft_base.specs.LogId.{id_lt, index_of, next_index};
@@ -7,7 +7,6 @@ ghost use Rattle.raft_base.specs.LogIndex.{index_lt};
 ghost use Rattle.raft_handlers.specs.Append.{follow_on, greatest, replaced_since, KeepsBelow, TakesMemberships};
 ghost use Rattle.raft_handlers.specs.Entries.{allows_commit, effective_below, effective_with, ends_before, entry_ids, has_with, last_below, may_append_after, may_commit_with, may_cut, memberships_below};
 ghost use Rattle.raft_handlers.specs.declared.error.HandlerError.TheVariants.{OutOfMemory};
-ghost use Rattle.raft_members.specs.Stored.{log_id_of};
 ghost use Rattle.raft_state.specs.FullLog.{full_log};
 ghost use Rattle.raft_state.specs.LogConditions.{follows};
 ghost use Rattle.raft_state.specs.LogEdits.{front};

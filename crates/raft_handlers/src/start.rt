@@ -1,12 +1,8 @@
 //! The start of a cluster, by one of its members.
-ghost use Rattle.std.specs.Prelude.{◌≡◌, ◌++◌, [], ◌∷◌, Some, false, true, IsTrue, IfOk, IfErr, OnOk, OnErr, is_some};
+ghost use Rattle.std.specs.Prelude.{◌≡◌, IsTrue, OnOk, OnErr, is_some};
 ghost use Rattle.std.specs.Set.{ClonesAreEqual};
-ghost use Rattle.raft_handlers.specs.declared.error.HandlerError.TheVariants.{NotAllowed, NotInMembers};
 ghost use Rattle.raft_members.specs.Members.{node_at};
-ghost use Rattle.raft_state.specs.FullLog.{full_log};
-ghost use Rattle.raft_state.specs.Leads.{is_initialized};
 ghost use Rattle.raft_state.specs.Sound.{IsSound};
-ghost use Rattle.raft_state.specs.StateView.{vote_of};
 
 use crate::error::HandlerError;
 use crate::state::State;

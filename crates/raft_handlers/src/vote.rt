@@ -1,5 +1,5 @@
 //! A voter: the answer to a candidate that asks for a vote.
-ghost use Rattle.std.specs.Prelude.{◌≡◌, ◌&&◌, false, true, IsTrue, if◌then◌else◌};
+ghost use Rattle.std.specs.Prelude.{◌≡◌, ◌&&◌, false, IsTrue};
 ghost use Rattle.std.specs.Ordering.{partial_ge};
 ghost use Rattle.raft_base.specs.UTime.{moment_of, utime_of};
 ghost use Rattle.raft_base.specs.Vote.{vote_cmp};
