@@ -37,7 +37,7 @@ pub fn handle_append_entries<
     state: &mut State<NID, N, I, L>,
     request: &AppendEntries<L, L::Committed, NID, N, D>,
 ) -> Result<Response<L, L::Committed>, HandlerError>
-    requires clones { ClonesAreEqual N.eq N.is_clone }
+    requires clones_are_equal { ClonesAreEqual N.eq N.is_clone }
     ensures request { IfOk result (λ response. response.request ≡ request.now.request) }
     ensures higher_vote { partial_ge (vote_cmp L.order) (elected request.now.leader_id)
         (vote_of state.old) ≡ false → result ≡ Ok (record {
@@ -121,7 +121,7 @@ fn match_log<NID: NodeId, N: Node, I: Instant, L: Drop, C: Ord + Copy + Drop, M,
     state: &mut RaftStateIn<NID, N, I, L, C>,
     request: &AppendEntries<M, C, NID, N, D>,
 ) -> Result<Outcome<M, C>, HandlerError>
-    requires clones { ClonesAreEqual N.eq N.is_clone }
+    requires clones_are_equal { ClonesAreEqual N.eq N.is_clone }
     ensures upto { IfOk result (λ outcome. IfMatches outcome (λ upto. upto
         ≡ last_of request.now.prev request.now.entries.items)) }
     ensures has_prev { IfOk result (λ outcome. IfMatches outcome (λ _. IsTrue
@@ -199,7 +199,7 @@ fn take_entries<NID: NodeId, N: Node, I: Instant, L: Drop, C: Ord + Copy + Drop,
     entries: &[EntryOf<C, NID, N, D>],
     committed: Option<LogIdOf<C>>,
 ) -> Result<(), HandlerError>
-    requires clones { ClonesAreEqual N.eq N.is_clone }
+    requires clones_are_equal { ClonesAreEqual N.eq N.is_clone }
     requires prev { IsTrue (purged_or_logged C.eq state.old prev) }
     ensures has_prev { OnOk result (IsTrue (purged_or_logged C.eq state.new prev)) }
     ensures has_entries { OnOk result (IsTrue (has_all C.eq state.new entries.now)) }

@@ -1,6 +1,7 @@
 //! Why a handler refuses what it is asked for.
 ghost use Rattle.std.specs.Prelude.{◌≡◌};
 
+use raft_progress::InflightError;
 use std::alloc::AllocError;
 use thiserror::Error;
 
@@ -22,6 +23,33 @@ pub enum HandlerError {
     /// What is to be committed is not in the log.
     #[error("the committed log id is not in the log")]
     CommittedNotLogged,
+    /// The node is a voter neither of the effective nor of the committed membership.
+    #[error("the node is no voter")]
+    NotVoter,
+    /// There is no greater term.
+    #[error("there is no greater term")]
+    NoNextTerm,
+    /// No quorum has elected the candidate.
+    #[error("the candidate is not elected")]
+    NotElected,
+    /// The vote is not, or not any more, the one of this candidate or leader.
+    #[error("the vote is another one")]
+    NotLeader,
+    /// There is no index after the last one.
+    #[error("there is no greater index")]
+    NoNextIndex,
+    /// The sender is not a member.
+    #[error("the sender is not a member")]
+    UnknownMember,
+    /// The member has promised a higher vote: promise it too, and step down.
+    #[error("the member has promised a higher vote")]
+    HigherVote,
+    /// The response does not fit what is in flight to the member.
+    #[error(transparent)]
+    ResponseRefused(InflightError),
+    /// The log id is not in the log.
+    #[error("the log id is not in the log")]
+    NotLogged,
     /// The snapshot may not take the place of the log.
     #[error("the snapshot does not fit")]
     SnapshotDoesNotFit,

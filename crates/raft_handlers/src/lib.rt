@@ -1,12 +1,14 @@
-//! The steps of a Raft server, under contract: how a follower and a voter handle each request, and
-//! how a server starts and restarts.
+//! The steps of a Raft server, under contract: how a follower and a voter handle each request, what a
+//! candidate and a leader do, and how a server starts and restarts.
 //!
 //! Requests and responses are values. There is no clock, no network and no storage: the caller
 //! sends, writes to disk before it answers, and restarts its timer.
 #![tactic(auto)]
 
 pub mod append;
+pub mod candidate;
 pub mod error;
+pub mod leader;
 mod log;
 pub mod message;
 pub mod restart;
@@ -16,7 +18,9 @@ pub mod state;
 pub mod vote;
 
 pub use append::handle_append_entries;
+pub use candidate::Candidate;
 pub use error::HandlerError;
+pub use leader::{ChangeError, Leader};
 pub use message::{AppendEntries, InstallSnapshot, Outcome, Response, VoteRequest, VoteResponse};
 pub use restart::{Stored, restart_server};
 pub use snapshot::handle_install_snapshot;

@@ -117,7 +117,7 @@ pub(crate) fn append_new<NID: NodeId, N: Node, I: Instant, L: Drop, C: Ord + Cop
     new: &[EntryOf<C, NID, N, D>],
     committed: Option<LogIdOf<C>>,
 ) -> Result<(), HandlerError>
-    requires clones { ClonesAreEqual N.eq N.is_clone }
+    requires clones_are_equal { ClonesAreEqual N.eq N.is_clone }
     ensures kept { KeepsBelow C.eq (replaced_since (full_log state.old.log_ids) new.now)
         (full_log state.old.log_ids) (full_log state.new.log_ids) }
     ensures consecutive { OnOk result (IsTrue (follow_on new.now)) }

@@ -34,7 +34,7 @@ pub fn restart_server<NID: NodeId, N: Node, I: Instant, L: LeaderIdentity<Id = N
     alloc: Global,
     stored: &Stored<L, L::Committed, NID, N, D>,
 ) -> Result<State<NID, N, I, L>, HandlerError>
-    requires clones { ClonesAreEqual N.eq N.is_clone }
+    requires clones_are_equal { ClonesAreEqual N.eq N.is_clone }
     ensures vote { IfOk result (λ state. vote_of state ≡ stored.now.vote) }
     ensures sound { IfOk result (IsSound L.Committed.eq L.Committed.cmp) }
 {
@@ -51,7 +51,7 @@ fn from_snapshot<NID: NodeId, N: Node, I: Instant, L: LeaderIdentity<Id = NID> +
     alloc: Global,
     snapshot: &SnapshotMetaOf<L::Committed, NID, N>,
 ) -> Result<State<NID, N, I, L>, HandlerError>
-    requires clones { ClonesAreEqual N.eq N.is_clone }
+    requires clones_are_equal { ClonesAreEqual N.eq N.is_clone }
     ensures sound { IfOk result (IsSound L.Committed.eq L.Committed.cmp) }
 {
     let mut state = State::<NID, N, I, L>::try_default(alloc)?;

@@ -33,7 +33,7 @@ pub fn handle_install_snapshot<
     state: &mut State<NID, N, I, L>,
     request: &InstallSnapshot<L, L::Committed, NID, N>,
 ) -> Result<Response<L, L::Committed>, HandlerError>
-    requires clones { ClonesAreEqual N.eq N.is_clone }
+    requires clones_are_equal { ClonesAreEqual N.eq N.is_clone }
     ensures answer { IfOk result (λ response. response.request ≡ Some request.now.request) }
     ensures higher_vote { partial_ge (vote_cmp L.order) (elected request.now.leader_id)
         (vote_of state.old) ≡ false → result ≡ Ok (record {
@@ -84,7 +84,7 @@ fn install<NID: NodeId, N: Node, I: Instant, L: LeaderIdentity<Id = NID> + Drop>
     state: &mut State<NID, N, I, L>,
     meta: &SnapshotMetaOf<L::Committed, NID, N>,
 ) -> Result<(), HandlerError>
-    requires clones { ClonesAreEqual N.eq N.is_clone }
+    requires clones_are_equal { ClonesAreEqual N.eq N.is_clone }
     ensures committed { OnOk result (state.new.committed
         ≡ greatest L.Committed.cmp state.old.committed meta.now.last_log_id) }
     ensures purge_point { OnOk result

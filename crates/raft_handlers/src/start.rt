@@ -22,7 +22,7 @@ pub fn start_cluster<NID: NodeId, N: Node, I: Instant, L: LeaderIdentity<Id = NI
     id: &NID,
     membership: Membership<NID, N>,
 ) -> Result<Vec<EntryOf<L::Committed, NID, N, D>>, HandlerError>
-    requires clones { ClonesAreEqual N.eq N.is_clone }
+    requires clones_are_equal { ClonesAreEqual N.eq N.is_clone }
     ensures member { OnOk result (IsTrue (is_some (node_at NID.cmp membership.nodes id.now))) }
     ensures err { OnErr result (state.new ≡ state.old) }
     ensures sound { IsSound L.Committed.eq L.Committed.cmp state.old →

@@ -29,7 +29,7 @@ pub fn handle_vote_request<NID: NodeId, N: Node, I: Instant, L: LeaderIdentity<I
         ≡ record state.old { vote = utime_of request.now.vote (moment_of state.old.vote) } }
     ensures refused { result.granted ≡ false → state.new ≡ state.old }
     ensures answer { result.vote ≡ vote_of state.new }
-    ensures not_lowered { IsTrue
+    ensures monotone { IsTrue
         (partial_ge (vote_cmp L.order) (vote_of state.new) (vote_of state.old)) }
     ensures sound { IsSound L.Committed.eq L.Committed.cmp state.old →
         IsSound L.Committed.eq L.Committed.cmp state.new }

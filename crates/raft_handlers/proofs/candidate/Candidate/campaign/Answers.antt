@@ -1,0 +1,36 @@
+use Rattle.std.proofs.Common.{◌≡◌, ◌+◌, ◌<◌, ap, arith, true, ◌∙◌}
+use Rattle.raft_progress.specs.tracked.Tracked.{tracked}
+use Rattle.raft_state.specs.StateView.{vote_of}
+use Rattle.raft_handlers.proofs.lemmas.TermLemmas.{at_least, later_term}
+use Rattle.raft_handlers.proofs.lemmas.TrackedLemmas.{begins_with_default}
+use Rattle.raft_handlers.proofs.lemmas.VoteLemmas.{first_vote}
+use Rattle.raft_handlers.proofs.candidate.Candidate.campaign.Goals as goal
+
+pub returns-clause-is_greater : goal.returns-clause-is_greater
+returns-clause-is_greater g c =
+    let term_of = g.L.LeaderIdentity.term_of in
+    let old = vote_of c.args.state.now in
+    let made = c.new-vote.result in
+    let old_term : c.term.result ≡ term_of old.leader_id =
+    c.term.ensures ∙ ap term_of (c.leader_id.ensures ∙ ap (λ v. v.leader_id) c.vote_ref.ensures) in
+    let new_term : term_of made.leader_id ≡ c.max-term.result + 1 =
+    ap (λ v. term_of v.leader_id) c.new-vote.ensures
+    ∙ (g.met.L.LeaderIdentity.made (c.max-term.result + 1) c.args.id).0 in
+    let later : term_of old.leader_id < term_of made.leader_id = omega (arith, old_term, new_term, c.max-term.ensures) in
+    later_term g.L.LeaderIdentity.order term_of made old
+    (g.met.L.LeaderIdentity.by_term made.leader_id old.leader_id) later
+
+pub returns-clause-own_vote : goal.returns-clause-own_vote
+returns-clause-own_vote g c = λ x.
+    first_vote g.NID.PartialEq.eq g.met.NID.Eq.laws (tracked c.in-Ok-new.votes) (tracked c.update-reply.new.self) c.args.id
+    c.update-reply.result c.update-reply.ensures.step
+    (λ y v known. begins_with_default g.NID.PartialEq.eq _ _ _ _ _ (tracked c.in-Ok-new.votes) c.in-Ok-new.ensures.progress y v known)
+    x
+
+pub returns-clause-promised : goal.returns-clause-promised
+returns-clause-promised g c =
+    let yes : c.promise-promised.result ≡ true =
+    c.promise-promised.ensures.answer
+    ∙ at_least g.L.LeaderIdentity.order g.L.LeaderIdentity.term_of c.new-vote.result (vote_of c.args.state.now)
+    (returns-clause-is_greater g c) in
+    rw yes at c.promise-promised.ensures.taken

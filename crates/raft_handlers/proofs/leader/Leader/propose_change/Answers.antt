@@ -1,0 +1,46 @@
+use Rattle.std.specs.Prelude.{length}
+use Rattle.std.specs.Option.{option_cmp}
+use Rattle.std.proofs.Common.{◌≡◌, ◌<◌, List, ap, sym, subst, ◌∙◌}
+use Rattle.raft_base.specs.LogId.{log_id_cmp}
+use Rattle.raft_members.specs.Change.{changed}
+use Rattle.raft_members.specs.Members.{members_of}
+use Rattle.raft_members.specs.Reached.{EachQuorumKnows}
+use Rattle.raft_progress.specs.declared.entry.ProgressEntryOf.{ProgressEntryOf}
+use Rattle.raft_progress.specs.progress.CountedValue.{has_part}
+use Rattle.raft_progress.specs.progress.Shown.{state}
+use Rattle.raft_progress.specs.tracked.Tracked.{tracked}
+use Rattle.raft_state.specs.Memberships.{in_effect}
+use Rattle.raft_handlers.proofs.lemmas.KnownLemmas.{changed_configs, quorums_still_know}
+use Rattle.raft_handlers.proofs.leader.Leader.propose_change.Goals as goal
+
+pub returns-in-Ok-append_own-clause-changed : goal.returns-in-Ok-append_own-clause-changed
+returns-in-Ok-append_own-clause-changed g c =
+    rw (c.in-Ok-followers_over.ensures.members, ← c.change_handler-handler.ensures) c.in-Ok.ensures.changed
+
+pub returns-in-Ok-append_own-clause-coherent : goal.returns-in-Ok-append_own-clause-coherent
+returns-in-Ok-append_own-clause-coherent g c =
+    rw (c.in-Ok-followers_over.ensures.members, ← c.change_handler-handler.ensures) c.in-Ok.ensures.coherent
+
+pub returns-in-Ok-append_own-clause-still_known : goal.returns-in-Ok-append_own-clause-still_known
+returns-in-Ok-append_own-clause-still_known g c = λ some same.
+    let eq = g.NID.PartialEq.eq in
+    let id_cmp = g.NID.Ord.cmp in
+    let by = option_cmp (log_id_cmp g.C.Ord.cmp) in
+    let old = tracked c.self.inside.followers in
+    let new = tracked c.in-Ok-followers_over.followers in
+    let granted = old.progress.granted in
+    let some' : 0 < length old.membership.configs = rw (← c.self.view_is) at some in
+    let same' : old.membership.configs ≡ (in_effect c.args.state.now.membership_state).configs =
+    rw (← c.self.view_is) at same in
+    let says = rw c.change_handler-handler.ensures at c.in-Ok.ensures.changed in
+    let configs : new.membership.configs
+    ≡ (changed eq id_cmp (members_of id_cmp old.membership) c.args.change c.args.retain).configs =
+    ap (λ m. m.configs) c.in-Ok-followers_over.ensures.members ∙ says.0
+    ∙ sym (changed_configs eq id_cmp (members_of id_cmp old.membership)
+    (members_of id_cmp (in_effect c.args.state.now.membership_state)) c.args.change c.args.retain same') in
+    let knows = subst (λ (cs : List (List g.row.NID.Denot)). EachQuorumKnows eq cs (state eq old.progress).is_voter
+    (λ id. has_part by (λ (e : ProgressEntryOf g.row.C.Denot). e.matching) granted ((state eq old.progress).value id)))
+    (sym configs) (c.quorums_know_granted.ensures.changed_quorums some' c.args.change c.args.retain) in
+    let kept = rw (← c.self.view_is) at c.in-Ok-followers_over.ensures.kept in
+    rw (← c.self.view_is) (quorums_still_know g.met.NID.Eq.laws id_cmp by (λ (e : ProgressEntryOf g.row.C.Denot). e.matching)
+    old new granted c.in-Ok-followers_over.ensures.ready knows kept.kept)

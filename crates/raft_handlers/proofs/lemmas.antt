@@ -1,0 +1,9 @@
+pub mod AppendLemmas
+pub mod ChangeLemmas
+pub mod FollowerLemmas
+pub mod KnownLemmas
+pub mod MajorityLemmas
+pub mod SendLemmas
+pub mod TermLemmas
+pub mod TrackedLemmas
+pub mod VoteLemmas

@@ -1,0 +1,134 @@
+-- What a change of the membership leaves of what is known of the members, and the step from a joint
+-- membership to its last config.
+use Rattle.std.specs.Prelude.{
+  ◌≡◌,
+  ℕ,
+  ◌<◌,
+  ◌-◌,
+  Bool,
+  true,
+  false,
+  ◌||◌,
+  cond,
+  List,
+  [],
+  ◌∷◌,
+  Option,
+  Some,
+  None,
+  is_some,
+  length,
+  nat_lt,
+  refl,
+}
+use Rattle.std.specs.Cmp.{IsEquivalence}
+use Rattle.std.specs.Cmp.Lexicographic.{lists_equiv, pointwise}
+use Rattle.std.specs.List.{AllZip, list_any, slice_get}
+use Rattle.std.specs.Option.{option_map_or, unwrap_or}
+use Rattle.std.specs.declared.cmp.Ordering.{Ordering}
+use Rattle.std.proofs.Common.{ap, arith, sym, subst, ◌∙◌, true≢false}
+use Rattle.std.proofs.lemmas.Bool.Decides.{nat_tests}
+use Rattle.raft_members.specs.Change.{last_config, union_of}
+use Rattle.raft_members.specs.Coherence.{has_config, next_configs}
+use Rattle.raft_members.specs.Members.{MemberList}
+use Rattle.raft_members.proofs.lemmas.membership.ReplaceLemmas.{last_passes}
+use Rattle.raft_progress.specs.progress.Equal.{IsCloned}
+use Rattle.raft_progress.specs.progress.NewProgress.{HasClone}
+use Rattle.raft_progress.specs.progress.Shown.{Shown, state}
+use Rattle.raft_progress.specs.progress.Upgrade.{Inherits, IsUpgraded}
+use Rattle.raft_progress.specs.tracked.SingleSteps.{IsTrackedChangeTo}
+use Rattle.raft_progress.specs.tracked.TrackedState.{HasSameConfigs, TrackedShown}
+use Rattle.raft_progress.specs.declared.progress.steps.Reply.TheVariants.{Granted}
+
+same_walk : {K V : Type 0} (IsClone : V → V → Type 0) → ((v w : V) → IsClone v w → w ≡ v) → (es fs : List (K × V))
+    → AllZip (λ d e. (e.0 ≡ d.0) × IsClone d.1 e.1) es fs → fs ≡ es
+same_walk IsClone same [] [] z = refl
+same_walk IsClone same [] (f ∷ fs) z = absurd z
+same_walk IsClone same (e ∷ es) [] z = absurd z
+same_walk IsClone same (e ∷ es) (f ∷ fs) z =
+    let value = same e.1 f.1 z.0.1 in
+    let key = z.0.0 in
+    let pairs : f ≡ e = λ i. (key i, value i) in
+    let rest = same_walk IsClone same es fs z.1 in
+    λ i. pairs i ∷ rest i
+
+-- a value that is inherited, or the default
+inherited : {V : Type 0} (IsClone : V → V → Type 0) → ((v w : V) → IsClone v w → w ≡ v) → (default v : V)
+    (old new : Option V) (member : Bool) → (member ≡ true → Inherits IsClone default old new)
+    → (member ≡ false → new ≡ None) → old ≡ Some v → is_some new ≡ true → new ≡ Some v
+inherited IsClone same default v old new true takes none known some =
+    let h : HasClone IsClone v new = subst (λ o. Inherits IsClone default o new) known (takes refl) in
+    h.1 ∙ ap Some (same v h.0 h.2)
+inherited IsClone same default v old new false takes none known some =
+    absurd (true≢false (sym some ∙ ap is_some (none refl)))
+
+begun : {V : Type 0} (IsClone : V → V → Type 0) → ((v w : V) → IsClone v w → w ≡ v) → (default v : V)
+    (old new : Option V) (member : Bool) → (member ≡ true → Inherits IsClone default old new)
+    → (member ≡ false → new ≡ None) → old ≡ None → new ≡ Some v → v ≡ default
+begun IsClone same default v old new true takes none known some =
+    let h : HasClone IsClone default new = subst (λ o. Inherits IsClone default o new) known (takes refl) in
+    let e : Some v ≡ Some h.0 = sym some ∙ h.1 in
+    let is : v ≡ h.0 = cc in
+    is ∙ same default h.0 h.2
+begun IsClone same default v old new false takes none known some = let e : None ≡ Some v = sym (none refl) ∙ some in cc
+
+module _ {K N V P : Type 0} (eq : K → K → Bool) (id_cmp : K → K → Ordering) (cmp : P → P → Ordering) (part : V → P)
+    (IsClone : V → V → Type 0) (same : (v w : V) → IsClone v w → w ≡ v) where
+  abbrev value : TrackedShown K N V P → K → Option V
+  value t id = (state eq t.progress).value id
+
+  -- a clone has the values of what was cloned
+  clone_values : (old clone : TrackedShown K N V P) → IsCloned IsClone HasSameConfigs old.progress clone.progress → (id : K)
+      → value clone id ≡ value old id
+  clone_values old clone c id =
+      let walk = same_walk IsClone same old.progress.walk clone.progress.walk c.walk in
+      λ i. (state eq (record clone.progress { walk = walk i })).value id
+
+  module _ (old clone new : TrackedShown K N V P) (next : MemberList K N) (default : V) (p : P)
+      (made : IsTrackedChangeTo eq id_cmp cmp part IsClone clone next default (Granted p) new)
+      (cloned : IsCloned IsClone HasSameConfigs old.progress clone.progress) where
+    -- it counts by the membership that was given
+    pub goes_to : new.membership ≡ next
+    goes_to = made.values.0
+
+    -- who stays keeps its value
+    pub keeps_value : (id : K) (v : V) → value old id ≡ Some v → is_some (value new id) ≡ true → value new id ≡ Some v
+    keeps_value id v known some =
+        let over = made.values.1 in
+        inherited IsClone same default v (value clone id) (value new id) _ (over.4.2.value id) (over.4.2.others id)
+        (clone_values old clone cloned id ∙ known) some
+
+    -- who is new has the default
+    pub begins_value : (id : K) (v : V) → value old id ≡ None → value new id ≡ Some v → v ≡ default
+    begins_value id v known some =
+        let over = made.values.1 in
+        begun IsClone same default v (value clone id) (value new id) _ (over.4.2.value id) (over.4.2.others id)
+        (clone_values old clone cloned id ∙ known) some
+
+-- ---- the last config
+
+-- more than one is some
+pub longer : (n : ℕ) → nat_lt 1 n ≡ true → 0 < n
+longer n h = grind (arith, nat_tests)
+
+-- to add no voter keeps the last config as the goal
+no_more : {K : Type 0} (cmp : K → K → Ordering) (xs : List K) → union_of cmp xs [] ≡ xs
+no_more cmp [] = refl
+no_more cmp (x ∷ xs) = refl
+
+module _ {K : Type 0} {eq : K → K → Bool} (laws : IsEquivalence eq) where
+  -- the last of some configs is one of them
+  has_last : (c : List K) (cs : List (List K)) → has_config eq (c ∷ cs) (last_config (c ∷ cs)) ≡ true
+  has_last c cs =
+      last_passes eq (c ∷ cs) (omega arith) (λ d. pointwise eq d (last_config (c ∷ cs)))
+      ((lists_equiv laws).refl (last_config (c ∷ cs)))
+
+  -- from configs, their last one alone stands next
+  pub last_alone : (cmp : K → K → Ordering) (configs : List (List K)) → 0 < length configs
+      → next_configs eq configs (union_of cmp (last_config configs) []) ≡ last_config configs ∷ []
+  last_alone cmp [] some = absurd (omega arith)
+  last_alone cmp (c ∷ cs) some =
+      ap (λ goal. next_configs eq (c ∷ cs) goal) (no_more cmp (last_config (c ∷ cs)))
+      ∙ ap (λ b. cond b (last_config (c ∷ cs) ∷ [])
+      (option_map_or (λ last. last ∷ last_config (c ∷ cs) ∷ []) (slice_get (c ∷ cs) (length (c ∷ cs) - 1))
+      (last_config (c ∷ cs) ∷ []))) (has_last c cs)

@@ -1,0 +1,51 @@
+-- What an update writes of what a leader knows of a member.
+use Rattle.std.specs.Prelude.{◌≡◌, Bool, true, false, Option, Some, refl}
+use Rattle.std.specs.Cmp.{IsTotalOrder}
+use Rattle.std.specs.Option.{option_cmp}
+use Rattle.std.specs.Ordering.{is_le, is_lt, ordering_reverse}
+use Rattle.std.specs.declared.cmp.Ordering.{Ordering}
+use Rattle.std.specs.declared.cmp.Ordering.TheVariants.{Less, Equal, Greater}
+use Rattle.std.proofs.Common.{ap, sym, ◌∙◌, true≢false}
+use Rattle.raft_base.specs.LogId.{id_le, log_id_cmp}
+use Rattle.raft_base.specs.LogIdLawful.{optional-log_id_cmp-total}
+use Rattle.raft_base.specs.declared.log_id.LogIdOf.{LogIdOf}
+use Rattle.raft_progress.specs.progress.Shown.{state}
+use Rattle.raft_progress.specs.progress.Steps.{falls}
+use Rattle.raft_progress.specs.tracked.SingleSteps.{IsTrackedUpdate}
+use Rattle.raft_progress.specs.tracked.TrackedState.{TrackedShown}
+use Rattle.raft_progress.specs.declared.entry.ProgressEntryOf.{ProgressEntryOf}
+use Rattle.raft_progress.specs.declared.progress.steps.Reply.{Reply}
+use Rattle.raft_progress.proofs.lemmas.OrderLemmas.{AtMost-refl}
+use Rattle.raft_handlers.specs.Leadership.{Leadership, WritesEntry}
+use Rattle.raft_handlers.proofs.lemmas.TrackedLemmas.{update_writes}
+
+-- of a comparison from the other side
+not_below : (r : Ordering) → is_le r ≡ true → is_lt (ordering_reverse r) ≡ false
+not_below Less e = refl
+not_below Equal e = refl
+not_below Greater e = absurd (true≢false (sym e))
+
+module _ {C : Type 0} {cmp : C → C → Ordering} (total : IsTotalOrder cmp) where
+  -- each log id is at most itself
+  pub id_le-refl : (a : Option (LogIdOf C)) → id_le cmp a a ≡ true
+  id_le-refl a = AtMost-refl (optional-log_id_cmp-total total) a
+
+  -- a match that is at least the present one does not fall
+  pub no_fall : (current next : ProgressEntryOf C) → id_le cmp current.matching next.matching ≡ true
+      → falls (option_cmp (log_id_cmp cmp)) (λ (e : ProgressEntryOf C). e.matching) (Some current) next ≡ false
+  no_fall current next h =
+      let o = optional-log_id_cmp-total total in
+      ap is_lt (o.antisymm next.matching current.matching)
+      ∙ not_below (option_cmp (log_id_cmp cmp) current.matching next.matching) h
+
+  -- what is known of a member is written, if its match does not fall
+  pub entry_written : {K N : Type 0} (eq : K → K → Bool) (l : Leadership K N C)
+      (new : TrackedShown K N (ProgressEntryOf C) (Option (LogIdOf C))) (id : K) (current next : ProgressEntryOf C)
+      (reply : Reply K (Option (LogIdOf C)))
+      → IsTrackedUpdate eq (option_cmp (log_id_cmp cmp)) (λ (e : ProgressEntryOf C). e.matching) l.followers id next reply new
+      → (state eq l.followers.progress).value id ≡ Some current → id_le cmp current.matching next.matching ≡ true
+      → WritesEntry eq l id next (record l { followers = new })
+  entry_written eq l new id current next reply u known h =
+      let w = update_writes eq (option_cmp (log_id_cmp cmp)) (λ (e : ProgressEntryOf C). e.matching) l.followers new id next current
+      reply u known (no_fall current next h) in
+      record { entries = w.value; members = u.membership; rest = refl }

@@ -1,0 +1,136 @@
+-- What a leader knows of its members, and when it leads, commits and proposes.
+use Rattle.std.specs.Prelude.{◌≡◌, ℕ, Bool, true, false, ◌&&◌, not, Option, Some, None, Result, Ok, Err, is_some, if◌then◌else◌}
+use Rattle.std.specs.Map.{update}
+use Rattle.std.specs.Option.{option_cmp, option_eq}
+use Rattle.std.specs.declared.cmp.Ordering.{Ordering}
+use Rattle.raft_base.specs.LogId.{log_id_cmp, next_index}
+use Rattle.raft_base.specs.LogView.{LogView}
+use Rattle.raft_base.specs.declared.log_id.LogIdOf.{LogIdOf}
+use Rattle.raft_base.specs.declared.vote.VoteIn.{VoteIn}
+use Rattle.raft_members.specs.Change.{changed}
+use Rattle.raft_members.specs.Majority.{is_voter_of}
+use Rattle.raft_members.specs.Members.{members_of}
+use Rattle.raft_members.specs.Reached.{EachQuorumKnows}
+use Rattle.raft_members.specs.Stored.{membership_of}
+use Rattle.raft_members.specs.declared.change_members.ChangeMembers.{ChangeMembers}
+use Rattle.raft_progress.specs.entry.Send.{can_be_sent, send_table}
+use Rattle.raft_progress.specs.progress.CountedValue.{has_part}
+use Rattle.raft_progress.specs.progress.Shown.{state}
+use Rattle.raft_progress.specs.tracked.Known.{QuorumsKnow}
+use Rattle.raft_progress.specs.tracked.TrackedState.{TrackedShown}
+use Rattle.raft_progress.specs.declared.entry.ProgressEntryOf.{ProgressEntryOf}
+use Rattle.raft_progress.specs.declared.inflight.InflightOf.TheVariants.{None as Idle}
+use Rattle.raft_handlers.specs.declared.error.HandlerError.{HandlerError}
+use Rattle.raft_handlers.specs.declared.error.HandlerError.TheVariants.{MembershipNotInOrder, NotLogged, OutOfMemory}
+use Rattle.raft_state.specs.Commit.{state_commits, state_may_commit}
+use Rattle.raft_state.specs.FullLog.{end_index, full_log}
+use Rattle.raft_state.specs.Memberships.{Memberships}
+use Rattle.raft_state.specs.StateView.{view_of, vote_of}
+use Rattle.raft_state.specs.Valid.{none_or_logged}
+use Rattle.raft_state.specs.declared.raft_state.RaftStateIn.{RaftStateIn}
+
+-- the node that leads, its committed leader id, and what it knows of each member by its membership
+pub record Leadership (K N C : Type 0) : Type 0 where
+  pub id : K
+  pub leader_id : C
+  pub followers : TrackedShown K N (ProgressEntryOf C) (Option (LogIdOf C))
+
+-- the last log id that a quorum has
+abbrev pub granted_by : {K N C : Type 0} → Leadership K N C → Option (LogIdOf C)
+granted_by l = l.followers.progress.granted
+
+-- a log id is of a leader
+abbrev pub is_of_leader : {C : Type 0} → (C → C → Bool) → C → Option (LogIdOf C) → Bool
+is_of_leader eq leader None = false
+is_of_leader eq leader (Some id) = eq id.leader_id leader
+
+-- the vote of a state is the committed vote for this leader, and for its node
+abbrev pub leads : {K N M I L C : Type 0} → (K → K → Bool) → (C → C → Bool) → (L → C)
+    → (L → Option K) → Leadership K N C → RaftStateIn K M I L C → Bool
+leads eq same committed voted l s =
+    (vote_of s).committed && same (committed (vote_of s).leader_id) l.leader_id
+    && option_eq eq (voted (vote_of s).leader_id) (Some l.id)
+
+-- the leader is a voter neither of the effective nor of the committed membership
+abbrev pub is_removed : {K N M C : Type 0} → (K → K → Bool) → Leadership K N C → Memberships C K M
+    → Bool
+is_removed eq l m =
+    not (is_voter_of eq (membership_of m.effective).configs l.id)
+    && not (is_voter_of eq (membership_of m.committed).configs l.id)
+
+-- what is known of a member whose log does not match from an index on, and no more
+abbrev pub unknown_entry : {C : Type 0} → ℕ → ProgressEntryOf C
+unknown_entry end = record {
+  matching = None;
+  curr_inflight_id = 0;
+  inflight = Idle;
+  searching_end = end;
+}
+
+module _ {K N C : Type 0} (eq : K → K → Bool) where
+  -- what the leader knows of a member
+  abbrev pub entry_of : Leadership K N C → K → Option (ProgressEntryOf C)
+  entry_of l id = (state eq l.followers.progress).value id
+
+  -- what is known of one member is this entry now, and all else is as it was
+  pub record WritesEntry (old : Leadership K N C) (id : K) (entry : ProgressEntryOf C)
+      (new : Leadership K N C) : Type 0 where
+    pub entries : (x : K) → entry_of new x ≡ update eq (entry_of old) id (Some entry) x
+    pub members : new.followers.membership ≡ old.followers.membership
+    pub rest : new ≡ record old { followers = new.followers }
+
+  -- the leader counts by the effective membership of a state, and nothing is known of its members but
+  -- that no log matches the leader's from its end on
+  pub record KnowsNothing {I L : Type 0} (s : RaftStateIn K N I L C) (l : Leadership K N C) : Type 0
+    where
+      pub configs : l.followers.membership.configs
+          ≡ (membership_of s.membership_state.effective).configs
+      pub entries : (x : K) (entry : ProgressEntryOf C) → entry_of l x ≡ Some entry
+          → entry ≡ unknown_entry (end_index (full_log s.log_ids))
+
+module _ {K N C : Type 0} (eq : K → K → Bool) (cmp : C → C → Ordering) where
+  -- each quorum of the membership has a voter whose match is at least a log id
+  abbrev pub QuorumsHave : Leadership K N C → Option (LogIdOf C) → Type 0
+  QuorumsHave l upto =
+      QuorumsKnow eq (option_cmp (log_id_cmp cmp)) (λ e. e.matching) l.followers upto
+
+  -- and so does each quorum of what one change makes of the membership, accepted or not
+  abbrev pub ChangedQuorumsHave : (K → K → Ordering) → Leadership K N C → Option (LogIdOf C)
+      → Type 0
+  ChangedQuorumsHave id_cmp l upto =
+      (change : ChangeMembers K N) (retain : Bool)
+      → EachQuorumKnows eq
+      (changed eq id_cmp (members_of id_cmp l.followers.membership) change retain).configs
+      (state eq l.followers.progress).is_voter
+      (λ id. has_part (option_cmp (log_id_cmp cmp)) (λ e. e.matching) upto (entry_of eq l id))
+
+-- what a send leaves of what is known of a member, if it sends anything
+abbrev pub sent : {C : Type 0} → Result (ProgressEntryOf C) (ProgressEntryOf C)
+    → Option (ProgressEntryOf C)
+sent (Ok entry) = Some entry
+sent (Err entry) = None
+
+-- what is known of a member once the next request is sent to it, if there is one: a send is allowed,
+-- nothing is in flight, and there is something to send
+abbrev pub after_request : {C : Type 0} → (C → C → Ordering) → ProgressEntryOf C → LogView C → ℕ
+    → Option (ProgressEntryOf C)
+after_request cmp entry log max_entries =
+    if can_be_sent entry log then sent (send_table cmp entry log max_entries) else None
+
+-- what is known of a node whose log is on disk up to a log id, as the leader's own is
+abbrev pub flushed_entry : {C : Type 0} → Option (LogIdOf C) → ProgressEntryOf C
+flushed_entry upto = record {
+  matching = upto;
+  curr_inflight_id = 0;
+  inflight = Idle;
+  searching_end = next_index upto;
+}
+
+-- why the commit of what is granted is refused: the log does not have it, the memberships are not in
+-- the order of the log, or an allocation failed, which only the commit of a membership makes
+abbrev pub IsCommitRefusal : {K N I L C : Type 0} → (C → C → Bool) → (C → C → Ordering)
+    → Option (LogIdOf C) → RaftStateIn K N I L C → HandlerError → Type 0
+IsCommitRefusal eq cmp granted s NotLogged = none_or_logged eq (view_of s) granted ≡ false
+IsCommitRefusal eq cmp granted s MembershipNotInOrder = state_may_commit cmp granted s ≡ false
+IsCommitRefusal eq cmp granted s OutOfMemory = state_commits cmp granted s ≡ true
+IsCommitRefusal eq cmp granted s refusal = ⊥

@@ -1,0 +1,156 @@
+//! A leader: what it knows of the members, and what it sends, commits and proposes.
+ghost use Rattle.std.specs.Prelude.{◌≡◌, true, IfOk, IsOk, IsTrue, OnErr, OnOk};
+ghost use Rattle.std.specs.Set.{ClonesAreEqual};
+ghost use Rattle.raft_base.specs.UTime.{moment_of, utime_of};
+ghost use Rattle.raft_handlers.specs.Campaign.{HasMajorities, same_vote};
+ghost use Rattle.raft_handlers.specs.Leadership.{KnowsNothing, leads};
+ghost use Rattle.raft_state.specs.Sound.{IsSound};
+ghost use Rattle.raft_state.specs.StateView.{vote_of};
+
+mod change;
+mod commit;
+mod followers;
+mod propose;
+mod step_down;
+
+use crate::candidate::Candidate;
+use crate::error::HandlerError;
+use crate::state::State;
+pub use change::ChangeError;
+use raft_base::{Instant, LeaderIdentity, LogIdOf, LogIdOptionExt, LogStateReader, Node, NodeId};
+use raft_progress::{ProgressEntryOf, ProgressPart, Tracked};
+use raft_state::{RaftStateIn, VoteStateReader};
+use std::marker::Model;
+
+/// A leader, which a quorum has elected.
+///
+/// It counts by a membership what each voter has of its log, itself among them.
+#[derive(Drop)]
+pub struct Leader<NID: NodeId, N: Node, C: Ord + Copy>
+where
+    Option<LogIdOf<C>>: Ord,
+    ProgressEntryOf<C>: ProgressPart<Option<LogIdOf<C>>>,
+{
+    id: NID,
+    leader_id: C,
+    followers: Tracked<NID, N, ProgressEntryOf<C>, Option<LogIdOf<C>>>,
+}
+
+impl<NID: NodeId, N: Node, C: Ord + Copy> Model for Leader<NID, N, C>
+where
+    Option<LogIdOf<C>>: Ord,
+    ProgressEntryOf<C>: ProgressPart<Option<LogIdOf<C>>>,
+{
+    ghost use Rattle.raft_handlers.specs.Leadership.{Leadership};
+    ghost use Rattle.raft_progress.specs.tracked.Tracked.{tracked};
+
+    ghost Value = { Leadership NID N C };
+
+    ghost view = { λ a. record {
+      id = a.id;
+      leader_id = a.leader_id;
+      followers = tracked a.followers;
+    } };
+}
+
+impl<NID: NodeId, N: Node, C: Ord + Copy + Drop> Leader<NID, N, C> {
+    /// Makes an elected candidate the leader: the state's vote, which is the candidate's, is committed
+    /// now. Nothing is known of the members yet, but that no log matches the leader's from its end on.
+    ///
+    /// Write the vote to disk, and propose a blank entry. After a refusal the state is as it was.
+    pub fn new<I: Instant, L: LeaderIdentity<Id = NID, Committed = C> + Drop>(
+        state: &mut State<NID, N, I, L>,
+        candidate: &Candidate<NID, N, L, C>,
+    ) -> Result<Self, HandlerError>
+    where
+        C: Default + 'static,
+        requires clones_are_equal { ClonesAreEqual N.eq N.is_clone }
+        ensures elected { IsOk result → HasMajorities NID.eq candidate.now }
+        ensures same_vote { IsOk result →
+            IsTrue (same_vote L.eq (vote_of state.old) candidate.now.vote) }
+        ensures node { IfOk result (λ made. made.id ≡ candidate.now.id) }
+        ensures leader { IfOk result (λ made.
+            made.leader_id ≡ L.committed (vote_of state.old).leader_id) }
+        ensures followers { IfOk result (λ made. KnowsNothing NID.eq state.old made) }
+        ensures committed { OnOk result (state.new ≡ record state.old {
+          vote = utime_of (record (vote_of state.old) { committed = true })
+              (moment_of state.old.vote);
+        }) }
+        ensures err { OnErr result (state.new ≡ state.old) }
+        ensures sound { IsSound C.eq C.cmp state.old → IsSound C.eq C.cmp state.new }
+    {
+        if !candidate.is_elected() {
+            return Err(HandlerError::NotElected);
+        }
+        if *state.vote_ref() != candidate.vote() {
+            return Err(HandlerError::NotLeader);
+        }
+        let leader_id = L::to_committed(state.vote_ref().leader_id());
+        let leader = Leader::of(candidate.id(), leader_id, state)?;
+        state.vote.get_mut().commit();
+        Ok(leader)
+    }
+
+    /// Makes the node of a committed vote the leader anew, as after a restart.
+    pub fn resume<I: Instant, L: LeaderIdentity<Id = NID, Committed = C> + Drop>(
+        id: NID,
+        state: &State<NID, N, I, L>,
+    ) -> Result<Self, HandlerError>
+    where
+        C: Default + 'static,
+        requires clones_are_equal { ClonesAreEqual N.eq N.is_clone }
+        ensures leads { IfOk result (λ made.
+            IsTrue (leads NID.eq C.eq L.committed L.voted made state.now)) }
+        ensures node { IfOk result (λ made. made.id ≡ id) }
+        ensures followers { IfOk result (λ made. KnowsNothing NID.eq state.now made) }
+    {
+        let vote = state.vote_ref();
+        if !vote.is_committed() || L::voted_for(vote.leader_id()) != Some(id) {
+            return Err(HandlerError::NotLeader);
+        }
+        Leader::of(id, L::to_committed(vote.leader_id()), state)
+    }
+
+    /// A leader that knows nothing of the members of a state.
+    fn of<I: Instant, L: Drop>(
+        id: NID,
+        leader_id: C,
+        state: &RaftStateIn<NID, N, I, L, C>,
+    ) -> Result<Self, HandlerError>
+        requires clones_are_equal { ClonesAreEqual N.eq N.is_clone }
+        ensures node { IfOk result (λ made. made.id ≡ id) }
+        ensures leader { IfOk result (λ made. made.leader_id ≡ leader_id) }
+        ensures followers { IfOk result (λ made. KnowsNothing NID.eq state.now made) }
+    {
+        let last = state.last_log_id().copied();
+        if !last.has_next_index() {
+            return Err(HandlerError::NoNextIndex);
+        }
+        let Ok(members) = state.membership_state.effective().membership().try_clone() else {
+            return Err(HandlerError::OutOfMemory);
+        };
+        let unknown = ProgressEntryOf::<C>::empty(last.next_index());
+        match Tracked::new(members, unknown) {
+            Ok(followers) => Ok(Leader {
+                id,
+                leader_id,
+                followers,
+            }),
+            Err(_) => Err(HandlerError::OutOfMemory),
+        }
+    }
+
+    /// Returns the id of the node that leads.
+    pub fn id(&self) -> NID
+        ensures { result ≡ self.now.id }
+    {
+        self.id
+    }
+
+    /// Returns the committed leader id, which the leader's own entries have in their log ids.
+    pub fn leader_id(&self) -> C
+        ensures { result ≡ self.now.leader_id }
+    {
+        self.leader_id
+    }
+}

@@ -1,0 +1,204 @@
+//! How a leader changes the membership.
+ghost use Rattle.std.specs.Prelude.{◌≡◌, ◌<◌, ◌∷◌, [], true, None, Some, IfOk, IfSome, IsOk, IsSome, IsTrue, OnErr, OnOk, is_some, length};
+ghost use Rattle.std.specs.Set.{ClonesAreEqual};
+ghost use Rattle.raft_base.specs.LogId.{next_index};
+ghost use Rattle.raft_handlers.specs.Changes.{KeepsEntries, StoresMembership};
+ghost use Rattle.raft_handlers.specs.Leadership.{QuorumsHave, granted_by, is_of_leader, leads};
+ghost use Rattle.raft_handlers.specs.Proposals.{AppendsPayload, log_with_own, next_own_id};
+ghost use Rattle.raft_members.specs.Change.{last_config};
+ghost use Rattle.raft_members.specs.Coherence.{is_coherent};
+ghost use Rattle.raft_members.specs.Members.{Says};
+ghost use Rattle.raft_state.specs.Apply.{in_progress, members_after_change};
+ghost use Rattle.raft_state.specs.Entry.{payload_membership};
+ghost use Rattle.raft_state.specs.FullLog.{end_index, full_log, same_log};
+ghost use Rattle.raft_state.specs.Memberships.{in_effect};
+ghost use Rattle.raft_state.specs.Sound.{IsSound};
+
+use super::Leader;
+use crate::error::HandlerError;
+use crate::state::State;
+use raft_base::{Instant, LeaderIdentity, LogIdOf, LogIdOptionExt, LogStateReader, Node, NodeId};
+use raft_members::{ChangeMembers, ChangeMembershipErrorOf, Membership};
+use raft_progress::laws::quorums_know_granted;
+use raft_progress::{ProgressEntryOf, Reply, Tracked};
+use raft_state::{EntryOf, EntryPayload};
+use std::collections::BTreeSet;
+use std::fmt::Debug;
+use thiserror::Error;
+
+/// Why a leader refuses to change the membership.
+#[derive(Debug, Clone, PartialEq, Eq, Drop, Error)]
+pub enum ChangeError<C: Ord + Copy + Default + Debug, NID: NodeId> {
+    /// No quorum has an entry of this leader's own yet.
+    #[error("no quorum has an entry of this leader's own")]
+    NoOwnGranted,
+    /// The membership is not a joint one.
+    #[error("the membership is not joint")]
+    NotJoint,
+    /// The change is refused: an earlier one is in progress, or the members could not decide.
+    #[error(transparent)]
+    Change(ChangeMembershipErrorOf<C, NID>),
+    /// The entry is refused.
+    #[error(transparent)]
+    Entry(HandlerError),
+}
+
+impl<NID: NodeId, N: Node, C: Ord + Copy + Default + Debug + Drop + 'static> Leader<NID, N, C> {
+    /// Proposes a change of the membership: appends an entry with the new membership, which is
+    /// effective then, and counts by it from then on. Returns the entry.
+    ///
+    /// It is refused until a quorum has an entry of this leader's own, and until the effective
+    /// membership is committed. Both are needed. From a joint membership two leaders may go to
+    /// different configs, whose quorums need not meet; once a quorum of the joint membership has an
+    /// entry of the later leader, no quorum elects the earlier one's successor without it.
+    ///
+    /// With `retain`, a voter that is in no config any more stays as a learner. Write the entry to
+    /// disk, and then call `handle_flushed`. After a refusal the state and the leader are as they
+    /// were.
+    pub fn propose_change<I: Instant, L: LeaderIdentity<Id = NID, Committed = C> + Drop, D: Drop>(
+        &mut self,
+        state: &mut State<NID, N, I, L>,
+        change: ChangeMembers<NID, N>,
+        retain: bool,
+    ) -> Result<EntryOf<C, NID, N, D>, ChangeError<C, NID>>
+        requires clones_are_equal { ClonesAreEqual N.eq N.is_clone }
+
+        // What has to be so before a change.
+        ensures own_granted { IsOk result →
+            IsTrue (is_of_leader C.eq self.old.leader_id (granted_by self.old)) }
+        ensures committed { IsOk result → in_progress C.eq state.old.membership_state ≡ None }
+        ensures leads { IsOk result →
+            IsTrue (leads NID.eq C.eq L.committed L.voted self.old state.old) }
+
+        // The new membership, by which the leader counts.
+        ensures changed { OnOk result (Says N.eq NID.cmp self.new.followers.membership
+            (members_after_change NID.eq NID.cmp state.old.membership_state change retain)) }
+        ensures coherent { OnOk result
+            (0 < length (in_effect state.old.membership_state).configs →
+            is_coherent NID.eq (in_effect state.old.membership_state).configs
+            self.new.followers.membership.configs ≡ true) }
+        ensures kept { OnOk result (KeepsEntries NID.eq
+            (end_index (full_log state.old.log_ids)) self.old self.new) }
+        ensures still_known { OnOk result (0 < length self.old.followers.membership.configs →
+            self.old.followers.membership.configs
+            ≡ (in_effect state.old.membership_state).configs →
+            QuorumsHave NID.eq C.cmp self.new (granted_by self.old)) }
+        ensures node { self.new ≡ record self.old { followers = self.new.followers } }
+
+        // The entry, and the state with it.
+        ensures log_id { IfOk result (λ entry.
+            entry.log_id ≡ next_own_id self.old.leader_id state.old) }
+        ensures stores { IfOk result (λ entry.
+            StoresMembership NID.eq N.eq self.new.followers.membership entry.payload) }
+        ensures effective { IfOk result (λ entry. AppendsPayload NID.eq N.eq entry.log_id
+            (payload_membership entry.payload) state.old.membership_state
+            state.new.membership_state) }
+        ensures log { OnOk result (IsTrue (same_log C.eq (full_log state.new.log_ids)
+            (log_with_own self.old.leader_id state.old))) }
+        ensures rest { OnOk result (state.new ≡ record state.old {
+          log_ids = state.new.log_ids;
+          membership_state = state.new.membership_state;
+          accepted = state.new.accepted;
+        }) }
+        ensures err { OnErr result (self.new ≡ self.old) }
+        ensures err_state { OnErr result (state.new ≡ state.old) }
+        ensures sound { IsSound C.eq C.cmp state.old → IsSound C.eq C.cmp state.new }
+    {
+        // Called for the proof alone: each quorum of what a change leads to knows what is granted.
+        quorums_know_granted(&self.followers);
+        if !self.has_own_granted() {
+            return Err(ChangeError::NoOwnGranted);
+        }
+        let handler = state.membership_state.change_handler();
+        let members = match handler.apply(change, retain) {
+            Ok(members) => members,
+            Err(refused) => return Err(ChangeError::Change(refused)),
+        };
+        let Ok(stored) = members.try_clone() else {
+            return Err(ChangeError::Entry(HandlerError::OutOfMemory));
+        };
+        let last = state.last_log_id().copied();
+        let followers = match self.followers_over(members, last) {
+            Ok(followers) => followers,
+            Err(refused) => return Err(ChangeError::Entry(refused)),
+        };
+        match self.append_own(state, EntryPayload::Membership(stored)) {
+            Ok(entry) => {
+                self.followers = followers;
+                Ok(entry)
+            }
+            Err(refused) => Err(ChangeError::Entry(refused)),
+        }
+    }
+
+    /// Proposes the step from a joint membership to its last config, once the joint one is committed.
+    /// Returns the entry. It is refused as `propose_change` is, and if the membership is not joint.
+    pub fn leave_joint<I: Instant, L: LeaderIdentity<Id = NID, Committed = C> + Drop, D: Drop>(
+        &mut self,
+        state: &mut State<NID, N, I, L>,
+        retain: bool,
+    ) -> Result<EntryOf<C, NID, N, D>, ChangeError<C, NID>>
+        requires clones_are_equal { ClonesAreEqual N.eq N.is_clone }
+        ensures own_granted { IsOk result →
+            IsTrue (is_of_leader C.eq self.old.leader_id (granted_by self.old)) }
+        ensures committed { IsOk result → in_progress C.eq state.old.membership_state ≡ None }
+        ensures goal { OnOk result (self.new.followers.membership.configs
+            ≡ last_config (in_effect state.old.membership_state).configs ∷ []) }
+        ensures kept { OnOk result (KeepsEntries NID.eq
+            (end_index (full_log state.old.log_ids)) self.old self.new) }
+        ensures log_id { IfOk result (λ entry.
+            entry.log_id ≡ next_own_id self.old.leader_id state.old) }
+        ensures stores { IfOk result (λ entry.
+            StoresMembership NID.eq N.eq self.new.followers.membership entry.payload) }
+        ensures effective { IfOk result (λ entry. AppendsPayload NID.eq N.eq entry.log_id
+            (payload_membership entry.payload) state.old.membership_state
+            state.new.membership_state) }
+        ensures log { OnOk result (IsTrue (same_log C.eq (full_log state.new.log_ids)
+            (log_with_own self.old.leader_id state.old))) }
+        ensures err { OnErr result (self.new ≡ self.old) }
+        ensures err_state { OnErr result (state.new ≡ state.old) }
+        ensures sound { IsSound C.eq C.cmp state.old → IsSound C.eq C.cmp state.new }
+    {
+        let members = state.membership_state.effective().membership();
+        if !members.is_in_joint_consensus() {
+            return Err(ChangeError::NotJoint);
+        }
+        let none = BTreeSet::new(*members.get_joint_config().allocator());
+        self.propose_change(state, ChangeMembers::AddVoterIds(none), retain)
+    }
+}
+
+impl<NID: NodeId, N: Node, C: Ord + Copy + Drop> Leader<NID, N, C> {
+    ghost use Rattle.raft_base.specs.LogId.{log_id_cmp};
+    ghost use Rattle.raft_handlers.specs.Changes.{KeepsValues};
+    ghost use Rattle.raft_progress.specs.tracked.TrackedState.{IsReady};
+    ghost use Rattle.std.specs.Option.{option_cmp};
+    ghost use Rattle.raft_progress.specs.tracked.Tracked.{tracked};
+
+    /// What is known of the members of a membership, in which those who stay keep what is known of
+    /// them, and nothing is known of the others.
+    fn followers_over(
+        &self,
+        members: Membership<NID, N>,
+        last: Option<LogIdOf<C>>,
+    ) -> Result<Tracked<NID, N, ProgressEntryOf<C>, Option<LogIdOf<C>>>, HandlerError>
+        requires clones_are_equal { ClonesAreEqual N.eq N.is_clone }
+        ensures members { IfOk result (λ made. (tracked made).membership ≡ members) }
+        ensures kept { IfOk result (λ made. KeepsValues NID.eq (next_index last)
+            self.now.followers (tracked made)) }
+        ensures ready { IfOk result (λ made. IsReady NID.eq NID.cmp (option_cmp (log_id_cmp C.cmp))
+            (λ entry. entry.matching) (tracked made)) }
+    {
+        if !last.has_next_index() {
+            return Err(HandlerError::NoNextIndex);
+        }
+        let unknown = ProgressEntryOf::<C>::empty(last.next_index());
+        let Ok(mut followers) = self.followers.try_clone() else {
+            return Err(HandlerError::OutOfMemory);
+        };
+        match followers.change_to(members, unknown) {
+            Reply::Granted(_) => Ok(followers),
+            _ => Err(HandlerError::OutOfMemory),
+        }
+    }
+}

@@ -1,0 +1,83 @@
+//! What a leader commits.
+ghost use Rattle.std.specs.Prelude.{◌≡◌, ◌<◌, ◌&&◌, false, IfErr, IfOk, IsTrue, OnErr, if◌then◌else◌, length};
+ghost use Rattle.raft_base.specs.LogId.{id_le, id_lt};
+ghost use Rattle.raft_handlers.specs.Leadership.{ChangedQuorumsHave, IsCommitRefusal, QuorumsHave, granted_by, is_of_leader};
+ghost use Rattle.raft_state.specs.Commit.{state_after_commit};
+ghost use Rattle.raft_state.specs.Sound.{IsSound};
+ghost use Rattle.raft_state.specs.StateView.{view_of};
+ghost use Rattle.raft_state.specs.Valid.{none_or_logged};
+
+use super::Leader;
+use crate::error::HandlerError;
+use raft_base::{Instant, LogIdOf, Node, NodeId, log_id_below};
+use raft_progress::Progress;
+use raft_progress::laws::quorums_know_granted;
+use raft_state::RaftStateIn;
+
+impl<NID: NodeId, N: Node, C: Ord + Copy + Drop> Leader<NID, N, C> {
+    /// Returns the last log id that a quorum of the membership has.
+    ///
+    /// Each quorum of the membership, and of what one change makes of it, has a voter whose match is
+    /// at least that.
+    pub fn granted(&self) -> Option<LogIdOf<C>>
+        ensures granted { result ≡ granted_by self.now }
+        ensures quorums { 0 < length self.now.followers.membership.configs →
+            QuorumsHave NID.eq C.cmp self.now result }
+        ensures changed_quorums { 0 < length self.now.followers.membership.configs →
+            ChangedQuorumsHave NID.eq C.cmp NID.cmp self.now result }
+    {
+        quorums_know_granted(&self.followers);
+        *self.followers.progress().granted()
+    }
+
+    /// Whether a quorum of the membership has an entry of this leader's own.
+    pub fn has_own_granted(&self) -> bool
+        ensures { result ≡ is_of_leader C.eq self.now.leader_id (granted_by self.now) }
+    {
+        match self.granted() {
+            Some(granted) => granted.leader_id == self.leader_id,
+            None => false,
+        }
+    }
+
+    /// Commits what a quorum of the membership has, if that is an entry of this leader's own and is
+    /// not committed yet. Returns whether something new is committed.
+    ///
+    /// An entry of an earlier leader is never committed by counting: the leader's own entry commits
+    /// all before it. A refusal other than `OutOfMemory` shows a fault of a member or of the disk:
+    /// stop leading. After each refusal the state is as it was.
+    pub fn commit<I: Instant, L: Drop>(
+        &self,
+        state: &mut RaftStateIn<NID, N, I, L, C>,
+    ) -> Result<bool, HandlerError>
+        ensures answer { IfOk result (λ more. more
+            ≡ (is_of_leader C.eq self.now.leader_id (granted_by self.now)
+            && id_lt C.cmp state.old.committed (granted_by self.now))) }
+        ensures committed { IfOk result (λ more. state.new ≡ (if more
+            then state_after_commit C.cmp (granted_by self.now) state.old else state.old)) }
+        ensures is_granted { IfOk result (λ more. IsTrue more →
+            state.new.committed ≡ granted_by self.now) }
+        ensures logged { IfOk result (λ more. IsTrue more →
+            IsTrue (none_or_logged C.eq (view_of state.old) (granted_by self.now))) }
+        ensures monotone { IsTrue (id_le C.cmp state.old.committed state.new.committed) }
+        ensures refused { IfErr result
+            (IsCommitRefusal C.eq C.cmp (granted_by self.now) state.old) }
+        ensures err { OnErr result (state.new ≡ state.old) }
+        ensures sound { IsSound C.eq C.cmp state.old → IsSound C.eq C.cmp state.new }
+    {
+        let granted = self.granted();
+        if !self.has_own_granted() || !log_id_below(state.committed, granted) {
+            return Ok(false);
+        }
+        if !state.is_logged(&granted) {
+            return Err(HandlerError::NotLogged);
+        }
+        if !state.can_commit(&granted) {
+            return Err(HandlerError::MembershipNotInOrder);
+        }
+        match state.update_committed(&granted) {
+            Ok(_before) => Ok(true),
+            Err(_) => Err(HandlerError::OutOfMemory),
+        }
+    }
+}

@@ -1,0 +1,166 @@
+//! What a leader sends to the members, and what it learns from their responses.
+ghost use Rattle.std.specs.Prelude.{◌≡◌, None, Some, Ok, Err, IsOk, IsTrue, OnErr, OnOk};
+ghost use Rattle.raft_base.specs.LogId.{id_le};
+ghost use Rattle.raft_handlers.specs.Leadership.{WritesEntry, after_request, entry_of, flushed_entry, granted_by};
+ghost use Rattle.raft_handlers.specs.Responses.{after_response, refused};
+ghost use Rattle.raft_handlers.specs.declared.error.HandlerError.{HandlerError};
+ghost use Rattle.raft_handlers.specs.declared.error.HandlerError.TheVariants.{UnknownMember};
+ghost use Rattle.raft_progress.specs.declared.entry.ProgressEntryOf.{ProgressEntryOf};
+ghost use Rattle.raft_progress.specs.declared.inflight.InflightOf.TheVariants.{None as Idle};
+ghost use Rattle.raft_progress.specs.inflight.InflightTable.{FollowsTable};
+ghost use Rattle.raft_state.specs.StateView.{view_of};
+ghost use Rattle.raft_state.specs.Valid.{none_or_logged};
+
+use super::Leader;
+use crate::error::HandlerError;
+use crate::message::{Outcome, Response};
+use raft_base::{Instant, LogIdOf, LogIdOptionExt, Node, NodeId};
+use raft_progress::{InflightError, InflightOf, Progress, ProgressEntryOf};
+use raft_state::RaftStateIn;
+
+impl<NID: NodeId, N: Node, C: Ord + Copy + Drop> Leader<NID, N, C> {
+    /// Returns what to send to a member next, and puts it in flight: entries, or the snapshot.
+    ///
+    /// `InflightOf::None` means that there is nothing to send, or that something is in flight
+    /// already: send a heartbeat. The result is `None` if the id is no member's.
+    pub fn next_request<I: Instant, L: Drop>(
+        &mut self,
+        state: &RaftStateIn<NID, N, I, L, C>,
+        to: &NID,
+        max_entries: u64,
+    ) -> Option<InflightOf<C>>
+        ensures unknown { entry_of NID.eq self.old to.now ≡ None → result ≡ None }
+        ensures sent { (entry next : ProgressEntryOf C) →
+            entry_of NID.eq self.old to.now ≡ Some entry →
+            after_request C.cmp entry (view_of state.now) max_entries ≡ Some next →
+            result ≡ Some next.inflight }
+        ensures in_flight { (entry next : ProgressEntryOf C) →
+            entry_of NID.eq self.old to.now ≡ Some entry →
+            after_request C.cmp entry (view_of state.now) max_entries ≡ Some next →
+            WritesEntry NID.eq self.old to.now next self.new }
+        ensures heartbeat { (entry : ProgressEntryOf C) →
+            entry_of NID.eq self.old to.now ≡ Some entry →
+            after_request C.cmp entry (view_of state.now) max_entries ≡ None →
+            result ≡ Some Idle }
+        ensures unchanged { result ≡ None → self.new ≡ self.old }
+        ensures unchanged_by_heartbeat { (entry : ProgressEntryOf C) →
+            entry_of NID.eq self.old to.now ≡ Some entry →
+            after_request C.cmp entry (view_of state.now) max_entries ≡ None →
+            self.new ≡ self.old }
+    {
+        let mut entry = *self.followers.progress().try_get(to)?;
+        if !entry.can_send(state) {
+            return Some(InflightOf::None);
+        }
+        let sent = match entry.next_send(state, max_entries) {
+            Ok(sent) => *sent,
+            Err(_) => return Some(InflightOf::None),
+        };
+        let _reply = self.followers.update(to, entry);
+        Some(sent)
+    }
+
+    /// Takes a member's response to a request. An acknowledgement raises the member's match, and a
+    /// conflict lowers the end of the search for it. A response that is late, doubled or does not fit
+    /// what is in flight is refused and changes nothing.
+    pub fn handle_response<L>(
+        &mut self,
+        from: &NID,
+        response: &Response<L, C>,
+    ) -> Result<(), HandlerError>
+        ensures unknown { entry_of NID.eq self.old from.now ≡ None → result ≡ Err UnknownMember }
+        ensures taken { (entry next : ProgressEntryOf C) →
+            entry_of NID.eq self.old from.now ≡ Some entry →
+            after_response C.cmp entry response.now ≡ Ok next →
+            WritesEntry NID.eq self.old from.now next self.new }
+        ensures ok { (entry next : ProgressEntryOf C) →
+            entry_of NID.eq self.old from.now ≡ Some entry →
+            after_response C.cmp entry response.now ≡ Ok next → IsOk result }
+        ensures refused { (entry : ProgressEntryOf C) (e : HandlerError) →
+            entry_of NID.eq self.old from.now ≡ Some entry →
+            after_response C.cmp entry response.now ≡ Err e → result ≡ Err e }
+        ensures err { OnErr result (self.new ≡ self.old) }
+        ensures monotone { IsTrue
+            (id_le C.cmp (granted_by self.old) (granted_by self.new)) }
+    {
+        match self.followers.progress().try_get(from).copied() {
+            None => Err(HandlerError::UnknownMember),
+            Some(found) => {
+                let mut entry = found;
+                take_response(&mut entry, response)?;
+                let _reply = self.followers.update(from, entry);
+                Ok(())
+            }
+        }
+    }
+
+    /// Takes what is in flight to a member as lost, so that it is sent again. A late response to it
+    /// is refused.
+    pub fn give_up(&mut self, to: &NID)
+        ensures unknown { entry_of NID.eq self.old to.now ≡ None → self.new ≡ self.old }
+        ensures idle { (entry : ProgressEntryOf C) → entry_of NID.eq self.old to.now ≡ Some entry →
+            WritesEntry NID.eq self.old to.now (record entry { inflight = Idle }) self.new }
+    {
+        if let Some(found) = self.followers.progress().try_get(to).copied() {
+            let mut entry = found;
+            entry.give_up();
+            let _reply = self.followers.update(to, entry);
+        }
+    }
+
+    /// Counts the leader itself like any voter, once its log is on disk up to a log id. Less than
+    /// was on disk before changes nothing.
+    pub fn handle_flushed<I: Instant, L: Drop>(
+        &mut self,
+        state: &RaftStateIn<NID, N, I, L, C>,
+        upto: Option<LogIdOf<C>>,
+    ) -> Result<(), HandlerError>
+        ensures counted { OnOk result ((entry : ProgressEntryOf C) →
+            entry_of NID.eq self.old self.old.id ≡ Some entry →
+            IsTrue (id_le C.cmp entry.matching upto) →
+            WritesEntry NID.eq self.old self.old.id (flushed_entry upto) self.new) }
+        ensures logged { OnOk result (IsTrue (none_or_logged C.eq (view_of state.now) upto)) }
+        ensures err { OnErr result (self.new ≡ self.old) }
+        ensures monotone { IsTrue
+            (id_le C.cmp (granted_by self.old) (granted_by self.new)) }
+    {
+        if !upto.has_next_index() {
+            return Err(HandlerError::NoNextIndex);
+        }
+        if !state.is_logged(&upto) {
+            return Err(HandlerError::NotLogged);
+        }
+        let entry = ProgressEntryOf::<C>::new(upto);
+        let _reply = self.followers.update(&self.id, entry);
+        Ok(())
+    }
+}
+
+/// Takes a response into what is known of its sender.
+fn take_response<L, C: Ord + Copy>(
+    entry: &mut ProgressEntryOf<C>,
+    response: &Response<L, C>,
+) -> Result<(), HandlerError>
+    ensures table { FollowsTable (after_response C.cmp entry.old response.now)
+        entry.old result entry.new }
+    ensures monotone { IsTrue (id_le C.cmp entry.old.matching entry.new.matching) }
+{
+    match response.outcome {
+        Outcome::HigherVote(_) => Err(HandlerError::HigherVote),
+        Outcome::Conflict(index) => refuse(entry.update_conflicting(response.request, index)),
+        Outcome::Matches(upto) => match response.request {
+            Some(request) => refuse(entry.update_matching(request, upto)),
+            None => Ok(()),
+        },
+    }
+}
+
+/// The refusal of what is in flight as one of the leader.
+fn refuse(taken: Result<(), InflightError>) -> Result<(), HandlerError>
+    ensures { result ≡ refused taken }
+{
+    match taken {
+        Ok(()) => Ok(()),
+        Err(refused) => Err(HandlerError::ResponseRefused(refused)),
+    }
+}
