@@ -61,22 +61,27 @@ fn changes<K: LeaderKind<u64>>(alloc: Global) -> Result<bool, HandlerError> {
     let joint: Answer<K> = leader.propose_change(&mut state, voters(alloc, &[1, 2])?, false);
     let is_joint = matches!(&joint, Ok(entry) if Some(entry.log_id) == id::<K>(Some((3, 6))));
     let soon: Answer<K> = leader.leave_joint(&mut state, false);
-    let is_soon = matches!(&soon, Err(ChangeError::Change(ChangeMembershipErrorOf::InProgress(_))));
+    let is_soon = matches!(
+        &soon,
+        Err(ChangeError::Change(ChangeMembershipErrorOf::InProgress(_)))
+    );
     let is_joint_committed = commit::<K>(&mut state, &mut leader, 2, 6)?;
     let left: Answer<K> = leader.leave_joint(&mut state, false);
     let is_left = matches!(&left, Ok(entry) if Some(entry.log_id) == id::<K>(Some((3, 7))));
     let members = state.membership_state.effective().membership();
-    Ok(is_early
-        && is_not_joint
-        && is_committed
-        && is_stranger
-        && is_joint
-        && is_soon
-        && is_joint_committed
-        && is_left
-        && !members.is_in_joint_consensus()
-        && !members.contains(&3)
-        && members.is_voter(&2))
+    Ok(
+        is_early
+            && is_not_joint
+            && is_committed
+            && is_stranger
+            && is_joint
+            && is_soon
+            && is_joint_committed
+            && is_left
+            && !members.is_in_joint_consensus()
+            && !members.contains(&3)
+            && members.is_voter(&2),
+    )
 }
 
 #[test]

@@ -46,13 +46,15 @@ fn commits<K: LeaderKind<u64>>(alloc: Global) -> Result<bool, HandlerError> {
     let own = leader.handle_response(&2, &ack::<K>(1, Some((3, 5))));
     let is_committed = leader.commit(&mut state)?;
     let is_twice = leader.commit(&mut state)?;
-    Ok(is_sent
-        && earlier == Ok(())
-        && !is_early
-        && own == Ok(())
-        && is_committed
-        && !is_twice
-        && state.committed == id::<K>(Some((3, 5))))
+    Ok(
+        is_sent
+            && earlier == Ok(())
+            && !is_early
+            && own == Ok(())
+            && is_committed
+            && !is_twice
+            && state.committed == id::<K>(Some((3, 5))),
+    )
 }
 
 /// What the leader answers to rows of who responds, to which request, with which outcome, once
