@@ -15,5 +15,6 @@ mod snapshot;
 mod start;
 #[cfg(test)]
 mod states;
+pub mod uses;
 #[cfg(test)]
 mod vote;
