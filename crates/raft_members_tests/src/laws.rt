@@ -16,9 +16,7 @@ use raft_members::quorum::laws::{
     no_configs_take_every_set, quorums_meet,
 };
 use raft_members::quorum::{AtLeast, Joint, QuorumSet};
-use raft_members::{
-    ChangeMembers, ChangeMembershipError, Membership, StoredMembership, StoredMembershipOf,
-};
+use raft_members::{ChangeMembers, ChangeMembershipError, Membership, StoredMembershipOf};
 use std::alloc::{AllocError, Global};
 use std::test::Fail;
 
@@ -156,38 +154,6 @@ fn change_once_held<NID: NodeId, N: Node>(
     change_keeps_reached::<NID, N>();
     let to = from.change(change, retain)?;
     Ok(Some(to))
-}
-
-#[test]
-fn laws_at_work(rt: HostRuntime) -> Result<(), Fail> {
-    let alloc = rt.alloc();
-    let from = members(alloc, "1,2,3", "1=1,2=2,3=3,4=4")?;
-    assert!(rt; has_decided(&[1u64, 2, 3].to_vec(alloc)?, &[2, 3]));
-    assert!(rt; are_both_elected(&from, &[1, 2], &[2, 3])?);
-    let change = ChangeMembers::AddVoterIds(ids(alloc, "4")?);
-    let to = change_elected(&from, change, &[1, 2], &[1, 2, 4])?;
-    assert!(rt; to.is_some_and(|to| to.is_voter(&4)));
-    Ok(())
-}
-
-// Of five, two commit and four elect; six of five is none.
-#[test]
-fn laws_of_stated_sizes_at_work(rt: HostRuntime) -> Result<(), Fail> {
-    let alloc = rt.alloc();
-    let five: [u64; 5] = [1, 2, 3, 4, 5];
-    let commits = AtLeast::new(alloc, &five, 2)?;
-    let elects = AtLeast::new(alloc, &five, 4)?;
-    assert!(rt; has_committed_and_elected(&commits, &elects, &[1, 2], &[2, 3, 4, 5]));
-    assert!(rt; !is_enough(&AtLeast::new(alloc, &five, 6)?, &five));
-    assert!(rt; decide_for_none(alloc, &five) == (false, true));
-    Ok(())
-}
-
-#[test]
-fn a_copy_has_the_quorums(rt: HostRuntime) -> Result<(), Fail> {
-    let stored = StoredMembership::new(None, members(rt.alloc(), "1,2/2,3", "1=1,2=2,3=3")?);
-    assert!(rt; copy_of(&stored)? == stored);
-    Ok(())
 }
 
 #[test]

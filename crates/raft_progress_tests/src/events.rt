@@ -1,5 +1,5 @@
 //! Ten thousand events, each given to an entry and to a plain table: a follower may respond
-//! anything. A thousand entries take ten each, and one takes all. The same without acks, as searches.
+//! anything. A thousand entries take ten each, and one takes all.
 ghost use Rattle.std.specs.Prelude.{◌≤◌};
 
 use crate::support::entry_calls::{Answer, Call, answer_of};
@@ -9,7 +9,6 @@ use raft_base::LogId;
 use raft_base_tests::support::plain_log::{PlainLog, id, log_below};
 use raft_progress::entry::ProgressEntry;
 use raft_progress::inflight::{Inflight, InflightError};
-use raft_progress::search::{SearchEvent, search_run};
 use std::alloc::{AllocError, Global};
 use std::test::Fail;
 
@@ -285,114 +284,5 @@ fn any_events_are_answered(alloc: Global) -> Result<bool, AllocError> {
 #[test]
 fn any_events_are_answered_as_by_the_table(rt: HostRuntime) -> Result<(), Fail> {
     assert!(rt; any_events_are_answered(rt.alloc())?);
-    Ok(())
-}
-
-/// The events of a life for a search, which takes no acks.
-fn search_events<'a>(
-    alloc: Global,
-    logs: &'a Logs,
-    life: u64,
-) -> Result<Vec<SearchEvent<'a, PlainLog<Leader>>>, AllocError> {
-    let mut events = Vec::new(alloc);
-    for counter in life..life.saturating_add(LIFE) {
-        let taken = match event(counter) {
-            Call::Ack(..) => continue,
-            Call::Send(max_entries) => SearchEvent::Send {
-                log: log_at(logs, counter),
-                max_entries,
-            },
-            Call::Conflict(Some(request_id), conflict) => SearchEvent::Conflict {
-                request_id,
-                conflict,
-            },
-            Call::Conflict(None, conflict) => SearchEvent::Heartbeat { conflict },
-        };
-        events.push(taken)?;
-    }
-    Ok(events)
-}
-
-/// A search by the table.
-#[derive(Clone, Copy)]
-struct TableSearch {
-    entry: ProgressEntry<u64>,
-    /// The last purge point that was sent over.
-    purged: Option<u64>,
-    accepted: u64,
-    /// How many sends were skipped since their purge point has gone back.
-    gone_back: u64,
-}
-
-/// What an event of a search leaves of it, by the table.
-fn table_search(search: TableSearch, log: &PlainLog<Leader>, call: Call<Leader>) -> TableSearch {
-    let purge_upto = index(log.purge_upto);
-    let (answer, entry) = table(search.entry, log, call);
-    match (call, answer) {
-        (Call::Ack(..), _) | (_, Answer::NotAllowed) => search,
-        (Call::Send(_), _) if purge_upto < search.purged => TableSearch {
-            gone_back: search.gone_back.saturating_add(1),
-            ..search
-        },
-        (Call::Send(_), _) => TableSearch {
-            entry,
-            purged: purge_upto,
-            ..search
-        },
-        (Call::Conflict(Some(_), _), Answer::Taken(Ok(()))) => TableSearch {
-            entry,
-            accepted: search.accepted.saturating_add(1),
-            ..search
-        },
-        _ => TableSearch { entry, ..search },
-    }
-}
-
-/// The search over the events of a life, by the table.
-fn searched(logs: &Logs, life: u64) -> TableSearch {
-    let mut search = TableSearch {
-        entry: first_entry(life),
-        purged: None,
-        accepted: 0,
-        gone_back: 0,
-    };
-    for counter in life..life.saturating_add(LIFE) {
-        search = table_search(search, log_at(logs, counter), event(counter));
-    }
-    search
-}
-
-/// Whether a search over the events of a life ends as wanted.
-fn search_ends(
-    alloc: Global,
-    logs: &Logs,
-    life: u64,
-    want: TableSearch,
-) -> Result<bool, AllocError> {
-    let mut entry = first_entry(life);
-    let events = search_events(alloc, logs, life)?;
-    Ok(search_run(&mut entry, &events) == want.accepted && entry == want.entry)
-}
-
-/// Whether so many searches end as by the table, with conflicts accepted and sends skipped.
-fn searches_as_the_table(alloc: Global, lives: u64) -> Result<bool, AllocError> {
-    let logs = make_logs(alloc)?;
-    let mut accepted = 0u64;
-    let mut gone_back = 0u64;
-    for number in 0..lives {
-        let life = number.saturating_mul(LIFE);
-        let want = searched(&logs, life);
-        if !search_ends(alloc, &logs, life, want)? {
-            return Ok(false);
-        }
-        accepted = accepted.saturating_add(want.accepted);
-        gone_back = gone_back.saturating_add(want.gone_back);
-    }
-    Ok(accepted > 0 && gone_back > 0)
-}
-
-#[test]
-fn any_searches_end_as_by_the_table(rt: HostRuntime) -> Result<(), Fail> {
-    assert!(rt; searches_as_the_table(rt.alloc(), 1_000)?);
     Ok(())
 }

@@ -9,23 +9,12 @@ ghost use Rattle.raft_progress.specs.tracked.Tracked.{tracked};
 ghost use Rattle.std.specs.Option.{option_cmp};
 ghost use Rattle.std.specs.Prelude.{◌≡◌, ◌<◌, ◌≤◌, ◌^◌, IsTrue, true};
 
-use crate::laws::acked;
-use crate::support::steps::{first_ids, made};
-use raft_base::{EmptyNode, LeaderId, LogIdOf, LogIdOptionExt, LogStateReader, Node, NodeId};
-use raft_base_tests::support::plain_log::{Numbered, PlainLog, id, log_below};
-use raft_members::Membership;
+use raft_base::{LogIdOf, LogIdOptionExt, LogStateReader, Node, NodeId};
 use raft_members::quorum::QuorumSet;
-use raft_progress::entry::{ProgressEntry, ProgressEntryOf};
-use raft_progress::inflight::InflightOf;
+use raft_progress::entry::ProgressEntryOf;
 use raft_progress::laws::{can_send_stays, granted_is_logged, known_stays, tracked_calls_are_runs};
 use raft_progress::progress::{Progress as _, ProgressPart, VecProgress};
 use raft_progress::tracked::Tracked;
-use std::alloc::{AllocError, Global};
-use std::collections::BTreeMap;
-use std::test::Fail;
-
-/// A leader's followers, with the membership that they are of.
-type Followers<C> = Tracked<u64, EmptyNode, ProgressEntryOf<C>, Option<LogIdOf<C>>>;
 
 /// Takes what followers have acknowledged, one call after another. Together the calls are one
 /// replay, so granted never falls, and each quorum knows what it knew.
@@ -106,54 +95,4 @@ fn sends_twice<C: Ord + Copy, L: LogStateReader<C>>(
         return false;
     }
     follower.next_send(later, 8).is_ok()
-}
-
-/// Whether followers 0 to 2 grant what a majority of them has acknowledged.
-fn grants_responses<C: Numbered + Drop>(alloc: Global) -> Result<bool, AllocError> {
-    let mut nodes = BTreeMap::new(alloc);
-    for node in 0..3u64 {
-        nodes.insert(node, EmptyNode::new())?;
-    }
-    let members = Membership::from_nodes(alloc, nodes)?;
-    let mut followers: Followers<C> = Tracked::new(members, ProgressEntryOf::empty(9))?;
-    let mut responses = Vec::new(alloc);
-    responses.push((0, ProgressEntryOf::new(id(1, 4))))?;
-    responses.push((1, ProgressEntryOf::new(id(1, 6))))?;
-    responses.push((7, ProgressEntryOf::new(id(1, 8))))?;
-    take_responses(&mut followers, responses);
-    Ok(*followers.progress().granted() == id(1, 4))
-}
-
-#[test]
-fn responses_of_followers_are_one_replay(rt: HostRuntime) -> Result<(), Fail> {
-    assert!(rt; grants_responses::<LeaderId<u64>>(rt.alloc())?);
-    Ok(())
-}
-
-#[test]
-fn an_ack_of_a_follower_is_a_step(rt: HostRuntime) -> Result<(), Fail> {
-    let alloc = rt.alloc();
-    let mut followers = made(
-        &rt,
-        alloc,
-        first_ids(alloc, 1)?,
-        &[],
-        ProgressEntry::empty(9),
-    )?;
-    let matched = ProgressEntry::new(id(1, 6));
-    let falls = followers.would_fall(&0, &matched);
-    assert!(rt; !falls);
-    acked(&mut followers, &0, matched);
-    assert_eq!(rt; *followers.granted(), id(1, 6));
-    Ok(())
-}
-
-#[test]
-fn a_follower_is_sent_to_again(rt: HostRuntime) -> Result<(), Fail> {
-    let log: PlainLog<LeaderId<u64>> = log_below(rt.alloc(), 9, None)?;
-    let later = log_below(rt.alloc(), 20, None)?;
-    let mut follower = ProgressEntry::empty(9);
-    assert!(rt; sends_twice(&mut follower, &log, id(1, 7), &later));
-    assert!(rt; follower.inflight == InflightOf::logs(id(1, 7), id(1, 15)).with_id(2));
-    Ok(())
 }

@@ -29,9 +29,7 @@ ghost use Rattle.std.specs.declared.cmp.Ordering.{Ordering};
 ghost use Rattle.std.specs.Prelude.{◌++◌, ◌/◌, ◌<◌, ◌^◌, ◌↔◌, ◌∷◌, ◌≡◌, ◌≤◌, ◌⊎◌, Bool, IfOk, IsTrue, Option, Some, false, length, true, ℕ};
 ghost use Rattle.std.specs.Set.{ClonesAreEqual};
 
-use crate::support::steps::{first_ids, made};
-use raft_base::{EmptyNode, LogStateReader, Node, NodeId};
-use raft_members::membership::Membership;
+use raft_base::{LogStateReader, Node, NodeId};
 use raft_members::quorum::QuorumSet;
 use raft_members::{ChangeMembers, ChangeMembershipError};
 use raft_progress::entry::ProgressEntryOf;
@@ -44,8 +42,6 @@ use raft_progress::progress::{AnyStep, Progress, ProgressPart, Reply, VecProgres
 use raft_progress::search::{SearchEvent, search_run};
 use raft_progress::tracked::{Step, Tracked, replay};
 use std::alloc::{AllocError, Global};
-use std::collections::BTreeMap;
-use std::test::Fail;
 
 /// Whether a part is granted: an index committed, a vote won, a quorum heard since a moment. It is
 /// exactly where it is at most the default's, or a quorum of the voters has reached it.
@@ -411,137 +407,4 @@ pub fn replaced<ID: Copy + Ord, V: ProgressPart<P> + Drop, P: Copy + Ord, QS: Qu
         }
         None => false,
     }
-}
-
-/// Voters 1 to 3 of a cluster, and a fourth node.
-fn cluster<V: ProgressPart<V> + Copy + Ord + Drop>(
-    alloc: Global,
-    default: V,
-) -> Result<Tracked<u64, EmptyNode, V, V>, AllocError>
-    requires { (w : V) → V.is_clone default w → V.part_of w ≡ V.part_of default }
-{
-    let mut nodes = BTreeMap::new(alloc);
-    for id in 1..4u64 {
-        nodes.insert(id, EmptyNode::new())?;
-    }
-    Tracked::new(Membership::from_nodes(alloc, nodes)?, default)
-}
-
-/// A change to the voters 1 and 2, as a list of steps.
-fn change_to_two(alloc: Global) -> Result<Vec<Step<u64, EmptyNode, u64>>, AllocError>
-    ensures { IfOk result (λ steps. length steps.items ≡ 1) }
-{
-    let change = ChangeMembers::replace_all(alloc, &[1, 2])?;
-    let steps = vec![in alloc;
-        Step::Change {
-            change,
-            retain: true,
-            default: 0
-        },
-    ]?;
-    Ok(steps)
-}
-
-#[test]
-fn a_match_stays_known_over_two_changes(rt: HostRuntime) -> Result<(), Fail> {
-    let alloc = rt.alloc();
-    let mut cluster = cluster(alloc, 0u64)?;
-    take_acks(
-        alloc,
-        &mut cluster,
-        vec![in alloc; Step::Update(1, 4), Step::Update(2, 4)]?,
-    )?;
-    let acks = vec![in alloc; Step::Update(1, 5)]?;
-    let first = change_to_two(alloc)?;
-    let second = change_to_two(alloc)?;
-    assert!(rt; change_twice(alloc, &mut cluster, 4, first, acks, second)?);
-    assert_eq!(rt; *cluster.progress().granted(), 4);
-    Ok(())
-}
-
-#[test]
-fn a_copy_grants_alike(rt: HostRuntime) -> Result<(), Fail> {
-    let progress = made(&rt, rt.alloc(), first_ids(rt.alloc(), 3)?, &[5], 7u64)?;
-    let copy = progress.clone()?;
-    assert_eq!(rt; *copy.granted(), 7);
-    Ok(())
-}
-
-#[test]
-fn two_turns_are_one_run(rt: HostRuntime) -> Result<(), Fail> {
-    let alloc = rt.alloc();
-    let mut progress = made(&rt, alloc, first_ids(alloc, 3)?, &[5], 0u64)?;
-    let first = vec![in alloc; AnyStep::Update(0, 4), AnyStep::Update(7, 1)]?;
-    let second = vec![in alloc; AnyStep::IncreaseTo(1, 6)]?;
-    let (replies, others) = two_turns(alloc, &mut progress, first, second)?;
-    assert!(rt;
-        replies.get(1) == Some(&Reply::Unknown(0)) && others.first() == Some(&Reply::Granted(4))
-    );
-    Ok(())
-}
-
-#[test]
-fn a_progress_goes_over(rt: HostRuntime) -> Result<(), Fail> {
-    let alloc = rt.alloc();
-    let mut progress = made(&rt, alloc, first_ids(alloc, 3)?, &[5], 4u64)?;
-    let voters = vec![in alloc; 1, 2, 6]?;
-    let learners = vec![in alloc; 0]?;
-    let fits = VecProgress::<u64, u64, u64, Vec<u64>>::learners_fit(alloc, &voters, &learners)?;
-    assert!(rt; fits);
-    let can = progress.can_upgrade(&voters, &learners, &2)?;
-    assert!(rt; can);
-    let ordered = progress.is_in_order();
-    assert!(rt; ordered);
-    let next = gone_over(&progress, voters, learners, 2)?;
-    assert!(rt; *next.granted() == 4 && next.try_get(&6) == Some(&2));
-    Ok(())
-}
-
-#[test]
-fn a_change_is_a_step(rt: HostRuntime) -> Result<(), Fail> {
-    let alloc = rt.alloc();
-    let mut cluster = cluster(alloc, 0u64)?;
-    let turn = vec![in alloc; Step::Update(2, 5)]?;
-    let (reply, replies) = acked_before_turn(alloc, &mut cluster, 1, 4, turn)?;
-    assert!(rt; reply == Reply::Granted(0) && replies.first() == Some(&Reply::Granted(4)));
-    let change = ChangeMembers::replace_all(alloc, &[1, 2])?;
-    let changed = gone_over_known(&mut cluster, change, true, 0);
-    assert!(rt; changed == Ok(Reply::Granted(4)));
-    Ok(())
-}
-
-#[test]
-fn a_ballot_begins(rt: HostRuntime) -> Result<(), Fail> {
-    let alloc = rt.alloc();
-    let matches = cluster(alloc, 4u64)?;
-    let ballot = ballot_over(&matches, ChangeMembers::replace_all(alloc, &[1, 2])?, true);
-    let begins = match &ballot {
-        Ok(votes) => !*votes.progress().granted() && votes.progress().voter_count() == 3,
-        Err(_) => false,
-    };
-    assert!(rt; begins);
-    Ok(())
-}
-
-#[test]
-fn a_caller_grants_before_any_step(rt: HostRuntime) -> Result<(), Fail> {
-    let alloc = rt.alloc();
-    let mut nodes = BTreeMap::new(alloc);
-    nodes.insert(1u64, EmptyNode::new())?;
-    let cluster = Tracked::new(Membership::from_nodes(alloc, nodes)?, 7u64)?;
-    assert_eq!(rt; granted_now(&cluster), 7);
-    Ok(())
-}
-
-#[test]
-fn a_caller_replaces(rt: HostRuntime) -> Result<(), Fail> {
-    let alloc = rt.alloc();
-    let mut progress = made(&rt, alloc, first_ids(alloc, 2)?, &[5], 0u64)?;
-    let same = match progress.try_get(&1) {
-        Some(current) => *current == 0,
-        None => false,
-    };
-    assert!(rt; same);
-    assert!(rt; replaced(&mut progress, &1, 0));
-    Ok(())
 }

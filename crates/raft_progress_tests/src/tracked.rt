@@ -181,10 +181,14 @@ fn a_quorum_of_each_config_elects(rt: HostRuntime) -> Result<(), Fail> {
 
 /// Memberships that a leader goes over to, each with the default, the reply and what a write of 7
 /// at 3 then grants.
-const CHANGES: [(&[&[u64]], u64, Reply<u64, u64>, u64); 3] = [
+const CHANGES: [(&[&[u64]], u64, Reply<u64, u64>, u64); 5] = [
     (&[&[1, 2], &[2, 3]], 0, Reply::Granted(0), 3),
     (&[&[2, 3]], 4, Reply::BelowDefault(2), 3),
     (&[&[3]], 0, Reply::Granted(7), 7),
+    // Both learners are below the default, and the lesser id is answered.
+    (&[&[3]], 6, Reply::BelowDefault(1), 7),
+    // They have kept their values, and are voters again.
+    (&[&[1, 2]], 0, Reply::Granted(3), 3),
 ];
 
 /// Whether a change is answered so, and grants so afterwards.

@@ -3,36 +3,24 @@
 use crate::support::rows::id;
 use crate::support::states::State;
 use raft_base::{LeaderAdv, LeaderKind, LeaderStd, LogIdOf, UTime, VoteOf};
-use raft_state::{AcceptedOf, LogStateReader, VoteStateReader};
+use raft_state::{AcceptedIn, AcceptedOf, VoteStateReader};
 use std::alloc::{AllocError, Global};
 use std::test::Fail;
 
-/// Whether what was accepted is known of its leader alone.
-fn is_of_its_leader<K: LeaderKind<u64>>(
-    accepted: &AcceptedOf<u64, K>,
-    want: Option<LogIdOf<K::Committed>>,
+/// Whether what was accepted is known of the first one of these leaders alone.
+fn is_of_first<L: Eq + Copy, C: PartialEq + Copy>(
+    accepted: &AcceptedIn<L, C>,
+    leaders: &[L],
+    want: Option<LogIdOf<C>>,
 ) -> bool {
-    accepted
-        .last_accepted_log_id(&K::new_leader(5, 10))
-        .copied()
-        == want
-        && accepted
-            .last_accepted_log_id(&K::new_leader(6, 10))
-            .is_none()
-        && accepted
-            .last_accepted_log_id(&K::new_leader(4, 10))
-            .is_none()
-        && accepted
-            .last_accepted_log_id(&K::new_leader(5, 9))
-            .is_none()
-}
-
-/// Whether what was accepted of node 1 in term 2 is unknown of node 2 in that term.
-pub fn is_of_its_node<K: LeaderKind<u64>>() -> bool {
-    let accepted = AcceptedOf::<u64, K>::new(K::new_leader(2, 1), id::<K>(Some((2, 3))));
-    accepted
-        .last_accepted_log_id(&K::new_leader(2, 2))
-        .is_none()
+    let mut want = want;
+    for leader in leaders {
+        if accepted.last_accepted_log_id(leader).copied() != want {
+            return false;
+        }
+        want = None;
+    }
+    true
 }
 
 /// Takes what is accepted of the vote's leader, if that may be.
@@ -45,24 +33,34 @@ fn accept<K: LeaderKind<u64>>(state: &mut State<K>, log_id: Option<LogIdOf<K::Co
 /// Whether a new node's vote, and what it has accepted of the leader, read as they should.
 pub fn accepts<K: LeaderKind<u64>>(state: &mut State<K>) -> bool {
     let log_id = Some(LogIdOf::new(K::new_committed(6, 2), 3));
-    let want = AcceptedOf::<u64, K>::new(K::new_leader(5, 10), log_id);
-    let vote = VoteOf::<u64, K>::new_committed(5, 10);
+    let leader = K::new_leader(5, 10);
+    let leaders = [
+        leader,
+        K::new_leader(6, 10),
+        K::new_leader(4, 10),
+        K::new_leader(5, 9),
+    ];
     let unset = state.accepted().is_none() && !state.is_initialized();
-    state.vote = UTime::new(7, vote);
+    state.vote = UTime::new(7, VoteOf::<u64, K>::new_committed(5, 10));
     accept::<K>(state, log_id);
-    is_of_its_leader::<K>(&want, log_id)
-        && unset
-        && state.accepted == want
-        && state.accepted().copied() == log_id
-        && state.is_initialized()
-        && state.vote_last_modified() == Some(7)
-        && *VoteStateReader::vote_ref(state) == vote
+    let are_right = [
+        unset,
+        state.accepted == AcceptedOf::<u64, K>::new(leader, log_id),
+        is_of_first(&state.accepted, &leaders, log_id),
+        state.accepted().copied() == log_id,
+        state.is_initialized(),
+        state.vote_last_modified() == Some(7),
+        VoteStateReader::vote_ref(state).leader_id == leader,
+    ];
+    // A lesser leader's vote, as a node never has it: nothing is accepted of that leader.
+    *state.vote.get_mut() = VoteOf::<u64, K>::new_committed(4, 10);
+    !are_right.contains(&false) && !state.can_accept()
 }
 
 /// Whether a new state takes what is accepted.
 fn takes_accepted<K: LeaderKind<u64>>(alloc: Global) -> Result<bool, AllocError> {
     let mut state = State::<K>::try_default(alloc)?;
-    Ok(accepts::<K>(&mut state) && is_of_its_node::<K>())
+    Ok(accepts::<K>(&mut state))
 }
 
 /// Example state 5. Leader (5, 10) has sent the log id of leader (6, 2) at index 3: accepted is

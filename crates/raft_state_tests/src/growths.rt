@@ -1,7 +1,7 @@
 //! The list of log ids, the memberships of a node and its whole state, with each growth refused in
 //! turn or all of them.
 
-use crate::accepted::{accepts, is_of_its_node};
+use crate::accepted::accepts;
 use crate::catch_up::{catches_up_right, rounds_right};
 use crate::io_state::writes_io;
 use crate::membership_state::{self, answers, are_at, commit_leads, cut_leads};
@@ -9,7 +9,6 @@ use crate::support::followers::{Followers, followers};
 use crate::support::messages::{self, entries, snapshot};
 use crate::support::rows::{Effective, effective, ids, log_id};
 use crate::support::states::{follower, hundred, unlogged, valid_state};
-use crate::truncate::cut;
 use crate::whole_state::{commits, reads};
 use raft_base::{LeaderAdv, LogId, LogStateReader, MessageSummary, Validate};
 use raft_base_tests::support::growths::{Call, Growth, is_free, is_swept, refuse_each};
@@ -576,7 +575,7 @@ fn io_is_free(rt: &impl Print, alloc: Global) -> io::Result<bool> {
 fn accepted_is_free(rt: &impl Print, alloc: Global) -> io::Result<bool> {
     let mut state = State::try_default(alloc)?;
     refuse_each(alloc);
-    let is_right = accepts::<LeaderAdv>(&mut state) && is_of_its_node::<LeaderAdv>();
+    let is_right = accepts::<LeaderAdv>(&mut state);
     is_free(
         rt,
         alloc,
@@ -597,7 +596,7 @@ fn commit_is_free(rt: &impl Print, alloc: Global) -> io::Result<bool> {
 fn cut_is_free(rt: &impl Print, alloc: Global) -> io::Result<bool> {
     let mut state = follower::<LeaderAdv>(alloc, Some((1, 1)), None, Some((1, 3)))?;
     refuse_each(alloc);
-    let is_cut = cut::<LeaderAdv>(&mut state, 2) == Ok(Some(true));
+    let is_cut = state.can_truncate_log(2) && state.truncate_log(2) == Ok(true);
     let is_right = is_cut && state.last_log_id() == Some(&log_id::<LeaderAdv>(1, 1));
     is_free(
         rt,

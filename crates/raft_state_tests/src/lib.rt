@@ -11,8 +11,6 @@
 #[cfg(test)]
 mod accepted;
 #[cfg(test)]
-mod append;
-#[cfg(test)]
 mod catch_up;
 #[cfg(test)]
 mod clones;
@@ -44,8 +42,6 @@ mod region;
 mod support;
 #[cfg(test)]
 mod texts;
-#[cfg(test)]
-mod truncate;
 pub mod turn;
 #[cfg(test)]
 mod turns;

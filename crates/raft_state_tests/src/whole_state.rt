@@ -13,17 +13,18 @@ ghost use Rattle.std.specs.Prelude.{◌≡◌, IfOk, IfSome, IsTrue, None, OnErr
 
 use crate::laws::{purge_to, send};
 use crate::support::followers::{Followers, caught_up, followers};
-use crate::support::memory::{both, holds};
+use crate::support::memory::both;
 use crate::support::rows::{Row, id, ids as ids_of, log_id};
-use crate::support::states::{Ids, State, state, unlogged, valid_state};
+use crate::support::states::{Ids, State, StateIn, state, unlogged, valid_state};
 use raft_base::order::log_id_at_most;
 use raft_base::{
-    Instant, Invalid, LeaderAdv, LeaderKind, LeaderStd, LogIdOf, LogIdRangeOf, LogStateReader,
-    Node, NodeId, RaftLogId, ServerState, UTime, Validate, VoteIn, VoteOf, leader_id_std,
+    Instant, Invalid, LeaderAdv, LeaderKind, LeaderStd, LogIdOf, LogIdOptionExt, LogIdRangeOf,
+    LogStateReader, Node, NodeId, RaftLogId, ServerState, UTime, Validate, VoteIn, VoteOf,
+    leader_id_std,
 };
 use raft_members::quorum::QuorumSet;
 use raft_progress::{InflightOf, Progress, ProgressEntryOf};
-use raft_state::{AcceptedOf, FollowersOf, ForwardToLeader, RaftStateIn};
+use raft_state::{AcceptedOf, FollowersOf, RaftStateIn};
 use std::alloc::{AllocError, Global};
 use std::process::Abort;
 use std::test::Fail;
@@ -78,81 +79,140 @@ fn lacking<'a, NID: NodeId, N: Node, I: Instant, L: Drop, C: Ord + Copy + Drop, 
     &entries[place..]
 }
 
-/// Whether each relation is told where it alone is broken, and the first one where two are.
-fn relations_right<K: LeaderKind<u64>>(alloc: Global) -> Result<bool, AllocError> {
-    let first = Some((1, 1));
-    let last = Some((3, 4));
-    let rows: [(Ids, Result<(), Invalid>); 12] = [
-        ((2, first, first, None, None, None), Ok(())),
-        ((2, Some((3, 0)), last, None, None, None), Ok(())),
-        ((2, first, last, last, first, last), Ok(())),
-        (
-            (3, first, first, None, None, None),
-            Err(Invalid::PurgedNext),
-        ),
-        (
-            (2, None, first, None, None, None),
-            Err(Invalid::LastPurgedPastUpto),
-        ),
-        (
-            (2, last, first, None, None, None),
-            Err(Invalid::UptoPastCommitted),
-        ),
-        (
-            (2, last, last, first, None, None),
-            Err(Invalid::UptoPastSnapshot),
-        ),
-        (
-            (2, first, first, last, None, None),
-            Err(Invalid::SnapshotPastCommitted),
-        ),
-        (
-            (2, first, Some((3, 5)), None, None, None),
-            Err(Invalid::CommittedPastLast),
-        ),
-        (
-            (2, first, first, None, last, Some((1, 4))),
-            Err(Invalid::MembershipLogId),
-        ),
-        (
-            (2, first, first, None, Some((1, 5)), last),
-            Err(Invalid::MembershipIndex),
-        ),
-        ((3, None, first, None, None, None), Err(Invalid::PurgedNext)),
-    ];
-    for (ids, want) in rows {
-        if state::<K>(alloc, ids)?.validate() != want {
-            return Ok(false);
-        }
-    }
-    Ok(true)
+/// The log ids of a state whose log is (1,1) to (1,3) and (3,4), and what its validation says: each
+/// relation where it alone is broken, and the first one where two are.
+const RELATIONS: [(Ids, Result<(), Invalid>); 12] = [
+    ((2, FIRST, FIRST, None, None, None), Ok(())),
+    ((2, Some((3, 0)), LAST, None, None, None), Ok(())),
+    ((2, FIRST, LAST, LAST, FIRST, LAST), Ok(())),
+    (
+        (3, FIRST, FIRST, None, None, None),
+        Err(Invalid::PurgedNext),
+    ),
+    (
+        (2, None, FIRST, None, None, None),
+        Err(Invalid::LastPurgedPastUpto),
+    ),
+    (
+        (2, LAST, FIRST, None, None, None),
+        Err(Invalid::UptoPastCommitted),
+    ),
+    (
+        (2, LAST, LAST, FIRST, None, None),
+        Err(Invalid::UptoPastSnapshot),
+    ),
+    (
+        (2, FIRST, FIRST, LAST, None, None),
+        Err(Invalid::SnapshotPastCommitted),
+    ),
+    (
+        (2, FIRST, Some((3, 5)), None, None, None),
+        Err(Invalid::CommittedPastLast),
+    ),
+    (
+        (2, FIRST, FIRST, None, LAST, Some((1, 4))),
+        Err(Invalid::MembershipLogId),
+    ),
+    (
+        (2, FIRST, FIRST, None, Some((1, 5)), LAST),
+        Err(Invalid::MembershipIndex),
+    ),
+    ((3, None, FIRST, None, None, None), Err(Invalid::PurgedNext)),
+];
+
+/// The first log id of that log, and its last one.
+const FIRST: Row = Some((1, 1));
+
+const LAST: Row = Some((3, 4));
+
+/// Whether a state with these log ids is found valid or not as wanted.
+fn validates<K: LeaderKind<u64>>(
+    alloc: Global,
+    ids: Ids,
+    want: Result<(), Invalid>,
+) -> Result<bool, AllocError> {
+    Ok(state::<K>(alloc, ids)?.validate() == want)
 }
 
-/// Whether a state is sound exactly if its log has what the state says of it: each row breaks one
-/// relation, and then come the log id that was accepted and whether the state is sound. A purge point
-/// that is not in the log leaves the state valid.
-fn sound_right<K: LeaderKind<u64>>(alloc: Global) -> Result<bool, AllocError> {
-    let first = Some((1, 1));
-    let last = Some((3, 4));
-    let rows: [(Ids, Row, bool); 8] = [
-        ((2, first, first, None, None, None), None, true),
-        ((2, first, last, None, last, last), last, true),
-        ((2, Some((3, 0)), last, None, None, None), None, false),
-        ((2, first, Some((3, 0)), None, None, None), None, false),
-        ((2, first, first, None, None, None), Some((3, 5)), false),
-        ((2, first, first, None, None, Some((2, 3))), None, false),
-        ((2, first, first, None, Some((2, 3)), last), None, false),
-        ((2, first, last, None, first, last), None, false),
+/// The log ids of a valid state, what it has accepted, and whether it is sound, its log has the purge
+/// point, and its log has what is committed. A state is sound exactly if its log has what the state
+/// says of it, so each row breaks one relation.
+const SOUND: [(Ids, Row, [bool; 3]); 12] = [
+    (
+        (2, FIRST, FIRST, None, None, None),
+        None,
+        [true, true, true],
+    ),
+    ((2, FIRST, LAST, None, LAST, LAST), LAST, [true, true, true]),
+    (
+        (2, Some((3, 0)), LAST, None, None, None),
+        None,
+        [false, false, true],
+    ),
+    (
+        (2, Some((3, 0)), Some((3, 0)), None, None, None),
+        None,
+        [false, false, false],
+    ),
+    (
+        (2, Some((2, 3)), LAST, None, None, None),
+        None,
+        [false, false, true],
+    ),
+    (
+        (2, FIRST, Some((2, 3)), None, None, None),
+        None,
+        [false, true, false],
+    ),
+    (
+        (2, FIRST, FIRST, None, None, None),
+        Some((3, 5)),
+        [false, true, true],
+    ),
+    (
+        (2, FIRST, FIRST, None, None, Some((2, 3))),
+        None,
+        [false, true, true],
+    ),
+    (
+        (2, FIRST, FIRST, None, Some((2, 3)), LAST),
+        None,
+        [false, true, true],
+    ),
+    (
+        (2, FIRST, LAST, None, FIRST, LAST),
+        None,
+        [false, true, true],
+    ),
+    (
+        (2, FIRST, Some((3, 0)), None, None, None),
+        None,
+        [false, true, false],
+    ),
+    (
+        (2, FIRST, Some((2, 5)), None, None, None),
+        None,
+        [false, true, false],
+    ),
+];
+
+/// Whether a valid state is sound, and its log has what it should, as wanted, and may not be truncated
+/// at the committed index.
+fn is_sound_as<K: LeaderKind<u64>>(
+    alloc: Global,
+    ids: Ids,
+    accepted: Row,
+    want: [bool; 3],
+) -> Result<bool, AllocError> {
+    let mut state = state::<K>(alloc, ids)?;
+    state.accepted = AcceptedOf::<u64, K>::new(K::new_leader(2, 1), id::<K>(accepted));
+    let are = [
+        state.is_sound(),
+        state.purge_upto_is_logged(),
+        state.committed_is_logged(),
     ];
-    for (ids, accepted, want) in rows {
-        let mut state = state::<K>(alloc, ids)?;
-        state.accepted = AcceptedOf::<u64, K>::new(K::new_leader(2, 1), id::<K>(accepted));
-        if state.validate() != Ok(()) || state.is_sound() != want {
-            return Ok(false);
-        }
-    }
-    let lost = state::<K>(alloc, (2, Some((3, 0)), last, None, None, None))?;
-    Ok(lost.validate() == Ok(()) && !lost.purge_upto_is_logged() && lost.committed_is_logged())
+    let committed = state.committed.index().unwrap_or(0);
+    Ok(are == want && state.validate() == Ok(()) && !state.can_truncate_log(committed))
 }
 
 /// Whether a log id is that of the row.
@@ -165,64 +225,60 @@ fn is_lent<K: LeaderKind<u64>>(read: Option<&LogIdOf<K::Committed>>, want: Row) 
     read.copied() == id::<K>(want)
 }
 
-/// Whether a valid state reads as it should, and tells whether its purge point and what is committed
-/// are in its log.
+/// Whether a valid state reads as it should, and a log whose committed log id (3,0) it does not have is
+/// not truncated where all that stays is below that.
 pub fn reads<K: LeaderKind<u64>>(state: &State<K>, other: &State<K>) -> bool {
-    let first = Some((1, 1));
-    let last = Some((3, 4));
     let are_right = [
         is::<K>(state.get_log_id(2), Some((1, 2))),
-        is::<K>(state.prev_log_id(5), last),
+        is::<K>(state.prev_log_id(5), LAST),
         is::<K>(state.get_log_id(0), None),
         is::<K>(state.get_log_id(5), None),
-        is_lent::<K>(state.last_log_id(), last),
-        is_lent::<K>(state.last_purged_log_id(), first),
-        is_lent::<K>(LogStateReader::committed(state), first),
-        is_lent::<K>(LogStateReader::purge_upto(state), first),
+        is_lent::<K>(state.last_log_id(), LAST),
+        is_lent::<K>(state.last_purged_log_id(), FIRST),
+        is_lent::<K>(LogStateReader::committed(state), FIRST),
+        is_lent::<K>(LogStateReader::purge_upto(state), FIRST),
         is_lent::<K>(state.snapshot_last_log_id(), None),
         is_lent::<K>(state.io_applied(), None),
         is_lent::<K>(state.io_snapshot_last_log_id(), None),
         is_lent::<K>(state.io_purged(), None),
-        state.purge_upto_is_logged(),
-        !other.purge_upto_is_logged(),
-        state.committed_is_logged(),
-        !other.committed_is_logged(),
+        !other.can_truncate_log(3),
+        other.can_truncate_log(5),
     ];
     !are_right.contains(&false)
 }
 
-/// The same, of the first valid state and of one that has neither in its log. Of a new state nothing
-/// is committed.
+/// Whether the first valid state reads so.
 fn reads_right<K: LeaderKind<u64>>(alloc: Global) -> Result<bool, AllocError> {
-    let is_right = nothing_is_committed::<K>(alloc)?;
     let (valid, other) = both(valid_state::<K>(alloc), unlogged::<K>(alloc))?;
-    Ok(is_right && other.validate() == Ok(()) && reads::<K>(&valid, &other))
+    Ok(reads::<K>(&valid, &other))
 }
 
-/// Whether of a new state nothing is committed that its log lacks.
-fn nothing_is_committed<K: LeaderKind<u64>>(alloc: Global) -> Result<bool, AllocError> {
-    Ok(State::<K>::try_default(alloc)?.committed_is_logged())
-}
+/// Entries, and how many of them a follower has before the first one that it lacks. It may not be asked
+/// for a committed index under a greater leader.
+const ASKED: [(&[(u64, u64)], Option<usize>); 10] = [
+    (&[(1, 1), (3, 4)], Some(2)),
+    (&[(1, 1), (3, 3)], Some(1)),
+    (&[(1, 5), (1, 1)], Some(0)),
+    (&[(1, 0), (1, 2)], Some(2)),
+    (&[(0, 1), (1, 2)], Some(2)),
+    (&[(1, 3), (3, 4), (3, 5)], Some(2)),
+    (&[(1, 3), (2, 4), (3, 5)], Some(1)),
+    (&[(1, 3), (3, 4)], Some(2)),
+    (&[(2, 1)], None),
+    (&[(1, 2), (2, 1)], None),
+];
 
-/// Whether the first of some entries that the log does not have is at a place.
-fn conflicts_at<K: LeaderKind<u64>>(
+/// Whether a valid state has as many of these entries.
+fn has<K: LeaderKind<u64>>(
     alloc: Global,
-    state: &State<K>,
     rows: &[(u64, u64)],
-    want: usize,
+    want: Option<usize>,
 ) -> Result<bool, AllocError> {
-    let entries = ids_of::<K>(alloc, rows)?;
-    Ok(state.can_ask_all(&entries) && state.first_conflicting_index(&entries) == want)
-}
-
-/// Whether a state finds the first entry that is not in its log.
-fn conflicts_right<K: LeaderKind<u64>>(alloc: Global, state: &State<K>) -> bool {
-    holds(conflicts_at::<K>(alloc, state, &[(1, 1), (3, 4)], 2))
-        && holds(conflicts_at::<K>(alloc, state, &[(1, 1), (3, 3)], 1))
-        && holds(conflicts_at::<K>(alloc, state, &[(1, 5), (1, 1)], 0))
-        // What is committed each log has, but no log has it under a greater leader.
-        && holds(conflicts_at::<K>(alloc, state, &[(1, 0), (1, 2)], 2))
-        && !state.can_ask(&log_id::<K>(2, 1))
+    let (state, entries) = both(valid_state::<K>(alloc), ids_of::<K>(alloc, rows))?;
+    if !state.can_ask_all(&entries) {
+        return Ok(want == None);
+    }
+    Ok(want == entries.len().checked_sub(lacking(&state, &entries).len()))
 }
 
 /// Commits up to a row, if that may be, and answers what was committed before.
@@ -238,10 +294,17 @@ fn committed_before<K: LeaderKind<u64>>(
     }
 }
 
+/// Whether a log id is committed once, with the answer of before.
+pub fn commits<K: LeaderKind<u64>>(state: &mut State<K>) -> Result<bool, AllocError> {
+    let before = committed_before::<K>(state, LAST)?;
+    let again = committed_before::<K>(state, LAST)?;
+    Ok(before == Some(id::<K>(FIRST)) && again == None && is::<K>(state.committed, LAST))
+}
+
 /// Appends log ids, of one leader or of several, if that may be.
-fn extend<K: LeaderKind<u64>>(
-    state: &mut State<K>,
-    ids: &[LogIdOf<K::Committed>],
+fn extend<L: Drop, C: Ord + Copy + Drop>(
+    state: &mut StateIn<L, C>,
+    ids: &[LogIdOf<C>],
 ) -> Result<(), AllocError> {
     if state.log_ids.can_extend_from_same_leader(ids) {
         state.extend_log_ids_from_same_leader(ids)
@@ -252,168 +315,154 @@ fn extend<K: LeaderKind<u64>>(
     }
 }
 
-/// Whether a log id is committed once, with the answer of before.
-pub fn commits<K: LeaderKind<u64>>(state: &mut State<K>) -> Result<bool, AllocError> {
-    let last = Some((3, 4));
-    let before = committed_before::<K>(state, last)?;
-    let again = committed_before::<K>(state, last)?;
-    Ok(before == Some(id::<K>(Some((1, 1)))) && again == None && is::<K>(state.committed, last))
+/// Purges up to a log id, if that may be.
+fn purge<L: Drop, C: Ord + Copy + Drop>(
+    state: &mut StateIn<L, C>,
+    upto: &LogIdOf<C>,
+) -> Result<(), AllocError> {
+    if state.can_purge_log(upto) {
+        purge_to(state, upto)?;
+    }
+    Ok(())
 }
 
-/// Appends log ids of one leader, and then of two.
-fn grow<K: LeaderKind<u64>>(alloc: Global, state: &mut State<K>) -> Result<(), AllocError> {
-    extend::<K>(state, &ids_of::<K>(alloc, &[(4, 6), (4, 8)])?)?;
-    extend::<K>(state, &ids_of::<K>(alloc, &[(5, 9), (6, 10)])?)
-}
-
-/// Whether a state has these keys, of a log of which what is below index 6 was purged.
-fn is_purged<K: LeaderKind<u64>>(state: &State<K>, keys: &[LogIdOf<K::Committed>]) -> bool {
+/// Whether a log is purged up to (3,5), and may not be to (3,4), nor to the greatest index.
+fn is_purged<K: LeaderKind<u64>>(state: &State<K>) -> bool {
     let are_right = [
         state.purged_next == 6,
-        state.log_ids.key_log_ids() == keys,
+        is_lent::<K>(state.last_purged_log_id(), Some((3, 5))),
+        is::<K>(state.get_log_id(7), Some((4, 7))),
+        is_lent::<K>(state.last_log_id(), Some((6, 10))),
         !state.can_purge_log(&log_id::<K>(3, 4)),
         !state.can_purge_log(&log_id::<K>(9, u64::MAX)),
     ];
     !are_right.contains(&false)
 }
 
-/// Whether the log grows and is purged.
+/// Whether a state commits, and its log grows, by log ids of one leader and then of two, and is purged.
 fn grows<K: LeaderKind<u64>>(alloc: Global, state: &mut State<K>) -> Result<bool, AllocError> {
-    grow::<K>(alloc, state)?;
-    let upto = log_id::<K>(3, 5);
-    if state.can_purge_log(&upto) {
-        purge_to(state, &upto)?;
-    }
-    let keys = ids_of::<K>(alloc, &[(3, 5), (4, 6), (5, 9), (6, 10)])?;
-    Ok(is_purged::<K>(state, &keys))
+    let is_committed = commits::<K>(state)?;
+    extend(state, &ids_of::<K>(alloc, &[(4, 6), (4, 8)])?)?;
+    extend(state, &ids_of::<K>(alloc, &[(5, 9), (6, 10)])?)?;
+    purge(state, &log_id::<K>(3, 5))?;
+    Ok(is_committed && is_purged::<K>(state))
 }
 
-/// Whether with a vote requests are forwarded as wanted, and the nodes 1, 3 and 9 are what they
-/// should be.
+/// Whether a valid state does so.
+fn valid_state_grows<K: LeaderKind<u64>>(alloc: Global) -> Result<bool, AllocError> {
+    grows::<K>(alloc, &mut valid_state::<K>(alloc)?)
+}
+
+/// Whether requests are forwarded as wanted, and the nodes 1, 3 and 9 are what they should be.
 fn leads<K: LeaderKind<u64>>(
-    state: &mut State<K>,
-    vote: VoteOf<u64, K>,
-    to: ForwardToLeader<u64, u64>,
+    state: &State<K>,
+    to: (Option<u64>, Option<u64>),
     want: [ServerState; 3],
 ) -> Result<bool, AllocError> {
-    state.vote = UTime::without_utime(vote);
+    let forward = state.forward_to_leader()?;
     let are = [
         state.calc_server_state(&1),
         state.calc_server_state(&3),
         state.calc_server_state(&9),
     ];
-    Ok(
-        state.forward_to_leader()? == to
-            && are == want
-            && state.is_leading(&3) == (want[1] != ServerState::Learner)
-            && state.is_leader(&3) == want[1].is_leader()
-            && state.is_voter(&1)
-            && !state.is_voter(&3),
+    let are_right = [
+        forward.leader_id == to.0,
+        forward.leader_node == to.1,
+        are == want,
+        state.is_leading(&3) == (want[1] != ServerState::Learner),
+        state.is_leader(&3) == want[1].is_leader(),
+        state.is_voter(&1),
+        !state.is_voter(&3),
+    ];
+    Ok(!are_right.contains(&false))
+}
+
+/// Whether a valid state leads so with a vote.
+fn leads_with<K: LeaderKind<u64>>(
+    alloc: Global,
+    vote: VoteOf<u64, K>,
+    to: (Option<u64>, Option<u64>),
+    second: ServerState,
+) -> Result<bool, AllocError> {
+    let mut state = valid_state::<K>(alloc)?;
+    state.vote = UTime::without_utime(vote);
+    leads::<K>(
+        &state,
+        to,
+        [ServerState::Follower, second, ServerState::Learner],
     )
 }
 
 /// Whether requests go to the node that a committed vote is for.
-fn leads_right<K: LeaderKind<u64>>(state: &mut State<K>) -> Result<bool, AllocError> {
-    let (follower, learner) = (ServerState::Follower, ServerState::Learner);
-    let granted = VoteOf::<u64, K>::new_committed(1, 3);
-    let asking = VoteOf::<u64, K>::new(1, 3);
+fn leads_right<K: LeaderKind<u64>>(alloc: Global) -> Result<bool, AllocError> {
+    let (granted, asking) = (
+        VoteOf::<u64, K>::new_committed(1, 3),
+        VoteOf::<u64, K>::new(1, 3),
+    );
     let unknown = VoteOf::<u64, K>::new_committed(1, 9);
-    let leading = [follower, ServerState::Leader, learner];
-    let campaigning = [follower, ServerState::Candidate, learner];
-    let none = ForwardToLeader::empty();
-    let same = none.clone()?;
-    Ok(
-        holds(leads::<K>(state, granted, ForwardToLeader::new(3, 6), leading))
-            && holds(leads::<K>(state, asking, none, campaigning))
-            && holds(leads::<K>(state, unknown, same, [follower, learner, learner])),
-    )
+    let to = (Some(3), Some(6));
+    let are_right = [
+        leads_with::<K>(alloc, granted, to, ServerState::Leader)?,
+        leads_with::<K>(alloc, asking, (None, None), ServerState::Candidate)?,
+        leads_with::<K>(alloc, unknown, (None, None), ServerState::Learner)?,
+    ];
+    Ok(!are_right.contains(&false))
 }
 
 /// Whether a committed vote of term 1 for nobody leads no one.
-fn nobody_leads(state: &mut State<LeaderStd>) -> Result<bool, AllocError> {
+fn nobody_leads(alloc: Global) -> Result<bool, AllocError> {
+    let leader_id = leader_id_std::LeaderId {
+        term: 1,
+        voted_for: None,
+    };
     let vote = VoteIn {
-        leader_id: leader_id_std::LeaderId {
-            term: 1,
-            voted_for: None,
-        },
+        leader_id,
         committed: true,
     };
-    let want = [
-        ServerState::Follower,
-        ServerState::Learner,
-        ServerState::Learner,
-    ];
-    leads::<LeaderStd>(state, vote, ForwardToLeader::empty(), want)
-}
-
-/// Whether a valid state commits, and its log grows and is purged, as it should.
-fn moves<K: LeaderKind<u64>>(alloc: Global) -> Result<bool, AllocError> {
-    let mut state = valid_state::<K>(alloc)?;
-    Ok(holds(commits::<K>(&mut state)) && holds(grows::<K>(alloc, &mut state)))
-}
-
-/// Whether a valid state finds the first entry that is not in its log.
-fn finds<K: LeaderKind<u64>>(alloc: Global) -> Result<bool, AllocError> {
-    Ok(conflicts_right::<K>(alloc, &valid_state::<K>(alloc)?))
-}
-
-/// Whether a valid state leads as it should.
-fn leads_as_voted<K: LeaderKind<u64>>(alloc: Global) -> Result<bool, AllocError> {
-    leads_right::<K>(&mut valid_state::<K>(alloc)?)
-}
-
-/// Whether a whole state validates, reads and moves as it should.
-fn state_right<K: LeaderKind<u64>>(alloc: Global) -> Result<bool, AllocError> {
-    Ok(
-        holds(relations_right::<K>(alloc))
-            && holds(sound_right::<K>(alloc))
-            && holds(reads_right::<K>(alloc))
-            && holds(finds::<K>(alloc))
-            && holds(moves::<K>(alloc))
-            && leads_as_voted::<K>(alloc)?,
-    )
+    leads_with::<LeaderStd>(alloc, vote, (None, None), ServerState::Learner)
 }
 
 /// Example state 3. Keys (1, 1), (3, 4), the valid state; `purged_next` 3; purge point (3, 0),
 /// and (3, 0) committed too, which is valid and not in the log.
-/// Example state 4. Vote (1, 3) committed, voters {1, 2}, nodes 1 => 4, 2 => 5, 3 => 6:
-/// requests are forwarded to node 3 at 6. A standard vote for nobody forwards them to nobody.
 #[test]
-fn a_state_validates_reads_and_moves(rt: HostRuntime) -> Result<(), Fail> {
-    let alloc = rt.alloc();
-    assert!(rt; state_right::<LeaderAdv>(alloc)?);
-    assert!(rt; state_right::<LeaderStd>(alloc)?);
-    assert!(rt; nobody_leads(&mut valid_state::<LeaderStd>(alloc)?)?);
+fn a_state_validates_and_is_sound(rt: HostRuntime) -> Result<(), Fail> {
+    for (ids, want) in RELATIONS {
+        assert!(rt; validates::<LeaderAdv>(rt.alloc(), ids, want)?, "{want:?}");
+        assert!(rt;
+            validates::<LeaderStd>(rt.alloc(), ids, want)?,
+            "{want:?}, by terms"
+        );
+    }
+    for (ids, accepted, want) in SOUND {
+        assert!(rt;
+            is_sound_as::<LeaderAdv>(rt.alloc(), ids, accepted, want)?,
+            "{ids:?}"
+        );
+    }
     Ok(())
 }
 
-/// Whether a follower lacks as many of some entries.
-fn lacks<K: LeaderKind<u64>>(
-    alloc: Global,
-    state: &State<K>,
-    rows: &[(u64, u64)],
-    want: usize,
-) -> Result<bool, AllocError> {
-    let entries = ids_of::<K>(alloc, rows)?;
-    Ok(state.can_ask_all(&entries) && lacking(state, &entries).len() == want)
-}
-
-/// Whether a follower lacks what is past its log, and what another leader has written.
-fn lacks_right<K: LeaderKind<u64>>(alloc: Global, state: &State<K>) -> bool {
-    holds(lacks::<K>(alloc, state, &[(1, 3), (3, 4), (3, 5)], 1))
-        && holds(lacks::<K>(alloc, state, &[(1, 3), (2, 4), (3, 5)], 2))
-        && holds(lacks::<K>(alloc, state, &[(1, 3), (3, 4)], 0))
-}
-
-/// The same, of a valid state.
-fn valid_state_lacks<K: LeaderKind<u64>>(alloc: Global) -> Result<bool, AllocError> {
-    Ok(lacks_right::<K>(alloc, &valid_state::<K>(alloc)?))
+/// Example state 4. Vote (1, 3) committed, voters {1, 2}, nodes 1 => 4, 2 => 5, 3 => 6:
+/// requests are forwarded to node 3 at 6. A standard vote for nobody forwards them to nobody.
+#[test]
+fn a_state_reads_and_moves(rt: HostRuntime) -> Result<(), Fail> {
+    let alloc = rt.alloc();
+    assert!(rt; reads_right::<LeaderAdv>(alloc)? && reads_right::<LeaderStd>(alloc)?);
+    assert!(rt; valid_state_grows::<LeaderAdv>(alloc)? && valid_state_grows::<LeaderStd>(alloc)?);
+    assert!(rt; leads_right::<LeaderAdv>(alloc)? && leads_right::<LeaderStd>(alloc)?);
+    assert!(rt; nobody_leads(alloc)?);
+    Ok(())
 }
 
 #[test]
 fn a_follower_lacks_what_conflicts(rt: HostRuntime) -> Result<(), Fail> {
-    assert!(rt; valid_state_lacks::<LeaderAdv>(rt.alloc())?);
-    assert!(rt; valid_state_lacks::<LeaderStd>(rt.alloc())?);
+    for (entries, want) in ASKED {
+        assert!(rt; has::<LeaderAdv>(rt.alloc(), entries, want)?, "{entries:?}");
+        assert!(rt;
+            has::<LeaderStd>(rt.alloc(), entries, want)?,
+            "{entries:?}, by terms"
+        );
+    }
     Ok(())
 }
 

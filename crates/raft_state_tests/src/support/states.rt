@@ -3,11 +3,14 @@
 use crate::support::memory::both;
 use crate::support::rows::{Row, effective, id, ids as ids_of};
 use raft_base::{LeaderKind, UTime, VoteOf};
-use raft_state::{LogIdListOf, MembershipStateOf, RaftStateOf, is_key_list};
+use raft_state::{LogIdListOf, MembershipStateOf, RaftStateIn, RaftStateOf, is_key_list};
 use std::alloc::{AllocError, Global};
 
 /// A state whose ids, nodes and moments are numbers.
 pub type State<K> = RaftStateOf<u64, u64, u64, K>;
+
+/// Such a state of a leader type in votes and of one in log ids.
+pub type StateIn<L, C> = RaftStateIn<u64, u64, u64, L, C>;
 
 /// `purged_next`, the purge point, what is committed, the snapshot's last log id, and the log ids
 /// of the committed and of the effective membership.
