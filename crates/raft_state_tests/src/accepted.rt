@@ -1,21 +1,21 @@
 //! What a node has accepted of a leader.
 
-use crate::support::rows::id;
 use crate::support::states::State;
 use raft_base::{LeaderAdv, LeaderKind, LeaderStd, LogIdOf, UTime, VoteOf};
-use raft_state::{AcceptedIn, AcceptedOf, VoteStateReader};
+use raft_state::{AcceptedOf, VoteStateReader};
 use std::alloc::{AllocError, Global};
 use std::test::Fail;
 
-/// Whether what was accepted is known of the first one of these leaders alone.
-fn is_of_first<L: Eq + Copy, C: PartialEq + Copy>(
-    accepted: &AcceptedIn<L, C>,
-    leaders: &[L],
-    want: Option<LogIdOf<C>>,
+/// Whether what was accepted is known of the first one of these leaders alone, by their terms and nodes.
+fn is_of_first<K: LeaderKind<u64>>(
+    accepted: &AcceptedOf<u64, K>,
+    leaders: &[(u64, u64)],
+    want: Option<LogIdOf<K::Committed>>,
 ) -> bool {
     let mut want = want;
-    for leader in leaders {
-        if accepted.last_accepted_log_id(leader).copied() != want {
+    for (term, node) in leaders {
+        let leader = K::new_leader(*term, *node);
+        if accepted.last_accepted_log_id(&leader).copied() != want {
             return false;
         }
         want = None;
@@ -34,19 +34,14 @@ fn accept<K: LeaderKind<u64>>(state: &mut State<K>, log_id: Option<LogIdOf<K::Co
 pub fn accepts<K: LeaderKind<u64>>(state: &mut State<K>) -> bool {
     let log_id = Some(LogIdOf::new(K::new_committed(6, 2), 3));
     let leader = K::new_leader(5, 10);
-    let leaders = [
-        leader,
-        K::new_leader(6, 10),
-        K::new_leader(4, 10),
-        K::new_leader(5, 9),
-    ];
+    let leaders = [(5, 10), (6, 10), (4, 10), (5, 9)];
     let unset = state.accepted().is_none() && !state.is_initialized();
     state.vote = UTime::new(7, VoteOf::<u64, K>::new_committed(5, 10));
     accept::<K>(state, log_id);
     let are_right = [
         unset,
         state.accepted == AcceptedOf::<u64, K>::new(leader, log_id),
-        is_of_first(&state.accepted, &leaders, log_id),
+        is_of_first::<K>(&state.accepted, &leaders, log_id),
         state.accepted().copied() == log_id,
         state.is_initialized(),
         state.vote_last_modified() == Some(7),
