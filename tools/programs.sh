@@ -4,9 +4,9 @@
 # Usage: tools/programs.sh [statuses | seeds]
 #
 # `statuses` compares the exit status, the output and the standard error of `raft-state`, also for odd
-# input. `seeds` runs the simulated cluster: 2,000 seeds for each kind of leader ids, each of which must be
-# safe and converge, and the first of them with each planted fault, which some must show. Without a word
-# the tool does both.
+# input. `seeds` runs the simulated cluster: 2,000 seeds and two long runs for each kind of leader ids, each
+# of which must be safe and converge, and 300 seeds with each planted fault, which some must show. Without a
+# word the tool does both.
 set -u -o pipefail
 cd "$(dirname "$0")/.."
 crate=crates/raft_script
@@ -67,25 +67,30 @@ statuses() {
         < <(begin; yes 'increase 1 5')
 }
 
-# Compares a run of the cluster: its status, the least and the greatest number of seeds that fail, and its words.
+# Compares a run of the cluster: whether all clusters have to be healthy or some have to fail, and its words.
 run_seeds() {
-    local due=$1 least=$2 most=$3 said status wrong is=wrong
-    shift 3
-    said=$(timeout 120 crates/cluster/out/cluster "$@" 2>&1)
+    local due=$1 said status is=wrong
+    shift
+    said=$(timeout 120 crates/cluster/out/cluster chart=0 "$@" 2> /dev/null)
     status=$?
-    wrong=$(grep -cE '^seed .*(committed at|not in the log of|unsettled by)' <<< "$said")
-    echo "seeds $*: $wrong failed; $(grep ' settled$' <<< "$said")"
-    [ "$status" = "$due" ] && [ "$wrong" -ge "$least" ] && [ "$wrong" -le "$most" ] && is=right
-    count "seeds $*" $is "status $status, $(tail -n 1 <<< "$said")"
+    echo "seeds $*: $(tail -n 1 <<< "$said")"
+    case "$due $status" in
+        "healthy 0") is=right ;;
+        "failing 1") grep -q '^seed ' <<< "$said" && is=right ;;
+    esac
+    count "seeds $*" $is "status $status, $(tail -n 3 <<< "$said")"
 }
 
 seeds() {
-    local kind fault
-    for kind in "" standard; do
-        run_seeds 0 0 0 1 2000 1500 0 $kind
-        run_seeds 1 1 2000 1 2000 1500 0 $kind count-alone
-        for fault in any-candidate no-joint no-cut no-write; do
-            run_seeds 1 1 300 1 300 1500 0 $kind "$fault"
+    local leaders fault faults is=wrong
+    faults=$(crates/cluster/out/cluster --help | sed -n 's/^ \{6,\}\([A-Z][A-Za-z]*\)$/\1/p')
+    [ "$(wc -w <<< "$faults")" -ge 10 ] && is=right
+    count "faults" $is "there are less than ten: $faults"
+    for leaders in advanced standard; do
+        run_seeds healthy leaders=$leaders seeds=2000 events=1500
+        run_seeds healthy leaders=$leaders seeds=2 events=200000
+        for fault in $faults; do
+            run_seeds failing leaders=$leaders seeds=300 events=1500 "fault=$fault"
         done
     done
 }

@@ -1,75 +1,137 @@
-//! A chart of a cluster, a line at a time, as far as there is memory for it.
+//! The chart of a cluster, a row at a time.
 
 use crate::cluster::Cluster;
-use crate::message::end;
-use crate::server::Role;
-use raft_state_tests::turn::Members;
+use crate::server::{Role, Server};
+use crate::types::{LeaderIds, Members, end};
+use raft_base::LogStateReader;
+use std::alloc::AllocError;
+use std::ops::Range;
 
 /// How many indexes of a log are shown.
-const WIDTH: u64 = 8;
+const WIDTH: u64 = 7;
 
-/// What its signs mean, and the head of its columns.
+/// What the signs mean, and the head of the columns.
 pub const LEGEND: &str = "\
-L leader, C candidate, F follower, l no voter, with the greatest term that it knows of, and its log
-about the last commit: = purged, # committed, + in the log. A * is cut off from those without. Then,
-if one leads, how many entries a quorum has, and its members: voters (/ of two configs), +learners.
-event 1           2           3           4           5          has members | what happened
+A server has a role (L leader, C candidate, F follower, N no voter), a term, and a log: a letter for
+each entry, by the leader that has made it, a dot if it is purged; what is left of | is known to be
+committed. A * is cut off from those without. The last leader's members are voters (& joins two
+configs) and + learners.
+
+event server 1     server 2     server 3     server 4     server 5     members    what happens
 ";
 
-impl<L: Copy + Eq + Drop, C: Ord + Copy + Drop> Cluster<L, C> {
-    /// Draws a line: what each server is and has, what the last leader counts, and what each did last.
-    pub fn draw(&mut self, chart: &mut String) {
+impl<L: LeaderIds> Cluster<L, L::Committed> {
+    /// Draws a row if something of note has happened, or so many events after the last one.
+    pub fn draw_if_due(&self, interval: u64, chart: &mut String) -> Result<(), AllocError> {
+        let is_due = self.news.is_some() || self.tally.events.checked_rem(interval) == Some(0);
+        if interval > 0 && is_due {
+            self.draw(chart)?;
+        }
+        Ok(())
+    }
+
+    /// Draws a row.
+    pub fn draw(&self, chart: &mut String) -> Result<(), AllocError> {
         let first = (self.history.committed.len() as u64).saturating_sub(WIDTH / 2);
-        let _ = write!(chart, "{:>4} ", self.now);
-        for (server, is_cut_off) in self.servers.iter().zip(&self.cut) {
-            let sign = if *is_cut_off { '*' } else { ' ' };
-            let letter = match &server.role {
-                Role::Leader(_) => 'L',
-                Role::Candidate(_) => 'C',
-                Role::Follower if server.members().is_voter(&server.id) => 'F',
-                Role::Follower => 'l',
+        write!(chart, "{:>4} ", self.tally.events)?;
+        for server in &self.servers {
+            let mark = if self.network.is_cut_off(server.id) {
+                '*'
+            } else {
+                ' '
             };
-            let _ = write!(chart, "{sign}{letter}{:<2}", server.term);
-            let (purged, committed) = (server.state.purged_next, end(server.state.committed));
-            show_log(chart, first, [purged, committed, server.end()]);
+            write!(chart, "{mark}{}{:<2} ", letter_of(server), server.term)?;
+            self.draw_log(server, first, chart)?;
         }
-        if let Some(leader) = self.last_leader()
-            && let Some(followers) = leader.followers()
-        {
-            show_members(chart, end(followers.granted()), leader.members());
+        if let Some(leader) = self.last_leader() {
+            draw_members(leader.members(), chart)?;
         }
-        for server in &mut self.servers {
-            let _ = chart.push_str(&server.note);
-            server.note.clear();
+        if let Some(news) = self.news {
+            write!(chart, " {news}")?;
         }
-        let _ = chart.push('\n');
+        chart.push('\n')
+    }
+
+    /// Draws the part of a log that begins at an index, with a bar after what is known to be
+    /// committed.
+    fn draw_log(
+        &self,
+        server: &Server<L, L::Committed>,
+        first: u64,
+        chart: &mut String,
+    ) -> Result<(), AllocError> {
+        let end_of_row = first.saturating_add(WIDTH);
+        let bar = end(server.state.committed).max(first).min(end_of_row);
+        self.draw_entries(server, first..bar, chart)?;
+        chart.push(if server.last().is_some() { '|' } else { ' ' })?;
+        self.draw_entries(server, bar..end_of_row, chart)
+    }
+
+    /// Draws a letter for each index of a log.
+    fn draw_entries(
+        &self,
+        server: &Server<L, L::Committed>,
+        indexes: Range<u64>,
+        chart: &mut String,
+    ) -> Result<(), AllocError> {
+        for index in indexes {
+            chart.push(self.sign_at(server, index))?;
+        }
+        Ok(())
+    }
+
+    /// Returns the sign of an index of a log.
+    fn sign_at(&self, server: &Server<L, L::Committed>, index: u64) -> char {
+        if index < server.state.purged_next {
+            return '.';
+        }
+        match server.state.get_log_id(index) {
+            Some(log_id) => self.letter(log_id.leader_id),
+            None => ' ',
+        }
+    }
+
+    /// Returns the letter of a leader: `a` for the one that has started the cluster, and the next
+    /// letters for those that were elected.
+    fn letter(&self, leader_id: L::Committed) -> char {
+        match self.history.leaders.get(&leader_id) {
+            Some(leader) => char::from(b'b' + (leader.number % 25) as u8),
+            None => 'a',
+        }
     }
 }
 
-/// Shows some indexes of a log, of which the purged, the committed and all end there.
-fn show_log(chart: &mut String, first: u64, [purged, committed, end]: [u64; 3]) {
-    for index in first..first.saturating_add(WIDTH) {
-        let _ = chart.push(match index {
-            _ if index < purged => '=',
-            _ if index < committed => '#',
-            _ if index < end => '+',
-            _ => ' ',
-        });
+/// Returns the letter of a server's role.
+fn letter_of<L: Copy + Eq + Drop, C: Ord + Copy + Drop>(server: &Server<L, C>) -> char {
+    match &server.role {
+        Role::Leader(_) => 'L',
+        Role::Candidate(_) => 'C',
+        Role::Follower if server.members().is_voter(&server.id) => 'F',
+        Role::Follower => 'N',
     }
 }
 
-/// Shows how many entries a quorum has, the voters of each config, and the learners.
-fn show_members(chart: &mut String, granted: u64, members: &Members) {
-    let _ = write!(chart, " {granted:>3}");
+/// Draws the voters of each config, and the learners.
+fn draw_members(members: &Members, chart: &mut String) -> Result<(), AllocError> {
     let mut sign = ' ';
     for config in members.get_joint_config() {
-        let _ = chart.push(sign);
-        sign = '/';
+        chart.push(sign)?;
+        sign = '&';
         for id in config {
-            let _ = write!(chart, "{id}");
+            draw_id(*id, chart)?;
         }
     }
+    let mut sign = Some('+');
     for id in members.learner_ids() {
-        let _ = write!(chart, "+{id}");
+        if let Some(plus) = sign.take() {
+            chart.push(plus)?;
+        }
+        draw_id(id, chart)?;
     }
+    Ok(())
+}
+
+/// Draws a node id.
+fn draw_id(id: u64, chart: &mut String) -> Result<(), AllocError> {
+    write!(chart, "{id}")
 }

@@ -1,156 +1,249 @@
-//! A cluster: its servers, and what happens to them.
+//! A cluster: its servers, its network, and what happens to them.
 
+use crate::deed::News;
+use crate::event::{CALM, Event, TROUBLE, draw};
 use crate::message::Message;
-use crate::safety::History;
-use crate::server::{Fault, Leader, SERVERS, Server};
+use crate::network::Network;
+use crate::options::Options;
+use crate::safety::{History, Violation};
+use crate::server::{SERVERS, Server};
+use crate::steps::Leader;
+use crate::tally::Tally;
+use crate::trace::{Said, Trace};
+use crate::types::{LeaderIds, Members};
+use crate::view::said_by;
 use raft_base::EmptyNode;
 use raft_members::ChangeMembers;
-use raft_state::EntryPayload;
-use raft_state_tests::turn::{Followers, Members};
 use rand::RngExt;
 use rand_pcg::Pcg32;
-use std::alloc::Global;
+use std::alloc::{AllocError, Global};
 use std::collections::{BTreeMap, BTreeSet};
 
-/// Servers, and a network.
+/// How many events a cluster has to converge once its network is mended.
+const TIME_TO_CONVERGE: u64 = 10_000;
+
+/// How many events of a cluster are recorded for the laws of safety.
+const RECORDED: u64 = 4000;
+
+/// Servers and the network between them. `F` is always its default, as for a `Server`.
 #[derive(Drop)]
-pub struct Cluster<L, C: Ord + Copy, F = Followers<C>> {
+pub struct Cluster<L, C: Ord + Copy, F = Leader<C>> {
     pub servers: Vec<Server<L, C, F>>,
-    /// The messages that are on their way.
-    pub messages: Vec<Message<L, C>>,
-    /// Whether each server is cut off from those that aren't.
-    pub cut: [bool; 5],
-    /// What chance decides, the same for each run of a seed.
-    pub dice: Pcg32,
-    /// How many events there were.
-    pub now: u64,
+    pub network: Network<L, C>,
     pub history: History<C>,
+    pub tally: Tally,
+    pub trace: Trace,
+    /// What has happened in this event that is of note.
+    pub news: Option<News>,
+    /// How many ticks there were. The clocks of all servers are equally fast.
+    ticks: u64,
+    random: Pcg32,
 }
 
-impl<L: Leader> Cluster<L, L::Committed> {
-    /// A cluster, which its first server begins with the first three as its members.
-    pub fn new(alloc: Global, seed: u64, fault: Option<Fault>) -> Self {
+impl<L: LeaderIds> Cluster<L, L::Committed> {
+    /// Returns a cluster that its first server starts with the first three servers as its members.
+    pub fn new(alloc: Global, seed: u64, options: &Options) -> Result<Self, Violation> {
         let mut servers = Vec::new(alloc);
         for id in 1..=SERVERS {
-            let _is_there = servers.extend(Server::new(alloc, id, fault).ok()).is_ok();
+            servers.extend(Some(Server::new(alloc, id, seed, options.fault)?))?;
         }
-        if let Some(first) = servers.first_mut()
-            && let Ok(nodes) = (1..=3).map(|id| (id, EmptyNode::new())).collect(alloc)
-            && let Ok(members) = Members::from_nodes(alloc, nodes)
-        {
-            first.propose(EntryPayload::Membership(members));
+        if let Some(first) = servers.first_mut() {
+            let nodes = (1..=3).map(|id| (id, EmptyNode::new())).collect(alloc)?;
+            first
+                .start(Members::from_nodes(alloc, nodes)?)
+                .map_err(|error| Violation::Failure(1, error))?;
         }
-        Cluster {
+        Ok(Cluster {
             servers,
-            messages: Vec::new(alloc),
-            cut: [false; 5],
-            dice: Pcg32::new(seed, 54),
-            now: 0,
+            network: Network::new(alloc),
             history: History::new(alloc),
-        }
+            tally: Tally::default(),
+            trace: Trace::new(alloc, SERVERS)?,
+            news: None,
+            ticks: 0,
+            random: Pcg32::new(seed, 0),
+        })
     }
 
-    /// Lets so many events happen, with a line of its chart every few. Then its network is mended, and
-    /// within 10,000 more it has to settle. Answers whether it was safe and does.
-    pub fn play(&mut self, chart: &mut String, events: u64, every: u64) -> bool {
-        for event in 0..events {
-            if self.history.is_safe && event.checked_rem(every) == Some(0) {
-                self.draw(chart);
+    /// Lets events happen and draws them. Then the network is mended, and the cluster has to
+    /// converge.
+    pub fn run(&mut self, options: &Options, chart: &mut String) -> Result<(), Violation> {
+        if options.chart > 0 {
+            self.draw(chart)?;
+        }
+        for _ in 0..options.events {
+            self.step(&TROUBLE)?;
+            self.draw_if_due(options.chart, chart)?;
+        }
+        self.network.mend();
+        for _ in 0..TIME_TO_CONVERGE {
+            if self.has_converged() {
+                return Ok(());
             }
-            self.step(true);
+            self.step(&CALM)?;
+            self.draw_if_due(options.chart, chart)?;
         }
-        self.cut = [false; 5];
-        for _ in 0..10_000 {
-            self.step(false);
-        }
-        let is_settled = self.is_settled();
-        self.history.require(is_settled, "unsettled by", self.now);
-        if every > 0 {
-            self.draw(chart);
-        }
-        self.history.is_safe
+        Err(Violation::Convergence)
     }
 
-    /// Something happens by chance, while all is safe and, where nothing is asked for, not settled: a
-    /// message comes in or time passes; if it is asked for, a server does more or the network is cut.
-    fn step(&mut self, is_asked: bool) {
-        if self.history.is_safe && (is_asked || !self.is_settled()) {
-            self.now = self.now.saturating_add(1);
-            match self.dice.random_range(0..100) {
-                what @ 56..=96 if is_asked || what <= 80 => self.act(what),
-                97..=99 if is_asked => self.part(),
-                what => self.deliver(is_asked && what % 12 == 0, is_asked && what % 12 == 1),
+    /// Lets something happen.
+    fn step(&mut self, table: &[(Event, u64)]) -> Result<(), Violation> {
+        self.tally.events = self.tally.events.saturating_add(1);
+        self.network.lose_old(self.tally.events);
+        self.news = None;
+        let place = self.random.random_range(0..SERVERS) as usize;
+        match draw(table, &mut self.random) {
+            Event::Deliver => self.deliver(false),
+            Event::Duplicate => self.deliver(true),
+            Event::Lose => {
+                let _ = self.network.take(&mut self.random);
+                Ok(())
+            }
+            Event::Partition => {
+                self.news = Some(self.network.toggle_partition(&mut self.random));
+                Ok(())
+            }
+            Event::Tick => self.tick(),
+            event => self.ask(event, place),
+        }
+    }
+
+    /// A message arrives at a server, whose answer is sent back. The message may arrive again.
+    fn deliver(&mut self, comes_again: bool) -> Result<(), Violation> {
+        let Some(message) = self.network.take(&mut self.random) else {
+            return Ok(());
+        };
+        let (from, to) = (message.from, message.to);
+        let place = to.saturating_sub(1) as usize;
+        let mut said = Said::Nothing;
+        if self.network.reaches(from, to)
+            && let Some(server) = self.servers.get_mut(place)
+        {
+            let answer = server.receive(from, &message.content);
+            let answer = answer.map_err(|error| Violation::Failure(to, error))?;
+            said = said_by(&answer);
+            if let Some(content) = answer {
+                self.network.send(to, from, self.tally.events, content);
             }
         }
+        if comes_again {
+            self.network.send(from, to, message.sent, message.content);
+        }
+        self.check(place, said)
     }
 
-    /// A server does what a number stands for: what is due as time passes (up to 80), what it is asked for
-    /// as the leader, an entry (84) or a change (91), a snapshot (95), or a restart.
-    fn act(&mut self, what: u64) {
-        let place = self.dice.random_range(0..SERVERS) as usize;
+    /// Lets time pass at the server whose turn it is, and sends what it has to say to the others.
+    fn tick(&mut self) -> Result<(), Violation> {
+        self.ticks = self.ticks.saturating_add(1);
+        let place = (self.ticks % SERVERS) as usize;
         if let Some(server) = self.servers.get_mut(place) {
-            let leads = server.leader().is_some();
-            match what {
-                ..=80 if leads => server.end_change(),
-                ..=80 => server.campaign(),
-                81..=84 if leads => server.propose(EntryPayload::Normal(self.now)),
-                85..=91 if leads => {
-                    let change = some_change(server.alloc, &mut self.dice);
-                    server.change(change, self.dice.random());
-                }
-                92..=95 => server.compact(self.dice.random_range(1..5)),
-                96.. => server.restart(),
-                _ => {}
-            }
-            for to in 1..=SERVERS {
-                if what <= 80 && to != server.id {
-                    let next = server.next(to);
-                    let _is_sent = self.messages.extend(server.message(to, next)).is_ok();
+            let speaks = server.tick();
+            if speaks.map_err(|error| Violation::Failure(server.id, error))? {
+                for to in 1..=SERVERS {
+                    if to != server.id
+                        && let Some(content) = server.next(to)
+                    {
+                        self.network.send(server.id, to, self.tally.events, content);
+                    }
                 }
             }
         }
-        self.history.check(&self.servers, place);
+        self.check(place, Said::Nothing)
+    }
+
+    /// A client or an operator asks something of a server. Some things only a leader does.
+    fn ask(&mut self, event: Event, place: usize) -> Result<(), Violation> {
+        let alloc = *self.servers.allocator();
+        if let Some(server) = self.servers.get_mut(place) {
+            let done = match event {
+                Event::Propose => server.propose(self.tally.events),
+                Event::Change => {
+                    let change = some_change(alloc, &mut self.random)?;
+                    server.change(change, self.random.random())
+                }
+                Event::Compact => server.compact(self.random.random_range(1..5)),
+                _ => server.restart(),
+            };
+            done.map_err(|error| Violation::Failure(server.id, error))?;
+        }
+        let has_restarted = event == Event::Restart;
+        self.check(
+            place,
+            if has_restarted {
+                Said::Restarted
+            } else {
+                Said::Nothing
+            },
+        )
+    }
+
+    /// Takes note of what has happened at a server, and checks the cluster.
+    fn check(&mut self, place: usize, said: Said) -> Result<(), Violation> {
+        if let Some(server) = self.servers.get_mut(place)
+            && let Some(deed) = server.deed.take()
+        {
+            self.tally.count(deed);
+            self.news = Some(News::Deed(server.id, deed));
+        }
+        if let Some(server) = self.servers.get(place) {
+            if self.tally.events <= RECORDED {
+                let (number, configs) = server.named_members()?;
+                self.trace.name(number, configs)?;
+                self.trace.record(&server.view()?, said)?;
+            }
+            self.history.check(server, &self.servers)?;
+        }
+        Ok(())
     }
 }
 
 impl<L: Copy + Eq + Drop, C: Ord + Copy + Drop> Cluster<L, C> {
-    /// Whether a leader and all its members have committed its whole log, and no change is half done.
-    fn is_settled(&self) -> bool {
+    /// Whether a leader and all its members have committed its whole log, and no change is half
+    /// done.
+    fn has_converged(&self) -> bool {
         let Some(leader) = self.last_leader() else {
             return false;
         };
         let (members, last) = (leader.members(), leader.last());
-        let mut is_settled = self.servers.len() as u64 == SERVERS
-            && !members.is_in_joint_consensus();
         for server in &self.servers {
-            let is_done = server.last() == last && server.state.committed == last;
-            is_settled &= is_done || !members.contains(&server.id);
+            let has_all = server.last() == last && server.state.committed == last;
+            if members.contains(&server.id) && !has_all {
+                return false;
+            }
         }
-        is_settled
+        !members.is_in_joint_consensus()
     }
 
-    /// The leader that was elected last.
+    /// Returns the leader that was elected last, if one leads.
     pub fn last_leader(&self) -> Option<&Server<L, C>> {
         let mut last = self.servers.first()?;
         for server in &self.servers {
-            if server.leader() > last.leader() {
+            if server.leader_id() > last.leader_id() {
                 last = server;
             }
         }
-        last.leader().is_some().then_some(last)
+        last.leader_id().is_some().then_some(last)
     }
 }
 
-/// A change of members by chance, which the layer may refuse.
-fn some_change(alloc: Global, dice: &mut Pcg32) -> ChangeMembers<u64, EmptyNode> {
-    let (mut ids, mut nodes) = (BTreeSet::new(alloc), BTreeMap::new(alloc));
+/// Returns a random change of members, which the leader may refuse.
+fn some_change(
+    alloc: Global,
+    random: &mut Pcg32,
+) -> Result<ChangeMembers<u64, EmptyNode>, AllocError> {
+    let mut ids = BTreeSet::new(alloc);
+    let mut nodes = BTreeMap::new(alloc);
     for id in 1..=SERVERS {
-        let _is_in = dice.random() && ids.insert(id).is_ok();
-        let _is_in = dice.random() && nodes.insert(id, EmptyNode::new()).is_ok();
+        if random.random() {
+            ids.insert(id)?;
+        }
+        if random.random() {
+            nodes.insert(id, EmptyNode::new())?;
+        }
     }
-    match dice.random_range(0..5) {
-        0..=1 => ChangeMembers::AddNodes(nodes),
+    Ok(match random.random_range(0..5u64) {
+        0 | 1 => ChangeMembers::AddNodes(nodes),
         2 => ChangeMembers::RemoveNodes(ids),
         _ => ChangeMembers::ReplaceAllVoters(ids),
-    }
+    })
 }

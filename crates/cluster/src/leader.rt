@@ -1,153 +1,147 @@
-//! What a candidate and a leader do.
+//! What a leader does: it sends to its followers, takes their responses, commits, and changes
+//! members.
 
-use crate::message::{Content, Sent, end};
-use crate::server::{Fault, Leader, Role, Server, TIMEOUT};
-use raft_base::{EmptyNode, LogIdOf, LogIdRangeOf, VoteIn};
+use crate::deed::Deed;
+use crate::fault::Fault;
+use crate::message::Content;
+use crate::server::{Role, Server};
+use crate::steps::{AppendEntries, InstallSnapshot, Outcome, Response, StepError};
+use crate::types::{Entry, LeaderIds, end};
+use raft_base::{EmptyNode, LogIdRangeOf};
 use raft_members::ChangeMembers;
-use raft_progress::{InflightOf, Progress, Tracked};
-use raft_state::EntryPayload;
-use raft_state_tests::turn::{Entry, Followers, Logs, Response};
-use std::collections::BTreeSet;
+use raft_progress::InflightOf;
 
-impl<L: Copy + Eq + Drop, C: Ord + Copy + Drop> Server<L, C> {
-    /// Whether it is a voter, or was one before a change that may need its log to be committed.
-    pub fn may_lead(&self) -> bool {
-        let memberships = &self.state.membership_state;
-        memberships.is_voter(&self.id) || memberships.committed().is_voter(&self.id)
-    }
+/// How many entries are sent at once.
+const MAX_ENTRIES: u64 = 4;
 
-    /// Counts what it has itself, and commits what a quorum has, as the leader.
-    pub fn commit(&mut self) {
+impl<L: LeaderIds> Server<L, L::Committed> {
+    /// Returns what the leader sends next to a follower: entries, a snapshot, or a heartbeat if
+    /// there is nothing to send or something is in flight. Without memory it sends nothing.
+    pub fn next_request(&mut self, to: u64) -> Option<Content<L, L::Committed>> {
         let last = self.last();
-        if let Role::Leader(followers) = &mut self.role {
-            followers.set_own(self.id, last);
-            self.is_well &= followers.commit(&mut self.state).is_ok();
-            let granted = followers.granted();
-            if self.fault == Some(Fault::CountAlone) {
-                self.commit_to(granted);
-            }
-        }
-    }
-
-    /// Takes a response, as the leader. After one to a heartbeat what is in flight is taken as lost.
-    pub fn take_response(&mut self, from: u64, response: &Response<C>) {
-        if let Role::Leader(followers) = &mut self.role {
-            let _taken = followers.take_response(from, response);
-            if response.request.is_none() {
-                followers.give_up(from);
-            }
-            self.commit();
-        }
-    }
-
-    /// What it sends to another server next, if there is memory: as it begins a candidate asks for a vote;
-    /// a leader sends logs, a snapshot or, where nothing comes next or one is in flight, a heartbeat.
-    pub fn next(&mut self, to: u64) -> Option<Content<C>> {
-        let last = self.last();
-        if matches!(self.role, Role::Candidate(_)) {
-            let is_asked = self.waits == TIMEOUT && self.members().is_voter(&to);
-            return is_asked.then_some(Content::AskVote(last));
-        }
-        let Role::Leader(followers) = &mut self.role else {
+        let Role::Leader(leader) = &mut self.role else {
             return None;
         };
-        followers.get(to)?;
-        let (request, range) = match followers.next_request(&self.state, to) {
-            Some(InflightOf::Logs { id, log_id_range }) => (Some(id), log_id_range),
-            Some(InflightOf::Snapshot { id, .. }) => {
-                let snapshot = self.state.snapshot_meta.try_clone().ok()?;
-                return Some(Content::Append(Some(id), Sent::Snapshot(snapshot)));
-            }
-            _ => (None, LogIdRangeOf::new(last, last)),
-        };
+        match leader.next_request(&self.state, &to, MAX_ENTRIES)? {
+            InflightOf::Logs { id, log_id_range } => self.entries(Some(id), log_id_range),
+            InflightOf::Snapshot { id, .. } => self.snapshot(id),
+            InflightOf::None => self.entries(None, LogIdRangeOf::new(last, last)),
+        }
+    }
+
+    /// Returns a request to append the entries of a range.
+    fn entries(
+        &self,
+        request: Option<u64>,
+        range: LogIdRangeOf<L::Committed>,
+    ) -> Option<Content<L, L::Committed>> {
         let places = self.place(end(range.prev))..self.place(end(range.last));
-        let entries = self.disk.entries.get(places)?.to_vec(self.alloc).ok()?;
-        let logs = Logs::new(range.prev, entries, self.state.committed);
-        Some(Content::Append(request, Sent::Logs(logs)))
+        Some(Content::Append(AppendEntries {
+            leader_id: self.vote().leader_id,
+            request,
+            prev: range.prev,
+            entries: self.disk.get(places)?.to_vec(*self.disk.allocator()).ok()?,
+            committed: self.state.committed,
+        }))
     }
-}
 
-impl<L: Leader> Server<L, L::Committed> {
-    /// Votes for itself, if it may lead, waits no longer, and there is memory to count votes.
-    pub fn campaign(&mut self) {
-        self.waits = self.waits.saturating_sub(1);
-        if self.waits == 0
-            && self.may_lead()
-            && let Ok(members) = self.members().try_clone()
-            && let Ok(ballot) = Tracked::new(members, false)
-        {
-            self.term = self.term.saturating_add(1);
-            let _promised = self.promise(VoteIn::new(self.term, self.id));
-            self.set_role(Role::Candidate(ballot));
-            self.count_vote(self.id, true);
+    /// Returns a request to install the leader's snapshot.
+    fn snapshot(&self, request: u64) -> Option<Content<L, L::Committed>> {
+        Some(Content::Install(InstallSnapshot {
+            leader_id: self.vote().leader_id,
+            request,
+            meta: self.state.snapshot_meta.try_clone().ok()?,
+        }))
+    }
+
+    /// Takes the response of a follower, if it answers a request of this leader.
+    pub fn take_response(
+        &mut self,
+        from: u64,
+        leader_id: &L,
+        response: &Response<L, L::Committed>,
+    ) -> Result<(), StepError> {
+        if let Outcome::HigherVote(vote) = response.outcome {
+            self.hear_of(vote);
         }
+        if *leader_id != self.vote().leader_id {
+            return Ok(());
+        }
+        if let Role::Leader(leader) = &mut self.role {
+            // A response that is late or comes twice is refused, and changes nothing.
+            let _ = leader.handle_response(&from, response);
+            // A heartbeat is answered after the request that was sent before it, or that one is
+            // lost.
+            if response.request.is_none() {
+                leader.give_up(&from);
+            }
+            self.commit()?;
+        }
+        Ok(())
     }
 
-    /// Counts whether one has voted for it as a candidate, and leads once a quorum has.
-    pub fn count_vote(&mut self, from: u64, is_voted: bool) {
-        if let Role::Candidate(ballot) = &mut self.role {
-            let _granted = ballot.update(&from, is_voted);
-            if *ballot.progress().granted() {
-                self.lead();
+    /// Appends an entry with a command, if the server leads.
+    pub fn propose(&mut self, command: u64) -> Result<(), StepError> {
+        if let Role::Leader(leader) = &mut self.role {
+            let entries = leader.propose(&mut self.state, command)?;
+            self.write_own(&entries)?;
+        }
+        Ok(())
+    }
+
+    /// Writes entries of the leader's own to disk, and counts the leader among those that have them.
+    pub fn write_own(&mut self, entries: &[Entry<L::Committed>]) -> Result<(), StepError> {
+        self.write(entries)?;
+        let last = self.last();
+        if let Role::Leader(leader) = &mut self.role {
+            leader.handle_flushed(last);
+        }
+        self.commit()
+    }
+
+    /// Commits what a quorum has, if the server leads.
+    fn commit(&mut self) -> Result<(), StepError> {
+        if let Role::Leader(leader) = &self.role {
+            leader.commit(&mut self.state)?;
+            let granted = leader.granted();
+            if self.fault == Some(Fault::CommitEarlierTerm) && self.state.can_commit(&granted) {
+                self.state.update_committed(&granted)?;
             }
         }
+        Ok(())
     }
 
-    /// Leads, and begins with a blank entry, if there is memory to know its followers by.
-    pub fn lead(&mut self) {
-        let (leader, end) = (L::to_committed(&self.vote().leader_id), self.end());
-        if let Ok(members) = self.members().try_clone()
-            && let Ok(followers) = Followers::new(leader, members, end)
+    /// Proposes a change of members, if the server leads and the change is allowed now.
+    pub fn change(
+        &mut self,
+        change: ChangeMembers<u64, EmptyNode>,
+        retain: bool,
+    ) -> Result<(), StepError> {
+        if self.changes_wrongly() {
+            return self.change_wrongly(change, retain);
+        }
+        if let Role::Leader(leader) = &mut self.role
+            && let Ok(entries) = leader.propose_change(&mut self.state, change, retain)
         {
-            self.state.vote.get_mut().commit();
-            self.set_role(Role::Leader(followers));
-            self.note("elected");
-            self.propose(EntryPayload::Blank);
+            self.deed = Some(Deed::Changes);
+            self.write_own(&entries)?;
         }
+        Ok(())
     }
 
-    /// Appends an entry, as the leader. The first one of a cluster is of term 0, which has no leader.
-    pub fn propose(&mut self, payload: EntryPayload<u64, EmptyNode, u64>) {
-        let leader = L::to_committed(&self.vote().leader_id);
-        let log_id = LogIdOf::new(leader, self.end());
-        let (place, disk) = (self.disk.entries.len(), &mut self.disk.entries);
-        self.is_well &= disk.extend(Some(Entry { log_id, payload })).is_ok();
-        let (_, new) = disk.split_at(place.min(disk.len()));
-        self.is_well &= self.state.can_append_entries(new)
-            && self.state.append_entries(new).is_ok();
-        if self.state.can_accept() {
-            self.state.update_accepted(Some(log_id));
+    /// Goes on from a joint membership to its last config, in which those who leave are learners. A
+    /// leader that is no voter any more retires.
+    pub fn end_change(&mut self) -> Result<(), StepError> {
+        let Role::Leader(leader) = &mut self.role else {
+            return Ok(());
+        };
+        if leader.is_removed(&self.state) {
+            self.follow();
+            self.deed = Some(Deed::Retires);
+        } else if let Ok(entries) = leader.leave_joint(&mut self.state, true) {
+            self.deed = Some(Deed::Changes);
+            self.write_own(&entries)?;
         }
-        self.commit();
-    }
-
-    /// Proposes a change of the members, as the leader, and counts by them, unless that is refused.
-    pub fn change(&mut self, change: ChangeMembers<u64, EmptyNode>, retain: bool) {
-        let (end, handler) = (self.end(), self.state.membership_state.change_handler());
-        let mut members = handler.apply(change, retain).ok();
-        if self.fault == Some(Fault::NoJoint)
-            && let Some(joint) = members
-        {
-            let to_last = ChangeMembers::AddVoterIds(BTreeSet::new(self.alloc));
-            members = joint.change(to_last, true).ok();
-        }
-        if let Some(members) = members
-            && let Ok(counted) = members.try_clone()
-            && let Role::Leader(followers) = &mut self.role
-            && followers.change_to(counted, end).is_ok()
-        {
-            self.note("changes");
-            self.propose(EntryPayload::Membership(members));
-        }
-    }
-
-    /// Goes on from a joint membership to its last config, in which those who leave are learners, or
-    /// leads no longer once it is no voter any more.
-    pub fn end_change(&mut self) {
-        if self.members().is_in_joint_consensus() {
-            self.change(ChangeMembers::AddVoterIds(BTreeSet::new(self.alloc)), true);
-        } else if !self.may_lead() {
-            self.set_role(Role::Follower);
-        }
+        Ok(())
     }
 }

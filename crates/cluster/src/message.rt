@@ -1,41 +1,31 @@
-//! What servers send each other.
+//! What servers send to one another.
 
-use raft_base::{LogIdOf, VoteIn};
-use raft_state_tests::turn::{Logs, Response, Snapshot};
+use crate::steps::{AppendEntries, InstallSnapshot, Response, VoteRequest, VoteResponse};
 
-/// A message on its way, with its sender's vote.
+/// A message on its way.
 #[derive(Drop)]
 pub struct Message<L, C> {
+    /// The server that has sent it.
     pub from: u64,
+    /// The server to which it is sent.
     pub to: u64,
-    pub vote: VoteIn<L>,
-    pub content: Content<C>,
+    /// How many events had happened when it was sent.
+    pub sent: u64,
+    /// What it says.
+    pub content: Content<L, C>,
 }
 
 /// What a message says.
 #[derive(Drop)]
-pub enum Content<C> {
-    /// A candidate with this last log id asks for a vote.
-    AskVote(Option<LogIdOf<C>>),
-    /// A voter answers whether it has voted for the candidate.
-    Voted(bool),
-    /// A leader sends what comes next, or with no request's number a heartbeat.
-    Append(Option<u64>, Sent<C>),
-    /// A follower responds to that.
-    Responded(Response<C>),
-}
-
-/// What a leader sends.
-#[derive(Drop)]
-pub enum Sent<C> {
-    Logs(Logs<C>),
-    Snapshot(Snapshot<C>),
-}
-
-/// The index after a log id: 0 after none, and the greatest one where there is none after it.
-pub fn end<C: Copy>(last: Option<LogIdOf<C>>) -> u64 {
-    match last {
-        Some(log_id) => log_id.index.saturating_add(1),
-        None => 0,
-    }
+pub enum Content<L, C> {
+    /// A candidate asks for a vote.
+    AskVote(VoteRequest<L, C>),
+    /// A voter answers a candidate.
+    Vote(VoteResponse<L>),
+    /// A leader sends entries, or a heartbeat.
+    Append(AppendEntries<L, C>),
+    /// A leader sends a snapshot.
+    Install(InstallSnapshot<L, C>),
+    /// A follower answers a request of this leader.
+    Respond(L, Response<L, C>),
 }

@@ -1,118 +1,207 @@
-//! What Raft promises of a whole cluster, checked at each event.
+//! What Raft promises of a cluster, checked after each event.
 
-use crate::message::end;
-use crate::server::Server;
-use raft_base::{LogIdOf, LogStateReader, Validate};
-use std::alloc::Global;
+use crate::server::{Role, Server};
+use crate::steps::StepError;
+use crate::types::end;
+use raft_base::{LogIdOf, LogStateReader};
+use std::alloc::{AllocError, Global};
 use std::collections::BTreeMap;
+use thiserror::Error;
 
-/// Who has led, what was committed, and what is wrong.
+/// What is wrong with a cluster.
+#[derive(Debug, Clone, Copy, PartialEq, Eq, Error)]
+pub enum Violation {
+    /// Two servers have led with one leader id. In standard Raft that is one term.
+    #[error("election safety: servers {0} and {1} lead with one leader id")]
+    ElectionSafety(u64, u64),
+    /// A leader's log does not have what it had before.
+    #[error("leader append-only: leader {0} has changed its log")]
+    LeaderAppendOnly(u64),
+    /// Two logs have one log id in common, and differ at an index before it.
+    #[error("log matching: servers {0} and {1} differ at index {2} and agree after it")]
+    LogMatching(u64, u64, u64),
+    /// A leader does not have an entry that an earlier leader has committed.
+    #[error("leader completeness: leader {0} lacks the committed entry {1}")]
+    LeaderCompleteness(u64, u64),
+    /// Two servers have committed different entries at one index.
+    #[error("state machine safety: server {0} has committed another entry {1}")]
+    StateMachineSafety(u64, u64),
+    /// The state of a server is one on which no engine may build.
+    #[error("the state of server {0} is not sound")]
+    Soundness(u64),
+    /// The disk of a server has other entries than its log.
+    #[error("the disk of server {0} differs from its log")]
+    Disk(u64),
+    /// A server could not do what an honest message asks.
+    #[error("server {0} fails: {1}")]
+    Failure(u64, StepError),
+    /// The cluster was left alone, and not all servers have all entries.
+    #[error("it does not converge")]
+    Convergence,
+    /// An allocation failed.
+    #[error("out of memory")]
+    OutOfMemory,
+}
+
+impl From<AllocError> for Violation {
+    fn from(_refused: AllocError) -> Self {
+        Violation::OutOfMemory
+    }
+}
+
+/// A leader that was elected.
+#[derive(Clone, Copy)]
+pub struct Leadership<C> {
+    /// The server.
+    pub server: u64,
+    /// How many were elected before.
+    pub number: usize,
+    /// The last log id of the server when it was last seen to lead.
+    last: Option<LogIdOf<C>>,
+}
+
+/// An entry that was committed.
+#[derive(Clone, Copy)]
+pub struct CommittedEntry<C> {
+    /// Its log id.
+    pub log_id: LogIdOf<C>,
+    /// The committed leader id of the leader that was the first to commit it.
+    pub by: C,
+}
+
+/// Who has led, and what was committed.
 #[derive(Drop)]
 pub struct History<C: Ord> {
-    /// The server of each leader id that has led.
-    leaders: BTreeMap<C, u64>,
-    /// The log id of each committed entry, and the leader that was the first to commit it.
-    pub committed: Vec<(LogIdOf<C>, C)>,
-    /// Whether nothing was found to be wrong.
-    pub is_safe: bool,
-    /// The first that was, and at which server or index, or after how many events.
-    pub flaw: String,
+    /// Each leader that was elected.
+    pub leaders: BTreeMap<C, Leadership<C>>,
+    /// Each entry that was committed, by its index.
+    pub committed: Vec<CommittedEntry<C>>,
 }
 
 impl<C: Ord + Copy + Drop> History<C> {
-    /// Nothing has happened.
+    /// Returns a history in which nothing has happened.
     pub fn new(alloc: Global) -> Self {
         History {
             leaders: BTreeMap::new(alloc),
             committed: Vec::new(alloc),
-            is_safe: true,
-            flaw: String::new(alloc),
         }
     }
 
-    /// Checks whether all is well after something at a server.
-    pub fn check<L: Copy + Eq + Drop>(&mut self, servers: &[Server<L, C>], place: usize) {
-        if let Some(server) = servers.get(place) {
-            self.check_alone(server);
-            self.check_committed(server);
-            for other in servers {
-                self.check_match(server, other);
-                self.check_leader(other, servers);
-            }
+    /// Checks all that Raft promises, after something has happened at one server.
+    pub fn check<L: Copy + Eq + Drop>(
+        &mut self,
+        server: &Server<L, C>,
+        all: &[Server<L, C>],
+    ) -> Result<(), Violation> {
+        check_alone(server)?;
+        self.check_committed(server)?;
+        for other in all {
+            check_log_matching(server, other)?;
         }
-    }
-
-    /// Notes what is wrong, unless all is well, or something was wrong before.
-    pub fn require(&mut self, is_well: bool, flaw: &str, at: u64) {
-        if self.is_safe && !is_well {
-            self.is_safe = false;
-            let _is_noted = write!(self.flaw, "{flaw} {at}");
+        if let Role::Leader(leader) = &server.role {
+            self.check_leader(server, leader.leader_id())?;
+            self.check_completeness(server, leader.leader_id())?;
         }
+        Ok(())
     }
 
-    /// A server by itself has to have done what it had to do, and to be in order.
-    fn check_alone<L: Copy + Eq + Drop>(&mut self, server: &Server<L, C>) {
-        let (state, id) = (&server.state, server.id);
-        let is_logged = state.purge_upto_is_logged() && state.committed_is_logged();
-        let is_as_long = server.disk.entries.len() == server.place(server.end());
-        self.require(server.is_well, "a step failed at", id);
-        self.require(state.validate().is_ok(), "no valid state of", id);
-        self.require(is_logged, "a purge point or a commit is lost at", id);
-        self.require(is_as_long, "another log is on the disk of", id);
-    }
-
-    /// Two servers have to have the same entries, on their disks, up to the last log id that both have.
-    fn check_match<L: Copy + Eq + Drop>(&mut self, one: &Server<L, C>, other: &Server<L, C>) {
-        let mut is_shared = false;
-        let first = one.state.purged_next.max(other.state.purged_next);
-        for index in (first..one.end().min(other.end())).rev() {
-            is_shared |= one.state.get_log_id(index) == other.state.get_log_id(index);
-            let (entry, same) = (one.entry(index), other.entry(index));
-            let is_well = !is_shared || (entry.is_some() && entry == same);
-            self.require(is_well, "logs do not match at", index);
-        }
-    }
-
-    /// What a server knows to be committed has to be in its log, and to be what others know. A leader
-    /// is the first to know it. There has to be memory to note it.
-    fn check_committed<L: Copy + Eq + Drop>(&mut self, server: &Server<L, C>) {
+    /// **State machine safety**: what a server knows to be committed is in its log, and is what
+    /// others have committed at that index. A leader is the first to know it.
+    fn check_committed<L: Copy + Eq + Drop>(
+        &mut self,
+        server: &Server<L, C>,
+    ) -> Result<(), Violation> {
         let state = &server.state;
         for index in state.purged_next.saturating_sub(1)..end(state.committed) {
-            let log_id = state.get_log_id(index);
-            let known = self.committed.get(index as usize);
-            let is_well = match (known, log_id, server.leader()) {
-                (Some((known, _)), _, _) => log_id == Some(*known),
-                (None, Some(log_id), Some(by)) => self.committed.push((log_id, by)).is_ok(),
-                _ => false,
-            };
-            self.require(is_well, "another entry was committed at", index);
-        }
-    }
-
-    /// A leader is the only one of its id, its last entry is its own, and it has all that was committed by
-    /// leaders up to it. Those that have promised its vote have what it knows to match.
-    fn check_leader<L: Copy + Eq + Drop>(&mut self, leader: &Server<L, C>, all: &[Server<L, C>]) {
-        let Some(followers) = leader.followers() else {
-            return;
-        };
-        let (id, own) = (leader.id, followers.leader);
-        let before = self.leaders.insert(own, id);
-        let is_only = matches!(before, Ok(led) if led.unwrap_or(id) == id);
-        self.require(is_only, "there were two of one leader id:", id);
-        let is_own = matches!(leader.last(), Some(last) if last.leader_id == own);
-        self.require(is_own, "another leader's entry is the last of", id);
-        let mut has_all = true;
-        for (log_id, by) in &self.committed {
-            has_all &= own < *by || leader.has(*log_id);
-        }
-        self.require(has_all, "a commit is not in the log of leader", id);
-        for server in all {
-            if let Some(follower) = followers.get(server.id)
-                && let Some(known) = follower.matching
-                && leader.vote().leader_id == server.vote().leader_id
-            {
-                self.require(server.has(known), "a match is not in the log of", server.id);
+            let violation = Violation::StateMachineSafety(server.id, index);
+            let log_id = state.get_log_id(index).ok_or(violation)?;
+            match self.committed.get(index as usize) {
+                Some(known) if known.log_id == log_id => {}
+                Some(_) => return Err(violation),
+                None => {
+                    let by = server.leader_id().ok_or(violation)?;
+                    self.committed.extend(Some(CommittedEntry { log_id, by }))?;
+                }
             }
         }
+        Ok(())
     }
+
+    /// **Election safety**: no other server leads with the leader id, and **leader append-only**: a
+    /// leader's log has all that it had before.
+    fn check_leader<L: Copy + Eq + Drop>(
+        &mut self,
+        server: &Server<L, C>,
+        leader_id: C,
+    ) -> Result<(), Violation> {
+        let last = server.last();
+        let Some(before) = self.leaders.get_mut(&leader_id) else {
+            let number = self.leaders.len();
+            let leadership = Leadership {
+                server: server.id,
+                number,
+                last,
+            };
+            if self.leaders.insert(leader_id, leadership).is_err() {
+                return Err(Violation::OutOfMemory);
+            }
+            return Ok(());
+        };
+        if before.server != server.id {
+            return Err(Violation::ElectionSafety(before.server, server.id));
+        }
+        match before.last {
+            Some(last) if !server.has(last) => return Err(Violation::LeaderAppendOnly(server.id)),
+            _ => before.last = last,
+        }
+        Ok(())
+    }
+
+    /// **Leader completeness**: a leader has each entry that an earlier leader has committed.
+    fn check_completeness<L: Copy + Eq + Drop>(
+        &self,
+        server: &Server<L, C>,
+        leader_id: C,
+    ) -> Result<(), Violation> {
+        for entry in self
+            .committed
+            .iter()
+            .skip(server.state.purged_next as usize)
+        {
+            if entry.by <= leader_id && !server.has(entry.log_id) {
+                return Err(Violation::LeaderCompleteness(server.id, entry.log_id.index));
+            }
+        }
+        Ok(())
+    }
+}
+
+/// A server's state is sound, and its disk has the entries of its log.
+fn check_alone<L: Copy + Eq + Drop, C: Ord + Copy + Drop>(
+    server: &Server<L, C>,
+) -> Result<(), Violation> {
+    if !server.state.is_sound() {
+        return Err(Violation::Soundness(server.id));
+    }
+    if server.disk.len() != server.place(end(server.last())) {
+        return Err(Violation::Disk(server.id));
+    }
+    Ok(())
+}
+
+/// **Log matching**: two logs are equal up to the last log id that both have.
+fn check_log_matching<L: Copy + Eq + Drop, C: Ord + Copy + Drop>(
+    one: &Server<L, C>,
+    other: &Server<L, C>,
+) -> Result<(), Violation> {
+    let first = one.state.purged_next.max(other.state.purged_next);
+    let mut do_match = false;
+    for index in (first..end(one.last()).min(end(other.last()))).rev() {
+        do_match |= one.state.get_log_id(index) == other.state.get_log_id(index);
+        let entry = one.entry(index);
+        if do_match && (entry.is_none() || entry != other.entry(index)) {
+            return Err(Violation::LogMatching(one.id, other.id, index));
+        }
+    }
+    Ok(())
 }

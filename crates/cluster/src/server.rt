@@ -1,174 +1,182 @@
-//! A server: its state and its disk, what it does and may do wrong, and the messages that it takes.
+//! A server: its state, its disk and its role, and what it does with a message.
 
-use crate::message::{Content, Message, end};
-use raft_base::{EmptyNode, LeaderIdentity, LogIdOf, LogStateReader, VoteIn, log_id_below};
-use raft_progress::Tracked;
-use raft_state_tests::turn::{Followers, Logs, Members, Response, State};
+use crate::deed::Deed;
+use crate::fault::Fault;
+use crate::message::Content;
+use crate::steps::{Candidate, Leader, StepError, start_cluster};
+use crate::types::{Entry, LeaderIds, Members, State};
+use raft_base::{LogIdOf, LogStateReader, VoteIn};
+use rand::RngExt;
+use rand_pcg::Pcg32;
 use std::alloc::{AllocError, Global};
-use std::fmt::Debug;
 use std::mem;
 
 /// How many servers there are. The first three are the first voters.
 pub const SERVERS: u64 = 5;
 
-/// For how many of its turns a server waits for a leader.
-pub const TIMEOUT: u64 = 4;
-
-/// The leader id of a vote, and what log ids keep of it.
-pub trait Leader: LeaderIdentity<Id = u64, Committed: Debug> + Drop {}
-
-impl<L: LeaderIdentity<Id = u64, Committed: Debug> + Drop> Leader for L {}
-
-/// What a server does: it follows, asks for votes and counts them, or leads and knows its followers.
+/// What a server does.
 #[derive(Drop)]
-pub enum Role<F> {
+pub enum Role<L, C, F> {
+    /// It waits for entries of a leader.
     Follower,
-    Candidate(Tracked<u64, EmptyNode, bool, bool>),
+    /// It counts the votes for it.
+    Candidate(Candidate<L, C>),
+    /// It leads, and knows how far its followers are.
     Leader(F),
 }
 
-/// What all servers do wrong.
-#[derive(Clone, Copy, PartialEq, Eq)]
-pub enum Fault {
-    /// A leader commits what a quorum has, also if it is all of earlier leaders.
-    CountAlone,
-    /// A voter votes for a candidate whose log is behind its own.
-    AnyCandidate,
-    /// A change goes to the new config without the joint one.
-    NoJoint,
-    /// A follower acks entries that conflict with its own and go no further, and keeps its own.
-    NoCut,
-    /// A follower acks some entries that it has not written.
-    NoWrite,
-}
-
-/// A server. `L` is the leader id of a vote, `C` what log ids keep of it, and `F` always its default.
+/// A server. `F` is always its default: a struct that names `Leader<C>` in a field has to repeat
+/// the bounds of `Leader`.
 #[derive(Drop)]
-pub struct Server<L, C: Ord + Copy, F = Followers<C>> {
-    pub alloc: Global,
+pub struct Server<L, C: Ord + Copy, F = Leader<C>> {
     pub id: u64,
-    /// What it does wrong, where that is planted.
+    /// What it does wrong.
     pub fault: Option<Fault>,
-    pub role: Role<F>,
-    /// For how many more of its turns it waits for a leader.
-    pub waits: u64,
-    /// The greatest term that it has heard of, its vote's at least, and on disk as that is.
+    pub role: Role<L, C, F>,
+    /// For how many more ticks it waits for a leader before it campaigns.
+    pub patience: u64,
+    /// The greatest term that it has heard of. Like its vote it is on disk.
     pub term: u64,
     pub state: State<L, C>,
-    /// The entries of its log that are not purged, on its disk, as logs after no log id.
-    pub disk: Logs<C>,
-    /// What it has done last, for the chart.
-    pub note: String,
-    /// Whether all that it had to do could be done.
-    pub is_well: bool,
+    /// The entries of its log that are not purged, as they are on its disk.
+    pub disk: Vec<Entry<C>>,
+    /// What it has done in this event.
+    pub deed: Option<Deed>,
+    random: Pcg32,
 }
 
 impl<L: Copy + Eq + Drop, C: Ord + Copy + Drop> Server<L, C> {
-    /// The vote that it has promised.
+    /// Returns the vote that the server has promised.
     pub fn vote(&self) -> VoteIn<L> {
         *self.state.vote_ref()
     }
 
-    /// Its last log id.
+    /// Returns the last log id of its log.
     pub fn last(&self) -> Option<LogIdOf<C>> {
         self.state.last_log_id().copied()
     }
 
-    /// The index after its last log id.
-    pub fn end(&self) -> u64 {
-        end(self.last())
-    }
-
-    /// The effective members.
+    /// Returns the effective membership: the last one of its log, committed or not.
     pub fn members(&self) -> &Members {
         self.state.membership_state.effective().membership()
     }
 
-    /// What it knows of its followers, if it leads.
-    pub fn followers(&self) -> Option<&Followers<C>> {
+    /// Returns its committed leader id, if it leads.
+    pub fn leader_id(&self) -> Option<C> {
         match &self.role {
-            Role::Leader(followers) => Some(followers),
+            Role::Leader(leader) => Some(leader.leader_id()),
             _ => None,
         }
     }
 
-    /// What log ids keep of its leader id, if it leads.
-    pub fn leader(&self) -> Option<C> {
-        Some(self.followers()?.leader)
+    /// Whether its log has a log id, or the index of the log id is purged.
+    pub fn has(&self, log_id: LogIdOf<C>) -> bool {
+        log_id.index < self.state.purged_next || self.state.get_log_id(log_id.index) == Some(log_id)
     }
 
-    /// Takes another role.
-    pub fn set_role(&mut self, role: Role<Followers<C>>) {
-        drop(mem::replace(&mut self.role, role));
+    /// Whether the server may campaign and lead: it is a voter, or it was one before a change that
+    /// is not committed, and its log may be needed to commit the change.
+    pub fn may_lead(&self) -> bool {
+        let memberships = &self.state.membership_state;
+        memberships.is_voter(&self.id) || memberships.committed().is_voter(&self.id)
     }
 
-    /// Notes what it has done.
-    pub fn note(&mut self, what: &str) {
-        self.note.clear();
-        let _is_noted = write!(self.note, " | {} {what}", self.id).is_ok();
-    }
-
-    /// A message to another server, if there is something to say.
-    pub fn message(&self, to: u64, content: Option<Content<C>>) -> Option<Message<L, C>> {
-        Some(Message {
-            from: self.id,
-            to,
-            vote: self.vote(),
-            content: content?,
-        })
+    /// Becomes a follower, and waits anew for a leader.
+    pub fn follow(&mut self) {
+        drop(mem::replace(&mut self.role, Role::Follower));
+        self.patience = self.random.random_range(3..6u64);
     }
 }
 
-impl<L: Leader> Server<L, L::Committed> {
-    /// A new server, which knows of no members.
-    pub fn new(alloc: Global, id: u64, fault: Option<Fault>) -> Result<Self, AllocError> {
+impl<L: LeaderIds> Server<L, L::Committed> {
+    /// Returns a server that knows of no members.
+    pub fn new(
+        alloc: Global,
+        id: u64,
+        seed: u64,
+        fault: Option<Fault>,
+    ) -> Result<Self, AllocError> {
         Ok(Server {
-            alloc,
             id,
             fault,
             role: Role::Follower,
-            waits: 0,
+            patience: id,
             term: 0,
             state: State::try_default(alloc)?,
-            disk: Logs::new(None, Vec::new(alloc), None),
-            note: String::new(alloc),
-            is_well: true,
+            disk: Vec::new(alloc),
+            deed: None,
+            random: Pcg32::new(seed, id),
         })
     }
 
-    /// Takes a message, and may answer it.
-    pub fn receive(&mut self, message: &Message<L, L::Committed>) -> Option<Content<L::Committed>> {
-        let (from, vote) = (message.from, message.vote);
-        self.term = self.term.max(L::term(&vote.leader_id));
-        let (own_last, content) = (self.last(), &message.content);
-        // A candidate's log may not be behind a voter's.
-        let is_behind = matches!(content, Content::AskVote(last) if log_id_below(*last, own_last));
-        let may_promise = !is_behind || self.fault == Some(Fault::AnyCandidate);
-        let is_promised = may_promise && self.promise(vote);
-        match content {
-            Content::AskVote(_) => return Some(Content::Voted(is_promised)),
-            Content::Append(request, sent) => {
-                let (request, outcome) = (*request, self.follow(is_promised, sent));
-                return Some(Content::Responded(Response { request, outcome }));
-            }
-            Content::Voted(is_voted) if is_promised => self.count_vote(from, *is_voted),
-            Content::Responded(response) if is_promised => self.take_response(from, response),
-            _ => {}
-        }
-        None
+    /// Starts a cluster of these members. The first entry of its log is of term 0.
+    pub fn start(&mut self, members: Members) -> Result<(), StepError> {
+        self.disk = start_cluster(&mut self.state, members)?;
+        Ok(())
     }
 
-    /// Promises a vote, unless it is below its own or does not compare with it, and waits anew for that
-    /// leader. With a greater one it does no longer what it did.
-    pub fn promise(&mut self, vote: VoteIn<L>) -> bool {
-        let own = self.vote();
-        if vote > own {
-            self.set_role(Role::Follower);
+    /// Takes a message of another server, and may answer it.
+    pub fn receive(
+        &mut self,
+        from: u64,
+        content: &Content<L, L::Committed>,
+    ) -> Result<Option<Content<L, L::Committed>>, StepError> {
+        match content {
+            Content::AskVote(request) => Ok(Some(Content::Vote(self.vote_for(request)))),
+            Content::Vote(response) => {
+                self.count_vote(from, response)?;
+                Ok(None)
+            }
+            Content::Append(request) => {
+                let response = self.take_entries(request)?;
+                Ok(Some(Content::Respond(request.leader_id, response)))
+            }
+            Content::Install(request) => {
+                let response = self.take_snapshot(request)?;
+                Ok(Some(Content::Respond(request.leader_id, response)))
+            }
+            Content::Respond(leader_id, response) => {
+                self.take_response(from, leader_id, response)?;
+                Ok(None)
+            }
+        }
+    }
+
+    /// Lets time pass at the server. Returns whether it has something to send to the others.
+    pub fn tick(&mut self) -> Result<bool, StepError> {
+        if self.leader_id().is_some() {
+            self.end_change()?;
+            return Ok(true);
+        }
+        self.patience = self.patience.saturating_sub(1);
+        if self.patience > 0 || !self.may_lead() {
+            return Ok(false);
+        }
+        self.campaign()?;
+        Ok(true)
+    }
+
+    /// Returns what the server sends to another one on its tick.
+    pub fn next(&mut self, to: u64) -> Option<Content<L, L::Committed>> {
+        match &self.role {
+            Role::Follower => None,
+            Role::Candidate(candidate) => {
+                let request = candidate.request();
+                self.members()
+                    .is_voter(&to)
+                    .then_some(Content::AskVote(request))
+            }
+            Role::Leader(_) => self.next_request(to),
+        }
+    }
+
+    /// Takes note of a vote. If the vote is greater than its own, the server promises it and
+    /// follows.
+    pub fn hear_of(&mut self, vote: VoteIn<L>) {
+        self.term = self.term.max(L::term(&vote.leader_id));
+        if vote > self.vote() {
             *self.state.vote.get_mut() = vote;
+            self.follow();
         }
-        if vote >= own {
-            self.waits = TIMEOUT;
-        }
-        vote >= own
     }
 }

@@ -1,0 +1,105 @@
+//! What is on the disk of a server: the entries of its log, its last snapshot, its vote and its
+//! term.
+
+use crate::deed::Deed;
+use crate::fault::Fault;
+use crate::server::Server;
+use crate::steps::{Leader, StepError, restart_server};
+use crate::types::{Entry, LeaderIds, end};
+use raft_base::{LogStateReader, VoteIn};
+use raft_state::SnapshotMetaOf;
+use std::mem;
+
+impl<L: Copy + Eq + Drop, C: Ord + Copy + Drop> Server<L, C> {
+    /// Returns the place of an index on disk.
+    pub fn place(&self, index: u64) -> usize {
+        index.saturating_sub(self.state.purged_next) as usize
+    }
+
+    /// Returns the entry of an index, if it is on disk and in the log.
+    pub fn entry(&self, index: u64) -> Option<&Entry<C>> {
+        let entry = self.disk.get(self.place(index))?;
+        (self.state.get_log_id(index) == Some(entry.log_id)).then_some(entry)
+    }
+
+    /// Writes to disk what a step has changed in the log: removes what is truncated, and adds those
+    /// of the entries that are new.
+    pub fn write(&mut self, entries: &[Entry<C>]) -> Result<(), StepError> {
+        let truncated = self.trim();
+        if truncated > 0 {
+            self.deed = Some(Deed::Truncates(truncated));
+        }
+        let lacking = self.place(end(self.last())).saturating_sub(self.disk.len());
+        let (_, new) = entries.split_at(entries.len().saturating_sub(lacking));
+        self.disk.extend_with_clones(new)?;
+        Ok(())
+    }
+
+    /// Removes from disk what is truncated or purged in the log. Returns how many entries it was.
+    pub fn trim(&mut self) -> usize {
+        let before = self.disk.len();
+        let state = &self.state;
+        self.disk.retain(|entry| {
+            let index = entry.log_id.index;
+            state.purged_next <= index && state.get_log_id(index) == Some(entry.log_id)
+        });
+        before.saturating_sub(self.disk.len())
+    }
+
+    /// Takes a snapshot of what is committed, and purges all of it but the last few entries. No
+    /// message needs a purged entry, because a message carries its entries.
+    pub fn compact(&mut self, keep: u64) -> Result<(), StepError> {
+        let members = self.state.membership_state.committed();
+        let snapshot = SnapshotMetaOf {
+            last_log_id: self.state.committed,
+            last_membership: members.stored_membership().try_clone()?,
+            snapshot_id: String::new(*self.disk.allocator()),
+        };
+        if self.state.can_build_snapshot(&snapshot) {
+            self.state.build_snapshot(snapshot);
+            self.deed = Some(Deed::Compacts);
+            self.purge(end(self.state.committed).saturating_sub(keep))?;
+        }
+        Ok(())
+    }
+
+    /// Purges the log up to an index, if the snapshot has it.
+    fn purge(&mut self, index: u64) -> Result<(), StepError> {
+        if let Some(upto) = self.state.get_log_id(index)
+            && self.state.can_schedule_purge(&upto)
+        {
+            self.state.schedule_purge(&upto);
+            if self.state.can_purge_log(&upto) {
+                self.state.purge_log(&upto)?;
+                self.trim();
+            }
+        }
+        Ok(())
+    }
+}
+
+impl<L: LeaderIds> Server<L, L::Committed> {
+    /// Crashes, and starts again with what is on disk. If the server is the elected leader of its
+    /// vote, it leads on.
+    pub fn restart(&mut self) -> Result<(), StepError> {
+        let mut vote = self.vote();
+        if self.fault == Some(Fault::ForgetVote) {
+            vote = VoteIn::default();
+            self.term = 0;
+        }
+        let snapshot = self.state.snapshot_meta.try_clone()?;
+        let entries = self.disk.to_vec(*self.disk.allocator())?;
+        let prev = self.state.last_purged_log_id().copied();
+        let state = restart_server(vote, snapshot, prev, entries)?;
+        drop(mem::replace(&mut self.state, state));
+        self.trim();
+        self.follow();
+        // One that is known to be removed has its committed vote still.
+        if self.state.is_leader(&self.id) && self.may_lead() {
+            let leader = Leader::resume(self.id, &self.state)?;
+            self.lead(leader)?;
+        }
+        self.deed = Some(Deed::Restarts);
+        Ok(())
+    }
+}

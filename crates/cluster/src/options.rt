@@ -1,0 +1,92 @@
+//! The words of the command line.
+
+use crate::fault::{FAULTS, Fault};
+use anyhow::{Context, Result, bail};
+
+/// What `--help` prints before the names of the faults.
+pub const HELP: &str = "\
+Simulates clusters of five servers, one for each seed, and checks that they are safe and converge.
+
+    cluster [NAME=VALUE ..]
+
+    seed=1            the first seed
+    seeds=1           how many clusters: one for this seed and for each that follows it
+    events=1000       how many events happen to a cluster before its network is mended
+    chart=50          draw a row for each thing of note, and after so many events; 0 draws nothing
+    leaders=advanced  the leader ids: `advanced` as openraft has them, `standard` as Raft has them
+    fault=NAME        plant a fault in all servers:
+";
+
+/// What the command line asks for.
+#[derive(Clone, Copy)]
+pub struct Options {
+    /// The first seed.
+    pub seed: u64,
+    /// How many clusters there are.
+    pub seeds: u64,
+    /// How many events happen to a cluster before its network is mended.
+    pub events: u64,
+    /// After how many events a row of the chart is drawn, or 0 if there is no chart.
+    pub chart: u64,
+    /// Whether the leader ids are those of standard Raft.
+    pub is_standard: bool,
+    /// What all servers do wrong.
+    pub fault: Option<Fault>,
+}
+
+impl Options {
+    /// Reads the words of a command line.
+    ///
+    /// # Errors
+    ///
+    /// The first word that is no option, or has no value that the option can have.
+    pub fn parse(words: &[String]) -> Result<Self> {
+        let mut options = Options {
+            seed: 1,
+            seeds: 1,
+            events: 1000,
+            chart: 50,
+            is_standard: false,
+            fault: None,
+        };
+        for word in words {
+            let (name, value) = word.split_once('=').unwrap_or((word, ""));
+            match name {
+                "seed" => options.seed = number(word, value)?,
+                "seeds" => options.seeds = number(word, value)?,
+                "events" => options.events = number(word, value)?,
+                "chart" => options.chart = number(word, value)?,
+                "leaders" => options.is_standard = is_standard(word, value)?,
+                "fault" => options.fault = Some(fault(word, value)?),
+                _ => bail!("'{word}' is no option; `--help` lists the options"),
+            }
+        }
+        Ok(options)
+    }
+}
+
+/// Reads the value of an option that is a number.
+fn number(word: &str, value: &str) -> Result<u64> {
+    value
+        .parse()
+        .context(format_args!("'{word}' has no number as its value"))
+}
+
+/// Reads the name of the leader ids.
+fn is_standard(word: &str, value: &str) -> Result<bool> {
+    match value {
+        "advanced" => Ok(false),
+        "standard" => Ok(true),
+        _ => bail!("'{word}' is neither `advanced` nor `standard`"),
+    }
+}
+
+/// Reads the name of a fault.
+fn fault(word: &str, value: &str) -> Result<Fault> {
+    for (name, fault) in FAULTS {
+        if name == value {
+            return Ok(fault);
+        }
+    }
+    bail!("'{word}' names no fault; `--help` lists the faults")
+}

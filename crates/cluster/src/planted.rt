@@ -1,0 +1,70 @@
+//! What a server does in place of a step, if a fault is planted.
+
+use crate::deed::Deed;
+use crate::fault::Fault;
+use crate::server::{Role, Server};
+use crate::steps::{Leader, StepError, append_entry};
+use crate::types::{Entry, LeaderIds, end};
+use raft_base::{EmptyNode, LogIdOf};
+use raft_members::ChangeMembers;
+use raft_state::EntryPayload;
+use std::collections::BTreeSet;
+
+impl<L: Copy + Eq + Drop, C: Ord + Copy + Drop> Server<L, C> {
+    /// Whether a planted fault lets it acknowledge entries up to a log id without taking them.
+    pub fn acknowledges_untaken(&self, last: Option<LogIdOf<C>>) -> bool {
+        match (self.fault, last) {
+            (Some(Fault::AcknowledgeUnwritten), Some(last)) => last.index % 8 == 7,
+            (Some(Fault::KeepConflicts), Some(last)) => {
+                last.index < end(self.last()) && !self.has(last)
+            }
+            _ => false,
+        }
+    }
+}
+
+impl<L: LeaderIds> Server<L, L::Committed> {
+    /// Whether a planted fault has another way to change members.
+    pub fn changes_wrongly(&self) -> bool {
+        match (self.fault, &self.role) {
+            (Some(Fault::ChangeEarly), Role::Leader(_)) => true,
+            (Some(Fault::SkipJointConfig | Fault::CountOldMembers), Role::Leader(leader)) => {
+                leader.has_own_granted()
+            }
+            _ => false,
+        }
+    }
+
+    /// Changes members as a planted fault has it.
+    pub fn change_wrongly(
+        &mut self,
+        change: ChangeMembers<u64, EmptyNode>,
+        retain: bool,
+    ) -> Result<(), StepError> {
+        let Ok(mut members) = self
+            .state
+            .membership_state
+            .change_handler()
+            .apply(change, retain)
+        else {
+            return Ok(());
+        };
+        if self.fault == Some(Fault::SkipJointConfig) {
+            let to_last = ChangeMembers::AddVoterIds(BTreeSet::new(*self.disk.allocator()));
+            let Ok(last) = members.change(to_last, true) else {
+                return Ok(());
+            };
+            members = last;
+        }
+        let entry = Entry {
+            log_id: LogIdOf::new(L::to_committed(&self.vote().leader_id), end(self.last())),
+            payload: EntryPayload::Membership(members),
+        };
+        let entries = append_entry(&mut self.state, entry)?;
+        self.deed = Some(Deed::Changes);
+        if self.fault != Some(Fault::CountOldMembers) {
+            self.role = Role::Leader(Leader::resume(self.id, &self.state)?);
+        }
+        self.write_own(&entries)
+    }
+}

@@ -1,0 +1,270 @@
+//! What the servers do, recorded in the words of the laws of safety.
+//!
+//! `raft_safety` proves: if each recorded act was allowed by those before it, the cluster is safe.
+//! Its checker says whether they were. A log of the laws has no entry 0, which starts the cluster.
+
+use raft_safety::check::{Refused, check};
+use raft_safety::entry::Entry as LawEntry;
+use raft_safety::event::Event as LawEvent;
+use raft_safety::memberships::Memberships;
+use std::alloc::{AllocError, Global};
+
+/// A leader id: a term, and a node if a term can have several leaders.
+pub type Term = (u64, u64);
+
+/// An entry: its leader, and a number for what it holds.
+pub type Entry = LawEntry<Term, u64>;
+
+/// An act of a server.
+type Act = LawEvent<Term, u64, u64>;
+
+/// What a server has said or done that its state does not show.
+#[derive(Clone, Copy)]
+pub enum Said {
+    /// Nothing.
+    Nothing,
+    /// It has voted for a candidate.
+    Voted(Term, u64),
+    /// It has answered its leader that so many entries match.
+    Matches(usize),
+    /// It has restarted.
+    Restarted,
+}
+
+/// A server after an event.
+#[derive(Drop)]
+pub struct View {
+    /// Its id.
+    pub server: u64,
+    /// The leader id of its vote.
+    pub term: Term,
+    /// The node that its vote is for.
+    pub leader: u64,
+    /// Whether it is a candidate or leads.
+    pub campaigns: bool,
+    /// Whether it leads.
+    pub leads: bool,
+    /// How many of its first entries are purged.
+    pub purged: usize,
+    /// The entries after these.
+    pub entries: Vec<Entry>,
+    /// How many of its first entries it knows to be committed.
+    pub committed: usize,
+}
+
+/// What was recorded of a server.
+#[derive(Drop)]
+struct Recorded {
+    /// The term of its last campaign.
+    campaigned: Term,
+    /// The term and the candidate of its last vote.
+    voted: (Term, u64),
+    /// All entries of its log.
+    log: Vec<Entry>,
+    /// How many first entries it has applied.
+    applied: usize,
+}
+
+/// The acts of the servers so far.
+#[derive(Drop)]
+pub struct Trace {
+    acts: Vec<Act>,
+    servers: Vec<Recorded>,
+    /// The entries that are committed.
+    committed: Vec<Entry>,
+    /// The number of each membership, with its configs.
+    memberships: Vec<(u64, Vec<Vec<u64>>)>,
+}
+
+impl Trace {
+    /// Returns a trace in which nothing has happened.
+    pub fn new(alloc: Global, servers: u64) -> Result<Self, AllocError> {
+        let mut recorded = Vec::new(alloc);
+        for _ in 0..servers {
+            recorded.extend(Some(Recorded {
+                campaigned: (0, 0),
+                voted: ((0, 0), 0),
+                log: Vec::new(alloc),
+                applied: 0,
+            }))?;
+        }
+        Ok(Trace {
+            acts: Vec::new(alloc),
+            servers: recorded,
+            committed: Vec::new(alloc),
+            memberships: Vec::new(alloc),
+        })
+    }
+
+    /// Records what a membership's number means.
+    pub fn name(&mut self, number: u64, configs: Vec<Vec<u64>>) -> Result<(), AllocError> {
+        let is_known = self.memberships.iter().any(|known| known.0 == number);
+        self.memberships
+            .extend((!is_known).then_some((number, configs)))
+    }
+
+    /// Records what a server has done in an event.
+    pub fn record(&mut self, view: &View, said: Said) -> Result<(), AllocError> {
+        let place = view.server.saturating_sub(1) as usize;
+        let Some(server) = self.servers.get_mut(place) else {
+            return Ok(());
+        };
+        server.record_election(view, said, &mut self.acts)?;
+        let log = full_log(view, &self.committed)?;
+        server.record_log(view, log, said, &mut self.acts)?;
+        server.record_commit(view, said, &mut self.acts)?;
+        if let Some(new) = server.log.get(self.committed.len()..server.applied) {
+            self.committed.extend_from_slice(new)?;
+        }
+        Ok(())
+    }
+
+    /// Checks that each act was allowed by those before it. Then the cluster was safe.
+    ///
+    /// # Errors
+    ///
+    /// The first act that was not allowed, and the rule that it breaks.
+    pub fn check(self, initial: Vec<Vec<u64>>) -> Result<(), Refused> {
+        let alloc = *self.acts.allocator();
+        let memberships = Memberships {
+            initial,
+            held: self.memberships,
+        };
+        check(alloc, memberships, &self.acts)
+    }
+}
+
+impl Recorded {
+    /// Records a restart, a campaign or a vote.
+    fn record_election(
+        &mut self,
+        view: &View,
+        said: Said,
+        acts: &mut Vec<Act>,
+    ) -> Result<(), AllocError> {
+        let (server, term) = (view.server, view.term);
+        if matches!(said, Said::Restarted) {
+            // A leader that leads on has written an entry since.
+            let len = view.purged.saturating_add(view.entries.len());
+            let len = len.min(self.log.len());
+            acts.extend(Some(LawEvent::Restarted { server, len }))?;
+        }
+        if view.campaigns && self.campaigned != term {
+            self.campaigned = term;
+            acts.extend(Some(LawEvent::Campaigned { server, term }))?;
+        }
+        if let Said::Voted(term, candidate) = said
+            && self.voted != (term, candidate)
+        {
+            self.voted = (term, candidate);
+            acts.extend(Some(LawEvent::Granted {
+                server,
+                term,
+                candidate,
+            }))?;
+        }
+        Ok(())
+    }
+
+    /// Records what has changed in the log, and what is acknowledged of it. A leader writes its own
+    /// entries, and is the first to acknowledge them.
+    fn record_log(
+        &mut self,
+        view: &View,
+        log: Vec<Entry>,
+        said: Said,
+        acts: &mut Vec<Act>,
+    ) -> Result<(), AllocError> {
+        let (server, term, leader) = (view.server, view.term, view.leader);
+        let keep = common_len(&self.log, &log);
+        let has_changed = keep < self.log.len().max(log.len());
+        let (_, new) = log.split_at(keep.min(log.len()));
+        let mut acknowledged = None;
+        if view.leads && has_changed {
+            for entry in new {
+                acts.extend(Some(LawEvent::Wrote {
+                    leader,
+                    term,
+                    entry: *entry,
+                }))?;
+            }
+            acknowledged = Some(log.len());
+        }
+        if let Said::Matches(len) = said {
+            acknowledged = Some(len);
+        }
+        if has_changed || acknowledged.is_some() {
+            let entries = new.to_vec(*log.allocator())?;
+            acts.extend(Some(LawEvent::Appended {
+                server,
+                term,
+                leader,
+                keep,
+                entries,
+            }))?;
+        }
+        if let Some(len) = acknowledged {
+            acts.extend(Some(LawEvent::Acked {
+                server,
+                term,
+                leader,
+                len,
+            }))?;
+        }
+        self.log = log;
+        Ok(())
+    }
+
+    /// Records what a leader has committed, and what a server has applied.
+    fn record_commit(
+        &mut self,
+        view: &View,
+        said: Said,
+        acts: &mut Vec<Act>,
+    ) -> Result<(), AllocError> {
+        let (server, term, leader) = (view.server, view.term, view.leader);
+        let len = match said {
+            Said::Matches(len) => view.committed.min(len),
+            _ if view.leads => view.committed,
+            _ => return Ok(()),
+        };
+        if len <= self.applied {
+            return Ok(());
+        }
+        self.applied = len;
+        if view.leads {
+            acts.extend(Some(LawEvent::Committed {
+                leader,
+                term,
+                len,
+                counted_at: self.log.len(),
+            }))?;
+        }
+        acts.extend(Some(LawEvent::Applied {
+            server,
+            term,
+            leader,
+            len,
+        }))
+    }
+}
+
+/// Returns the whole log of a server. What is purged of it is committed.
+fn full_log(view: &View, committed: &[Entry]) -> Result<Vec<Entry>, AllocError> {
+    let (purged, _) = committed.split_at(view.purged.min(committed.len()));
+    let mut log = purged.to_vec(*view.entries.allocator())?;
+    log.extend_from_slice(&view.entries)?;
+    Ok(log)
+}
+
+/// Returns how many first entries two logs have in common.
+fn common_len(one: &[Entry], other: &[Entry]) -> usize {
+    let mut len = 0usize;
+    for (a, b) in one.iter().zip(other) {
+        if a.term != b.term || a.content != b.content {
+            break;
+        }
+        len = len.saturating_add(1);
+    }
+    len
+}

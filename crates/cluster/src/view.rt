@@ -1,0 +1,86 @@
+//! A server, as the laws of safety see it.
+
+use crate::message::Content;
+use crate::server::{Role, Server};
+use crate::steps::Outcome;
+use crate::trace::{Entry, Said, Term, View};
+use crate::types::{LeaderIds, Members, Payload, end};
+use std::alloc::AllocError;
+
+/// The number of the first membership: no command has a number that is as great.
+const FIRST_MEMBERSHIP: u64 = 1_000_000_000_000;
+
+impl<L: LeaderIds> Server<L, L::Committed> {
+    /// Returns what the laws see of the server.
+    pub fn view(&self) -> Result<View, AllocError> {
+        let mut entries = Vec::new(*self.disk.allocator());
+        for entry in &self.disk {
+            if entry.log_id.index > 0 {
+                entries.extend(Some(Entry {
+                    term: L::law_term(&entry.log_id.leader_id),
+                    content: number_of(&entry.payload),
+                }))?;
+            }
+        }
+        let vote = self.vote();
+        Ok(View {
+            server: self.id,
+            term: L::law_term(&L::to_committed(&vote.leader_id)),
+            leader: L::voted_for(&vote.leader_id).unwrap_or(0),
+            campaigns: !matches!(self.role, Role::Follower),
+            leads: matches!(self.role, Role::Leader(_)),
+            purged: self.state.purged_next.saturating_sub(1) as usize,
+            entries,
+            committed: end(self.state.committed).saturating_sub(1) as usize,
+        })
+    }
+
+    /// Returns the effective membership: its number, and the voters of each config.
+    pub fn named_members(&self) -> Result<(u64, Vec<Vec<u64>>), AllocError> {
+        let members = self.members();
+        let alloc = *self.disk.allocator();
+        let mut configs = Vec::new(alloc);
+        for config in members.get_joint_config() {
+            let voters: Vec<u64> = config.iter().copied().collect(alloc)?;
+            configs.extend(Some(voters))?;
+        }
+        Ok((number_of_members(members), configs))
+    }
+}
+
+/// Returns what an answer says that the state of the server does not show.
+pub fn said_by<L: LeaderIds>(answer: &Option<Content<L, L::Committed>>) -> Said {
+    match answer {
+        Some(Content::Vote(response)) if response.granted => {
+            let leader_id = response.vote.leader_id;
+            let term = L::law_term(&L::to_committed(&leader_id));
+            Said::Voted(term, L::voted_for(&leader_id).unwrap_or(0))
+        }
+        Some(Content::Respond(_, response)) => match response.outcome {
+            Outcome::Matches(Some(upto)) => Said::Matches(upto.index as usize),
+            _ => Said::Nothing,
+        },
+        _ => Said::Nothing,
+    }
+}
+
+/// Returns a number for what an entry holds.
+fn number_of(payload: &Payload) -> u64 {
+    match payload {
+        Payload::Blank => 0,
+        Payload::Normal(command) => *command,
+        Payload::Membership(members) => number_of_members(members),
+    }
+}
+
+/// Returns a number for the voters of a membership: their digits, with a 0 before each config.
+fn number_of_members(members: &Members) -> u64 {
+    let mut digits = 0u64;
+    for config in members.get_joint_config() {
+        digits = digits.saturating_mul(10);
+        for id in config {
+            digits = digits.saturating_mul(10).saturating_add(*id);
+        }
+    }
+    FIRST_MEMBERSHIP.saturating_add(digits)
+}
