@@ -3,14 +3,14 @@
 use crate::deed::Deed;
 use crate::fault::Fault;
 use crate::server::{Role, Server};
-use crate::steps::{Candidate, Leader, StepError, VoteRequest, VoteResponse, handle_vote_request};
-use crate::types::LeaderIds;
+use crate::types::{Candidate, Leader, LeaderIds};
 use raft_base::VoteIn;
+use raft_handlers::{HandlerError, VoteRequest, VoteResponse, handle_vote_request};
 
 impl<L: LeaderIds> Server<L, L::Committed> {
     /// Campaigns in a term that is greater than any that the server has heard of, and votes for
     /// itself.
-    pub fn campaign(&mut self) -> Result<(), StepError> {
+    pub fn campaign(&mut self) -> Result<(), HandlerError> {
         self.follow();
         let candidate = Candidate::campaign(self.id, self.term, &mut self.state)?;
         self.term = L::term(&self.vote().leader_id);
@@ -40,7 +40,11 @@ impl<L: LeaderIds> Server<L, L::Committed> {
     }
 
     /// Counts the vote of another server.
-    pub fn count_vote(&mut self, from: u64, response: &VoteResponse<L>) -> Result<(), StepError> {
+    pub fn count_vote(
+        &mut self,
+        from: u64,
+        response: &VoteResponse<L>,
+    ) -> Result<(), HandlerError> {
         let own = self.vote();
         let mut response = *response;
         if self.fault == Some(Fault::CountRefusal) {
@@ -57,7 +61,7 @@ impl<L: LeaderIds> Server<L, L::Committed> {
     }
 
     /// Becomes the leader, if a quorum has voted for the server.
-    fn lead_if_elected(&mut self) -> Result<(), StepError> {
+    fn lead_if_elected(&mut self) -> Result<(), HandlerError> {
         match &self.role {
             Role::Candidate(candidate) if candidate.is_elected() => {
                 let leader = Leader::new(&mut self.state, candidate)?;
@@ -69,10 +73,10 @@ impl<L: LeaderIds> Server<L, L::Committed> {
     }
 
     /// Leads, and begins with a blank entry: only an entry of its own lets a leader commit.
-    pub fn lead(&mut self, mut leader: Leader<L::Committed>) -> Result<(), StepError> {
-        let entries = leader.propose_blank(&mut self.state)?;
+    pub fn lead(&mut self, leader: Leader<L::Committed>) -> Result<(), HandlerError> {
+        let entry = leader.propose_blank(&mut self.state)?;
         self.role = Role::Leader(leader);
-        self.write_own(&entries)
+        self.write_own(entry)
     }
 }
 

@@ -4,9 +4,9 @@
 use crate::deed::Deed;
 use crate::fault::Fault;
 use crate::server::Server;
-use crate::steps::{Leader, StepError, restart_server};
-use crate::types::{Entry, LeaderIds, end};
+use crate::types::{Entry, Leader, LeaderIds, end};
 use raft_base::{LogStateReader, VoteIn};
+use raft_handlers::{HandlerError, Stored, restart_server};
 use raft_state::SnapshotMetaOf;
 use std::mem;
 
@@ -24,7 +24,7 @@ impl<L: Copy + Eq + Drop, C: Ord + Copy + Drop> Server<L, C> {
 
     /// Writes to disk what a step has changed in the log: removes what is truncated, and adds those
     /// of the entries that are new.
-    pub fn write(&mut self, entries: &[Entry<C>]) -> Result<(), StepError> {
+    pub fn write(&mut self, entries: &[Entry<C>]) -> Result<(), HandlerError> {
         let truncated = self.trim();
         if truncated > 0 {
             self.deed = Some(Deed::Truncates(truncated));
@@ -48,7 +48,7 @@ impl<L: Copy + Eq + Drop, C: Ord + Copy + Drop> Server<L, C> {
 
     /// Takes a snapshot of what is committed, and purges all of it but the last few entries. No
     /// message needs a purged entry, because a message carries its entries.
-    pub fn compact(&mut self, keep: u64) -> Result<(), StepError> {
+    pub fn compact(&mut self, keep: u64) -> Result<(), HandlerError> {
         let members = self.state.membership_state.committed();
         let snapshot = SnapshotMetaOf {
             last_log_id: self.state.committed,
@@ -64,7 +64,7 @@ impl<L: Copy + Eq + Drop, C: Ord + Copy + Drop> Server<L, C> {
     }
 
     /// Purges the log up to an index, if the snapshot has it.
-    fn purge(&mut self, index: u64) -> Result<(), StepError> {
+    fn purge(&mut self, index: u64) -> Result<(), HandlerError> {
         if let Some(upto) = self.state.get_log_id(index)
             && self.state.can_schedule_purge(&upto)
         {
@@ -81,16 +81,20 @@ impl<L: Copy + Eq + Drop, C: Ord + Copy + Drop> Server<L, C> {
 impl<L: LeaderIds> Server<L, L::Committed> {
     /// Crashes, and starts again with what is on disk. If the server is the elected leader of its
     /// vote, it leads on.
-    pub fn restart(&mut self) -> Result<(), StepError> {
+    pub fn restart(&mut self) -> Result<(), HandlerError> {
         let mut vote = self.vote();
         if self.fault == Some(Fault::ForgetVote) {
             vote = VoteIn::default();
             self.term = 0;
         }
-        let snapshot = self.state.snapshot_meta.try_clone()?;
-        let entries = self.disk.to_vec(*self.disk.allocator())?;
-        let prev = self.state.last_purged_log_id().copied();
-        let state = restart_server(vote, snapshot, prev, entries)?;
+        let alloc = *self.disk.allocator();
+        let stored = Stored {
+            vote,
+            snapshot: self.state.snapshot_meta.try_clone()?,
+            entries: self.disk.to_vec(alloc)?,
+            committed: self.state.snapshot_meta.last_log_id,
+        };
+        let state = restart_server(alloc, &stored)?;
         drop(mem::replace(&mut self.state, state));
         self.trim();
         self.follow();

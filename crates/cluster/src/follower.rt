@@ -3,19 +3,18 @@
 use crate::deed::Deed;
 use crate::fault::Fault;
 use crate::server::Server;
-use crate::steps::{
-    AppendEntries, InstallSnapshot, Outcome, Response, StepError, handle_append_entries,
-    handle_install_snapshot,
-};
-use crate::types::LeaderIds;
+use crate::types::{AppendEntries, InstallSnapshot, LeaderIds};
 use raft_base::VoteIn;
+use raft_handlers::{
+    HandlerError, Outcome, Response, handle_append_entries, handle_install_snapshot,
+};
 
 impl<L: LeaderIds> Server<L, L::Committed> {
     /// Takes a leader's entries, and writes them to disk before it answers.
     pub fn take_entries(
         &mut self,
         request: &AppendEntries<L, L::Committed>,
-    ) -> Result<Response<L, L::Committed>, StepError> {
+    ) -> Result<Response<L, L::Committed>, HandlerError> {
         let last = request.last_log_id();
         if self.heeds(request.leader_id) && self.acknowledges_untaken(last) {
             return Ok(Response {
@@ -32,7 +31,7 @@ impl<L: LeaderIds> Server<L, L::Committed> {
     pub fn take_snapshot(
         &mut self,
         request: &InstallSnapshot<L, L::Committed>,
-    ) -> Result<Response<L, L::Committed>, StepError> {
+    ) -> Result<Response<L, L::Committed>, HandlerError> {
         if self.heeds(request.leader_id) && self.fault == Some(Fault::AcknowledgeUninstalled) {
             return Ok(Response {
                 request: Some(request.request),

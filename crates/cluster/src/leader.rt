@@ -5,9 +5,9 @@ use crate::deed::Deed;
 use crate::fault::Fault;
 use crate::message::Content;
 use crate::server::{Role, Server};
-use crate::steps::{AppendEntries, InstallSnapshot, Outcome, Response, StepError};
-use crate::types::{Entry, LeaderIds, end};
+use crate::types::{AppendEntries, Entry, InstallSnapshot, LeaderIds, end};
 use raft_base::{EmptyNode, LogIdRangeOf};
+use raft_handlers::{HandlerError, Outcome, Response};
 use raft_members::ChangeMembers;
 use raft_progress::InflightOf;
 
@@ -60,7 +60,7 @@ impl<L: LeaderIds> Server<L, L::Committed> {
         from: u64,
         leader_id: &L,
         response: &Response<L, L::Committed>,
-    ) -> Result<(), StepError> {
+    ) -> Result<(), HandlerError> {
         if let Outcome::HigherVote(vote) = response.outcome {
             self.hear_of(vote);
         }
@@ -81,26 +81,26 @@ impl<L: LeaderIds> Server<L, L::Committed> {
     }
 
     /// Appends an entry with a command, if the server leads.
-    pub fn propose(&mut self, command: u64) -> Result<(), StepError> {
-        if let Role::Leader(leader) = &mut self.role {
-            let entries = leader.propose(&mut self.state, command)?;
-            self.write_own(&entries)?;
+    pub fn propose(&mut self, command: u64) -> Result<(), HandlerError> {
+        if let Role::Leader(leader) = &self.role {
+            let entry = leader.propose(&mut self.state, command)?;
+            self.write_own(entry)?;
         }
         Ok(())
     }
 
-    /// Writes entries of the leader's own to disk, and counts the leader among those that have them.
-    pub fn write_own(&mut self, entries: &[Entry<L::Committed>]) -> Result<(), StepError> {
-        self.write(entries)?;
+    /// Writes an entry of the leader's own to disk, and counts the leader among those that have it.
+    pub fn write_own(&mut self, entry: Entry<L::Committed>) -> Result<(), HandlerError> {
+        self.disk.extend(Some(entry))?;
         let last = self.last();
         if let Role::Leader(leader) = &mut self.role {
-            leader.handle_flushed(last);
+            leader.handle_flushed(&self.state, last)?;
         }
         self.commit()
     }
 
     /// Commits what a quorum has, if the server leads.
-    fn commit(&mut self) -> Result<(), StepError> {
+    fn commit(&mut self) -> Result<(), HandlerError> {
         if let Role::Leader(leader) = &self.role {
             leader.commit(&mut self.state)?;
             let granted = leader.granted();
@@ -116,31 +116,31 @@ impl<L: LeaderIds> Server<L, L::Committed> {
         &mut self,
         change: ChangeMembers<u64, EmptyNode>,
         retain: bool,
-    ) -> Result<(), StepError> {
+    ) -> Result<(), HandlerError> {
         if self.changes_wrongly() {
             return self.change_wrongly(change, retain);
         }
         if let Role::Leader(leader) = &mut self.role
-            && let Ok(entries) = leader.propose_change(&mut self.state, change, retain)
+            && let Ok(entry) = leader.propose_change(&mut self.state, change, retain)
         {
             self.deed = Some(Deed::Changes);
-            self.write_own(&entries)?;
+            self.write_own(entry)?;
         }
         Ok(())
     }
 
     /// Goes on from a joint membership to its last config, in which those who leave are learners. A
     /// leader that is no voter any more retires.
-    pub fn end_change(&mut self) -> Result<(), StepError> {
+    pub fn end_change(&mut self) -> Result<(), HandlerError> {
         let Role::Leader(leader) = &mut self.role else {
             return Ok(());
         };
         if leader.is_removed(&self.state) {
             self.follow();
             self.deed = Some(Deed::Retires);
-        } else if let Ok(entries) = leader.leave_joint(&mut self.state, true) {
+        } else if let Ok(entry) = leader.leave_joint(&mut self.state, true) {
             self.deed = Some(Deed::Changes);
-            self.write_own(&entries)?;
+            self.write_own(entry)?;
         }
         Ok(())
     }

@@ -23,7 +23,6 @@ mod options;
 mod planted;
 mod safety;
 mod server;
-mod steps;
 mod tally;
 mod trace;
 mod types;

@@ -1,6 +1,7 @@
 //! What servers send to one another.
 
-use crate::steps::{AppendEntries, InstallSnapshot, Response, VoteRequest, VoteResponse};
+use crate::types::{AppendEntries, InstallSnapshot};
+use raft_handlers::{Response, VoteRequest, VoteResponse};
 
 /// A message on its way.
 #[derive(Drop)]

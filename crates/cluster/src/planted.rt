@@ -3,9 +3,9 @@
 use crate::deed::Deed;
 use crate::fault::Fault;
 use crate::server::{Role, Server};
-use crate::steps::{Leader, StepError, append_entry};
-use crate::types::{Entry, LeaderIds, end};
+use crate::types::{Entry, Leader, LeaderIds, end};
 use raft_base::{EmptyNode, LogIdOf};
+use raft_handlers::HandlerError;
 use raft_members::ChangeMembers;
 use raft_state::EntryPayload;
 use std::collections::BTreeSet;
@@ -40,7 +40,7 @@ impl<L: LeaderIds> Server<L, L::Committed> {
         &mut self,
         change: ChangeMembers<u64, EmptyNode>,
         retain: bool,
-    ) -> Result<(), StepError> {
+    ) -> Result<(), HandlerError> {
         let Ok(mut members) = self
             .state
             .membership_state
@@ -60,11 +60,19 @@ impl<L: LeaderIds> Server<L, L::Committed> {
             log_id: LogIdOf::new(L::to_committed(&self.vote().leader_id), end(self.last())),
             payload: EntryPayload::Membership(members),
         };
-        let entries = append_entry(&mut self.state, entry)?;
+        let mut entries = Vec::new(*self.disk.allocator());
+        entries.extend(Some(entry))?;
+        if !self.state.can_append_entries(&entries) {
+            return Ok(());
+        }
+        self.state.append_entries(&entries)?;
         self.deed = Some(Deed::Changes);
         if self.fault != Some(Fault::CountOldMembers) {
             self.role = Role::Leader(Leader::resume(self.id, &self.state)?);
         }
-        self.write_own(&entries)
+        match entries.pop() {
+            Some(entry) => self.write_own(entry),
+            None => Ok(()),
+        }
     }
 }

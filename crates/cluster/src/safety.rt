@@ -1,9 +1,9 @@
 //! What Raft promises of a cluster, checked after each event.
 
 use crate::server::{Role, Server};
-use crate::steps::StepError;
 use crate::types::end;
 use raft_base::{LogIdOf, LogStateReader};
+use raft_handlers::HandlerError;
 use std::alloc::{AllocError, Global};
 use std::collections::BTreeMap;
 use thiserror::Error;
@@ -34,7 +34,7 @@ pub enum Violation {
     Disk(u64),
     /// A server could not do what an honest message asks.
     #[error("server {0} fails: {1}")]
-    Failure(u64, StepError),
+    Failure(u64, HandlerError),
     /// The cluster was left alone, and not all servers have all entries.
     #[error("it does not converge")]
     Convergence,

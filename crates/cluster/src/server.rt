@@ -3,9 +3,9 @@
 use crate::deed::Deed;
 use crate::fault::Fault;
 use crate::message::Content;
-use crate::steps::{Candidate, Leader, StepError, start_cluster};
-use crate::types::{Entry, LeaderIds, Members, State};
+use crate::types::{Candidate, Entry, Leader, LeaderIds, Members, State};
 use raft_base::{LogIdOf, LogStateReader, VoteIn};
+use raft_handlers::{HandlerError, start_cluster};
 use rand::RngExt;
 use rand_pcg::Pcg32;
 use std::alloc::{AllocError, Global};
@@ -110,8 +110,8 @@ impl<L: LeaderIds> Server<L, L::Committed> {
     }
 
     /// Starts a cluster of these members. The first entry of its log is of term 0.
-    pub fn start(&mut self, members: Members) -> Result<(), StepError> {
-        self.disk = start_cluster(&mut self.state, members)?;
+    pub fn start(&mut self, members: Members) -> Result<(), HandlerError> {
+        self.disk = start_cluster(&mut self.state, &self.id, members)?;
         Ok(())
     }
 
@@ -120,7 +120,7 @@ impl<L: LeaderIds> Server<L, L::Committed> {
         &mut self,
         from: u64,
         content: &Content<L, L::Committed>,
-    ) -> Result<Option<Content<L, L::Committed>>, StepError> {
+    ) -> Result<Option<Content<L, L::Committed>>, HandlerError> {
         match content {
             Content::AskVote(request) => Ok(Some(Content::Vote(self.vote_for(request)))),
             Content::Vote(response) => {
@@ -143,7 +143,7 @@ impl<L: LeaderIds> Server<L, L::Committed> {
     }
 
     /// Lets time pass at the server. Returns whether it has something to send to the others.
-    pub fn tick(&mut self) -> Result<bool, StepError> {
+    pub fn tick(&mut self) -> Result<bool, HandlerError> {
         if self.leader_id().is_some() {
             self.end_change()?;
             return Ok(true);

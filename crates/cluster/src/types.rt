@@ -5,7 +5,7 @@
 use crate::trace::Term;
 use raft_base::{CommittedLeaderId, EmptyNode, LeaderId, LeaderIdentity, LogIdOf, leader_id_std};
 use raft_members::Membership;
-use raft_state::{EntryOf, EntryPayload, RaftStateIn, SnapshotMetaOf};
+use raft_state::{EntryOf, EntryPayload, RaftStateIn};
 use std::fmt::Debug;
 
 /// A log entry.
@@ -20,8 +20,17 @@ pub type Members = Membership<u64, EmptyNode>;
 /// The state of a server.
 pub type State<L, C> = RaftStateIn<u64, EmptyNode, u64, L, C>;
 
-/// What is known of a snapshot.
-pub type Snapshot<C> = SnapshotMetaOf<C, u64, EmptyNode>;
+/// A candidate, with the votes for it.
+pub type Candidate<L, C> = raft_handlers::Candidate<u64, EmptyNode, L, C>;
+
+/// A leader, with what it knows of its followers and of itself.
+pub type Leader<C> = raft_handlers::Leader<u64, EmptyNode, C>;
+
+/// A leader's request to append entries.
+pub type AppendEntries<L, C> = raft_handlers::AppendEntries<L, C, u64, EmptyNode, u64>;
+
+/// A leader's request to install its snapshot.
+pub type InstallSnapshot<L, C> = raft_handlers::InstallSnapshot<L, C, u64, EmptyNode>;
 
 /// The leader ids of a cluster.
 pub trait LeaderIds: LeaderIdentity<Id = u64, Committed: Debug> + Drop {

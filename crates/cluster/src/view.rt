@@ -2,9 +2,9 @@
 
 use crate::message::Content;
 use crate::server::{Role, Server};
-use crate::steps::Outcome;
 use crate::trace::{Entry, Said, Term, View};
 use crate::types::{LeaderIds, Members, Payload, end};
+use raft_handlers::Outcome;
 use std::alloc::AllocError;
 
 /// The number of the first membership: no command has a number that is as great.
