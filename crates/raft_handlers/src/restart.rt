@@ -9,7 +9,7 @@ use crate::log::append_new;
 use crate::state::State;
 use raft_base::{Instant, LeaderIdentity, LogIdOf, Node, NodeId, VoteIn};
 use raft_state::{AcceptedIn, EntryOf, RaftStateIn, SnapshotMetaOf, VoteStateReader};
-use std::alloc::Global;
+use std::alloc::{AllocError, Global};
 
 /// What the disk of a server has.
 #[derive(Drop)]
@@ -25,8 +25,8 @@ pub struct Stored<L, C, NID: NodeId, N: Node, D> {
 }
 
 /// Restarts a server: returns the state that its disk tells. Its log is the snapshot and the
-/// entries after it, and their memberships are effective. No leader is known, so nothing is
-/// accepted.
+/// entries after it, and their memberships are effective. What is known to be committed is committed,
+/// and so is the membership before the effective one. No leader is known, so nothing is accepted.
 ///
 /// If the entry at the last index of the snapshot has another log id, the install of the snapshot
 /// was interrupted: then no entry is taken, and you remove all of them from disk.
@@ -41,9 +41,24 @@ pub fn restart_server<NID: NodeId, N: Node, I: Instant, L: LeaderIdentity<Id = N
     let mut state: State<NID, N, I, L> = from_snapshot(alloc, &stored.snapshot)?;
     let place = first_after(&state, &stored.entries);
     append_new(&mut state, &stored.entries[place..], stored.committed)?;
+    commit_known(&mut state)?;
     state.accepted = AcceptedIn::new(stored.vote.leader_id, None);
     *state.vote.get_mut() = stored.vote;
     Ok(state)
+}
+
+/// Commits up to the log id of the committed membership, if the log has it: a membership is proposed
+/// once the one before it is committed.
+fn commit_known<NID: NodeId, N: Node, I: Instant, L: Drop, C: Ord + Copy + Drop>(
+    state: &mut RaftStateIn<NID, N, I, L, C>,
+) -> Result<(), AllocError>
+    ensures sound { IsSound C.eq C.cmp state.old → IsSound C.eq C.cmp state.new }
+{
+    let known = *state.membership_state.committed().log_id();
+    if state.is_logged(&known) && state.can_commit(&known) {
+        state.update_committed(&known)?;
+    }
+    Ok(())
 }
 
 /// Returns a new state with a snapshot, if there is one.
