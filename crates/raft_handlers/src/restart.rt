@@ -42,7 +42,7 @@ pub fn restart_server<NID: NodeId, N: Node, I: Instant, L: LeaderIdentity<Id = N
     let place = first_after(&state, &stored.entries);
     append_new(&mut state, &stored.entries[place..], stored.committed)?;
     commit_known(&mut state)?;
-    state.accepted = AcceptedIn::new(stored.vote.leader_id, None);
+    state.accepted = AcceptedIn::new(L::default(), None);
     *state.vote.get_mut() = stored.vote;
     Ok(state)
 }
