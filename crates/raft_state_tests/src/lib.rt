@@ -5,7 +5,7 @@
 //! `raft_state` are in `whole_state`. Those that go over several modules have the name of what they
 //! test: `clones`, `compared` with the original, `growths` of memory that are refused, `imports` of
 //! each public name, `laws` by their callers, short `lives` of one state, a kind of leaders by their
-//! `region`, `texts`, and `turns` of a leader and a follower, which stand in `turn`.
+//! `region`, and `texts`.
 #![tactic(auto)]
 
 #[cfg(test)]
@@ -42,8 +42,5 @@ mod region;
 mod support;
 #[cfg(test)]
 mod texts;
-pub mod turn;
-#[cfg(test)]
-mod turns;
 #[cfg(test)]
 mod whole_state;

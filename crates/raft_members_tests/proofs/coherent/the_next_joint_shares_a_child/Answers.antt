@@ -3,5 +3,7 @@ use Rattle.raft_members.proofs.CallerLemmas.{list_clones}
 use Rattle.raft_members_tests.proofs.lemmas.NumberLemmas.{same}
 use Rattle.raft_members_tests.proofs.coherent.the_next_joint_shares_a_child.Goals as goal
 
-pub try_clone-requires-clause-clones_are_equal : goal.try_clone-requires-clause-clones_are_equal
-try_clone-requires-clause-clones_are_equal g c x y h = list_clones nat_eq (λ a b. b ≡ a) same x.items y.items h.0
+pub try_clone-requires : goal.try_clone-requires
+try_clone-requires g c = record {
+  clones_are_equal = λ x y h. list_clones nat_eq (λ a b. b ≡ a) same x.items y.items h.0;
+}

@@ -18,7 +18,8 @@ returns-clause-memberships g c =
     record { log_id = c.new-log_id.result; payload = c.args.payload } in
     let items : c.deref-3.result.now ≡ entry ∷ [] =
     c.deref-3.ensures.value ∙ c.in-Ok.ensures.items
-    ∙ ap (λ (xs : List (EntryOf g.row.C.Denot g.row.NID.Denot g.row.N.Denot g.row.D.Denot)). xs ++ entry ∷ []) c.new-entries.ensures.items in
+    ∙ ap (λ (xs : List (EntryOf g.row.C.Denot g.row.NID.Denot g.row.N.Denot g.row.D.Denot)). xs ++ entry ∷ [])
+    c.new-entries.ensures.items in
     let own : c.new-log_id.result ≡ next_own_id c.args.self.now.leader_id c.args.state.now = search rules in
     let ok : is_err c.append_entries.result ≡ false = sym c.is_err.ensures.value ∙ c.if-is_err.false in
     let done = rw items at (not_err _ c.append_entries.result ok c.append_entries.ensures.memberships) in
@@ -34,7 +35,8 @@ returns-clause-sound g c = λ sound.
     record { log_id = c.new-log_id.result; payload = c.args.payload } in
     let items : c.deref-3.result.now ≡ entry ∷ [] =
     c.deref-3.ensures.value ∙ c.in-Ok.ensures.items
-    ∙ ap (λ (xs : List (EntryOf g.row.C.Denot g.row.NID.Denot g.row.N.Denot g.row.D.Denot)). xs ++ entry ∷ []) c.new-entries.ensures.items in
+    ∙ ap (λ (xs : List (EntryOf g.row.C.Denot g.row.NID.Denot g.row.N.Denot g.row.D.Denot)). xs ++ entry ∷ [])
+    c.new-entries.ensures.items in
     let ok : is_err c.append_entries.result ≡ false = sym c.is_err.ensures.value ∙ c.if-is_err.false in
     let last = rw items at (not_err _ c.append_entries.result ok c.append_entries.ensures.last) in
     c.update_accepted.ensures.sound (c.append_entries.ensures.sound sound)
