@@ -4,12 +4,6 @@
 #[cfg(test)]
 mod append;
 #[cfg(test)]
-mod candidate;
-#[cfg(test)]
-mod change;
-#[cfg(test)]
-mod leader;
-#[cfg(test)]
 mod snapshot;
 #[cfg(test)]
 mod start;

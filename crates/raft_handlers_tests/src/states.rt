@@ -6,7 +6,6 @@ use raft_members::Membership;
 use raft_state::{EntryOf, EntryPayload, LogIdListOf, is_key_list};
 use std::alloc::{AllocError, Global};
 use std::collections::{BTreeMap, BTreeSet};
-use std::slice;
 
 /// A log id by the term of node 1, and its index.
 pub type Row = Option<(u64, u64)>;
@@ -63,19 +62,6 @@ pub fn follower<K: LeaderKind<u64>>(
         state.log_ids = LogIdListOf::new(keys);
     }
     state.committed = id::<K>(committed);
-    Ok(state)
-}
-
-/// The server `follower`, with a membership of the voters 1, 2 and 3 at (2, 4), which is effective.
-pub fn voter<K: LeaderKind<u64>>(alloc: Global) -> Result<StateOf<K>, AllocError> {
-    let mut state = follower::<K>(alloc, None)?;
-    let entry = Entry::<K> {
-        log_id: LogIdOf::new(K::new_committed(2, 1), 4),
-        payload: EntryPayload::Membership(members(alloc)?),
-    };
-    if state.can_append_entries(slice::from_ref(&entry)) {
-        state.append_entries(slice::from_ref(&entry))?;
-    }
     Ok(state)
 }
 
