@@ -2,10 +2,9 @@
 
 use raft_base::{EmptyNode, LeaderId};
 use raft_handlers::{
-    AppendEntries, Candidate, HandlerError, Leader, Outcome, State, VoteRequest,
-    handle_append_entries, handle_vote_request,
+    AppendEntries, HandlerError, Outcome, State, VoteRequest, handle_append_entries,
+    handle_vote_request,
 };
-use raft_state::EntryOf;
 
 type Id = LeaderId<u64>;
 
@@ -14,8 +13,6 @@ type Server = State<u64, EmptyNode, u64, Id>;
 type Vote = VoteRequest<Id, Id>;
 
 type Append = AppendEntries<Id, Id, u64, EmptyNode, u64>;
-
-type Entry = EntryOf<Id, u64, EmptyNode, u64>;
 
 /// Whether a voter grants its vote to a candidate.
 pub fn votes(state: &mut Server, request: &Vote) -> bool {
@@ -26,17 +23,4 @@ pub fn votes(state: &mut Server, request: &Vote) -> bool {
 pub fn follows(state: &mut Server, request: &Append) -> Result<bool, HandlerError> {
     let response = handle_append_entries(state, request)?;
     Ok(matches!(response.outcome, Outcome::Matches(_)))
-}
-
-/// Makes an elected candidate the leader, which begins with a blank entry.
-pub fn leads(
-    state: &mut Server,
-    candidate: &Candidate<u64, EmptyNode, Id, Id>,
-) -> Result<Leader<u64, EmptyNode, Id>, HandlerError> {
-    let mut leader = Leader::new(state, candidate)?;
-    let entry: Entry = leader.propose_blank(state)?;
-    // Now write the entry to disk.
-    leader.handle_flushed(state, Some(entry.log_id))?;
-    leader.commit(state)?;
-    Ok(leader)
 }
