@@ -52,8 +52,8 @@ use Rattle.raft_base.specs.LogIndex.{index_lt}
 use Rattle.raft_base.specs.declared.log_id.LogIdOf.{LogIdOf}
 use Rattle.raft_handlers.specs.Append.{follow_on, has_entry, memberships_before, replaced_since, KeepsBelow}
 use Rattle.raft_handlers.specs.Entries.{allows_commit, entry_ids, has_with, may_commit_with, memberships_below}
-use Rattle.raft_members.specs.Stored.{log_id_of}
-use Rattle.raft_members.specs.MajorityLawful.{list_all-weaker}
+use Rattle.raft_members.specs.membership.Stored.{log_id_of}
+use Rattle.raft_members.specs.quorum.MajorityLawful.{list_all-weaker}
 use Rattle.raft_state.proofs.lemmas.log.ConflictLemmas.{place_passes}
 use Rattle.raft_state.proofs.lemmas.log_id_list.EndsLemmas.{last_of_map, last_of_some}
 use Rattle.raft_state.proofs.lemmas.log_id_list.FrontLemmas.{front_all, last_at}
@@ -62,13 +62,13 @@ use Rattle.raft_state.proofs.lemmas.log_id_list.KeptLemmas.{front_reads}
 use Rattle.raft_state.proofs.lemmas.log_id_list.OrderLemmas.{From}
 use Rattle.raft_state.proofs.lemmas.log_id_list.SameLogLemmas.{equal_found}
 use Rattle.raft_state.proofs.lemmas.sound.LoggedIds.{in_log, is_kept}
-use Rattle.raft_state.specs.Appended.{are_consecutive}
-use Rattle.raft_state.specs.Commit.{state_may_commit}
-use Rattle.raft_state.specs.FullLog.{end_index, full_log}
-use Rattle.raft_state.specs.LogEdits.{front}
-use Rattle.raft_state.specs.LogKept.{HasIds, KeepsIds}
-use Rattle.raft_state.specs.LogReads.{id_at, last_id}
-use Rattle.raft_state.specs.Sound.{purged_or_logged}
+use Rattle.raft_state.specs.raft_state.Appended.{are_consecutive}
+use Rattle.raft_state.specs.raft_state.Commit.{state_may_commit}
+use Rattle.raft_state.specs.log_id_list.FullLog.{end_index, full_log}
+use Rattle.raft_state.specs.log_id_list.LogEdits.{front}
+use Rattle.raft_state.specs.log_id_list.LogKept.{HasIds, KeepsIds}
+use Rattle.raft_state.specs.log_id_list.LogReads.{id_at, last_id}
+use Rattle.raft_state.specs.raft_state.Sound.{purged_or_logged}
 use Rattle.raft_state.specs.declared.entry.EntryOf.{EntryOf}
 use Rattle.raft_state.specs.declared.raft_state.RaftStateIn.{RaftStateIn}
 

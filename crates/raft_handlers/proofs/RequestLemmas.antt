@@ -10,12 +10,12 @@ use Rattle.raft_handlers.proofs.EntryLemmas.{has_alike}
 use Rattle.raft_handlers.specs.Append.{has_entry, IfMatches}
 use Rattle.raft_handlers.specs.declared.message.Outcome.{Outcome}
 use Rattle.raft_handlers.specs.declared.message.Outcome.TheVariants.{Matches, Conflict, HigherVote}
-use Rattle.raft_members.specs.MajorityLawful.{list_all-weaker}
+use Rattle.raft_members.specs.quorum.MajorityLawful.{list_all-weaker}
 use Rattle.raft_state.proofs.lemmas.log_id_list.IdOrderLemmas.{none_at_most}
 use Rattle.raft_state.specs.Accepted.{last_accepted}
-use Rattle.raft_state.specs.FullLog.{full_log}
-use Rattle.raft_state.specs.LogReads.{last_id}
-use Rattle.raft_state.specs.Sound.{IsSound}
+use Rattle.raft_state.specs.log_id_list.FullLog.{full_log}
+use Rattle.raft_state.specs.log_id_list.LogReads.{last_id}
+use Rattle.raft_state.specs.raft_state.Sound.{IsSound}
 use Rattle.raft_state.specs.declared.accepted.AcceptedIn.{AcceptedIn}
 use Rattle.raft_state.specs.declared.entry.EntryOf.{EntryOf}
 use Rattle.raft_state.specs.declared.raft_state.RaftStateIn.{RaftStateIn}

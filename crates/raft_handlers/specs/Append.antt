@@ -10,13 +10,13 @@ use Rattle.raft_handlers.specs.Entries.{entry_ids, memberships_below}
 use Rattle.raft_handlers.specs.declared.message.AppendEntries.{AppendEntries}
 use Rattle.raft_handlers.specs.declared.message.Outcome.{Outcome}
 use Rattle.raft_handlers.specs.declared.message.Outcome.TheVariants.{Matches, Conflict, HigherVote}
-use Rattle.raft_state.specs.Appended.{are_consecutive, AppendsMemberships}
-use Rattle.raft_state.specs.Entry.{payload_membership}
-use Rattle.raft_state.specs.FullLog.{end_index, full_log}
-use Rattle.raft_state.specs.LogReads.{id_at, last_id}
-use Rattle.raft_state.specs.MembershipMoves.{after_commit}
-use Rattle.raft_state.specs.Memberships.{Memberships}
-use Rattle.raft_state.specs.Sound.{purged_or_logged}
+use Rattle.raft_state.specs.raft_state.Appended.{are_consecutive, AppendsMemberships}
+use Rattle.raft_state.specs.entry.Entry.{payload_membership}
+use Rattle.raft_state.specs.log_id_list.FullLog.{end_index, full_log}
+use Rattle.raft_state.specs.log_id_list.LogReads.{id_at, last_id}
+use Rattle.raft_state.specs.membership_state.MembershipMoves.{after_commit}
+use Rattle.raft_state.specs.membership_state.Memberships.{Memberships}
+use Rattle.raft_state.specs.raft_state.Sound.{purged_or_logged}
 use Rattle.raft_state.specs.declared.entry.EntryOf.{EntryOf}
 use Rattle.raft_state.specs.declared.raft_state.RaftStateIn.{RaftStateIn}
 

@@ -4,11 +4,11 @@ use Rattle.std.specs.Option.{option_map_or}
 use mathlib.Core.Bool.{beq}
 use Rattle.raft_base.specs.declared.log_id.LogIdOf.{LogIdOf}
 use Rattle.raft_base.specs.declared.vote.VoteIn.{VoteIn}
-use Rattle.raft_members.specs.Majority.{is_joint_majority, is_voter_of}
-use Rattle.raft_members.specs.Stored.{membership_of}
+use Rattle.raft_members.specs.quorum.Majority.{is_joint_majority, is_voter_of}
+use Rattle.raft_members.specs.membership.Stored.{membership_of}
 use Rattle.raft_progress.specs.progress.Shown.{state}
 use Rattle.raft_progress.specs.tracked.TrackedState.{TrackedShown}
-use Rattle.raft_state.specs.Memberships.{Memberships}
+use Rattle.raft_state.specs.membership_state.Memberships.{Memberships}
 use Rattle.raft_handlers.specs.declared.message.VoteResponse.{VoteResponse}
 
 -- the node that campaigns, its vote, its last log id, and who of the members has voted for it

@@ -2,7 +2,7 @@
 use Rattle.std.specs.Prelude.{◌≡◌, ℕ, Bool, true, Some, None, Option, is_some, IsTrue}
 use Rattle.raft_base.specs.declared.log_id.LogIdOf.{LogIdOf}
 use Rattle.raft_handlers.specs.Leadership.{Leadership, unknown_entry}
-use Rattle.raft_members.specs.Members.{MemberList, same_members}
+use Rattle.raft_members.specs.membership.Members.{MemberList, same_members}
 use Rattle.raft_progress.specs.progress.Shown.{state}
 use Rattle.raft_progress.specs.tracked.TrackedState.{TrackedShown}
 use Rattle.raft_progress.specs.declared.entry.ProgressEntryOf.{ProgressEntryOf}

@@ -22,16 +22,16 @@ use Rattle.std.specs.declared.cmp.Ordering.{Ordering}
 use Rattle.raft_base.specs.LogId.{id_le, id_lt, index_of, same_ids}
 use Rattle.raft_base.specs.LogIndex.{index_le, index_lt}
 use Rattle.raft_base.specs.declared.log_id.LogIdOf.{LogIdOf}
-use Rattle.raft_members.specs.Stored.{log_id_of}
-use Rattle.raft_state.specs.Appended.{are_consecutive, last_stored, memberships_follow}
-use Rattle.raft_state.specs.Entry.{payload_membership}
-use Rattle.raft_state.specs.FullLog.{full_log}
-use Rattle.raft_state.specs.LogConditions.{all_follow}
-use Rattle.raft_state.specs.LogEdits.{front}
-use Rattle.raft_state.specs.LogReads.{id_at, last_id}
-use Rattle.raft_state.specs.MembershipMoves.{after_truncate}
-use Rattle.raft_state.specs.Memberships.{Memberships}
-use Rattle.raft_state.specs.Truncate.{may_truncate}
+use Rattle.raft_members.specs.membership.Stored.{log_id_of}
+use Rattle.raft_state.specs.raft_state.Appended.{are_consecutive, last_stored, memberships_follow}
+use Rattle.raft_state.specs.entry.Entry.{payload_membership}
+use Rattle.raft_state.specs.log_id_list.FullLog.{full_log}
+use Rattle.raft_state.specs.log_id_list.LogConditions.{all_follow}
+use Rattle.raft_state.specs.log_id_list.LogEdits.{front}
+use Rattle.raft_state.specs.log_id_list.LogReads.{id_at, last_id}
+use Rattle.raft_state.specs.membership_state.MembershipMoves.{after_truncate}
+use Rattle.raft_state.specs.membership_state.Memberships.{Memberships}
+use Rattle.raft_state.specs.raft_state.Truncate.{may_truncate}
 use Rattle.raft_state.specs.declared.entry.EntryOf.{EntryOf}
 use Rattle.raft_state.specs.declared.raft_state.RaftStateIn.{RaftStateIn}
 

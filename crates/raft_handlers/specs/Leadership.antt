@@ -7,11 +7,11 @@ use Rattle.raft_base.specs.LogId.{log_id_cmp, next_index}
 use Rattle.raft_base.specs.LogView.{LogView}
 use Rattle.raft_base.specs.declared.log_id.LogIdOf.{LogIdOf}
 use Rattle.raft_base.specs.declared.vote.VoteIn.{VoteIn}
-use Rattle.raft_members.specs.Change.{changed}
-use Rattle.raft_members.specs.Majority.{is_voter_of}
-use Rattle.raft_members.specs.Members.{members_of}
-use Rattle.raft_members.specs.Reached.{EachQuorumKnows}
-use Rattle.raft_members.specs.Stored.{membership_of}
+use Rattle.raft_members.specs.membership.Change.{changed}
+use Rattle.raft_members.specs.quorum.Majority.{is_voter_of}
+use Rattle.raft_members.specs.membership.Members.{members_of}
+use Rattle.raft_members.specs.quorum.Reached.{EachQuorumKnows}
+use Rattle.raft_members.specs.membership.Stored.{membership_of}
 use Rattle.raft_members.specs.declared.change_members.ChangeMembers.{ChangeMembers}
 use Rattle.raft_progress.specs.entry.Send.{can_be_sent, send_table}
 use Rattle.raft_progress.specs.progress.CountedValue.{has_part}
@@ -22,11 +22,11 @@ use Rattle.raft_progress.specs.declared.entry.ProgressEntryOf.{ProgressEntryOf}
 use Rattle.raft_progress.specs.declared.inflight.InflightOf.TheVariants.{None as Idle}
 use Rattle.raft_handlers.specs.declared.error.HandlerError.{HandlerError}
 use Rattle.raft_handlers.specs.declared.error.HandlerError.TheVariants.{MembershipNotInOrder, NotLogged, OutOfMemory}
-use Rattle.raft_state.specs.Commit.{state_commits, state_may_commit}
-use Rattle.raft_state.specs.FullLog.{end_index, full_log}
-use Rattle.raft_state.specs.Memberships.{Memberships}
-use Rattle.raft_state.specs.StateView.{view_of, vote_of}
-use Rattle.raft_state.specs.Valid.{none_or_logged}
+use Rattle.raft_state.specs.raft_state.Commit.{state_commits, state_may_commit}
+use Rattle.raft_state.specs.log_id_list.FullLog.{end_index, full_log}
+use Rattle.raft_state.specs.membership_state.Memberships.{Memberships}
+use Rattle.raft_state.specs.raft_state.StateView.{view_of, vote_of}
+use Rattle.raft_state.specs.raft_state.Valid.{none_or_logged}
 use Rattle.raft_state.specs.declared.raft_state.RaftStateIn.{RaftStateIn}
 
 -- the node that leads, its committed leader id, and what it knows of each member by its membership

@@ -2,12 +2,12 @@
 use Rattle.std.specs.Prelude.{◌≡◌, Bool, true, false, ◌&&◌, ◌++◌, [], ◌∷◌, List, Option, Some, None}
 use Rattle.std.specs.Prelude.{IsTrue}
 use Rattle.raft_base.specs.declared.log_id.LogIdOf.{LogIdOf}
-use Rattle.raft_state.specs.FullLog.{end_index, full_log}
-use Rattle.raft_members.specs.Members.{MemberList}
+use Rattle.raft_state.specs.log_id_list.FullLog.{end_index, full_log}
+use Rattle.raft_members.specs.membership.Members.{MemberList}
 use Rattle.raft_members.specs.declared.membership.stored.StoredMembershipOf.{StoredMembershipOf}
-use Rattle.raft_state.specs.Appended.{IsStoredBy}
-use Rattle.raft_state.specs.MembershipMoves.{after_append}
-use Rattle.raft_state.specs.Memberships.{Memberships}
+use Rattle.raft_state.specs.raft_state.Appended.{IsStoredBy}
+use Rattle.raft_state.specs.membership_state.MembershipMoves.{after_append}
+use Rattle.raft_state.specs.membership_state.Memberships.{Memberships}
 use Rattle.raft_state.specs.declared.raft_state.RaftStateIn.{RaftStateIn}
 
 -- the log id of a leader's next entry: the index after the last log id

@@ -10,12 +10,12 @@ ghost use Rattle.raft_handlers.specs.Append.{elected, greatest, has_all, has_ent
 ghost use Rattle.raft_handlers.specs.Entries.{entry_ids};
 ghost use Rattle.raft_handlers.specs.declared.error.HandlerError.TheVariants.{OutOfMemory};
 ghost use Rattle.raft_handlers.specs.declared.message.Outcome.TheVariants.{HigherVote};
-ghost use Rattle.raft_state.specs.Appended.{are_consecutive};
-ghost use Rattle.raft_state.specs.FullLog.{full_log};
-ghost use Rattle.raft_state.specs.LogEdits.{front};
-ghost use Rattle.raft_state.specs.LogReads.{last_id};
-ghost use Rattle.raft_state.specs.Sound.{purged_or_logged, IsSound};
-ghost use Rattle.raft_state.specs.StateView.{vote_of};
+ghost use Rattle.raft_state.specs.raft_state.Appended.{are_consecutive};
+ghost use Rattle.raft_state.specs.log_id_list.FullLog.{full_log};
+ghost use Rattle.raft_state.specs.log_id_list.LogEdits.{front};
+ghost use Rattle.raft_state.specs.log_id_list.LogReads.{last_id};
+ghost use Rattle.raft_state.specs.raft_state.Sound.{purged_or_logged, IsSound};
+ghost use Rattle.raft_state.specs.raft_state.StateView.{vote_of};
 
 use crate::error::HandlerError;
 use crate::log::{append_new, can_cut, cut, is_next};

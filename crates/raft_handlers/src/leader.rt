@@ -4,8 +4,8 @@ ghost use Rattle.std.specs.Set.{ClonesAreEqual};
 ghost use Rattle.raft_base.specs.UTime.{moment_of, utime_of};
 ghost use Rattle.raft_handlers.specs.Campaign.{HasMajorities, same_vote};
 ghost use Rattle.raft_handlers.specs.Leadership.{KnowsNothing, leads};
-ghost use Rattle.raft_state.specs.Sound.{IsSound};
-ghost use Rattle.raft_state.specs.StateView.{vote_of};
+ghost use Rattle.raft_state.specs.raft_state.Sound.{IsSound};
+ghost use Rattle.raft_state.specs.raft_state.StateView.{vote_of};
 
 mod change;
 mod commit;

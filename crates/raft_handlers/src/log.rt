@@ -7,16 +7,16 @@ ghost use Rattle.raft_base.specs.LogIndex.{index_lt};
 ghost use Rattle.raft_handlers.specs.Append.{follow_on, greatest, replaced_since, KeepsBelow, TakesMemberships};
 ghost use Rattle.raft_handlers.specs.Entries.{allows_commit, effective_below, effective_with, ends_before, entry_ids, has_with, last_below, may_append_after, may_commit_with, may_cut, memberships_below};
 ghost use Rattle.raft_handlers.specs.declared.error.HandlerError.TheVariants.{OutOfMemory};
-ghost use Rattle.raft_state.specs.FullLog.{full_log};
-ghost use Rattle.raft_state.specs.LogConditions.{follows};
-ghost use Rattle.raft_state.specs.LogEdits.{front};
-ghost use Rattle.raft_state.specs.LogKept.{HasIds};
-ghost use Rattle.raft_state.specs.LogReads.{last_id};
-ghost use Rattle.raft_state.specs.Commit.{state_after_commit, state_may_commit};
-ghost use Rattle.raft_state.specs.MembershipMoves.{after_commit};
-ghost use Rattle.raft_state.specs.Sound.{IsSound};
-ghost use Rattle.raft_state.specs.StateView.{view_of};
-ghost use Rattle.raft_state.specs.Valid.{none_or_logged};
+ghost use Rattle.raft_state.specs.log_id_list.FullLog.{full_log};
+ghost use Rattle.raft_state.specs.log_id_list.LogConditions.{follows};
+ghost use Rattle.raft_state.specs.log_id_list.LogEdits.{front};
+ghost use Rattle.raft_state.specs.log_id_list.LogKept.{HasIds};
+ghost use Rattle.raft_state.specs.log_id_list.LogReads.{last_id};
+ghost use Rattle.raft_state.specs.raft_state.Commit.{state_after_commit, state_may_commit};
+ghost use Rattle.raft_state.specs.membership_state.MembershipMoves.{after_commit};
+ghost use Rattle.raft_state.specs.raft_state.Sound.{IsSound};
+ghost use Rattle.raft_state.specs.raft_state.StateView.{view_of};
+ghost use Rattle.raft_state.specs.raft_state.Valid.{none_or_logged};
 
 use crate::error::HandlerError;
 use raft_base::order::{

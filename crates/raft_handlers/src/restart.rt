@@ -1,8 +1,8 @@
 //! A restart: the state of a server from what its disk has.
 ghost use Rattle.std.specs.Prelude.{◌≡◌, ◌≤◌, IfOk, length};
 ghost use Rattle.std.specs.Set.{ClonesAreEqual};
-ghost use Rattle.raft_state.specs.Sound.{IsSound};
-ghost use Rattle.raft_state.specs.StateView.{vote_of};
+ghost use Rattle.raft_state.specs.raft_state.Sound.{IsSound};
+ghost use Rattle.raft_state.specs.raft_state.StateView.{vote_of};
 
 use crate::error::HandlerError;
 use crate::log::append_new;

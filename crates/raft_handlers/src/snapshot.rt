@@ -6,10 +6,10 @@ ghost use Rattle.raft_base.specs.LogId.{id_lt};
 ghost use Rattle.raft_base.specs.Vote.{vote_cmp};
 ghost use Rattle.raft_handlers.specs.Append.{elected, greatest, IfMatches};
 ghost use Rattle.raft_handlers.specs.declared.message.Outcome.TheVariants.{HigherVote};
-ghost use Rattle.raft_state.specs.FullLog.{full_log};
-ghost use Rattle.raft_state.specs.Install.{log_after_install};
-ghost use Rattle.raft_state.specs.Sound.{IsSound};
-ghost use Rattle.raft_state.specs.StateView.{vote_of};
+ghost use Rattle.raft_state.specs.log_id_list.FullLog.{full_log};
+ghost use Rattle.raft_state.specs.raft_state.Install.{log_after_install};
+ghost use Rattle.raft_state.specs.raft_state.Sound.{IsSound};
+ghost use Rattle.raft_state.specs.raft_state.StateView.{vote_of};
 
 use crate::error::HandlerError;
 use crate::message::{InstallSnapshot, Outcome, Response};

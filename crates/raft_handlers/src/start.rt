@@ -1,8 +1,8 @@
 //! The start of a cluster, by one of its members.
 ghost use Rattle.std.specs.Prelude.{◌≡◌, IsTrue, OnOk, OnErr, is_some};
 ghost use Rattle.std.specs.Set.{ClonesAreEqual};
-ghost use Rattle.raft_members.specs.Members.{node_at};
-ghost use Rattle.raft_state.specs.Sound.{IsSound};
+ghost use Rattle.raft_members.specs.membership.Members.{node_at};
+ghost use Rattle.raft_state.specs.raft_state.Sound.{IsSound};
 
 use crate::error::HandlerError;
 use crate::state::State;

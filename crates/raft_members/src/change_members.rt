@@ -31,8 +31,8 @@ pub enum ChangeMembers<NID: NodeId, N: Node> {
 }
 
 impl<NID: NodeId, N: Node> ChangeMembers<NID, N> {
-    ghost use Rattle.raft_members.specs.ReplaceAll.{ReplacesAllBy};
-    ghost use Rattle.raft_members.specs.SameChange.{IsSameChange};
+    ghost use Rattle.raft_members.specs.membership.ReplaceAll.{ReplacesAllBy};
+    ghost use Rattle.raft_members.specs.membership.SameChange.{IsSameChange};
 
     /// Returns the change that makes these ids the voters in place of all others, or an allocation
     /// error. Repeated ids count once.

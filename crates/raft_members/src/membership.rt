@@ -8,13 +8,13 @@ ghost use Rattle.std.specs.Set.{ClonesAreEqual, is_member};
 ghost use Rattle.std.specs.Map.{keys_of};
 ghost use Rattle.std.specs.BTreeMap.{get, keys};
 ghost use Rattle.std.specs.Cmp.{partial_equiv_from_equiv};
-ghost use Rattle.raft_members.specs.MembersLawful.{same_members-equiv};
-ghost use Rattle.raft_members.specs.Majority.{is_majority, is_joint_majority, is_voter_of};
-ghost use Rattle.raft_members.specs.Members.{MemberList, node_at, members_of, same_members, AddsNoId, HasNodes};
-ghost use Rattle.raft_members.specs.Valid.{has_empty_config, FirstWithoutNode, IsValid};
-ghost use Rattle.raft_members.specs.Refusal.{IsRefusal};
-ghost use Rattle.raft_members.specs.Defaults.{HasDefaults};
-ghost use Rattle.raft_members.specs.Learners.{learners_of, learners_ahead, is_learner};
+ghost use Rattle.raft_members.specs.membership.MembersLawful.{same_members-equiv};
+ghost use Rattle.raft_members.specs.quorum.Majority.{is_majority, is_joint_majority, is_voter_of};
+ghost use Rattle.raft_members.specs.membership.Members.{MemberList, node_at, members_of, same_members, AddsNoId, HasNodes};
+ghost use Rattle.raft_members.specs.membership.Valid.{has_empty_config, FirstWithoutNode, IsValid};
+ghost use Rattle.raft_members.specs.membership.Refusal.{IsRefusal};
+ghost use Rattle.raft_members.specs.membership.Defaults.{HasDefaults};
+ghost use Rattle.raft_members.specs.membership.Learners.{learners_of, learners_ahead, is_learner};
 ghost use Rattle.raft_members.specs.declared.error.ChangeMembershipErrorOf.TheVariants.{OutOfMemory};
 
 mod change;
@@ -59,7 +59,7 @@ pub struct Membership<NID: NodeId, N: Node> {
 
 impl<NID: NodeId, N: Node> Model for Membership<NID, N> {
     ghost use Rattle.std.specs.Prelude.{map};
-    ghost use Rattle.raft_members.specs.MemberList.{MemberList};
+    ghost use Rattle.raft_members.specs.membership.MemberList.{MemberList};
 
     ghost Value = { MemberList NID N };
 

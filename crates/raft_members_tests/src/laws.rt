@@ -1,8 +1,8 @@
 //! Callers of the laws of quorums and of changes, each as an engine has the need.
-ghost use Rattle.raft_members.specs.AtLeast.{ids_of, need_of};
-ghost use Rattle.raft_members.specs.Meeting.{HaveSameQuorums, ShareCommonVoter, ShareMember, ShareVoter};
-ghost use Rattle.raft_members.specs.Reached.{EachQuorumKnows};
-ghost use Rattle.raft_members.specs.Stored.{membership_of};
+ghost use Rattle.raft_members.specs.quorum.AtLeast.{ids_of, need_of};
+ghost use Rattle.raft_members.specs.quorum.Meeting.{HaveSameQuorums, ShareCommonVoter, ShareMember, ShareVoter};
+ghost use Rattle.raft_members.specs.quorum.Reached.{EachQuorumKnows};
+ghost use Rattle.raft_members.specs.membership.Stored.{membership_of};
 ghost use Rattle.std.specs.List.{IsDistinct};
 ghost use Rattle.std.specs.Prelude.{◌+◌, ◌<◌, ◌≡◌, IfOk, IfSome, IsTrue, false, length, true};
 ghost use Rattle.std.specs.Set.{ClonesAreEqual, distinct_count, is_member};

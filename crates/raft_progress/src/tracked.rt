@@ -1,7 +1,7 @@
 //! A membership and the progress that counts by it. Both change only together.
 ghost use Rattle.std.specs.Prelude.{◌≡◌, IfOk};
-ghost use Rattle.raft_members.specs.Learners.{learners_of};
-ghost use Rattle.raft_members.specs.Members.{members_of};
+ghost use Rattle.raft_members.specs.membership.Learners.{learners_of};
+ghost use Rattle.raft_members.specs.membership.Members.{members_of};
 ghost use Rattle.raft_progress.specs.tracked.TrackedState.{AreLearners, IsReady};
 ghost use Rattle.raft_progress.specs.progress.VecProgress.{shown};
 
@@ -86,7 +86,7 @@ impl<NID: NodeId, N: Node, V: ProgressPart<P> + Drop, P: Copy + Ord> Tracked<NID
 impl<NID: NodeId, N: Node, V: ProgressPart<P> + Clone + Drop, P: Copy + Ord> Tracked<NID, N, V, P> {
     ghost use Rattle.std.specs.Prelude.{◌≡◌, IfOk, IsTrue};
     ghost use Rattle.std.specs.Set.{ClonesAreEqual};
-    ghost use Rattle.raft_members.specs.Members.{same_members};
+    ghost use Rattle.raft_members.specs.membership.Members.{same_members};
     ghost use Rattle.raft_progress.specs.progress.Equal.{IsCloned};
     ghost use Rattle.raft_progress.specs.tracked.Tracked.{tracked};
     ghost use Rattle.raft_progress.specs.tracked.TrackedState.{HasSameConfigs};

@@ -1,7 +1,7 @@
 -- What a majority of each config has: the words of whoever counts matches, votes or replies.
 use Rattle.std.specs.Prelude.{◌≡◌, ◌<◌, Bool, true, false, length}
 use Rattle.std.specs.Option.{option_map_or}
-use Rattle.raft_members.specs.Majority.{is_joint_majority}
+use Rattle.raft_members.specs.quorum.Majority.{is_joint_majority}
 use Rattle.raft_progress.specs.progress.Shown.{state}
 use Rattle.raft_progress.specs.tracked.TrackedState.{TrackedShown}
 

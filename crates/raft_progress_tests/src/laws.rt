@@ -1,6 +1,6 @@
 //! Callers of the laws of progresses, each as an engine has the need.
 ghost use Rattle.raft_base.specs.LogId.{next_index};
-ghost use Rattle.raft_members.specs.Coherence.{is_coherent};
+ghost use Rattle.raft_members.specs.quorum.Coherence.{is_coherent};
 ghost use Rattle.raft_progress.specs.declared.progress.steps.AnyStep.TheVariants.{IncreaseTo, Update, Upgrade};
 ghost use Rattle.raft_progress.specs.declared.progress.steps.Reply.TheVariants.{Granted};
 ghost use Rattle.raft_progress.specs.declared.progress.steps.Reply.{Reply};

@@ -1,7 +1,7 @@
 //! What a progress counts: quorum tests that are those made, updates and moves, over worked
 //! updates with what is granted and the walk.
-ghost use Rattle.raft_members.specs.Majority.{is_majority};
-ghost use Rattle.raft_members.specs.MajorityLawful.{is_majority-superset};
+ghost use Rattle.raft_members.specs.quorum.Majority.{is_majority};
+ghost use Rattle.raft_members.specs.quorum.MajorityLawful.{is_majority-superset};
 ghost use Rattle.raft_progress.specs.progress.InOrder.{IsInOrder};
 ghost use Rattle.raft_progress.specs.progress.VecProgress.{shown};
 ghost use Rattle.std.specs.Ordering.{nat_cmp};

@@ -1,8 +1,8 @@
 -- Which config is in effect in a log, and when a leader may propose another.
 use Rattle.std.specs.Prelude.{◌≡◌, ◌<◌, ◌≤◌, ℕ, Bool, true, Option, Some, None, List, [], ◌∷◌, ◌++◌, length, drop}
 use Rattle.std.specs.Option.{unwrap_or}
-use Rattle.raft_members.specs.Coherence.{is_coherent, next_configs}
-use Rattle.raft_members.specs.Majority.{is_joint_majority}
+use Rattle.raft_members.specs.quorum.Coherence.{is_coherent, next_configs}
+use Rattle.raft_members.specs.quorum.Majority.{is_joint_majority}
 use Rattle.raft_safety.specs.Log.{Entry, IsPrefix}
 use Rattle.raft_safety.specs.Events.{History}
 use Rattle.raft_safety.specs.Facts.{IsElected, IsCommitted}

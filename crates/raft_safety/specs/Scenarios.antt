@@ -7,8 +7,8 @@ use Rattle.std.specs.Prelude.{◌≡◌, ℕ, Bool, true, false, ◌&&◌, nat_e
 use Rattle.std.specs.Ordering.{nat_cmp}
 use Rattle.raft_base.specs.LeaderId.{leader_id_cmp}
 use Rattle.raft_base.specs.declared.leader_id.LeaderId.{LeaderId}
-use Rattle.raft_members.specs.Coherence.{is_coherent}
-use Rattle.raft_members.specs.Majority.{is_joint_majority}
+use Rattle.raft_members.specs.quorum.Coherence.{is_coherent}
+use Rattle.raft_members.specs.quorum.Majority.{is_joint_majority}
 use Rattle.raft_safety.specs.Log.{Entry}
 use Rattle.raft_safety.specs.Events.{Ack, Append, Event}
 use Rattle.raft_safety.specs.Facts.{IsCommitted, IsElected}

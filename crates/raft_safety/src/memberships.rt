@@ -2,8 +2,8 @@
 ghost use Rattle.std.specs.Prelude.{◌≡◌, map};
 ghost use Rattle.std.specs.List.{IsDistinct, list_any, list_all};
 ghost use Rattle.std.specs.Set.{is_member};
-ghost use Rattle.raft_members.specs.Coherence.{share_child};
-ghost use Rattle.raft_members.specs.Majority.{is_majority};
+ghost use Rattle.raft_members.specs.quorum.Coherence.{share_child};
+ghost use Rattle.raft_members.specs.quorum.Majority.{is_majority};
 ghost use Rattle.raft_safety.specs.Memberships.{configs_of};
 
 use crate::checker::Configs;

@@ -2,7 +2,7 @@
 use Rattle.std.specs.Prelude.{◌≡◌, ◌⊎◌, ◌<◌, ℕ, Bool, true, Option, List, length}
 use Rattle.std.specs.declared.cmp.Ordering.{Ordering}
 use Rattle.std.specs.declared.cmp.Ordering.TheVariants.{Equal}
-use Rattle.raft_members.specs.Majority.{has_at_least, is_joint_majority}
+use Rattle.raft_members.specs.quorum.Majority.{has_at_least, is_joint_majority}
 use Rattle.raft_safety.specs.Log.{Entry, IsPrefix}
 use Rattle.raft_safety.specs.Events.{History}
 use Rattle.raft_safety.specs.Rules.{FollowsRaft}

@@ -1,8 +1,8 @@
 -- A leader's commit and proposal as the theorems see them.
 use Rattle.std.specs.Prelude.{◌≡◌, ◌<◌, ℕ, Bool, true, Option, List, length, drop}
 use Rattle.std.specs.Set.{is_member}
-use Rattle.raft_members.specs.Coherence.{is_coherent}
-use Rattle.raft_members.specs.Majority.{is_joint_majority}
+use Rattle.raft_members.specs.quorum.Coherence.{is_coherent}
+use Rattle.raft_members.specs.quorum.Majority.{is_joint_majority}
 use Rattle.raft_safety.specs.Configs.{HoldNoConfig, MayProposeMembership, effective_config, is_quorum}
 use Rattle.raft_safety.specs.Log.{Entry}
 use Rattle.raft_safety.specs.Events.{History}

@@ -4,8 +4,8 @@ use Rattle.std.specs.Ordering.{nat_cmp, as_partial_cmp}
 use Rattle.std.specs.Option.{option_map}
 use Rattle.std.specs.Set.{is_member}
 use Rattle.raft_base.specs.declared.node.EmptyNode.{EmptyNode}
-use Rattle.raft_members.specs.Majority.{is_voter_of}
-use Rattle.raft_members.specs.Members.{node_at}
+use Rattle.raft_members.specs.quorum.Majority.{is_voter_of}
+use Rattle.raft_members.specs.membership.Members.{node_at}
 use Rattle.raft_progress.specs.progress.Comparisons.{Comparisons}
 use Rattle.raft_progress.specs.progress.CountedValue.{IsCounted}
 use Rattle.raft_progress.specs.tracked.Headline.{ChangedQuorumsKnowGranted, QuorumsKnowGranted}

@@ -1,8 +1,8 @@
 -- The metadata of a snapshot.
 use Rattle.std.specs.Prelude.{◌≡◌, Bool, [], None, IsTrue, string_bytes}
-use Rattle.raft_members.specs.Members.{same_members}
-use Rattle.raft_members.specs.Stored.{log_id_of, membership_of}
-use Rattle.raft_state.specs.Memberships.{IsNoMembership}
+use Rattle.raft_members.specs.membership.Members.{same_members}
+use Rattle.raft_members.specs.membership.Stored.{log_id_of, membership_of}
+use Rattle.raft_state.specs.membership_state.Memberships.{IsNoMembership}
 use Rattle.raft_state.specs.declared.snapshot_meta.SnapshotMetaOf.{SnapshotMetaOf}
 
 -- there is no snapshot: no log id, no membership and an empty name

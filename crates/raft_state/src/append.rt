@@ -3,14 +3,14 @@ ghost use Rattle.std.specs.Prelude.{◌≡◌, ◌++◌, [], None, false, IsTrue
 ghost use Rattle.std.specs.List.{list_any};
 ghost use Rattle.std.specs.Option.{option_or};
 ghost use Rattle.std.specs.Set.{ClonesAreEqual};
-ghost use Rattle.raft_state.specs.Appended.{are_consecutive, last_stored, may_append_entries, memberships_follow, AppendsMemberships};
-ghost use Rattle.raft_state.specs.FullLog.{full_log, same_log};
-ghost use Rattle.raft_state.specs.LogKept.{HasIds, KeepsIds};
-ghost use Rattle.raft_state.specs.LogReads.{last_id};
-ghost use Rattle.raft_state.specs.Sound.{IsSound};
-ghost use Rattle.raft_state.specs.Valid.{broken_relation};
+ghost use Rattle.raft_state.specs.raft_state.Appended.{are_consecutive, last_stored, may_append_entries, memberships_follow, AppendsMemberships};
+ghost use Rattle.raft_state.specs.log_id_list.FullLog.{full_log, same_log};
+ghost use Rattle.raft_state.specs.log_id_list.LogKept.{HasIds, KeepsIds};
+ghost use Rattle.raft_state.specs.log_id_list.LogReads.{last_id};
+ghost use Rattle.raft_state.specs.raft_state.Sound.{IsSound};
+ghost use Rattle.raft_state.specs.raft_state.Valid.{broken_relation};
 ghost use Rattle.raft_base.specs.LogId.{next_index};
-ghost use Rattle.raft_members.specs.Stored.{log_id_of};
+ghost use Rattle.raft_members.specs.membership.Stored.{log_id_of};
 
 use crate::entry::RaftPayload;
 use crate::membership_state::MembershipStateOf;

@@ -5,9 +5,9 @@ ghost use Rattle.raft_progress.specs.catch_up.CatchUp.{MatchesAll};
 ghost use Rattle.raft_progress.specs.catch_up.HonestRun.{HonestRunEnds};
 ghost use Rattle.raft_progress.specs.progress.VecProgress.{shown};
 ghost use Rattle.raft_progress.specs.search.Search.{stretch};
-ghost use Rattle.raft_state.specs.CatchUp.{state_can_catch_up};
-ghost use Rattle.raft_state.specs.Round.{IsCaughtUp, IsInOrderByMatch, IsRoundEnd, Visits};
-ghost use Rattle.raft_state.specs.StateView.{view_of};
+ghost use Rattle.raft_state.specs.raft_state.CatchUp.{state_can_catch_up};
+ghost use Rattle.raft_state.specs.raft_state.Round.{IsCaughtUp, IsInOrderByMatch, IsRoundEnd, Visits};
+ghost use Rattle.raft_state.specs.raft_state.StateView.{view_of};
 
 use crate::raft_state::RaftStateIn;
 use raft_base::{Instant, LogIdOf, Node, NodeId, Validate};

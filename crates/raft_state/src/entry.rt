@@ -1,7 +1,7 @@
 //! Log entries.
 ghost use Rattle.std.specs.Prelude.{◌≡◌, IfOk, IsOk, IsTrue, refl};
 ghost use Rattle.std.specs.Set.{ClonesAreEqual};
-ghost use Rattle.raft_state.specs.Entry.{is_blank_payload, same_payload, IsDefaultLogId};
+ghost use Rattle.raft_state.specs.entry.Entry.{is_blank_payload, same_payload, IsDefaultLogId};
 
 pub mod payload;
 mod traits;
@@ -79,8 +79,8 @@ fn default_log_id<C: Default>() -> LogIdOf<C>
 }
 
 impl<C, NID: NodeId, N: Node, D> RaftPayload<Membership<NID, N>> for EntryOf<C, NID, N, D> {
-    ghost use Rattle.raft_state.specs.Entry.{is_blank_payload, payload_membership};
-    ghost use Rattle.raft_state.specs.EntryLawful.{blank_stores_none as none_in_blank};
+    ghost use Rattle.raft_state.specs.entry.Entry.{is_blank_payload, payload_membership};
+    ghost use Rattle.raft_state.specs.entry.EntryLawful.{blank_stores_none as none_in_blank};
 
     ghost blank = { λ entry. is_blank_payload entry.payload };
 

@@ -1,18 +1,18 @@
 //! Installing a leader's snapshot in place of the log up to its last log id.
 ghost use Rattle.std.specs.Prelude.{◌≡◌, ◌&&◌, None, Some, IsTrue, IfOk, IfSome, OnOk, OnErr};
 ghost use Rattle.std.specs.Set.{ClonesAreEqual};
-ghost use Rattle.raft_state.specs.FullLog.{full_log};
+ghost use Rattle.raft_state.specs.log_id_list.FullLog.{full_log};
 ghost use Rattle.raft_base.specs.LogId.{id_le, same_ids};
 ghost use Rattle.raft_base.specs.LogIndex.{index_le};
-ghost use Rattle.raft_members.specs.Stored.{log_id_of};
-ghost use Rattle.raft_state.specs.Install.{is_logged, is_not_past, is_past_committed, keeps_committed, keeps_effective, may_install, log_to_keep, log_after_install, memberships_after_install, state_after_install};
-ghost use Rattle.raft_state.specs.LogConditions.{may_be_purged_to};
-ghost use Rattle.raft_state.specs.LogReads.{last_id};
-ghost use Rattle.raft_state.specs.Memberships.{index_at};
+ghost use Rattle.raft_members.specs.membership.Stored.{log_id_of};
+ghost use Rattle.raft_state.specs.raft_state.Install.{is_logged, is_not_past, is_past_committed, keeps_committed, keeps_effective, may_install, log_to_keep, log_after_install, memberships_after_install, state_after_install};
+ghost use Rattle.raft_state.specs.log_id_list.LogConditions.{may_be_purged_to};
+ghost use Rattle.raft_state.specs.log_id_list.LogReads.{last_id};
+ghost use Rattle.raft_state.specs.membership_state.Memberships.{index_at};
 ghost use Rattle.raft_state.specs.SnapshotMeta.{IsSnapshotCopy};
-ghost use Rattle.raft_state.specs.Sound.{IsSound};
-ghost use Rattle.raft_state.specs.StateView.{view_of};
-ghost use Rattle.raft_state.specs.Valid.{broken_relation, none_or_logged};
+ghost use Rattle.raft_state.specs.raft_state.Sound.{IsSound};
+ghost use Rattle.raft_state.specs.raft_state.StateView.{view_of};
+ghost use Rattle.raft_state.specs.raft_state.Valid.{broken_relation, none_or_logged};
 
 use crate::log_id_list::LogIdListOf;
 use crate::membership_state::MembershipStateOf;

@@ -1,10 +1,10 @@
 //! The leader of a node, according to its vote and its effective membership.
 ghost use Rattle.std.specs.Prelude.{◌≡◌, ◌&&◌, IfOk, IsOk, None, Some};
 ghost use Rattle.std.specs.Set.{ClonesAreEqual};
-ghost use Rattle.raft_members.specs.Majority.{is_voter_of};
-ghost use Rattle.raft_state.specs.Leads.{is_leading, server_state_of, known_leader, ForwardsTo};
-ghost use Rattle.raft_state.specs.Memberships.{in_effect};
-ghost use Rattle.raft_state.specs.StateView.{vote_of};
+ghost use Rattle.raft_members.specs.quorum.Majority.{is_voter_of};
+ghost use Rattle.raft_state.specs.raft_state.Leads.{is_leading, server_state_of, known_leader, ForwardsTo};
+ghost use Rattle.raft_state.specs.membership_state.Memberships.{in_effect};
+ghost use Rattle.raft_state.specs.raft_state.StateView.{vote_of};
 
 use crate::raft_state::RaftStateIn;
 use raft_base::{Instant, LeaderIdentity, Node, NodeId, ServerState};

@@ -3,12 +3,12 @@ ghost use Rattle.std.specs.Prelude.{◌≡◌, ℕ, ◌+◌, ◌≤◌, ◌<◌,
 ghost use Rattle.std.specs.Option.{is_some, option_copied, option_or};
 ghost use Rattle.raft_base.specs.LogId.{id_le};
 ghost use Rattle.raft_base.specs.LogView.{prev_id};
-ghost use Rattle.raft_state.specs.FullLog.{full_log, first_index, end_index, same_log};
-ghost use Rattle.raft_state.specs.LogReads.{id_at, first_id, last_id, last_two_share_leader, leader_count};
-ghost use Rattle.raft_state.specs.LogEdits.{log_after_append, log_after_extend, front, log_after_purge};
-ghost use Rattle.raft_state.specs.LogKept.{HasIds, KeepsIds};
-ghost use Rattle.raft_state.specs.LogConditions.{follows, all_follow, all_follow_of_one_leader, may_be_purged_to};
-ghost use Rattle.raft_state.specs.Keys.{may_be_keys, by_last_leader};
+ghost use Rattle.raft_state.specs.log_id_list.FullLog.{full_log, first_index, end_index, same_log};
+ghost use Rattle.raft_state.specs.log_id_list.LogReads.{id_at, first_id, last_id, last_two_share_leader, leader_count};
+ghost use Rattle.raft_state.specs.log_id_list.LogEdits.{log_after_append, log_after_extend, front, log_after_purge};
+ghost use Rattle.raft_state.specs.log_id_list.LogKept.{HasIds, KeepsIds};
+ghost use Rattle.raft_state.specs.log_id_list.LogConditions.{follows, all_follow, all_follow_of_one_leader, may_be_purged_to};
+ghost use Rattle.raft_state.specs.log_id_list.Keys.{may_be_keys, by_last_leader};
 ghost use Rattle.raft_state.specs.Inner.LeaderRange.{HasOneLeader};
 
 mod keys;
@@ -41,7 +41,7 @@ pub type LogIdList<NID> = LogIdListOf<CommittedLeaderId<NID>>;
 impl<C: Ord + Copy> Model for LogIdListOf<C> {
     ghost use Rattle.std.specs.Prelude.{List, IsTrue};
     ghost use Rattle.raft_base.specs.declared.log_id.LogIdOf.{LogIdOf};
-    ghost use Rattle.raft_state.specs.Keys.{may_be_keys};
+    ghost use Rattle.raft_state.specs.log_id_list.Keys.{may_be_keys};
 
     ghost Value = { List (LogIdOf C) };
 
@@ -286,7 +286,7 @@ impl<C: Ord + Copy> Clone for LogIdListOf<C> {
 
 impl<C: Ord + Copy> PartialEq for LogIdListOf<C> {
     ghost use Rattle.std.specs.Cmp.{partial_equiv_from_equiv};
-    ghost use Rattle.raft_state.specs.FullLogLawful.{same_full_log-equiv};
+    ghost use Rattle.raft_state.specs.log_id_list.FullLogLawful.{same_full_log-equiv};
 
     ghost eq = { λ a b. same_log C.eq (full_log a) (full_log b) };
 
@@ -299,7 +299,7 @@ impl<C: Ord + Copy> PartialEq for LogIdListOf<C> {
 }
 
 impl<C: Ord + Copy> Eq for LogIdListOf<C> {
-    ghost use Rattle.raft_state.specs.FullLogLawful.{same_full_log-equiv};
+    ghost use Rattle.raft_state.specs.log_id_list.FullLogLawful.{same_full_log-equiv};
 
     ghost laws = { same_full_log-equiv C.Eq.laws };
 }

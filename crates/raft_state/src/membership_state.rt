@@ -5,13 +5,13 @@ ghost use Rattle.std.specs.Cmp.{partial_equiv_from_equiv};
 ghost use Rattle.std.specs.Set.{ClonesAreEqual};
 ghost use Rattle.raft_base.specs.Validate.{first_false};
 ghost use Rattle.raft_base.specs.LogIndex.{index_lt};
-ghost use Rattle.raft_members.specs.Majority.{is_voter_of};
-ghost use Rattle.raft_members.specs.Members.{node_at};
-ghost use Rattle.raft_state.specs.Leads.{ForwardsTo, known_node};
-ghost use Rattle.raft_state.specs.Memberships.{in_effect, index_at, same_memberships, IsNoMembership};
-ghost use Rattle.raft_state.specs.MembershipsLawful.{same_memberships-equiv};
-ghost use Rattle.raft_state.specs.MembershipMoves.{after_commit, commits, may_commit, after_append, may_append, after_truncate, is_cut, after_update_committed, effect_changes, effective_where, replaces_both};
-ghost use Rattle.raft_state.specs.MembershipRelations.{membership_relations};
+ghost use Rattle.raft_members.specs.quorum.Majority.{is_voter_of};
+ghost use Rattle.raft_members.specs.membership.Members.{node_at};
+ghost use Rattle.raft_state.specs.raft_state.Leads.{ForwardsTo, known_node};
+ghost use Rattle.raft_state.specs.membership_state.Memberships.{in_effect, index_at, same_memberships, IsNoMembership};
+ghost use Rattle.raft_state.specs.membership_state.MembershipsLawful.{same_memberships-equiv};
+ghost use Rattle.raft_state.specs.membership_state.MembershipMoves.{after_commit, commits, may_commit, after_append, may_append, after_truncate, is_cut, after_update_committed, effect_changes, effective_where, replaces_both};
+ghost use Rattle.raft_state.specs.membership_state.MembershipRelations.{membership_relations};
 
 mod change_handler;
 
@@ -43,7 +43,7 @@ pub struct MembershipStateOf<C, NID: NodeId, N: Node> {
 pub type MembershipState<NID, N> = MembershipStateOf<CommittedLeaderId<NID>, NID, N>;
 
 impl<C, NID: NodeId, N: Node> Model for MembershipStateOf<C, NID, N> {
-    ghost use Rattle.raft_state.specs.Memberships.{Memberships};
+    ghost use Rattle.raft_state.specs.membership_state.Memberships.{Memberships};
 
     ghost Value = { Memberships C NID N };
 

@@ -8,14 +8,14 @@ ghost use Rattle.raft_base.specs.LogId.{id_le};
 ghost use Rattle.raft_base.specs.UTime.{moment_of, utime_of};
 ghost use Rattle.raft_base.specs.Vote.{vote_cmp};
 ghost use Rattle.raft_state.specs.Accepted.{leader_of, accepted_id, after_accept};
-ghost use Rattle.raft_state.specs.FullLog.{full_log};
-ghost use Rattle.raft_state.specs.Leads.{is_initialized};
-ghost use Rattle.raft_state.specs.LogReads.{last_id};
-ghost use Rattle.raft_state.specs.NewState.{IsNewState, HasNewVote};
+ghost use Rattle.raft_state.specs.log_id_list.FullLog.{full_log};
+ghost use Rattle.raft_state.specs.raft_state.Leads.{is_initialized};
+ghost use Rattle.raft_state.specs.log_id_list.LogReads.{last_id};
+ghost use Rattle.raft_state.specs.raft_state.NewState.{IsNewState, HasNewVote};
 ghost use Rattle.raft_state.specs.SnapshotMeta.{IsSnapshotCopy};
-ghost use Rattle.raft_state.specs.Sound.{IsSound};
-ghost use Rattle.raft_state.specs.StateView.{view_of, vote_of};
-ghost use Rattle.raft_state.specs.Valid.{broken_relation};
+ghost use Rattle.raft_state.specs.raft_state.Sound.{IsSound};
+ghost use Rattle.raft_state.specs.raft_state.StateView.{view_of, vote_of};
+ghost use Rattle.raft_state.specs.raft_state.Valid.{broken_relation};
 
 pub use crate::accepted::Accepted;
 use crate::accepted::AcceptedIn;
@@ -78,7 +78,7 @@ pub type RaftState<NID, N, I> = RaftStateOf<NID, N, I, LeaderAdv>;
 
 impl<NID: NodeId, N: Node, I: Instant, L: Drop, C: Ord + Copy + Drop> LogStateReader<C>
     for RaftStateIn<NID, N, I, L, C> {
-    ghost use Rattle.raft_state.specs.LogReadsLawful.{id_at-indexed};
+    ghost use Rattle.raft_state.specs.log_id_list.LogReadsLawful.{id_at-indexed};
 
     ghost log_view = { view_of };
 

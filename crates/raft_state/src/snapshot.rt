@@ -1,9 +1,9 @@
 //! Recording a snapshot that the node has built itself, and scheduling how far its log may be
 //! purged then.
 ghost use Rattle.std.specs.Prelude.{◌≡◌, None, Some, IsTrue};
-ghost use Rattle.raft_state.specs.BuiltSnapshot.{may_build_snapshot, may_schedule_purge};
-ghost use Rattle.raft_state.specs.Sound.{IsSound};
-ghost use Rattle.raft_state.specs.Valid.{broken_relation};
+ghost use Rattle.raft_state.specs.raft_state.BuiltSnapshot.{may_build_snapshot, may_schedule_purge};
+ghost use Rattle.raft_state.specs.raft_state.Sound.{IsSound};
+ghost use Rattle.raft_state.specs.raft_state.Valid.{broken_relation};
 
 use crate::raft_state::RaftStateIn;
 use crate::snapshot_meta::SnapshotMetaOf;

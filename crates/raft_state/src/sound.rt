@@ -1,9 +1,9 @@
 //! Sound states, and which log ids a log has.
 ghost use Rattle.std.specs.Prelude.{◌≡◌, ◌↔◌, IsTrue};
 ghost use Rattle.raft_state.specs.Inner.SoundTest.{passes_sound};
-ghost use Rattle.raft_state.specs.Sound.{IsSound, purged_or_logged};
-ghost use Rattle.raft_state.specs.StateView.{view_of};
-ghost use Rattle.raft_state.specs.Valid.{none_or_logged};
+ghost use Rattle.raft_state.specs.raft_state.Sound.{IsSound, purged_or_logged};
+ghost use Rattle.raft_state.specs.raft_state.StateView.{view_of};
+ghost use Rattle.raft_state.specs.raft_state.Valid.{none_or_logged};
 
 use crate::raft_state::RaftStateIn;
 use raft_base::order::{log_id_at_most, same_optional_log_ids};

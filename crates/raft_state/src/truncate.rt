@@ -1,14 +1,14 @@
 //! Truncating a log, with the memberships in it.
 ghost use Rattle.std.specs.Prelude.{◌≡◌, ◌<◌, ℕ, None, false, true, IsTrue, IfOk, IsOk, OnOk, OnErr};
 ghost use Rattle.raft_state.specs.Accepted.{accepted_upto};
-ghost use Rattle.raft_state.specs.FullLog.{full_log};
-ghost use Rattle.raft_state.specs.LogEdits.{front};
-ghost use Rattle.raft_state.specs.LogReads.{id_at, last_id};
-ghost use Rattle.raft_state.specs.MembershipMoves.{after_truncate, is_cut};
-ghost use Rattle.raft_state.specs.Sound.{IsSound};
-ghost use Rattle.raft_state.specs.StateView.{view_of};
-ghost use Rattle.raft_state.specs.Truncate.{may_truncate};
-ghost use Rattle.raft_state.specs.Valid.{broken_relation, none_or_logged};
+ghost use Rattle.raft_state.specs.log_id_list.FullLog.{full_log};
+ghost use Rattle.raft_state.specs.log_id_list.LogEdits.{front};
+ghost use Rattle.raft_state.specs.log_id_list.LogReads.{id_at, last_id};
+ghost use Rattle.raft_state.specs.membership_state.MembershipMoves.{after_truncate, is_cut};
+ghost use Rattle.raft_state.specs.raft_state.Sound.{IsSound};
+ghost use Rattle.raft_state.specs.raft_state.StateView.{view_of};
+ghost use Rattle.raft_state.specs.raft_state.Truncate.{may_truncate};
+ghost use Rattle.raft_state.specs.raft_state.Valid.{broken_relation, none_or_logged};
 
 use crate::log_id_list::LogIdListOf;
 use crate::raft_state::RaftStateIn;

@@ -3,11 +3,11 @@ ghost use Rattle.std.specs.Prelude.{◌≡◌, ℕ, true, IsTrue, None, Some};
 ghost use Rattle.raft_base.specs.Logged.{Logged};
 ghost use Rattle.raft_base.specs.LogId.{id_le, index_of};
 ghost use Rattle.raft_base.specs.LogIndex.{index_lt};
-ghost use Rattle.raft_state.specs.FullLog.{full_log};
-ghost use Rattle.raft_state.specs.LogEdits.{front};
-ghost use Rattle.raft_state.specs.LogReads.{last_id};
-ghost use Rattle.raft_state.specs.StateView.{view_of};
-ghost use Rattle.raft_state.specs.Valid.{broken_relation, fits_purged_next, none_or_logged, upto_relation};
+ghost use Rattle.raft_state.specs.log_id_list.FullLog.{full_log};
+ghost use Rattle.raft_state.specs.log_id_list.LogEdits.{front};
+ghost use Rattle.raft_state.specs.log_id_list.LogReads.{last_id};
+ghost use Rattle.raft_state.specs.raft_state.StateView.{view_of};
+ghost use Rattle.raft_state.specs.raft_state.Valid.{broken_relation, fits_purged_next, none_or_logged, upto_relation};
 
 use crate::raft_state::RaftStateIn;
 use raft_base::order::log_id_at_most;

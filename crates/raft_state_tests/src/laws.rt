@@ -1,12 +1,12 @@
 //! Callers of the laws of `raft_state`, each as an engine has the need.
 ghost use Rattle.raft_base.specs.LogId.{id_le, same_ids};
-ghost use Rattle.raft_state.specs.FullLog.{first_index, full_log, same_log};
-ghost use Rattle.raft_state.specs.LogConditions.{follows};
-ghost use Rattle.raft_state.specs.LogEdits.{log_after_append};
-ghost use Rattle.raft_state.specs.LogReads.{first_id, id_at, last_id};
-ghost use Rattle.raft_state.specs.Purge.{may_purge};
-ghost use Rattle.raft_state.specs.Sending.{FromLog};
-ghost use Rattle.raft_state.specs.StateView.{view_of};
+ghost use Rattle.raft_state.specs.log_id_list.FullLog.{first_index, full_log, same_log};
+ghost use Rattle.raft_state.specs.log_id_list.LogConditions.{follows};
+ghost use Rattle.raft_state.specs.log_id_list.LogEdits.{log_after_append};
+ghost use Rattle.raft_state.specs.log_id_list.LogReads.{first_id, id_at, last_id};
+ghost use Rattle.raft_state.specs.raft_state.Purge.{may_purge};
+ghost use Rattle.raft_state.specs.raft_state.Sending.{FromLog};
+ghost use Rattle.raft_state.specs.raft_state.StateView.{view_of};
 ghost use Rattle.std.specs.Prelude.{◌≡◌, IsTrue, OnOk, Some, ℕ};
 
 use raft_base::order::log_id_at_most;

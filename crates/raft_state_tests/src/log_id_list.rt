@@ -1,6 +1,6 @@
 //! The list of log ids, and callers whose contracts show how much those of `raft_state` tell them.
-ghost use Rattle.raft_state.specs.FullLog.{full_log, same_log};
-ghost use Rattle.raft_state.specs.LogEdits.{front, log_after_append};
+ghost use Rattle.raft_state.specs.log_id_list.FullLog.{full_log, same_log};
+ghost use Rattle.raft_state.specs.log_id_list.LogEdits.{front, log_after_append};
 ghost use Rattle.std.specs.Prelude.{◌≡◌, IfOk, IsTrue, OnErr, false};
 
 use crate::laws::{is_up_to_date, logs_are_same, take_both};

@@ -2,9 +2,9 @@
 use Rattle.std.specs.Prelude.{◌≡◌, Bool, false, true, not, [], ◌∷◌, Option, Some, None, Result, Ok, Err, OnOk, refl}
 use Rattle.std.specs.Result.{is_err}
 use Rattle.raft_base.specs.declared.log_id.LogIdOf.{LogIdOf}
-use Rattle.raft_members.specs.Members.{MemberList}
-use Rattle.raft_state.specs.Appended.{AppendsMemberships}
-use Rattle.raft_state.specs.Memberships.{Memberships}
+use Rattle.raft_members.specs.membership.Members.{MemberList}
+use Rattle.raft_state.specs.raft_state.Appended.{AppendsMemberships}
+use Rattle.raft_state.specs.membership_state.Memberships.{Memberships}
 use Rattle.raft_handlers.specs.Proposals.{AppendsPayload}
 
 -- what holds on Ok holds of what is no Err

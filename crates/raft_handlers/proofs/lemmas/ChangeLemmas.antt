@@ -28,9 +28,9 @@ use Rattle.std.specs.Option.{option_map_or, unwrap_or}
 use Rattle.std.specs.declared.cmp.Ordering.{Ordering}
 use Rattle.std.proofs.Common.{ap, arith, sym, subst, ◌∙◌, true≢false}
 use Rattle.std.proofs.lemmas.Bool.Decides.{nat_tests}
-use Rattle.raft_members.specs.Change.{last_config, union_of}
-use Rattle.raft_members.specs.Coherence.{has_config, next_configs}
-use Rattle.raft_members.specs.Members.{MemberList}
+use Rattle.raft_members.specs.membership.Change.{last_config, union_of}
+use Rattle.raft_members.specs.quorum.Coherence.{has_config, next_configs}
+use Rattle.raft_members.specs.membership.Members.{MemberList}
 use Rattle.raft_members.proofs.lemmas.membership.ReplaceLemmas.{last_passes}
 use Rattle.raft_progress.specs.progress.Equal.{IsCloned}
 use Rattle.raft_progress.specs.progress.NewProgress.{HasClone}

@@ -33,8 +33,8 @@ use Rattle.std.specs.Set.{is_member, unique_keys}
 use Rattle.std.proofs.Common.{ap, arith, inl, inr, subst, sym, ◌∙◌, true≢false}
 use Rattle.std.proofs.lemmas.List.Folds.{list_all-map}
 use Rattle.std.proofs.lemmas.List.Sums.{sum_by-cons}
-use Rattle.raft_members.specs.Majority.{is_joint_majority, is_majority, is_voter_of}
-use Rattle.raft_members.specs.MajorityLawful.{is_joint_majority-superset}
+use Rattle.raft_members.specs.quorum.Majority.{is_joint_majority, is_majority, is_voter_of}
+use Rattle.raft_members.specs.quorum.MajorityLawful.{is_joint_majority-superset}
 use Rattle.raft_members.proofs.CallerLemmas.{majority_member}
 use Rattle.raft_members.proofs.lemmas.quorum.MajorityLemmas.{is_member-unique_keys}
 use Rattle.raft_progress.specs.progress.CountedValue.{AtMost, has_part, reached}

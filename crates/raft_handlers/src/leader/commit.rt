@@ -2,10 +2,10 @@
 ghost use Rattle.std.specs.Prelude.{◌≡◌, ◌<◌, ◌&&◌, false, IfErr, IfOk, IsTrue, OnErr, if◌then◌else◌, length};
 ghost use Rattle.raft_base.specs.LogId.{id_le, id_lt};
 ghost use Rattle.raft_handlers.specs.Leadership.{ChangedQuorumsHave, IsCommitRefusal, QuorumsHave, granted_by, is_of_leader};
-ghost use Rattle.raft_state.specs.Commit.{state_after_commit};
-ghost use Rattle.raft_state.specs.Sound.{IsSound};
-ghost use Rattle.raft_state.specs.StateView.{view_of};
-ghost use Rattle.raft_state.specs.Valid.{none_or_logged};
+ghost use Rattle.raft_state.specs.raft_state.Commit.{state_after_commit};
+ghost use Rattle.raft_state.specs.raft_state.Sound.{IsSound};
+ghost use Rattle.raft_state.specs.raft_state.StateView.{view_of};
+ghost use Rattle.raft_state.specs.raft_state.Valid.{none_or_logged};
 
 use super::Leader;
 use crate::error::HandlerError;

@@ -8,8 +8,8 @@ ghost use Rattle.raft_handlers.specs.declared.error.HandlerError.TheVariants.{Un
 ghost use Rattle.raft_progress.specs.declared.entry.ProgressEntryOf.{ProgressEntryOf};
 ghost use Rattle.raft_progress.specs.declared.inflight.InflightOf.TheVariants.{None as Idle};
 ghost use Rattle.raft_progress.specs.inflight.InflightTable.{FollowsTable};
-ghost use Rattle.raft_state.specs.StateView.{view_of};
-ghost use Rattle.raft_state.specs.Valid.{none_or_logged};
+ghost use Rattle.raft_state.specs.raft_state.StateView.{view_of};
+ghost use Rattle.raft_state.specs.raft_state.Valid.{none_or_logged};
 
 use super::Leader;
 use crate::error::HandlerError;

@@ -3,9 +3,9 @@ ghost use Rattle.std.specs.Prelude.{◌≡◌, None, Some, IfOk, IsOk, IsTrue, O
 ghost use Rattle.std.specs.Set.{ClonesAreEqual};
 ghost use Rattle.raft_handlers.specs.Leadership.{leads};
 ghost use Rattle.raft_handlers.specs.Proposals.{AppendsPayload, log_with_own, next_own_id};
-ghost use Rattle.raft_state.specs.Entry.{payload_membership};
-ghost use Rattle.raft_state.specs.FullLog.{full_log, same_log};
-ghost use Rattle.raft_state.specs.Sound.{IsSound};
+ghost use Rattle.raft_state.specs.entry.Entry.{payload_membership};
+ghost use Rattle.raft_state.specs.log_id_list.FullLog.{full_log, same_log};
+ghost use Rattle.raft_state.specs.raft_state.Sound.{IsSound};
 ghost use Rattle.raft_state.specs.declared.entry.payload.EntryPayload.TheVariants.{Blank, Normal};
 
 use super::Leader;

@@ -3,7 +3,7 @@ use Rattle.std.specs.Prelude.{◌≡◌, Bool, cond, Option, Some, None, List, I
 use Rattle.std.specs.declared.cmp.Ordering.{Ordering}
 use Rattle.std.specs.Ordering.{is_lt}
 use Rattle.std.specs.BTreeMap.{insert_entry, is_at}
-use Rattle.raft_members.specs.Members.{node_at}
+use Rattle.raft_members.specs.membership.Members.{node_at}
 
 -- a copy that equals the node was inserted at the id
 pub record PutsEqual {K N : Type 0} (same : N → N → Bool) (cmp : K → K → Ordering)

@@ -5,11 +5,11 @@ ghost use Rattle.std.specs.List.Sorted.{IsStrictlySortedBy};
 ghost use Rattle.std.specs.Set.{is_member};
 ghost use Rattle.std.specs.Cmp.Lexicographic.{pointwise};
 ghost use Rattle.std.specs.BTreeSet.{contains};
-ghost use Rattle.raft_members.specs.Majority.{is_voter_of};
-ghost use Rattle.raft_members.specs.Coherence.{next_configs};
-ghost use Rattle.raft_members.specs.Valid.{is_empty_config, has_empty_config};
+ghost use Rattle.raft_members.specs.quorum.Majority.{is_voter_of};
+ghost use Rattle.raft_members.specs.quorum.Coherence.{next_configs};
+ghost use Rattle.raft_members.specs.membership.Valid.{is_empty_config, has_empty_config};
 ghost use Rattle.raft_members.specs.Inner.Configs.{ids_of_configs};
-ghost use Rattle.raft_members.specs.Change.{last_config, union_of, without};
+ghost use Rattle.raft_members.specs.membership.Change.{last_config, union_of, without};
 
 use super::ids;
 use crate::quorum::ids_of_each;

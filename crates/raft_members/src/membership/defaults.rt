@@ -2,9 +2,9 @@
 ghost use Rattle.std.specs.Prelude.{◌≡◌, IfOk, OnOk, cond, Some};
 ghost use Rattle.std.specs.BTreeMap.{get, is_at};
 ghost use Rattle.std.specs.Set.{is_member};
-ghost use Rattle.raft_members.specs.Majority.{is_voter_of};
+ghost use Rattle.raft_members.specs.quorum.Majority.{is_voter_of};
 ghost use Rattle.raft_members.specs.Inner.Configs.{ids_of_configs};
-ghost use Rattle.raft_members.specs.Defaults.{HasDefaults};
+ghost use Rattle.raft_members.specs.membership.Defaults.{HasDefaults};
 
 use super::configs;
 use raft_base::NodeDefault;

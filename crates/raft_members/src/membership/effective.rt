@@ -6,13 +6,13 @@ ghost use Rattle.std.specs.Map.{keys_of};
 ghost use Rattle.std.specs.Option.{ForSome, option_copied};
 ghost use Rattle.std.specs.Set.{is_member};
 ghost use Rattle.std.specs.Cmp.{partial_equiv_from_equiv};
-ghost use Rattle.raft_members.specs.StoredLawful.{same_stored-equiv};
-ghost use Rattle.raft_members.specs.Majority.{is_voter_of, is_joint_majority};
-ghost use Rattle.raft_members.specs.MajorityLawful.{is_joint_majority-superset};
-ghost use Rattle.raft_members.specs.QuorumSize.{QuorumsHaveAtLeast, greatest, majority_size};
-ghost use Rattle.raft_members.specs.Learners.{learners_of, learners_ahead, is_learner};
-ghost use Rattle.raft_members.specs.Members.{node_at};
-ghost use Rattle.raft_members.specs.Stored.{log_id_of, membership_of};
+ghost use Rattle.raft_members.specs.membership.StoredLawful.{same_stored-equiv};
+ghost use Rattle.raft_members.specs.quorum.Majority.{is_voter_of, is_joint_majority};
+ghost use Rattle.raft_members.specs.quorum.MajorityLawful.{is_joint_majority-superset};
+ghost use Rattle.raft_members.specs.quorum.QuorumSize.{QuorumsHaveAtLeast, greatest, majority_size};
+ghost use Rattle.raft_members.specs.membership.Learners.{learners_of, learners_ahead, is_learner};
+ghost use Rattle.raft_members.specs.membership.Members.{node_at};
+ghost use Rattle.raft_members.specs.membership.Stored.{log_id_of, membership_of};
 
 use super::learner_ids::LearnerIds;
 use super::stored::StoredMembershipOf;
@@ -45,7 +45,7 @@ pub type EffectiveMembership<NID, N> = EffectiveMembershipOf<CommittedLeaderId<N
 impl<C, NID: NodeId, N: Node> Model for EffectiveMembershipOf<C, NID, N> {
     ghost use Rattle.std.specs.Prelude.{map};
     ghost use Rattle.raft_members.specs.Inner.Effective.{AgreesWith};
-    ghost use Rattle.raft_members.specs.Stored.{membership_of};
+    ghost use Rattle.raft_members.specs.membership.Stored.{membership_of};
     ghost use Rattle.raft_members.specs.declared.membership.stored.StoredMembershipOf.{StoredMembershipOf};
 
     ghost Value = { StoredMembershipOf C NID N };
@@ -295,7 +295,7 @@ impl<C: Copy + Drop, NID: NodeId, N: Node> Clone for EffectiveMembershipOf<C, NI
 }
 
 impl<C: Copy + Eq + Drop, NID: NodeId, N: Node> PartialEq for EffectiveMembershipOf<C, NID, N> {
-    ghost use Rattle.raft_members.specs.Stored.{same_stored};
+    ghost use Rattle.raft_members.specs.membership.Stored.{same_stored};
 
     ghost eq = { λ a b. same_stored C.eq NID.eq N.eq a b };
 

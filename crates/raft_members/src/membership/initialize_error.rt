@@ -1,8 +1,8 @@
 //! Why a node may not start a new cluster.
 ghost use Rattle.std.specs.Prelude.{◌≡◌, IfOk, IsOk, IsTrue};
 ghost use Rattle.std.specs.Set.{ClonesAreEqual};
-ghost use Rattle.raft_members.specs.Members.{same_members};
-ghost use Rattle.raft_members.specs.InitializeError.{IsCopyOf, is_not_allowed};
+ghost use Rattle.raft_members.specs.membership.Members.{same_members};
+ghost use Rattle.raft_members.specs.membership.InitializeError.{IsCopyOf, is_not_allowed};
 
 use super::Membership;
 use crate::error::NotAllowedIn;

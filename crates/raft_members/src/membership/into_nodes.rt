@@ -1,7 +1,7 @@
 //! Sources of the nodes of a membership.
 ghost use Rattle.std.specs.Prelude.{◌≡◌, List, [], IfOk, IsOk, IsNone, MatchOption};
 ghost use Rattle.std.specs.Set.{is_member};
-ghost use Rattle.raft_members.specs.Defaults.{HasDefaults};
+ghost use Rattle.raft_members.specs.membership.Defaults.{HasDefaults};
 
 use super::defaults::with_defaults;
 use super::ids::list_of;

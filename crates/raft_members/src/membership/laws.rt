@@ -1,5 +1,5 @@
 //! Laws of memberships. A caller that needs one in a proof calls its function, which does nothing.
-ghost use Rattle.raft_members.specs.Reached.{ChangeKeepsReached};
+ghost use Rattle.raft_members.specs.quorum.Reached.{ChangeKeepsReached};
 
 use raft_base::{Node, NodeId};
 

@@ -1,6 +1,6 @@
 //! The learners of a membership.
 ghost use Rattle.std.specs.Iterator.{YieldsFirst, item_count};
-ghost use Rattle.raft_members.specs.Learners.{learners_ahead};
+ghost use Rattle.raft_members.specs.membership.Learners.{learners_ahead};
 
 use super::configs::has_id;
 use raft_base::{Node, NodeId};

@@ -2,7 +2,7 @@
 ghost use Rattle.std.specs.Prelude.{◌≡◌, IfOk, IsOk, IsTrue, OnOk, cond, not, None, is_some};
 ghost use Rattle.std.specs.Option.{option_or};
 ghost use Rattle.std.specs.List.{find, filter};
-ghost use Rattle.raft_members.specs.Members.{AddsNoId, HasNodes, same_nodes};
+ghost use Rattle.raft_members.specs.membership.Members.{AddsNoId, HasNodes, same_nodes};
 ghost use Rattle.raft_members.specs.Inner.Configs.{ids_of_configs};
 ghost use Rattle.raft_members.specs.Inner.Nodes.{PutsEqual, lesser};
 ghost use Rattle.std.specs.List.Sorted.{IsStrictlySortedBy};
@@ -10,8 +10,8 @@ ghost use Rattle.std.specs.Set.{ClonesAreEqual};
 ghost use Rattle.std.specs.BTreeMap.{get, keys};
 ghost use Rattle.std.specs.Cmp.Lexicographic.{pointwise};
 ghost use Rattle.std.specs.BTreeSet.{contains};
-ghost use Rattle.raft_members.specs.Valid.{FirstWithoutNode};
-ghost use Rattle.raft_members.specs.Change.{keeps_node};
+ghost use Rattle.raft_members.specs.membership.Valid.{FirstWithoutNode};
+ghost use Rattle.raft_members.specs.membership.Change.{keeps_node};
 
 use super::configs::has_id;
 use std::alloc::{AllocError, Global};

@@ -3,9 +3,9 @@ ghost use Rattle.std.specs.Prelude.{◌≡◌, None, [], IfOk, IsOkAnd, IsTrue};
 ghost use Rattle.std.specs.Map.{keys_of};
 ghost use Rattle.std.specs.List.Sorted.{IsStrictlySortedBy};
 ghost use Rattle.std.specs.Set.{ClonesAreEqual, is_member};
-ghost use Rattle.raft_members.specs.Majority.{is_voter_of};
-ghost use Rattle.raft_members.specs.Members.{same_members};
-ghost use Rattle.raft_members.specs.Stored.{log_id_of, membership_of};
+ghost use Rattle.raft_members.specs.quorum.Majority.{is_voter_of};
+ghost use Rattle.raft_members.specs.membership.Members.{same_members};
+ghost use Rattle.raft_members.specs.membership.Stored.{log_id_of, membership_of};
 
 use super::Membership;
 use raft_base::{CommittedLeaderId, DisplayOption, LogIdOf, MessageSummary, Node, NodeId};

@@ -3,10 +3,10 @@ ghost use Rattle.std.specs.Prelude.{◌≡◌, ◌≤◌, Bool, IfOk, length};
 ghost use Rattle.std.specs.List.Sorted.{IsStrictlySortedBy};
 ghost use Rattle.std.specs.Set.{distinct_count, is_member};
 ghost use Rattle.std.proofs.lemmas.Map.Keys.{IsStrictlySortedBy-prop};
-ghost use Rattle.raft_members.specs.Majority.{has_at_least};
-ghost use Rattle.raft_members.specs.MajorityLawful.{has_at_least-superset};
-ghost use Rattle.raft_members.specs.Meeting.{RespectsEquality};
-ghost use Rattle.raft_members.specs.QuorumSize.{QuorumsHaveAtLeast};
+ghost use Rattle.raft_members.specs.quorum.Majority.{has_at_least};
+ghost use Rattle.raft_members.specs.quorum.MajorityLawful.{has_at_least-superset};
+ghost use Rattle.raft_members.specs.quorum.Meeting.{RespectsEquality};
+ghost use Rattle.raft_members.specs.quorum.QuorumSize.{QuorumsHaveAtLeast};
 
 use super::quorum_set::QuorumSet;
 use super::quorum_set_impl::{exceeds, has, sorted_copies};
@@ -27,7 +27,7 @@ pub struct AtLeast<ID: Copy + Ord> {
 }
 
 impl<ID: Copy + Ord> AtLeast<ID> {
-    ghost use Rattle.raft_members.specs.AtLeast.{ids_of, need_of, IsAlike};
+    ghost use Rattle.raft_members.specs.quorum.AtLeast.{ids_of, need_of, IsAlike};
 
     /// Returns the quorum set in which a quorum has at least `need` of these ids, or an allocation
     /// error. A repeated id counts once, and `need` is at least 1. If there are fewer ids than
@@ -70,7 +70,7 @@ impl<ID: Copy + Ord> AtLeast<ID> {
 
 /// A quorum has at least the stated number of the ids.
 impl<ID: Copy + Ord> QuorumSet<ID> for AtLeast<ID> {
-    ghost use Rattle.raft_members.specs.AtLeast.{ids_of, need_of};
+    ghost use Rattle.raft_members.specs.quorum.AtLeast.{ids_of, need_of};
 
     ghost has_quorum = { λ q s. has_at_least ID.eq (ids_of q) (need_of q) s };
 
@@ -98,7 +98,7 @@ impl<ID: Copy + Ord> QuorumSet<ID> for AtLeast<ID> {
 }
 
 impl<ID: Copy + Ord> Clone for AtLeast<ID> {
-    ghost use Rattle.raft_members.specs.AtLeast.{IsAlike};
+    ghost use Rattle.raft_members.specs.quorum.AtLeast.{IsAlike};
 
     ghost is_clone = { IsAlike };
 

@@ -1,7 +1,7 @@
 //! Joints that share a child, and the steps from one joint to another.
 ghost use Rattle.std.specs.Prelude.{◌≡◌, IfOk};
 ghost use Rattle.std.specs.Set.{ClonesAreEqual};
-ghost use Rattle.raft_members.specs.Coherence.{has_child, share_child, IsNext};
+ghost use Rattle.raft_members.specs.quorum.Coherence.{has_child, share_child, IsNext};
 
 use super::coherent::{Coherent, FindCoherent};
 use super::joint::Joint;

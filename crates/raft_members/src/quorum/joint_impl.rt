@@ -5,8 +5,8 @@ ghost use Rattle.std.specs.Prelude.{◌≡◌, ◌||◌, ℕ, IfOk, OnOk};
 ghost use Rattle.std.specs.List.{IsDistinct, list_any, list_all};
 ghost use Rattle.std.specs.List.Sorted.{IsStrictlySortedBy};
 ghost use Rattle.std.specs.Set.{is_member};
-ghost use Rattle.raft_members.specs.MajorityLawful.{list_all-weaker};
-ghost use Rattle.raft_members.specs.QuorumSize.{QuorumsHaveAtLeast, greatest};
+ghost use Rattle.raft_members.specs.quorum.MajorityLawful.{list_all-weaker};
+ghost use Rattle.raft_members.specs.quorum.QuorumSize.{QuorumsHaveAtLeast, greatest};
 
 use super::joint::Joint;
 use super::quorum_set::QuorumSet;

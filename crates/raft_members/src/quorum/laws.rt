@@ -1,5 +1,5 @@
 //! Laws of quorums. A caller that needs one in a proof calls its function, which does nothing.
-ghost use Rattle.raft_members.specs.Meeting.{MajorityHasVoter, QuorumsMeet, CoherentQuorumsMeet, EmptyConfigHasNoQuorum, NoConfigsTakeEverySet, AtLeastQuorumsMeet, NeedPastIdsHasNoQuorum, EqualConfigsHaveSameQuorums};
+ghost use Rattle.raft_members.specs.quorum.Meeting.{MajorityHasVoter, QuorumsMeet, CoherentQuorumsMeet, EmptyConfigHasNoQuorum, NoConfigsTakeEverySet, AtLeastQuorumsMeet, NeedPastIdsHasNoQuorum, EqualConfigsHaveSameQuorums};
 
 /// A majority of a config has one of its voters.
 pub fn majority_has_voter<ID: Copy + Ord>()

@@ -3,7 +3,7 @@ ghost use Rattle.std.specs.Prelude.{◌≡◌, Bool, true, IfOk};
 ghost use Rattle.std.specs.List.{IsDistinct};
 ghost use Rattle.std.specs.Set.{is_member};
 ghost use Rattle.std.specs.List.Sorted.{IsStrictlySortedBy};
-ghost use Rattle.raft_members.specs.QuorumSize.{QuorumsHaveAtLeast};
+ghost use Rattle.raft_members.specs.quorum.QuorumSize.{QuorumsHaveAtLeast};
 
 use std::alloc::{AllocError, Global};
 

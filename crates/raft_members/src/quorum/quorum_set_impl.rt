@@ -5,9 +5,9 @@ ghost use Rattle.std.specs.List.{IsDistinct, list_any};
 ghost use Rattle.std.specs.Set.{is_member};
 ghost use Rattle.std.specs.Fn.{AnyResult};
 ghost use Rattle.std.specs.List.Sorted.{IsStrictlySortedBy};
-ghost use Rattle.raft_members.specs.Majority.{is_majority};
-ghost use Rattle.raft_members.specs.MajorityLawful.{is_majority-superset};
-ghost use Rattle.raft_members.specs.QuorumSize.{QuorumsHaveAtLeast, majority_size};
+ghost use Rattle.raft_members.specs.quorum.Majority.{is_majority};
+ghost use Rattle.raft_members.specs.quorum.MajorityLawful.{is_majority-superset};
+ghost use Rattle.raft_members.specs.quorum.QuorumSize.{QuorumsHaveAtLeast, majority_size};
 
 use super::quorum_set::QuorumSet;
 use std::alloc::{AllocError, Global};

@@ -3,7 +3,7 @@
 use Rattle.std.specs.Prelude.{◌≡◌, Bool, true, Some}
 use Rattle.std.specs.Ordering.{is_lt}
 use Rattle.std.specs.declared.cmp.Ordering.{Ordering}
-use Rattle.raft_members.specs.Coherence.{is_coherent}
+use Rattle.raft_members.specs.quorum.Coherence.{is_coherent}
 use Rattle.raft_progress.specs.progress.CountedValue.{AtMost, has_part}
 use Rattle.raft_progress.specs.progress.Shown.{state}
 use Rattle.raft_progress.specs.tracked.TrackedState.{IsReady, TrackedShown}

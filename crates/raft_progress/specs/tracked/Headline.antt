@@ -1,9 +1,9 @@
 -- What is granted is known in every quorum, now and after one change of the membership.
 use Rattle.std.specs.Prelude.{◌<◌, Bool, length}
 use Rattle.std.specs.declared.cmp.Ordering.{Ordering}
-use Rattle.raft_members.specs.Change.{changed}
-use Rattle.raft_members.specs.Members.{members_of}
-use Rattle.raft_members.specs.Reached.{EachQuorumKnows}
+use Rattle.raft_members.specs.membership.Change.{changed}
+use Rattle.raft_members.specs.membership.Members.{members_of}
+use Rattle.raft_members.specs.quorum.Reached.{EachQuorumKnows}
 use Rattle.raft_members.specs.declared.change_members.ChangeMembers.{ChangeMembers}
 use Rattle.raft_progress.specs.progress.CountedValue.{has_part}
 use Rattle.raft_progress.specs.progress.Shown.{state}

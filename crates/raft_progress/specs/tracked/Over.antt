@@ -1,5 +1,5 @@
 -- A progress that counts by a membership, kept apart from it.
-use Rattle.raft_members.specs.Members.{MemberList}
+use Rattle.raft_members.specs.membership.Members.{MemberList}
 use Rattle.raft_progress.specs.progress.Shown.{Shown}
 use Rattle.raft_progress.specs.tracked.TrackedState.{Configs, TrackedShown}
 

@@ -2,7 +2,7 @@
 -- membership.
 use Rattle.std.specs.Prelude.{◌≡◌, Bool}
 use Rattle.std.specs.declared.cmp.Ordering.{Ordering}
-use Rattle.raft_members.specs.Members.{MemberList, members_of}
+use Rattle.raft_members.specs.membership.Members.{MemberList, members_of}
 use Rattle.raft_progress.specs.progress.Answered.{IsAnswered}
 use Rattle.raft_progress.specs.progress.ShownSteps.{IsUpdatedTo}
 use Rattle.raft_progress.specs.progress.Steps.{IsWritten}

@@ -1,9 +1,9 @@
 -- Calls of a membership and its progress as steps of a replay, and how replays compose.
 use Rattle.std.specs.List.{list_any}
 use Rattle.std.specs.Prelude.{◌≡◌, Bool, List, false}
-use Rattle.raft_members.specs.Change.{changed}
-use Rattle.raft_members.specs.Members.{MemberList, Says, members_of}
-use Rattle.raft_members.specs.Valid.{IsValid}
+use Rattle.raft_members.specs.membership.Change.{changed}
+use Rattle.raft_members.specs.membership.Members.{MemberList, Says, members_of}
+use Rattle.raft_members.specs.membership.Valid.{IsValid}
 use Rattle.raft_members.specs.declared.change_members.ChangeMembers.{ChangeMembers}
 use Rattle.raft_progress.specs.progress.Calls.{Compose}
 use Rattle.raft_progress.specs.progress.Comparisons.{Comparisons}

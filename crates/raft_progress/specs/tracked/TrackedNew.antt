@@ -1,8 +1,8 @@
 -- What a new tracked progress is made of.
 use Rattle.std.specs.Prelude.{Bool}
 use Rattle.std.specs.declared.cmp.Ordering.{Ordering}
-use Rattle.raft_members.specs.Learners.{learners_of}
-use Rattle.raft_members.specs.Members.{members_of}
+use Rattle.raft_members.specs.membership.Learners.{learners_of}
+use Rattle.raft_members.specs.membership.Members.{members_of}
 use Rattle.raft_progress.specs.progress.Statistics.{no_counts}
 use Rattle.raft_progress.specs.tracked.TrackedState.{Configs, HasConfigs, TrackedShown, is_voter}
 use Rattle.raft_progress.specs.progress.UpgradeFold.{BeginsAnew}

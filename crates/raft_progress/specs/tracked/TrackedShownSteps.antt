@@ -1,8 +1,8 @@
 -- What a step does to all that contracts see of a tracked progress.
 use Rattle.std.specs.Prelude.{◌≡◌, Bool, true, false, List}
 use Rattle.std.specs.declared.cmp.Ordering.{Ordering}
-use Rattle.raft_members.specs.Learners.{learners_of}
-use Rattle.raft_members.specs.Members.{members_of}
+use Rattle.raft_members.specs.membership.Learners.{learners_of}
+use Rattle.raft_members.specs.membership.Members.{members_of}
 use Rattle.raft_progress.specs.progress.Answered.{IsAnswered}
 use Rattle.raft_progress.specs.progress.Comparisons.{Comparisons}
 use Rattle.raft_progress.specs.progress.Run.{Runs}

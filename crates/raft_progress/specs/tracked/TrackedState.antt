@@ -4,8 +4,8 @@ use Rattle.std.specs.List.{IsDistinct, list_all, list_any}
 use Rattle.std.specs.Set.{is_member}
 use Rattle.std.specs.declared.cmp.Ordering.{Ordering}
 use Rattle.std.proofs.Common.{Global, Vec}
-use Rattle.raft_members.specs.Majority.{is_majority, is_voter_of}
-use Rattle.raft_members.specs.Members.{MemberList, Members, members_of, node_at}
+use Rattle.raft_members.specs.quorum.Majority.{is_majority, is_voter_of}
+use Rattle.raft_members.specs.membership.Members.{MemberList, Members, members_of, node_at}
 use Rattle.raft_progress.specs.progress.InOrder.{IsInOrder}
 use Rattle.raft_progress.specs.progress.ProgressState.{ProgressState}
 use Rattle.raft_progress.specs.progress.Shown.{Shown, state}

@@ -1,9 +1,9 @@
 -- What a step does to a membership and its progress, and its reply.
 use Rattle.std.specs.Prelude.{◌≡◌, Bool, true, false, Some, None, List}
 use Rattle.std.specs.declared.cmp.Ordering.{Ordering}
-use Rattle.raft_members.specs.Change.{changed}
-use Rattle.raft_members.specs.Members.{Members, Says, members_of}
-use Rattle.raft_members.specs.Valid.{FirstWithoutNode, IsValid, has_empty_config}
+use Rattle.raft_members.specs.membership.Change.{changed}
+use Rattle.raft_members.specs.membership.Members.{Members, Says, members_of}
+use Rattle.raft_members.specs.membership.Valid.{FirstWithoutNode, IsValid, has_empty_config}
 use Rattle.raft_members.specs.declared.change_members.ChangeMembers.{ChangeMembers}
 use Rattle.raft_progress.specs.progress.Comparisons.{Comparisons}
 use Rattle.raft_progress.specs.progress.ProgressState.{IsSame, ProgressState}

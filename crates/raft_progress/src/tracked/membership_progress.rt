@@ -1,7 +1,7 @@
 //! The progress of a membership's voters and learners, with the membership kept apart from it.
 ghost use Rattle.std.specs.Prelude.{◌≡◌, ◌↔◌, IfOk, IsTrue};
-ghost use Rattle.raft_members.specs.Learners.{learners_of};
-ghost use Rattle.raft_members.specs.Majority.{is_voter_of};
+ghost use Rattle.raft_members.specs.membership.Learners.{learners_of};
+ghost use Rattle.raft_members.specs.quorum.Majority.{is_voter_of};
 ghost use Rattle.raft_progress.specs.progress.InOrder.{IsInOrder};
 ghost use Rattle.raft_progress.specs.progress.Shown.{state};
 ghost use Rattle.raft_progress.specs.progress.Upgrade.{CanUpgrade, IsUpgraded};

@@ -2,8 +2,8 @@
 use Rattle.std.specs.Prelude.{◌≡◌, ◌<◌, ℕ, Bool, true, Option, List, [], ◌∷◌, length}
 use Rattle.std.specs.Cmp.{IsEquivalence}
 use Rattle.std.proofs.Common.{ap, arith}
-use Rattle.raft_members.specs.Coherence.{is_coherent}
-use Rattle.raft_members.specs.Majority.{is_joint_majority}
+use Rattle.raft_members.specs.quorum.Coherence.{is_coherent}
+use Rattle.raft_members.specs.quorum.Majority.{is_joint_majority}
 use Rattle.raft_members.proofs.CallerLemmas.{quorums_meet, coherent_meet}
 use Rattle.raft_safety.specs.Log.{Entry}
 use Rattle.raft_safety.specs.Events.{History}

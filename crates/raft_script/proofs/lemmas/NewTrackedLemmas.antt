@@ -4,9 +4,9 @@ use Rattle.std.specs.Ordering.{nat_cmp}
 use Rattle.std.specs.Set.{is_member}
 use Rattle.std.proofs.Common.{sym, ap, ◌∙◌, refl, true≢false}
 use Rattle.raft_base.specs.declared.node.EmptyNode.{EmptyNode}
-use Rattle.raft_members.specs.Defaults.{WithDefault}
-use Rattle.raft_members.specs.Majority.{is_voter_of}
-use Rattle.raft_members.specs.Members.{MemberList, node_at}
+use Rattle.raft_members.specs.membership.Defaults.{WithDefault}
+use Rattle.raft_members.specs.quorum.Majority.{is_voter_of}
+use Rattle.raft_members.specs.membership.Members.{MemberList, node_at}
 use Rattle.raft_progress.specs.progress.NewProgress as new_progress
 use Rattle.raft_progress.specs.progress.NewProgress.{HasClone}
 use Rattle.raft_progress.specs.progress.Shown.{state}

@@ -34,19 +34,26 @@ use Rattle.raft_base.specs.LogId.{id_le, id_lt, index_of, log_id_cmp, next_index
 use Rattle.raft_base.specs.LogIndex.{index_le, index_lt}
 use Rattle.raft_base.specs.Validate.{first_false}
 use Rattle.raft_base.specs.declared.log_id.LogIdOf.{LogIdOf}
-use Rattle.raft_members.specs.Members.{MemberList}
-use Rattle.raft_members.specs.Stored.{log_id_of}
+use Rattle.raft_members.specs.membership.Members.{MemberList}
+use Rattle.raft_members.specs.membership.Stored.{log_id_of}
 use Rattle.raft_members.specs.declared.membership.stored.StoredMembershipOf.{StoredMembershipOf}
 use Rattle.raft_progress.proofs.lemmas.OrderLemmas.{AtMost-from_lt}
 use Rattle.raft_state.proofs.lemmas.validate.RelationLemmas.{hold_all}
 use Rattle.raft_state.proofs.lemmas.log_id_list.KeptLemmas.{last_of_parts}
-use Rattle.raft_state.specs.Appended.{AppendsMemberships, IsStoredBy, are_consecutive, begins_at_zero, last_stored, memberships_follow}
-use Rattle.raft_state.specs.FullLog.{end_index}
-use Rattle.raft_state.specs.LogEdits.{log_after_append, log_after_extend, missing_ids}
-use Rattle.raft_state.specs.LogReads.{last_id}
-use Rattle.raft_state.specs.MembershipMoves.{after_append}
-use Rattle.raft_state.specs.MembershipRelations.{membership_relations}
-use Rattle.raft_state.specs.Memberships.{Memberships, index_at}
+use Rattle.raft_state.specs.raft_state.Appended.{
+  AppendsMemberships,
+  IsStoredBy,
+  are_consecutive,
+  begins_at_zero,
+  last_stored,
+  memberships_follow,
+}
+use Rattle.raft_state.specs.log_id_list.FullLog.{end_index}
+use Rattle.raft_state.specs.log_id_list.LogEdits.{log_after_append, log_after_extend, missing_ids}
+use Rattle.raft_state.specs.log_id_list.LogReads.{last_id}
+use Rattle.raft_state.specs.membership_state.MembershipMoves.{after_append}
+use Rattle.raft_state.specs.membership_state.MembershipRelations.{membership_relations}
+use Rattle.raft_state.specs.membership_state.Memberships.{Memberships, index_at}
 
 module _ {C K N E : Type 0} (cmp : C → C → Ordering) (id_of : E → LogIdOf C) (membership : E → Option (MemberList K N)) where
   -- a membership follows the last one, and those after it follow it

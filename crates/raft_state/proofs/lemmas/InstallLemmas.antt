@@ -35,7 +35,7 @@ use Rattle.raft_base.specs.LogIdLawful.{optional-log_id_cmp-total}
 use Rattle.raft_base.specs.LogIndex.{index_le}
 use Rattle.raft_base.specs.Validate.{first_false}
 use Rattle.raft_base.specs.declared.log_id.LogIdOf.{LogIdOf}
-use Rattle.raft_members.specs.Stored.{log_id_of}
+use Rattle.raft_members.specs.membership.Stored.{log_id_of}
 use Rattle.raft_members.specs.declared.membership.stored.StoredMembershipOf.{StoredMembershipOf}
 use Rattle.raft_progress.proofs.lemmas.OrderLemmas.{AtMost-refl}
 use Rattle.raft_base.specs.declared.log_id.validate.Invalid.TheVariants.{
@@ -50,8 +50,8 @@ use Rattle.raft_state.proofs.lemmas.log_id_list.KeyListLemmas.{IsKeyList}
 use Rattle.raft_state.proofs.lemmas.validate.RelationLemmas.{all_hold, hold_all}
 use Rattle.raft_state.proofs.lemmas.log_id_list.OrderLemmas.{From, above_full, index_within, last_at_least}
 use Rattle.raft_state.proofs.lemmas.log_id_list.SameLogLemmas.{equal_found}
-use Rattle.raft_state.specs.FullLog.{end_index, first_index, full_log}
-use Rattle.raft_state.specs.Install.{
+use Rattle.raft_state.specs.log_id_list.FullLog.{end_index, first_index, full_log}
+use Rattle.raft_state.specs.raft_state.Install.{
   is_logged,
   is_not_past,
   keeps_effective,
@@ -59,13 +59,13 @@ use Rattle.raft_state.specs.Install.{
   log_to_keep,
   memberships_after_install,
 }
-use Rattle.raft_state.specs.LogConditions.{may_be_purged_to}
-use Rattle.raft_state.specs.LogEdits.{front, log_after_purge, rest}
-use Rattle.raft_state.specs.LogReads.{first_id, id_at, last_id}
-use Rattle.raft_state.specs.MembershipMoves.{after_update_committed, is_covered}
-use Rattle.raft_state.specs.MembershipRelations.{membership_relations}
-use Rattle.raft_state.specs.Memberships.{Memberships, index_at}
-use Rattle.raft_state.specs.Valid.{broken_relation, fits_purged_next, upto_relation}
+use Rattle.raft_state.specs.log_id_list.LogConditions.{may_be_purged_to}
+use Rattle.raft_state.specs.log_id_list.LogEdits.{front, log_after_purge, rest}
+use Rattle.raft_state.specs.log_id_list.LogReads.{first_id, id_at, last_id}
+use Rattle.raft_state.specs.membership_state.MembershipMoves.{after_update_committed, is_covered}
+use Rattle.raft_state.specs.membership_state.MembershipRelations.{membership_relations}
+use Rattle.raft_state.specs.membership_state.Memberships.{Memberships, index_at}
+use Rattle.raft_state.specs.raft_state.Valid.{broken_relation, fits_purged_next, upto_relation}
 use Rattle.raft_state.specs.declared.accepted.AcceptedIn.{AcceptedIn}
 use Rattle.raft_state.specs.declared.raft_state.RaftStateIn.{RaftStateIn}
 use Rattle.raft_state.specs.declared.snapshot_meta.SnapshotMetaOf.{SnapshotMetaOf}

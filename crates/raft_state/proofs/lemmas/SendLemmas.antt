@@ -36,7 +36,7 @@ use Rattle.raft_progress.specs.entry.Send.{can_be_sent, end_of, send_table, star
 use Rattle.raft_progress.specs.inflight.Inflight.{is_idle}
 use Rattle.raft_progress.specs.declared.entry.ProgressEntryOf.{ProgressEntryOf}
 use Rattle.raft_progress.specs.declared.inflight.InflightOf.TheVariants.{Logs, Snapshot}
-use Rattle.raft_state.specs.Sending.{FromLog}
+use Rattle.raft_state.specs.raft_state.Sending.{FromLog}
 
 eq_false : (a b : ℕ) → a < b → (a == b) ≡ false
 eq_false a b h = grind (arith, nat_tests)

@@ -29,20 +29,20 @@ use Rattle.raft_base.specs.LogIdLawful.{optional-log_id_cmp-total}
 use Rattle.raft_base.specs.LogIndex.{index_le}
 use Rattle.raft_base.specs.Validate.{first_false}
 use Rattle.raft_base.specs.declared.log_id.LogIdOf.{LogIdOf}
-use Rattle.raft_members.specs.Stored.{log_id_of}
+use Rattle.raft_members.specs.membership.Stored.{log_id_of}
 use Rattle.raft_progress.proofs.lemmas.OrderLemmas.{AtMost-refl, AtMost-trans}
 use Rattle.raft_state.proofs.lemmas.log_id_list.FrontLemmas.{front_none}
 use Rattle.raft_state.proofs.lemmas.log_id_list.IdOrderLemmas.{none_at_most}
 use Rattle.raft_state.proofs.lemmas.validate.RelationLemmas.{all_hold, hold_all}
 use Rattle.raft_state.proofs.lemmas.log_id_list.OrderLemmas.{From}
-use Rattle.raft_state.specs.FullLog.{full_log}
-use Rattle.raft_state.specs.LogEdits.{front}
-use Rattle.raft_state.specs.LogReads.{first_id, last_id}
-use Rattle.raft_state.specs.MembershipMoves.{after_truncate, is_cut}
-use Rattle.raft_state.specs.MembershipRelations.{membership_relations}
-use Rattle.raft_state.specs.Memberships.{Memberships, index_at}
-use Rattle.raft_state.specs.Truncate.{may_truncate}
-use Rattle.raft_state.specs.Valid.{broken_relation, fits_purged_next, upto_relation}
+use Rattle.raft_state.specs.log_id_list.FullLog.{full_log}
+use Rattle.raft_state.specs.log_id_list.LogEdits.{front}
+use Rattle.raft_state.specs.log_id_list.LogReads.{first_id, last_id}
+use Rattle.raft_state.specs.membership_state.MembershipMoves.{after_truncate, is_cut}
+use Rattle.raft_state.specs.membership_state.MembershipRelations.{membership_relations}
+use Rattle.raft_state.specs.membership_state.Memberships.{Memberships, index_at}
+use Rattle.raft_state.specs.raft_state.Truncate.{may_truncate}
+use Rattle.raft_state.specs.raft_state.Valid.{broken_relation, fits_purged_next, upto_relation}
 use Rattle.raft_state.specs.declared.raft_state.RaftStateIn.{RaftStateIn}
 
 -- nothing stays: nothing was purged

@@ -1,7 +1,7 @@
 -- What the operations of a list do to its keys.
 use Rattle.std.specs.Prelude.{ℕ, zero, suc, nat_lt, nat_le, Bool, List, [], ◌∷◌, if◌then◌else◌}
 use Rattle.raft_base.specs.declared.log_id.LogIdOf.{LogIdOf}
-use Rattle.raft_state.specs.FullLog.{end_index}
+use Rattle.raft_state.specs.log_id_list.FullLog.{end_index}
 
 -- the keys after k when a log id is appended: the last one is replaced if the last two share a
 -- leader

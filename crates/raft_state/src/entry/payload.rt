@@ -1,7 +1,7 @@
 //! The payloads of log entries.
 ghost use Rattle.std.specs.Prelude.{IfOk, IsOk, IsTrue};
 ghost use Rattle.std.specs.Set.{ClonesAreEqual};
-ghost use Rattle.raft_state.specs.Entry.{is_blank_payload, same_payload};
+ghost use Rattle.raft_state.specs.entry.Entry.{is_blank_payload, same_payload};
 
 use super::traits::RaftPayload;
 use raft_base::{MessageSummary, Node, NodeId};
@@ -41,8 +41,8 @@ impl<NID: NodeId, N: Node, D: Clone + PartialEq + Drop> EntryPayload<NID, N, D> 
 }
 
 impl<NID: NodeId, N: Node, D> RaftPayload<Membership<NID, N>> for EntryPayload<NID, N, D> {
-    ghost use Rattle.raft_state.specs.Entry.{is_blank_payload, payload_membership};
-    ghost use Rattle.raft_state.specs.EntryLawful.{blank_stores_none as none_in_blank};
+    ghost use Rattle.raft_state.specs.entry.Entry.{is_blank_payload, payload_membership};
+    ghost use Rattle.raft_state.specs.entry.EntryLawful.{blank_stores_none as none_in_blank};
 
     ghost blank = { is_blank_payload };
 

@@ -1,10 +1,10 @@
 //! The operations of a list over plain keys. The list keeps its keys in order.
 ghost use Rattle.std.specs.Prelude.{◌≡◌, ◌+◌, ◌<◌, ◌≤◌, ◌&&◌, length, map, nat_le, if◌then◌else◌, None, IfSome, IfNone, IsOk, OnOk, OnErr, IsTrue, [], vec_len};
 ghost use Rattle.std.specs.Vec.{vec_capacity};
-ghost use Rattle.raft_state.specs.FullLog.{full_log, end_index};
-ghost use Rattle.raft_state.specs.LogReads.{id_at, last_id, last_two_share_leader};
-ghost use Rattle.raft_state.specs.LogConditions.{follows, all_follow, ends_share_leader};
-ghost use Rattle.raft_state.specs.Keys.{key_follows, may_be_keys, by_last_leader as last_leader_keys};
+ghost use Rattle.raft_state.specs.log_id_list.FullLog.{full_log, end_index};
+ghost use Rattle.raft_state.specs.log_id_list.LogReads.{id_at, last_id, last_two_share_leader};
+ghost use Rattle.raft_state.specs.log_id_list.LogConditions.{follows, all_follow, ends_share_leader};
+ghost use Rattle.raft_state.specs.log_id_list.Keys.{key_follows, may_be_keys, by_last_leader as last_leader_keys};
 ghost use Rattle.raft_state.specs.Inner.KeyList.{Rises, keys_to};
 ghost use Rattle.raft_state.specs.Inner.LeaderRange.{HasOneLeader};
 ghost use Rattle.raft_state.specs.Inner.KeyEdits.{keys_after_append, keys_after_extend, keys_below, keys_after_purge};

@@ -3,11 +3,11 @@
 ghost use Rattle.std.specs.Prelude.{◌≡◌, ℕ, List, max};
 ghost use Rattle.std.specs.Cmp.{IsEquivalence};
 ghost use Rattle.raft_base.specs.declared.log_id.LogIdOf.{LogIdOf};
-ghost use Rattle.raft_state.specs.FullLog.{full_log, first_index, same_log};
-ghost use Rattle.raft_state.specs.LogEdits.{log_after_append, log_after_extend, front, log_after_purge};
-ghost use Rattle.raft_state.specs.LogReads.{first_id, id_at, last_id};
-ghost use Rattle.raft_state.specs.SameLog.{FindsSame, KeepsSame};
-ghost use Rattle.raft_state.specs.LogOrder.{AreConsecutive, AreFound, LeadersNeverFall, LeadersNeverFallByIndex, NoneAboveLast};
+ghost use Rattle.raft_state.specs.log_id_list.FullLog.{full_log, first_index, same_log};
+ghost use Rattle.raft_state.specs.log_id_list.LogEdits.{log_after_append, log_after_extend, front, log_after_purge};
+ghost use Rattle.raft_state.specs.log_id_list.LogReads.{first_id, id_at, last_id};
+ghost use Rattle.raft_state.specs.log_id_list.SameLog.{FindsSame, KeepsSame};
+ghost use Rattle.raft_state.specs.log_id_list.LogOrder.{AreConsecutive, AreFound, LeadersNeverFall, LeadersNeverFallByIndex, NoneAboveLast};
 
 use super::LogIdListOf;
 use raft_base::LogIdOf;

@@ -2,12 +2,12 @@
 ghost use Rattle.std.specs.Prelude.{◌≡◌, ◌<◌, None, IfOk, IfErr, true, length};
 ghost use Rattle.std.specs.Result.{result_err};
 ghost use Rattle.std.specs.Set.{ClonesAreEqual};
-ghost use Rattle.raft_members.specs.Coherence.{is_coherent};
-ghost use Rattle.raft_members.specs.Members.{members_of, Says};
-ghost use Rattle.raft_members.specs.ReplaceAll.{OnlyMemory, TwoChanges};
-ghost use Rattle.raft_members.specs.Valid.{IsValid};
-ghost use Rattle.raft_state.specs.Apply.{members_after_change, in_progress, IsApplyRefusal};
-ghost use Rattle.raft_state.specs.Memberships.{in_effect};
+ghost use Rattle.raft_members.specs.quorum.Coherence.{is_coherent};
+ghost use Rattle.raft_members.specs.membership.Members.{members_of, Says};
+ghost use Rattle.raft_members.specs.membership.ReplaceAll.{OnlyMemory, TwoChanges};
+ghost use Rattle.raft_members.specs.membership.Valid.{IsValid};
+ghost use Rattle.raft_state.specs.membership_state.Apply.{members_after_change, in_progress, IsApplyRefusal};
+ghost use Rattle.raft_state.specs.membership_state.Memberships.{in_effect};
 ghost use Rattle.raft_state.specs.Inner.Refusal.{refusal_of};
 
 use super::MembershipStateOf;

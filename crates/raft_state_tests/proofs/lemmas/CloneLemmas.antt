@@ -7,7 +7,7 @@ use Rattle.std.proofs.lemmas.Cmp.{nat_list_eq_equiv}
 use Rattle.std.specs.String.{string_eq}
 use Rattle.raft_base.specs.LogId.{same_ids}
 use Rattle.raft_base.specs.LogIdLawful.{same_id-equiv}
-use Rattle.raft_members.specs.Stored.{same_stored}
+use Rattle.raft_members.specs.membership.Stored.{same_stored}
 use Rattle.raft_state.specs.SnapshotMeta.{IsSnapshotCopy}
 use Rattle.raft_state.specs.declared.snapshot_meta.SnapshotMetaOf.{SnapshotMetaOf}
 

@@ -1,8 +1,8 @@
 //! Followers of a leader, over any kind of leader ids.
 ghost use Rattle.raft_base.specs.LogId.{id_le};
 ghost use Rattle.raft_progress.specs.progress.VecProgress.{shown};
-ghost use Rattle.raft_state.specs.Round.{QuorumRan};
-ghost use Rattle.raft_state.specs.StateView.{view_of};
+ghost use Rattle.raft_state.specs.raft_state.Round.{QuorumRan};
+ghost use Rattle.raft_state.specs.raft_state.StateView.{view_of};
 ghost use Rattle.std.specs.Prelude.{◌≡◌, IfSome, IsTrue, List, length, nat_eq, ℕ};
 
 use crate::support::states::State;

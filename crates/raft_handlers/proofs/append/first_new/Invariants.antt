@@ -3,7 +3,7 @@ use Rattle.std.specs.List.{prefix_len}
 use Rattle.raft_base.specs.declared.log_id.LogIdOf.{LogIdOf}
 use Rattle.raft_handlers.specs.Append.{has_entry}
 use Rattle.raft_handlers.specs.Entries.{entry_ids}
-use Rattle.raft_state.specs.Appended.{are_consecutive}
+use Rattle.raft_state.specs.raft_state.Appended.{are_consecutive}
 use Rattle.raft_handlers.proofs.append.first_new.Given as goal
 
 abbrev pub invariant-loop-place : goal.invariant-loop-place

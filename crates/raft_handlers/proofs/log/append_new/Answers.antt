@@ -15,11 +15,11 @@ use Rattle.raft_handlers.proofs.EntryLemmas.{
   replaced_first,
 }
 use Rattle.raft_handlers.specs.Append.{KeepsBelow}
-use Rattle.raft_members.specs.Stored.{log_id_of}
+use Rattle.raft_members.specs.membership.Stored.{log_id_of}
 use Rattle.raft_state.proofs.lemmas.log_id_list.KeptLemmas.{front_reads}
 use Rattle.raft_state.proofs.lemmas.sound.LoggedIds.{is_logged, same_itself}
-use Rattle.raft_state.specs.FullLog.{full_log}
-use Rattle.raft_state.specs.LogReads.{id_at, last_id}
+use Rattle.raft_state.specs.log_id_list.FullLog.{full_log}
+use Rattle.raft_state.specs.log_id_list.LogReads.{id_at, last_id}
 use Rattle.raft_handlers.proofs.log.append_new.Goals as goal
 
 pub returns-in_default-clause-sound : goal.returns-in_default-clause-sound

@@ -3,8 +3,8 @@ use Rattle.raft_base.specs.LogId.{index_of}
 use Rattle.raft_base.specs.LogIndex.{index_lt}
 use Rattle.raft_state.proofs.lemmas.log_id_list.ExtendLemmas.{is_key_list}
 use Rattle.raft_state.proofs.lemmas.log_id_list.FrontLemmas.{from_first}
-use Rattle.raft_state.specs.FullLog.{first_index, full_log}
-use Rattle.raft_state.specs.LogReads.{last_id}
+use Rattle.raft_state.specs.log_id_list.FullLog.{first_index, full_log}
+use Rattle.raft_state.specs.log_id_list.LogReads.{last_id}
 use Rattle.raft_handlers.proofs.EntryLemmas.{front_whole}
 use Rattle.raft_handlers.proofs.log.cut.Goals as goal
 

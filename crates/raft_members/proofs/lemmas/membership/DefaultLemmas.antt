@@ -10,7 +10,7 @@ use Rattle.std.specs.BTreeMap.{is_at}
 use Rattle.std.proofs.lemmas.Cmp.{eq_by_cmp_equiv}
 use Rattle.raft_members.proofs.lemmas.membership.AddedLemmas.{alike_at}
 use Rattle.raft_members.proofs.lemmas.membership.MappedLemmas.{any_more}
-use Rattle.raft_members.specs.Defaults.{WithDefault}
+use Rattle.raft_members.specs.membership.Defaults.{WithDefault}
 
 module _ {N : Type 0} (is_default : N → Type 0) where
   pub at_start : (a : Option N) → WithDefault is_default a false a

@@ -13,10 +13,10 @@ use Rattle.std.proofs.lemmas.Map.Keys.{sorted_head, sorted_tail}
 use Rattle.std.specs.Map.{lookup, keys_of}
 use Rattle.std.specs.BTreeMap.{insert_entry}
 use Rattle.std.specs.Option.{option_eq}
-use Rattle.raft_members.specs.Majority.{is_voter_of}
+use Rattle.raft_members.specs.quorum.Majority.{is_voter_of}
 use Rattle.std.specs.Cmp.Derive.{both_true}
-use Rattle.raft_members.specs.Change.{keeps_node}
-use Rattle.raft_members.specs.Members.{MemberList, same_nodes, same_members}
+use Rattle.raft_members.specs.membership.Change.{keeps_node}
+use Rattle.raft_members.specs.membership.Members.{MemberList, same_nodes, same_members}
 use Rattle.raft_members.proofs.lemmas.quorum.MajorityLemmas.{is_member-alike}
 
 module _ {K N : Type 0} (same : N → N → Bool) where

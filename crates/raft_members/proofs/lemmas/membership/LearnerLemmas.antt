@@ -8,9 +8,9 @@ use Rattle.std.specs.Map.{keys_of}
 use Rattle.std.specs.BTreeMap.{is_at}
 use Rattle.std.specs.Set.{is_member}
 use Rattle.std.proofs.lemmas.Map.Made.{is_member-filter, is_some-lookup}
-use Rattle.raft_members.specs.Majority.{is_voter_of}
-use Rattle.raft_members.specs.Members.{node_at}
-use Rattle.raft_members.specs.Learners.{learners_among}
+use Rattle.raft_members.specs.quorum.Majority.{is_voter_of}
+use Rattle.raft_members.specs.membership.Members.{node_at}
+use Rattle.raft_members.specs.membership.Learners.{learners_among}
 use Rattle.raft_members.proofs.lemmas.quorum.MajorityLemmas.{in_set}
 use Rattle.raft_members.proofs.lemmas.membership.KeptLemmas.{voter_alike}
 

@@ -7,13 +7,13 @@ use Rattle.std.proofs.lemmas.List.{map-append, map_more, take_more}
 use Rattle.std.proofs.lemmas.List.Folds.{list_any-append}
 use Rattle.std.specs.List.{list_any, list_all, slice_get}
 use Rattle.std.specs.Option.{option_map, unwrap_or}
-use Rattle.raft_members.specs.Change.{last_config}
+use Rattle.raft_members.specs.membership.Change.{last_config}
 use Rattle.std.proofs.lemmas.Option.{slice_get-map}
 use Rattle.std.proofs.lemmas.List.{length-map}
 use Rattle.std.specs.Prelude.{◌&&◌}
 use Rattle.std.specs.Cmp.Lexicographic.{pointwise}
 use Rattle.std.specs.Set.{is_member}
-use Rattle.raft_members.specs.Majority.{is_majority, is_joint_majority, is_voter_of}
+use Rattle.raft_members.specs.quorum.Majority.{is_majority, is_joint_majority, is_voter_of}
 
 module _ {X Y : Type 0} (f : X → Y) where
   pub list_any-map : (p : Y → Bool) (xs : List X) → list_any p (map f xs) ≡ list_any (λ x. p (f x)) xs

@@ -3,10 +3,10 @@ use Rattle.std.proofs.lemmas.Bool.{or_left, or_right}
 use Rattle.std.specs.Prelude.{◌≡◌, ℕ, Bool, true, false, cond, not, ◌||◌, Option, Some, None, List, [], ◌∷◌, refl}
 use Rattle.std.specs.Prelude.{◌+◌, ◌<◌, length, map, take}
 use Rattle.std.proofs.Common.{sym, ◌∙◌, ap, subst, get_or}
-use Rattle.raft_members.specs.Majority.{is_voter_of}
+use Rattle.raft_members.specs.quorum.Majority.{is_voter_of}
 use Rattle.raft_members.proofs.lemmas.membership.MappedLemmas.{list_any-map, any_more}
 use Rattle.raft_members.specs.Inner.Nodes.{lesser}
-use Rattle.raft_members.specs.Valid.{FirstUnknown, IsFirstUnknown}
+use Rattle.raft_members.specs.membership.Valid.{FirstUnknown, IsFirstUnknown}
 use Rattle.raft_members.proofs.lemmas.membership.AddedLemmas.{is_equal}
 use Rattle.std.specs.declared.cmp.Ordering.{Ordering}
 use Rattle.std.specs.declared.cmp.Ordering.TheVariants.{Less, Equal, Greater}

@@ -4,8 +4,8 @@ use Rattle.std.specs.Prelude.{◌≡◌, ◌<◌, Bool, true, ◌&&◌, List, []
 use Rattle.std.proofs.Common.{arith, inl, inr}
 use Rattle.std.specs.Cmp.{IsEquivalence, first_so, second_so}
 use Rattle.std.specs.Cmp.Lexicographic.{lists_equiv}
-use Rattle.raft_members.specs.Coherence.{is_coherent}
-use Rattle.raft_members.specs.Reached.{VotersReached, IsGranted, EachQuorumKnows}
+use Rattle.raft_members.specs.quorum.Coherence.{is_coherent}
+use Rattle.raft_members.specs.quorum.Reached.{VotersReached, IsGranted, EachQuorumKnows}
 use Rattle.raft_members.proofs.lemmas.quorum.MeetingLemmas.{coherent_meet, shared_majority, majority_member, voter_there}
 
 module _ {K : Type 0} {e : K → K → Bool} (laws : IsEquivalence e) where

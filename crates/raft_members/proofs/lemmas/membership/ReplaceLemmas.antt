@@ -30,15 +30,15 @@ use Rattle.std.specs.List.{filter, list_any, slice_get}
 use Rattle.std.specs.Option.{unwrap_or}
 use Rattle.std.specs.Set.{is_member}
 use Rattle.std.proofs.lemmas.Map.Keys.{any_passes_from_place}
-use Rattle.raft_members.specs.Coherence.{has_config, next_configs}
-use Rattle.raft_members.specs.Majority.{is_voter_of}
+use Rattle.raft_members.specs.quorum.Coherence.{has_config, next_configs}
+use Rattle.raft_members.specs.quorum.Majority.{is_voter_of}
 use Rattle.raft_members.proofs.lemmas.membership.UnionLemmas.{union_again}
 use Rattle.raft_members.proofs.lemmas.quorum.NextLemmas.{has_last, next_if_has, next_if_lacks, next_if_none, next_has_goal}
-use Rattle.raft_members.specs.Members.{Members, MemberList, Says, members_of}
-use Rattle.raft_members.specs.Change.{next_members, last_config, changed, union_of, without}
-use Rattle.raft_members.specs.Valid.{has_empty_config, is_empty_config}
-use Rattle.raft_members.specs.Refusal.{IsRefusal}
-use Rattle.raft_members.specs.ReplaceAll.{CanReplace, LeadsToGoal, OnlyMemory, TwoChanges}
+use Rattle.raft_members.specs.membership.Members.{Members, MemberList, Says, members_of}
+use Rattle.raft_members.specs.membership.Change.{next_members, last_config, changed, union_of, without}
+use Rattle.raft_members.specs.membership.Valid.{has_empty_config, is_empty_config}
+use Rattle.raft_members.specs.membership.Refusal.{IsRefusal}
+use Rattle.raft_members.specs.membership.ReplaceAll.{CanReplace, LeadsToGoal, OnlyMemory, TwoChanges}
 use Rattle.raft_members.specs.declared.change_members.ChangeMembers.{ChangeMembers}
 use Rattle.raft_members.specs.declared.change_members.ChangeMembers.TheVariants.{AddVoterIds, AddVoters, RemoveVoters, ReplaceAllVoters}
 use Rattle.raft_members.specs.declared.error.ChangeMembershipErrorOf.{ChangeMembershipErrorOf}

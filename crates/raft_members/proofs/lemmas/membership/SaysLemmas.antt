@@ -31,19 +31,19 @@ use Rattle.std.specs.Ordering.{eq_by_cmp}
 use Rattle.std.specs.BTreeMap.{BTreeMap, get, keys, is_at}
 use Rattle.std.specs.Set.{is_member}
 use Rattle.std.proofs.lemmas.Map.Made.{is_some-lookup}
-use Rattle.raft_members.specs.Coherence.{is_coherent, next_configs}
-use Rattle.raft_members.specs.Majority.{is_voter_of}
+use Rattle.raft_members.specs.quorum.Coherence.{is_coherent, next_configs}
+use Rattle.raft_members.specs.quorum.Majority.{is_voter_of}
 use Rattle.raft_members.proofs.lemmas.quorum.NextLemmas.{next_shares, next_has_goal}
 use Rattle.raft_members.proofs.lemmas.quorum.MajorityLemmas.{in_set}
 use Rattle.raft_members.proofs.lemmas.quorum.MeetingLemmas.{voter_there}
 use Rattle.raft_members.proofs.lemmas.membership.UnionLemmas.{is_member-union_of}
 use Rattle.raft_members.proofs.lemmas.membership.AddedLemmas.{or_none, option_or_alike, option_trans}
 use Rattle.raft_members.proofs.lemmas.membership.ReachedLemmas.{self_coherent, quorum_reaches}
-use Rattle.raft_members.specs.Reached.{ChangeKeepsReached}
-use Rattle.raft_members.specs.Members.{MemberList, node_at, members_of, Says, Members}
-use Rattle.raft_members.specs.Refusal.{IsRefusal}
-use Rattle.raft_members.specs.Valid.{has_empty_config, FirstWithoutNode, FirstUnknown}
-use Rattle.raft_members.specs.Change.{changed, next_members, with_nodes, union_of, last_config, keeps_node}
+use Rattle.raft_members.specs.quorum.Reached.{ChangeKeepsReached}
+use Rattle.raft_members.specs.membership.Members.{MemberList, node_at, members_of, Says, Members}
+use Rattle.raft_members.specs.membership.Refusal.{IsRefusal}
+use Rattle.raft_members.specs.membership.Valid.{has_empty_config, FirstWithoutNode, FirstUnknown}
+use Rattle.raft_members.specs.membership.Change.{changed, next_members, with_nodes, union_of, last_config, keeps_node}
 use Rattle.raft_members.specs.declared.change_members.ChangeMembers.{ChangeMembers}
 use Rattle.raft_members.specs.declared.change_members.ChangeMembers.TheVariants.{
   AddVoterIds,

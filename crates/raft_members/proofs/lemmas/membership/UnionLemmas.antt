@@ -7,7 +7,7 @@ use Rattle.std.specs.declared.cmp.Ordering.TheVariants.{Less, Equal, Greater}
 use Rattle.std.specs.Cmp.{IsEquivalence}
 use Rattle.std.specs.Ordering.{eq_by_cmp, is_eq, match_ordering}
 use Rattle.std.specs.Set.{is_member, merge_step}
-use Rattle.raft_members.specs.Change.{union_of}
+use Rattle.raft_members.specs.membership.Change.{union_of}
 use Rattle.raft_members.proofs.lemmas.quorum.NextLemmas.{equal_right}
 
 module _ {K : Type 0} {eq : K → K → Bool} (laws : IsEquivalence eq) (cmp : K → K → Ordering) (ties : (x y : K) → eq x y ≡ eq_by_cmp cmp x y)

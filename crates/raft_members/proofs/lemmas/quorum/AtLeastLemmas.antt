@@ -17,10 +17,10 @@ use Rattle.std.specs.declared.cmp.PartialEq as eq_ghosts
 use Rattle.std.specs.declared.cmp.PartialOrd as partial_ghosts
 use Rattle.std.proofs.lemmas.Map.Keys.{IsDistinct-from_sorted}
 use Rattle.std.proofs.lemmas.Map.Made.{is_member-filter, length-from_keys, length-from_same_keys}
-use Rattle.raft_members.specs.AtLeast.{IsAlike, ids_of, need_of}
-use Rattle.raft_members.specs.Majority.{has_at_least}
+use Rattle.raft_members.specs.quorum.AtLeast.{IsAlike, ids_of, need_of}
+use Rattle.raft_members.specs.quorum.Majority.{has_at_least}
 use Rattle.raft_members.specs.declared.quorum.at_least.AtLeast.{AtLeast}
-use Rattle.raft_members.specs.Meeting.{AtLeastQuorumsMeet, NeedPastIdsHasNoQuorum, RespectsEquality, ShareMember}
+use Rattle.raft_members.specs.quorum.Meeting.{AtLeastQuorumsMeet, NeedPastIdsHasNoQuorum, RespectsEquality, ShareMember}
 use Rattle.raft_members.proofs.lemmas.quorum.MajorityLemmas.{
   IsDistinct-filter,
   IsDistinct-unique_keys,

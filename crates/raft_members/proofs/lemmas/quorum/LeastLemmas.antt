@@ -6,8 +6,8 @@ use Rattle.std.proofs.lemmas.List.Sums.{count_by-le-length}
 use Rattle.std.specs.Cmp.{IsEquivalence}
 use Rattle.std.specs.List.{list_any}
 use Rattle.std.specs.Set.{is_member}
-use Rattle.raft_members.specs.Majority.{has_at_least, is_majority}
-use Rattle.raft_members.specs.QuorumSize.{QuorumsHaveAtLeast}
+use Rattle.raft_members.specs.quorum.Majority.{has_at_least, is_majority}
+use Rattle.raft_members.specs.quorum.QuorumSize.{QuorumsHaveAtLeast}
 use Rattle.raft_members.proofs.lemmas.quorum.MajorityLemmas.{count_by-is_member, majority_count}
 
 module _ {K : Type 0} {eq : K → K → Bool} (laws : IsEquivalence eq) where

@@ -9,7 +9,7 @@ use Rattle.std.specs.BTreeSet.{BTreeSet, IsFromIterResult}
 use Rattle.std.specs.List.{IsDistinct, AllByRecursion, list_any, dedup, dedup_from}
 use Rattle.std.proofs.Common.{arith, sym, ap, refl, ◌∙◌, true≢false, ltb, ltb-true, lt-ltb, ◌/◌}
 use Rattle.std.proofs.lemmas.Bool.{ltb_from_iff}
-use Rattle.raft_members.specs.Majority.{is_majority}
+use Rattle.raft_members.specs.quorum.Majority.{is_majority}
 use Rattle.std.proofs.lemmas.List.Sums.{length-filter}
 use Rattle.std.proofs.lemmas.Map.Made.{is_member-filter, length-IsIntersection}
 

@@ -28,9 +28,9 @@ use Rattle.std.specs.Set.{is_member, unique_keys}
 use Rattle.std.specs.Cmp.Lexicographic.{pointwise, as_long}
 use Rattle.std.proofs.lemmas.Map.Made.{distinct_count-le}
 use Rattle.std.proofs.lemmas.List.Sums.{length-filter}
-use Rattle.raft_members.specs.Majority.{is_majority, is_joint_majority, is_voter_of}
-use Rattle.raft_members.specs.Coherence.{has_config, is_coherent}
-use Rattle.raft_members.specs.Meeting.{ShareMember, MajorityHasVoter, QuorumsMeet, CoherentQuorumsMeet, EqualConfigsHaveSameQuorums}
+use Rattle.raft_members.specs.quorum.Majority.{is_majority, is_joint_majority, is_voter_of}
+use Rattle.raft_members.specs.quorum.Coherence.{has_config, is_coherent}
+use Rattle.raft_members.specs.quorum.Meeting.{ShareMember, MajorityHasVoter, QuorumsMeet, CoherentQuorumsMeet, EqualConfigsHaveSameQuorums}
 use Rattle.raft_members.proofs.lemmas.quorum.MajorityLemmas.{is_member-alike, is_member-unique_keys}
 use Rattle.raft_members.proofs.lemmas.quorum.NextLemmas.{equal_right}
 

@@ -6,7 +6,7 @@ use Rattle.std.specs.Cmp.{IsEquivalence}
 use Rattle.std.specs.List.{slice_get}
 use Rattle.std.proofs.lemmas.Map.Keys.{any_passes_from_place}
 use Rattle.std.proofs.lemmas.Option.{slice_get-get_or}
-use Rattle.raft_members.specs.Coherence.{has_child, share_child, next_children}
+use Rattle.raft_members.specs.quorum.Coherence.{has_child, share_child, next_children}
 
 -- a list with an item has a last one
 pub has_last : {Q : Type 0} (d : Q) (cs : List Q) → 0 < length cs → slice_get cs (length cs - 1) ≡ None → ⊥

@@ -1,8 +1,8 @@
 use Rattle.std.proofs.Common.{◌≡◌, true, refl, sym, ◌∙◌, ap, inl}
 use Rattle.std.specs.Set.{is_member}
-use Rattle.raft_members.specs.Majority.{is_joint_majority}
-use Rattle.raft_members.specs.Members.{members_of}
-use Rattle.raft_members.specs.Reached.{IsGranted}
+use Rattle.raft_members.specs.quorum.Majority.{is_joint_majority}
+use Rattle.raft_members.specs.membership.Members.{members_of}
+use Rattle.raft_members.specs.quorum.Reached.{IsGranted}
 use Rattle.raft_members.proofs.CallerLemmas.{is_member-alike}
 use Rattle.raft_members_tests.proofs.laws.change_once_held.Goals as goal
 

@@ -1,7 +1,7 @@
 use Rattle.std.proofs.Common.{◌≡◌, List, true, ap, sym, ◌∙◌}
 use Rattle.std.specs.Set.{is_member}
-use Rattle.raft_members.specs.AtLeast.{ids_of, need_of}
-use Rattle.raft_members.specs.Majority.{has_at_least}
+use Rattle.raft_members.specs.quorum.AtLeast.{ids_of, need_of}
+use Rattle.raft_members.specs.quorum.Majority.{has_at_least}
 use Rattle.raft_members_tests.proofs.laws.has_committed_and_elected.Goals as goal
 
 pub returns : goal.returns

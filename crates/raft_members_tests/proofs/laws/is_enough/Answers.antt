@@ -1,5 +1,5 @@
 use Rattle.std.proofs.Common.{◌∙◌}
-use Rattle.raft_members.specs.AtLeast.{ids_of, need_of}
+use Rattle.raft_members.specs.quorum.AtLeast.{ids_of, need_of}
 use Rattle.raft_members_tests.proofs.laws.is_enough.Goals as goal
 
 pub returns : goal.returns

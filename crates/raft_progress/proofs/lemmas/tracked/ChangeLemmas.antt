@@ -2,9 +2,9 @@
 use Rattle.std.specs.Prelude.{Bool, ◌≡◌, true, Err, IfErr, IfOk, None, Ok, OnErr, Result, Some, refl}
 use Rattle.std.specs.declared.cmp.Ordering.{Ordering}
 use Rattle.std.proofs.Common.{refl, subst, sym, true≢false, ◌∙◌}
-use Rattle.raft_members.specs.Change.{changed}
-use Rattle.raft_members.specs.Members.{MemberList, Members, Says, members_of}
-use Rattle.raft_members.specs.Valid.{IsValid}
+use Rattle.raft_members.specs.membership.Change.{changed}
+use Rattle.raft_members.specs.membership.Members.{MemberList, Members, Says, members_of}
+use Rattle.raft_members.specs.membership.Valid.{IsValid}
 use Rattle.raft_members.specs.declared.change_members.ChangeMembers.{ChangeMembers}
 use Rattle.raft_progress.specs.progress.ProgressState.{ProgressState}
 use Rattle.raft_progress.specs.tracked.SingleSteps.{GoBothOver, IsTrackedChangeTo}
@@ -15,7 +15,7 @@ use Rattle.raft_progress.specs.declared.progress.steps.Reply.TheVariants.{Grante
 use Rattle.raft_progress.proofs.lemmas.tracked.TrackedLemmas.{says_configs, says_learners}
 use Rattle.raft_progress.proofs.lemmas.progress.UpdateLemmas.{IsSame-refl}
 use Rattle.std.specs.Result.{result_unwrap_or}
-use Rattle.raft_members.specs.Refusal.{IsRefusal}
+use Rattle.raft_members.specs.membership.Refusal.{IsRefusal}
 use Rattle.raft_members.specs.declared.error.ChangeMembershipErrorOf.{ChangeMembershipErrorOf}
 use Rattle.raft_members.specs.declared.error.ChangeMembershipErrorOf.TheVariants.{
   InProgress,

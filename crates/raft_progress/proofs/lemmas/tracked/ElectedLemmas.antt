@@ -5,8 +5,8 @@ use Rattle.std.specs.declared.cmp.Ordering.TheVariants.{Equal}
 use Rattle.std.specs.Ordering.{is_lt}
 use Rattle.std.specs.Cmp.{IsEquivalence, IsTotalOrder, first_so, second_so}
 use Rattle.std.proofs.Common.{ap, arith, inl, inr, refl, sym, ◌∙◌, true≢false}
-use Rattle.raft_members.specs.Coherence.{is_coherent}
-use Rattle.raft_members.specs.Majority.{is_joint_majority}
+use Rattle.raft_members.specs.quorum.Coherence.{is_coherent}
+use Rattle.raft_members.specs.quorum.Majority.{is_joint_majority}
 use Rattle.raft_members.proofs.CallerLemmas.{quorum_reaches}
 use Rattle.raft_progress.specs.progress.CountedValue.{AtMost, IsReached, has_part, reached}
 use Rattle.raft_progress.specs.progress.Shown.{state}

@@ -7,12 +7,12 @@ use Rattle.std.specs.Cmp.{IsEquivalence, IsTotalOrder, first_so, second_so}
 use Rattle.std.specs.Map.{keys_of, lookup}
 use Rattle.std.specs.Set.{is_member}
 use Rattle.std.proofs.Common.{ap, inl, inr, sym, ◌∙◌, true≢false, suc, zero}
-use Rattle.raft_members.specs.Change.{changed}
-use Rattle.raft_members.specs.Majority.{is_joint_majority, is_majority}
-use Rattle.raft_members.specs.MajorityLawful.{is_majority-superset, list_all-weaker}
-use Rattle.raft_members.specs.Meeting.{RespectsEquality}
-use Rattle.raft_members.specs.Members.{members_of}
-use Rattle.raft_members.specs.Reached.{EachQuorumKnows, IsGranted, VotersReached}
+use Rattle.raft_members.specs.membership.Change.{changed}
+use Rattle.raft_members.specs.quorum.Majority.{is_joint_majority, is_majority}
+use Rattle.raft_members.specs.quorum.MajorityLawful.{is_majority-superset, list_all-weaker}
+use Rattle.raft_members.specs.quorum.Meeting.{RespectsEquality}
+use Rattle.raft_members.specs.membership.Members.{members_of}
+use Rattle.raft_members.specs.quorum.Reached.{EachQuorumKnows, IsGranted, VotersReached}
 use Rattle.raft_members.specs.declared.change_members.ChangeMembers.{ChangeMembers}
 use Rattle.raft_members.proofs.CallerLemmas.{change_keeps_reached}
 use Rattle.raft_progress.specs.progress.CountedValue.{AtMost, has_part, reached}

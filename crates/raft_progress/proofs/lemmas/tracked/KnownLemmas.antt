@@ -28,7 +28,7 @@ use Rattle.std.specs.List.{AllByRecursion}
 use Rattle.std.specs.Set.{is_member, unique_keys}
 use Rattle.std.proofs.Common.{arith, ap, subst, sym, ◌∙◌, true≢false}
 use Rattle.std.proofs.lemmas.List.Sums.{sum_by-cons}
-use Rattle.raft_members.specs.Majority.{is_joint_majority, is_majority, is_voter_of}
+use Rattle.raft_members.specs.quorum.Majority.{is_joint_majority, is_majority, is_voter_of}
 use Rattle.raft_members.proofs.lemmas.quorum.MajorityLemmas.{is_member-unique_keys}
 use Rattle.raft_progress.specs.progress.CountedValue.{has_part}
 use Rattle.raft_progress.specs.progress.Shown.{state}

@@ -23,9 +23,9 @@ use Rattle.std.specs.Cmp.{IsEquivalence, IsTotalOrder}
 use Rattle.std.specs.Ordering.{is_lt}
 use Rattle.std.specs.declared.cmp.Ordering.{Ordering}
 use Rattle.std.proofs.Common.{arith, ap, subst, sym, ◌∙◌, true≢false}
-use Rattle.raft_members.specs.Coherence.{is_coherent}
-use Rattle.raft_members.specs.Majority.{is_joint_majority}
-use Rattle.raft_members.specs.Members.{MemberList, members_of}
+use Rattle.raft_members.specs.quorum.Coherence.{is_coherent}
+use Rattle.raft_members.specs.quorum.Majority.{is_joint_majority}
+use Rattle.raft_members.specs.membership.Members.{MemberList, members_of}
 use Rattle.raft_members.specs.declared.change_members.ChangeMembers.{ChangeMembers}
 use Rattle.raft_members.proofs.CallerLemmas.{changed_coherent}
 use Rattle.raft_progress.specs.progress.Answered.{IsAnswered, is_refused}

@@ -2,9 +2,9 @@
 use Rattle.std.specs.Prelude.{◌≡◌, Bool, IfOk, List, Result, Ok, Err}
 use Rattle.std.specs.declared.cmp.Ordering.{Ordering}
 use Rattle.std.proofs.Common.{subst, sym}
-use Rattle.raft_members.specs.Learners.{learners_of}
-use Rattle.raft_members.specs.Majority.{is_voter_of}
-use Rattle.raft_members.specs.Members.{MemberList, members_of}
+use Rattle.raft_members.specs.membership.Learners.{learners_of}
+use Rattle.raft_members.specs.quorum.Majority.{is_voter_of}
+use Rattle.raft_members.specs.membership.Members.{MemberList, members_of}
 use Rattle.raft_progress.specs.progress.InOrder.{IsInOrder}
 use Rattle.raft_progress.specs.progress.NewProgress.{IsFirstWalk, IsNew}
 use Rattle.raft_progress.specs.progress.Shown.{Shown, state}

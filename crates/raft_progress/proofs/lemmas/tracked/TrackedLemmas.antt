@@ -4,8 +4,8 @@ use Rattle.std.specs.declared.cmp.Ordering.{Ordering}
 use Rattle.std.specs.Option.{option_eq}
 use Rattle.std.specs.Set.{is_member}
 use Rattle.std.proofs.Common.{ap, sym, subst, ◌∙◌, true≢false}
-use Rattle.raft_members.specs.Majority.{is_voter_of}
-use Rattle.raft_members.specs.Members.{MemberList, Members, Says, members_of, node_at}
+use Rattle.raft_members.specs.quorum.Majority.{is_voter_of}
+use Rattle.raft_members.specs.membership.Members.{MemberList, Members, Says, members_of, node_at}
 use Rattle.raft_progress.specs.progress.InOrder.{IsInOrder}
 use Rattle.raft_progress.specs.progress.NewProgress.{HasClone, LearnersFit}
 use Rattle.raft_progress.specs.progress.Shown.{Shown, state}

@@ -1,7 +1,7 @@
 use Rattle.std.proofs.Common.{◌≡◌, subst, sym, ap, ◌∙◌}
 use Rattle.std.specs.List.{IsDistinct}
 use Rattle.std.specs.Set.{is_member}
-use Rattle.raft_members.specs.Learners.{learners_ahead, learners_of}
+use Rattle.raft_members.specs.membership.Learners.{learners_ahead, learners_of}
 use Rattle.raft_members.proofs.lemmas.membership.AscendingLemmas.{none_ahead, push_ahead}
 use Rattle.raft_progress.proofs.lemmas.progress.NewProgressLemmas.{IsDistinct-from_cmp}
 use Rattle.raft_progress.proofs.tracked.learners_of.Goals as goal

@@ -1,5 +1,5 @@
 use Rattle.std.proofs.Common.{◌≡◌, ◌++◌}
-use Rattle.raft_members.specs.Learners.{learners_ahead, learners_of}
+use Rattle.raft_members.specs.membership.Learners.{learners_ahead, learners_of}
 use Rattle.raft_progress.proofs.tracked.learners_of.Given as goal
 
 abbrev pub invariant-loop-id : goal.invariant-loop-id

@@ -1,5 +1,5 @@
 use Rattle.std.proofs.Common.{◌<◌, length, subst, sym}
-use Rattle.raft_members.specs.MemberList.{MemberList}
+use Rattle.raft_members.specs.membership.MemberList.{MemberList}
 use Rattle.raft_progress_tests.proofs.laws.change_twice.Goals as goal
 
 pub returns : goal.returns

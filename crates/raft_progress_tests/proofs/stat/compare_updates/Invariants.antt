@@ -1,5 +1,5 @@
 use Rattle.std.proofs.Common.{nat_cmp, nat_eq}
-use Rattle.raft_members.specs.Majority.{is_majority}
+use Rattle.raft_members.specs.quorum.Majority.{is_majority}
 use Rattle.raft_progress.specs.progress.InOrder.{IsInOrder}
 use Rattle.raft_progress.specs.progress.VecProgress.{shown}
 use Rattle.raft_progress_tests.proofs.stat.compare_updates.Given as goal

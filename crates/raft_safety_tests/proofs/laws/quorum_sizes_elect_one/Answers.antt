@@ -1,4 +1,4 @@
-use Rattle.raft_members.specs.Majority.{has_at_least}
+use Rattle.raft_members.specs.quorum.Majority.{has_at_least}
 use Rattle.raft_safety_tests.proofs.laws.quorum_sizes_elect_one.Goals as goal
 
 pub returns : goal.returns

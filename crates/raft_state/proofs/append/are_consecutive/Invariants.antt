@@ -1,5 +1,5 @@
 use Rattle.std.proofs.Common.{◌≡◌, drop, map}
-use Rattle.raft_state.specs.Appended.{are_consecutive}
+use Rattle.raft_state.specs.raft_state.Appended.{are_consecutive}
 use Rattle.raft_state.proofs.append.are_consecutive.Given as goal
 
 abbrev pub invariant-loop-entry : goal.invariant-loop-entry

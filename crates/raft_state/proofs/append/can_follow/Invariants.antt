@@ -1,5 +1,5 @@
 use Rattle.std.proofs.Common.{◌≡◌, drop, is_some}
-use Rattle.raft_state.specs.Appended.{memberships_follow}
+use Rattle.raft_state.specs.raft_state.Appended.{memberships_follow}
 use Rattle.raft_state.proofs.append.can_follow.Given as goal
 
 abbrev pub invariant-loop-entry : goal.invariant-loop-entry

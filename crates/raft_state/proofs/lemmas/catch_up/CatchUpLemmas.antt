@@ -5,9 +5,9 @@ use Rattle.std.specs.Option.{is_none}
 use Rattle.std.specs.declared.cmp.Ordering.{Ordering}
 use Rattle.raft_progress.specs.catch_up.CatchUp.{can_catch_up}
 use Rattle.raft_progress.specs.declared.entry.ProgressEntryOf.{ProgressEntryOf}
-use Rattle.raft_state.specs.CatchUp.{state_can_catch_up}
-use Rattle.raft_state.specs.StateView.{view_of}
-use Rattle.raft_state.specs.Valid.{broken_relation, none_or_logged}
+use Rattle.raft_state.specs.raft_state.CatchUp.{state_can_catch_up}
+use Rattle.raft_state.specs.raft_state.StateView.{view_of}
+use Rattle.raft_state.specs.raft_state.Valid.{broken_relation, none_or_logged}
 use Rattle.raft_state.specs.declared.raft_state.RaftStateIn.{RaftStateIn}
 
 none_is : {A : Type 0} (o : Option A) → is_none o ≡ true → o ≡ None

@@ -51,7 +51,17 @@ use Rattle.raft_progress.specs.progress.Shown.{Shown, state}
 use Rattle.raft_progress.specs.progress.Statistics.{count_after}
 use Rattle.raft_progress.specs.progress.Updated.{IsUpdated}
 use Rattle.raft_progress.specs.declared.entry.ProgressEntryOf.{ProgressEntryOf}
-use Rattle.raft_state.specs.Round.{Followers, HasRun, IsCaughtUp, IsInOrderByMatch, IsRound, IsRoundEnd, NonePastLast, QuorumRan, Visits}
+use Rattle.raft_state.specs.raft_state.Round.{
+  Followers,
+  HasRun,
+  IsCaughtUp,
+  IsInOrderByMatch,
+  IsRound,
+  IsRoundEnd,
+  NonePastLast,
+  QuorumRan,
+  Visits,
+}
 
 -- an update of a known id to a value writes that value
 pub writes : {ID V P QS : Type 0} (eq : ID → ID → Bool) (cmp : P → P → Ordering) (part : V → P) (old new : Shown ID V P QS) (id : ID)

@@ -8,15 +8,15 @@ use Rattle.raft_base.specs.LogId.{id_le, id_lt, log_id_cmp}
 use Rattle.raft_base.specs.LogIdLawful.{optional-log_id_cmp-total}
 use Rattle.raft_base.specs.Validate.{first_false}
 use Rattle.raft_base.specs.declared.log_id.LogIdOf.{LogIdOf}
-use Rattle.raft_members.specs.Stored.{log_id_of}
+use Rattle.raft_members.specs.membership.Stored.{log_id_of}
 use Rattle.raft_progress.proofs.lemmas.OrderLemmas.{AtMost-from_lt, AtMost-refl, AtMost-trans}
 use Rattle.raft_state.proofs.lemmas.validate.RelationLemmas.{all_hold, hold_all}
-use Rattle.raft_state.specs.FullLog.{full_log}
-use Rattle.raft_state.specs.LogReads.{last_id}
-use Rattle.raft_state.specs.MembershipMoves.{after_commit, commits}
-use Rattle.raft_state.specs.MembershipRelations.{membership_relations}
-use Rattle.raft_state.specs.Memberships.{Memberships, index_at}
-use Rattle.raft_state.specs.Valid.{broken_relation, upto_relation}
+use Rattle.raft_state.specs.log_id_list.FullLog.{full_log}
+use Rattle.raft_state.specs.log_id_list.LogReads.{last_id}
+use Rattle.raft_state.specs.membership_state.MembershipMoves.{after_commit, commits}
+use Rattle.raft_state.specs.membership_state.MembershipRelations.{membership_relations}
+use Rattle.raft_state.specs.membership_state.Memberships.{Memberships, index_at}
+use Rattle.raft_state.specs.raft_state.Valid.{broken_relation, upto_relation}
 use Rattle.raft_state.specs.declared.raft_state.RaftStateIn.{RaftStateIn}
 
 module _ {C : Type 0} {cmp : C → C → Ordering} (total : IsTotalOrder cmp) where

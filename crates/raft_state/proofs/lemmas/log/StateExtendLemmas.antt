@@ -36,14 +36,14 @@ use Rattle.raft_state.proofs.lemmas.log_id_list.IdOrderLemmas.{none_at_most, the
 use Rattle.raft_state.proofs.lemmas.log_id_list.ExtendLemmas.{extend_raises, first_extended}
 use Rattle.raft_state.proofs.lemmas.validate.RelationLemmas.{all_hold, hold_all}
 use Rattle.raft_state.proofs.lemmas.log_id_list.SameEditsLemmas.{first_id_finds}
-use Rattle.raft_state.specs.Appended.{begins_at_zero}
-use Rattle.raft_state.specs.FullLog.{full_log, same_log}
-use Rattle.raft_state.specs.LogConditions.{all_follow}
-use Rattle.raft_state.specs.LogEdits.{log_after_extend}
-use Rattle.raft_state.specs.LogReads.{first_id, last_id}
-use Rattle.raft_state.specs.MembershipRelations.{membership_relations}
-use Rattle.raft_state.specs.Memberships.{Memberships}
-use Rattle.raft_state.specs.Valid.{broken_relation, fits_purged_next}
+use Rattle.raft_state.specs.raft_state.Appended.{begins_at_zero}
+use Rattle.raft_state.specs.log_id_list.FullLog.{full_log, same_log}
+use Rattle.raft_state.specs.log_id_list.LogConditions.{all_follow}
+use Rattle.raft_state.specs.log_id_list.LogEdits.{log_after_extend}
+use Rattle.raft_state.specs.log_id_list.LogReads.{first_id, last_id}
+use Rattle.raft_state.specs.membership_state.MembershipRelations.{membership_relations}
+use Rattle.raft_state.specs.membership_state.Memberships.{Memberships}
+use Rattle.raft_state.specs.raft_state.Valid.{broken_relation, fits_purged_next}
 use Rattle.raft_state.specs.declared.raft_state.RaftStateIn.{RaftStateIn}
 
 -- equal log ids have one index

@@ -40,13 +40,13 @@ use Rattle.raft_state.proofs.lemmas.log_id_list.FrontLemmas.{rest_first}
 use Rattle.raft_state.proofs.lemmas.log_id_list.KeptLemmas.{ends_there, from_end, purged_ends, has_id_at}
 use Rattle.raft_state.proofs.lemmas.validate.RelationLemmas.{all_hold, hold_all}
 use Rattle.raft_state.proofs.lemmas.log_id_list.OrderLemmas.{From}
-use Rattle.raft_state.specs.FullLog.{end_index, first_index, full_log}
-use Rattle.raft_state.specs.LogConditions.{may_be_purged_to}
-use Rattle.raft_state.specs.LogEdits.{log_after_purge, rest}
-use Rattle.raft_state.specs.LogReads.{first_id, id_at, last_id}
-use Rattle.raft_state.specs.LogReadsLawful.{id_at-indexed}
-use Rattle.raft_state.specs.Purge.{first_after_purge, may_purge}
-use Rattle.raft_state.specs.Valid.{broken_relation, fits_purged_next}
+use Rattle.raft_state.specs.log_id_list.FullLog.{end_index, first_index, full_log}
+use Rattle.raft_state.specs.log_id_list.LogConditions.{may_be_purged_to}
+use Rattle.raft_state.specs.log_id_list.LogEdits.{log_after_purge, rest}
+use Rattle.raft_state.specs.log_id_list.LogReads.{first_id, id_at, last_id}
+use Rattle.raft_state.specs.log_id_list.LogReadsLawful.{id_at-indexed}
+use Rattle.raft_state.specs.raft_state.Purge.{first_after_purge, may_purge}
+use Rattle.raft_state.specs.raft_state.Valid.{broken_relation, fits_purged_next}
 use Rattle.raft_state.specs.declared.raft_state.RaftStateIn.{RaftStateIn}
 
 -- of two tests that hold, what the second one says

@@ -29,10 +29,10 @@ use Rattle.std.proofs.Common.{
 use Rattle.std.specs.declared.cmp.Ordering.{Ordering}
 use Rattle.std.specs.Ordering.{is_le, is_lt}
 use Rattle.raft_base.specs.declared.log_id.LogIdOf.{LogIdOf}
-use Rattle.raft_state.specs.FullLog.{full_log, ids_of}
+use Rattle.raft_state.specs.log_id_list.FullLog.{full_log, ids_of}
 use Rattle.raft_state.specs.Inner.KeyEdits.{keys_after_append, rest_after_append}
 use Rattle.raft_state.proofs.lemmas.log_id_list.KeyListLemmas.{IsKeyList}
-use Rattle.raft_state.specs.LogEdits.{log_after_append, missing_ids}
+use Rattle.raft_state.specs.log_id_list.LogEdits.{log_after_append, missing_ids}
 use Rattle.raft_state.proofs.lemmas.log_id_list.SameLogLemmas.{SameLog}
 
 -- a log id may follow these keys: it has a greater index than the last one, and no lesser leader

@@ -47,13 +47,13 @@ use Rattle.std.specs.Prelude.{slice_get}
 use Rattle.raft_base.specs.LogId.{next_index}
 use Rattle.raft_base.specs.declared.log_id.LogIdOf.{LogIdOf}
 use Rattle.raft_progress.proofs.lemmas.OrderLemmas.{AtMost-from_lt}
-use Rattle.raft_state.specs.FullLog.{end_index, ids_of_keys, first_index, first_index_or, full_log, ids_of}
+use Rattle.raft_state.specs.log_id_list.FullLog.{end_index, ids_of_keys, first_index, first_index_or, full_log, ids_of}
 use Rattle.raft_state.specs.Inner.KeyEdits.{keys_below, rest_up_to, keys_up_to, end_at, rest_from, keys_from, keys_after_purge}
 use Rattle.raft_state.specs.Inner.KeyList.{Rises, keys_to}
 use Rattle.raft_state.proofs.lemmas.log_id_list.KeyListLemmas.{IsKeyList, tail_keys}
-use Rattle.raft_state.specs.Keys.{by_last_leader}
-use Rattle.raft_state.specs.LogEdits.{front, log_after_purge, rest}
-use Rattle.raft_state.specs.LogReads.{first_id, last_id}
+use Rattle.raft_state.specs.log_id_list.Keys.{by_last_leader}
+use Rattle.raft_state.specs.log_id_list.LogEdits.{front, log_after_purge, rest}
+use Rattle.raft_state.specs.log_id_list.LogReads.{first_id, last_id}
 use Rattle.raft_state.proofs.lemmas.log_id_list.FullLogLemmas.{key_list_rises, key_list_rises_zero, next_by_place, rises_end}
 use Rattle.raft_state.proofs.lemmas.log_id_list.AppendLemmas.{ids_split, one_id}
 

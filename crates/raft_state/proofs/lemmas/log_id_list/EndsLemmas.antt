@@ -32,8 +32,8 @@ use Rattle.std.proofs.lemmas.Cmp.{tied_back}
 use Rattle.raft_base.specs.declared.log_id.LogIdOf.{LogIdOf}
 use Rattle.raft_progress.proofs.lemmas.OrderLemmas.{AtMost-refl, AtMost-trans}
 use Rattle.raft_state.specs.Inner.KeyEdits.{keys_after_append, rest_after_append, keys_after_extend}
-use Rattle.raft_state.specs.LogConditions.{all_follow, ends_share_leader, follows}
-use Rattle.raft_state.specs.LogReads.{first_id, last_id}
+use Rattle.raft_state.specs.log_id_list.LogConditions.{all_follow, ends_share_leader, follows}
+use Rattle.raft_state.specs.log_id_list.LogReads.{first_id, last_id}
 use Rattle.raft_state.proofs.lemmas.log_id_list.AppendLemmas.{some_after}
 use Rattle.raft_state.proofs.lemmas.log_id_list.IdOrderLemmas.{equal_of, leaders_trans}
 

@@ -33,9 +33,9 @@ use Rattle.std.specs.declared.cmp.Ordering.{Ordering}
 use Rattle.std.specs.Ordering.{is_lt}
 use Rattle.std.proofs.lemmas.Bool.{cases_lt, false_from_ne_true}
 use Rattle.raft_base.specs.declared.log_id.LogIdOf.{LogIdOf}
-use Rattle.raft_state.specs.FullLog.{full_log, ids_of, same_log}
+use Rattle.raft_state.specs.log_id_list.FullLog.{full_log, ids_of, same_log}
 use Rattle.raft_state.proofs.lemmas.log_id_list.KeyListLemmas.{IsKeyList, step_keys, tail_keys}
-use Rattle.raft_state.specs.LogReads.{leader_changes, leader_count}
+use Rattle.raft_state.specs.log_id_list.LogReads.{leader_changes, leader_count}
 use Rattle.raft_state.proofs.lemmas.log_id_list.SameLogLemmas.{SameLog, is_same, says_same}
 use Rattle.raft_state.proofs.lemmas.log_id_list.AppendLemmas.{ids_split, one_id, same_append, same_ids}
 use Rattle.raft_state.proofs.lemmas.log_id_list.IdOrderLemmas.{leaders_symm, leaders_trans}

@@ -38,13 +38,13 @@ use Rattle.raft_base.specs.LogId.{id_le}
 use Rattle.raft_base.specs.LogIdLawful.{optional-log_id_cmp-total}
 use Rattle.raft_base.specs.declared.log_id.LogIdOf.{LogIdOf}
 use Rattle.raft_progress.proofs.lemmas.OrderLemmas.{AtMost-refl, AtMost-trans}
-use Rattle.raft_state.specs.FullLog.{full_log}
+use Rattle.raft_state.specs.log_id_list.FullLog.{full_log}
 use Rattle.raft_state.specs.Inner.KeyEdits.{keys_after_append, rest_after_append, keys_after_extend}
 use Rattle.raft_state.proofs.lemmas.log_id_list.KeyListLemmas.{IsKeyList}
-use Rattle.raft_state.specs.Keys.{key_follows, may_be_keys}
-use Rattle.raft_state.specs.LogConditions.{all_follow, follows}
-use Rattle.raft_state.specs.LogEdits.{log_after_append, log_after_extend, missing_ids}
-use Rattle.raft_state.specs.LogReads.{first_id, last_id}
+use Rattle.raft_state.specs.log_id_list.Keys.{key_follows, may_be_keys}
+use Rattle.raft_state.specs.log_id_list.LogConditions.{all_follow, follows}
+use Rattle.raft_state.specs.log_id_list.LogEdits.{log_after_append, log_after_extend, missing_ids}
+use Rattle.raft_state.specs.log_id_list.LogReads.{first_id, last_id}
 use Rattle.raft_state.proofs.lemmas.log_id_list.AppendLemmas.{CanAppend, full_after, same_append, same_ids, same_refl, stays_key_list}
 use Rattle.raft_state.proofs.lemmas.log_id_list.IdOrderLemmas.{leaders_trans, then_below}
 use Rattle.raft_state.proofs.lemmas.log_id_list.SameLogLemmas.{SameLog}

@@ -33,9 +33,9 @@ use Rattle.std.specs.declared.cmp.Ordering.{Ordering}
 use Rattle.raft_base.specs.LogId.{index_of}
 use Rattle.raft_base.specs.LogIndex.{index_lt}
 use Rattle.raft_base.specs.declared.log_id.LogIdOf.{LogIdOf}
-use Rattle.raft_state.specs.FullLog.{first_index, full_log}
-use Rattle.raft_state.specs.LogEdits.{front, rest}
-use Rattle.raft_state.specs.LogReads.{first_id, id_at, last_id}
+use Rattle.raft_state.specs.log_id_list.FullLog.{first_index, full_log}
+use Rattle.raft_state.specs.log_id_list.LogEdits.{front, rest}
+use Rattle.raft_state.specs.log_id_list.LogReads.{first_id, id_at, last_id}
 use Rattle.raft_state.proofs.lemmas.log_id_list.CutLemmas.{first_full}
 use Rattle.raft_state.proofs.lemmas.log_id_list.KeyListLemmas.{IsKeyList}
 use Rattle.raft_state.proofs.lemmas.log_id_list.OrderLemmas.{From, from_full}

@@ -39,10 +39,10 @@ use Rattle.std.specs.declared.cmp.Ordering.{Ordering}
 use Rattle.std.proofs.lemmas.List.Folds.{find-append}
 use Rattle.std.proofs.lemmas.Bool.Decides.{nat_tests}
 use Rattle.raft_base.specs.declared.log_id.LogIdOf.{LogIdOf}
-use Rattle.raft_state.specs.FullLog.{end_index, ids_of_keys, first_index, first_index_or, full_log, ids_of}
+use Rattle.raft_state.specs.log_id_list.FullLog.{end_index, ids_of_keys, first_index, first_index_or, full_log, ids_of}
 use Rattle.raft_state.specs.Inner.KeyList.{Rises, keys_to}
 use Rattle.raft_state.proofs.lemmas.log_id_list.KeyListLemmas.{IsKeyList}
-use Rattle.raft_state.specs.LogReads.{id_at}
+use Rattle.raft_state.specs.log_id_list.LogReads.{id_at}
 
 -- the last key whose index is not greater than j
 abbrev pub covering : {C : Type 0} → List (LogIdOf C) → ℕ → Option (LogIdOf C)

@@ -44,12 +44,12 @@ use Rattle.std.proofs.lemmas.Bool.Decides.{nat_tests}
 use Rattle.raft_base.specs.LogId.{next_index}
 use Rattle.raft_base.specs.LogView.{prev_id}
 use Rattle.raft_base.specs.declared.log_id.LogIdOf.{LogIdOf}
-use Rattle.raft_state.specs.FullLog.{end_index, first_index, same_log}
-use Rattle.raft_state.specs.LogConditions.{all_follow, follows}
-use Rattle.raft_state.specs.LogEdits.{front, log_after_append, log_after_extend, log_after_purge, missing_ids, rest}
-use Rattle.raft_state.specs.LogKept.{HasIds, KeepsIds}
-use Rattle.raft_state.specs.LogReads.{id_at, last_id}
-use Rattle.raft_state.specs.LogReadsLawful.{id_at-indexed}
+use Rattle.raft_state.specs.log_id_list.FullLog.{end_index, first_index, same_log}
+use Rattle.raft_state.specs.log_id_list.LogConditions.{all_follow, follows}
+use Rattle.raft_state.specs.log_id_list.LogEdits.{front, log_after_append, log_after_extend, log_after_purge, missing_ids, rest}
+use Rattle.raft_state.specs.log_id_list.LogKept.{HasIds, KeepsIds}
+use Rattle.raft_state.specs.log_id_list.LogReads.{id_at, last_id}
+use Rattle.raft_state.specs.log_id_list.LogReadsLawful.{id_at-indexed}
 use Rattle.raft_state.proofs.lemmas.log_id_list.FrontLemmas.{front_all, front_last, front_none, last_at, rest_last}
 use Rattle.raft_state.proofs.lemmas.log_id_list.FullLogLemmas.{ids_above, ids_below}
 use Rattle.raft_state.proofs.lemmas.log_id_list.OrderLemmas.{From}

@@ -26,11 +26,11 @@ use Rattle.std.proofs.Common.{
 }
 use Rattle.std.specs.declared.cmp.Ordering.{Ordering}
 use Rattle.raft_base.specs.declared.log_id.LogIdOf.{LogIdOf}
-use Rattle.raft_state.specs.FullLog.{full_log, ids_of}
+use Rattle.raft_state.specs.log_id_list.FullLog.{full_log, ids_of}
 use Rattle.raft_state.specs.Inner.KeyEdits.{rest_after_append}
 use Rattle.raft_state.proofs.lemmas.log_id_list.KeyListLemmas.{IsKeyList, step_keys, tail_keys}
-use Rattle.raft_state.specs.Keys.{by_last_leader}
-use Rattle.raft_state.specs.LogReads.{last_id, last_two_share_leader}
+use Rattle.raft_state.specs.log_id_list.Keys.{by_last_leader}
+use Rattle.raft_state.specs.log_id_list.LogReads.{last_id, last_two_share_leader}
 use Rattle.raft_state.proofs.lemmas.log_id_list.AppendLemmas.{Differ, some_after}
 use Rattle.raft_state.proofs.lemmas.log_id_list.CutLemmas.{full_begins, one_key}
 

@@ -32,13 +32,13 @@ use Rattle.std.proofs.lemmas.Option.{same_Some}
 use Rattle.std.specs.Cmp.{IsTotalOrder, IsEquivalence}
 use Rattle.raft_base.specs.declared.log_id.LogIdOf.{LogIdOf}
 use Rattle.raft_progress.proofs.lemmas.OrderLemmas.{AtMost-refl}
-use Rattle.raft_state.specs.FullLog.{first_index, full_log, same_log}
-use Rattle.raft_state.specs.LogReads.{last_id, last_two_share_leader, leader_count}
-use Rattle.raft_state.specs.LogEdits.{log_after_append, log_after_extend, log_after_purge}
-use Rattle.raft_state.specs.LogConditions.{follows, all_follow, ends_share_leader}
+use Rattle.raft_state.specs.log_id_list.FullLog.{first_index, full_log, same_log}
+use Rattle.raft_state.specs.log_id_list.LogReads.{last_id, last_two_share_leader, leader_count}
+use Rattle.raft_state.specs.log_id_list.LogEdits.{log_after_append, log_after_extend, log_after_purge}
+use Rattle.raft_state.specs.log_id_list.LogConditions.{follows, all_follow, ends_share_leader}
 use Rattle.raft_state.proofs.lemmas.log_id_list.KeyListLemmas.{IsKeyList}
 use Rattle.raft_state.specs.Inner.KeyEdits.{keys_after_append, keys_after_extend, keys_below, keys_after_purge}
-use Rattle.raft_state.specs.Keys.{may_be_keys}
+use Rattle.raft_state.specs.log_id_list.Keys.{may_be_keys}
 use Rattle.raft_state.proofs.lemmas.log_id_list.SameLogLemmas.{is_same}
 use Rattle.raft_state.proofs.lemmas.log_id_list.AppendLemmas.{full_after, stays_key_list}
 use Rattle.raft_state.proofs.lemmas.log_id_list.IdOrderLemmas.{apart, strictly_less, upto_equal}

@@ -33,11 +33,11 @@ use Rattle.std.specs.declared.cmp.Ordering.{Ordering}
 use Rattle.std.specs.Ordering.{is_le}
 use Rattle.std.specs.Cmp.{IsTotalOrder}
 use Rattle.raft_base.specs.declared.log_id.LogIdOf.{LogIdOf}
-use Rattle.raft_state.specs.FullLog.{full_log, ids_of}
+use Rattle.raft_state.specs.log_id_list.FullLog.{full_log, ids_of}
 use Rattle.raft_state.proofs.lemmas.log_id_list.KeyListLemmas.{IsKeyList, step_keys, tail_keys}
-use Rattle.raft_state.specs.LogOrder.{AreConsecutive, AreFound, LeadersNeverFall, LeadersNeverFallByIndex, NoneAboveLast}
-use Rattle.raft_state.specs.LogReads.{id_at, last_id}
-use Rattle.raft_state.specs.LogReadsLawful.{id_at-indexed}
+use Rattle.raft_state.specs.log_id_list.LogOrder.{AreConsecutive, AreFound, LeadersNeverFall, LeadersNeverFallByIndex, NoneAboveLast}
+use Rattle.raft_state.specs.log_id_list.LogReads.{id_at, last_id}
+use Rattle.raft_state.specs.log_id_list.LogReadsLawful.{id_at-indexed}
 use Rattle.raft_state.proofs.lemmas.log_id_list.IdOrderLemmas.{none_at_most, then_below}
 use Rattle.raft_base.specs.LogId.{id_le}
 use Rattle.raft_state.proofs.lemmas.log_id_list.CutLemmas.{first_full, one_key}

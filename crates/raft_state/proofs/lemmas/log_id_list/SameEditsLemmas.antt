@@ -27,10 +27,10 @@ use Rattle.std.specs.Cmp.{IsEquivalence}
 use Rattle.std.specs.Cmp.Derive.{both_true}
 use Rattle.raft_base.specs.LogId.{same_ids}
 use Rattle.raft_base.specs.declared.log_id.LogIdOf.{LogIdOf}
-use Rattle.raft_state.specs.FullLog.{end_index, first_index}
-use Rattle.raft_state.specs.LogEdits.{log_after_append, log_after_extend, front, log_after_purge, rest}
-use Rattle.raft_state.specs.LogReads.{first_id, id_at, last_id}
-use Rattle.raft_state.specs.SameLog.{FindsSame, KeepsSame}
+use Rattle.raft_state.specs.log_id_list.FullLog.{end_index, first_index}
+use Rattle.raft_state.specs.log_id_list.LogEdits.{log_after_append, log_after_extend, front, log_after_purge, rest}
+use Rattle.raft_state.specs.log_id_list.LogReads.{first_id, id_at, last_id}
+use Rattle.raft_state.specs.log_id_list.SameLog.{FindsSame, KeepsSame}
 use Rattle.raft_state.proofs.lemmas.log_id_list.ExtendLemmas.{same_appended, same_extended}
 use Rattle.raft_state.proofs.lemmas.log_id_list.SameLogLemmas.{SameLog, is_same, says_same}
 

@@ -5,7 +5,7 @@ use Rattle.std.proofs.lemmas.Bool.Decides.{nat_tests}
 use Rattle.std.specs.Cmp.Derive.{both_true}
 use Rattle.raft_base.specs.LogId.{same_ids}
 use Rattle.raft_base.specs.declared.log_id.LogIdOf.{LogIdOf}
-use Rattle.raft_state.specs.FullLog.{same_log}
+use Rattle.raft_state.specs.log_id_list.FullLog.{same_log}
 
 -- the same indexes, and leaders that are equal by eq
 abbrev pub SameLog : {C : Type 0} → (C → C → Bool) → List (LogIdOf C) → List (LogIdOf C) → Type 0

@@ -3,11 +3,11 @@ use Rattle.std.proofs.Common.{◌≡◌, ℕ, Bool, false, refl}
 use Rattle.std.specs.declared.cmp.Ordering.{Ordering}
 use Rattle.std.specs.Cmp.{IsEquivalence}
 use Rattle.raft_base.specs.LogIndex.{index_le}
-use Rattle.raft_members.specs.MembersLawful.{same_members-equiv}
-use Rattle.raft_members.specs.Stored.{membership_of}
+use Rattle.raft_members.specs.membership.MembersLawful.{same_members-equiv}
+use Rattle.raft_members.specs.membership.Stored.{membership_of}
 use Rattle.raft_members.specs.declared.membership.stored.StoredMembershipOf.{StoredMembershipOf}
-use Rattle.raft_state.specs.MembershipMoves.{after_update_committed, effect_changes, is_covered}
-use Rattle.raft_state.specs.Memberships.{Memberships, index_at}
+use Rattle.raft_state.specs.membership_state.MembershipMoves.{after_update_committed, effect_changes, is_covered}
+use Rattle.raft_state.specs.membership_state.Memberships.{Memberships, index_at}
 
 module _ {C K N : Type 0} (cmp : C → C → Ordering) {eq : K → K → Bool} {same : N → N → Bool} (e : IsEquivalence eq)
     (s : IsEquivalence same) where

@@ -2,16 +2,16 @@
 use Rattle.std.proofs.Common.{◌≡◌, Bool, Option, Some, None, ap, sym, ◌∙◌}
 use Rattle.std.specs.Option.{IfSome}
 use Rattle.std.specs.declared.cmp.Ordering.{Ordering}
-use Rattle.raft_members.specs.Change.{changed}
-use Rattle.raft_members.specs.Members.{MemberList, Members, members_of}
-use Rattle.raft_members.specs.Refusal.{IsRefusal}
-use Rattle.raft_members.specs.ReplaceAll.{OnlyMemory, goal_of}
+use Rattle.raft_members.specs.membership.Change.{changed}
+use Rattle.raft_members.specs.membership.Members.{MemberList, Members, members_of}
+use Rattle.raft_members.specs.membership.Refusal.{IsRefusal}
+use Rattle.raft_members.specs.membership.ReplaceAll.{OnlyMemory, goal_of}
 use Rattle.raft_members.specs.declared.change_members.ChangeMembers.{ChangeMembers}
 use Rattle.raft_members.specs.declared.error.ChangeMembershipErrorOf.{ChangeMembershipErrorOf}
 use Rattle.raft_members.specs.declared.error.ChangeMembershipErrorOf.TheVariants.{InProgress, EmptyMembership, LearnerNotFound, OutOfMemory}
-use Rattle.raft_state.specs.Apply.{members_after_change, in_progress, IsApplyRefusal}
+use Rattle.raft_state.specs.membership_state.Apply.{members_after_change, in_progress, IsApplyRefusal}
 use Rattle.raft_state.specs.Inner.Refusal.{refusal_of}
-use Rattle.raft_state.specs.Memberships.{Memberships, in_effect}
+use Rattle.raft_state.specs.membership_state.Memberships.{Memberships, in_effect}
 
 alike : {B C K N : Type 0} (leader : C → C → Bool) (eq : K → K → Bool) (cmp : K → K → Ordering) (m : Memberships C K N) (w : Members K N)
     (e : ChangeMembershipErrorOf B K) → None ≡ in_progress leader m → IsRefusal eq cmp w e

@@ -39,14 +39,14 @@ use Rattle.raft_state.proofs.lemmas.log_id_list.KeptLemmas.{end_at, front_reads,
 use Rattle.raft_state.proofs.lemmas.log_id_list.KeyListLemmas.{IsKeyList}
 use Rattle.raft_state.proofs.lemmas.log_id_list.OrderLemmas.{From, index_within, never_fall_by_index, none_above_last}
 use Rattle.raft_state.proofs.lemmas.log_id_list.SameLogLemmas.{equal_found}
-use Rattle.raft_state.specs.FullLog.{end_index, first_index, full_log}
-use Rattle.raft_state.specs.LogEdits.{front, log_after_purge}
-use Rattle.raft_state.specs.LogKept.{KeepsIds}
-use Rattle.raft_state.specs.LogReads.{id_at, last_id}
-use Rattle.raft_state.specs.LogReadsLawful.{id_at-indexed}
-use Rattle.raft_state.specs.Sound.{purged_or_logged}
-use Rattle.raft_state.specs.StateView.{view_of}
-use Rattle.raft_state.specs.Valid.{none_or_logged}
+use Rattle.raft_state.specs.log_id_list.FullLog.{end_index, first_index, full_log}
+use Rattle.raft_state.specs.log_id_list.LogEdits.{front, log_after_purge}
+use Rattle.raft_state.specs.log_id_list.LogKept.{KeepsIds}
+use Rattle.raft_state.specs.log_id_list.LogReads.{id_at, last_id}
+use Rattle.raft_state.specs.log_id_list.LogReadsLawful.{id_at-indexed}
+use Rattle.raft_state.specs.raft_state.Sound.{purged_or_logged}
+use Rattle.raft_state.specs.raft_state.StateView.{view_of}
+use Rattle.raft_state.specs.raft_state.Valid.{none_or_logged}
 use Rattle.raft_state.specs.declared.raft_state.RaftStateIn.{RaftStateIn}
 
 -- a log has a log id, if there is one

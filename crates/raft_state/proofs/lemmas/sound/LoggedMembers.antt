@@ -31,8 +31,8 @@ use Rattle.std.specs.Option.{option_cmp}
 use Rattle.raft_base.specs.LogId.{id_le, id_lt, log_id_cmp, next_index}
 use Rattle.raft_base.specs.LogIdLawful.{optional-log_id_cmp-total}
 use Rattle.raft_base.specs.declared.log_id.LogIdOf.{LogIdOf}
-use Rattle.raft_members.specs.Members.{MemberList}
-use Rattle.raft_members.specs.Stored.{log_id_of}
+use Rattle.raft_members.specs.membership.Members.{MemberList}
+use Rattle.raft_members.specs.membership.Stored.{log_id_of}
 use Rattle.raft_members.specs.declared.membership.stored.StoredMembershipOf.{StoredMembershipOf}
 use Rattle.raft_progress.proofs.lemmas.OrderLemmas.{AtMost-from_lt, le_lt, not_lt-from_AtMost}
 use Rattle.raft_state.proofs.lemmas.log_id_list.IdOrderLemmas.{then_less}
@@ -46,13 +46,20 @@ use Rattle.raft_state.proofs.lemmas.sound.LoggedIds.{
   purged_or_in,
   same_itself,
 }
-use Rattle.raft_state.specs.Appended.{AppendsMemberships}
-use Rattle.raft_state.specs.FullLog.{first_index}
-use Rattle.raft_state.specs.LogConditions.{all_follow, follows}
-use Rattle.raft_state.specs.LogEdits.{front, log_after_purge}
-use Rattle.raft_state.specs.LogKept.{HasIds, KeepsIds}
-use Rattle.raft_state.specs.MembershipMoves.{after_append, after_commit, after_truncate, commits, is_cut, is_effective_committed}
-use Rattle.raft_state.specs.Memberships.{Memberships}
+use Rattle.raft_state.specs.raft_state.Appended.{AppendsMemberships}
+use Rattle.raft_state.specs.log_id_list.FullLog.{first_index}
+use Rattle.raft_state.specs.log_id_list.LogConditions.{all_follow, follows}
+use Rattle.raft_state.specs.log_id_list.LogEdits.{front, log_after_purge}
+use Rattle.raft_state.specs.log_id_list.LogKept.{HasIds, KeepsIds}
+use Rattle.raft_state.specs.membership_state.MembershipMoves.{
+  after_append,
+  after_commit,
+  after_truncate,
+  commits,
+  is_cut,
+  is_effective_committed,
+}
+use Rattle.raft_state.specs.membership_state.Memberships.{Memberships}
 
 -- both memberships are in this log or purged, and the effective one is committed once its log id is
 pub record AreKept {C K N : Type 0} (eq : C → C → Bool) (cmp : C → C → Ordering) (next : ℕ) (log : List (LogIdOf C))

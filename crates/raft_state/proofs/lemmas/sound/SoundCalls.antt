@@ -40,7 +40,7 @@ use Rattle.raft_base.specs.declared.log_id.validate.Invalid.TheVariants.{
   MembershipLogId,
   MembershipIndex,
 }
-use Rattle.raft_members.specs.Stored.{log_id_of}
+use Rattle.raft_members.specs.membership.Stored.{log_id_of}
 use Rattle.raft_progress.proofs.lemmas.OrderLemmas.{AtMost-refl, AtMost-trans}
 use Rattle.raft_state.proofs.lemmas.TruncateLemmas.{cut_stays_valid, upto_committed}
 use Rattle.raft_state.proofs.lemmas.log.CommitLemmas.{stays_valid}
@@ -66,18 +66,18 @@ use Rattle.raft_state.proofs.lemmas.sound.LoggedIds.{
 use Rattle.raft_state.proofs.lemmas.sound.LoggedMembers.{AreKept, commit_members, cut_members, purge_members}
 use Rattle.raft_state.proofs.lemmas.validate.RelationLemmas.{all_hold, hold_all}
 use Rattle.raft_state.specs.Accepted.{accepted_from, accepted_id, accepted_upto, after_accept, last_accepted}
-use Rattle.raft_state.specs.BuiltSnapshot.{may_build_snapshot, may_schedule_purge}
-use Rattle.raft_state.specs.FullLog.{end_index, first_index, full_log}
-use Rattle.raft_state.specs.LogEdits.{front, log_after_purge}
-use Rattle.raft_state.specs.LogKept.{KeepsIds}
-use Rattle.raft_state.specs.LogReads.{first_id, last_id}
-use Rattle.raft_state.specs.MembershipMoves.{after_commit, after_truncate}
-use Rattle.raft_state.specs.MembershipRelations.{membership_relations}
-use Rattle.raft_state.specs.Memberships.{Memberships, index_at}
-use Rattle.raft_state.specs.Purge.{first_after_purge, may_purge}
-use Rattle.raft_state.specs.Sound.{IsSound}
-use Rattle.raft_state.specs.Truncate.{may_truncate}
-use Rattle.raft_state.specs.Valid.{broken_relation, fits_purged_next, upto_relation}
+use Rattle.raft_state.specs.raft_state.BuiltSnapshot.{may_build_snapshot, may_schedule_purge}
+use Rattle.raft_state.specs.log_id_list.FullLog.{end_index, first_index, full_log}
+use Rattle.raft_state.specs.log_id_list.LogEdits.{front, log_after_purge}
+use Rattle.raft_state.specs.log_id_list.LogKept.{KeepsIds}
+use Rattle.raft_state.specs.log_id_list.LogReads.{first_id, last_id}
+use Rattle.raft_state.specs.membership_state.MembershipMoves.{after_commit, after_truncate}
+use Rattle.raft_state.specs.membership_state.MembershipRelations.{membership_relations}
+use Rattle.raft_state.specs.membership_state.Memberships.{Memberships, index_at}
+use Rattle.raft_state.specs.raft_state.Purge.{first_after_purge, may_purge}
+use Rattle.raft_state.specs.raft_state.Sound.{IsSound}
+use Rattle.raft_state.specs.raft_state.Truncate.{may_truncate}
+use Rattle.raft_state.specs.raft_state.Valid.{broken_relation, fits_purged_next, upto_relation}
 use Rattle.raft_state.specs.declared.accepted.AcceptedIn.{AcceptedIn}
 use Rattle.raft_state.specs.declared.raft_state.RaftStateIn.{RaftStateIn}
 use Rattle.raft_state.specs.declared.snapshot_meta.SnapshotMetaOf.{SnapshotMetaOf}

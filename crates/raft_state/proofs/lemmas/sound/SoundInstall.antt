@@ -38,7 +38,7 @@ use Rattle.raft_base.specs.LogId.{id_le, id_lt, index_of, log_id_cmp, next_index
 use Rattle.raft_base.specs.LogIdLawful.{optional-log_id_cmp-total}
 use Rattle.raft_base.specs.LogIndex.{index_le, index_lt}
 use Rattle.raft_base.specs.declared.log_id.LogIdOf.{LogIdOf}
-use Rattle.raft_members.specs.Stored.{log_id_of}
+use Rattle.raft_members.specs.membership.Stored.{log_id_of}
 use Rattle.raft_members.specs.declared.membership.stored.StoredMembershipOf.{StoredMembershipOf}
 use Rattle.raft_progress.proofs.lemmas.OrderLemmas.{AtMost-from_lt, AtMost-refl}
 use Rattle.raft_state.proofs.lemmas.InstallLemmas.{install_stays_valid, not_below_zero, not_in_index}
@@ -60,8 +60,8 @@ use Rattle.raft_state.proofs.lemmas.sound.LoggedMembers.{AreKept, alone}
 use Rattle.raft_state.proofs.lemmas.sound.SoundCalls.{accepted_fits, first_not_past, makes_sound, members_in_order, members_of, next_rises}
 use Rattle.raft_state.proofs.lemmas.validate.RelationLemmas.{all_hold}
 use Rattle.raft_state.specs.Accepted.{accepted_upto}
-use Rattle.raft_state.specs.FullLog.{first_index, full_log}
-use Rattle.raft_state.specs.Install.{
+use Rattle.raft_state.specs.log_id_list.FullLog.{first_index, full_log}
+use Rattle.raft_state.specs.raft_state.Install.{
   is_logged,
   is_not_above,
   is_not_past,
@@ -70,12 +70,12 @@ use Rattle.raft_state.specs.Install.{
   log_after_install,
   memberships_after_install,
 }
-use Rattle.raft_state.specs.LogEdits.{log_after_purge}
-use Rattle.raft_state.specs.LogReads.{first_id, last_id}
-use Rattle.raft_state.specs.MembershipMoves.{after_update_committed, is_covered}
-use Rattle.raft_state.specs.Memberships.{Memberships, index_at}
-use Rattle.raft_state.specs.Sound.{IsSound}
-use Rattle.raft_state.specs.Valid.{broken_relation}
+use Rattle.raft_state.specs.log_id_list.LogEdits.{log_after_purge}
+use Rattle.raft_state.specs.log_id_list.LogReads.{first_id, last_id}
+use Rattle.raft_state.specs.membership_state.MembershipMoves.{after_update_committed, is_covered}
+use Rattle.raft_state.specs.membership_state.Memberships.{Memberships, index_at}
+use Rattle.raft_state.specs.raft_state.Sound.{IsSound}
+use Rattle.raft_state.specs.raft_state.Valid.{broken_relation}
 use Rattle.raft_state.specs.declared.accepted.AcceptedIn.{AcceptedIn}
 use Rattle.raft_state.specs.declared.raft_state.RaftStateIn.{RaftStateIn}
 use Rattle.raft_state.specs.declared.snapshot_meta.SnapshotMetaOf.{SnapshotMetaOf}

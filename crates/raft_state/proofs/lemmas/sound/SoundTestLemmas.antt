@@ -5,7 +5,7 @@ use Rattle.std.specs.Cmp.Derive.{both_true}
 use Rattle.std.specs.Option.{is_none}
 use Rattle.std.specs.declared.cmp.Ordering.{Ordering}
 use Rattle.raft_state.specs.Inner.SoundTest.{passes_sound}
-use Rattle.raft_state.specs.Sound.{IsSound}
+use Rattle.raft_state.specs.raft_state.Sound.{IsSound}
 use Rattle.raft_state.specs.declared.raft_state.RaftStateIn.{RaftStateIn}
 
 none_is : {A : Type 0} (o : Option A) → is_none o ≡ true → o ≡ None

@@ -15,12 +15,12 @@ use Rattle.raft_state.proofs.lemmas.log_id_list.SameLogLemmas.{equal_found}
 use Rattle.raft_state.proofs.lemmas.log_id_list.KeptLemmas.{end_at, front_ends, has_id_at}
 use Rattle.raft_state.proofs.lemmas.log_id_list.KeyListLemmas.{IsKeyList}
 use Rattle.raft_state.proofs.lemmas.log_id_list.OrderLemmas.{Above, From, above_full, index_within, never_falls_at}
-use Rattle.raft_state.specs.FullLog.{end_index, first_index, full_log}
-use Rattle.raft_state.specs.LogEdits.{front}
-use Rattle.raft_state.specs.LogReads.{id_at, last_id}
-use Rattle.raft_state.specs.LogReadsLawful.{id_at-indexed}
-use Rattle.raft_state.specs.StateView.{view_of}
-use Rattle.raft_state.specs.Valid.{none_or_logged}
+use Rattle.raft_state.specs.log_id_list.FullLog.{end_index, first_index, full_log}
+use Rattle.raft_state.specs.log_id_list.LogEdits.{front}
+use Rattle.raft_state.specs.log_id_list.LogReads.{id_at, last_id}
+use Rattle.raft_state.specs.log_id_list.LogReadsLawful.{id_at-indexed}
+use Rattle.raft_state.specs.raft_state.StateView.{view_of}
+use Rattle.raft_state.specs.raft_state.Valid.{none_or_logged}
 use Rattle.raft_state.specs.declared.raft_state.RaftStateIn.{RaftStateIn}
 
 module _ {C : Type 0} (cmp : C → C → Ordering) (eq : C → C → Bool) (total : IsTotalOrder cmp) (law : (x y : C) → eq x y ≡ is_eq (cmp x y))

@@ -37,8 +37,8 @@ use Rattle.std.specs.Cmp.{IsTotalOrder}
 use Rattle.std.proofs.lemmas.Bool.{cases_lt}
 use Rattle.std.proofs.lemmas.Bool.Decides.{nat_tests}
 use Rattle.raft_base.specs.declared.log_id.LogIdOf.{LogIdOf}
-use Rattle.raft_state.specs.FullLog.{full_log, first_index, end_index}
-use Rattle.raft_state.specs.LogReads.{id_at, first_id, last_id}
+use Rattle.raft_state.specs.log_id_list.FullLog.{full_log, first_index, end_index}
+use Rattle.raft_state.specs.log_id_list.LogReads.{id_at, first_id, last_id}
 use Rattle.raft_state.proofs.lemmas.log_id_list.KeyListLemmas.{IsKeyList, step_keys, tail_keys}
 use Rattle.raft_state.proofs.lemmas.log_id_list.FullLogLemmas.{at_full, covering, covers, covers_none}
 use Rattle.raft_state.proofs.lemmas.log_id_list.CutLemmas.{last_full, first_full}
@@ -48,7 +48,7 @@ use Rattle.raft_base.specs.LogId.{next_index, id_le, index_of, same_ids}
 use Rattle.raft_base.specs.LogIndex.{index_le}
 use Rattle.raft_base.specs.LogView.{LogView, prev_id}
 use Rattle.raft_base.specs.Logged.{Logged}
-use Rattle.raft_state.specs.Valid.{fits_purged_next, none_or_logged}
+use Rattle.raft_state.specs.raft_state.Valid.{fits_purged_next, none_or_logged}
 
 -- a log of these keys with this purge point
 abbrev pub log_of_keys : {C : Type 0} → List (LogIdOf C) → Option (LogIdOf C) → LogView C → LogView C

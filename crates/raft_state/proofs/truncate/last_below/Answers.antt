@@ -2,7 +2,7 @@ use Rattle.std.proofs.Common.{sym, ◌∙◌, ◌≡◌, true, false, Some}
 use Rattle.raft_base.specs.LogIndex.{index_lt}
 use Rattle.raft_state.proofs.lemmas.log_id_list.ExtendLemmas.{is_key_list}
 use Rattle.raft_state.proofs.lemmas.log_id_list.FrontLemmas.{all_stay, from_first, none_stay, some_stay}
-use Rattle.raft_state.specs.FullLog.{first_index, full_log}
+use Rattle.raft_state.specs.log_id_list.FullLog.{first_index, full_log}
 use Rattle.raft_state.proofs.truncate.last_below.Goals as goal
 
 pub returns-then-index_below : goal.returns-then-index_below

@@ -4,8 +4,8 @@ use Rattle.std.specs.Cmp.Derive.{both_true, bare_equiv}
 use Rattle.std.specs.Cmp.Lexicographic.{options_equiv}
 use Rattle.std.proofs.lemmas.Cmp.{lists_equiv, nat_eq_equiv}
 use Rattle.raft_base.specs.contracts.server_state.ServerState.{enum}
-use Rattle.raft_state.specs.FullLog.{full_log}
-use Rattle.raft_state.specs.MembershipsLawful.{same_memberships-equiv}
+use Rattle.raft_state.specs.log_id_list.FullLog.{full_log}
+use Rattle.raft_state.specs.membership_state.MembershipsLawful.{same_memberships-equiv}
 use Rattle.raft_base.specs.LogIdLawful.{same_id-equiv}
 use Rattle.raft_state_tests.proofs.lemmas.CloneLemmas.{equal, equal_meta}
 use Rattle.raft_state_tests.proofs.clones.state_equals_clone.Goals as goal

@@ -3,8 +3,8 @@ use Rattle.std.specs.Option.{option_cmp}
 use Rattle.raft_base.specs.LogId.{id_le, log_id_cmp}
 use Rattle.raft_base.specs.LogIdLawful.{optional-log_id_cmp-total}
 use Rattle.raft_progress.proofs.lemmas.OrderLemmas.{AtMost-trans}
-use Rattle.raft_state.specs.FullLog.{full_log}
-use Rattle.raft_state.specs.LogReads.{id_at, last_id}
+use Rattle.raft_state.specs.log_id_list.FullLog.{full_log}
+use Rattle.raft_state.specs.log_id_list.LogReads.{id_at, last_id}
 use Rattle.raft_state_tests.proofs.laws.is_up_to_date.Goals as goal
 
 pub returns : goal.returns

@@ -1,5 +1,5 @@
 use Rattle.std.proofs.Common.{sym, ◌∙◌}
-use Rattle.raft_state.specs.FullLog.{full_log}
+use Rattle.raft_state.specs.log_id_list.FullLog.{full_log}
 use Rattle.raft_state_tests.proofs.laws.logs_are_same.Goals as goal
 
 pub returns-clause-at_index : goal.returns-clause-at_index

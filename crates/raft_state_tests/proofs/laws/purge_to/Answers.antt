@@ -2,7 +2,7 @@ use Rattle.std.proofs.Common.{◌≡◌, ℕ, Bool, true, false, ◌&&◌, ◌�
 use Rattle.std.proofs.Math.Nat.{max-eq_right}
 use Rattle.std.proofs.lemmas.Bool.Decides.{nat_tests}
 use Rattle.std.proofs.lemmas.Result.{on_ok_weaker}
-use Rattle.raft_state.specs.FullLog.{first_index}
+use Rattle.raft_state.specs.log_id_list.FullLog.{first_index}
 use Rattle.raft_state_tests.proofs.laws.purge_to.Goals as goal
 
 second : (a b c : Bool) → (a && b && c) ≡ true → b ≡ true

@@ -1,6 +1,6 @@
 use Rattle.std.proofs.Common.{rules, subst, Err, IsTrue, MatchResult, Ok, Result}
 use Rattle.std.specs.Result.{is_ok}
-use Rattle.raft_state.specs.StateView.{view_of}
+use Rattle.raft_state.specs.raft_state.StateView.{view_of}
 use Rattle.raft_state_tests.proofs.laws.send.Goals as goal
 
 -- what holds of an answer that is an Ok

@@ -1,6 +1,6 @@
 use Rattle.std.proofs.Common.{◌≡◌, ◌+◌, ◌<◌, ap, arith, true, ◌∙◌}
 use Rattle.raft_progress.specs.tracked.Tracked.{tracked}
-use Rattle.raft_state.specs.StateView.{vote_of}
+use Rattle.raft_state.specs.raft_state.StateView.{vote_of}
 use Rattle.raft_handlers.proofs.lemmas.TermLemmas.{at_least, later_term}
 use Rattle.raft_handlers.proofs.lemmas.TrackedLemmas.{begins_with_default}
 use Rattle.raft_handlers.proofs.lemmas.VoteLemmas.{first_vote}

@@ -1,7 +1,7 @@
 use Rattle.std.proofs.Common.{◌≡◌, [], ◌∷◌, ◌++◌, List, Some, false, ap, rules, sym, ◌∙◌}
 use Rattle.std.specs.Cmp.{second_so}
 use Rattle.std.specs.Result.{is_err}
-use Rattle.raft_state.specs.Entry.{payload_membership}
+use Rattle.raft_state.specs.entry.Entry.{payload_membership}
 use Rattle.raft_state.specs.declared.entry.EntryOf.{EntryOf}
 use Rattle.raft_handlers.specs.Proposals.{next_own_id}
 use Rattle.raft_handlers.proofs.lemmas.AppendLemmas.{appends_payload, not_err}

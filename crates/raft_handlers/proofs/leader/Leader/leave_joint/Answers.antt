@@ -1,8 +1,8 @@
 use Rattle.std.specs.Prelude.{length, nat_lt}
 use Rattle.std.proofs.Common.{◌≡◌, true, ap, rules, sym, ◌∙◌}
-use Rattle.raft_members.specs.Change.{last_config, union_of}
-use Rattle.raft_members.specs.Coherence.{next_configs}
-use Rattle.raft_state.specs.Memberships.{in_effect}
+use Rattle.raft_members.specs.membership.Change.{last_config, union_of}
+use Rattle.raft_members.specs.quorum.Coherence.{next_configs}
+use Rattle.raft_state.specs.membership_state.Memberships.{in_effect}
 use Rattle.raft_handlers.proofs.lemmas.AppendLemmas.{on_ok}
 use Rattle.raft_handlers.proofs.lemmas.ChangeLemmas.{last_alone, longer}
 use Rattle.raft_handlers.proofs.leader.Leader.leave_joint.Goals as goal

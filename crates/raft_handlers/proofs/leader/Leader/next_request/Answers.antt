@@ -4,7 +4,7 @@ use Rattle.raft_base.specs.LogId.{id_le}
 use Rattle.raft_progress.specs.progress.Shown.{state}
 use Rattle.raft_progress.specs.tracked.Tracked.{tracked}
 use Rattle.raft_progress.specs.entry.Send.{can_be_sent, send_table}
-use Rattle.raft_state.specs.StateView.{view_of}
+use Rattle.raft_state.specs.raft_state.StateView.{view_of}
 use Rattle.raft_handlers.proofs.lemmas.FollowerLemmas.{entry_written, id_le-refl}
 use Rattle.raft_handlers.proofs.lemmas.SendLemmas.{request_is, send_keeps, sent_ok}
 use Rattle.raft_handlers.proofs.leader.Leader.next_request.Goals as goal

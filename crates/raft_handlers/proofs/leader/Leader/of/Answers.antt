@@ -1,7 +1,7 @@
 use Rattle.std.proofs.Common.{◌≡◌, ap, rules, ◌∙◌}
 use Rattle.raft_base.specs.LogId.{next_index}
 use Rattle.raft_progress.specs.tracked.Tracked.{tracked}
-use Rattle.raft_state.specs.FullLog.{end_index, full_log}
+use Rattle.raft_state.specs.log_id_list.FullLog.{end_index, full_log}
 use Rattle.raft_handlers.specs.Leadership.{unknown_entry}
 use Rattle.raft_handlers.proofs.lemmas.TrackedLemmas.{begins_with_default}
 use Rattle.raft_handlers.proofs.leader.Leader.of.Goals as goal

@@ -2,14 +2,14 @@ use Rattle.std.specs.Prelude.{length}
 use Rattle.std.specs.Option.{option_cmp}
 use Rattle.std.proofs.Common.{◌≡◌, ◌<◌, List, ap, sym, subst, ◌∙◌}
 use Rattle.raft_base.specs.LogId.{log_id_cmp}
-use Rattle.raft_members.specs.Change.{changed}
-use Rattle.raft_members.specs.Members.{members_of}
-use Rattle.raft_members.specs.Reached.{EachQuorumKnows}
+use Rattle.raft_members.specs.membership.Change.{changed}
+use Rattle.raft_members.specs.membership.Members.{members_of}
+use Rattle.raft_members.specs.quorum.Reached.{EachQuorumKnows}
 use Rattle.raft_progress.specs.declared.entry.ProgressEntryOf.{ProgressEntryOf}
 use Rattle.raft_progress.specs.progress.CountedValue.{has_part}
 use Rattle.raft_progress.specs.progress.Shown.{state}
 use Rattle.raft_progress.specs.tracked.Tracked.{tracked}
-use Rattle.raft_state.specs.Memberships.{in_effect}
+use Rattle.raft_state.specs.membership_state.Memberships.{in_effect}
 use Rattle.raft_handlers.proofs.lemmas.KnownLemmas.{changed_configs, quorums_still_know}
 use Rattle.raft_handlers.proofs.leader.Leader.propose_change.Goals as goal
 

@@ -1,10 +1,10 @@
 use Rattle.std.proofs.Common.{◌≡◌}
 use Rattle.std.proofs.lemmas.Cmp.{tied_itself}
 use Rattle.std.proofs.lemmas.Result.{IfErr-weaker, IfOk-weaker}
-use Rattle.raft_members.specs.Change.{changed}
-use Rattle.raft_members.specs.Members.{members_of}
-use Rattle.raft_members.specs.Refusal.{IsRefusal}
-use Rattle.raft_members.specs.ReplaceAll.{OnlyMemory, TwoChanges}
+use Rattle.raft_members.specs.membership.Change.{changed}
+use Rattle.raft_members.specs.membership.Members.{members_of}
+use Rattle.raft_members.specs.membership.Refusal.{IsRefusal}
+use Rattle.raft_members.specs.membership.ReplaceAll.{OnlyMemory, TwoChanges}
 use Rattle.raft_members.proofs.lemmas.membership.SaysLemmas.{made_coherent, same_refusal}
 use Rattle.raft_members.proofs.lemmas.membership.ReplaceLemmas.{only_memory, two_changes}
 use Rattle.raft_members.proofs.membership.Membership.change.Goals as goal

@@ -3,8 +3,8 @@ use Rattle.std.proofs.lemmas.List.Kept.{IsStrictlySortedBy-filter}
 use Rattle.std.specs.List.Sorted.{IsStrictlySortedBy}
 use Rattle.std.specs.Map.{keys_of}
 use Rattle.std.specs.Set.{is_member}
-use Rattle.raft_members.specs.Learners.{learners_among}
-use Rattle.raft_members.specs.Majority.{is_voter_of}
+use Rattle.raft_members.specs.membership.Learners.{learners_among}
+use Rattle.raft_members.specs.quorum.Majority.{is_voter_of}
 use Rattle.raft_members.proofs.lemmas.membership.LearnerLemmas.{learner_with_node}
 use Rattle.raft_members.proofs.membership.Membership.learner_ids.Goals as goal
 

@@ -1,5 +1,5 @@
 use Rattle.std.proofs.Common.{List, IsTrue, map, ◌∙◌, ap, subst}
-use Rattle.raft_members.specs.Members.{same_nodes}
+use Rattle.raft_members.specs.membership.Members.{same_nodes}
 use Rattle.raft_members.proofs.lemmas.membership.KeptLemmas.{equal_members}
 use Rattle.raft_members.proofs.membership.Membership.try_clone.Goals as goal
 

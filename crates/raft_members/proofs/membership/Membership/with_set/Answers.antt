@@ -1,7 +1,7 @@
 use Rattle.std.proofs.Common.{List, IsTrue, ap, subst}
 use Rattle.std.specs.BTreeMap.{get}
 use Rattle.std.specs.Option.{option_eq, option_or}
-use Rattle.raft_members.specs.Members.{members_of, node_at}
+use Rattle.raft_members.specs.membership.Members.{members_of, node_at}
 use Rattle.raft_members.proofs.lemmas.membership.SaysLemmas.{if_says}
 use Rattle.raft_members.proofs.membership.Membership.with_set.Goals as goal
 

@@ -1,5 +1,5 @@
 use Rattle.std.proofs.Common.{◌≡◌, ◌∙◌, ap, map}
-use Rattle.raft_members.specs.Change.{union_of, last_config}
+use Rattle.raft_members.specs.membership.Change.{union_of, last_config}
 use Rattle.raft_members.proofs.membership.Membership.with_voter_ids.Goals as goal
 
 pub returns : goal.returns

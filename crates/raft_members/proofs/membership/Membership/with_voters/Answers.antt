@@ -1,8 +1,8 @@
 use Rattle.std.proofs.Common.{◌≡◌}
 use Rattle.std.specs.Option.{option_or}
 use Rattle.std.specs.BTreeMap.{get, keys}
-use Rattle.raft_members.specs.Change.{union_of, last_config, next_members}
-use Rattle.raft_members.specs.Members.{members_of, node_at, Says}
+use Rattle.raft_members.specs.membership.Change.{union_of, last_config, next_members}
+use Rattle.raft_members.specs.membership.Members.{members_of, node_at, Says}
 use Rattle.raft_members.proofs.lemmas.membership.SaysLemmas.{more_says, in_both}
 use Rattle.raft_members.proofs.membership.Membership.with_voters.Goals as goal
 

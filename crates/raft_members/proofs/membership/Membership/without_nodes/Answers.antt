@@ -2,7 +2,7 @@ use Rattle.std.proofs.Common.{true, false, List, cond, None, IsTrue, refl, ap, s
 use Rattle.std.specs.BTreeMap.{get}
 use Rattle.std.specs.BTreeSet.{contains}
 use Rattle.std.specs.Option.{option_eq}
-use Rattle.raft_members.specs.Members.{members_of, node_at}
+use Rattle.raft_members.specs.membership.Members.{members_of, node_at}
 use Rattle.raft_members.proofs.lemmas.membership.SaysLemmas.{if_says}
 use Rattle.raft_members.proofs.membership.Membership.without_nodes.Goals as goal
 

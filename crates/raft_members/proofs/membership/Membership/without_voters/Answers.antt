@@ -1,5 +1,5 @@
 use Rattle.std.proofs.Common.{◌≡◌, ◌∙◌, ap, map}
-use Rattle.raft_members.specs.Change.{without, last_config}
+use Rattle.raft_members.specs.membership.Change.{without, last_config}
 use Rattle.raft_members.proofs.membership.Membership.without_voters.Goals as goal
 
 pub returns : goal.returns

@@ -1,6 +1,6 @@
 use Rattle.std.proofs.Common.{◌≡◌, ◌&&◌, sym, ◌∙◌, rules}
 use Rattle.std.specs.Cmp.Lexicographic.{pointwise}
-use Rattle.raft_members.specs.Members.{same_nodes}
+use Rattle.raft_members.specs.membership.Members.{same_nodes}
 use Rattle.raft_members.proofs.lemmas.membership.MappedLemmas.{pointwise-map}
 use Rattle.raft_members.proofs.membership.MembershipPartialEq.eq.Goals as goal
 

@@ -1,5 +1,5 @@
 use Rattle.std.proofs.Common.{◌≡◌, ◌++◌}
-use Rattle.raft_members.specs.Change.{without}
+use Rattle.raft_members.specs.membership.Change.{without}
 use Rattle.raft_members.proofs.membership.configs.difference.Given as goal
 
 abbrev pub invariant-loop-id : goal.invariant-loop-id

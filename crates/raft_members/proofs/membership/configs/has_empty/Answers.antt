@@ -1,5 +1,5 @@
 use Rattle.std.proofs.Common.{sym, ◌∙◌}
-use Rattle.raft_members.specs.Valid.{is_empty_config}
+use Rattle.raft_members.specs.membership.Valid.{is_empty_config}
 use Rattle.raft_members.proofs.lemmas.membership.MappedLemmas.{list_any-map}
 use Rattle.raft_members.proofs.membership.configs.has_empty.Goals as goal
 

@@ -1,5 +1,5 @@
 use Rattle.std.proofs.Common.{sym, ap}
-use Rattle.raft_members.specs.Change.{union_of}
+use Rattle.raft_members.specs.membership.Change.{union_of}
 use Rattle.raft_members.proofs.lemmas.membership.MappedLemmas.{last_config-some, last_config-none}
 use Rattle.raft_members.proofs.membership.configs.last_with.Goals as goal
 

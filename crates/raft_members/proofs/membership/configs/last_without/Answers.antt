@@ -1,5 +1,5 @@
 use Rattle.std.proofs.Common.{sym, ◌∙◌, ap}
-use Rattle.raft_members.specs.Change.{without}
+use Rattle.raft_members.specs.membership.Change.{without}
 use Rattle.raft_members.proofs.lemmas.membership.MappedLemmas.{last_config-some, last_config-none}
 use Rattle.raft_members.proofs.membership.configs.last_without.Goals as goal
 

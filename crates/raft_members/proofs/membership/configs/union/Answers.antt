@@ -1,6 +1,6 @@
 use Rattle.std.proofs.Common.{sym, ◌∙◌, subst}
 use Rattle.std.specs.List.Sorted.{IsStrictlySortedBy}
-use Rattle.raft_members.specs.Change.{union_of}
+use Rattle.raft_members.specs.membership.Change.{union_of}
 use Rattle.raft_members.proofs.lemmas.membership.AscendingLemmas.{insert_ahead, none_ahead}
 use Rattle.raft_members.proofs.membership.configs.union.Goals as goal
 

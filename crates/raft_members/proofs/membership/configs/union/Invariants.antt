@@ -1,5 +1,5 @@
 use Rattle.std.proofs.Common.{◌≡◌, ◌++◌}
-use Rattle.raft_members.specs.Change.{union_of}
+use Rattle.raft_members.specs.membership.Change.{union_of}
 use Rattle.raft_members.proofs.membership.configs.union.Given as goal
 
 abbrev pub invariant-loop-id : goal.invariant-loop-id

@@ -2,7 +2,7 @@ use Rattle.std.proofs.Common.{Bool, sym, ◌∙◌, ap, subst}
 use Rattle.std.specs.Set.{is_member}
 use Rattle.std.specs.BTreeMap.{get}
 use Rattle.std.proofs.lemmas.List.{take_all}
-use Rattle.raft_members.specs.Defaults.{WithDefault}
+use Rattle.raft_members.specs.membership.Defaults.{WithDefault}
 use Rattle.raft_members.proofs.lemmas.membership.DefaultLemmas.{at_start, default_there, default_made}
 use Rattle.raft_members.proofs.membership.defaults.with_defaults.Goals as goal
 

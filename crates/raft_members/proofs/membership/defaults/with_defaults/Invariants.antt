@@ -1,7 +1,7 @@
 use Rattle.std.proofs.Common.{take}
 use Rattle.std.specs.Set.{is_member}
 use Rattle.std.specs.BTreeMap.{get}
-use Rattle.raft_members.specs.Defaults.{WithDefault}
+use Rattle.raft_members.specs.membership.Defaults.{WithDefault}
 use Rattle.raft_members.proofs.membership.defaults.with_defaults.Given as goal
 
 abbrev pub invariant-loop-id : goal.invariant-loop-id

@@ -7,7 +7,7 @@ use Rattle.std.specs.Map.Iter.{deref_pair}
 use Rattle.std.specs.Option.{option_eq}
 use Rattle.std.proofs.lemmas.Map.Iter.{rest_all}
 use Rattle.std.proofs.lemmas.Map.Entries.{lookup-filter-keys}
-use Rattle.raft_members.specs.Change.{keeps_node}
+use Rattle.raft_members.specs.membership.Change.{keeps_node}
 use Rattle.raft_members.proofs.lemmas.membership.KeptLemmas.{kept_in, kept_out, same_lookup, same_stays, same_entries, moved_on}
 use Rattle.raft_members.proofs.membership.nodes.kept.Goals as goal
 

@@ -1,7 +1,7 @@
 use Rattle.std.proofs.Common.{◌≡◌, ◌++◌, List, map}
 use Rattle.std.specs.List.{filter}
 use Rattle.raft_members.proofs.lemmas.membership.KeptLemmas.{SameEntries}
-use Rattle.raft_members.specs.Change.{keeps_node}
+use Rattle.raft_members.specs.membership.Change.{keeps_node}
 use Rattle.raft_members.proofs.membership.nodes.kept.Given as goal
 
 abbrev pub invariant-loop-id : goal.invariant-loop-id

@@ -1,9 +1,9 @@
 use Rattle.std.proofs.Common.{◌≡◌, Option, map, take, is_some, true, Bool, ◌+◌, sym, ◌∙◌, ap, subst}
 use Rattle.std.proofs.lemmas.List.{take_all}
 use Rattle.std.specs.BTreeMap.{get}
-use Rattle.raft_members.specs.Valid.{FirstUnknown}
+use Rattle.raft_members.specs.membership.Valid.{FirstUnknown}
 use Rattle.raft_members.specs.Inner.Nodes.{lesser}
-use Rattle.raft_members.specs.Majority.{is_voter_of}
+use Rattle.raft_members.specs.quorum.Majority.{is_voter_of}
 use Rattle.raft_members.proofs.lemmas.membership.MissingLemmas.{one_more_first}
 use Rattle.raft_members.proofs.lemmas.membership.AddedLemmas.{alike_at}
 use Rattle.raft_members.proofs.membership.nodes.least_missing.Goals as goal

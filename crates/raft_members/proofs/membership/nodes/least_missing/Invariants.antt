@@ -1,6 +1,6 @@
 use Rattle.std.proofs.Common.{map, take}
 use Rattle.std.specs.BTreeMap.{get}
-use Rattle.raft_members.specs.Valid.{FirstWithoutNode}
+use Rattle.raft_members.specs.membership.Valid.{FirstWithoutNode}
 use Rattle.raft_members.proofs.membership.nodes.least_missing.Given as goal
 
 abbrev pub invariant-loop-c : goal.invariant-loop-c

@@ -1,6 +1,6 @@
 use Rattle.std.proofs.Common.{◌∙◌, ap}
 use Rattle.std.proofs.lemmas.List.{take_all}
-use Rattle.raft_members.specs.QuorumSize.{greatest}
+use Rattle.raft_members.specs.quorum.QuorumSize.{greatest}
 use Rattle.raft_members.proofs.quorum.joint_impl.least_of_each.Goals as goal
 
 pub returns-clause-exact : goal.returns-clause-exact

@@ -2,7 +2,7 @@ use Rattle.std.proofs.Common.{◌≡◌, ℕ, take}
 use Rattle.std.specs.Borrow.{Bor}
 use Rattle.std.specs.Fn.{AnyResult}
 use Rattle.std.specs.List.{list_all}
-use Rattle.raft_members.specs.QuorumSize.{QuorumsHaveAtLeast, greatest}
+use Rattle.raft_members.specs.quorum.QuorumSize.{QuorumsHaveAtLeast, greatest}
 use Rattle.raft_members.proofs.quorum.joint_impl.least_of_each.Given as goal
 
 abbrev pub invariant-loop-child : goal.invariant-loop-child

@@ -9,7 +9,7 @@ use Rattle.std.specs.List.{IsDistinct, prefix_len}
 use Rattle.std.specs.Map.{keys_of}
 use Rattle.std.proofs.Common.{ap, arith, refl, subst, suc, sym, zero, get_or, ltb, ltb-true, ltb-false, ◌∙◌}
 use Rattle.std.proofs.lemmas.Map.Entries.{length-keys_of}
-use Rattle.raft_members.specs.QuorumSize.{QuorumsHaveAtLeast}
+use Rattle.raft_members.specs.quorum.QuorumSize.{QuorumsHaveAtLeast}
 use Rattle.raft_progress.specs.Inner.Recount.{exceeds, front_test}
 use Rattle.raft_progress.specs.Inner.Rises.{IsLeastFront}
 use Rattle.raft_progress.specs.Inner.Settled.{IsSameGroup, IsScanned}

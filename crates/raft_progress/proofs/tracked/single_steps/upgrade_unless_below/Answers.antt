@@ -1,6 +1,6 @@
 use Rattle.std.specs.Coded.{Coded-set, coded_list}
 use Rattle.std.proofs.Common.{List, refl, subst, sym, true≢false}
-use Rattle.raft_members.specs.Members.{members_of}
+use Rattle.raft_members.specs.membership.Members.{members_of}
 use Rattle.raft_progress.specs.progress.CountedValue.{IsCounted}
 use Rattle.raft_progress.specs.progress.Shown.{state}
 use Rattle.raft_progress.specs.progress.UpgradeFold.{IsUpgradeFold}

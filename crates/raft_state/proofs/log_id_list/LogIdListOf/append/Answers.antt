@@ -4,7 +4,7 @@ use Rattle.raft_state.proofs.lemmas.log_id_list.ListLemmas.{append_ends, append_
 use Rattle.raft_state.proofs.lemmas.log_id_list.ExtendLemmas.{is_key_list}
 use Rattle.raft_state.proofs.lemmas.log_id_list.FrontLemmas.{from_first}
 use Rattle.raft_state.proofs.lemmas.log_id_list.KeptLemmas.{append_keeps_ids, last_found}
-use Rattle.raft_state.specs.FullLog.{first_index, full_log}
+use Rattle.raft_state.specs.log_id_list.FullLog.{first_index, full_log}
 use Rattle.raft_state.specs.Inner.KeyEdits.{keys_after_append}
 use Rattle.raft_state.proofs.log_id_list.LogIdListOf.append.Goals as goal
 

@@ -1,6 +1,6 @@
 use Rattle.std.proofs.Common.{map}
-use Rattle.raft_state.specs.FullLog.{first_index, full_log}
-use Rattle.raft_state.specs.LogReads.{last_id}
+use Rattle.raft_state.specs.log_id_list.FullLog.{first_index, full_log}
+use Rattle.raft_state.specs.log_id_list.LogReads.{last_id}
 use Rattle.raft_state.proofs.lemmas.log_id_list.CutLemmas.{last_full}
 use Rattle.raft_state.proofs.lemmas.log_id_list.ListLemmas.{extend_ends, extend_fills, extend_keeps}
 use Rattle.raft_state.proofs.lemmas.log_id_list.ExtendLemmas.{extend_raises, is_key_list}

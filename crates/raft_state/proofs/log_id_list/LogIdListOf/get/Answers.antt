@@ -1,4 +1,4 @@
-use Rattle.raft_state.specs.FullLog.{full_log}
+use Rattle.raft_state.specs.log_id_list.FullLog.{full_log}
 use Rattle.raft_state.proofs.lemmas.log_id_list.CutLemmas.{first_full, last_full, next_of_last}
 use Rattle.raft_state.proofs.lemmas.log_id_list.FullLogLemmas.{found_within}
 use Rattle.raft_state.proofs.lemmas.log_id_list.ExtendLemmas.{is_key_list}

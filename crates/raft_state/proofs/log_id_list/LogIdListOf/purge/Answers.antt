@@ -3,7 +3,7 @@ use Rattle.raft_state.proofs.lemmas.log_id_list.FrontLemmas.{from_first}
 use Rattle.raft_state.proofs.lemmas.log_id_list.KeptLemmas.{purged_end, purged_ends, purged_reads}
 use Rattle.raft_state.proofs.lemmas.log_id_list.ListLemmas.{purge_begins, purge_keeps}
 use Rattle.raft_state.proofs.lemmas.log_id_list.ExtendLemmas.{is_key_list}
-use Rattle.raft_state.specs.FullLog.{full_log}
+use Rattle.raft_state.specs.log_id_list.FullLog.{full_log}
 use Rattle.raft_state.proofs.log_id_list.LogIdListOf.purge.Goals as goal
 
 pub invariant_of-self-2 : goal.invariant_of-self-2

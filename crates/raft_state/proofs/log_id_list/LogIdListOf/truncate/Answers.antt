@@ -3,7 +3,7 @@ use Rattle.raft_state.proofs.lemmas.log_id_list.FrontLemmas.{from_first}
 use Rattle.raft_state.proofs.lemmas.log_id_list.KeptLemmas.{front_end, front_ends, front_reads}
 use Rattle.raft_state.proofs.lemmas.log_id_list.ListLemmas.{truncate_keeps}
 use Rattle.raft_state.proofs.lemmas.log_id_list.ExtendLemmas.{is_key_list}
-use Rattle.raft_state.specs.FullLog.{first_index, full_log}
+use Rattle.raft_state.specs.log_id_list.FullLog.{first_index, full_log}
 use Rattle.raft_state.proofs.log_id_list.LogIdListOf.truncate.Goals as goal
 
 pub invariant_of-self : goal.invariant_of-self

@@ -1,5 +1,5 @@
 use Rattle.std.proofs.Common.{◌≡◌, ◌-◌, drop}
-use Rattle.raft_state.specs.Keys.{may_be_keys}
+use Rattle.raft_state.specs.log_id_list.Keys.{may_be_keys}
 use Rattle.raft_state.proofs.log_id_list.keys.is_key_list.Given as goal
 
 abbrev pub invariant-loop-place : goal.invariant-loop-place

@@ -1,5 +1,5 @@
 use Rattle.std.proofs.Common.{◌≡◌, drop, map}
-use Rattle.raft_state.specs.LogConditions.{all_follow}
+use Rattle.raft_state.specs.log_id_list.LogConditions.{all_follow}
 use Rattle.raft_state.proofs.log_id_list.keys.may_all_follow.Given as goal
 
 abbrev pub invariant-loop-id : goal.invariant-loop-id

@@ -1,4 +1,4 @@
-use Rattle.raft_state.specs.FullLogLawful.{same_log-equiv}
+use Rattle.raft_state.specs.log_id_list.FullLogLawful.{same_log-equiv}
 use Rattle.raft_state.proofs.lemmas.log_id_list.SameEditsLemmas.{appended_keeps, extended_keeps, front_keeps, purged_keeps}
 use Rattle.raft_state.proofs.log_id_list.laws.same_logs_stay_same.Goals as goal
 

@@ -1,6 +1,6 @@
 use Rattle.std.proofs.Common.{ap, ◌∙◌}
-use Rattle.raft_state.specs.FullLog.{full_log}
-use Rattle.raft_state.specs.LogEdits.{front}
+use Rattle.raft_state.specs.log_id_list.FullLog.{full_log}
+use Rattle.raft_state.specs.log_id_list.LogEdits.{front}
 use Rattle.raft_state.proofs.lemmas.log_id_list.CutLemmas.{front_twice}
 use Rattle.raft_state.proofs.log_id_list.laws.truncate_twice.Goals as goal
 

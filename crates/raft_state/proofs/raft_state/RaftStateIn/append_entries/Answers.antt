@@ -7,8 +7,8 @@ use Rattle.raft_state.proofs.lemmas.log_id_list.ExtendLemmas.{is_key_list}
 use Rattle.raft_state.proofs.lemmas.log_id_list.FrontLemmas.{from_first}
 use Rattle.raft_state.proofs.lemmas.sound.LoggedMembers.{append_members, extend_members}
 use Rattle.raft_state.proofs.lemmas.sound.SoundCalls.{committed_low, extend_sound, members_of}
-use Rattle.raft_state.specs.FullLog.{first_index, full_log}
-use Rattle.raft_state.specs.LogReads.{last_id}
+use Rattle.raft_state.specs.log_id_list.FullLog.{first_index, full_log}
+use Rattle.raft_state.specs.log_id_list.LogReads.{last_id}
 use Rattle.raft_state.proofs.raft_state.RaftStateIn.append_entries.Goals as goal
 
 pub returns-then-not-store_membership-clause-log : goal.returns-then-not-store_membership-clause-log

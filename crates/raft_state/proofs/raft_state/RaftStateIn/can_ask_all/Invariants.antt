@@ -1,7 +1,7 @@
 use Rattle.std.proofs.Common.{◌≡◌, drop}
 use Rattle.std.specs.List.{list_all}
 use Rattle.raft_base.specs.LogView.{may_ask}
-use Rattle.raft_state.specs.StateView.{view_of}
+use Rattle.raft_state.specs.raft_state.StateView.{view_of}
 use Rattle.raft_state.proofs.raft_state.RaftStateIn.can_ask_all.Given as goal
 
 abbrev pub invariant-loop-entry : goal.invariant-loop-entry

@@ -1,8 +1,8 @@
 use Rattle.std.proofs.Common.{arith, ◌≡◌, ◌+◌, ◌∷◌, ◌∙◌, drop, refl, sym, ap}
 use Rattle.std.proofs.lemmas.List.{drop_more, drop_all}
 use Rattle.raft_progress.specs.progress.VecProgress.{shown}
-use Rattle.raft_state.specs.CatchUp.{state_can_catch_up}
-use Rattle.raft_state.specs.StateView.{view_of}
+use Rattle.raft_state.specs.raft_state.CatchUp.{state_can_catch_up}
+use Rattle.raft_state.specs.raft_state.StateView.{view_of}
 use Rattle.raft_state.proofs.lemmas.catch_up.RoundLemmas.{along_over, along_ran, round_end, round_of}
 use Rattle.raft_state.proofs.raft_state.RaftStateIn.catch_up_all.Goals.{then-visit, else-visit}
 use Rattle.raft_state.proofs.raft_state.RaftStateIn.catch_up_all.Goals as goal

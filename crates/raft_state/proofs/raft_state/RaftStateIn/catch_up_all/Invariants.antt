@@ -1,8 +1,8 @@
 use Rattle.std.proofs.Common.{◌≤◌, drop}
 use Rattle.raft_progress.specs.progress.VecProgress.{shown}
-use Rattle.raft_state.specs.CatchUp.{state_can_catch_up}
-use Rattle.raft_state.specs.Round.{IsInOrderByMatch}
-use Rattle.raft_state.specs.StateView.{view_of}
+use Rattle.raft_state.specs.raft_state.CatchUp.{state_can_catch_up}
+use Rattle.raft_state.specs.raft_state.Round.{IsInOrderByMatch}
+use Rattle.raft_state.specs.raft_state.StateView.{view_of}
 use Rattle.raft_state.proofs.lemmas.catch_up.RoundLemmas.{Along}
 use Rattle.raft_state.proofs.raft_state.RaftStateIn.catch_up_all.Given as goal
 

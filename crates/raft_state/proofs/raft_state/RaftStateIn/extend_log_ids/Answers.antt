@@ -4,7 +4,7 @@ use Rattle.raft_state.proofs.lemmas.log_id_list.ExtendLemmas.{is_key_list}
 use Rattle.raft_state.proofs.lemmas.log_id_list.FrontLemmas.{from_first}
 use Rattle.raft_state.proofs.lemmas.sound.LoggedMembers.{extend_members}
 use Rattle.raft_state.proofs.lemmas.sound.SoundCalls.{extend_sound, members_of}
-use Rattle.raft_state.specs.FullLog.{first_index, full_log}
+use Rattle.raft_state.specs.log_id_list.FullLog.{first_index, full_log}
 use Rattle.raft_state.proofs.raft_state.RaftStateIn.extend_log_ids.Goals as goal
 
 pub returns-clause-valid : goal.returns-clause-valid

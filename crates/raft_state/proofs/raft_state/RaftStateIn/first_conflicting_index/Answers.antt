@@ -1,6 +1,6 @@
 use Rattle.std.proofs.Common.{length, sym, ◌∙◌}
 use Rattle.raft_base.specs.LogView.{has_id}
-use Rattle.raft_state.specs.StateView.{view_of}
+use Rattle.raft_state.specs.raft_state.StateView.{view_of}
 use Rattle.raft_state.proofs.lemmas.log.ConflictLemmas.{
   fails_here,
   passes_here,

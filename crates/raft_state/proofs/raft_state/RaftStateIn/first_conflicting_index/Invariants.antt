@@ -1,9 +1,9 @@
 use Rattle.std.proofs.Common.{◌≡◌, ◌+◌, IfSome, drop}
 use Rattle.std.specs.List.{prefix_len}
 use Rattle.raft_base.specs.LogView.{has_id}
-use Rattle.raft_state.specs.FullLog.{full_log}
+use Rattle.raft_state.specs.log_id_list.FullLog.{full_log}
 use Rattle.raft_state.specs.Inner.LeaderRange.{HasOneLeader}
-use Rattle.raft_state.specs.StateView.{view_of}
+use Rattle.raft_state.specs.raft_state.StateView.{view_of}
 use Rattle.raft_state.proofs.raft_state.RaftStateIn.first_conflicting_index.Given as goal
 
 abbrev pub invariant-loop-place : goal.invariant-loop-place

@@ -1,7 +1,7 @@
 use Rattle.std.proofs.Common.{◌≡◌, ◌∙◌, false, sym}
 use Rattle.raft_state.proofs.lemmas.InstallLemmas.{front_zero}
-use Rattle.raft_state.specs.FullLog.{full_log}
-use Rattle.raft_state.specs.Install.{is_logged}
+use Rattle.raft_state.specs.log_id_list.FullLog.{full_log}
+use Rattle.raft_state.specs.raft_state.Install.{is_logged}
 use Rattle.raft_state.proofs.raft_state.RaftStateIn.log_to_keep.Goals as goal
 
 pub returns : goal.returns

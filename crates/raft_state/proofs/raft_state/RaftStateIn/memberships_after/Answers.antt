@@ -1,7 +1,7 @@
 use Rattle.std.proofs.Common.{IsTrue, Some, ◌≡◌, ◌+◌, ◌∷◌, ◌∙◌, drop, refl, sym, ap}
 use Rattle.std.proofs.lemmas.List.{drop_more, drop_all}
-use Rattle.raft_members.specs.Members.{same_members}
-use Rattle.raft_members.specs.Stored.{log_id_of, membership_of}
+use Rattle.raft_members.specs.membership.Members.{same_members}
+use Rattle.raft_members.specs.membership.Stored.{log_id_of, membership_of}
 use Rattle.raft_state.proofs.lemmas.AppendedLemmas.{none_appended, none_follows, one_appended, one_follows}
 use Rattle.raft_state.proofs.raft_state.RaftStateIn.memberships_after.Goals.{in-Some+in_ok-try_clone+in_ok-effective, in_default}
 use Rattle.raft_state.proofs.raft_state.RaftStateIn.memberships_after.Goals as goal

@@ -1,7 +1,7 @@
 use Rattle.std.proofs.Common.{drop, is_some, IsTrue}
-use Rattle.raft_members.specs.Stored.{log_id_of}
-use Rattle.raft_state.specs.Appended.{AppendsMemberships, memberships_follow}
-use Rattle.raft_state.specs.Memberships.{Memberships}
+use Rattle.raft_members.specs.membership.Stored.{log_id_of}
+use Rattle.raft_state.specs.raft_state.Appended.{AppendsMemberships, memberships_follow}
+use Rattle.raft_state.specs.membership_state.Memberships.{Memberships}
 use Rattle.raft_state.proofs.raft_state.RaftStateIn.memberships_after.Given as goal
 
 abbrev pub invariant-loop-entry : goal.invariant-loop-entry

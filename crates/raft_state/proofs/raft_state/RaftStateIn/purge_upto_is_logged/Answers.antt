@@ -2,7 +2,7 @@ use Rattle.std.proofs.Common.{◌∙◌, sym}
 use Rattle.raft_state.proofs.lemmas.log_id_list.ExtendLemmas.{is_key_list}
 use Rattle.raft_state.proofs.lemmas.validate.LoggedLemmas.{logged_keys, purge_in}
 use Rattle.raft_state.proofs.lemmas.validate.RelationLemmas.{all_hold}
-use Rattle.raft_state.specs.StateView.{view_of}
+use Rattle.raft_state.specs.raft_state.StateView.{view_of}
 use Rattle.raft_state.proofs.raft_state.RaftStateIn.purge_upto_is_logged.Goals as goal
 
 pub returns-clause-logged : goal.returns-clause-logged

@@ -2,7 +2,7 @@ use Rattle.std.proofs.Common.{◌∙◌}
 use Rattle.raft_state.proofs.lemmas.log_id_list.ExtendLemmas.{is_key_list}
 use Rattle.raft_state.proofs.lemmas.log_id_list.FrontLemmas.{from_first}
 use Rattle.raft_state.proofs.lemmas.TruncateLemmas.{cut_stays_valid}
-use Rattle.raft_state.specs.FullLog.{first_index, full_log}
+use Rattle.raft_state.specs.log_id_list.FullLog.{first_index, full_log}
 use Rattle.raft_state.proofs.lemmas.sound.SoundCalls.{cut_sound}
 use Rattle.raft_state.proofs.raft_state.RaftStateIn.truncate_log.Goals as goal
 

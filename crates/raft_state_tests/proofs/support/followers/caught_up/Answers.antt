@@ -1,7 +1,7 @@
 use Rattle.std.proofs.Common.{◌≡◌, ℕ, Bool, List, Global, Vec, nat_eq}
-use Rattle.raft_members.specs.Majority.{is_majority}
+use Rattle.raft_members.specs.quorum.Majority.{is_majority}
 use Rattle.raft_progress.specs.progress.VecProgress.{shown}
-use Rattle.raft_state.specs.Round.{Followers, QuorumRan}
+use Rattle.raft_state.specs.raft_state.Round.{Followers, QuorumRan}
 use Rattle.raft_state_tests.proofs.support.followers.caught_up.Goals as goal
 
 pub catch_up_all-requires-after_bounds : goal.catch_up_all-requires-after_bounds

@@ -1,6 +1,6 @@
 use Rattle.std.proofs.Common.{sym, ◌∙◌, ap}
 use Rattle.std.specs.Set.{is_member}
-use Rattle.raft_members.specs.Majority.{is_majority, is_joint_majority}
+use Rattle.raft_members.specs.quorum.Majority.{is_majority, is_joint_majority}
 use Rattle.raft_members.proofs.lemmas.membership.MappedLemmas.{list_all-map}
 use Rattle.raft_members.proofs.membership.effective.EffectiveMembershipOf.has_quorum.Goals as goal
 

@@ -2,8 +2,8 @@ use Rattle.std.proofs.Common.{sym, ◌∙◌, ap, rules}
 use Rattle.std.proofs.lemmas.List.Folds.{fold-map}
 use Rattle.std.specs.Prelude.{max}
 use Rattle.std.specs.Set.{is_member}
-use Rattle.raft_members.specs.Majority.{is_majority, is_joint_majority}
-use Rattle.raft_members.specs.QuorumSize.{greatest, majority_size}
+use Rattle.raft_members.specs.quorum.Majority.{is_majority, is_joint_majority}
+use Rattle.raft_members.specs.quorum.QuorumSize.{greatest, majority_size}
 use Rattle.raft_members.proofs.lemmas.membership.MappedLemmas.{list_all-map}
 use Rattle.raft_members.proofs.membership.effective.EffectiveMembershipOf.least_size_of_quorums.Goals as goal
 

@@ -1,6 +1,6 @@
 use Rattle.std.proofs.Common.{◌≡◌, ◌∙◌, ap, length, sym}
-use Rattle.raft_members.specs.Majority.{is_voter_of}
-use Rattle.raft_members.specs.Stored.{membership_of}
+use Rattle.raft_members.specs.quorum.Majority.{is_voter_of}
+use Rattle.raft_members.specs.membership.Stored.{membership_of}
 use Rattle.raft_members.proofs.membership.effective.EffectiveMembershipOf.of_stored.Goals as goal
 
 pub invariant_of-result : goal.invariant_of-result

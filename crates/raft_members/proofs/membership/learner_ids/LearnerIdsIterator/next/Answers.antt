@@ -1,6 +1,6 @@
 use Rattle.std.proofs.Common.{◌≡◌, ◌∙◌, Bool, List, ◌∷◌, false, not, ap, map, refl, sym}
 use Rattle.std.specs.List.{filter}
-use Rattle.raft_members.specs.Majority.{is_voter_of}
+use Rattle.raft_members.specs.quorum.Majority.{is_voter_of}
 use Rattle.raft_members.proofs.membership.learner_ids.LearnerIdsIterator.next.Goals as goal
 
 -- an element that does not pass is left out

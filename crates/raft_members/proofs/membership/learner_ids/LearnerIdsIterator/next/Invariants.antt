@@ -1,6 +1,6 @@
 use Rattle.std.proofs.Common.{◌≡◌, map, not, length}
 use Rattle.std.specs.List.{filter}
-use Rattle.raft_members.specs.Majority.{is_voter_of}
+use Rattle.raft_members.specs.quorum.Majority.{is_voter_of}
 use Rattle.raft_members.proofs.membership.learner_ids.LearnerIdsIterator.next.Given as goal
 
 abbrev pub invariant-loop-id : goal.invariant-loop-id

@@ -10,7 +10,7 @@ pub returns : goal.returns
 returns g c =
     subst (λ (v : g.row.NID.Denot → Bool). IfOk c.can_upgrade.result
     (λ can. IsTrue can ↔ CanUpgrade g.NID.PartialEq.eq g.P.Ord.cmp g.V.ProgressPart.part_of v
-    (Rattle.raft_members.specs.Learners.learners_of g.NID.PartialEq.eq c.args.membership.now) c.args.default.now
+    (Rattle.raft_members.specs.membership.Learners.learners_of g.NID.PartialEq.eq c.args.membership.now) c.args.default.now
     (state g.NID.PartialEq.eq (shown c.args.self.now)).value)) (λ i id. c.in_ok-configs.ensures.voters id i)
     (subst (λ (ls : List g.row.NID.Denot). IfOk c.can_upgrade.result
     (λ can. IsTrue can ↔ CanUpgrade g.NID.PartialEq.eq g.P.Ord.cmp g.V.ProgressPart.part_of

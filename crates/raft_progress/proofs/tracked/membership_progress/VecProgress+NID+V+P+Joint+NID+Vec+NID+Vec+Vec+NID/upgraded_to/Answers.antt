@@ -1,6 +1,6 @@
 use Rattle.std.specs.Prelude.{Bool}
 use Rattle.std.proofs.Common.{List, subst, sym, ◌∙◌}
-use Rattle.raft_members.specs.Members.{members_of}
+use Rattle.raft_members.specs.membership.Members.{members_of}
 use Rattle.raft_progress.specs.progress.NewProgress.{LearnersFit}
 use Rattle.raft_progress.specs.progress.Shown.{state}
 use Rattle.raft_progress.specs.progress.Upgrade.{CanUpgrade}
@@ -21,7 +21,7 @@ upgrade_quorum_set-requires-clause-can_upgrade g c =
     subst (λ (v : g.row.NID.Denot → Bool). CanUpgrade g.NID.PartialEq.eq g.P.Ord.cmp g.V.ProgressPart.part_of v c.deref.result.now
     c.args.default (state g.NID.PartialEq.eq (shown c.args.self.now)).value) (λ i id. sym (c.in_ok-configs.ensures.voters id) i)
     (subst (λ (ls : List g.row.NID.Denot). CanUpgrade g.NID.PartialEq.eq g.P.Ord.cmp g.V.ProgressPart.part_of
-    (Rattle.raft_members.specs.Majority.is_voter_of g.NID.PartialEq.eq c.args.membership.now.configs) ls c.args.default
+    (Rattle.raft_members.specs.quorum.Majority.is_voter_of g.NID.PartialEq.eq c.args.membership.now.configs) ls c.args.default
     (state g.NID.PartialEq.eq (shown c.args.self.now)).value) (sym (c.deref.ensures.value ∙ c.in_ok-learners.ensures.same))
     c.requires.can_upgrade)
 

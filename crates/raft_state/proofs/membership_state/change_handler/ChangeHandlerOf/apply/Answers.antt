@@ -1,5 +1,5 @@
 use Rattle.std.proofs.Common.{◌∙◌, ap, rules}
-use Rattle.raft_members.specs.Stored.{membership_of}
+use Rattle.raft_members.specs.membership.Stored.{membership_of}
 use Rattle.raft_state.proofs.lemmas.membership_state.RefusalLemmas.{only_memory_alike, refused_alike}
 use Rattle.raft_state.proofs.membership_state.change_handler.ChangeHandlerOf.apply.Goals as goal
 

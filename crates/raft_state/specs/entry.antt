@@ -1,0 +1,3 @@
+-- What a log entry contains.
+pub mod Entry
+pub mod EntryLawful
