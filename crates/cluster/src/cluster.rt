@@ -13,6 +13,7 @@ use crate::types::{Leader, LeaderIds, Members};
 use crate::view::said_by;
 use raft_base::EmptyNode;
 use raft_members::ChangeMembers;
+use raft_safety::check::Refused;
 use rand::RngExt;
 use rand_pcg::Pcg32;
 use std::alloc::{AllocError, Global};
@@ -23,6 +24,9 @@ const TIME_TO_CONVERGE: u64 = 10_000;
 
 /// How many events of a cluster are recorded for the laws of safety.
 const RECORDED: u64 = 4000;
+
+/// After how many events what is recorded is checked. It is checked at the end of the run, too.
+const CHECKED_EVERY: u64 = 1000;
 
 /// Servers and the network between them. `F` is always its default, as for a `Server`.
 #[derive(Drop)]
@@ -39,9 +43,38 @@ pub struct Cluster<L, C: Ord + Copy, F = Leader<C>> {
     random: Pcg32,
 }
 
+/// What was found of a cluster.
+#[derive(Clone, Copy)]
+pub struct Verdict {
+    /// How many events have happened.
+    pub events: u64,
+    /// Whether it was safe and has converged.
+    pub found: Result<(), Violation>,
+    /// Whether the rules of the laws of safety allow what was recorded.
+    pub rules: Result<(), Refused>,
+}
+
 impl<L: LeaderIds> Cluster<L, L::Committed> {
+    /// Runs the cluster of a seed, draws its chart, and counts what has happened.
+    pub fn simulate(
+        alloc: Global,
+        seed: u64,
+        options: &Options,
+        tally: &mut Tally,
+        chart: &mut String,
+    ) -> Result<Verdict, Violation> {
+        let mut cluster = Cluster::<L, L::Committed>::new(alloc, seed, options)?;
+        let found = cluster.run(options, chart);
+        tally.add(&cluster.tally);
+        Ok(Verdict {
+            events: cluster.tally.events,
+            found,
+            rules: cluster.trace.check(),
+        })
+    }
+
     /// Returns a cluster that its first server starts with the first three servers as its members.
-    pub fn new(alloc: Global, seed: u64, options: &Options) -> Result<Self, Violation> {
+    fn new(alloc: Global, seed: u64, options: &Options) -> Result<Self, Violation> {
         let mut servers = Vec::new(alloc);
         for id in 1..=SERVERS {
             servers.extend(Some(Server::new(alloc, id, seed, options.fault)?))?;
@@ -66,7 +99,7 @@ impl<L: LeaderIds> Cluster<L, L::Committed> {
 
     /// Lets events happen and draws them. Then the network is mended, and the cluster has to
     /// converge.
-    pub fn run(&mut self, options: &Options, chart: &mut String) -> Result<(), Violation> {
+    fn run(&mut self, options: &Options, chart: &mut String) -> Result<(), Violation> {
         if options.chart > 0 {
             self.draw(chart)?;
         }
@@ -184,13 +217,22 @@ impl<L: LeaderIds> Cluster<L, L::Committed> {
             self.tally.count(deed);
             self.news = Some(News::Deed(server.id, deed));
         }
+        if self.tally.events <= RECORDED {
+            self.record(place, said)?;
+        }
+        match self.servers.get(place) {
+            Some(server) => self.history.check(server, &self.servers),
+            None => Ok(()),
+        }
+    }
+
+    /// Records what a server has done. Every so often all that is recorded is checked.
+    fn record(&mut self, place: usize, said: Said) -> Result<(), Violation> {
         if let Some(server) = self.servers.get(place) {
-            if self.tally.events <= RECORDED {
-                let (number, configs) = server.named_members()?;
-                self.trace.name(number, configs)?;
-                self.trace.record(&server.view()?, said)?;
-            }
-            self.history.check(server, &self.servers)?;
+            server.record(said, &mut self.trace)?;
+        }
+        if self.tally.events % CHECKED_EVERY == 0 && self.trace.check().is_err() {
+            return Err(Violation::BrokenRule);
         }
         Ok(())
     }

@@ -32,7 +32,6 @@ use anyhow::{Result, ensure};
 use cluster::Cluster;
 use options::Options;
 use raft_base::{LeaderId, leader_id_std};
-use std::alloc::Global;
 use std::env;
 use tally::{Number, Tally};
 use types::LeaderIds;
@@ -54,9 +53,11 @@ fn run<L: LeaderIds>(rt: &HostRuntime, options: &Options) -> Result<bool> {
             )?;
         }
     }
+    println!(rt; "{tally}")?;
     println!(rt;
-        "{} of {seeds} clusters safe and converged: {tally}",
-        Number(healthy)
+        "{} of {seeds} clusters safe and converged in {} events",
+        Number(healthy),
+        Number(tally.events)
     )?;
     Ok(healthy == options.seeds)
 }
@@ -69,27 +70,21 @@ fn run_one<L: LeaderIds>(
     tally: &mut Tally,
 ) -> Result<bool> {
     let mut chart = String::new(rt.alloc());
-    let mut cluster = Cluster::<L, L::Committed>::new(rt.alloc(), seed, options)?;
-    let found = cluster.run(options, &mut chart);
-    let events = cluster.tally.events;
-    tally.add(&cluster.tally);
+    let verdict = Cluster::<L, L::Committed>::simulate(
+        rt.alloc(),
+        seed,
+        options,
+        tally,
+        &mut chart,
+    )?;
     print!(rt; "{chart}")?;
-    if let Err(violation) = found {
-        println!(rt; "seed {seed}, event {events}: {violation}")?;
+    if let Err(violation) = verdict.found {
+        println!(rt; "seed {seed}, event {}: {violation}", verdict.events)?;
     }
-    let allowed = cluster.trace.check(initial_voters(rt.alloc())?);
-    if let Err(refused) = allowed {
+    if let Err(refused) = verdict.rules {
         println!(rt; "seed {seed}, rules: {refused}")?;
     }
-    Ok(found.is_ok() && allowed.is_ok())
-}
-
-/// Returns the voters of the first membership.
-fn initial_voters(alloc: Global) -> Result<Vec<Vec<u64>>> {
-    let voters = (1..=3).collect(alloc)?;
-    let mut configs = Vec::new(alloc);
-    configs.extend(Some(voters))?;
-    Ok(configs)
+    Ok(verdict.found.is_ok() && verdict.rules.is_ok())
 }
 
 fn main(rt: HostRuntime) -> Result<()> {

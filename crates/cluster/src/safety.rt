@@ -35,6 +35,9 @@ pub enum Violation {
     /// A server could not do what an honest message asks.
     #[error("server {0} fails: {1}")]
     Failure(u64, HandlerError),
+    /// A recorded act was not allowed by those before it. The end of the run says which.
+    #[error("a rule of the laws of safety is broken")]
+    BrokenRule,
     /// The cluster was left alone, and not all servers have all entries.
     #[error("it does not converge")]
     Convergence,

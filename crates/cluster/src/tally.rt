@@ -41,16 +41,12 @@ impl Tally {
 
 impl fmt::Display for Tally {
     fn fmt<W: fmt::Write>(&self, f: &mut fmt::Formatter<W>) -> fmt::Result {
-        let events = Number(self.events);
         let elections = Number(self.elections);
         let changes = Number(self.changes);
         let truncations = Number(self.truncations);
         let snapshots = Number(self.snapshots);
         let restarts = Number(self.restarts);
-        write!(
-            f,
-            "{events} events, {elections} elections, {changes} membership changes, "
-        )?;
+        write!(f, "{elections} elections, {changes} membership changes, ")?;
         write!(
             f,
             "{truncations} truncations, {snapshots} snapshots, {restarts} restarts"

@@ -4,6 +4,7 @@
 //! Its checker says whether they were. A log of the laws has no entry 0, which starts the cluster.
 
 use raft_safety::check::{Refused, check};
+use raft_safety::checker::Violation;
 use raft_safety::entry::Entry as LawEntry;
 use raft_safety::event::Event as LawEvent;
 use raft_safety::memberships::Memberships;
@@ -119,18 +120,31 @@ impl Trace {
         Ok(())
     }
 
-    /// Checks that each act was allowed by those before it. Then the cluster was safe.
+    /// Checks that each act so far was allowed by those before it. Then the cluster was safe so far.
     ///
     /// # Errors
     ///
     /// The first act that was not allowed, and the rule that it breaks.
-    pub fn check(self, initial: Vec<Vec<u64>>) -> Result<(), Refused> {
+    pub fn check(&self) -> Result<(), Refused> {
+        match self.memberships() {
+            Ok(memberships) => check(*self.acts.allocator(), memberships, &self.acts),
+            Err(_) => Err(Refused {
+                event: 0,
+                violation: Violation::OutOfMemory,
+            }),
+        }
+    }
+
+    /// Returns a copy of all memberships so far. The first three servers are the first voters.
+    fn memberships(&self) -> Result<Memberships<u64, u64>, AllocError> {
         let alloc = *self.acts.allocator();
-        let memberships = Memberships {
-            initial,
-            held: self.memberships,
-        };
-        check(alloc, memberships, &self.acts)
+        let mut held = Vec::new(alloc);
+        for (number, configs) in &self.memberships {
+            held.extend(Some((*number, copy_of(configs)?)))?;
+        }
+        let mut initial = Vec::new(alloc);
+        initial.extend(Some((1..=3).collect(alloc)?))?;
+        Ok(Memberships { initial, held })
     }
 }
 
@@ -255,6 +269,16 @@ fn full_log(view: &View, committed: &[Entry]) -> Result<Vec<Entry>, AllocError> 
     let mut log = purged.to_vec(*view.entries.allocator())?;
     log.extend_from_slice(&view.entries)?;
     Ok(log)
+}
+
+/// Returns a copy of the configs of a membership.
+fn copy_of(configs: &Vec<Vec<u64>>) -> Result<Vec<Vec<u64>>, AllocError> {
+    let alloc = *configs.allocator();
+    let mut copy = Vec::new(alloc);
+    for voters in configs {
+        copy.extend(Some(voters.to_vec(alloc)?))?;
+    }
+    Ok(copy)
 }
 
 /// Returns how many first entries two logs have in common.

@@ -2,7 +2,7 @@
 
 use crate::message::Content;
 use crate::server::{Role, Server};
-use crate::trace::{Entry, Said, Term, View};
+use crate::trace::{Entry, Said, Term, Trace, View};
 use crate::types::{LeaderIds, Members, Payload, end};
 use raft_handlers::Outcome;
 use std::alloc::AllocError;
@@ -11,8 +11,15 @@ use std::alloc::AllocError;
 const FIRST_MEMBERSHIP: u64 = 1_000_000_000_000;
 
 impl<L: LeaderIds> Server<L, L::Committed> {
+    /// Records what the server has said and done.
+    pub fn record(&self, said: Said, trace: &mut Trace) -> Result<(), AllocError> {
+        let (number, configs) = self.named_members()?;
+        trace.name(number, configs)?;
+        trace.record(&self.view()?, said)
+    }
+
     /// Returns what the laws see of the server.
-    pub fn view(&self) -> Result<View, AllocError> {
+    fn view(&self) -> Result<View, AllocError> {
         let mut entries = Vec::new(*self.disk.allocator());
         for entry in &self.disk {
             if entry.log_id.index > 0 {
@@ -36,7 +43,7 @@ impl<L: LeaderIds> Server<L, L::Committed> {
     }
 
     /// Returns the effective membership: its number, and the voters of each config.
-    pub fn named_members(&self) -> Result<(u64, Vec<Vec<u64>>), AllocError> {
+    fn named_members(&self) -> Result<(u64, Vec<Vec<u64>>), AllocError> {
         let members = self.members();
         let alloc = *self.disk.allocator();
         let mut configs = Vec::new(alloc);
