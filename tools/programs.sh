@@ -73,7 +73,8 @@ run_seeds() {
     shift
     said=$(timeout 120 crates/cluster/out/cluster chart=0 "$@" 2> /dev/null)
     status=$?
-    echo "seeds $*: $(tail -n 1 <<< "$said")"
+    echo "seeds $*:"
+    tail -n 2 <<< "$said" | sed 's/^/    /'
     case "$due $status" in
         "healthy 0") is=right ;;
         "failing 1") grep -q '^seed ' <<< "$said" && is=right ;;
