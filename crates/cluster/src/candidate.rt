@@ -14,7 +14,7 @@ impl<L: LeaderIds> Server<L, L::Committed> {
         self.follow();
         let candidate = Candidate::campaign(self.id, self.term, &mut self.state)?;
         self.term = L::term(&self.vote().leader_id);
-        self.role = Role::Candidate(candidate);
+        self.take_role(Role::Candidate(candidate));
         self.lead_if_elected()
     }
 
@@ -75,7 +75,7 @@ impl<L: LeaderIds> Server<L, L::Committed> {
     /// Leads, and begins with a blank entry: only an entry of its own lets a leader commit.
     pub fn lead(&mut self, leader: Leader<L::Committed>) -> Result<(), HandlerError> {
         let entry = leader.propose_blank(&mut self.state)?;
-        self.role = Role::Leader(leader);
+        self.take_role(Role::Leader(leader));
         self.write_own(entry)
     }
 }

@@ -75,14 +75,12 @@ impl<L: LeaderIds> Cluster<L, L::Committed> {
 
     /// Returns a cluster that its first server starts with the first three servers as its members.
     fn new(alloc: Global, seed: u64, options: &Options) -> Result<Self, Violation> {
-        let mut servers = Vec::new(alloc);
-        for id in 1..=SERVERS {
-            servers.extend(Some(Server::new(alloc, id, seed, options.fault)?))?;
-        }
+        let trace = Trace::new(alloc, SERVERS)?;
+        let members = first_members(alloc)?;
+        let mut servers = Server::all(alloc, seed, options.fault)?;
         if let Some(first) = servers.first_mut() {
-            let nodes = (1..=3).map(|id| (id, EmptyNode::new())).collect(alloc)?;
             first
-                .start(Members::from_nodes(alloc, nodes)?)
+                .start(members)
                 .map_err(|error| Violation::Failure(1, error))?;
         }
         Ok(Cluster {
@@ -90,7 +88,7 @@ impl<L: LeaderIds> Cluster<L, L::Committed> {
             network: Network::new(alloc),
             history: History::new(alloc),
             tally: Tally::default(),
-            trace: Trace::new(alloc, SERVERS)?,
+            trace,
             news: None,
             ticks: 0,
             random: Pcg32::new(seed, 0),
@@ -265,6 +263,12 @@ impl<L: Copy + Eq + Drop, C: Ord + Copy + Drop> Cluster<L, C> {
         }
         last.leader_id().is_some().then_some(last)
     }
+}
+
+/// Returns the members with which a cluster starts: the first three servers.
+fn first_members(alloc: Global) -> Result<Members, AllocError> {
+    let nodes = (1..=3).map(|id| (id, EmptyNode::new())).collect(alloc)?;
+    Members::from_nodes(alloc, nodes)
 }
 
 /// Returns a random change of members, which the leader may refuse.

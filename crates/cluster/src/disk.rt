@@ -4,7 +4,7 @@
 use crate::deed::Deed;
 use crate::fault::Fault;
 use crate::server::Server;
-use crate::types::{Entry, Leader, LeaderIds, end};
+use crate::types::{Entry, Leader, LeaderIds, State, end};
 use raft_base::{LogStateReader, VoteIn};
 use raft_handlers::{HandlerError, Stored, restart_server};
 use raft_state::SnapshotMetaOf;
@@ -87,14 +87,7 @@ impl<L: LeaderIds> Server<L, L::Committed> {
             vote = VoteIn::default();
             self.term = 0;
         }
-        let alloc = *self.disk.allocator();
-        let stored = Stored {
-            vote,
-            snapshot: self.state.snapshot_meta.try_clone()?,
-            entries: self.disk.to_vec(alloc)?,
-            committed: self.state.snapshot_meta.last_log_id,
-        };
-        let state = restart_server(alloc, &stored)?;
+        let state = self.restarted(vote)?;
         drop(mem::replace(&mut self.state, state));
         self.trim();
         self.follow();
@@ -105,5 +98,17 @@ impl<L: LeaderIds> Server<L, L::Committed> {
         }
         self.deed = Some(Deed::Restarts);
         Ok(())
+    }
+
+    /// Returns the state that a server with this vote has after a restart.
+    fn restarted(&self, vote: VoteIn<L>) -> Result<State<L, L::Committed>, HandlerError> {
+        let alloc = *self.disk.allocator();
+        let stored = Stored {
+            vote,
+            snapshot: self.state.snapshot_meta.try_clone()?,
+            entries: self.disk.to_vec(alloc)?,
+            committed: self.state.snapshot_meta.last_log_id,
+        };
+        restart_server(alloc, &stored)
     }
 }

@@ -3,7 +3,7 @@
 use crate::deed::Deed;
 use crate::fault::Fault;
 use crate::server::{Role, Server};
-use crate::types::{Entry, Leader, LeaderIds, end};
+use crate::types::{Entry, Leader, LeaderIds, Members, end};
 use raft_base::{EmptyNode, LogIdOf};
 use raft_handlers::HandlerError;
 use raft_members::ChangeMembers;
@@ -41,38 +41,46 @@ impl<L: LeaderIds> Server<L, L::Committed> {
         change: ChangeMembers<u64, EmptyNode>,
         retain: bool,
     ) -> Result<(), HandlerError> {
-        let Ok(mut members) = self
-            .state
-            .membership_state
-            .change_handler()
-            .apply(change, retain)
-        else {
+        let Some(members) = self.members_after(change, retain) else {
             return Ok(());
         };
-        if self.fault == Some(Fault::SkipJointConfig) {
-            let to_last = ChangeMembers::AddVoterIds(BTreeSet::new(*self.disk.allocator()));
-            let Ok(last) = members.change(to_last, true) else {
-                return Ok(());
-            };
-            members = last;
-        }
         let entry = Entry {
             log_id: LogIdOf::new(L::to_committed(&self.vote().leader_id), end(self.last())),
             payload: EntryPayload::Membership(members),
         };
         let mut entries = Vec::new(*self.disk.allocator());
         entries.extend(Some(entry))?;
-        if !self.state.can_append_entries(&entries) {
+        if !self.state.can_append_entries(&entries)
+            || self.state.append_entries(&entries).is_err()
+        {
             return Ok(());
         }
-        self.state.append_entries(&entries)?;
-        self.deed = Some(Deed::Changes);
         if self.fault != Some(Fault::CountOldMembers) {
-            self.role = Role::Leader(Leader::resume(self.id, &self.state)?);
+            let leader = Leader::resume(self.id, &self.state)?;
+            self.take_role(Role::Leader(leader));
         }
+        self.deed = Some(Deed::Changes);
         match entries.pop() {
             Some(entry) => self.write_own(entry),
             None => Ok(()),
         }
+    }
+
+    /// Returns the members that a change leads to, if it is allowed now: those of the last
+    /// configuration at once, if the planted fault skips the joint one.
+    fn members_after(
+        &self,
+        change: ChangeMembers<u64, EmptyNode>,
+        retain: bool,
+    ) -> Option<Members> {
+        let handler = self.state.membership_state.change_handler();
+        let Ok(members) = handler.apply(change, retain) else {
+            return None;
+        };
+        if self.fault != Some(Fault::SkipJointConfig) {
+            return Some(members);
+        }
+        let to_last = ChangeMembers::AddVoterIds(BTreeSet::new(*self.disk.allocator()));
+        members.change(to_last, true).ok()
     }
 }

@@ -81,21 +81,31 @@ impl<L: Copy + Eq + Drop, C: Ord + Copy + Drop> Server<L, C> {
         memberships.is_voter(&self.id) || memberships.committed().is_voter(&self.id)
     }
 
+    /// Takes a role in place of the one before.
+    // `drop` is generic in any type, and in such a function the drop of a role costs no proof.
+    pub fn take_role(&mut self, role: Role<L, C, Leader<C>>) {
+        drop(mem::replace(&mut self.role, role));
+    }
+
     /// Becomes a follower, and waits anew for a leader.
     pub fn follow(&mut self) {
-        drop(mem::replace(&mut self.role, Role::Follower));
+        self.take_role(Role::Follower);
         self.patience = self.random.random_range(3..6u64);
     }
 }
 
 impl<L: LeaderIds> Server<L, L::Committed> {
+    /// Returns all servers of a cluster.
+    pub fn all(alloc: Global, seed: u64, fault: Option<Fault>) -> Result<Vec<Self>, AllocError> {
+        let mut servers = Vec::with_capacity(alloc, SERVERS as usize)?;
+        for id in 1..=SERVERS {
+            servers.extend(Some(Server::new(alloc, id, seed, fault)?))?;
+        }
+        Ok(servers)
+    }
+
     /// Returns a server that knows of no members.
-    pub fn new(
-        alloc: Global,
-        id: u64,
-        seed: u64,
-        fault: Option<Fault>,
-    ) -> Result<Self, AllocError> {
+    fn new(alloc: Global, id: u64, seed: u64, fault: Option<Fault>) -> Result<Self, AllocError> {
         Ok(Server {
             id,
             fault,
