@@ -23,10 +23,10 @@ use std::collections::{BTreeMap, BTreeSet};
 const TIME_TO_CONVERGE: u64 = 10_000;
 
 /// How many events of a cluster are recorded for the laws of safety.
-const RECORDED: u64 = 4000;
+const RECORDED: u64 = 10_000;
 
 /// After how many events what is recorded is checked. It is checked at the end of the run, too.
-const CHECKED_EVERY: u64 = 1000;
+const CHECKED_EVERY: u64 = 500;
 
 /// Servers and the network between them. `F` is always its default, as for a `Server`.
 #[derive(Drop)]
