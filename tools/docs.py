@@ -31,6 +31,8 @@ ROOT = pathlib.Path(__file__).resolve().parent.parent
 CRATES = ROOT / "crates"
 PAGES = ROOT / "docs" / "reference"
 MAP = ROOT / "docs" / "ARCHITECTURE.md"
+# How the names of the crates of tests end.
+OF_TESTS = ("_tests", "_testing")
 
 # ---- Reading the modules of the crates.
 
@@ -147,7 +149,7 @@ def read_modules():
     """Returns the modules of the libraries and the programs, each by its crate and path."""
     modules = {}
     for path in sorted(path for root in ("lib.rt", "main.rt") for path in CRATES.glob(f"*/src/{root}")):
-        if not path.parts[-3].endswith("_tests"):
+        if not path.parts[-3].endswith(OF_TESTS):
             read_module(modules, path.parent, path.parts[-3:-2], path)
     return modules
 
@@ -621,7 +623,7 @@ class Definitions:
         text = WORDS
         for (path, name), one in sorted(self.all.items(), key=lambda item: (item[0][1].lower(), item[0])):
             place = path.relative_to(CRATES)
-            if "Inner" not in place.parts and not place.parts[0].endswith("_tests") and path.stem[-6:] != "Lawful":
+            if "Inner" not in place.parts and not place.parts[0].endswith(OF_TESTS) and path.stem[-6:] != "Lawful":
                 said = " ".join(line.strip()[3:] for line in one.comment) or f"`{one.lines[-1].strip()}`"
                 said = said.replace("|", "\\|")
                 text += f"| `{name}` | {said} | [{place}](../../crates/{place}) |\n"
@@ -809,7 +811,7 @@ class File:
         for name in sorted(self.uses - uses_of(block)):
             word = re.split(r"::|\.", name)[-1].replace("◌", "")
             pattern = rf"\b{word}\b" if word.isidentifier() else rf" {re.escape(word)} "
-            is_own = name.startswith(("super::", "crate::")) or "_tests::" in name
+            is_own = name.startswith(("super::", "crate::")) or name.split("::")[0].endswith(OF_TESTS)
             if not is_own and re.search(pattern, parts[name.startswith("Rattle.")]):
                 lacking.append(name)
         return lacking

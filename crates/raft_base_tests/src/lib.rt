@@ -1,11 +1,11 @@
-//! The tests of `raft_base`, through its public calls alone, and in `support` what they share with
-//! those of the crates above. It ships nothing.
+//! The tests of `raft_base`, through its public calls alone. It ships nothing.
 //!
 //! A file has the tests of the module of `raft_base` that has its name. Those that go over all
-//! modules have the name of what they test: `texts` and `growths` of memory that are refused.
+//! modules have the name of what they test: `texts`, and `growths` for allocations
+//! that are refused.
 //!
 //! A test builds its values, one function that borrows them says whether all is right, and the test
-//! asserts that once: an assertion beside values that are owned is dear to prove.
+//! asserts that once, because an assertion beside values that a test owns is expensive to prove.
 #![tactic(auto)]
 
 #[cfg(test)]
@@ -34,7 +34,6 @@ mod order;
 mod raft_log_id;
 #[cfg(test)]
 mod server_state;
-pub mod support;
 #[cfg(test)]
 mod texts;
 #[cfg(test)]

@@ -1,9 +1,9 @@
 //! Ranges of logs.
 
-use crate::support::growths::{is_free, refuse_each};
-use crate::support::plain_log::id;
-use crate::support::printing::{debugs, displays};
 use raft_base::{Invalid, LeaderId, LogId, LogIdOf, LogIdRange, Validate};
+use raft_testing::growths::{is_free, refuse_each};
+use raft_testing::plain_log::id;
+use raft_testing::printing::{debugs, displays};
 use std::alloc::{AllocError, Global};
 use std::test::Fail;
 

@@ -7,29 +7,35 @@ use std::test::Fail;
 /// Whether steps from an index that may be absent lead where they should.
 fn steps_lead() -> bool {
     let none: Option<u64> = None;
-    none.add(0) == None
-        && none.add(3) == Some(2)
-        && none.next_index() == 0
-        && Some(7).add(0) == Some(7)
-        && Some(7).can_add(u64::MAX - 8)
-        && !Some(7).can_add(u64::MAX - 7)
-        && Some(7).next_index() == 8
-        && !Some(u64::MAX).has_next_index()
-        && Some(0).prev_index() == None
-        && Some(8).prev_index() == Some(7)
+    let are_right = [
+        none.add(0) == None,
+        none.add(3) == Some(2),
+        none.next_index() == 0,
+        Some(7).add(0) == Some(7),
+        Some(7).can_add(u64::MAX - 8),
+        !Some(7).can_add(u64::MAX - 7),
+        Some(7).next_index() == 8,
+        !Some(u64::MAX).has_next_index(),
+        Some(0).prev_index() == None,
+        Some(8).prev_index() == Some(7),
+    ];
+    !are_right.contains(&false)
 }
 
 /// Whether a log id at index 4, and none, have their indexes, also behind references.
 fn indexes_read(id: &LogIdOf<CommittedLeaderId>) -> bool {
     let there = Some(*id);
     let absent: Option<LogIdOf<CommittedLeaderId>> = None;
-    there.index() == Some(4)
-        && there.next_index() == 5
-        && absent.index() == None
-        && absent.next_index() == 0
-        && Some(id).index() == Some(4)
-        && Some(id).next_index() == 5
-        && (there.has_next_index() && absent.has_next_index() && Some(id).has_next_index())
+    let are_right = [
+        there.index() == Some(4),
+        there.next_index() == 5,
+        absent.index() == None,
+        absent.next_index() == 0,
+        Some(id).index() == Some(4),
+        Some(id).next_index() == 5,
+        (there.has_next_index() && absent.has_next_index() && Some(id).has_next_index()),
+    ];
+    !are_right.contains(&false)
 }
 
 /// Example base 3. No index and 0 more is no index, and 3 more is 2. Index 7 and 0 more is 7.

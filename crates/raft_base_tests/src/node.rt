@@ -1,10 +1,10 @@
 //! Node ids of a caller's own, and nodes with their defaults.
 ghost use Rattle.std.specs.Prelude.{◌≡◌, IfOk};
 
-use crate::support::address::Address;
-use crate::support::growths::{is_free, refuse_each};
-use crate::support::printing::displays;
 use raft_base::{BasicNode, EmptyNode, LeaderId, Node, NodeDefault, Vote};
+use raft_testing::address::Address;
+use raft_testing::growths::is_compared;
+use raft_testing::printing::displays;
 use std::alloc::{AllocError, Global};
 use std::fmt;
 use std::test::Fail;
@@ -82,21 +82,20 @@ fn nodes_have_defaults(rt: HostRuntime) -> Result<(), Fail> {
     Ok(())
 }
 
-/// Whether a node equals itself, and not another.
-fn equals_itself_alone(node: &BasicNode, other: &BasicNode) -> bool {
-    *node == *node && *node != *other
+/// Whether a node with an address equals its clone.
+fn equals_its_clone(alloc: Global) -> Result<bool, AllocError> {
+    let here = BasicNode::new(alloc, "here")?;
+    Ok(here.clone()? == here)
 }
 
 #[test]
 fn nodes_are_cloned_and_compared(rt: HostRuntime) -> Result<(), Fail> {
     let alloc = rt.alloc();
     let (here, there) = (
-        BasicNode::new(alloc, "here")?,
-        BasicNode::new(alloc, "there")?,
+        BasicNode::new(alloc, "here"),
+        BasicNode::new(alloc, "there"),
     );
-    assert!(rt; here.clone()? == here);
-    refuse_each(alloc);
-    let is_right = equals_itself_alone(&here, &there);
-    assert!(rt; is_free(&rt, alloc, "comparison of nodes", is_right)?);
+    assert!(rt; equals_its_clone(alloc)?);
+    assert!(rt; is_compared(&rt, alloc, "comparison of nodes", here, there)?);
     Ok(())
 }

@@ -1,10 +1,10 @@
 //! What leaders, votes, log ids, nodes, stamped values and broken relations print.
 
-use crate::support::printing::{debugs, displays, sums_up};
 use raft_base::{
     BasicNode, DisplayOption, EmptyNode, Invalid, LeaderId, LeaderStd, LogId, LogIdOf, UTime, Vote,
     VoteOf, leader_id_std,
 };
+use raft_testing::printing::{debugs, displays, sums_up};
 use std::alloc::{AllocError, Global};
 use std::test::Fail;
 
@@ -16,36 +16,38 @@ type StdCommitted = leader_id_std::CommittedLeaderId;
 fn display(alloc: Global) -> Result<bool, AllocError> {
     let leader = LeaderId::new(1, 2u64);
     let id = LogId::new(leader, 3);
-    Ok(
-        displays(alloc, &leader, "T1-N2")?
-            && displays(alloc, &Vote::new(1, 2u64), "T1-N2:uncommitted")?
-            && displays(alloc, &Vote::new_committed(1, 2u64), "T1-N2:committed")?
-            && displays(alloc, &id, "T1-N2-3")?
-            && displays(alloc, &LogId::new(leader, 0), "T1-N2-0")?
-            && displays(alloc, &DisplayOption(&Some(id)), "T1-N2-3")?
-            && displays(alloc, &DisplayOption::<LogId<u64>>(&None), "None")?
-            && sums_up(alloc, &id, "T1-N2-3")?
-            && sums_up(alloc, &Vote::new(1, 2u64), "T1-N2:uncommitted")?
-            && displays(alloc, &EmptyNode::new(), "{}")?
-            && displays(alloc, &BasicNode::new(alloc, "10.0.0.1:80")?, "10.0.0.1:80")?
-            && displays(alloc, &BasicNode::new(alloc, "")?, "")?
-            && displays(alloc, &UTime::new(9u64, id), "T1-N2-3@9")?
-            && displays(alloc, &UTime::<_, u64>::without_utime(id), "T1-N2-3")?,
-    )
+    let are_right = [
+        displays(alloc, &leader, "T1-N2")?,
+        displays(alloc, &Vote::new(1, 2u64), "T1-N2:uncommitted")?,
+        displays(alloc, &Vote::new_committed(1, 2u64), "T1-N2:committed")?,
+        displays(alloc, &id, "T1-N2-3")?,
+        displays(alloc, &LogId::new(leader, 0), "T1-N2-0")?,
+        displays(alloc, &DisplayOption(&Some(id)), "T1-N2-3")?,
+        displays(alloc, &DisplayOption::<LogId<u64>>(&None), "None")?,
+        sums_up(alloc, &id, "T1-N2-3")?,
+        sums_up(alloc, &Vote::new(1, 2u64), "T1-N2:uncommitted")?,
+        displays(alloc, &EmptyNode::new(), "{}")?,
+        displays(alloc, &BasicNode::new(alloc, "10.0.0.1:80")?, "10.0.0.1:80")?,
+        displays(alloc, &BasicNode::new(alloc, "")?, "")?,
+        displays(alloc, &UTime::new(9u64, id), "T1-N2-3@9")?,
+        displays(alloc, &UTime::<_, u64>::without_utime(id), "T1-N2-3")?,
+    ];
+    Ok(!are_right.contains(&false))
 }
 
-/// The same over standard leader ids.
+/// Whether values with standard leader ids print themselves.
 fn display_standard(alloc: Global) -> Result<bool, AllocError> {
     let vote = VoteOf::<u64, LeaderStd>::new_committed(1, 2);
     let none = VoteOf::<u64, LeaderStd>::default();
-    Ok(
-        displays(alloc, vote.leader_id(), "T1-N2")?
-            && displays(alloc, &StdLeader::default(), "T0-NNone")?
-            && displays(alloc, &StdCommitted { term: 1 }, "1")?
-            && displays(alloc, &vote, "T1-N2:committed")?
-            && sums_up(alloc, &none, "T0-NNone:uncommitted")?
-            && sums_up(alloc, &LogIdOf::new(StdCommitted { term: 1 }, 3), "1-3")?,
-    )
+    let are_right = [
+        displays(alloc, vote.leader_id(), "T1-N2")?,
+        displays(alloc, &StdLeader::default(), "T0-NNone")?,
+        displays(alloc, &StdCommitted { term: 1 }, "1")?,
+        displays(alloc, &vote, "T1-N2:committed")?,
+        sums_up(alloc, &none, "T0-NNone:uncommitted")?,
+        sums_up(alloc, &LogIdOf::new(StdCommitted { term: 1 }, 3), "1-3")?,
+    ];
+    Ok(!are_right.contains(&false))
 }
 
 /// Whether their debug forms are those of the original.
@@ -57,21 +59,22 @@ fn debug(alloc: Global) -> Result<bool, AllocError> {
     let first = "Some(LogId { leader_id: LeaderId { term: 1, node_id: 2 }, index: 0 })";
     let standard = "Vote { leader_id: LeaderId { term: 1, voted_for: Some(2) }, committed: false }";
     let none = "LeaderId { term: 0, voted_for: None }";
-    Ok(
-        debugs(alloc, &leader, "LeaderId { term: 1, node_id: 2 }")?
-            && debugs(alloc, &Vote::new(1, 2u64), uncommitted)?
-            && debugs(alloc, &Vote::new_committed(1, 2u64), committed)?
-            && debugs(alloc, &LogId::new(leader, 3), id)?
-            && debugs(alloc, &Some(LogId::new(leader, 0)), first)?
-            && debugs(alloc, &VoteOf::<u64, LeaderStd>::new(1, 2), standard)?
-            && debugs(alloc, &StdLeader::default(), none)?
-            && debugs(alloc, &EmptyNode::new(), "EmptyNode")?
-            && debugs(
-                alloc,
-                &BasicNode::new(alloc, "here")?,
-                "BasicNode { addr: \"here\" }",
-            )?,
-    )
+    let are_right = [
+        debugs(alloc, &leader, "LeaderId { term: 1, node_id: 2 }")?,
+        debugs(alloc, &Vote::new(1, 2u64), uncommitted)?,
+        debugs(alloc, &Vote::new_committed(1, 2u64), committed)?,
+        debugs(alloc, &LogId::new(leader, 3), id)?,
+        debugs(alloc, &Some(LogId::new(leader, 0)), first)?,
+        debugs(alloc, &VoteOf::<u64, LeaderStd>::new(1, 2), standard)?,
+        debugs(alloc, &StdLeader::default(), none)?,
+        debugs(alloc, &EmptyNode::new(), "EmptyNode")?,
+        debugs(
+            alloc,
+            &BasicNode::new(alloc, "here")?,
+            "BasicNode { addr: \"here\" }",
+        )?,
+    ];
+    Ok(!are_right.contains(&false))
 }
 
 /// Whether each broken relation prints its name.

@@ -4,8 +4,8 @@ ghost use Rattle.std.specs.Option.{option_cmp};
 ghost use Rattle.std.specs.Ordering.{is_ge};
 ghost use Rattle.std.specs.Prelude.{if◌then◌else◌, ◌≡◌, Some};
 
-use crate::support::growths::{is_free, refuse_each};
 use raft_base::{Instant, UTime};
+use raft_testing::growths::{is_free, refuse_each};
 use std::alloc::{AllocError, Global};
 use std::test::Fail;
 
@@ -42,14 +42,17 @@ fn is_stamped() -> bool {
     touch_in_turn(&mut count, 6);
     let is_touched = count == UTime::new(9, 7);
     count_up(&mut count);
-    is_new
-        && is_touched
-        && count == UTime::new(9, 8)
-        && count != UTime::new(8, 8)
-        && count != UTime::without_utime(8)
-        && never_updated::<u64>() == UTime::without_utime(0)
-        && UTime::<u8, u64>::without_utime(2).utime() == None
-        && count.into_inner() == 8
+    let are_right = [
+        is_new,
+        is_touched,
+        count == UTime::new(9, 8),
+        count != UTime::new(8, 8),
+        count != UTime::without_utime(8),
+        never_updated::<u64>() == UTime::without_utime(0),
+        UTime::<u8, u64>::without_utime(2).utime() == None,
+        count.into_inner() == 8,
+    ];
+    !are_right.contains(&false)
 }
 
 /// Whether a list of texts is cloned with its moment.

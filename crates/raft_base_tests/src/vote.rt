@@ -5,10 +5,10 @@ ghost use Rattle.std.specs.Option.{option_cmp};
 ghost use Rattle.std.specs.Ordering.{is_ge, partial_ge};
 ghost use Rattle.std.specs.Prelude.{◌&&◌, ◌≡◌, IsTrue, Some, false, true};
 
-use crate::support::growths::{is_free, refuse_each};
 use raft_base::{
     CommittedLeaderId, LeaderAdv, LeaderId, LeaderKind, LogId, LogIdOf, NodeId, Vote, VoteOf,
 };
+use raft_testing::growths::{is_free, refuse_each};
 use std::cmp::Ordering;
 use std::test::Fail;
 

@@ -1,9 +1,9 @@
 //! Changes of a membership.
 
 use crate::support::lines::{KINDS, change_is_right};
-use crate::support::words::configs;
-use raft_base_tests::support::address::Address;
 use raft_members::{ChangeMembers, Membership};
+use raft_testing::address::Address;
+use raft_testing::words::configs;
 use std::alloc::{AllocError, Global};
 use std::collections::BTreeMap;
 use std::test::Fail;

@@ -1,8 +1,8 @@
 //! What a change asks for.
 
 use crate::support::lines::{KINDS, change};
-use crate::support::words::ids;
 use raft_members::ChangeMembers;
+use raft_testing::words::ids;
 use std::alloc::{AllocError, Global};
 use std::test::Fail;
 

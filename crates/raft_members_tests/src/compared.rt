@@ -431,7 +431,7 @@ none 0=35,1=48,4=22 0 - 0,1,4 true false 35 false
 #[test]
 fn changes_are_those_of_the_original(rt: HostRuntime) -> Result<(), Fail> {
     for line in CHANGES.trim().lines() {
-        assert!(rt; change_is_right(rt.alloc(), line)?);
+        assert!(rt; change_is_right(rt.alloc(), line)?, "at {line}");
     }
     Ok(())
 }
@@ -439,7 +439,7 @@ fn changes_are_those_of_the_original(rt: HostRuntime) -> Result<(), Fail> {
 #[test]
 fn steps_are_those_of_the_original(rt: HostRuntime) -> Result<(), Fail> {
     for line in STEPS.trim().lines() {
-        assert!(rt; step_is_right(rt.alloc(), line)?);
+        assert!(rt; step_is_right(rt.alloc(), line)?, "at {line}");
     }
     Ok(())
 }
@@ -447,7 +447,7 @@ fn steps_are_those_of_the_original(rt: HostRuntime) -> Result<(), Fail> {
 #[test]
 fn refusals_are_those_of_the_original(rt: HostRuntime) -> Result<(), Fail> {
     for line in TESTS.trim().lines() {
-        assert!(rt; test_is_right(rt.alloc(), line)?);
+        assert!(rt; test_is_right(rt.alloc(), line)?, "at {line}");
     }
     Ok(())
 }
@@ -455,7 +455,7 @@ fn refusals_are_those_of_the_original(rt: HostRuntime) -> Result<(), Fail> {
 #[test]
 fn reads_are_those_of_the_original(rt: HostRuntime) -> Result<(), Fail> {
     for line in READS.trim().lines() {
-        assert!(rt; read_is_right(rt.alloc(), line)?);
+        assert!(rt; read_is_right(rt.alloc(), line)?, "at {line}");
     }
     Ok(())
 }

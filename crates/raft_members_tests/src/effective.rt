@@ -1,10 +1,10 @@
 //! Effective memberships.
 
 use crate::support::memberships::{Effective, Stored, effective, id, membership, stored};
-use crate::support::words::members;
 use raft_base::LogId;
 use raft_members::quorum::QuorumSet;
 use raft_members::{EffectiveMembership, Membership};
+use raft_testing::words::members;
 use std::alloc::{AllocError, Global};
 use std::rc::Rc;
 use std::test::Fail;

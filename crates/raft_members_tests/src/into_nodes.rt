@@ -1,7 +1,7 @@
 //! What gives the nodes of a membership.
 
-use crate::support::words::{ids, nodes};
 use raft_members::IntoNodes;
+use raft_testing::words::{ids, nodes};
 use std::alloc::{AllocError, Global};
 use std::collections::BTreeMap;
 use std::test::Fail;

@@ -1,26 +1,36 @@
 //! Joints of quorum sets, also shared and borrowed ones.
 ghost use Rattle.std.specs.Prelude.{IfOk, IsTrue};
 
-use crate::support::quorums::{Configs, has_ids, joint, set_of};
+use crate::support::quorums::{Configs, has_ids, joint};
 use raft_members::quorum::{AsJoint, AtLeast, Joint, QuorumSet};
+use raft_testing::growths::is_free_on;
+use raft_testing::words::configs;
 use std::alloc::{AllocError, Global};
 use std::collections::BTreeSet;
 use std::rc::Rc;
 use std::test::Fail;
 
 /// Some sets as one.
-pub type Sets = Joint<u64, BTreeSet<u64>, Vec<BTreeSet<u64>>>;
+type Sets = Joint<u64, BTreeSet<u64>, Vec<BTreeSet<u64>>>;
 
-/// The same, of sets that are borrowed.
+/// Some borrowed sets as one.
 type BorrowedSets<'a> = Joint<u64, BTreeSet<u64>, &'a [BTreeSet<u64>]>;
 
 /// Whether a joint, shared, itself and borrowed, answers a set of ids as wanted.
-pub fn joint_answers(shared: &Rc<Sets>, ids: &[u64], want: bool) -> bool {
+fn joint_answers(shared: &Rc<Sets>, ids: &[u64], want: bool) -> bool {
     let borrowed: BorrowedSets<'_> = shared.children().as_joint();
     borrowed.is_quorum(ids) == want
         && (**shared).is_quorum(ids) == want
         && shared.is_quorum(ids) == want
 }
+
+/// The joint of two sets.
+fn two_sets(alloc: Global) -> Result<Rc<Sets>, AllocError> {
+    Ok(Rc::new(alloc, Joint::from(configs(alloc, "1,2,3,4,5/6,7,8")?))?)
+}
+
+/// What is asked of it without an allocation.
+const SHARED: &str = "is_quorum of a shared and of a borrowed joint";
 
 // A repeated id is counted as often as it comes, in each child.
 /// Example members 1. The joint of {1, 2, 3, 4, 5} and {6, 7, 8}: neither [1, 2, 3] nor [6, 7]
@@ -35,12 +45,12 @@ fn a_joint_asks_each_child(rt: HostRuntime) -> Result<(), Fail> {
         (&[], false),
         (&[1, 1, 1, 6, 6], true),
     ];
-    let mut configs = Vec::new(rt.alloc());
-    configs.push(set_of(rt.alloc(), &[1, 2, 3, 4, 5])?)?;
-    configs.push(set_of(rt.alloc(), &[6, 7, 8])?)?;
-    let shared = Rc::new(rt.alloc(), Joint::from(configs))?;
     for (ids, want) in rows {
-        assert!(rt; joint_answers(&shared, ids, want), "{ids:?}");
+        let call = |joint: &mut Rc<Sets>| joint_answers(joint, ids, want);
+        assert!(rt;
+            is_free_on(&rt, rt.alloc(), SHARED, two_sets(rt.alloc()), call)?,
+            "{ids:?}"
+        );
     }
     Ok(())
 }

@@ -7,7 +7,6 @@ ghost use Rattle.std.specs.List.{IsDistinct};
 ghost use Rattle.std.specs.Prelude.{◌+◌, ◌<◌, ◌≡◌, IfOk, IfSome, IsTrue, false, length, true};
 ghost use Rattle.std.specs.Set.{ClonesAreEqual, distinct_count, is_member};
 
-use crate::support::words::{ids, members};
 use raft_base::{Node, NodeId};
 use raft_members::membership::laws::change_keeps_reached;
 use raft_members::quorum::laws::{
@@ -17,6 +16,7 @@ use raft_members::quorum::laws::{
 };
 use raft_members::quorum::{AtLeast, Joint, QuorumSet};
 use raft_members::{ChangeMembers, ChangeMembershipError, Membership, StoredMembershipOf};
+use raft_testing::words::{ids, members};
 use std::alloc::{AllocError, Global};
 use std::test::Fail;
 

@@ -1,9 +1,9 @@
-//! The tests of `raft_members`, through its public calls alone, and in `support` what they share; the
-//! words of ids and memberships there those of `raft_state` take too. It ships nothing.
+//! The tests of `raft_members`, through its public calls alone, and in `support` what they share. It
+//! ships nothing.
 //!
 //! A file has the tests of the module of `raft_members` that has its name. Those that go over all
-//! modules have the name of what they test: `compared` with the original, `growths` of memory that
-//! are refused, `laws` by their callers, and `texts`.
+//! modules have the name of what they test: `compared` with the original, `growths` for allocations
+//! that are refused, `laws` by their callers, and `texts`.
 #![tactic(auto)]
 
 #[cfg(test)]
@@ -36,6 +36,7 @@ mod membership;
 mod quorum_set;
 #[cfg(test)]
 mod stored;
-pub mod support;
+#[cfg(test)]
+mod support;
 #[cfg(test)]
 mod texts;

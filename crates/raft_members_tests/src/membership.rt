@@ -1,8 +1,10 @@
 //! Memberships: reads, tests, steps, and what they are made of.
 
 use crate::support::lines::{read_is_right, step_is_right, test_is_right};
-use crate::support::words::{configs, ids, members, nodes};
 use raft_members::{EmptyMembership, IntoNodes, Membership};
+use raft_testing::growths::is_free_on;
+use raft_testing::memory::both;
+use raft_testing::words::{configs, ids, members, nodes};
 use std::alloc::{AllocError, Global};
 use std::collections::BTreeSet;
 use std::test::Fail;
@@ -58,20 +60,35 @@ fn a_step_leads_towards_the_goal(rt: HostRuntime) -> Result<(), Fail> {
 }
 
 /// Whether each test answers by itself, of a membership that lacks a node and of one that has an
-/// empty config.
-pub fn each_answers(lacking: &Members, empty: &Members) -> bool {
-    lacking.ensure_voter_nodes() == Err(2)
-        && lacking.ensure_non_empty_config().is_ok()
-        && empty.ensure_voter_nodes().is_ok()
-        && empty.ensure_non_empty_config() == Err(EmptyMembership {})
+/// empty config. Both are refused, and differ.
+fn each_answers(lacking: &Members, empty: &Members) -> bool {
+    let are_right = [
+        lacking.ensure_voter_nodes() == Err(2),
+        lacking.ensure_non_empty_config().is_ok(),
+        empty.ensure_voter_nodes().is_ok(),
+        empty.ensure_non_empty_config() == Err(EmptyMembership {}),
+        lacking.ensure_valid().is_err(),
+        empty.ensure_valid().is_err(),
+        *lacking != *empty,
+    ];
+    !are_right.contains(&false)
 }
 
 /// Example members 8. Config {1, 2} and node 1: `ensure_voter_nodes` reports 2.
 #[test]
 fn each_test_answers_by_itself(rt: HostRuntime) -> Result<(), Fail> {
-    let lacking = members(rt.alloc(), "1,2", "1=1")?;
-    let empty = members(rt.alloc(), "1/-", "1=1")?;
-    assert!(rt; each_answers(&lacking, &empty));
+    let alloc = rt.alloc();
+    let made = both(members(alloc, "1,2", "1=1"), members(alloc, "1/-", "1=1"));
+    let name = "Membership, ensure_valid and its parts";
+    assert!(rt;
+        is_free_on(
+            &rt,
+            alloc,
+            name,
+            made,
+            |made| each_answers(&made.0, &made.1)
+        )?
+    );
     Ok(())
 }
 
@@ -112,7 +129,7 @@ fn voters_have_nodes(alloc: Global) -> Result<bool, AllocError> {
     Ok(alone && has_nodes(alloc, "1", ids(alloc, "3")?, "1=0,3=0")?)
 }
 
-/// The same where a set of ids may be absent, and of nodes.
+/// Whether voters get the default node, or keep theirs, if a set of ids or a map of nodes gives them.
 fn voters_keep_nodes(alloc: Global) -> Result<bool, AllocError> {
     let some = has_nodes(alloc, "1", Some(ids(alloc, "1,3")?), "1=0,3=0")?;
     let with_nodes = has_nodes(alloc, "1,2", nodes(alloc, "1=7")?, "1=7,2=0")?;

@@ -1,14 +1,14 @@
 //! What memberships and errors print.
 
 use crate::support::memberships::{Effective, Stored};
-use crate::support::words::members;
 use raft_base::{BasicNode, CommittedLeaderId, LeaderStd, LogId, LogIdOf, Vote, leader_id_std};
-use raft_base_tests::support::printing::{debugs, displays, sums_up};
 use raft_members::{
     ChangeMembershipError, EffectiveMembership, EmptyMembership, InProgress, InitializeError,
     LackEntry, LearnerNotFound, Membership, NotAllowed, NotAllowedOf, NotInMembers,
     QuorumNotEnough, StoredMembership,
 };
+use raft_testing::printing::{debugs, displays, sums_up};
+use raft_testing::words::members;
 use std::alloc::{AllocError, Global};
 use std::collections::{BTreeMap, BTreeSet};
 use std::test::Fail;

@@ -3,10 +3,10 @@
 use crate::support::values::{at, logs, purged_log};
 use raft_base::LeaderId;
 use raft_base::leader_id_std::CommittedLeaderId;
-use raft_base_tests::support::plain_log::{Numbered, PlainLog, id, log_below};
 use raft_progress::catch_up::can_catch_up_entry;
 use raft_progress::entry::ProgressEntryOf;
 use raft_progress::inflight::InflightOf;
+use raft_testing::plain_log::{Numbered, PlainLog, id, log_below};
 use std::alloc::{AllocError, Global};
 use std::test::Fail;
 
@@ -18,17 +18,20 @@ pub fn can_be_caught_up<C: Numbered>(log: &PlainLog<C>, purged: &PlainLog<C>) ->
     let late = at(id(1, 99), 100, u64::MAX - 164, InflightOf::None);
     let sending = at(None, 100, 1, logs(1, id(1, 47), id(1, 57)));
     let other = at(id(2, 30), 100, 1, InflightOf::None);
-    can_catch_up_entry(log, &entry, 0, 10)
-        && can_catch_up_entry(log, &entry, 100, u64::MAX)
-        && can_catch_up_entry(log, &done, 100, 1)
-        && !can_catch_up_entry(log, &late, 100, 1)
-        && !can_catch_up_entry(log, &entry, 101, 10)
-        && !can_catch_up_entry(log, &entry, 70, 0)
-        && !can_catch_up_entry(log, &sending, 70, 10)
-        && !can_catch_up_entry(log, &other, 70, 10)
-        && !can_catch_up_entry(log, &ProgressEntryOf::empty(101), 70, 10)
-        && can_catch_up_entry(purged, &ProgressEntryOf::empty(10), 5, 10)
-        && !can_catch_up_entry(purged, &ProgressEntryOf::empty(10), 4, 10)
+    let are_right = [
+        can_catch_up_entry(log, &entry, 0, 10),
+        can_catch_up_entry(log, &entry, 100, u64::MAX),
+        can_catch_up_entry(log, &done, 100, 1),
+        !can_catch_up_entry(log, &late, 100, 1),
+        !can_catch_up_entry(log, &entry, 101, 10),
+        !can_catch_up_entry(log, &entry, 70, 0),
+        !can_catch_up_entry(log, &sending, 70, 10),
+        !can_catch_up_entry(log, &other, 70, 10),
+        !can_catch_up_entry(log, &ProgressEntryOf::empty(101), 70, 10),
+        can_catch_up_entry(purged, &ProgressEntryOf::empty(10), 5, 10),
+        !can_catch_up_entry(purged, &ProgressEntryOf::empty(10), 4, 10),
+    ];
+    !are_right.contains(&false)
 }
 
 /// Whether that holds over a kind of leaders.

@@ -15,11 +15,11 @@ use crate::support::steps::first_ids;
 use crate::support::values::{at, logs, purged_log, snapshot, wrong_id};
 use raft_base::leader_id_std::CommittedLeaderId;
 use raft_base::{Invalid, LeaderId, LogIdOf, LogStateReader, Validate};
-use raft_base_tests::support::plain_log::{Numbered, PlainLog, id, log_below};
 use raft_members::quorum::QuorumSet;
 use raft_progress::entry::{ProgressEntry, ProgressEntryOf};
 use raft_progress::inflight::{Inflight, InflightError, InflightOf};
 use raft_progress::progress::{Progress, VecProgress};
+use raft_testing::plain_log::{Numbered, PlainLog, id, log_below};
 use std::alloc::{AllocError, Global};
 use std::test::Fail;
 
@@ -133,27 +133,30 @@ pub fn searches<C: Numbered>(log: &PlainLog<C>) -> bool {
     let first = logs(1, id(1, 47), id(1, 57));
     let second = logs(2, id(1, 15), id(1, 25));
     let third = logs(3, None, id(1, 9));
-    sends(log, ProgressEntryOf::empty(100), 10, first)
-        && takes(
+    let are_right = [
+        sends(log, ProgressEntryOf::empty(100), 10, first),
+        takes(
             log,
             at(None, 100, 1, first),
             Call::Conflict(Some(1), 47),
             at(None, 47, 1, none),
-        )
-        && sends(log, at(None, 47, 1, none), 10, second)
-        && takes(
+        ),
+        sends(log, at(None, 47, 1, none), 10, second),
+        takes(
             log,
             at(None, 47, 2, second),
             Call::Conflict(Some(2), 15),
             at(None, 15, 2, none),
-        )
-        && sends(log, at(None, 15, 2, none), 10, third)
-        && refuses(
+        ),
+        sends(log, at(None, 15, 2, none), 10, third),
+        refuses(
             log,
             at(None, 15, 3, third),
             Call::Conflict(Some(3), 0),
             Err(InflightError::ConflictNotAtPrev),
-        )
+        ),
+    ];
+    !are_right.contains(&false)
 }
 
 /// Whether sends over a log of ten, with nothing to be purged and no snapshot, are as worked.
@@ -162,24 +165,27 @@ fn sends_what_is_left<C: Numbered>(log: &PlainLog<C>) -> bool {
     let behind = at(id(1, 4), 5, 0, none);
     let full = at(id(1, 9), 10, 0, none);
     let sending = at(id(1, 4), 5, 1, logs(1, id(1, 4), id(1, 7)));
-    sends(log, behind, 3, logs(1, id(1, 4), id(1, 7)))
-        && sends(log, behind, u64::MAX, logs(1, id(1, 4), id(1, 9)))
-        && sends(log, ProgressEntryOf::empty(10), 0, snapshot(1, None))
-        && leads(log, full, Call::Send(3), Answer::Sent(Err(none)), full)
-        && leads(
+    let are_right = [
+        sends(log, behind, 3, logs(1, id(1, 4), id(1, 7))),
+        sends(log, behind, u64::MAX, logs(1, id(1, 4), id(1, 9))),
+        sends(log, ProgressEntryOf::empty(10), 0, snapshot(1, None)),
+        leads(log, full, Call::Send(3), Answer::Sent(Err(none)), full),
+        leads(
             log,
             sending,
             Call::Send(3),
             Answer::Sent(Err(sending.inflight)),
             sending,
-        )
-        && leads(
+        ),
+        leads(
             log,
             at(None, 11, 0, none),
             Call::Send(3),
             Answer::NotAllowed,
             at(None, 11, 0, none),
-        )
+        ),
+    ];
+    !are_right.contains(&false)
 }
 
 /// Whether the search in a log of 21, to be purged up to index 4, ends with a snapshot.
@@ -222,20 +228,23 @@ pub fn stands_strangers<C: Numbered>(log: &PlainLog<C>) -> bool {
     let outside = Err(InflightError::AckOutOfRange);
     let short = at(None, 30, 1, sending);
     let answered = at(None, 30, 1, InflightOf::None);
-    refuses(log, entry, Call::Ack(2, id(1, 50)), wrong_id(Some(1), 2))
-        && refuses(log, entry, Call::Ack(1, id(1, 46)), outside)
-        && refuses(log, entry, Call::Ack(1, id(1, 58)), outside)
-        && refuses(log, entry, Call::Ack(1, None), outside)
-        && refuses(
+    let are_right = [
+        refuses(log, entry, Call::Ack(2, id(1, 50)), wrong_id(Some(1), 2)),
+        refuses(log, entry, Call::Ack(1, id(1, 46)), outside),
+        refuses(log, entry, Call::Ack(1, id(1, 58)), outside),
+        refuses(log, entry, Call::Ack(1, None), outside),
+        refuses(
             log,
             entry,
             Call::Conflict(Some(1), 46),
             Err(InflightError::ConflictNotAtPrev),
-        )
-        && takes(log, entry, Call::Conflict(None, 30), short)
-        && short.validate() == Err(Invalid::PrevPastEnd)
-        && takes(log, short, Call::Conflict(Some(1), 47), answered)
-        && answered.validate() == Ok(())
+        ),
+        takes(log, entry, Call::Conflict(None, 30), short),
+        short.validate() == Err(Invalid::PrevPastEnd),
+        takes(log, short, Call::Conflict(Some(1), 47), answered),
+        answered.validate() == Ok(()),
+    ];
+    !are_right.contains(&false)
 }
 
 /// Whether responses below the match are refused, and what is in flight stays.
@@ -264,29 +273,35 @@ fn sends_next<C: Numbered>(
 fn stands_snapshots<C: Numbered>(log: &PlainLog<C>) -> bool {
     let entry = at(None, 9, 0, snapshot(2, id(1, 8)));
     let matched = at(id(1, 12), 13, 0, InflightOf::None);
-    refuses(
-        log,
-        entry,
-        Call::Ack(2, id(1, 7)),
-        Err(InflightError::SnapshotAckRegress),
-    ) && refuses(
-        log,
-        entry,
-        Call::Ack(2, id(1, u64::MAX)),
-        Err(InflightError::IndexTooLarge),
-    ) && refuses(
-        log,
-        entry,
-        Call::Conflict(Some(2), 3),
-        Err(InflightError::ConflictOnSnapshot),
-    ) && takes(log, entry, Call::Ack(2, id(1, 12)), matched)
-        && !matched.can_send(log)
-        && sends_next(log, at(None, 9, u64::MAX, InflightOf::None), None)
-        && sends_next(
+    let are_right = [
+        refuses(
+            log,
+            entry,
+            Call::Ack(2, id(1, 7)),
+            Err(InflightError::SnapshotAckRegress),
+        ),
+        refuses(
+            log,
+            entry,
+            Call::Ack(2, id(1, u64::MAX)),
+            Err(InflightError::IndexTooLarge),
+        ),
+        refuses(
+            log,
+            entry,
+            Call::Conflict(Some(2), 3),
+            Err(InflightError::ConflictOnSnapshot),
+        ),
+        takes(log, entry, Call::Ack(2, id(1, 12)), matched),
+        !matched.can_send(log),
+        sends_next(log, at(None, 9, u64::MAX, InflightOf::None), None),
+        sends_next(
             log,
             at(id(1, 8), 9, 0, InflightOf::None),
             Some(logs(1, id(1, 8), id(1, 9))),
-        )
+        ),
+    ];
+    !are_right.contains(&false)
 }
 
 /// Whether all worked calls over a kind of leaders are as they should be.
@@ -297,17 +312,18 @@ fn is_as_worked<C: Numbered>(alloc: Global) -> Result<bool, AllocError> {
     let purged = purged_log::<C>(alloc)?;
     let mut far = log_below::<C>(alloc, 10, None)?;
     far.purge_upto = id(1, u64::MAX);
-    Ok(
-        searches(&hundred)
-            && sends_what_is_left(&ten)
-            && ends_at_the_purge_point(&purged)
-            && sends_nothing(&eight)
-            && takes_heartbeats(&hundred)
-            && stands_strangers(&hundred)
-            && stands_regress(&ten)
-            && stands_snapshots(&ten)
-            && !ProgressEntryOf::empty(9).can_send(&far),
-    )
+    let are_right = [
+        searches(&hundred),
+        sends_what_is_left(&ten),
+        ends_at_the_purge_point(&purged),
+        sends_nothing(&eight),
+        takes_heartbeats(&hundred),
+        stands_strangers(&hundred),
+        stands_regress(&ten),
+        stands_snapshots(&ten),
+        !ProgressEntryOf::empty(9).can_send(&far),
+    ];
+    Ok(!are_right.contains(&false))
 }
 
 /// Example progress 18. The search by probes at 47 and 15, and the search that ends at purge
@@ -324,17 +340,20 @@ fn responses_and_sends_are_as_worked(rt: HostRuntime) -> Result<(), Fail> {
 pub fn is_validated<C: Numbered>() -> bool {
     let none = InflightOf::None;
     let first = |entry: ProgressEntryOf<C>| entry.validate();
-    first(at(id(1, 5), 5, 0, none)) == Err(Invalid::MatchingPastEnd)
-        && first(at(id(1, u64::MAX), u64::MAX, 0, none)) == Err(Invalid::MatchingPastEnd)
-        && first(at(None, 9, 0, logs(1, id(1, 5), id(1, 4)))) == Err(Invalid::RangeOrder)
-        && first(at(id(1, 5), 9, 0, logs(1, id(1, 4), id(1, 8)))) == Err(Invalid::MatchingPastPrev)
-        && first(at(None, u64::MAX, 0, logs(1, id(1, u64::MAX), id(2, 0))))
-            == Err(Invalid::PrevPastEnd)
-        && first(at(id(1, 8), 9, 0, snapshot(2, id(1, 8)))) == Err(Invalid::SnapshotNotPastMatching)
-        && first(at(None, 9, 0, snapshot(2, None))) == Err(Invalid::SnapshotNotPastMatching)
-        && first(at(id(1, 4), 20, 0, none)) == Ok(())
-        && first(at(id(1, 4), 5, 1, logs(1, id(1, 4), id(1, 7)))) == Ok(())
-        && first(at(None, 9, 2, snapshot(2, id(1, 8)))) == Ok(())
+    let are_right = [
+        first(at(id(1, 5), 5, 0, none)) == Err(Invalid::MatchingPastEnd),
+        first(at(id(1, u64::MAX), u64::MAX, 0, none)) == Err(Invalid::MatchingPastEnd),
+        first(at(None, 9, 0, logs(1, id(1, 5), id(1, 4)))) == Err(Invalid::RangeOrder),
+        first(at(id(1, 5), 9, 0, logs(1, id(1, 4), id(1, 8)))) == Err(Invalid::MatchingPastPrev),
+        first(at(None, u64::MAX, 0, logs(1, id(1, u64::MAX), id(2, 0))))
+            == Err(Invalid::PrevPastEnd),
+        first(at(id(1, 8), 9, 0, snapshot(2, id(1, 8)))) == Err(Invalid::SnapshotNotPastMatching),
+        first(at(None, 9, 0, snapshot(2, None))) == Err(Invalid::SnapshotNotPastMatching),
+        first(at(id(1, 4), 20, 0, none)) == Ok(()),
+        first(at(id(1, 4), 5, 1, logs(1, id(1, 4), id(1, 7)))) == Ok(()),
+        first(at(None, 9, 2, snapshot(2, id(1, 8)))) == Ok(()),
+    ];
+    !are_right.contains(&false)
 }
 
 /// Where the next probe starts, if the match is not past the end of the search.
@@ -352,18 +371,21 @@ pub fn reads_back<C: Numbered>() -> bool {
     let sending = matched.with_inflight(logs(1, id(1, 5), id(1, 9)));
     let shipping = matched.with_inflight(snapshot(1, id(1, 9)));
     let upto = |leader: u64, index: u64| LogIdOf::new(C::numbered(leader), index);
-    matched == at(id(1, 4), 5, 7, InflightOf::None)
-        && ProgressEntryOf::<C>::new(None) == ProgressEntryOf::empty(0)
-        && sending == at(id(1, 4), 5, 7, logs(1, id(1, 5), id(1, 9)))
-        && sending.is_log_range_inflight(&upto(1, 6))
-        && sending.is_log_range_inflight(&upto(2, 3))
-        && !sending.is_log_range_inflight(&upto(1, 5))
-        && !matched.is_log_range_inflight(&upto(1, 6))
-        && !shipping.is_log_range_inflight(&upto(1, 6))
-        && starts(&ProgressEntryOf::<C>::empty(32)) == Some((16, 32))
-        && starts(&ProgressEntryOf::<C>::empty(15)) == Some((0, 15))
-        && starts(&ProgressEntryOf::<C>::empty(0)) == Some((0, 0))
-        && starts::<C>(&at(id(1, 4), 4, 7, InflightOf::None)) == None
+    let are_right = [
+        matched == at(id(1, 4), 5, 7, InflightOf::None),
+        ProgressEntryOf::<C>::new(None) == ProgressEntryOf::empty(0),
+        sending == at(id(1, 4), 5, 7, logs(1, id(1, 5), id(1, 9))),
+        sending.is_log_range_inflight(&upto(1, 6)),
+        sending.is_log_range_inflight(&upto(2, 3)),
+        !sending.is_log_range_inflight(&upto(1, 5)),
+        !matched.is_log_range_inflight(&upto(1, 6)),
+        !shipping.is_log_range_inflight(&upto(1, 6)),
+        starts(&ProgressEntryOf::<C>::empty(32)) == Some((16, 32)),
+        starts(&ProgressEntryOf::<C>::empty(15)) == Some((0, 15)),
+        starts(&ProgressEntryOf::<C>::empty(0)) == Some((0, 0)),
+        starts::<C>(&at(id(1, 4), 4, 7, InflightOf::None)) == None,
+    ];
+    !are_right.contains(&false)
 }
 
 /// Example progress 19. `sending_start` of entries that end at 32, 15 and 0, and the relations
@@ -387,7 +409,14 @@ fn acks_grant(alloc: Global) -> Result<bool, AllocError> {
     let again = take_ack(&mut followers, &1, 0, id(1, 3));
     let unknown = take_ack(&mut followers, &7, 0, id(1, 3));
     let second = take_ack(&mut followers, &2, 0, id(1, 2));
-    Ok(first && !again && !unknown && second && *followers.granted() == id(1, 2))
+    let are_right = [
+        first,
+        !again,
+        !unknown,
+        second,
+        *followers.granted() == id(1, 2),
+    ];
+    Ok(!are_right.contains(&false))
 }
 
 #[test]
@@ -414,13 +443,16 @@ fn sends_again(log: &PlainLog<LeaderId<u64>>) -> bool {
     let second = sent_next(&mut entry, log);
     let older = entry.update_matching(1, id(1, 20));
     let shipped = entry.update_matching(2, id(1, 20));
-    first == Some(snapshot(1, id(1, 20)))
-        && stuck == None
-        && late == wrong_id(None, 1)
-        && second == Some(snapshot(2, id(1, 20)))
-        && older == wrong_id(Some(2), 1)
-        && shipped == Ok(())
-        && entry.matching == id(1, 20)
+    let are_right = [
+        first == Some(snapshot(1, id(1, 20))),
+        stuck == None,
+        late == wrong_id(None, 1),
+        second == Some(snapshot(2, id(1, 20))),
+        older == wrong_id(Some(2), 1),
+        shipped == Ok(()),
+        entry.matching == id(1, 20),
+    ];
+    !are_right.contains(&false)
 }
 
 #[test]

@@ -15,12 +15,12 @@ use crate::support::steps::{first_ids, made, updated};
 use crate::support::values::at;
 use raft_base::leader_id_std::CommittedLeaderId;
 use raft_base::{EmptyNode, LogId, LogIdOf};
-use raft_base_tests::support::plain_log::id;
 use raft_members::quorum::QuorumSet;
 use raft_progress::entry::ProgressEntry;
 use raft_progress::inflight::InflightOf;
 use raft_progress::progress::{AnyStep, Progress, ProgressPart, Reply, VecProgress, replay_any};
 use raft_progress::tracked::{Step, Tracked, replay};
+use raft_testing::plain_log::id;
 use std::alloc::{AllocError, Global};
 use std::process::Abort;
 use std::test::Fail;
@@ -136,7 +136,7 @@ fn grants(rt: &impl Abort, alloc: Global) -> Result<bool, AllocError> {
     Ok(replies.as_slice() == GRANTED.as_slice())
 }
 
-/// The same of a membership with its progress.
+/// Whether of the last log ids of three voters of a membership the middle one is granted.
 fn tracked_grants(alloc: Global) -> Result<bool, AllocError> {
     let mut cluster = Tracked::new(members(alloc, &[&[1, 2, 3]])?, None)?;
     let steps = vec![in alloc;

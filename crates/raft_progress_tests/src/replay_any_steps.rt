@@ -85,7 +85,7 @@ fn is_replayed(alloc: Global, progress: &mut Numbers, script: &Script) -> Result
     )
 }
 
-/// The same, of a new progress of these voters and learners at 0.
+/// Whether a new progress of these voters and learners at 0 replies to a script so.
 fn plays(
     rt: &impl Abort,
     alloc: Global,

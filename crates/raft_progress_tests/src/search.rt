@@ -5,9 +5,9 @@ ghost use Rattle.std.specs.Prelude.{◌<◌, ◌≤◌};
 use crate::support::values::{at, logs, purged_log, snapshot};
 use raft_base::LeaderId;
 use raft_base::leader_id_std::CommittedLeaderId;
-use raft_base_tests::support::plain_log::{Numbered, PlainLog, id, log_below};
 use raft_progress::entry::ProgressEntryOf;
 use raft_progress::search::{SearchEvent, search_run};
+use raft_testing::plain_log::{Numbered, PlainLog, id, log_below};
 use std::alloc::{AllocError, Global};
 use std::test::Fail;
 

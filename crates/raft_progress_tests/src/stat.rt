@@ -83,7 +83,8 @@ fn compare_updates(rt: &impl Abort, progress: &mut Progress, updates: Updates<'_
     }
 }
 
-/// The same by replays of one update each.
+/// Makes the updates by replays of one step each, and compares the counts after each. One step makes
+/// at most so many quorum tests.
 fn compare_replays(
     rt: &impl Abort,
     alloc: Global,

@@ -4,11 +4,11 @@ use crate::support::steps::{first_ids, made, updated};
 use crate::support::values::{logs, snapshot};
 use raft_base::LeaderId;
 use raft_base::leader_id_std::CommittedLeaderId;
-use raft_base_tests::support::plain_log::id;
-use raft_base_tests::support::printing::{debugs, displays};
 use raft_progress::entry::ProgressEntry;
 use raft_progress::inflight::{Inflight, InflightError};
 use raft_progress::progress::VecProgress;
+use raft_testing::plain_log::id;
+use raft_testing::printing::{debugs, displays};
 use std::alloc::{AllocError, Global};
 use std::test::Fail;
 
@@ -52,30 +52,31 @@ fn entries_print(rt: HostRuntime) -> Result<(), Fail> {
 fn in_flight_displays(alloc: Global) -> Result<bool, AllocError> {
     let none = Inflight::<u64>::None;
     let debug = "Snapshot { id: 2, last_log_id: None }";
-    Ok(
-        displays(alloc, &none, "None")?
-            && displays(
-                alloc,
-                &logs::<LeaderId<u64>>(7, None, id(1, 3)),
-                "Logs(id=7):(None, T1-N0-3]",
-            )?
-            && displays(
-                alloc,
-                &snapshot::<LeaderId<u64>>(7, id(1, 3)),
-                "Snapshot(id=7):T1-N0-3",
-            )?
-            && displays(
-                alloc,
-                &snapshot::<CommittedLeaderId>(7, id(1, 3)),
-                "Snapshot(id=7):1-3",
-            )?
-            && displays(
-                alloc,
-                &snapshot::<LeaderId<u64>>(7, None),
-                "Snapshot(id=7):None",
-            )?
-            && debugs(alloc, &snapshot::<LeaderId<u64>>(2, None), debug)?,
-    )
+    let are_right = [
+        displays(alloc, &none, "None")?,
+        displays(
+            alloc,
+            &logs::<LeaderId<u64>>(7, None, id(1, 3)),
+            "Logs(id=7):(None, T1-N0-3]",
+        )?,
+        displays(
+            alloc,
+            &snapshot::<LeaderId<u64>>(7, id(1, 3)),
+            "Snapshot(id=7):T1-N0-3",
+        )?,
+        displays(
+            alloc,
+            &snapshot::<CommittedLeaderId>(7, id(1, 3)),
+            "Snapshot(id=7):1-3",
+        )?,
+        displays(
+            alloc,
+            &snapshot::<LeaderId<u64>>(7, None),
+            "Snapshot(id=7):None",
+        )?,
+        debugs(alloc, &snapshot::<LeaderId<u64>>(2, None), debug)?,
+    ];
+    Ok(!are_right.contains(&false))
 }
 
 /// Whether refusals display as they should.

@@ -14,6 +14,7 @@ use raft_members::change_members::ChangeMembers;
 use raft_members::membership::Membership;
 use raft_progress::progress::{Progress, ProgressPart, Reply};
 use raft_progress::tracked::{Step, Tracked, replay};
+use raft_testing::growths::is_free_on;
 use std::alloc::{AllocError, Global};
 use std::collections::BTreeMap;
 use std::test::Fail;
@@ -141,7 +142,7 @@ fn a_caller_of_a_membership_grants(rt: HostRuntime) -> Result<(), Fail> {
 }
 
 /// A membership, and who has voted.
-pub type Ballot = Tracked<u64, EmptyNode, bool, bool>;
+type Ballot = Tracked<u64, EmptyNode, bool, bool>;
 
 /// Votes over the joint, and what each is answered.
 const VOTES: [(u64, bool, Reply<u64, bool>); 6] = [
@@ -154,7 +155,7 @@ const VOTES: [(u64, bool, Reply<u64, bool>); 6] = [
 ];
 
 /// A joint of {1,2,3} and {3,4,5} of whom none has voted.
-pub fn ballot(alloc: Global) -> Result<Ballot, AllocError> {
+fn ballot(alloc: Global) -> Result<Ballot, AllocError> {
     let configs = vec![in alloc; ids(alloc, &[1, 2, 3])?, ids(alloc, &[3, 4, 5])?]?;
     Tracked::new(
         Membership::new(configs, ids(alloc, &[1, 2, 3, 4, 5])?)?,
@@ -163,7 +164,7 @@ pub fn ballot(alloc: Global) -> Result<Ballot, AllocError> {
 }
 
 /// Whether each vote is answered so.
-pub fn are_counted(ballot: &mut Ballot) -> bool {
+fn are_counted(ballot: &mut Ballot) -> bool {
     for (id, vote, reply) in &VOTES {
         if ballot.update(id, *vote) != *reply {
             return false;
@@ -174,8 +175,16 @@ pub fn are_counted(ballot: &mut Ballot) -> bool {
 
 #[test]
 fn a_quorum_of_each_config_elects(rt: HostRuntime) -> Result<(), Fail> {
-    let mut ballot = ballot(rt.alloc())?;
-    assert!(rt; are_counted(&mut ballot));
+    let ballot = ballot(rt.alloc());
+    assert!(rt;
+        is_free_on(
+            &rt,
+            rt.alloc(),
+            "Tracked::update",
+            ballot,
+            |ballot| are_counted(ballot)
+        )?
+    );
     Ok(())
 }
 

@@ -19,15 +19,18 @@ pub fn has_value(progress: &Numbers, id: u64, want: u64) -> bool {
 
 /// Whether five voters and the learners 6 and 7, all at 0, read back.
 fn reads_back(progress: &Numbers) -> bool {
-    progress.is_voter(&1) == Some(true)
-        && progress.is_voter(&3) == Some(true)
-        && progress.is_voter(&7) == Some(false)
-        && progress.is_voter(&8) == None
-        && progress.index(&6) == Some(5)
-        && progress.quorum_set().len() == 5
-        && *progress.granted() == 0
-        && *progress.default_part() == 0
-        && progress.try_get(&9).is_none()
+    let are_right = [
+        progress.is_voter(&1) == Some(true),
+        progress.is_voter(&3) == Some(true),
+        progress.is_voter(&7) == Some(false),
+        progress.is_voter(&8) == None,
+        progress.index(&6) == Some(5),
+        progress.quorum_set().len() == 5,
+        *progress.granted() == 0,
+        *progress.default_part() == 0,
+        progress.try_get(&9).is_none(),
+    ];
+    !are_right.contains(&false)
 }
 
 /// Whether a value can be written for a known id alone.

@@ -3,7 +3,9 @@
 use crate::support::states::State;
 use raft_base::{LeaderAdv, LeaderKind, LeaderStd, LogIdOf, UTime, VoteOf};
 use raft_state::{AcceptedOf, VoteStateReader};
-use std::alloc::{AllocError, Global};
+use raft_testing::growths::is_free_on;
+use std::alloc::Global;
+use std::io;
 use std::test::Fail;
 
 /// Whether what was accepted is known of the first one of these leaders alone, by their terms and nodes.
@@ -31,7 +33,7 @@ fn accept<K: LeaderKind<u64>>(state: &mut State<K>, log_id: Option<LogIdOf<K::Co
 }
 
 /// Whether a new node's vote, and what it has accepted of the leader, read as they should.
-pub fn accepts<K: LeaderKind<u64>>(state: &mut State<K>) -> bool {
+fn accepts<K: LeaderKind<u64>>(state: &mut State<K>) -> bool {
     let log_id = Some(LogIdOf::new(K::new_committed(6, 2), 3));
     let leader = K::new_leader(5, 10);
     let leaders = [(5, 10), (6, 10), (4, 10), (5, 9)];
@@ -52,17 +54,23 @@ pub fn accepts<K: LeaderKind<u64>>(state: &mut State<K>) -> bool {
     !are_right.contains(&false) && !state.can_accept()
 }
 
-/// Whether a new state takes what is accepted.
-fn takes_accepted<K: LeaderKind<u64>>(alloc: Global) -> Result<bool, AllocError> {
-    let mut state = State::<K>::try_default(alloc)?;
-    Ok(accepts::<K>(&mut state))
+/// Whether a new state takes what is accepted, without an allocation.
+fn takes_accepted<K: LeaderKind<u64>>(rt: &impl Print, alloc: Global) -> io::Result<bool> {
+    let name = "Accepted, RaftState::{can_accept, update_accepted}";
+    is_free_on(
+        rt,
+        alloc,
+        name,
+        State::<K>::try_default(alloc),
+        |state| accepts::<K>(state),
+    )
 }
 
 /// Example state 5. Leader (5, 10) has sent the log id of leader (6, 2) at index 3: accepted is
 /// this log id for leader (5, 10), and none for (6, 10) and (4, 10).
 #[test]
 fn what_is_accepted_is_of_its_leader(rt: HostRuntime) -> Result<(), Fail> {
-    assert!(rt; takes_accepted::<LeaderAdv>(rt.alloc())?);
-    assert!(rt; takes_accepted::<LeaderStd>(rt.alloc())?);
+    assert!(rt; takes_accepted::<LeaderAdv>(&rt, rt.alloc())?);
+    assert!(rt; takes_accepted::<LeaderStd>(&rt, rt.alloc())?);
     Ok(())
 }

@@ -1,12 +1,14 @@
 //! Followers that are caught up with a leader's state.
 
 use crate::support::followers::{Followers, caught_up, followers};
-use crate::support::memory::both;
 use crate::support::rows::{Row, id};
 use crate::support::states::{State, hundred, valid_state};
 use raft_base::{LeaderAdv, LeaderKind, LeaderStd, LogStateReader};
 use raft_progress::{Progress, ProgressEntryOf};
-use std::alloc::{AllocError, Global};
+use raft_testing::growths::is_free_on;
+use raft_testing::memory::both;
+use std::alloc::Global;
+use std::io;
 use std::process::Abort;
 use std::test::Fail;
 
@@ -43,16 +45,19 @@ fn rounds<K: LeaderKind<u64>>(
 
 /// Whether a follower alone is caught up as it should be, over a log of a hundred and over a purged
 /// one.
-pub fn catches_up_right<K: LeaderKind<u64>>(state: &State<K>, purged: &State<K>) -> bool {
-    catches_up::<K>(state, 100, 70, Some((1, 6)))
-        && catches_up::<K>(state, 100, 0, Some((2, 10)))
-        && catches_up::<K>(state, 100, 101, None)
-        && catches_up::<K>(purged, 5, 3, Some((0, 1)))
-        && catches_up::<K>(purged, 5, 1, None)
+fn catches_up_right<K: LeaderKind<u64>>(state: &State<K>, purged: &State<K>) -> bool {
+    let are_right = [
+        catches_up::<K>(state, 100, 70, Some((1, 6))),
+        catches_up::<K>(state, 100, 0, Some((2, 10))),
+        catches_up::<K>(state, 100, 101, None),
+        catches_up::<K>(purged, 5, 3, Some((0, 1))),
+        catches_up::<K>(purged, 5, 1, None),
+    ];
+    !are_right.contains(&false)
 }
 
 /// Whether rounds over the voters 1, 2 and 3 and the learner 4 lead where they should.
-pub fn rounds_right<K: LeaderKind<u64>>(state: &State<K>, progress: &mut Followers<K>) -> bool {
+fn rounds_right<K: LeaderKind<u64>>(state: &State<K>, progress: &mut Followers<K>) -> bool {
     rounds::<K>(state, progress, &[(1, 70), (4, 0), (9, 3)], 2, None)
         && rounds::<K>(
             state,
@@ -64,14 +69,18 @@ pub fn rounds_right<K: LeaderKind<u64>>(state: &State<K>, progress: &mut Followe
         && progress.try_get(&3) == Some(&ProgressEntryOf::empty(100))
 }
 
-/// Whether followers are caught up as they should be, one alone and in rounds.
+/// Whether followers are caught up as they should be, one alone and in rounds, without an allocation.
 pub fn is_as_worked<K: LeaderKind<u64>>(
-    rt: &impl Abort,
+    rt: &(impl Abort + Print),
     alloc: Global,
-) -> Result<bool, AllocError> {
+) -> io::Result<bool> {
     let states = both(hundred::<K>(alloc), valid_state::<K>(alloc));
-    let ((state, purged), mut progress) = both(states, followers::<K>(rt, alloc, &[4], 100))?;
-    Ok(rounds_right::<K>(&state, &mut progress) && catches_up_right::<K>(&state, &purged))
+    let held = both(states, followers::<K>(rt, alloc, &[4], 100));
+    let name = "RaftState::{can_catch_up, catch_up, catch_up_all}";
+    is_free_on(rt, alloc, name, held, |held| {
+        let (state, purged) = (&held.0.0, &held.0.1);
+        rounds_right::<K>(state, &mut held.1) && catches_up_right::<K>(state, purged)
+    })
 }
 
 /// Example state 7. A log from 0 to 99: a follower that agrees up to 70 takes 1 conflict and 6

@@ -303,7 +303,7 @@ by_last_leader 2.1.1,2.1.10 - 2.1.1,2.1.10
 by_last_leader 2.0.0,2.0.13 - 2.0.0,2.0.13
 ";
 
-/// The same over leader ids of standard Raft.
+/// Calls over leader ids of standard Raft.
 const STD_CALLS: &str = "
 append 2.0,4.1,4.8 4.9 2.0,4.1,4.9
 append 2.21,4.22,6.23 6.24 2.21,4.22,6.23,6.24
@@ -417,10 +417,16 @@ by_last_leader 1.0,2.85 - 2.85
 #[test]
 fn calls_are_those_of_the_original(rt: HostRuntime) -> Result<(), Fail> {
     for line in CALLS.trim().lines() {
-        assert!(rt; call_is_right::<LeaderId<u64>>(rt.alloc(), line)?);
+        assert!(rt;
+            call_is_right::<LeaderId<u64>>(rt.alloc(), line)?,
+            "at {line}"
+        );
     }
     for line in STD_CALLS.trim().lines() {
-        assert!(rt; call_is_right::<StdLeaderId<u64>>(rt.alloc(), line)?);
+        assert!(rt;
+            call_is_right::<StdLeaderId<u64>>(rt.alloc(), line)?,
+            "at {line}, by terms"
+        );
     }
     Ok(())
 }

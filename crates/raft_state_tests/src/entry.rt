@@ -3,8 +3,8 @@ ghost use Rattle.std.specs.Prelude.{◌≡◌};
 
 use raft_base::{CommittedLeaderId, LogId, LogIdOf, RaftLogId, leader_id_std};
 use raft_members::Membership;
-use raft_members_tests::support::words::members;
 use raft_state::{Entry, EntryOf, EntryPayload, FromAppData, RaftEntry, RaftPayload};
+use raft_testing::words::members;
 use std::alloc::{AllocError, Global};
 use std::test::Fail;
 
@@ -19,12 +19,15 @@ fn are_as_made<C: Copy + Eq, E: RaftEntry<C, Members> + Drop>(
 ) -> bool {
     let blank = E::new_blank(log_id);
     let stores = E::new_membership(log_id, membership);
-    blank.is_blank()
-        && blank.get_membership().is_none()
-        && *blank.get_log_id() == log_id
-        && !stores.is_blank()
-        && stores.get_membership().is_some()
-        && *stores.get_log_id() == log_id
+    let are_right = [
+        blank.is_blank(),
+        blank.get_membership().is_none(),
+        *blank.get_log_id() == log_id,
+        !stores.is_blank(),
+        stores.get_membership().is_some(),
+        *stores.get_log_id() == log_id,
+    ];
+    !are_right.contains(&false)
 }
 
 /// Whether an entry with a membership keeps it under another log id, over any entry type.
@@ -39,7 +42,7 @@ fn keeps_membership<C: Copy + Eq, E: RaftEntry<C, Members> + Drop>(
     entry.get_membership().is_some() && !entry.is_blank() && *entry.get_log_id() == log_id
 }
 
-/// The same, over an entry type with the default leader ids.
+/// Whether entries are what they are made as, over an entry type with the default leader ids.
 fn are_made<E: RaftEntry<CommittedLeaderId<u64>, Members> + Drop>(
     log_id: LogId<u64>,
     membership: Members,
@@ -61,14 +64,15 @@ fn takes_log_id(data: &mut Data, log_id: LogId<u64>) -> bool {
 /// Whether the default entry is blank, and it, one of data and one of a
 /// membership equal their clones alone.
 fn are_cloned(data: &Data, stores: &Data, blank: &Data) -> Result<bool, AllocError> {
-    Ok(
-        *stores != *data
-            && *blank != *data
-            && *blank == Data::new_blank(LogId::default())
-            && data.try_clone()? == *data
-            && stores.try_clone()? == *stores
-            && blank.clone()? == *blank,
-    )
+    let are_right = [
+        *stores != *data,
+        *blank != *data,
+        *blank == Data::new_blank(LogId::default()),
+        data.try_clone()? == *data,
+        stores.try_clone()? == *stores,
+        blank.clone()? == *blank,
+    ];
+    Ok(!are_right.contains(&false))
 }
 
 /// Whether entries of a program's data, and the default entry, are as they should be.

@@ -1,10 +1,10 @@
 //! Snapshots that are refused. Those that are taken are in `lives`.
 
-use crate::support::memory::both;
 use crate::support::messages::snapshot;
 use crate::support::rows::Row;
 use crate::support::states::follower;
 use raft_base::{LeaderAdv, LeaderKind};
+use raft_testing::memory::both;
 use std::alloc::{AllocError, Global};
 use std::test::Fail;
 

@@ -5,16 +5,21 @@ use crate::support::states::{State, valid_state};
 use raft_base::order::log_id_below;
 use raft_base::{LeaderAdv, LeaderKind, LeaderStd, VoteOf};
 use raft_state::{IOStateOf, LogIOIdOf};
-use std::alloc::{AllocError, Global};
+use raft_testing::growths::is_free_on;
+use std::alloc::Global;
+use std::io;
 use std::test::Fail;
 
 /// Whether storage's progress reads as it was written.
 fn reads_io<K: LeaderKind<u64>>(io_state: &IOStateOf<u64, K>) -> bool {
-    io_state.building_snapshot()
-        && *io_state.vote() == VoteOf::<u64, K>::new(2, 1)
-        && io_state.purged() == Some(&log_id::<K>(1, 1))
-        && io_state.applied() == None
-        && io_state.snapshot() == None
+    let are_right = [
+        io_state.building_snapshot(),
+        *io_state.vote() == VoteOf::<u64, K>::new(2, 1),
+        io_state.purged() == Some(&log_id::<K>(1, 1)),
+        io_state.applied() == None,
+        io_state.snapshot() == None,
+    ];
+    !are_right.contains(&false)
 }
 
 /// Whether storage's progress takes what is applied and in a snapshot, and keeps what is flushed.
@@ -40,7 +45,7 @@ fn write_io<K: LeaderKind<u64>>(io_state: &mut IOStateOf<u64, K>) {
 }
 
 /// Whether storage's progress is written and read in a state, and nothing else changes.
-pub fn writes_io<K: LeaderKind<u64>>(state: &mut State<K>, before: &State<K>) -> bool {
+fn writes_io<K: LeaderKind<u64>>(state: &mut State<K>, before: &State<K>) -> bool {
     write_io::<K>(state.io_state_mut());
     let is_read = reads_io::<K>(state.io_state());
     let is_other = *state != *before;
@@ -48,21 +53,29 @@ pub fn writes_io<K: LeaderKind<u64>>(state: &mut State<K>, before: &State<K>) ->
     is_read && is_other && *state == *before && takes_applied::<K>()
 }
 
-/// The same, of a state and its clone.
-fn io_right<K: LeaderKind<u64>>(mut state: State<K>) -> Result<bool, AllocError> {
-    let before = state.try_clone()?;
-    Ok(writes_io::<K>(&mut state, &before))
+/// Whether a clone of a state takes storage's progress, without an allocation.
+fn io_right<K: LeaderKind<u64>>(
+    rt: &impl Print,
+    alloc: Global,
+    before: &State<K>,
+) -> io::Result<bool> {
+    is_free_on(
+        rt,
+        alloc,
+        "IOState",
+        before.clone(),
+        |state| writes_io::<K>(state, before),
+    )
 }
 
-/// Whether a valid state and its clone take storage's progress.
-fn takes_io<K: LeaderKind<u64>>(alloc: Global) -> Result<bool, AllocError> {
-    let cloned = valid_state::<K>(alloc)?.clone()?;
-    io_right::<K>(cloned)
+/// Whether a clone of a valid state does so.
+fn takes_io<K: LeaderKind<u64>>(rt: &impl Print, alloc: Global) -> io::Result<bool> {
+    io_right::<K>(rt, alloc, &valid_state::<K>(alloc)?)
 }
 
 #[test]
 fn storage_progress_is_written_and_read(rt: HostRuntime) -> Result<(), Fail> {
-    assert!(rt; takes_io::<LeaderAdv>(rt.alloc())?);
-    assert!(rt; takes_io::<LeaderStd>(rt.alloc())?);
+    assert!(rt; takes_io::<LeaderAdv>(&rt, rt.alloc())?);
+    assert!(rt; takes_io::<LeaderStd>(&rt, rt.alloc())?);
     Ok(())
 }

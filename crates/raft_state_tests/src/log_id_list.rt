@@ -7,9 +7,10 @@ use crate::laws::{is_up_to_date, logs_are_same, take_both};
 use crate::support::words::{call_is_right, log_ids};
 use raft_base::leader_id_std::LeaderId as StdLeaderId;
 use raft_base::{LeaderId, LogIdOf};
-use raft_base_tests::support::printing::debugs;
 use raft_state::log_id_list::laws::{have_equal_keys, truncate_twice};
 use raft_state::{LogIdList, LogIdListOf, is_key_list};
+use raft_testing::memory::both;
+use raft_testing::printing::debugs;
 use std::alloc::{AllocError, Global};
 use std::test::Fail;
 
@@ -92,8 +93,14 @@ is_key_list 1.1,3.2,2.3 - false
 #[test]
 fn calls_are_right(rt: HostRuntime) -> Result<(), Fail> {
     for line in ROWS.trim().lines() {
-        assert!(rt; call_is_right::<LeaderId<u64>>(rt.alloc(), line)?);
-        assert!(rt; call_is_right::<StdLeaderId<u64>>(rt.alloc(), line)?);
+        assert!(rt;
+            call_is_right::<LeaderId<u64>>(rt.alloc(), line)?,
+            "at {line}"
+        );
+        assert!(rt;
+            call_is_right::<StdLeaderId<u64>>(rt.alloc(), line)?,
+            "at {line}, by terms"
+        );
     }
     Ok(())
 }
@@ -108,45 +115,67 @@ fn list_of(alloc: Global, word: &str) -> Result<LogIdList<u64>, AllocError> {
     }
 }
 
-/// Whether lists with equal logs are equal, and no others, and whether a caller is answered.
-fn lists_compare(alloc: Global) -> Result<bool, AllocError> {
-    let list = list_of(alloc, "1.1,2.3,2.9")?;
-    let mut cut = list.try_clone()?;
+/// Whether a list is that of a word.
+fn is(list: &LogIdList<u64>, alloc: Global, word: &str) -> Result<bool, AllocError> {
+    Ok(*list == list_of(alloc, word)?)
+}
+
+/// Whether a list, the list that is cut at index 9, and one that equals the latter compare as their
+/// logs do.
+fn compare(list: &LogIdList<u64>, cut: &LogIdList<u64>, shorter: &LogIdList<u64>) -> bool {
+    let are_right = [
+        *list != *cut,
+        *cut == *shorter,
+        have_equal_keys(cut, shorter),
+        logs_are_same(cut, shorter),
+        is_up_to_date(list, list.last().copied()),
+        !is_up_to_date(list, cut.last().copied()),
+        !have_equal_keys(list, cut),
+    ];
+    !are_right.contains(&false)
+}
+
+/// Whether a list and its clones compare so, one of them cut.
+fn clones_compare(alloc: Global, list: &LogIdList<u64>) -> Result<bool, AllocError> {
+    let (mut cut, shorter) = both(list.try_clone(), list_of(alloc, "1.1,2.3,2.8"))?;
     truncate_twice(&mut cut, 9);
-    let shorter = list_of(alloc, "1.1,2.3,2.8")?;
+    Ok(compare(list, &cut, &shorter))
+}
+
+/// Whether a clone of a list takes a log id in place of its own.
+fn is_replaced(alloc: Global, list: &LogIdList<u64>) -> Result<bool, AllocError> {
     let mut taken = list.clone()?;
-    let id = LogIdOf::new(LeaderId::new(3, 0), 6);
-    let is_taken = replace_from(&mut taken, id)?;
-    let mut both = LogIdList::try_default(alloc)?;
-    take_both(&mut both, id, LogIdOf::new(LeaderId::new(3, 0), 8))?;
-    Ok(
-        list == list.clone()?
-            && list != cut
-            && cut == shorter
-            && have_equal_keys(&cut, &shorter)
-            && logs_are_same(&cut, &shorter)
-            && is_up_to_date(&list, list.last().copied())
-            && !is_up_to_date(&list, cut.last().copied())
-            && !have_equal_keys(&list, &cut)
-            && list != list_of(alloc, "1.1,3.3,3.9")?
-            && is_taken
-            && taken == list_of(alloc, "1.1,2.3,3.6")?
-            && both == list_of(alloc, "3.6,3.8")?
-            && LogIdList::try_default(alloc)? == list_of(alloc, "-")?,
-    )
+    let is_taken = replace_from(&mut taken, LogIdOf::new(LeaderId::new(3, 0), 6))?;
+    Ok(is_taken && is(&taken, alloc, "1.1,2.3,3.6")?)
+}
+
+/// Whether an empty list takes two log ids.
+fn both_are_taken(alloc: Global) -> Result<bool, AllocError> {
+    let mut list = LogIdList::try_default(alloc)?;
+    let first = LogIdOf::new(LeaderId::new(3, 0), 6);
+    take_both(&mut list, first, LogIdOf::new(LeaderId::new(3, 0), 8))?;
+    is(&list, alloc, "3.6,3.8")
+}
+
+/// Whether lists with equal logs are equal, and no others, and whether a caller is answered.
+fn lists_compare(alloc: Global, list: &LogIdList<u64>) -> Result<bool, AllocError> {
+    let are_right = [
+        is(list, alloc, "1.1,2.3,2.9")?,
+        !is(list, alloc, "1.1,3.3,3.9")?,
+        clones_compare(alloc, list)?,
+        is_replaced(alloc, list)?,
+        both_are_taken(alloc)?,
+        is(&LogIdList::try_default(alloc)?, alloc, "-")?,
+    ];
+    Ok(!are_right.contains(&false))
 }
 
 #[test]
 fn lists_are_their_logs(rt: HostRuntime) -> Result<(), Fail> {
-    assert!(rt; lists_compare(rt.alloc())?);
-    let list = list_of(rt.alloc(), "1.2.3")?;
-    assert!(rt;
-        debugs(
-            rt.alloc(),
-            &list,
-            "LogIdList { key_log_ids: [LogId { leader_id: LeaderId { term: 1, node_id: 2 }, index: \
-            3 }] }",
-        )?
-    );
+    let alloc = rt.alloc();
+    let text = "LogIdList { key_log_ids: [LogId { leader_id: LeaderId { term: 1, node_id: 2 }, \
+        index: 3 }] }";
+    assert!(rt; lists_compare(alloc, &list_of(alloc, "1.1,2.3,2.9")?.clone()?)?);
+    assert!(rt; debugs(alloc, &list_of(alloc, "1.2.3")?, text)?);
     Ok(())
 }

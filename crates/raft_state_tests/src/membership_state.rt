@@ -1,12 +1,14 @@
 //! The memberships of a node, and a change of the effective one.
 
-use crate::support::memory::{both, holds};
 use crate::support::rows::{Effective, Row, effective, id};
 use raft_base::{Invalid, LeaderAdv, LeaderKind, LeaderStd, LogIdOptionExt, Validate};
 use raft_members::{ChangeMembers, ChangeMembershipErrorOf, InProgressOf};
-use raft_members_tests::support::words::ids;
 use raft_state::MembershipStateOf;
+use raft_testing::growths::is_free_on;
+use raft_testing::memory::{both, holds};
+use raft_testing::words::ids;
 use std::alloc::{AllocError, Global};
+use std::io;
 use std::rc::Rc;
 use std::test::Fail;
 
@@ -19,38 +21,35 @@ pub fn state<K: LeaderKind<u64>>(alloc: Global) -> Result<State<K>, AllocError> 
 }
 
 /// Whether the two memberships are those at these log ids.
-pub fn are_at<K: LeaderKind<u64>>(state: &State<K>, committed: Row, effective: Row) -> bool {
+fn are_at<K: LeaderKind<u64>>(state: &State<K>, committed: Row, effective: Row) -> bool {
     *state.committed().log_id() == id::<K>(committed)
         && *state.effective().log_id() == id::<K>(effective)
 }
 
 /// Whether an answer is the membership at a log id, or nothing.
-pub fn answers<K: LeaderKind<u64>>(answer: Option<&Rc<Effective<K>>>, want: Row) -> bool {
+fn answers<K: LeaderKind<u64>>(answer: Option<&Rc<Effective<K>>>, want: Row) -> bool {
     match answer {
         Some(effective) => want.is_some() && *effective.log_id() == id::<K>(want),
         None => want.is_none(),
     }
 }
 
-/// Whether a snapshot up to an index, with a membership at leader 10, index 5, leads where it
-/// should.
+/// Whether a snapshot up to an index, with a membership, leads where it should.
 fn snapshot_leads<K: LeaderKind<u64>>(
     from: &State<K>,
-    voters: &[u64],
+    new: &Rc<Effective<K>>,
     upto: u64,
     answer: Row,
     leads: (Row, Row),
     valid: Result<(), Invalid>,
 ) -> Result<bool, AllocError> {
     let mut state = from.try_clone()?;
-    let alloc = *state.effective().get_joint_config().allocator();
-    let new = effective::<K>(alloc, Some((10, 5)), voters)?;
-    let answered = answers::<K>(state.update_committed(new, upto)?, answer);
+    let answered = answers::<K>(state.update_committed(new.clone()?, upto)?, answer);
     Ok(answered && are_at::<K>(&state, leads.0, leads.1) && state.validate() == valid)
 }
 
 /// Whether a log that is cut off from an index on leads where it should.
-pub fn cut_leads<K: LeaderKind<u64>>(
+fn cut_leads<K: LeaderKind<u64>>(
     from: &State<K>,
     since: u64,
     answer: Row,
@@ -65,7 +64,7 @@ pub fn cut_leads<K: LeaderKind<u64>>(
 }
 
 /// Whether a committed log id leads where it should, or may not be given.
-pub fn commit_leads<K: LeaderKind<u64>>(
+fn commit_leads<K: LeaderKind<u64>>(
     from: &State<K>,
     upto: Row,
     committed: Option<Row>,
@@ -85,40 +84,64 @@ pub fn commit_leads<K: LeaderKind<u64>>(
 /// Whether a membership may be appended as wanted, and is then effective.
 fn append_leads<K: LeaderKind<u64>>(
     from: &State<K>,
-    new: Row,
-    want: bool,
+    new: &Rc<Effective<K>>,
+    want: Row,
 ) -> Result<bool, AllocError> {
     let mut state = from.try_clone()?;
-    let alloc = *state.effective().get_joint_config().allocator();
-    let membership = effective::<K>(alloc, new, &[3])?;
-    if !state.can_append(&membership) {
-        return Ok(!want);
+    if !state.can_append(new) {
+        return Ok(want == None);
     }
-    state.append(membership);
-    Ok(want && are_at::<K>(&state, Some((2, 10)), new))
+    state.append(new.clone()?);
+    Ok(are_at::<K>(&state, Some((2, 10)), want) && state != *from)
 }
 
-/// Whether each move leads where it should.
-fn move_right<K: LeaderKind<u64>>(from: &State<K>) -> bool {
+/// The log ids and the voters of the memberships of two snapshots and of three entries.
+const NEW: [(Row, &[u64]); 5] = [
+    (Some((10, 5)), &[3]),
+    (Some((10, 5)), &[2, 3]),
+    (Some((2, 11)), &[3]),
+    (Some((3, 10)), &[3]),
+    (Some((1, 11)), &[3]),
+];
+
+/// These memberships.
+fn news<K: LeaderKind<u64>>(alloc: Global) -> Result<Vec<Rc<Effective<K>>>, AllocError> {
+    let mut news = Vec::new(alloc);
+    for (at, voters) in NEW {
+        news.push(effective::<K>(alloc, at, voters)?)?;
+    }
+    Ok(news)
+}
+
+/// Whether each move leads where it should, and leaves the memberships that it is made from.
+fn move_right<K: LeaderKind<u64>>(
+    from: &State<K>,
+    same: &State<K>,
+    news: &[Rc<Effective<K>>],
+) -> bool {
+    let [other, equal, next, not_past, below] = news else {
+        return false;
+    };
     let first = Some((1, 1));
     let second = Some((2, 10));
     let new = Some((10, 5));
     let over = Err(Invalid::MembershipLogId);
     let are_right = [
-        holds(snapshot_leads::<K>(from, &[3], 4, None, (new, second), over)),
-        holds(snapshot_leads::<K>(from, &[3], 10, new, (new, new), Ok(()))),
+        holds(snapshot_leads::<K>(from, other, 4, None, (new, second), over)),
+        holds(snapshot_leads::<K>(from, other, 10, new, (new, new), Ok(()))),
         // Equal memberships under another log id are no news.
-        holds(snapshot_leads::<K>(from, &[2, 3], 10, None, (new, new), Ok(()))),
+        holds(snapshot_leads::<K>(from, equal, 10, None, (new, new), Ok(()))),
         holds(cut_leads::<K>(from, 10, first, first)),
         holds(cut_leads::<K>(from, 2, first, first)),
         holds(cut_leads::<K>(from, 11, None, second)),
         holds(commit_leads::<K>(from, second, Some(second))),
         holds(commit_leads::<K>(from, Some((2, 9)), Some(first))),
         holds(commit_leads::<K>(from, Some((3, 9)), None)),
-        holds(append_leads::<K>(from, Some((2, 11)), true)),
-        holds(append_leads::<K>(from, Some((3, 10)), false)),
-        holds(append_leads::<K>(from, Some((1, 11)), false)),
+        holds(append_leads::<K>(from, next, Some((2, 11)))),
+        holds(append_leads::<K>(from, not_past, None)),
+        holds(append_leads::<K>(from, below, None)),
         from.validate() == Ok(()),
+        *from == *same,
     ];
     !are_right.contains(&false)
 }
@@ -167,11 +190,16 @@ fn apply_right<K: LeaderKind<u64>>(
     Ok(is_early && are_changed::<K>(state, none, &[]) && are_changed::<K>(state, add, &[1, 3]))
 }
 
-/// Whether the memberships of a node move, and stay as they are themselves, and the effective one is
-/// changed, as they should.
-fn memberships_right<K: LeaderKind<u64>>(alloc: Global) -> Result<bool, AllocError> {
-    let (mut from, same) = both(state::<K>(alloc), state::<K>(alloc))?;
-    Ok(move_right::<K>(&from) && from == same && holds(apply_right::<K>(alloc, &mut from)))
+/// Whether the memberships of a node move as they should, without an allocation because they are
+/// shared, and the effective one is changed as it should be.
+fn memberships_right<K: LeaderKind<u64>>(rt: &impl Print, alloc: Global) -> io::Result<bool> {
+    let states = both(state::<K>(alloc), state::<K>(alloc));
+    let held = both(states, news::<K>(alloc));
+    let name = "MembershipState, its moves and reads";
+    let are_free = is_free_on(rt, alloc, name, held, |held| {
+        move_right::<K>(&held.0.0, &held.0.1, &held.1)
+    })?;
+    Ok(are_free && apply_right::<K>(alloc, &mut state::<K>(alloc)?)?)
 }
 
 /// Example state 2. Committed at (1, 1), effective at (2, 10): the membership of a snapshot at
@@ -179,7 +207,7 @@ fn memberships_right<K: LeaderKind<u64>>(alloc: Global) -> Result<bool, AllocErr
 #[test]
 fn memberships_move(rt: HostRuntime) -> Result<(), Fail> {
     let alloc = rt.alloc();
-    assert!(rt; memberships_right::<LeaderAdv>(alloc)?);
-    assert!(rt; memberships_right::<LeaderStd>(alloc)?);
+    assert!(rt; memberships_right::<LeaderAdv>(&rt, alloc)?);
+    assert!(rt; memberships_right::<LeaderStd>(&rt, alloc)?);
     Ok(())
 }

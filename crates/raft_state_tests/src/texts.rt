@@ -2,13 +2,13 @@
 //! forwards print.
 
 use raft_base::{CommittedLeaderId, LogId, Validate, leader_id_std};
-use raft_base_tests::support::printing::{debugs, displays, sums_up};
 use raft_members::EffectiveMembership;
-use raft_members_tests::support::words::members;
 use raft_state::{
     Entry, EntryPayload, ForwardToLeader, LogIOId, LogIOIdOf, MembershipState, RaftState,
     SnapshotMeta,
 };
+use raft_testing::printing::{debugs, displays, sums_up};
+use raft_testing::words::members;
 use std::alloc::{AllocError, Global};
 use std::test::Fail;
 
@@ -24,12 +24,13 @@ fn entry_prints(
     let entry: Entry<u64, u64, u64> = Entry { log_id, payload };
     let text = format!(in alloc; "T1-N2-3:{}", texts.0)?;
     let debug = format!(in alloc; "Entry {{ log_id: {log_id:?}, payload: {} }}", texts.1)?;
-    Ok(
-        has_summary
-            && displays(alloc, &entry, text.as_str())?
-            && sums_up(alloc, &entry, text.as_str())?
-            && debugs(alloc, &entry, debug.as_str())?,
-    )
+    let are_right = [
+        has_summary,
+        displays(alloc, &entry, text.as_str())?,
+        sums_up(alloc, &entry, text.as_str())?,
+        debugs(alloc, &entry, debug.as_str())?,
+    ];
+    Ok(!are_right.contains(&false))
 }
 
 /// The memberships of a new node.
@@ -129,13 +130,14 @@ fn is_new(alloc: Global, state: &RaftState<u64, u64, u64>) -> Result<bool, Alloc
 fn forwards(alloc: Global) -> Result<bool, AllocError> {
     let to: ForwardToLeader<u64, u64> = ForwardToLeader::new(3, 6);
     let to_none: ForwardToLeader<u64, u64> = ForwardToLeader::empty();
-    Ok(
-        displays(alloc, &to, "has to forward request to: Some(3), Some(6)")?
-            && displays(alloc, &to_none, "has to forward request to: None, None")?
-            && to.try_clone()? == to
-            && to_none.try_clone()? == to_none
-            && to.try_clone()? != to_none,
-    )
+    let are_right = [
+        displays(alloc, &to, "has to forward request to: Some(3), Some(6)")?,
+        displays(alloc, &to_none, "has to forward request to: None, None")?,
+        to.try_clone()? == to,
+        to_none.try_clone()? == to_none,
+        to.try_clone()? != to_none,
+    ];
+    Ok(!are_right.contains(&false))
 }
 
 /// Example state 8. The text of a new state.

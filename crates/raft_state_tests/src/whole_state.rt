@@ -13,7 +13,6 @@ ghost use Rattle.std.specs.Prelude.{◌≡◌, IfOk, IfSome, IsTrue, None, OnErr
 
 use crate::laws::{purge_to, send};
 use crate::support::followers::{Followers, caught_up, followers};
-use crate::support::memory::both;
 use crate::support::rows::{Row, id, ids as ids_of, log_id};
 use crate::support::states::{Ids, State, StateIn, state, unlogged, valid_state};
 use raft_base::order::log_id_at_most;
@@ -25,7 +24,10 @@ use raft_base::{
 use raft_members::quorum::QuorumSet;
 use raft_progress::{InflightOf, Progress, ProgressEntryOf};
 use raft_state::{AcceptedOf, FollowersOf, RaftStateIn};
+use raft_testing::growths::{is_free, is_free_on, refuse_each};
+use raft_testing::memory::{both, holds};
 use std::alloc::{AllocError, Global};
+use std::io;
 use std::process::Abort;
 use std::test::Fail;
 
@@ -225,9 +227,9 @@ fn is_lent<K: LeaderKind<u64>>(read: Option<&LogIdOf<K::Committed>>, want: Row) 
     read.copied() == id::<K>(want)
 }
 
-/// Whether a valid state reads as it should, and a log whose committed log id (3,0) it does not have is
-/// not truncated where all that stays is below that.
-pub fn reads<K: LeaderKind<u64>>(state: &State<K>, other: &State<K>) -> bool {
+/// Whether a valid state reads as it should, and equals itself and no other, and a log whose committed
+/// log id (3,0) it does not have is not truncated where all that stays is below that.
+fn reads<K: LeaderKind<u64>>(state: &State<K>, other: &State<K>) -> bool {
     let are_right = [
         is::<K>(state.get_log_id(2), Some((1, 2))),
         is::<K>(state.prev_log_id(5), LAST),
@@ -243,14 +245,24 @@ pub fn reads<K: LeaderKind<u64>>(state: &State<K>, other: &State<K>) -> bool {
         is_lent::<K>(state.io_purged(), None),
         !other.can_truncate_log(3),
         other.can_truncate_log(5),
+        state.validate() == Ok(()),
+        *state == *state,
+        *state != *other,
     ];
     !are_right.contains(&false)
 }
 
-/// Whether the first valid state reads so.
-fn reads_right<K: LeaderKind<u64>>(alloc: Global) -> Result<bool, AllocError> {
-    let (valid, other) = both(valid_state::<K>(alloc), unlogged::<K>(alloc))?;
-    Ok(reads::<K>(&valid, &other))
+/// Whether the first valid state reads so, and no read allocates.
+fn reads_right<K: LeaderKind<u64>>(rt: &impl Print, alloc: Global) -> io::Result<bool> {
+    let states = both(valid_state::<K>(alloc), unlogged::<K>(alloc));
+    let name = "RaftState::{validate, eq}, get_log_id and other reads";
+    is_free_on(
+        rt,
+        alloc,
+        name,
+        states,
+        |states| reads::<K>(&states.0, &states.1),
+    )
 }
 
 /// Entries, and how many of them a follower has before the first one that it lacks. It may not be asked
@@ -295,7 +307,7 @@ fn committed_before<K: LeaderKind<u64>>(
 }
 
 /// Whether a log id is committed once, with the answer of before.
-pub fn commits<K: LeaderKind<u64>>(state: &mut State<K>) -> Result<bool, AllocError> {
+fn commits<K: LeaderKind<u64>>(state: &mut State<K>) -> Result<bool, AllocError> {
     let before = committed_before::<K>(state, LAST)?;
     let again = committed_before::<K>(state, LAST)?;
     Ok(before == Some(id::<K>(FIRST)) && again == None && is::<K>(state.committed, LAST))
@@ -339,9 +351,16 @@ fn is_purged<K: LeaderKind<u64>>(state: &State<K>) -> bool {
     !are_right.contains(&false)
 }
 
-/// Whether a state commits, and its log grows, by log ids of one leader and then of two, and is purged.
-fn grows<K: LeaderKind<u64>>(alloc: Global, state: &mut State<K>) -> Result<bool, AllocError> {
-    let is_committed = commits::<K>(state)?;
+/// Whether a state commits without an allocation, and its log grows, by log ids of one leader and then
+/// of two, and is purged.
+fn grows<K: LeaderKind<u64>>(
+    rt: &impl Print,
+    alloc: Global,
+    state: &mut State<K>,
+) -> io::Result<bool> {
+    refuse_each(alloc);
+    let commits = holds(commits::<K>(state));
+    let is_committed = is_free(rt, alloc, "RaftState::update_committed", commits)?;
     extend(state, &ids_of::<K>(alloc, &[(4, 6), (4, 8)])?)?;
     extend(state, &ids_of::<K>(alloc, &[(5, 9), (6, 10)])?)?;
     purge(state, &log_id::<K>(3, 5))?;
@@ -349,8 +368,8 @@ fn grows<K: LeaderKind<u64>>(alloc: Global, state: &mut State<K>) -> Result<bool
 }
 
 /// Whether a valid state does so.
-fn valid_state_grows<K: LeaderKind<u64>>(alloc: Global) -> Result<bool, AllocError> {
-    grows::<K>(alloc, &mut valid_state::<K>(alloc)?)
+fn valid_state_grows<K: LeaderKind<u64>>(rt: &impl Print, alloc: Global) -> io::Result<bool> {
+    grows::<K>(rt, alloc, &mut valid_state::<K>(alloc)?)
 }
 
 /// Whether requests are forwarded as wanted, and the nodes 1, 3 and 9 are what they should be.
@@ -447,10 +466,16 @@ fn a_state_validates_and_is_sound(rt: HostRuntime) -> Result<(), Fail> {
 #[test]
 fn a_state_reads_and_moves(rt: HostRuntime) -> Result<(), Fail> {
     let alloc = rt.alloc();
-    assert!(rt; reads_right::<LeaderAdv>(alloc)? && reads_right::<LeaderStd>(alloc)?);
-    assert!(rt; valid_state_grows::<LeaderAdv>(alloc)? && valid_state_grows::<LeaderStd>(alloc)?);
-    assert!(rt; leads_right::<LeaderAdv>(alloc)? && leads_right::<LeaderStd>(alloc)?);
-    assert!(rt; nobody_leads(alloc)?);
+    let are_right = [
+        reads_right::<LeaderAdv>(&rt, alloc)?,
+        reads_right::<LeaderStd>(&rt, alloc)?,
+        valid_state_grows::<LeaderAdv>(&rt, alloc)?,
+        valid_state_grows::<LeaderStd>(&rt, alloc)?,
+        leads_right::<LeaderAdv>(alloc)?,
+        leads_right::<LeaderStd>(alloc)?,
+        nobody_leads(alloc)?,
+    ];
+    assert_eq!(rt; are_right, [true; 7]);
     Ok(())
 }
 
@@ -506,7 +531,7 @@ fn sends_and_commits<K: LeaderKind<u64>>(
     commits_once::<K>(state, &mut followers::<K>(rt, alloc, &[], 5)?)
 }
 
-/// The same, of a valid state.
+/// Whether a leader with a valid state does so.
 fn sends_and_commits_right<K: LeaderKind<u64>>(
     rt: &impl Abort,
     alloc: Global,

@@ -1,9 +1,9 @@
 //! Worked rows and answers as lines of words.
 
-use crate::support::words::{ids, members, nodes, number};
 use raft_members::{
     ChangeMembers, ChangeMembershipError, EmptyMembership, LearnerNotFound, Membership,
 };
+use raft_testing::words::{ids, members, nodes, number};
 use std::alloc::{AllocError, Global};
 use std::collections::{BTreeMap, BTreeSet};
 use std::str::SplitWhitespace;

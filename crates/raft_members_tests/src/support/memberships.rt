@@ -1,8 +1,8 @@
 //! A stored and an effective membership of two configs, under a log id.
 
-use crate::support::words::members;
 use raft_base::{CommittedLeaderId, LogId};
 use raft_members::{EffectiveMembership, Membership, StoredMembership};
+use raft_testing::words::members;
 use std::alloc::{AllocError, Global};
 
 /// A stored membership whose nodes are numbers.

@@ -1,9 +1,9 @@
 //! Calls of an entry, and what they answer.
 
 use raft_base::LogIdOf;
-use raft_base_tests::support::plain_log::{Numbered, PlainLog};
 use raft_progress::entry::ProgressEntryOf;
 use raft_progress::inflight::{InflightError, InflightOf};
+use raft_testing::plain_log::{Numbered, PlainLog};
 
 /// A call on an entry: a send of so many logs at most, an ack up
 /// to a log id, a conflict at an index.

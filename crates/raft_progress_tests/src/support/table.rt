@@ -3,9 +3,9 @@
 use crate::support::entry_calls::{Answer, Call};
 use crate::support::values::{logs, snapshot};
 use raft_base::{LeaderId, LogId, LogIdRange};
-use raft_base_tests::support::plain_log::PlainLog;
 use raft_progress::entry::ProgressEntry;
 use raft_progress::inflight::{Inflight, InflightError};
+use raft_testing::plain_log::PlainLog;
 
 /// The leaders of the table's log ids.
 pub type Leader = LeaderId<u64>;
@@ -39,7 +39,7 @@ fn is_greatest(id: Option<LogId<u64>>) -> bool {
     index(id) == Some(u64::MAX)
 }
 
-/// What responses leave in flight, by the table: an ack of all up to a log id.
+/// What an ack of all up to a log id leaves in flight, by the table.
 fn table_ack(
     inflight: Inflight<u64>,
     request_id: u64,
@@ -74,7 +74,7 @@ fn table_ack(
     }
 }
 
-/// The same for a conflict at an index.
+/// What a conflict at an index leaves in flight, by the table.
 fn table_conflict(
     inflight: Inflight<u64>,
     request_id: u64,

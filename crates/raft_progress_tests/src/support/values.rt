@@ -1,9 +1,9 @@
 //! What is in flight, entries, the refusals of responses, and a log that is to be purged.
 
 use raft_base::{LogIdOf, LogIdRangeOf};
-use raft_base_tests::support::plain_log::{Numbered, PlainLog, id, log_below};
 use raft_progress::entry::ProgressEntryOf;
 use raft_progress::inflight::{InflightError, InflightOf};
+use raft_testing::plain_log::{Numbered, PlainLog, id, log_below};
 use std::alloc::{AllocError, Global};
 
 /// Logs in flight.

@@ -1,9 +1,9 @@
 //! Whole states over any kind of leader ids.
 
-use crate::support::memory::both;
 use crate::support::rows::{Row, effective, id, ids as ids_of};
 use raft_base::{LeaderKind, UTime, VoteOf};
 use raft_state::{LogIdListOf, MembershipStateOf, RaftStateIn, RaftStateOf, is_key_list};
+use raft_testing::memory::both;
 use std::alloc::{AllocError, Global};
 
 /// A state whose ids, nodes and moments are numbers.

@@ -3,10 +3,10 @@
 //! A log id is `TERM.INDEX`, over the default leader ids also `TERM.NODE.INDEX`. Log
 //! ids are joined by `,`; none is `-`.
 
-use super::memory::both;
 use raft_base::{LeaderIdentity, LogIdOf};
-use raft_members_tests::support::words::number;
 use raft_state::{LogIdListOf, is_key_list};
+use raft_testing::memory::both;
+use raft_testing::words::number;
 use std::alloc::{AllocError, Global};
 
 /// The log id of a word.

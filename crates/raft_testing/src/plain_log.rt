@@ -44,7 +44,7 @@ pub struct PlainLog<C> {
 
 impl<C: Ord + Copy> LogStateReader<C> for PlainLog<C> {
     ghost use Rattle.std.specs.Prelude.{None};
-    ghost use Rattle.raft_base_tests.specs.PlainLog.{id_at, indexed};
+    ghost use Rattle.raft_testing.specs.PlainLog.{id_at, indexed};
 
     ghost log_view = { λ log. record {
       id_at = id_at log.ids.items;
