@@ -3,6 +3,7 @@ pub mod ChangeLemmas
 pub mod FollowerLemmas
 pub mod KnownLemmas
 pub mod MajorityLemmas
+pub mod RunLemmas
 pub mod SendLemmas
 pub mod TermLemmas
 pub mod TrackedLemmas

@@ -18,7 +18,7 @@ ghost use Rattle.raft_state.specs.raft_state.Sound.{purged_or_logged, IsSound};
 ghost use Rattle.raft_state.specs.raft_state.StateView.{vote_of};
 
 use crate::error::HandlerError;
-use crate::log::{append_new, can_cut, cut, is_next};
+use crate::log::{append_new, can_cut, cut, has, is_next};
 use crate::message::{AppendEntries, Outcome, Response};
 use crate::state::State;
 use raft_base::order::log_id_below;
@@ -185,10 +185,9 @@ fn conflict_of<NID: NodeId, N: Node, I: Instant, L: Drop, C: Ord + Copy + Drop>(
     ensures conflict { IfSome result (λ at. IsConflict C.eq at prev state.now) }
     ensures none { IfNone result (IsTrue (purged_or_logged C.eq state.now prev)) }
 {
-    if state.is_purged_or_logged(&prev) {
-        None
-    } else {
-        prev.index()
+    match prev {
+        Some(id) if !has(state, id) => Some(id.index),
+        _ => None,
     }
 }
 
@@ -259,7 +258,7 @@ fn first_new<NID: NodeId, N: Node, I: Instant, L: Drop, C: Ord + Copy + Drop, D>
         if !is_next(last, entry.log_id.index) {
             return None;
         }
-        if !state.is_purged_or_logged(&Some(entry.log_id)) {
+        if !has(state, entry.log_id) {
             return Some(place);
         }
         last = Some(entry.log_id);

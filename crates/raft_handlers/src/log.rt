@@ -1,5 +1,5 @@
 //! The end of a log, replaced by new entries.
-ghost use Rattle.std.specs.Prelude.{◌≡◌, ◌≢◌, ◌&&◌, [], false, IsTrue, IfOk, IfErr, OnOk, OnErr, nat_eq, if◌then◌else◌};
+ghost use Rattle.std.specs.Prelude.{◌≡◌, ◌≢◌, ◌&&◌, [], false, Option, Some, IsTrue, IfOk, IfErr, OnOk, OnErr, nat_eq, if◌then◌else◌};
 ghost use Rattle.std.specs.Option.{option_or};
 ghost use Rattle.std.specs.Set.{ClonesAreEqual};
 ghost use Rattle.raft_base.specs.LogId.{id_lt, index_of, next_index};
@@ -14,7 +14,7 @@ ghost use Rattle.raft_state.specs.log_id_list.LogKept.{HasIds};
 ghost use Rattle.raft_state.specs.log_id_list.LogReads.{last_id};
 ghost use Rattle.raft_state.specs.raft_state.Commit.{state_after_commit, state_may_commit};
 ghost use Rattle.raft_state.specs.membership_state.MembershipMoves.{after_commit};
-ghost use Rattle.raft_state.specs.raft_state.Sound.{IsSound};
+ghost use Rattle.raft_state.specs.raft_state.Sound.{purged_or_logged, IsSound};
 ghost use Rattle.raft_state.specs.raft_state.StateView.{view_of};
 ghost use Rattle.raft_state.specs.raft_state.Valid.{none_or_logged};
 
@@ -27,6 +27,7 @@ use raft_state::{EntryOf, RaftPayload, RaftStateIn};
 use std::alloc::AllocError;
 
 /// Whether the log may be truncated at an index, or ends before it.
+#[inline(always)]
 pub(crate) fn can_cut<NID: NodeId, N: Node, I: Instant, L: Drop, C: Ord + Copy + Drop>(
     state: &RaftStateIn<NID, N, I, L, C>,
     since: u64,
@@ -37,6 +38,7 @@ pub(crate) fn can_cut<NID: NodeId, N: Node, I: Instant, L: Drop, C: Ord + Copy +
 }
 
 /// Truncates the log at an index, unless the log ends before it.
+#[inline(always)]
 pub(crate) fn cut<NID: NodeId, N: Node, I: Instant, L: Drop, C: Ord + Copy + Drop>(
     state: &mut RaftStateIn<NID, N, I, L, C>,
     since: u64,
@@ -65,6 +67,7 @@ pub(crate) fn cut<NID: NodeId, N: Node, I: Instant, L: Drop, C: Ord + Copy + Dro
 }
 
 /// Whether the log has no index from this one on.
+#[inline(always)]
 fn ends_before<NID: NodeId, N: Node, I: Instant, L: Drop, C: Ord + Copy + Drop>(
     state: &RaftStateIn<NID, N, I, L, C>,
     since: u64,
@@ -75,6 +78,7 @@ fn ends_before<NID: NodeId, N: Node, I: Instant, L: Drop, C: Ord + Copy + Drop>(
 }
 
 /// The last log id below an index.
+#[inline(always)]
 fn last_below<NID: NodeId, N: Node, I: Instant, L: Drop, C: Ord + Copy + Drop>(
     state: &RaftStateIn<NID, N, I, L, C>,
     since: u64,
@@ -93,6 +97,7 @@ fn last_below<NID: NodeId, N: Node, I: Instant, L: Drop, C: Ord + Copy + Drop>(
 }
 
 /// The log id of the membership that is effective once the log is truncated at an index.
+#[inline(always)]
 fn effective_below<NID: NodeId, N: Node, I: Instant, L: Drop, C: Ord + Copy + Drop>(
     state: &RaftStateIn<NID, N, I, L, C>,
     since: u64,
@@ -157,7 +162,26 @@ pub(crate) fn append_new<NID: NodeId, N: Node, I: Instant, L: Drop, C: Ord + Cop
 
 /// Returns the log id of the membership that is effective once entries are appended after a last
 /// log id and an effective membership.
+#[inline(always)]
 fn effective_after<NID: NodeId, N: Node, C: Ord + Copy, D>(
+    last: Option<LogIdOf<C>>,
+    effective: Option<LogIdOf<C>>,
+    entries: &[EntryOf<C, NID, N, D>],
+) -> Result<Option<LogIdOf<C>>, HandlerError>
+    ensures effective { IfOk result (λ after. after ≡ effective_with effective entries.now) }
+    ensures may { OnOk result (IsTrue (may_append_after C.cmp last effective entries.now)) }
+    ensures refused { OnErr result
+        (may_append_after C.cmp last effective entries.now ≡ false) }
+    ensures no_memory { IfErr result (λ e. e ≢ OutOfMemory) }
+{
+    match &last {
+        Some(end) if continue_log(end, entries) => Ok(effective),
+        _ => effective_by_each(last, effective, entries),
+    }
+}
+
+/// Returns what `effective_after` does, by a test of each entry and of its membership.
+fn effective_by_each<NID: NodeId, N: Node, C: Ord + Copy, D>(
     last: Option<LogIdOf<C>>,
     effective: Option<LogIdOf<C>>,
     entries: &[EntryOf<C, NID, N, D>],
@@ -184,6 +208,35 @@ fn effective_after<NID: NodeId, N: Node, C: Ord + Copy, D>(
         after = Some(id);
     }
     Ok(members)
+}
+
+/// Whether entries have consecutive indexes after a log id, are of its leader, and store no
+/// membership. Most entries do, and one short loop tests all of it.
+#[inline(never)]
+fn continue_log<NID: NodeId, N: Node, C: Ord + Copy, D>(
+    last: &LogIdOf<C>,
+    entries: &[EntryOf<C, NID, N, D>],
+) -> bool
+    ensures may { IsTrue result → (members : Option (LogIdOf C)) →
+        IsTrue (may_append_after C.cmp (Some last.now) members entries.now) }
+    ensures effective { IsTrue result → (members : Option (LogIdOf C)) →
+        effective_with members entries.now ≡ members }
+{
+    if last.index > u64::MAX - entries.len() as u64 {
+        return false;
+    }
+    let leader = last.leader_id;
+    let mut index = last.index;
+    for entry in entries {
+        index += 1;
+        if entry.log_id.index != index
+            || entry.log_id.leader_id != leader
+            || entry.get_membership().is_some()
+        {
+            return false;
+        }
+    }
+    true
 }
 
 /// Whether a log id may come next after another one, at the next index.
@@ -218,6 +271,7 @@ fn comes_after<C: Ord + Copy>(before: Option<LogIdOf<C>>, id: LogIdOf<C>) -> boo
 
 /// Refuses to commit up to a log id that the log does not have, once it has new entries, or that
 /// the effective membership then does not allow.
+#[inline(always)]
 fn can_commit<NID: NodeId, N: Node, I: Instant, L: Drop, C: Ord + Copy + Drop, D>(
     state: &RaftStateIn<NID, N, I, L, C>,
     new: &[EntryOf<C, NID, N, D>],
@@ -296,4 +350,24 @@ fn commit<NID: NodeId, N: Node, I: Instant, L: Drop, C: Ord + Copy + Drop>(
         state.update_committed(&committed)?;
     }
     Ok(())
+}
+
+/// Whether the log has a log id, or its index is purged. Most that a follower is asked for are at
+/// the end of its log, or past it, and need no look-up.
+#[inline(always)]
+pub(crate) fn has<NID: NodeId, N: Node, I: Instant, L: Drop, C: Ord + Copy + Drop>(
+    state: &RaftStateIn<NID, N, I, L, C>,
+    log_id: LogIdOf<C>,
+) -> bool
+    ensures { result ≡ purged_or_logged C.eq state.now (Some log_id) }
+{
+    // Read for the proof alone: by its contract the keys are in order.
+    let _keys = state.log_ids.key_log_ids();
+    if log_id.index < state.purged_next {
+        return true;
+    }
+    match state.last_log_id() {
+        Some(last) if last.index <= log_id.index => *last == log_id,
+        _ => state.is_purged_or_logged(&Some(log_id)),
+    }
 }

@@ -137,6 +137,7 @@ impl<NID: NodeId, N: Node, C: Ord + Copy + Drop> Leader<NID, N, C> {
 }
 
 /// Takes a response into what is known of its sender.
+#[inline(never)]
 fn take_response<L, C: Ord + Copy>(
     entry: &mut ProgressEntryOf<C>,
     response: &Response<L, C>,

@@ -1,6 +1,6 @@
 use Rattle.std.proofs.Common.{◌≡◌, drop}
 use Rattle.raft_handlers.specs.Entries.{effective_with, may_append_after}
-use Rattle.raft_handlers.proofs.log.effective_after.Given as goal
+use Rattle.raft_handlers.proofs.log.effective_by_each.Given as goal
 
 abbrev pub invariant-loop-entry : goal.invariant-loop-entry
 invariant-loop-entry g l = record {
