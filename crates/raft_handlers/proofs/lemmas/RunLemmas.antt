@@ -20,14 +20,13 @@ use Rattle.std.proofs.Common.{
   nat_le,
   refl,
   sym,
-  ap,
   arith,
   ◌∙◌,
 }
 use Rattle.std.specs.Prelude.{nat_lt, not}
 use Rattle.std.proofs.lemmas.Bool.{and_parts}
 use Rattle.std.proofs.lemmas.Bool.Decides.{nat_tests}
-use Rattle.std.specs.Cmp.{IsEquivalence, IsTotalOrder}
+use Rattle.std.specs.Cmp.{IsEquivalence}
 use Rattle.std.specs.Cmp.Derive.{both_true}
 use Rattle.std.specs.Ordering.{is_eq, is_le}
 use Rattle.std.specs.declared.cmp.Ordering.{Ordering}
@@ -39,7 +38,6 @@ use Rattle.raft_state.proofs.lemmas.log_id_list.FrontLemmas.{last_at}
 use Rattle.raft_state.proofs.lemmas.log_id_list.IdOrderLemmas.{leaders_symm, leaders_trans}
 use Rattle.raft_state.proofs.lemmas.log_id_list.OrderLemmas.{From}
 use Rattle.raft_state.proofs.lemmas.sound.LoggedIds.{is_kept}
-use Rattle.raft_state.specs.entry.Entry.{payload_membership}
 use Rattle.raft_state.specs.log_id_list.FullLog.{full_log}
 use Rattle.raft_state.specs.log_id_list.LogConditions.{all_follow}
 use Rattle.raft_state.specs.log_id_list.LogReads.{id_at, last_id}

@@ -1,4 +1,4 @@
-use Rattle.std.proofs.Common.{◌≡◌, ◌+◌, true, refl, drop, sym, ◌∙◌}
+use Rattle.std.proofs.Common.{◌≡◌, ◌+◌, true}
 use Rattle.std.proofs.lemmas.List.{drop_all}
 use Rattle.raft_handlers.proofs.lemmas.RunLemmas.{continue_from, effective_stays, may_continue}
 use Rattle.raft_handlers.proofs.log.continue_log.Goals as goal
