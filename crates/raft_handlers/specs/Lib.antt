@@ -5,4 +5,5 @@ pub mod Entries
 pub mod Leadership
 pub mod Proposals
 pub mod Responses
+pub mod Start
 pub mod Vote

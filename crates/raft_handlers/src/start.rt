@@ -1,8 +1,14 @@
 //! The start of a cluster, by one of its members.
-ghost use Rattle.std.specs.Prelude.{◌≡◌, IsTrue, OnOk, OnErr, is_some};
+ghost use Rattle.std.specs.Prelude.{◌≡◌, ◌∷◌, [], false, Some, IfErr, IfOk, IsOk, IsTrue, OnOk, OnErr, is_some};
 ghost use Rattle.std.specs.Set.{ClonesAreEqual};
-ghost use Rattle.raft_members.specs.membership.Members.{node_at};
+ghost use Rattle.raft_handlers.specs.Proposals.{AppendsPayload};
+ghost use Rattle.raft_handlers.specs.Start.{first_log_id, BelongsToCluster, IsStartRefusal};
+ghost use Rattle.raft_members.specs.membership.Members.{members_of, node_at};
+ghost use Rattle.raft_members.specs.membership.Valid.{IsValid};
+ghost use Rattle.raft_state.specs.log_id_list.FullLog.{full_log};
 ghost use Rattle.raft_state.specs.raft_state.Sound.{IsSound};
+ghost use Rattle.raft_state.specs.raft_state.StateView.{vote_of};
+ghost use Rattle.raft_state.specs.declared.entry.payload.EntryPayload.TheVariants.{Membership as Stores};
 
 use crate::error::HandlerError;
 use crate::state::State;
@@ -23,7 +29,24 @@ pub fn start_cluster<NID: NodeId, N: Node, I: Instant, L: LeaderIdentity<Id = NI
     membership: Membership<NID, N>,
 ) -> Result<Vec<EntryOf<L::Committed, NID, N, D>>, HandlerError>
     requires clones_are_equal { ClonesAreEqual N.eq N.is_clone }
+    ensures new { IsOk result → BelongsToCluster L.eq L.Default.is_default state.old false }
     ensures member { OnOk result (IsTrue (is_some (node_at NID.cmp membership.nodes id.now))) }
+    ensures valid { OnOk result (IsValid NID.eq (members_of NID.cmp membership)) }
+    ensures entry { IfOk result (λ entries. entries.items ≡ record {
+      log_id = first_log_id (L.committed (vote_of state.old).leader_id);
+      payload = Stores membership;
+    } ∷ []) }
+    ensures log { OnOk result (full_log state.new.log_ids
+        ≡ first_log_id (L.committed (vote_of state.old).leader_id) ∷ []) }
+    ensures effective { OnOk result (AppendsPayload NID.eq N.eq
+        (first_log_id (L.committed (vote_of state.old).leader_id)) (Some membership)
+        state.old.membership_state state.new.membership_state) }
+    ensures rest { state.new ≡ record state.old {
+      log_ids = state.new.log_ids;
+      membership_state = state.new.membership_state;
+    } }
+    ensures refused { IfErr result (IsStartRefusal L.eq L.Default.is_default NID.eq NID.cmp
+        state.old id.now membership) }
     ensures err { OnErr result (state.new ≡ state.old) }
     ensures sound { IsSound L.Committed.eq L.Committed.cmp state.old →
         IsSound L.Committed.eq L.Committed.cmp state.new }
@@ -39,10 +62,13 @@ pub fn start_cluster<NID: NodeId, N: Node, I: Instant, L: LeaderIdentity<Id = NI
     }
     let leader_id = L::to_committed(state.vote_ref().leader_id());
     let mut entries = Vec::new(*membership.get_joint_config().allocator());
-    entries.extend(Some(EntryOf {
+    let entry = EntryOf {
         log_id: LogIdOf::new(leader_id, 0),
         payload: EntryPayload::Membership(membership),
-    }))?;
+    };
+    let Ok(()) = entries.push(entry) else {
+        return Err(HandlerError::OutOfMemory);
+    };
     if !state.can_append_entries(&entries) {
         return Err(HandlerError::MembershipNotInOrder);
     }

@@ -1,0 +1,43 @@
+-- The start of a cluster by one of its members.
+use Rattle.std.specs.Prelude.{◌≡◌, Bool, true, false, is_some}
+use Rattle.std.specs.declared.cmp.Ordering.{Ordering}
+use Rattle.raft_base.specs.declared.log_id.LogIdOf.{LogIdOf}
+use Rattle.raft_handlers.specs.declared.error.HandlerError.{HandlerError}
+use Rattle.raft_handlers.specs.declared.error.HandlerError.TheVariants.{
+  InvalidMembership,
+  MembershipNotInOrder,
+  NotAllowed,
+  NotInMembers,
+  OutOfMemory,
+}
+use Rattle.raft_members.specs.membership.Members.{MemberList, members_of, node_at}
+use Rattle.raft_members.specs.membership.Stored.{log_id_of}
+use Rattle.raft_members.specs.membership.Valid.{IsValid}
+use Rattle.raft_state.specs.log_id_list.FullLog.{full_log}
+use Rattle.raft_state.specs.raft_state.Leads.{is_initialized}
+use Rattle.raft_state.specs.raft_state.StateView.{vote_of}
+use Rattle.raft_state.specs.declared.raft_state.RaftStateIn.{RaftStateIn}
+
+-- the log id of the first entry of a cluster: index 0, of the leader that the vote is for
+abbrev pub first_log_id : {C : Type 0} → C → LogIdOf C
+first_log_id leader = record { leader_id = leader; index = 0 }
+
+-- whether a server belongs to a cluster: it has a log, or its vote is not the vote of a new server
+abbrev pub BelongsToCluster : {K N I L C : Type 0} → (L → L → Bool) → (L → Type 0)
+    → RaftStateIn K N I L C → Bool → Type 0
+BelongsToCluster {K} {N} {I} {L} {C} eq is_default s answer =
+    (unset : L) × is_default unset
+    × (answer ≡ is_initialized eq (full_log s.log_ids) (vote_of s) unset)
+
+-- why a start is refused: the server belongs to a cluster, it is no member, the membership could not
+-- decide, or a membership is effective already
+abbrev pub IsStartRefusal : {K N I L C : Type 0} → (L → L → Bool) → (L → Type 0) → (K → K → Bool)
+    → (K → K → Ordering) → RaftStateIn K N I L C → K → MemberList K N → HandlerError → Type 0
+IsStartRefusal eq is_default id_eq cmp s id m NotAllowed = BelongsToCluster eq is_default s true
+IsStartRefusal eq is_default id_eq cmp s id m NotInMembers = is_some (node_at cmp m.nodes id) ≡ false
+IsStartRefusal eq is_default id_eq cmp s id m InvalidMembership =
+    IsValid id_eq (members_of cmp m) → ⊥
+IsStartRefusal eq is_default id_eq cmp s id m MembershipNotInOrder =
+    is_some (log_id_of s.membership_state.effective) ≡ true
+IsStartRefusal eq is_default id_eq cmp s id m OutOfMemory = Unit {0}
+IsStartRefusal eq is_default id_eq cmp s id m refusal = ⊥
