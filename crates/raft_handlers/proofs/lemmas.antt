@@ -5,6 +5,7 @@ pub mod KnownLemmas
 pub mod MajorityLemmas
 pub mod RunLemmas
 pub mod SendLemmas
+pub mod SnapshotLemmas
 pub mod StartLemmas
 pub mod TermLemmas
 pub mod TrackedLemmas

@@ -5,5 +5,6 @@ pub mod Entries
 pub mod Leadership
 pub mod Proposals
 pub mod Responses
+pub mod Snapshot
 pub mod Start
 pub mod Vote

@@ -1,13 +1,13 @@
 //! A follower: a snapshot that a leader sends.
-ghost use Rattle.std.specs.Prelude.{◌≡◌, Ok, Some, false, IsTrue, IfOk, IfSome, OnOk, OnErr};
+ghost use Rattle.std.specs.Prelude.{◌≡◌, Ok, Some, false, IsTrue, IfOk, OnOk, OnErr};
 ghost use Rattle.std.specs.Ordering.{partial_ge};
 ghost use Rattle.std.specs.Set.{ClonesAreEqual};
 ghost use Rattle.raft_base.specs.LogId.{id_lt};
 ghost use Rattle.raft_base.specs.Vote.{vote_cmp};
 ghost use Rattle.raft_handlers.specs.Append.{elected, greatest, IfMatches};
+ghost use Rattle.raft_base.specs.UTime.{moment_of, utime_of};
+ghost use Rattle.raft_handlers.specs.Snapshot.{following, install_refusal, snapshot_refusal, InstallsSnapshot, RefusedFor};
 ghost use Rattle.raft_handlers.specs.declared.message.Outcome.TheVariants.{HigherVote};
-ghost use Rattle.raft_state.specs.log_id_list.FullLog.{full_log};
-ghost use Rattle.raft_state.specs.raft_state.Install.{log_after_install};
 ghost use Rattle.raft_state.specs.raft_state.Sound.{IsSound};
 ghost use Rattle.raft_state.specs.raft_state.StateView.{vote_of};
 
@@ -46,8 +46,18 @@ pub fn handle_install_snapshot<
         ≡ request.now.meta.last_log_id)) }
     ensures committed { IfOk result (λ response. IfMatches response.outcome (λ upto.
         state.new.committed ≡ greatest L.Committed.cmp state.old.committed upto)) }
+    ensures vote { OnOk result (IsTrue (partial_ge (vote_cmp L.order)
+        (elected request.now.leader_id) (vote_of state.old)) → state.new.vote
+        ≡ utime_of (elected request.now.leader_id) (moment_of state.old.vote)) }
+    ensures installed { OnOk result (IsTrue (partial_ge (vote_cmp L.order)
+        (elected request.now.leader_id) (vote_of state.old)) →
+        IsTrue (id_lt L.Committed.cmp state.old.committed request.now.meta.last_log_id) →
+        InstallsSnapshot NID.eq N.eq L.eq L.Committed.cmp L.Committed.eq request.now.meta
+        (following request.now.leader_id state.old) state.new) }
     ensures known { id_lt L.Committed.cmp state.old.committed request.now.meta.last_log_id
         ≡ false → state.new ≡ record state.old { vote = state.new.vote } }
+    ensures refused { RefusedFor (snapshot_refusal L.order L.Committed.cmp L.Committed.eq
+        request.now.leader_id request.now.meta state.old) result }
     ensures err { OnErr result (state.new ≡ state.old) }
     ensures sound { IsSound L.Committed.eq L.Committed.cmp state.old →
         IsSound L.Committed.eq L.Committed.cmp state.new }
@@ -87,13 +97,13 @@ fn install<NID: NodeId, N: Node, I: Instant, L: LeaderIdentity<Id = NID> + Drop>
     requires clones_are_equal { ClonesAreEqual N.eq N.is_clone }
     ensures committed { OnOk result (state.new.committed
         ≡ greatest L.Committed.cmp state.old.committed meta.now.last_log_id) }
-    ensures purge_point { OnOk result
+    ensures installed { OnOk result
         (IsTrue (id_lt L.Committed.cmp state.old.committed meta.now.last_log_id) →
-        state.new.purge_upto ≡ meta.now.last_log_id) }
-    ensures log { OnOk result
-        (IsTrue (id_lt L.Committed.cmp state.old.committed meta.now.last_log_id) →
-        IfSome meta.now.last_log_id (λ upto. full_log state.new.log_ids
-        ≡ log_after_install L.Committed.eq upto state.old)) }
+        InstallsSnapshot NID.eq N.eq L.eq L.Committed.cmp L.Committed.eq meta.now
+        state.old state.new) }
+    ensures vote { state.new.vote ≡ state.old.vote }
+    ensures refused { RefusedFor (install_refusal L.order L.Committed.cmp L.Committed.eq
+        meta.now state.old) result }
     ensures known { id_lt L.Committed.cmp state.old.committed meta.now.last_log_id ≡ false →
         state.new ≡ state.old }
     ensures err { OnErr result (state.new ≡ state.old) }
