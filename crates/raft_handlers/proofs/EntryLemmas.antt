@@ -64,7 +64,7 @@ use Rattle.raft_state.proofs.lemmas.log_id_list.SameLogLemmas.{equal_found}
 use Rattle.raft_state.proofs.lemmas.sound.LoggedIds.{in_log, is_kept}
 use Rattle.raft_state.specs.raft_state.Appended.{are_consecutive}
 use Rattle.raft_state.specs.raft_state.Commit.{state_may_commit}
-use Rattle.raft_state.specs.log_id_list.FullLog.{end_index, full_log}
+use Rattle.raft_state.specs.log_id_list.FullLog.{end_index, full_log, same_log}
 use Rattle.raft_state.specs.log_id_list.LogEdits.{front}
 use Rattle.raft_state.specs.log_id_list.LogKept.{HasIds, KeepsIds}
 use Rattle.raft_state.specs.log_id_list.LogReads.{id_at, last_id}
@@ -379,3 +379,10 @@ last_of_entries {C} {K} {N} {D} prev (x ∷ xs) e h =
     let n : length (x ∷ xs) - 1 ≡ length xs = omega arith in
     let here = rw n at h in
     rw (last_of_some x.log_id (entry_ids xs), last_of_map (λ (y : EntryOf C K N D). y.log_id) x xs, here) refl
+
+-- a log is the same as itself
+pub same_log_itself : {C : Type 0} (eq : C → C → Bool) → IsEquivalence eq → (log : List (LogIdOf C)) → same_log eq log log ≡ true
+same_log_itself eq eqs [] = refl
+same_log_itself eq eqs (x ∷ xs) =
+    let t : nat_eq x.index x.index ≡ true = grind (arith, nat_tests) in
+    both_true (both_true (eqs.refl x.leader_id) t) (same_log_itself eq eqs xs)

@@ -1,8 +1,10 @@
 pub mod AppendLemmas
 pub mod ChangeLemmas
 pub mod FollowerLemmas
+pub mod HonestLemmas
 pub mod KnownLemmas
 pub mod MajorityLemmas
+pub mod RefusalLemmas
 pub mod RunLemmas
 pub mod SendLemmas
 pub mod SnapshotLemmas

@@ -1,12 +1,41 @@
 -- What a follower makes of a leader's request to append entries.
-use Rattle.std.specs.Prelude.{◌≡◌, ℕ, ◌<◌, Bool, true, false, List, [], ◌∷◌, Option, Some, IsTrue, drop, if◌then◌else◌}
+use Rattle.std.specs.Prelude.{
+  ◌≡◌,
+  ℕ,
+  ◌<◌,
+  Bool,
+  true,
+  false,
+  ◌&&◌,
+  List,
+  [],
+  ◌∷◌,
+  Option,
+  Some,
+  None,
+  IsTrue,
+  drop,
+  if◌then◌else◌,
+}
 use Rattle.std.specs.List.{list_all, prefix_len}
 use Rattle.std.specs.Option.{option_or}
 use Rattle.std.specs.declared.cmp.Ordering.{Ordering}
 use Rattle.raft_base.specs.LogId.{id_lt, index_of, same_ids}
 use Rattle.raft_base.specs.declared.log_id.LogIdOf.{LogIdOf}
 use Rattle.raft_base.specs.declared.vote.VoteIn.{VoteIn}
-use Rattle.raft_handlers.specs.Entries.{entry_ids, memberships_below}
+use Rattle.raft_handlers.specs.Entries.{
+  are_in_order,
+  entry_ids,
+  keeps_committed,
+  last_before,
+  may_cut,
+  has_committed_with,
+  has_members_in_order,
+  may_take_new,
+  memberships_below,
+  RefusedUnless,
+}
+use Rattle.raft_handlers.specs.declared.error.HandlerError.{HandlerError}
 use Rattle.raft_handlers.specs.declared.message.AppendEntries.{AppendEntries}
 use Rattle.raft_handlers.specs.declared.message.Outcome.{Outcome}
 use Rattle.raft_handlers.specs.declared.message.Outcome.TheVariants.{Matches, Conflict, HigherVote}
@@ -102,3 +131,48 @@ TakesMemberships {K} {N} {I} {L} {C} cmp eq same new upto s m =
 abbrev pub IsConflict : {K N I L C : Type 0} → (C → C → Bool) → ℕ → Option (LogIdOf C)
     → RaftStateIn K N I L C → Type 0
 IsConflict eq at prev s = (index_of prev ≡ Some at) × (purged_or_logged eq s prev ≡ false)
+
+-- the log may be truncated at the index of a log id that it does not have
+abbrev pub may_cut_at : {K N I L C : Type 0} → (C → C → Ordering) → Option (LogIdOf C)
+    → RaftStateIn K N I L C → Bool
+may_cut_at cmp None s = true
+may_cut_at cmp (Some id) s = may_cut cmp id.index s
+
+-- a request to append entries may be taken: if the log does not have `prev`, it may be truncated
+-- there; otherwise the entries are consecutive after `prev`, the new ones may take the place of the
+-- end of the log, and the lesser one of the leader's committed log id and the last one may be
+-- committed
+abbrev pub may_take : {K N I L C D : Type 0} → (C → C → Bool) → (C → C → Ordering)
+    → Option (LogIdOf C) → List (EntryOf C K N D) → Option (LogIdOf C) → RaftStateIn K N I L C → Bool
+may_take eq cmp prev es committed s =
+    if purged_or_logged eq s prev
+    then are_consecutive prev (entry_ids es)
+    && may_take_new eq cmp (new_of eq s es) (least cmp committed (last_of prev es)) s
+    else may_cut_at cmp prev s
+
+-- why entries after a log id that the log has, or the commit of a log id with them, are refused
+abbrev pub IsTakeRefusal : {K N I L C D : Type 0} → (C → C → Bool) → (C → C → Ordering)
+    → Option (LogIdOf C) → List (EntryOf C K N D) → Option (LogIdOf C) → RaftStateIn K N I L C
+    → HandlerError → Type 0
+IsTakeRefusal eq cmp prev es id s refusal =
+    RefusedUnless true (keeps_committed cmp (new_of eq s es) s)
+    (are_consecutive prev (entry_ids es)
+    && are_in_order cmp (last_before (new_of eq s es) s) (new_of eq s es))
+    (has_members_in_order cmp (new_of eq s es) id s)
+    (has_committed_with eq cmp (full_log s.log_ids) s.committed (new_of eq s es) id) refusal
+
+-- and if the log has that log id or not
+abbrev pub IsAppendRefusalBy : {K N I L C D : Type 0} → Bool → (C → C → Bool) → (C → C → Ordering)
+    → Option (LogIdOf C) → List (EntryOf C K N D) → Option (LogIdOf C) → RaftStateIn K N I L C
+    → HandlerError → Type 0
+IsAppendRefusalBy true eq cmp prev es id s refusal = IsTakeRefusal eq cmp prev es id s refusal
+IsAppendRefusalBy false eq cmp prev es id s refusal =
+    RefusedUnless true (may_cut_at cmp prev s) true true true refusal
+
+-- why a request to append entries is refused
+abbrev pub IsAppendRefusal : {K N I L C D : Type 0} → (C → C → Bool) → (C → C → Ordering)
+    → Option (LogIdOf C) → List (EntryOf C K N D) → Option (LogIdOf C) → RaftStateIn K N I L C
+    → HandlerError → Type 0
+IsAppendRefusal eq cmp prev es committed s refusal =
+    IsAppendRefusalBy (purged_or_logged eq s prev) eq cmp prev es
+    (least cmp committed (last_of prev es)) s refusal

@@ -1,8 +1,10 @@
 -- Log ids of entries, and what a log and its memberships are once it is truncated.
 use Rattle.std.specs.Prelude.{
+  ◌≡◌,
   ℕ,
   Bool,
   true,
+  false,
   ◌-◌,
   ◌&&◌,
   ◌||◌,
@@ -10,6 +12,7 @@ use Rattle.std.specs.Prelude.{
   List,
   [],
   ◌∷◌,
+  ◌++◌,
   Option,
   Some,
   None,
@@ -22,6 +25,15 @@ use Rattle.std.specs.declared.cmp.Ordering.{Ordering}
 use Rattle.raft_base.specs.LogId.{id_le, id_lt, index_of, same_ids}
 use Rattle.raft_base.specs.LogIndex.{index_le, index_lt}
 use Rattle.raft_base.specs.declared.log_id.LogIdOf.{LogIdOf}
+use Rattle.raft_handlers.specs.declared.error.HandlerError.{HandlerError}
+use Rattle.raft_handlers.specs.declared.error.HandlerError.TheVariants.{
+  CommittedNotLogged,
+  MembershipNotInOrder,
+  NotInOrder,
+  OutOfMemory,
+  SnapshotDoesNotFit,
+  TruncatesCommitted,
+}
 use Rattle.raft_members.specs.membership.Stored.{log_id_of}
 use Rattle.raft_state.specs.raft_state.Appended.{are_consecutive, last_stored, memberships_follow}
 use Rattle.raft_state.specs.entry.Entry.{payload_membership}
@@ -83,6 +95,11 @@ abbrev pub effective_with : {C K N D : Type 0} → Option (LogIdOf C) → List (
 effective_with effective es =
     last_stored (λ e. e.log_id) (λ e. is_some (payload_membership e.payload)) effective es
 
+-- a log has a log id, or the log id is absent
+abbrev pub has_id : {C : Type 0} → (C → C → Bool) → List (LogIdOf C) → Option (LogIdOf C) → Bool
+has_id eq log None = true
+has_id eq log (Some id) = same_ids eq (id_at log id.index) (Some id)
+
 -- a log has a log id once these log ids are in place of it from the index of the first one on
 abbrev pub has_with : {C : Type 0} → (C → C → Bool) → List (LogIdOf C) → List (LogIdOf C)
     → Option (LogIdOf C) → Bool
@@ -107,3 +124,87 @@ abbrev pub may_commit_with : {C K N D : Type 0} → (C → C → Bool) → (C �
 may_commit_with eq cmp log effective new before id =
     if id_lt cmp before id
     then has_with eq log (entry_ids new) id && allows_commit cmp effective id else true
+
+-- entries are in order after a last log id: their indexes are consecutive, and their leaders do not
+-- fall
+abbrev pub are_in_order : {C K N D : Type 0} → (C → C → Ordering) → Option (LogIdOf C)
+    → List (EntryOf C K N D) → Bool
+are_in_order cmp last es = all_follow cmp last (entry_ids es) && are_consecutive last (entry_ids es)
+
+-- each membership of entries comes after the one before it, and the first one after an effective one
+abbrev pub has_memberships_in_order : {C K N D : Type 0} → (C → C → Ordering) → Option (LogIdOf C)
+    → List (EntryOf C K N D) → Bool
+has_memberships_in_order cmp effective es =
+    memberships_follow cmp (λ e. e.log_id) (λ e. is_some (payload_membership e.payload)) effective es
+
+-- the log has, with new entries, what is to be committed past the committed log id
+abbrev pub has_committed_with : {C K N D : Type 0} → (C → C → Bool) → (C → C → Ordering)
+    → List (LogIdOf C) → Option (LogIdOf C) → List (EntryOf C K N D) → Option (LogIdOf C) → Bool
+has_committed_with eq cmp log before new id =
+    if id_lt cmp before id then has_with eq log (entry_ids new) id else true
+
+-- an effective membership allows what is to be committed past the committed log id
+abbrev pub allows_commit_past : {C : Type 0} → (C → C → Ordering) → Option (LogIdOf C)
+    → Option (LogIdOf C) → Option (LogIdOf C) → Bool
+allows_commit_past cmp effective before id =
+    if id_lt cmp before id then allows_commit cmp effective id else true
+
+-- an error comes only if its condition does not hold: a snapshot fits, nothing that is committed is
+-- truncated, entries are in order, their memberships are, and the log has what is to be committed;
+-- an allocation may fail at any time, and no other error comes
+abbrev pub RefusedUnless : Bool → Bool → Bool → Bool → Bool → HandlerError → Type 0
+RefusedUnless fits keeps order members has SnapshotDoesNotFit = fits ≡ false
+RefusedUnless fits keeps order members has TruncatesCommitted = keeps ≡ false
+RefusedUnless fits keeps order members has NotInOrder = order ≡ false
+RefusedUnless fits keeps order members has MembershipNotInOrder = members ≡ false
+RefusedUnless fits keeps order members has CommittedNotLogged = has ≡ false
+RefusedUnless fits keeps order members has OutOfMemory = Unit {0}
+RefusedUnless fits keeps order members has refusal = ⊥
+
+-- new entries truncate nothing that is committed
+abbrev pub keeps_committed : {K N I L C D : Type 0} → (C → C → Ordering) → List (EntryOf C K N D)
+    → RaftStateIn K N I L C → Bool
+keeps_committed cmp [] s = true
+keeps_committed cmp (e ∷ es) s = may_cut cmp e.log_id.index s
+
+-- the last log id before new entries
+abbrev pub last_before : {K N I L C D : Type 0} → List (EntryOf C K N D) → RaftStateIn K N I L C
+    → Option (LogIdOf C)
+last_before [] s = last_id (full_log s.log_ids)
+last_before (e ∷ es) s = last_below e.log_id.index s
+
+-- the log id of the effective membership before new entries
+abbrev pub effective_before : {K N I L C D : Type 0} → List (EntryOf C K N D)
+    → RaftStateIn K N I L C → Option (LogIdOf C)
+effective_before [] s = log_id_of s.membership_state.effective
+effective_before (e ∷ es) s = effective_below e.log_id.index s
+
+-- new entries may take the place of the end of a log, and a log id may be committed then
+abbrev pub may_take_new : {K N I L C D : Type 0} → (C → C → Bool) → (C → C → Ordering)
+    → List (EntryOf C K N D) → Option (LogIdOf C) → RaftStateIn K N I L C → Bool
+may_take_new eq cmp new id s =
+    keeps_committed cmp new s
+    && (may_append_after cmp (last_before new s) (effective_before new s) new
+    && may_commit_with eq cmp (full_log s.log_ids) (effective_with (effective_before new s) new) new
+    s.committed id)
+
+-- the memberships of new entries are in order, and the last one allows the commit of a log id
+abbrev pub has_members_in_order : {K N I L C D : Type 0} → (C → C → Ordering) → List (EntryOf C K N D)
+    → Option (LogIdOf C) → RaftStateIn K N I L C → Bool
+has_members_in_order cmp new id s =
+    has_memberships_in_order cmp (effective_before new s) new
+    && allows_commit_past cmp (effective_with (effective_before new s) new) s.committed id
+
+-- why new entries, or the commit of a log id with them, are refused
+abbrev pub IsNewRefusal : {K N I L C D : Type 0} → (C → C → Bool) → (C → C → Ordering)
+    → List (EntryOf C K N D) → Option (LogIdOf C) → RaftStateIn K N I L C → HandlerError → Type 0
+IsNewRefusal eq cmp new id s refusal =
+    RefusedUnless true (keeps_committed cmp new s) (are_in_order cmp (last_before new s) new)
+    (has_members_in_order cmp new id s)
+    (has_committed_with eq cmp (full_log s.log_ids) s.committed new id) refusal
+
+-- the log ids up to an index, and then those of new entries
+abbrev pub log_with_new : {C K N D : Type 0} → List (LogIdOf C) → List (EntryOf C K N D)
+    → List (LogIdOf C)
+log_with_new log [] = log
+log_with_new log (e ∷ es) = front log e.log_id.index ++ entry_ids (e ∷ es)

@@ -2,6 +2,7 @@ pub mod Append
 pub mod Campaign
 pub mod Changes
 pub mod Entries
+pub mod Honest
 pub mod Leadership
 pub mod Proposals
 pub mod Responses

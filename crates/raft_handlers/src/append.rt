@@ -6,8 +6,9 @@ ghost use Rattle.std.specs.Ordering.{partial_ge};
 ghost use Rattle.std.specs.Set.{ClonesAreEqual};
 ghost use Rattle.raft_base.specs.UTime.{moment_of, utime_of};
 ghost use Rattle.raft_base.specs.Vote.{vote_cmp};
-ghost use Rattle.raft_handlers.specs.Append.{elected, greatest, has_all, has_entry, last_of, least, new_of, replaced_since, IfConflict, IfMatches, IsConflict, KeepsBelow, TakesMemberships};
-ghost use Rattle.raft_handlers.specs.Entries.{entry_ids};
+ghost use Rattle.raft_handlers.specs.Append.{elected, greatest, has_all, has_entry, last_of, least, may_take, new_of, replaced_since, IfConflict, IfMatches, IsAppendRefusal, IsConflict, IsTakeRefusal, KeepsBelow, TakesMemberships};
+ghost use Rattle.raft_handlers.specs.Entries.{entry_ids, may_take_new};
+ghost use Rattle.raft_handlers.specs.Honest.{IsHonest};
 ghost use Rattle.raft_handlers.specs.declared.error.HandlerError.TheVariants.{OutOfMemory};
 ghost use Rattle.raft_handlers.specs.declared.message.Outcome.TheVariants.{HigherVote};
 ghost use Rattle.raft_state.specs.raft_state.Appended.{are_consecutive};
@@ -18,6 +19,7 @@ ghost use Rattle.raft_state.specs.raft_state.Sound.{purged_or_logged, IsSound};
 ghost use Rattle.raft_state.specs.raft_state.StateView.{vote_of};
 
 use crate::error::HandlerError;
+use crate::laws::honest_request_may_be_taken;
 use crate::log::{append_new, can_cut, cut, has, is_next};
 use crate::message::{AppendEntries, Outcome, Response};
 use crate::state::State;
@@ -87,6 +89,15 @@ pub fn handle_append_entries<
       accepted = state.new.accepted;
       committed = state.new.committed;
     } }
+    ensures may { OnOk result (IsTrue (partial_ge (vote_cmp L.order)
+        (elected request.now.leader_id) (vote_of state.old)) → IsTrue (may_take
+        L.Committed.eq L.Committed.cmp request.now.prev request.now.entries.items
+        request.now.committed state.old)) }
+    ensures reason { IfErr result (IsAppendRefusal L.Committed.eq L.Committed.cmp
+        request.now.prev request.now.entries.items request.now.committed state.old) }
+    ensures honest { IsSound L.Committed.eq L.Committed.cmp state.old →
+        IsHonest L.Committed.eq L.Committed.cmp request.now.prev request.now.entries.items
+        request.now.committed state.old → IfErr result (λ e. e ≡ OutOfMemory) }
     ensures refused { IfErr result (λ e. e ≢ OutOfMemory → state.new ≡ state.old) }
     ensures out_of_memory { OnErr result (KeepsBelow L.Committed.eq
         (replaced_since (full_log state.old.log_ids)
@@ -101,6 +112,8 @@ pub fn handle_append_entries<
         committed: true,
     };
     let promised = *state.vote_ref();
+    // Called for the proof alone: an honest request is refused only if an allocation fails.
+    honest_request_may_be_taken(state, request);
     if vote >= promised {
         let outcome = match_log(state, request)?;
         let _promised = state.promise(vote);
@@ -156,6 +169,10 @@ fn match_log<NID: NodeId, N: Node, I: Instant, L: Drop, C: Ord + Copy + Drop, M,
       accepted = state.new.accepted;
       committed = state.new.committed;
     } }
+    ensures may { OnOk result (IsTrue (may_take C.eq C.cmp request.now.prev
+        request.now.entries.items request.now.committed state.old)) }
+    ensures reason { IfErr result (IsAppendRefusal C.eq C.cmp request.now.prev
+        request.now.entries.items request.now.committed state.old) }
     ensures refused { IfErr result (λ e. e ≢ OutOfMemory → state.new ≡ state.old) }
     ensures out_of_memory { OnErr result (KeepsBelow C.eq
         (replaced_since (full_log state.old.log_ids)
@@ -222,6 +239,10 @@ fn take_entries<NID: NodeId, N: Node, I: Instant, L: Drop, C: Ord + Copy + Drop,
       accepted = state.new.accepted;
       committed = state.new.committed;
     } }
+    ensures may { OnOk result (IsTrue (may_take_new C.eq C.cmp
+        (new_of C.eq state.old entries.now) committed state.old)) }
+    ensures reason { IfErr result (IsTakeRefusal C.eq C.cmp prev entries.now
+        committed state.old) }
     ensures refused { IfErr result (λ e. e ≢ OutOfMemory → state.new ≡ state.old) }
     ensures not_committed { OnErr result (state.new.committed ≡ state.old.committed) }
     ensures sound { IsSound C.eq C.cmp state.old → IsSound C.eq C.cmp state.new }

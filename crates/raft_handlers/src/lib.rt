@@ -8,6 +8,7 @@
 pub mod append;
 pub mod candidate;
 pub mod error;
+pub mod laws;
 pub mod leader;
 mod log;
 pub mod message;

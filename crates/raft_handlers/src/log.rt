@@ -1,13 +1,13 @@
 //! The end of a log, replaced by new entries.
-ghost use Rattle.std.specs.Prelude.{◌≡◌, ◌≢◌, ◌&&◌, [], false, Option, Some, IsTrue, IfOk, IfErr, OnOk, OnErr, nat_eq, if◌then◌else◌};
+ghost use Rattle.std.specs.Prelude.{◌≡◌, ◌≢◌, ◌&&◌, [], true, false, Option, Some, IsTrue, IfOk, IfErr, OnOk, OnErr, nat_eq, if◌then◌else◌};
 ghost use Rattle.std.specs.Option.{option_or};
 ghost use Rattle.std.specs.Set.{ClonesAreEqual};
 ghost use Rattle.raft_base.specs.LogId.{id_lt, index_of, next_index};
 ghost use Rattle.raft_base.specs.LogIndex.{index_lt};
 ghost use Rattle.raft_handlers.specs.Append.{follow_on, greatest, replaced_since, KeepsBelow, TakesMemberships};
-ghost use Rattle.raft_handlers.specs.Entries.{allows_commit, effective_below, effective_with, ends_before, entry_ids, has_with, last_below, may_append_after, may_commit_with, may_cut, memberships_below};
+ghost use Rattle.raft_handlers.specs.Entries.{allows_commit, allows_commit_past, are_in_order, effective_below, effective_with, ends_before, entry_ids, has_committed_with, has_memberships_in_order, has_with, last_below, log_with_new, may_append_after, may_commit_with, may_cut, may_take_new, memberships_below, IsNewRefusal, RefusedUnless};
 ghost use Rattle.raft_handlers.specs.declared.error.HandlerError.TheVariants.{OutOfMemory};
-ghost use Rattle.raft_state.specs.log_id_list.FullLog.{full_log};
+ghost use Rattle.raft_state.specs.log_id_list.FullLog.{full_log, same_log};
 ghost use Rattle.raft_state.specs.log_id_list.LogConditions.{follows};
 ghost use Rattle.raft_state.specs.log_id_list.LogEdits.{front};
 ghost use Rattle.raft_state.specs.log_id_list.LogKept.{HasIds};
@@ -140,6 +140,10 @@ pub(crate) fn append_new<NID: NodeId, N: Node, I: Instant, L: Drop, C: Ord + Cop
       accepted = state.new.accepted;
       committed = state.new.committed;
     } }
+    ensures log { OnOk result (IsTrue (same_log C.eq (full_log state.new.log_ids)
+        (log_with_new (full_log state.old.log_ids) new.now))) }
+    ensures may { OnOk result (IsTrue (may_take_new C.eq C.cmp new.now committed state.old)) }
+    ensures reason { IfErr result (IsNewRefusal C.eq C.cmp new.now committed state.old) }
     ensures refused { IfErr result (λ e. e ≢ OutOfMemory → state.new ≡ state.old) }
     ensures not_committed { OnErr result (state.new.committed ≡ state.old.committed) }
     ensures sound { IsSound C.eq C.cmp state.old → IsSound C.eq C.cmp state.new }
@@ -170,8 +174,9 @@ fn effective_after<NID: NodeId, N: Node, C: Ord + Copy, D>(
 ) -> Result<Option<LogIdOf<C>>, HandlerError>
     ensures effective { IfOk result (λ after. after ≡ effective_with effective entries.now) }
     ensures may { OnOk result (IsTrue (may_append_after C.cmp last effective entries.now)) }
-    ensures refused { OnErr result
-        (may_append_after C.cmp last effective entries.now ≡ false) }
+    ensures refused { IfErr result (RefusedUnless true true
+        (are_in_order C.cmp last entries.now)
+        (has_memberships_in_order C.cmp effective entries.now) true) }
     ensures no_memory { IfErr result (λ e. e ≢ OutOfMemory) }
 {
     match &last {
@@ -188,8 +193,9 @@ fn effective_by_each<NID: NodeId, N: Node, C: Ord + Copy, D>(
 ) -> Result<Option<LogIdOf<C>>, HandlerError>
     ensures effective { IfOk result (λ after. after ≡ effective_with effective entries.now) }
     ensures may { OnOk result (IsTrue (may_append_after C.cmp last effective entries.now)) }
-    ensures refused { OnErr result
-        (may_append_after C.cmp last effective entries.now ≡ false) }
+    ensures refused { IfErr result (RefusedUnless true true
+        (are_in_order C.cmp last entries.now)
+        (has_memberships_in_order C.cmp effective entries.now) true) }
     ensures no_memory { IfErr result (λ e. e ≢ OutOfMemory) }
 {
     let mut after = last;
@@ -280,8 +286,10 @@ fn can_commit<NID: NodeId, N: Node, I: Instant, L: Drop, C: Ord + Copy + Drop, D
 ) -> Result<(), HandlerError>
     ensures may { OnOk result (IsTrue (may_commit_with C.eq C.cmp (full_log state.now.log_ids)
         effective new.now state.now.committed committed)) }
-    ensures refused { OnErr result (may_commit_with C.eq C.cmp (full_log state.now.log_ids)
-        effective new.now state.now.committed committed ≡ false) }
+    ensures refused { IfErr result (RefusedUnless true true true
+        (allows_commit_past C.cmp effective state.now.committed committed)
+        (has_committed_with C.eq C.cmp (full_log state.now.log_ids) state.now.committed
+        new.now committed)) }
     ensures no_memory { IfErr result (λ e. e ≢ OutOfMemory) }
 {
     if !log_id_below(state.committed, committed) {

@@ -1,6 +1,7 @@
 use Rattle.std.proofs.Common.{◌≡◌, ap}
-use Rattle.std.proofs.lemmas.Result.{on_ok_weaker}
+use Rattle.std.proofs.lemmas.Result.{on_ok_weaker, IfErr-weaker}
 use Rattle.raft_handlers.proofs.EntryLemmas.{entries_consecutive, entries_present, prev_stays, slice_rest}
+use Rattle.raft_handlers.proofs.lemmas.RefusalLemmas.{take_refused}
 use Rattle.raft_handlers.proofs.append.take_entries.Goals as goal
 
 pub returns-clause-has_prev : goal.returns-clause-has_prev
@@ -41,3 +42,18 @@ returns-clause-memberships g c =
     let place = c.in-Some.ensures.place in
     let rest = slice_rest c.in-Some.place c.args.entries.now in
     rw (← place) (rw rest at c.append_new.ensures.memberships)
+
+pub returns-clause-may : goal.returns-clause-may
+returns-clause-may g c =
+    let place = c.in-Some.ensures.place in
+    let rest = slice_rest c.in-Some.place c.args.entries.now in
+    rw (← place) (rw rest at c.append_new.ensures.may)
+
+pub returns-clause-reason : goal.returns-clause-reason
+returns-clause-reason g c =
+    let s = c.args.state.now in
+    let es = c.args.entries.now in
+    let rest = slice_rest c.in-Some.place es in
+    IfErr-weaker c.append_new.result _ _
+    (λ e h. take_refused g.C.PartialEq.eq g.C.Ord.cmp c.args.prev es s c.args.committed c.in-Some.place e c.in-Some.ensures.place h)
+    (rw rest at c.append_new.ensures.reason)

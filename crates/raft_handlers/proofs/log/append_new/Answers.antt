@@ -13,6 +13,7 @@ use Rattle.raft_handlers.proofs.EntryLemmas.{
   memberships_first,
   no_first,
   replaced_first,
+  same_log_itself,
 }
 use Rattle.raft_handlers.specs.Append.{KeepsBelow}
 use Rattle.raft_members.specs.membership.Stored.{log_id_of}
@@ -148,3 +149,9 @@ returns-clause-consecutive g c =
     let may = and_parts _ _ c.in_ok-effective.ensures.may in
     let row = (and_parts _ _ may.0).1 in
     on_ok_weaker c.commit-2.result (λ _. follow_of c.last_below.result c.args.new.now row) c.commit-2.ensures.ok
+
+pub returns-in_default-clause-log : goal.returns-in_default-clause-log
+returns-in_default-clause-log g c =
+    let none = no_first c.args.new.now (rw c.in_default.is at c.first.ensures.value) in
+    on_ok_weaker c.commit.result (λ _. rw (none, c.commit.ensures.log)
+    (same_log_itself g.C.PartialEq.eq g.met.C.Eq.laws (full_log c.args.state.now.log_ids))) c.commit.ensures.ok

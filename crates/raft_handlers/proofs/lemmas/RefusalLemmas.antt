@@ -1,0 +1,160 @@
+-- Why entries are refused.
+use Rattle.std.proofs.Common.{◌≡◌, ℕ, Bool, true, false, ◌&&◌, List, Option, drop, if◌then◌else◌, refl, subst, sym, true≢false, ◌∙◌}
+use Rattle.std.proofs.lemmas.Bool.{and_parts, and_right}
+use Rattle.std.specs.List.{prefix_len}
+use Rattle.std.specs.Cmp.Derive.{both_true}
+use Rattle.std.specs.declared.cmp.Ordering.{Ordering}
+use Rattle.raft_base.specs.LogId.{id_lt}
+use Rattle.raft_base.specs.declared.log_id.LogIdOf.{LogIdOf}
+use Rattle.raft_handlers.specs.Append.{
+  has_entry,
+  last_of,
+  least,
+  may_cut_at,
+  may_take,
+  new_of,
+  IsAppendRefusal,
+  IsAppendRefusalBy,
+  IsTakeRefusal,
+}
+use Rattle.raft_handlers.specs.Entries.{
+  allows_commit,
+  allows_commit_past,
+  are_in_order,
+  effective_before,
+  effective_with,
+  entry_ids,
+  has_committed_with,
+  has_members_in_order,
+  has_memberships_in_order,
+  has_with,
+  keeps_committed,
+  last_before,
+  may_commit_with,
+  may_take_new,
+  IsNewRefusal,
+  RefusedUnless,
+}
+use Rattle.raft_handlers.specs.declared.error.HandlerError.{HandlerError}
+use Rattle.raft_handlers.specs.declared.error.HandlerError.TheVariants.{
+  CommittedNotLogged,
+  HigherVote,
+  InvalidMembership,
+  MembershipNotInOrder,
+  NoNextIndex,
+  NoNextTerm,
+  NotAllowed,
+  NotElected,
+  NotInMembers,
+  NotInOrder,
+  NotLeader,
+  NotLogged,
+  NotVoter,
+  OutOfMemory,
+  ResponseRefused,
+  SnapshotDoesNotFit,
+  TruncatesCommitted,
+  UnknownMember,
+}
+use Rattle.raft_state.specs.log_id_list.FullLog.{full_log}
+use Rattle.raft_state.specs.raft_state.Appended.{are_consecutive}
+use Rattle.raft_state.specs.raft_state.Sound.{purged_or_logged}
+use Rattle.raft_state.specs.declared.entry.EntryOf.{EntryOf}
+use Rattle.raft_state.specs.declared.raft_state.RaftStateIn.{RaftStateIn}
+
+-- conditions that hold only if others do have the same refusals, and more
+module _ (f k o m h f2 k2 o2 m2 h2 : Bool) (fits : f ≡ false → f2 ≡ false) (keeps : k ≡ false → k2 ≡ false)
+    (order : o ≡ false → o2 ≡ false) (members : m ≡ false → m2 ≡ false) (has : h ≡ false → h2 ≡ false) where
+  pub refused_unless_more : (e : HandlerError) → RefusedUnless f k o m h e → RefusedUnless f2 k2 o2 m2 h2 e
+  refused_unless_more OutOfMemory r = r
+  refused_unless_more NotInOrder r = order r
+  refused_unless_more TruncatesCommitted r = keeps r
+  refused_unless_more MembershipNotInOrder r = members r
+  refused_unless_more CommittedNotLogged r = has r
+  refused_unless_more NotVoter r = absurd r
+  refused_unless_more NoNextTerm r = absurd r
+  refused_unless_more NotElected r = absurd r
+  refused_unless_more NotLeader r = absurd r
+  refused_unless_more NoNextIndex r = absurd r
+  refused_unless_more UnknownMember r = absurd r
+  refused_unless_more HigherVote r = absurd r
+  refused_unless_more (ResponseRefused x) r = absurd r
+  refused_unless_more NotLogged r = absurd r
+  refused_unless_more SnapshotDoesNotFit r = fits r
+  refused_unless_more NotAllowed r = absurd r
+  refused_unless_more NotInMembers r = absurd r
+  refused_unless_more InvalidMembership r = absurd r
+
+-- if all conditions hold, only an allocation may have failed
+pub only_memory : (e : HandlerError) → RefusedUnless true true true true true e → e ≡ OutOfMemory
+only_memory OutOfMemory r = refl
+only_memory NotInOrder r = absurd (true≢false r)
+only_memory TruncatesCommitted r = absurd (true≢false r)
+only_memory MembershipNotInOrder r = absurd (true≢false r)
+only_memory CommittedNotLogged r = absurd (true≢false r)
+only_memory NotVoter r = absurd r
+only_memory NoNextTerm r = absurd r
+only_memory NotElected r = absurd r
+only_memory NotLeader r = absurd r
+only_memory NoNextIndex r = absurd r
+only_memory UnknownMember r = absurd r
+only_memory HigherVote r = absurd r
+only_memory (ResponseRefused x) r = absurd r
+only_memory NotLogged r = absurd r
+only_memory SnapshotDoesNotFit r = absurd (true≢false r)
+only_memory NotAllowed r = absurd r
+only_memory NotInMembers r = absurd r
+only_memory InvalidMembership r = absurd r
+
+may_commit_parts : {K N C D : Type 0} (eq : C → C → Bool) (cmp : C → C → Ordering) (log : List (LogIdOf C))
+    (effective before id : Option (LogIdOf C)) (new : List (EntryOf C K N D)) → may_commit_with eq cmp log effective new before id ≡ true
+    → (has_committed_with eq cmp log before new id ≡ true) × (allows_commit_past cmp effective before id ≡ true)
+may_commit_parts eq cmp log effective before id new may = by (id_lt cmp before id) may
+  where
+    by : (t : Bool) → (if t then has_with eq log (entry_ids new) id && allows_commit cmp effective id else true) ≡ true
+        → ((if t then has_with eq log (entry_ids new) id else true) ≡ true)
+        × ((if t then allows_commit cmp effective id else true) ≡ true)
+    by true h = and_parts (has_with eq log (entry_ids new) id) (allows_commit cmp effective id) h
+    by false h = (refl, refl)
+
+module _ {K N I L C D : Type 0} (eq : C → C → Bool) (cmp : C → C → Ordering) (prev : Option (LogIdOf C)) (es : List (EntryOf C K N D))
+    (s : RaftStateIn K N I L C) where
+  -- new entries are refused for what the entries of a request are refused for
+  pub take_refused : (id : Option (LogIdOf C)) (place : ℕ) (e : HandlerError) → place ≡ prefix_len (has_entry eq s) es
+      → IsNewRefusal eq cmp (drop place es) id s e → IsTakeRefusal eq cmp prev es id s e
+  take_refused id place e is refused =
+      let new = new_of eq s es in
+      let order = are_in_order cmp (last_before new s) new in
+      let members = has_members_in_order cmp new id s in
+      let has = has_committed_with eq cmp (full_log s.log_ids) s.committed new id in
+      refused_unless_more true (keeps_committed cmp new s) order members has true (keeps_committed cmp new s)
+      (are_consecutive prev (entry_ids es) && order) members has (λ h. h) (λ h. h)
+      (λ h. and_right (are_consecutive prev (entry_ids es)) order h) (λ h. h) (λ h. h) e
+      (subst (λ (n : ℕ). IsNewRefusal eq cmp (drop n es) id s e) is refused)
+
+  -- a request that may be taken is refused only if an allocation failed
+  pub taken_error : (committed : Option (LogIdOf C)) (e : HandlerError) → may_take eq cmp prev es committed s ≡ true
+      → IsAppendRefusal eq cmp prev es committed s e → e ≡ OutOfMemory
+  taken_error committed e may refused = by (purged_or_logged eq s prev) may refused
+    where
+      by : (t : Bool) → (if t then are_consecutive prev (entry_ids es)
+          && may_take_new eq cmp (new_of eq s es) (least cmp committed (last_of prev es)) s
+          else may_cut_at cmp prev s) ≡ true
+          → IsAppendRefusalBy t eq cmp prev es (least cmp committed (last_of prev es)) s e → e ≡ OutOfMemory
+      by true h r =
+          let new = new_of eq s es in
+          let id = least cmp committed (last_of prev es) in
+          let order = are_in_order cmp (last_before new s) new in
+          let members = has_memberships_in_order cmp (effective_before new s) new in
+          let effective = effective_with (effective_before new s) new in
+          let commit = may_commit_with eq cmp (full_log s.log_ids) effective new s.committed id in
+          let a = and_parts (are_consecutive prev (entry_ids es)) (may_take_new eq cmp new id s) h in
+          let b = and_parts (keeps_committed cmp new s) (order && members && commit) a.1 in
+          let d = and_parts (order && members) commit b.1 in
+          let f = and_parts order members d.0 in
+          let m = may_commit_parts eq cmp (full_log s.log_ids) effective s.committed id new d.1 in
+          only_memory e (refused_unless_more true (keeps_committed cmp new s) (are_consecutive prev (entry_ids es) && order)
+          (has_members_in_order cmp new id s) (has_committed_with eq cmp (full_log s.log_ids) s.committed new id) true true true true true
+          (λ k. k) (λ k. sym b.0 ∙ k) (λ k. sym (both_true a.0 f.0) ∙ k) (λ k. sym (both_true f.1 m.1) ∙ k) (λ k. sym m.0 ∙ k) e r)
+      by false h r = only_memory e (refused_unless_more true (may_cut_at cmp prev s) true true true true true true true true
+          (λ k. k) (λ k. sym h ∙ k) (λ k. k) (λ k. k) (λ k. k) e r)
