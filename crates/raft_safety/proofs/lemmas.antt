@@ -18,3 +18,4 @@ pub mod CheckerStepLemmas
 pub mod CheckerCodeLemmas
 pub mod RankLemmas
 pub mod ScenarioLemmas
+pub mod MergeLemmas

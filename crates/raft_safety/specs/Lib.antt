@@ -13,3 +13,4 @@ pub mod Scenarios
 pub mod CheckerState
 pub mod Checker
 pub mod Memberships
+pub mod Merge

@@ -7,6 +7,7 @@ pub mod entry;
 pub mod event;
 pub mod laws;
 pub mod memberships;
+pub mod merge;
 pub mod rule;
 pub mod scenarios;
 pub mod term;

@@ -1,105 +1,13 @@
 //! The checker accepts what servers do, and refuses each of these events for its rule.
 
+use crate::recorded::{
+    Recorded, acked, appended, applied, campaigned, committed, granted, restarted, three, wrote,
+};
 use raft_safety::check::{Refused, check};
 use raft_safety::checker::Violation;
-use raft_safety::entry::Entry;
-use raft_safety::event::Event;
-use raft_safety::memberships::Memberships;
 use raft_safety::rule::Rule;
 use std::alloc::{AllocError, Global};
 use std::test::Fail;
-
-type Recorded = Event<u64, u64, u64>;
-
-fn campaigned(server: u64, term: u64) -> Recorded {
-    Event::Campaigned { server, term }
-}
-
-fn granted(server: u64, term: u64, candidate: u64) -> Recorded {
-    Event::Granted {
-        server,
-        term,
-        candidate,
-    }
-}
-
-fn acked(server: u64, term: u64, leader: u64, len: usize) -> Recorded {
-    Event::Acked {
-        server,
-        term,
-        leader,
-        len,
-    }
-}
-
-fn restarted(server: u64, len: usize) -> Recorded {
-    Event::Restarted { server, len }
-}
-
-fn wrote(leader: u64, term: u64, entry: (u64, u64)) -> Recorded {
-    Event::Wrote {
-        leader,
-        term,
-        entry: Entry {
-            term: entry.0,
-            content: entry.1,
-        },
-    }
-}
-
-fn committed(leader: u64, term: u64, len: usize, counted_at: usize) -> Recorded {
-    Event::Committed {
-        leader,
-        term,
-        len,
-        counted_at,
-    }
-}
-
-fn applied(server: u64, term: u64, leader: u64, len: usize) -> Recorded {
-    Event::Applied {
-        server,
-        term,
-        leader,
-        len,
-    }
-}
-
-/// A server keeps so many entries, and appends one or none.
-fn appended(
-    alloc: Global,
-    ids: (u64, u64, u64),
-    keep: usize,
-    entry: Option<(u64, u64)>,
-) -> Result<Recorded, AllocError> {
-    let mut entries = Vec::new(alloc);
-    if let Some((term, content)) = entry {
-        entries.push(Entry { term, content })?;
-    }
-    let (server, term, leader) = ids;
-    Ok(Event::Appended {
-        server,
-        term,
-        leader,
-        keep,
-        entries,
-    })
-}
-
-/// Quorums of servers 0, 1 and 2; content 100 holds the joint membership with 2, 3 and 4, and content
-/// 101 the membership of these alone.
-fn three(alloc: Global) -> Result<Memberships<u64, u64>, AllocError> {
-    Ok(Memberships {
-        initial: vec![in alloc; vec![in alloc; 0, 1, 2]?]?,
-        held: vec![in alloc;
-            (
-                100,
-                vec![in alloc; vec![in alloc; 0, 1, 2]?, vec![in alloc; 2, 3, 4]?]?
-            ),
-            (101, vec![in alloc; vec![in alloc; 2, 3, 4]?]?),
-        ]?,
-    })
-}
 
 /// Server 0 leads in term 1 with a vote of server 1, and has an entry. Server 2, which has no
 /// entry, campaigns in term 2.

@@ -1,0 +1,72 @@
+use Rattle.std.proofs.Common.{◌≡◌, ◌<◌, ◌∙◌, [], ◌∷◌, length, refl, sym, ap, inl, inr, arith}
+use Rattle.std.proofs.lemmas.List.{length-replicate, with_items_is}
+use Rattle.raft_safety.specs.Checker.{event_of}
+use Rattle.raft_safety.proofs.lemmas.MergeLemmas.{all_placed, left, placed_less}
+use Rattle.raft_safety.proofs.lemmas.TraceLemmas.{trace_is_safe}
+use Rattle.raft_safety.proofs.merge.check_each.Goals as goal
+
+pub loop-checker-init : goal.loop-checker-init
+loop-checker-init g c =
+    let items = c.in-Ok.ensures.items_if_clones_equal (λ y e. e) in
+    record {
+      configs = c.in-Ok-new.ensures.ok;
+      counts = ap length items ∙ length-replicate (length c.args.lists.now) 0;
+      seen = λ exact. ([], c.in-Ok-new.ensures.begins, items);
+    }
+
+pub record_next-requires : goal.record_next-requires
+record_next-requires g c = rw c.deref_mut.ensures.value c.loop-checker.invariant.counts
+
+pub loop-checker-smaller : goal.loop-checker-smaller
+loop-checker-smaller g c =
+    let less = placed_less (c.in-Ok-true.ensures.more c.in-Ok-true.field-0-test) in
+    let less_now : left c.args.lists.now c.record_next.new.placed < left c.args.lists.now c.loop-checker.placed.items =
+    rw c.deref_mut.ensures.value at less in
+    let items = with_items_is c.loop-checker.placed c.record_next.new.placed (omega arith) in
+    rw items less_now
+
+pub loop-checker-preserved : goal.loop-checker-preserved
+loop-checker-preserved g c =
+    let items = with_items_is c.loop-checker.placed c.record_next.new.placed (omega arith) in
+    record {
+      configs = c.in-Ok-true.ensures.configs ∙ c.loop-checker.invariant.configs;
+      counts = rw items (c.record_next.auto.placed ∙ rw c.deref_mut.ensures.value c.loop-checker.invariant.counts);
+      seen = λ exact.
+          let before = c.loop-checker.invariant.seen exact in
+          let next =
+          ((rw (c.loop-checker.invariant.configs, c.deref_mut.ensures.value) at c.in-Ok-true.ensures.records) exact before.0 before.1).0
+          c.in-Ok-true.field-0-test in (
+            event_of next.0.event ∷ before.0,
+            next.1,
+            rw items (c.loop-checker.placed.items, next.0, refl, before.2),
+          );
+    }
+
+pub returns-in-Ok-false-clause-safe : goal.returns-in-Ok-false-clause-safe
+returns-in-Ok-false-clause-safe g c = λ exact.
+    let before = c.loop-checker.invariant.seen exact in
+    let ended = rw c.deref_mut.ensures.value at (c.in-Ok-false.ensures.ended c.in-Ok-false.field-0-test).1 in
+    record {
+      trace = before.0;
+      interleaves = all_placed c.args.lists.now c.loop-checker.placed.items before.0 before.2 ended;
+      allowed = before.1.allowed;
+      safe = λ ranks. trace_is_safe _ exact before.0 ranks before.1.allowed;
+    }
+
+pub returns-in-Err-record_next-clause-refused : goal.returns-in-Err-record_next-clause-refused
+returns-in-Err-record_next-clause-refused g c = λ exact.
+    let before = c.loop-checker.invariant.seen exact in
+    let items = with_items_is c.loop-checker.placed c.record_next.new.placed (omega arith) in
+    let same : c.record_next.new.placed ≡ c.loop-checker.placed.items =
+    c.in-Err-record_next.ensures.same ∙ c.deref_mut.ensures.value in
+    let refused = (rw (c.loop-checker.invariant.configs, same) at c.in-Err-record_next.ensures.records) exact before.0 before.1 in
+    rw (items, same) (elim refused [
+      | inl memory ↦ inl memory
+      | inr each ↦
+        inr (inr (record {
+          trace = before.0;
+          interleaves = before.2;
+          allowed = before.1.allowed;
+          refused = each;
+        }))
+    ])

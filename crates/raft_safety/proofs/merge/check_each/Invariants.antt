@@ -1,0 +1,25 @@
+use Rattle.std.proofs.Common.{◌≡◌, List, length}
+use Rattle.raft_safety.specs.Trace.{AreExact, TraceEvent}
+use Rattle.raft_safety.specs.Checker.{HasSeen, tests_of}
+use Rattle.raft_safety.specs.Merge.{Interleaves}
+use Rattle.raft_safety.proofs.lemmas.MergeLemmas.{left}
+use Rattle.raft_safety.proofs.merge.check_each.Given as goal
+
+-- what was recorded interleaves what was placed
+abbrev pub invariant-loop-checker : goal.invariant-loop-checker
+invariant-loop-checker g l =
+    let k =
+    tests_of g.T.Term.rank g.T.PartialEq.eq g.N.PartialEq.eq g.D.PartialEq.eq
+    (g.C.Configs.holds_config l.fn.configs) (g.C.Configs.has_quorum l.fn.configs)
+    (g.C.Configs.intersects l.fn.configs) in
+    record {
+      configs : l.checker.configs ≡ l.fn.configs;
+      counts : length l.placed.items ≡ length l.lists;
+      seen : AreExact k
+          → (es : List (TraceEvent g.row.T.Denot g.row.N.Denot g.row.D.Denot))
+          × HasSeen k es l.checker.servers.items l.checker.leaders.items
+          × Interleaves l.lists l.placed.items es;
+    }
+
+abbrev pub decreases-loop-checker : goal.decreases-loop-checker
+decreases-loop-checker g l = left l.lists l.placed.items

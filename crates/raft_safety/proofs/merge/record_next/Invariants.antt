@@ -1,0 +1,21 @@
+use Rattle.std.proofs.Common.{◌≡◌, List, None}
+use Rattle.raft_safety.specs.Trace.{AreExact, TraceEvent}
+use Rattle.raft_safety.specs.Checker.{HasSeen, tests_of}
+use Rattle.raft_safety.proofs.lemmas.MergeLemmas.{AreEnded, AreTried}
+use Rattle.raft_safety.proofs.merge.record_next.Given as goal
+
+abbrev pub invariant-loop-i : goal.invariant-loop-i
+invariant-loop-i g l =
+    let k =
+    tests_of g.T.Term.rank g.T.PartialEq.eq g.N.PartialEq.eq g.D.PartialEq.eq
+    (g.C.Configs.holds_config l.fn.checker.configs) (g.C.Configs.has_quorum l.fn.checker.configs)
+    (g.C.Configs.intersects l.fn.checker.configs) in
+    record {
+      configs : l.checker.configs ≡ l.fn.checker.configs;
+      placed : l.placed ≡ l.fn.placed;
+      ended : l.refused ≡ None → AreEnded l.lists l.fn.placed l.i;
+      tried : AreExact k → (es : List (TraceEvent g.row.T.Denot g.row.N.Denot g.row.D.Denot))
+          → HasSeen k es l.fn.checker.servers.items l.fn.checker.leaders.items
+          → HasSeen k es l.checker.servers.items l.checker.leaders.items
+          × AreTried k l.lists l.fn.placed es l.i l.refused;
+    }

@@ -1,0 +1,115 @@
+-- Lists of recorded events without an order between them, and the traces that interleave them.
+use Rattle.std.specs.Prelude.{
+  ◌≡◌,
+  ◌≢◌,
+  ◌⊎◌,
+  ◌+◌,
+  ◌≤◌,
+  ℕ,
+  true,
+  false,
+  Some,
+  None,
+  Option,
+  Result,
+  Bool,
+  List,
+  [],
+  ◌∷◌,
+  length,
+  map,
+  set,
+  replicate,
+  slice_get,
+}
+use Rattle.std.specs.Result.{MatchResult}
+use Rattle.std.specs.Global.{Vec}
+use Rattle.raft_safety.specs.Trace.{TraceEvent, Tests, AreExact, IsSafeTrace, TermsHaveRanks, are_allowed}
+use Rattle.raft_safety.specs.Checker.{HasSeen, broken_rule, event_of}
+use Rattle.raft_safety.specs.declared.checker.Checker.{Checker}
+use Rattle.raft_safety.specs.declared.checker.violation.Violation.{Violation}
+use Rattle.raft_safety.specs.declared.checker.violation.Violation.TheVariants.{OutOfMemory, Rule as BreaksRule}
+use Rattle.raft_safety.specs.declared.rule.Rule.{Rule}
+use Rattle.raft_safety.specs.declared.event.Event.{Event as RecordedEvent}
+
+module _ {T ID D : Type 0} (lists : List (Vec (RecordedEvent T ID D))) where
+  -- `placed` says how many first events of each list are placed. This event is the next one of a list,
+  -- of which so many are placed
+  pub record IsNext (placed : List ℕ) (list count : ℕ) (e : RecordedEvent T ID D) : Type 0 where
+    pub events : Vec (RecordedEvent T ID D)
+    pub events_are : slice_get lists list ≡ Some events
+    pub count_is : slice_get placed list ≡ Some count
+    pub is : slice_get events.items count ≡ Some e
+
+  -- the next event of a list is placed
+  pub record IsPlaced (before placed : List ℕ) : Type 0 where
+    pub list : ℕ
+    pub count : ℕ
+    pub event : RecordedEvent T ID D
+    pub next : IsNext before list count event
+    pub is : placed ≡ set before list (count + 1)
+
+  -- a trace, the latest first, interleaves so many first events of each list: the latest event was the
+  -- next one of a list, after the earlier ones had interleaved the others
+  abbrev pub Interleaves : List ℕ → List (TraceEvent T ID D) → Type 0
+  Interleaves placed [] = placed ≡ replicate (length lists) 0
+  Interleaves placed (e ∷ es) =
+      (before : List ℕ) × (next : IsPlaced before placed) × (e ≡ event_of next.event)
+      × Interleaves before es
+
+  -- all events of each list are placed
+  abbrev pub AreAllPlaced : List ℕ → Type 0
+  AreAllPlaced placed =
+      (i n : ℕ) (l : Vec (RecordedEvent T ID D)) → slice_get lists i ≡ Some l
+      → slice_get placed i ≡ Some n → length l.items ≤ n
+
+module _ {T ID D : Type 0} (k : Tests T ID D (Option D))
+    (lists : List (Vec (RecordedEvent T ID D))) where
+  -- a trace that is allowed, and so safe, interleaves all events of the lists
+  pub record HaveSafeOrder : Type 0 where
+    pub trace : List (TraceEvent T ID D)
+    pub interleaves : Interleaves lists (map (λ l. length l.items) lists) trace
+    pub allowed : are_allowed k trace ≡ true
+    pub safe : TermsHaveRanks k trace → IsSafeTrace k trace
+
+  -- after a trace the next event of this list breaks a rule
+  pub record IsRefused (placed : List ℕ) (es : List (TraceEvent T ID D)) (list : ℕ) (rule : Rule)
+    : Type 0 where
+      pub count : ℕ
+      pub event : RecordedEvent T ID D
+      pub is_next : IsNext lists placed list count event
+      pub breaks : broken_rule k (event_of event) es ≡ Some rule
+
+  -- after a trace no list has a next event that is allowed, and that of this list breaks this rule
+  pub record AreRefused (placed : List ℕ) (es : List (TraceEvent T ID D)) (list : ℕ) (v : Violation)
+    : Type 0 where
+      pub none_allowed : (i n : ℕ) (e : RecordedEvent T ID D) → IsNext lists placed i n e
+          → broken_rule k (event_of e) es ≢ None
+      pub rule : Rule
+      pub is_rule : v ≡ BreaksRule rule
+      pub refused : IsRefused placed es list rule
+
+  -- a trace that is allowed interleaves so many first events of each list, and after it no list has a
+  -- next event that is allowed. That of this list is refused for this violation
+  pub record IsStuck (placed : List ℕ) (list : ℕ) (v : Violation) : Type 0 where
+    pub trace : List (TraceEvent T ID D)
+    pub interleaves : Interleaves lists placed trace
+    pub allowed : are_allowed k trace ≡ true
+    pub refused : AreRefused placed trace list v
+
+  -- memory ran out, quorums of the initial config do not intersect, or merging is stuck
+  abbrev pub IsRefusedMerge : List ℕ → ℕ → Violation → Type 0
+  IsRefusedMerge placed list v =
+      (v ≡ OutOfMemory) ⊎ (k.intersect k.initial k.initial ≡ false) ⊎ IsStuck placed list v
+
+  -- the checker records the next event of a list, or no event is left; or the next event of each list
+  -- is refused
+  abbrev pub RecordsNext : {C : Type 0} → List ℕ → Checker T ID D C → List ℕ → Checker T ID D C
+      → Result Bool (ℕ × Violation) → Type 0
+  RecordsNext placed old new_placed new result =
+      AreExact k → (es : List (TraceEvent T ID D)) → HasSeen k es old.servers.items old.leaders.items
+      → MatchResult result
+      (λ more. (more ≡ true → (next : IsPlaced lists placed new_placed)
+      × HasSeen k (event_of next.event ∷ es) new.servers.items new.leaders.items)
+      × (more ≡ false → HasSeen k es new.servers.items new.leaders.items))
+      (λ r. (r.1 ≡ OutOfMemory) ⊎ AreRefused new_placed es r.0 r.1)

@@ -1,0 +1,125 @@
+//! Checking lists of events without an order between them.
+ghost use Rattle.std.specs.Prelude.{◌≡◌, length, IfErr, IfOk, IsFalse, IsTrue, OnErr, OnOk};
+ghost use Rattle.raft_safety.specs.Trace.{AreExact};
+ghost use Rattle.raft_safety.specs.Checker.{configs_of, tests_of};
+ghost use Rattle.raft_safety.specs.Merge.{AreAllPlaced, HaveSafeOrder, IsPlaced, IsRefusedMerge, RecordsNext};
+
+use crate::checker::{Checker, Configs, Violation};
+use crate::event::Event;
+use crate::term::Term;
+use std::alloc::Global;
+use thiserror::Error;
+
+/// Events that could not be placed.
+#[derive(Debug, Drop, Error)]
+#[error("list {list}: {violation}")]
+pub struct Unplaced {
+    /// How many first events of each list were placed.
+    pub placed: Vec<usize>,
+    /// The first list whose events were not all placed.
+    pub list: usize,
+    /// What the next event of this list is refused for.
+    pub violation: Violation,
+}
+
+/// Checks that lists of events, one of each server, have an order in which each event was allowed.
+///
+/// Events of one list stay in their order. It places one event after the other, the next one of the
+/// first list whose next event is allowed. So it tries at most as many events for each one that it
+/// places as there are lists.
+///
+/// If it returns `Ok`, the order in which the events were placed is an execution in which every server
+/// keeps the rules, so it is safe.
+///
+/// # Errors
+///
+/// The events that could not be placed: the next event of each list is refused after those that were
+/// placed. It is not proved that no other order would be allowed. Or out of memory.
+pub fn check_each<T: Term, N: Copy + Eq, D: Copy + Eq, C: Configs<N, D> + Drop>(
+    alloc: Global,
+    configs: C,
+    lists: &[Vec<Event<T, N, D>>],
+) -> Result<(), Unplaced>
+    ensures safe { OnOk result (AreExact (tests_of T.rank T.eq N.eq D.eq (C.holds_config configs)
+        (C.has_quorum configs) (C.intersects configs)) →
+        HaveSafeOrder (tests_of T.rank T.eq N.eq D.eq (C.holds_config configs)
+        (C.has_quorum configs) (C.intersects configs)) lists.now) }
+    ensures refused { IfErr result (λ u. AreExact (tests_of T.rank T.eq N.eq D.eq
+        (C.holds_config configs) (C.has_quorum configs) (C.intersects configs)) →
+        IsRefusedMerge (tests_of T.rank T.eq N.eq D.eq (C.holds_config configs)
+        (C.has_quorum configs) (C.intersects configs)) lists.now u.placed.items u.list u.violation) }
+{
+    let Ok(mut placed) = vec![in alloc; 0; lists.len()] else {
+        return Err(Unplaced {
+            placed: Vec::new(alloc),
+            list: 0,
+            violation: Violation::OutOfMemory,
+        });
+    };
+    let mut checker = match Checker::new(alloc, configs) {
+        Ok(checker) => checker,
+        Err(violation) => {
+            return Err(Unplaced {
+                placed,
+                list: 0,
+                violation,
+            });
+        }
+    };
+    loop {
+        match record_next(&mut checker, lists, &mut placed) {
+            Ok(true) => {}
+            Ok(false) => return Ok(()),
+            Err((list, violation)) => {
+                return Err(Unplaced {
+                    placed,
+                    list,
+                    violation,
+                });
+            }
+        }
+    }
+}
+
+/// Records the next event of the first list whose next event is allowed. Returns whether an event was
+/// left.
+///
+/// # Errors
+///
+/// If the next event of each list is refused, the first list with an event left, and what this event
+/// is refused for. Or out of memory.
+fn record_next<T: Term, N: Copy + Eq, D: Copy + Eq, C: Configs<N, D> + Drop>(
+    checker: &mut Checker<T, N, D, C>,
+    lists: &[Vec<Event<T, N, D>>],
+    placed: &mut [usize],
+) -> Result<bool, (usize, Violation)>
+    requires { length placed.old ≡ length lists.now }
+    ensures configs { configs_of checker.new ≡ configs_of checker.old }
+    ensures more { IfOk result (λ more. IsTrue more → IsPlaced lists.now placed.old placed.new) }
+    ensures ended { IfOk result (λ more. IsFalse more →
+        (placed.new ≡ placed.old) × AreAllPlaced lists.now placed.old) }
+    ensures same { OnErr result (placed.new ≡ placed.old) }
+    ensures records { RecordsNext (tests_of T.rank T.eq N.eq D.eq
+        (C.holds_config (configs_of checker.old)) (C.has_quorum (configs_of checker.old))
+        (C.intersects (configs_of checker.old))) lists.now
+        placed.old checker.old placed.new checker.new result }
+{
+    let mut refused = None;
+    for i in 0..lists.len() {
+        let events = &lists[i];
+        if placed[i] < events.len() {
+            match checker.record(&events[placed[i]]) {
+                Ok(()) => {
+                    placed[i] += 1;
+                    return Ok(true);
+                }
+                Err(Violation::Rule(rule)) => refused = refused.or(Some((i, rule))),
+                Err(Violation::OutOfMemory) => return Err((i, Violation::OutOfMemory)),
+            }
+        }
+    }
+    match refused {
+        Some((i, rule)) => Err((i, Violation::Rule(rule))),
+        None => Ok(false),
+    }
+}
