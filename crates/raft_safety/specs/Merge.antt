@@ -74,20 +74,20 @@ module _ {T ID D : Type 0} (k : Tests T ID D (Option D))
 
   -- after a trace the next event of this list breaks a rule
   pub record IsRefused (placed : List ℕ) (es : List (TraceEvent T ID D)) (list : ℕ) (rule : Rule)
-    : Type 0 where
-      pub count : ℕ
-      pub event : RecordedEvent T ID D
-      pub is_next : IsNext lists placed list count event
-      pub breaks : broken_rule k (event_of event) es ≡ Some rule
+      : Type 0 where
+    pub count : ℕ
+    pub event : RecordedEvent T ID D
+    pub is_next : IsNext lists placed list count event
+    pub breaks : broken_rule k (event_of event) es ≡ Some rule
 
   -- after a trace no list has a next event that is allowed, and that of this list breaks this rule
   pub record AreRefused (placed : List ℕ) (es : List (TraceEvent T ID D)) (list : ℕ) (v : Violation)
-    : Type 0 where
-      pub none_allowed : (i n : ℕ) (e : RecordedEvent T ID D) → IsNext lists placed i n e
-          → broken_rule k (event_of e) es ≢ None
-      pub rule : Rule
-      pub is_rule : v ≡ BreaksRule rule
-      pub refused : IsRefused placed es list rule
+      : Type 0 where
+    pub none_allowed : (i n : ℕ) (e : RecordedEvent T ID D) → IsNext lists placed i n e
+        → broken_rule k (event_of e) es ≢ None
+    pub rule : Rule
+    pub is_rule : v ≡ BreaksRule rule
+    pub refused : IsRefused placed es list rule
 
   -- a trace that is allowed interleaves so many first events of each list, and after it no list has a
   -- next event that is allowed. That of this list is refused for this violation

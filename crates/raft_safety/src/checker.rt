@@ -315,7 +315,12 @@ fn leader_at<T: Term, N: Copy + Eq, D: Copy + Eq>(
     ensures place { result ≡ position (λ l. T.eq l.term term && N.eq l.id id) leaders.now }
     ensures within { IfSome result (λ j. j < length leaders.now) }
 {
-    leaders.iter().position(|l| l.term == term && l.id == id)
+    for (j, leader) in leaders.iter().enumerate() {
+        if leader.term == term && leader.id == id {
+            return Some(j);
+        }
+    }
+    None
 }
 
 /// Whether a leader of a term of at most this rank has committed these entries.
@@ -326,7 +331,12 @@ fn any_knows<T: Term, N: Copy + Eq, D: Copy + Eq>(
 ) -> bool
     ensures { result ≡ list_any (knows T.rank (same_entry_by T.eq D.eq) rank prefix.now) leaders.now }
 {
-    leaders.iter().any(|l| knows(l, rank, prefix))
+    for leader in leaders {
+        if knows(leader, rank, prefix) {
+            return true;
+        }
+    }
+    false
 }
 
 /// Returns the place of a server. One of which nothing is kept is added.
@@ -344,23 +354,12 @@ fn server_at<T: Term, N: Copy + Eq, D: Copy + Eq>(
     ensures within { IfOk result (λ i. i < length servers.new.items) }
     ensures err { OnErr result (servers.new.items ≡ servers.old.items) }
 {
-    match place_of(servers, id) {
-        Some(i) => Ok(i),
-        None => {
-            let i = servers.len();
-            servers.push(Server::new(alloc, id))?;
-            Ok(i)
+    for (i, server) in servers.iter().enumerate() {
+        if server.id == id {
+            return Ok(i);
         }
     }
-}
-
-/// Returns the place of a server, if something is kept of it.
-fn place_of<T: Term, N: Copy + Eq, D: Copy + Eq>(
-    servers: &[Server<T, N, D>],
-    id: N,
-) -> Option<usize>
-    ensures place { result ≡ position (λ s. N.eq s.id id) servers.now }
-    ensures within { IfSome result (λ i. i < length servers.now) }
-{
-    servers.iter().position(|s| s.id == id)
+    let i = servers.len();
+    servers.push(Server::new(alloc, id))?;
+    Ok(i)
 }

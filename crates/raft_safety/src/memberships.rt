@@ -32,7 +32,12 @@ impl<N: Copy + Ord, D: Copy + Eq> Configs<N, D> for Memberships<N, D> {
         (configs_of D.eq m.initial.items (map (λ p. (p.0, p.1.items)) m.held.items) b) };
 
     fn holds_config(&self, content: D) -> bool {
-        self.held.iter().any(|m| m.0 == content)
+        for m in &self.held {
+            if m.0 == content {
+                return true;
+            }
+        }
+        false
     }
 
     fn is_quorum(&self, config: Option<D>, servers: &[N]) -> bool

@@ -38,7 +38,7 @@ use Rattle.std.specs.Set.{is_member}
 use Rattle.std.specs.Cmp.{IsEquivalence}
 use Rattle.std.specs.Option.{unwrap_or}
 use Rattle.std.proofs.Common.{refl, sym, ap, ◌∙◌, arith}
-use Rattle.std.proofs.lemmas.Bool.{ltb-false, lt-ltb, le-leb, lt-leb}
+use Rattle.std.proofs.lemmas.Bool.{ltb-false, lt-ltb, le-leb, le-ltb, lt-leb}
 use Rattle.std.proofs.lemmas.List.Sums.{position_or_len_is, fails_before_first}
 use Rattle.std.proofs.lemmas.Bool.Decides.{nat_tests}
 use Rattle.std.proofs.lemmas.Map.Keys.{IsDistinct-push}
@@ -290,6 +290,12 @@ place_push {X} p xs y none passes =
         position_or_len_is p (xs ++ y ∷ []) (length xs) y (omega (arith, longer))
         (λ k h. ap p (get_or_append_left xs (y ∷ []) y k h) ∙ fails_before_first p xs k y (omega (arith, past)))
         (λ h. ap p (get_or_push xs y y (length xs) refl) ∙ passes)
+
+-- no element passes, if none was found up to the end
+pub none_to_end : {X : Type 0} (p : X → Bool) (xs : List X) (i : ℕ) → length xs ≤ i
+    → position_or_len p xs ≡ i + position_or_len p (drop i xs) → position p xs ≡ None
+none_to_end p xs i h e =
+    ap (λ b. if b then Some (position_or_len p xs) else None) (le-ltb (position_or_len p xs) (length xs) (omega arith))
 
 -- ---- whole traces
 

@@ -128,11 +128,11 @@ module _ {T ID D : Type 0} where
   ended_more lists placed i m l ended list_is count_is h j n e below list_at count_at =
       elim (cases_eq j i) [
         | inl same ↦
-          let events : slice_get lists i ≡ Some e = rw same at list_at in
-          let count : slice_get placed i ≡ Some n = rw same at count_at in
-          let same_events : e ≡ l = cc in
-          let same_count : n ≡ m = cc in
-          rw (same_events, same_count) h
+            let events : slice_get lists i ≡ Some e = rw same at list_at in
+            let count : slice_get placed i ≡ Some n = rw same at count_at in
+            let same_events : e ≡ l = cc in
+            let same_count : n ≡ m = cc in
+            rw (same_events, same_count) h
         | inr other ↦ ended j n e (omega arith) list_at count_at
       ]
 
@@ -178,9 +178,9 @@ module _ {T ID D : Type 0} (k : Tests T ID D (Option D)) (lists : List (Vec (Rec
   tried_ended i m l first t list_is count_is ended = record {
     none_allowed = λ j n e h next. elim (cases_eq j i) [
       | inl same ↦
-        let within : m < length l.items =
-        slice_get_within l.items m e (next_is i j m n l e next same list_is count_is) in
-        absurd (omega arith)
+          let within : m < length l.items =
+          slice_get_within l.items m e (next_is i j m n l e next same list_is count_is) in
+          absurd (omega arith)
       | inr other ↦ t.none_allowed j n e (omega arith) next
     ];
     refused = t.refused;
@@ -193,13 +193,13 @@ module _ {T ID D : Type 0} (k : Tests T ID D (Option D)) (lists : List (Vec (Rec
   tried_refused i m x rule first new t is_next breaks new_is = record {
     none_allowed = λ j n e h next. elim (cases_eq j i) [
       | inl same ↦
-        let e_is : slice_get is_next.events.items m ≡ Some e =
-        next_is i j m n is_next.events e next same is_next.events_are is_next.count_is in
-        let x_is : x ≡ e = cc (e_is, is_next.is) in
-        λ none.
-        let contrary : Some rule ≡ None =
-        sym breaks ∙ ap (λ (y : RecordedEvent T ID D). broken_rule k (event_of y) es) x_is ∙ none in
-        absurd (cc)
+          let e_is : slice_get is_next.events.items m ≡ Some e =
+          next_is i j m n is_next.events e next same is_next.events_are is_next.count_is in
+          let x_is : x ≡ e = cc (e_is, is_next.is) in
+          λ none.
+          let contrary : Some rule ≡ None =
+          sym breaks ∙ ap (λ (y : RecordedEvent T ID D). broken_rule k (event_of y) es) x_is ∙ none in
+          absurd (cc)
       | inr other ↦ t.none_allowed j n e (omega arith) next
     ];
     refused = rw new_is (go first t.refused);
@@ -220,8 +220,8 @@ module _ {T ID D : Type 0} (k : Tests T ID D (Option D)) (lists : List (Vec (Rec
       → AreRefused k lists placed es i (BreaksRule rule)
   all_tried n i rule h t = record {
     none_allowed = λ j m e next.
-    let within : j < length lists = slice_get_within lists j next.events next.events_are in
-    t.none_allowed j m e (omega arith) next;
+        let within : j < length lists = slice_get_within lists j next.events next.events_are in
+        t.none_allowed j m e (omega arith) next;
     rule = rule;
     is_rule = refl;
     refused = t.refused;

@@ -157,9 +157,12 @@ impl<T: Term, N: Copy + Eq, D: Copy + Eq> Leader<T, N, D> {
     pub fn has_acked(&self, server: N, len: usize) -> bool
         ensures { result ≡ has_acked_to N.eq self.now.acked.items server len }
     {
-        self.acked
-            .iter()
-            .any(|a| a.server == server && len <= a.len)
+        for acked in &self.acked {
+            if acked.server == server && len <= acked.len {
+                return true;
+            }
+        }
+        false
     }
 
     /// Returns the servers that have acknowledged so many first entries, each once.
@@ -201,7 +204,12 @@ impl<T: Term, N: Copy + Eq, D: Copy + Eq> Leader<T, N, D> {
 fn acked_at<N: Copy + Eq>(acked: &[Acked<N>], server: N) -> Option<usize>
     ensures { result ≡ position (λ a. N.eq a.server server) acked.now }
 {
-    acked.iter().position(|a| a.server == server)
+    for (i, a) in acked.iter().enumerate() {
+        if a.server == server {
+            return Some(i);
+        }
+    }
+    None
 }
 
 /// Adds an id to a list of distinct ids, if it is not one of them.

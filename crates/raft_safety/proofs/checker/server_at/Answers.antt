@@ -1,23 +1,18 @@
-use Rattle.std.proofs.Common.{◌≡◌, ◌∙◌, Some, None, true, length, refl, sym, ap, inl, inr, arith}
+use Rattle.std.proofs.Common.{◌≡◌, ◌∙◌, Some, None, true, length, refl, ap, inr, arith}
 use Rattle.std.specs.List.{position}
 use Rattle.raft_safety.specs.declared.checker.server.Server.{Server}
-use Rattle.raft_safety.proofs.lemmas.CheckerCodeLemmas.{place_push}
+use Rattle.raft_safety.proofs.lemmas.CheckerCodeLemmas.{none_to_end, place_push}
 use Rattle.raft_safety.proofs.checker.server_at.Goals as goal
 
-pub returns-in-Some-clause-at : goal.returns-in-Some-clause-at
-returns-in-Some-clause-at g c = (rw c.deref.ensures.value at (sym c.in-Some.ensures.place), inl refl)
-
-pub returns-in_ok-push-in-None-clause-at : goal.returns-in_ok-push-in-None-clause-at
-returns-in_ok-push-in-None-clause-at g c =
-    let absent : position (λ (s : Server g.row.T.Denot g.row.N.Denot g.row.D.Denot).
-    g.N.PartialEq.eq s.id c.args.id) c.args.servers.now.items ≡ None =
-    rw c.deref.ensures.value at (sym c.in-None.ensures.place) in
-    let passes : g.N.PartialEq.eq c.new.result.id c.args.id ≡ true =
-    rw c.new.ensures.id (g.met.N.Eq.laws.refl c.args.id) in
+pub returns-clause-at : goal.returns-clause-at
+returns-clause-at g c =
+    let p = λ (s : Server g.row.T.Denot g.row.N.Denot g.row.D.Denot). g.N.PartialEq.eq s.id c.args.id in
+    let absent : position p c.args.servers.now.items ≡ None =
+    none_to_end p c.args.servers.now.items c.loop-i.i (omega arith) c.loop-i.invariant in
+    let passes : p c.new.result ≡ true = rw c.new.ensures.id (g.met.N.Eq.laws.refl c.args.id) in
     let len : length c.args.servers.now.items ≡ c.len-i.result = omega arith in (
-      rw c.in_ok-push-in-None.ensures.items
-          (place_push (λ (s : Server g.row.T.Denot g.row.N.Denot g.row.D.Denot). g.N.PartialEq.eq s.id c.args.id)
-          c.args.servers.now.items c.new.result absent passes ∙ ap Some len),
+      rw c.in_ok-push.ensures.items
+          (place_push p c.args.servers.now.items c.new.result absent passes ∙ ap Some len),
       inr (record {
         absent = absent;
         server = c.new.result;
@@ -28,6 +23,6 @@ returns-in_ok-push-in-None-clause-at g c =
           durable = c.new.ensures.durable;
           kept = c.new.ensures.kept;
         };
-        added = c.in_ok-push-in-None.ensures.items;
+        added = c.in_ok-push.ensures.items;
       }),
     )

@@ -63,10 +63,10 @@ returns-in-Err-record_next-clause-refused g c = λ exact.
     rw (items, same) (elim refused [
       | inl memory ↦ inl memory
       | inr each ↦
-        inr (inr (record {
-          trace = before.0;
-          interleaves = before.2;
-          allowed = before.1.allowed;
-          refused = each;
-        }))
+          inr (inr (record {
+            trace = before.0;
+            interleaves = before.2;
+            allowed = before.1.allowed;
+            refused = each;
+          }))
     ])

@@ -32,24 +32,24 @@ loop-i-preserved g c =
             );
       }
       | else-placed-i w ↦
-        let list : slice_get c.args.lists.now c.loop-i.i ≡ Some c.index-lists-i.result =
-        slice_get_read c.args.lists.now _ c.loop-i.i _ refl (omega arith) c.index-lists-i.is in
-        let count : slice_get c.args.placed.now c.loop-i.i ≡ Some (get_or c.args.placed.now c.loop-i.i 0) =
-        slice_get-get_or c.args.placed.now c.loop-i.i 0 (omega (arith, c.requires)) in
-        let read : length c.index-lists-i.result.items ≤ get_or c.loop-i.placed c.loop-i.i 0 = omega arith in
-        let over : length c.index-lists-i.result.items ≤ get_or c.args.placed.now c.loop-i.i 0 =
-        rw c.loop-i.invariant.placed at read in
-        record {
-          configs = rw w.checker-is c.loop-i.invariant.configs;
-          placed = c.loop-i.invariant.placed;
-          ended = λ none. ended_more c.args.lists.now c.args.placed.now c.loop-i.i _ _
-              (c.loop-i.invariant.ended (sym w.refused-is ∙ none)) list count over;
-          tried = λ exact es seen.
-              let before = c.loop-i.invariant.tried exact es seen in (
-                rw w.checker-is before.0,
-                rw w.refused-is (tried_ended _ _ _ es c.loop-i.i _ _ c.loop-i.refused before.1 list count over),
-              );
-        }
+          let list : slice_get c.args.lists.now c.loop-i.i ≡ Some c.index-lists-i.result =
+          slice_get_read c.args.lists.now _ c.loop-i.i _ refl (omega arith) c.index-lists-i.is in
+          let count : slice_get c.args.placed.now c.loop-i.i ≡ Some (get_or c.args.placed.now c.loop-i.i 0) =
+          slice_get-get_or c.args.placed.now c.loop-i.i 0 (omega (arith, c.requires)) in
+          let read : length c.index-lists-i.result.items ≤ get_or c.loop-i.placed c.loop-i.i 0 = omega arith in
+          let over : length c.index-lists-i.result.items ≤ get_or c.args.placed.now c.loop-i.i 0 =
+          rw c.loop-i.invariant.placed at read in
+          record {
+            configs = rw w.checker-is c.loop-i.invariant.configs;
+            placed = c.loop-i.invariant.placed;
+            ended = λ none. ended_more c.args.lists.now c.args.placed.now c.loop-i.i _ _
+                (c.loop-i.invariant.ended (sym w.refused-is ∙ none)) list count over;
+            tried = λ exact es seen.
+                let before = c.loop-i.invariant.tried exact es seen in (
+                  rw w.checker-is before.0,
+                  rw w.refused-is (tried_ended _ _ _ es c.loop-i.i _ _ c.loop-i.refused before.1 list count over),
+                );
+          }
     ]
 
 pub returns-in-Ok-clause-configs : goal.returns-in-Ok-clause-configs
