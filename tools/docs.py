@@ -199,7 +199,7 @@ ORDER = {
     "raft_base": "node leader_id vote log_id kind leader_id_std order server_state instant utime",
     "raft_members": "quorum membership change_members error",
     "raft_progress": "progress tracked laws inflight entry search catch_up",
-    "raft_safety": "laws scenarios event entry term rule checker check memberships",
+    "raft_safety": "laws scenarios event entry term rule checker check merge memberships",
     "raft_state": "log_id_list entry membership_state raft_state vote_state_reader accepted io_state snapshot_meta",
 }
 # What a page shows of an implementation of one of std's traits.

@@ -2,6 +2,7 @@
 use Rattle.std.specs.Prelude.{
   ◌≡◌,
   ◌+◌,
+  ◌-◌,
   ◌<◌,
   ◌≤◌,
   ℕ,
@@ -49,6 +50,8 @@ use Rattle.std.proofs.lemmas.List.{
   length_push,
   get_or_default,
   drop_more,
+  length-drop,
+  take_all,
   take_more_set,
   drop-set-lt,
   take_more,
@@ -290,6 +293,10 @@ place_push {X} p xs y none passes =
         position_or_len_is p (xs ++ y ∷ []) (length xs) y (omega (arith, longer))
         (λ k h. ap p (get_or_append_left xs (y ∷ []) y k h) ∙ fails_before_first p xs k y (omega (arith, past)))
         (λ h. ap p (get_or_push xs y y (length xs) refl) ∙ passes)
+
+-- the entries from an index on are all after it
+pub rest_is : {X : Type 0} (xs : List X) (n : ℕ) → take (length xs - n) (drop n xs) ≡ drop n xs
+rest_is xs n = take_all (length xs - n) (drop n xs) (omega (arith, length-drop n xs))
 
 -- no element passes, if none was found up to the end
 pub none_to_end : {X : Type 0} (p : X → Bool) (xs : List X) (i : ℕ) → length xs ≤ i
