@@ -1,78 +1,32 @@
 -- Lists that the checker's loops go over.
-use Rattle.std.specs.Prelude.{
-  ◌≡◌,
-  ◌+◌,
-  ◌-◌,
-  ◌<◌,
-  ◌≤◌,
-  ℕ,
-  zero,
-  suc,
-  Bool,
-  true,
-  false,
-  not,
-  ◌&&◌,
-  ◌||◌,
-  nat_lt,
-  nat_le,
-  nat_eq,
-  min,
-  max,
-  if◌then◌else◌,
-  Option,
-  Some,
-  None,
-  List,
-  [],
-  ◌∷◌,
-  ◌++◌,
-  length,
-  take,
-  drop,
-  map,
-  get_or,
-  set,
-}
+use Rattle.std.specs.Prelude.{◌≡◌, ◌+◌, ◌-◌, ◌<◌, ◌≤◌, ℕ, zero, suc, Bool, true, false, ◌&&◌, ◌||◌, nat_lt, nat_le, nat_eq, min, max, if◌then◌else◌, Some, None, List, [], ◌∷◌, ◌++◌, length, take, drop, get_or, set}
 use Rattle.std.specs.List.{IsDistinct, list_any, position, position_or_len}
 use Rattle.std.specs.Set.{is_member}
 use Rattle.std.specs.Cmp.{IsEquivalence}
-use Rattle.std.specs.Option.{unwrap_or}
 use Rattle.std.proofs.Common.{refl, sym, ap, ◌∙◌, arith}
 use Rattle.std.proofs.lemmas.Bool.{ltb-false, lt-ltb, le-leb, le-ltb, lt-leb}
 use Rattle.std.proofs.lemmas.List.Sums.{position_or_len_is, fails_before_first}
 use Rattle.std.proofs.lemmas.Bool.Decides.{nat_tests}
 use Rattle.std.proofs.lemmas.Map.Keys.{IsDistinct-push}
 use Rattle.std.proofs.lemmas.List.Quantifiers.{position-Some}
-use Rattle.std.proofs.lemmas.List.{
-  get_or_append_left,
-  get_or_push,
-  length_push,
-  get_or_default,
-  drop_more,
-  length-drop,
-  take_all,
-  take_more_set,
-  drop-set-lt,
-  take_more,
-}
+use Rattle.std.proofs.lemmas.List.{get_or_append_left, get_or_push, length_push, get_or_default, drop_more, length-drop, take_all, take_more}
 use Rattle.raft_safety.specs.Log.{Entry, last_term_or, last_term}
-use Rattle.raft_safety.specs.Configs.{effective_config}
 use Rattle.raft_safety.specs.Trace.{TraceEvent}
 use Rattle.raft_safety.specs.Checker.{event_of, trace_after, trace_of}
 use Rattle.raft_safety.specs.declared.event.Event.{Event as RecordedEvent}
-use Rattle.raft_safety.specs.CheckerState.{common_len, config_in, no_config_in, kept_from, has_acked_to}
-use Rattle.raft_safety.specs.declared.checker.server.Kept.{Kept}
+use Rattle.raft_safety.specs.CheckerState.{common_len, has_acked_to}
 use Rattle.raft_safety.specs.declared.checker.leader.Acked.{Acked}
 use Rattle.raft_safety.proofs.lemmas.CheckedLeaderLemmas.{any_push, any_set_or}
 
-pub common_more : {E : Type 0} (same : E → E → Bool) (a b : List E) (i : ℕ) (d e : E) → i < length a
-    → i < length b
+-- what two lists have in common from an index on, if their elements there are the same, and if not
+pub common_more : {E : Type 0} (same : E → E → Bool) (a b : List E) (i : ℕ) (d e : E) (equal : Bool)
+    → i < length a → i < length b → d ≡ get_or a i d → e ≡ get_or b i e → same d e ≡ equal
     → common_len same (drop i a) (drop i b)
-    ≡ (if same (get_or a i d) (get_or b i e) then suc (common_len same (drop (i + 1) a) (drop (i + 1) b))
-    else 0)
-common_more same a b i d e h g =
-    λ q. common_len same (drop_more a i d h q) (drop_more b i e g q)
+    ≡ (if equal then suc (common_len same (drop (i + 1) a) (drop (i + 1) b)) else 0)
+common_more same a b i d e equal h g is_d is_e s =
+    (λ q. common_len same (drop_more a i d h q) (drop_more b i e g q))
+    ∙ (λ q. if same (sym is_d q) (sym is_e q) then suc (common_len same (drop (i + 1) a) (drop (i + 1) b)) else 0)
+    ∙ ap (λ t. if t then suc (common_len same (drop (i + 1) a) (drop (i + 1) b)) else 0) s
 
 -- what a list has in common with another is no longer than the other
 pub common_within : {E : Type 0} (same : E → E → Bool) (a b : List E) → common_len same a b ≤ length b
@@ -113,46 +67,6 @@ pub last_term_read : {T D : Type 0} (rank : T → ℕ) (log : List (Entry T D)) 
     → length log ≡ suc i → e ≡ get_or log i e → rank e.term ≡ last_term rank log
 last_term_read {T} {D} rank log i e h is =
     ap (λ (x : Entry T D). rank x.term) is ∙ sym (last_term_of rank 0 log e i h)
-
-pub config_more : {T D : Type 0} (holds : D → Bool) (config : Option D) (log : List (Entry T D))
-    (i : ℕ) (d : Entry T D) → i < length log
-    → effective_config (config_in holds) config (drop i log)
-    ≡ effective_config (config_in holds)
-    (if holds (get_or log i d).content then Some (get_or log i d).content else config) (drop (i + 1) log)
-config_more holds config log i d h =
-    ap (λ x. effective_config (config_in holds) config x) (drop_more log i d h)
-    ∙ ap (λ x. effective_config (config_in holds) x (drop (i + 1) log)) (go (holds (get_or log i d).content))
-  where
-    go : (b : Bool)
-        → unwrap_or (if b then Some (Some (get_or log i d).content) else None) config
-        ≡ (if b then Some (get_or log i d).content else config)
-    go true = refl
-    go false = refl
-
-pub no_config_more : {T D : Type 0} (holds : D → Bool) (log : List (Entry T D)) (i : ℕ)
-    (d : Entry T D) → i < length log
-    → no_config_in holds (drop i log)
-    ≡ (not (holds (get_or log i d).content) && no_config_in holds (drop (i + 1) log))
-no_config_more holds log i d h = ap (no_config_in holds) (drop_more log i d h)
-
-pub kept_more : (n : ℕ) (ks : List Kept) (r i : ℕ) (d : Kept) → i < length ks
-    → kept_from n (drop i ks) r
-    ≡ kept_from (if nat_le (get_or ks i d).term r then (get_or ks i d).len else n) (drop (i + 1) ks) r
-kept_more n ks r i d h = ap (λ x. kept_from n x r) (drop_more ks i d h)
-
-pub limit_more : (f : Kept → Kept) (ks : List Kept) (i : ℕ) (d : Kept) → i < length ks
-    → take (i + 1) (set ks i (f (get_or ks i d))) ++ map f (drop (i + 1) (set ks i (f (get_or ks i d))))
-    ≡ take i ks ++ map f (drop i ks)
-limit_more f ks i d h =
-    let more : drop (i + 1) (set ks i (f (get_or ks i d))) ≡ drop (i + 1) ks =
-    drop-set-lt (i + 1) ks i (f (get_or ks i d)) (omega arith) in
-    (λ q. take_more_set ks i (f (get_or ks i d)) h q ++ map f (more q))
-    ∙ assoc (take i ks) (f (get_or ks i d)) (map f (drop (i + 1) ks))
-    ∙ ap (λ x. take i ks ++ map f x) (sym (drop_more ks i d h))
-  where
-    assoc : (a : List Kept) (x : Kept) (b : List Kept) → (a ++ x ∷ []) ++ b ≡ a ++ (x ∷ b)
-    assoc [] x b = refl
-    assoc (y ∷ a) x b = ap (λ l. y ∷ l) (assoc a x b)
 
 pub acked_more : {N : Type 0} (eq : N → N → Bool) (acks : List (Acked N)) (i : ℕ) (d : Acked N) (v : N)
     (n : ℕ) → i < length acks

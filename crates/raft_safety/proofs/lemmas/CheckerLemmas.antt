@@ -246,6 +246,22 @@ first_two true true false p q r o e = absurd (cc)
 first_two true false c p q r o e = absurd (cc)
 first_two false b c p q r o e = absurd (cc)
 
+-- an append that breaks no rule is in a term that the server has not passed, and keeps entries that
+-- the server has
+pub append_first : {T N D : Type 0} (same : Entry T D → Entry T D → Bool) (s : Server T N D)
+    (l : Leader T N D) (r n : ℕ) (sent : List (Entry T D)) → append_rule same s l r n sent ≡ None
+    → (s.term ≤ r) × (n ≤ length s.log.items)
+append_first same s l r n sent free =
+    let rules : (nat_le s.term r ≡ true) × (nat_le n (length s.log.items) ≡ true) =
+    first_two l.elected (nat_le s.term r) (nat_le n (length s.log.items)) NotElected PassedTerm MissingEntries
+    (unless (nat_le (common_len same s.log.items l.log.items) (n + common_len same (drop n s.log.items) sent))
+    DropsMatching
+    (unless (nat_eq (common_len same (drop n s.log.items) sent) (length sent)
+    || (nat_le n (common_len same s.log.items l.log.items)
+    && nat_eq (common_len same (drop n l.log.items) sent) (length sent))) ForeignEntries None))
+    free in
+    (leb-true s.term r rules.0, leb-true n (length s.log.items) rules.1)
+
 module _ {T ID D M : Type 0} (k : Tests T ID D M) where
   proposal_tests : (es : List (TraceEvent T ID D)) (t : T) (c : ID) (o : Option M)
       → is_none (proposal_rule k es t c o) ≡ may_propose k es t c o
@@ -558,22 +574,14 @@ module _ {T ID D : Type 0} (k : Tests T ID D (Option D)) (exact : AreExact k) wh
       ok : broken_rule k (Appended id t c n sent) es ≡ None
       ok = append_right es id t c n sent s l at_s at_l ∙ free
 
-      rules : (nat_le s.term (k.rank t) ≡ true) × (nat_le n (length s.log.items) ≡ true)
-      rules =
-          first_two l.elected (nat_le s.term (k.rank t)) (nat_le n (length s.log.items)) NotElected PassedTerm
-          MissingEntries
-          (unless (nat_le (common_len (same_entry k) s.log.items l.log.items)
-          (n + common_len (same_entry k) (drop n s.log.items) sent)) DropsMatching
-          (unless (nat_eq (common_len (same_entry k) (drop n s.log.items) sent) (length sent)
-          || (nat_le n (common_len (same_entry k) s.log.items l.log.items)
-          && nat_eq (common_len (same_entry k) (drop n l.log.items) sent) (length sent))) ForeignEntries None))
-          free
+      rules : (s.term ≤ k.rank t) × (n ≤ length s.log.items)
+      rules = append_first (same_entry k) s l (k.rank t) n sent free
 
       reached : s.term ≤ k.rank t
-      reached = leb-true s.term (k.rank t) rules.0
+      reached = rules.0
 
       within : n ≤ length s.log.items
-      within = leb-true n (length s.log.items) rules.1
+      within = rules.1
 
       events : (r : ID) → events_in k (Appended id t c n sent ∷ es) r
           ≡ (if k.same_id id r then and_append t c n sent (events_in k es id) else events_in k es r)
@@ -1293,23 +1301,6 @@ module _ {T ID D : Type 0} (k : Tests T ID D (Option D)) (exact : AreExact k) wh
       see_commits = seen.see_commits;
     },
   )
-
-  -- ---- the beginning
-
-  pub begin_seen : k.intersect k.initial k.initial ≡ true → HasSeen k [] [] []
-  begin_seen ok = record {
-    allowed = ok;
-    see_servers = λ id. refl;
-    see_leaders = λ t c. record {
-      campaigned = refl;
-      candidate_log = refl;
-      leader_log = refl;
-      voted = λ v. refl;
-      acked = λ v n. refl;
-      committed = λ log. refl;
-    };
-    see_commits = λ r p. refl;
-  }
 
   -- ---- events that are refused
 

@@ -107,6 +107,7 @@ use Rattle.raft_safety.proofs.lemmas.CheckerLemmas.{
   leader_place,
   see_place,
   restart_seen,
+  append_first,
   append_seen,
   ack_seen,
   grant_seen,
@@ -116,6 +117,15 @@ use Rattle.raft_safety.proofs.lemmas.CheckerLemmas.{
 pub same_item : {X : Type 0} (xs : List X) (i : ℕ) (x y : X) → i < length xs → x ≡ get_or xs i x
     → y ≡ get_or xs i y → x ≡ y
 same_item xs i x y h a b = a ∙ get_or_default xs i x y h ∙ sym b
+
+-- an append that breaks no rule keeps entries that the server has
+pub append_fits : {T N D : Type 0} (same : Entry T D → Entry T D → Bool) (servers : List (Server T N D))
+    (i : ℕ) (s0 s : Server T N D) (l : Leader T N D) (r n : ℕ) (sent : List (Entry T D))
+    → i < length servers → s0 ≡ get_or servers i s0 → s ≡ get_or servers i s
+    → append_rule same s0 l r n sent ≡ None → n ≤ length s.log.items
+append_fits {T} {N} {D} same servers i s0 s l r n sent h is0 is free =
+    subst (λ (x : Server T N D). n ≤ length x.log.items) (same_item servers i s0 s h is0 is)
+    (append_first same s0 l r n sent free).1
 
 module _ {T ID D : Type 0} (k : Tests T ID D (Option D)) (exact : AreExact k) where
   place_within : {X : Type 0} (p : X → Bool) (xs : List X) (i : ℕ) (d : X) → position p xs ≡ Some i

@@ -1,4 +1,4 @@
-use Rattle.std.proofs.Common.{◌≡◌, ◌∙◌, Some, None, true, length, refl, ap, inr, arith}
+use Rattle.std.proofs.Common.{◌≡◌, ◌∙◌, Some, None, true, length, ap, inr, arith}
 use Rattle.std.specs.List.{position}
 use Rattle.raft_safety.specs.declared.checker.server.Server.{Server}
 use Rattle.raft_safety.proofs.lemmas.CheckerCodeLemmas.{none_to_end, place_push}

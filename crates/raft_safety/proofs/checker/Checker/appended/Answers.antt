@@ -1,7 +1,7 @@
 use Rattle.std.proofs.Common.{sym}
 use Rattle.std.proofs.lemmas.Result.{err_from_is_err_and}
 use Rattle.raft_safety.proofs.lemmas.CheckerLemmas.{append_refused}
-use Rattle.raft_safety.proofs.lemmas.CheckerStepLemmas.{append_done, append_unled, same_server}
+use Rattle.raft_safety.proofs.lemmas.CheckerStepLemmas.{append_done, append_fits, append_unled, same_server}
 use Rattle.raft_safety.proofs.checker.Checker.appended.Goals as goal
 
 pub returns-in-None-clause-answer : goal.returns-in-None-clause-answer
@@ -17,6 +17,12 @@ returns-in-Some-append_rule-clause-answer g c =
     c.index.result.now c.index-2.result.now c.in-Some-append_rule.rule c.in_ok-i.ensures.at c.index.ensures
     (rw c.deref.ensures.value at (sym c.in-Some.ensures.place)) c.index-2.ensures seen
     (rw c.rank-rank.ensures at (sym c.in-Some-append_rule.ensures))
+
+pub append-requires : goal.append-requires
+append-requires g c =
+    append_fits _ c.server_at.new.servers.items c.in_ok-i.i c.index.result.now c.index_mut.result.now
+    c.index-2.result.now c.rank-rank.result c.args.keep c.args.entries.now c.in_ok-i.ensures.within
+    c.index.ensures c.index_mut.ensures.value (sym c.in-None-append_rule.ensures)
 
 pub returns-in_err-append-clause-answer : goal.returns-in_err-append-clause-answer
 returns-in_err-append-clause-answer g c =
