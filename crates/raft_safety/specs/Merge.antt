@@ -1,4 +1,5 @@
 -- Lists of recorded events without an order between them, and the traces that interleave them.
+-- `placed` has a number for each list: so many of its first events are placed in the trace.
 use Rattle.std.specs.Prelude.{
   ◌≡◌,
   ◌≢◌,
@@ -33,15 +34,14 @@ use Rattle.raft_safety.specs.declared.rule.Rule.{Rule}
 use Rattle.raft_safety.specs.declared.event.Event.{Event as RecordedEvent}
 
 module _ {T ID D : Type 0} (lists : List (Vec (RecordedEvent T ID D))) where
-  -- `placed` says how many first events of each list are placed. This event is the next one of a list,
-  -- of which so many are placed
+  -- this event is the next one of this list, which has so many placed events
   pub record IsNext (placed : List ℕ) (list count : ℕ) (e : RecordedEvent T ID D) : Type 0 where
     pub events : Vec (RecordedEvent T ID D)
     pub events_are : slice_get lists list ≡ Some events
     pub count_is : slice_get placed list ≡ Some count
     pub is : slice_get events.items count ≡ Some e
 
-  -- the next event of a list is placed
+  -- the next event of one list is placed too
   pub record IsPlaced (before placed : List ℕ) : Type 0 where
     pub list : ℕ
     pub count : ℕ
@@ -49,8 +49,8 @@ module _ {T ID D : Type 0} (lists : List (Vec (RecordedEvent T ID D))) where
     pub next : IsNext before list count event
     pub is : placed ≡ set before list (count + 1)
 
-  -- a trace, the latest first, interleaves so many first events of each list: the latest event was the
-  -- next one of a list, after the earlier ones had interleaved the others
+  -- a trace interleaves the placed events. A trace has its latest event first: this was the next event
+  -- of one list, after the earlier events had interleaved those that were placed before
   abbrev pub Interleaves : List ℕ → List (TraceEvent T ID D) → Type 0
   Interleaves placed [] = placed ≡ replicate (length lists) 0
   Interleaves placed (e ∷ es) =
@@ -65,7 +65,7 @@ module _ {T ID D : Type 0} (lists : List (Vec (RecordedEvent T ID D))) where
 
 module _ {T ID D : Type 0} (k : Tests T ID D (Option D))
     (lists : List (Vec (RecordedEvent T ID D))) where
-  -- a trace that is allowed, and so safe, interleaves all events of the lists
+  -- there is a trace that interleaves all events of the lists. It is allowed, and so it is safe
   pub record HaveSafeOrder : Type 0 where
     pub trace : List (TraceEvent T ID D)
     pub interleaves : Interleaves lists (map (λ l. length l.items) lists) trace
@@ -80,7 +80,8 @@ module _ {T ID D : Type 0} (k : Tests T ID D (Option D))
     pub is_next : IsNext lists placed list count event
     pub breaks : broken_rule k (event_of event) es ≡ Some rule
 
-  -- after a trace no list has a next event that is allowed, and that of this list breaks this rule
+  -- after a trace no list has a next event that is allowed. The next event of this list is refused for
+  -- this violation
   pub record AreRefused (placed : List ℕ) (es : List (TraceEvent T ID D)) (list : ℕ) (v : Violation)
       : Type 0 where
     pub none_allowed : (i n : ℕ) (e : RecordedEvent T ID D) → IsNext lists placed i n e
@@ -89,21 +90,21 @@ module _ {T ID D : Type 0} (k : Tests T ID D (Option D))
     pub is_rule : v ≡ BreaksRule rule
     pub refused : IsRefused placed es list rule
 
-  -- a trace that is allowed interleaves so many first events of each list, and after it no list has a
-  -- next event that is allowed. That of this list is refused for this violation
+  -- there is an allowed trace that interleaves the placed events, and after it the next event of every
+  -- list is refused. The next event of this list is refused for this violation
   pub record IsStuck (placed : List ℕ) (list : ℕ) (v : Violation) : Type 0 where
     pub trace : List (TraceEvent T ID D)
     pub interleaves : Interleaves lists placed trace
     pub allowed : are_allowed k trace ≡ true
     pub refused : AreRefused placed trace list v
 
-  -- memory ran out, quorums of the initial config do not intersect, or merging is stuck
+  -- memory ran out, quorums of the initial config do not intersect, or no next event is allowed
   abbrev pub IsRefusedMerge : List ℕ → ℕ → Violation → Type 0
   IsRefusedMerge placed list v =
       (v ≡ OutOfMemory) ⊎ (k.intersect k.initial k.initial ≡ false) ⊎ IsStuck placed list v
 
-  -- the checker records the next event of a list, or no event is left; or the next event of each list
-  -- is refused
+  -- the checker has recorded the next event of a list, or no list has a next event. It fails if memory
+  -- runs out, or if the next event of every list is refused
   abbrev pub RecordsNext : {C : Type 0} → List ℕ → Checker T ID D C → List ℕ → Checker T ID D C
       → Result Bool (ℕ × Violation) → Type 0
   RecordsNext placed old new_placed new result =

@@ -24,17 +24,17 @@ pub struct Unplaced {
 
 /// Checks that lists of events, one of each server, have an order in which each event was allowed.
 ///
-/// Events of one list stay in their order. It places one event after the other, the next one of the
-/// first list whose next event is allowed. So it tries at most as many events for each one that it
-/// places as there are lists.
+/// The order of each list is kept. The function places one event after the other: the next event of
+/// the first list whose next event is allowed. For each event that it places, it tries at most one
+/// event of each list.
 ///
-/// If it returns `Ok`, the order in which the events were placed is an execution in which every server
-/// keeps the rules, so it is safe.
+/// If it returns `Ok`, the events in the order in which they were placed are an execution in which
+/// every server keeps the rules, so they are safe.
 ///
 /// # Errors
 ///
-/// The events that could not be placed: the next event of each list is refused after those that were
-/// placed. It is not proved that no other order would be allowed. Or out of memory.
+/// The events that could not be placed, if the next event of every list is refused after the placed
+/// ones, or out of memory. It is not proved that every other order is refused too.
 pub fn check_each<T: Term, N: Copy + Eq, D: Copy + Eq, C: Configs<N, D> + Drop>(
     alloc: Global,
     configs: C,
@@ -81,13 +81,13 @@ pub fn check_each<T: Term, N: Copy + Eq, D: Copy + Eq, C: Configs<N, D> + Drop>(
     }
 }
 
-/// Records the next event of the first list whose next event is allowed. Returns whether an event was
-/// left.
+/// Records the next event of the first list whose next event is allowed. Returns whether there was a
+/// next event.
 ///
 /// # Errors
 ///
-/// If the next event of each list is refused, the first list with an event left, and what this event
-/// is refused for. Or out of memory.
+/// The first list that has a next event, and the rule that this event breaks, if the next event of
+/// every list is refused. Or out of memory. Nothing is placed then.
 fn record_next<T: Term, N: Copy + Eq, D: Copy + Eq, C: Configs<N, D> + Drop>(
     checker: &mut Checker<T, N, D, C>,
     lists: &[Vec<Event<T, N, D>>],

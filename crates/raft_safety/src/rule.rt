@@ -55,8 +55,8 @@ pub enum Rule {
 }
 
 impl Rule {
-    /// Returns what breaks the rule, as an error message.
-    pub fn text(self) -> &'static str {
+    /// Returns the error message of an event that breaks the rule.
+    fn text(self) -> &'static str {
         match self {
             Rule::InitialConfig => "quorums of the initial config do not intersect",
             Rule::PassedTerm => "the server has passed the term",
