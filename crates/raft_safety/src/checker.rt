@@ -306,7 +306,7 @@ impl<T: Term, N: Copy + Eq, D: Copy + Eq, C: Configs<N, D> + Drop> Checker<T, N,
     }
 }
 
-/// Returns the place of a candidate or leader of a term, if it has campaigned.
+/// Returns the position of a candidate or leader of a term, if it has campaigned.
 fn leader_at<T: Term, N: Copy + Eq, D: Copy + Eq>(
     leaders: &[Leader<T, N, D>],
     term: T,
@@ -339,7 +339,7 @@ fn any_knows<T: Term, N: Copy + Eq, D: Copy + Eq>(
     false
 }
 
-/// Returns the place of a server. One of which nothing is kept is added.
+/// Returns the position of a server. If nothing is kept of the server, it is added.
 ///
 /// # Errors
 ///

@@ -114,7 +114,7 @@ found_at {X} p xs i d e =
     × ((j : ℕ) → j < i → p (get_or xs j d) ≡ false) = position-Some p xs i d e in
     find_at p xs ∙ ap (λ j. slice_get xs j) (sym (place_of p xs i e)) ∙ slice_get-get_or xs i d facts.0
 
--- something is found where there is a place of it
+-- an element that passes is found if it has a position
 pub found_some : {X : Type 0} (p : X → Bool) (xs : List X) (i : ℕ) → position p xs ≡ Some i
     → (x : X) × (find p xs ≡ Some x)
 found_some {X} p xs i e =
@@ -173,7 +173,7 @@ module _ {T ID D : Type 0} (k : Tests T ID D (Option D)) (exact : AreExact k) wh
       elected : is_elected k new u d ≡ is_elected k es u d
       elected = λ i. same.voted d i && is_quorum_of_log k (same.candidate_log i) (λ v. same.voted v i)
 
-  -- a leader of which other facts hold now is written over
+  -- a leader is replaced, because other facts hold of it now
   pub see_leader_set : (es new : List (TraceEvent T ID D)) (leaders : List (Leader T ID D)) (i : ℕ)
       (l : Leader T ID D) (t : T) (c : ID)
       → position (λ (x : Leader T ID D). same_leader k x.term x.id t c) leaders ≡ Some i

@@ -321,7 +321,7 @@ module _ {T ID D : Type 0} (k : Tests T ID D (Option D)) (exact : AreExact k) wh
     kept = λ r h. absurd (omega arith);
   }
 
-  -- a server whose events are others now is written over
+  -- a server is replaced, because its events are others now
   pub see_set : (es new : List (TraceEvent T ID D)) (servers : List (Server T ID D)) (i : ℕ)
       (s : Server T ID D) (r : ID) → position (λ (x : Server T ID D). k.same_id x.id r) servers ≡ Some i
       → k.same_id s.id r ≡ true → SeesServers k es servers

@@ -181,7 +181,7 @@ not_counted {N} eq acks i a n ids h is few before v =
         ap (λ (x : Acked N). eq x.server v && nat_le n x.len) (sym is)
         ∙ ap (λ b. eq a.server v && b) (lt-leb n a.len few) ∙ and_no (eq a.server v)
 
--- the place of an element that is added after none that passes
+-- the position of an element that is added, if no element before it passes
 pub place_push : {X : Type 0} (p : X → Bool) (xs : List X) (y : X) → position p xs ≡ None
     → p y ≡ true → position p (xs ++ y ∷ []) ≡ Some (length xs)
 place_push {X} p xs y none passes =

@@ -430,7 +430,7 @@ module _ {T ID D : Type 0} (k : Tests T ID D (Option D)) (exact : AreExact k) wh
       → SeesServer k (events_in k es id) s → broken_rule k (Restarted id n) es ≡ restart_rule s n
   restart_right es id s n sees = rw (sees.durable, sees.log) refl
 
-  -- where the events of one server are meant, they are its own
+  -- the events of a server are those of each server with an equal id
   at_id : (f : List (Event T ID D) → List (Event T ID D)) (es : List (TraceEvent T ID D)) (id r : ID)
       → (if k.same_id id r then f (events_in k es r) else events_in k es r)
       ≡ (if k.same_id id r then f (events_in k es id) else events_in k es r)
@@ -638,7 +638,7 @@ module _ {T ID D : Type 0} (k : Tests T ID D (Option D)) (exact : AreExact k) wh
           ∙ ap (λ x. x && (nat_le s.term (k.rank t)
           || nat_le (length (take n l.log.items)) (kept_from 0 s.kept.items (k.rank t)))) prefix
 
-  -- a leader that is written over stays at its place
+  -- a leader that is replaced keeps its position
   pub leader_place : (leaders : List (Leader T ID D)) (t : T) (c : ID) (j : ℕ) (l new : Leader T ID D)
       → position (λ (x : Leader T ID D). same_leader k x.term x.id t c) leaders ≡ Some j
       → l ≡ get_or leaders j l → new.term ≡ l.term → new.id ≡ l.id

@@ -1,5 +1,5 @@
--- The checker's steps, in the terms in which its code has them: an element of a list may be read and
--- borrowed, and has two names then.
+-- The checker's steps as its code takes them. An element of a list that is read and borrowed has two
+-- names there.
 use Rattle.std.specs.Prelude.{
   ◌≡◌,
   ◌+◌,
@@ -134,7 +134,7 @@ module _ {T ID D : Type 0} (k : Tests T ID D (Option D)) (exact : AreExact k) wh
       let facts : (i < length xs) × (p (get_or xs i d) ≡ true)
       × ((j : ℕ) → j < i → p (get_or xs j d) ≡ false) = position-Some p xs i d e in facts.0
 
-  -- a server of which all stays as it was is written over
+  -- a server is replaced by an equal one
   pub same_server : (es : List (TraceEvent T ID D)) (id : ID) (old servers : List (Server T ID D))
       (leaders : List (Leader T ID D)) (i : ℕ) (s new : Server T ID D)
       → HasPlace (λ (x : Server T ID D). k.same_id x.id id) id old servers i → s ≡ get_or servers i s
@@ -168,7 +168,7 @@ module _ {T ID D : Type 0} (k : Tests T ID D (Option D)) (exact : AreExact k) wh
       is_id : k.same_id new.id id ≡ true
       is_id = rw same_id (rw is facts.1)
 
-  -- a leader of which all stays as it was is written over
+  -- a leader is replaced by an equal one
   pub same_leader_again : (es : List (TraceEvent T ID D)) (t : T) (c : ID)
       (servers : List (Server T ID D)) (leaders : List (Leader T ID D)) (j : ℕ) (l lnew : Leader T ID D)
       → position (λ (x : Leader T ID D). same_leader k x.term x.id t c) leaders ≡ Some j

@@ -1,4 +1,4 @@
--- Where memberships are lists of configs and change to coherent ones, quorums intersect.
+-- If memberships are lists of configs and change to coherent ones, quorums intersect.
 use Rattle.std.specs.Prelude.{◌≡◌, ◌<◌, ℕ, Bool, true, Option, List, [], ◌∷◌, length}
 use Rattle.std.specs.Cmp.{IsEquivalence}
 use Rattle.std.proofs.Common.{ap, arith}

@@ -116,7 +116,7 @@ module _ {T ID D : Type 0} where
     is = slice_get_read l.items (length l.items) (get_or placed i 0) e refl within is;
   }
 
-  -- of each of the first lists all events are placed
+  -- all events of the first lists are placed
   abbrev pub AreEnded : List (Vec (RecordedEvent T ID D)) → List ℕ → ℕ → Type 0
   AreEnded lists placed i =
       (j n : ℕ) (l : Vec (RecordedEvent T ID D)) → j < i → slice_get lists j ≡ Some l
@@ -227,7 +227,7 @@ module _ {T ID D : Type 0} (k : Tests T ID D (Option D)) (lists : List (Vec (Rec
     refused = t.refused;
   }
 
--- an option and a further one
+-- an option is not empty if there is a further one
 pub or_some : {X : Type 0} (o : Option X) (x : X) → option_or o (Some x) ≡ None → ⊥
 or_some None x e = absurd (cc)
 or_some (Some y) x e = absurd (cc)

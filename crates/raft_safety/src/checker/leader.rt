@@ -200,7 +200,7 @@ impl<T: Term, N: Copy + Eq, D: Copy + Eq> Leader<T, N, D> {
     }
 }
 
-/// Returns the place of what a server has acknowledged.
+/// Returns the position of what a server has acknowledged.
 fn acked_at<N: Copy + Eq>(acked: &[Acked<N>], server: N) -> Option<usize>
     ensures { result ≡ position (λ a. N.eq a.server server) acked.now }
 {

@@ -60,7 +60,7 @@ impl<T: Term, N: Copy + Eq, D: Copy + Eq> Server<T, N, D> {
             && (self.term <= rank || prefix.len() <= kept_since(&self.kept, rank))
     }
 
-    /// Makes room for one term more.
+    /// Reserves capacity for one term more.
     ///
     /// # Errors
     ///
