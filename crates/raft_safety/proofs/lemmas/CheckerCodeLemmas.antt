@@ -1,5 +1,37 @@
 -- Lists that the checker's loops go over.
-use Rattle.std.specs.Prelude.{◌≡◌, ◌+◌, ◌-◌, ◌<◌, ◌≤◌, ℕ, zero, suc, Bool, true, false, ◌&&◌, ◌||◌, nat_lt, nat_le, nat_eq, min, max, if◌then◌else◌, Some, None, List, [], ◌∷◌, ◌++◌, length, take, drop, get_or, set}
+use Rattle.std.specs.Prelude.{
+  ◌≡◌,
+  ◌+◌,
+  ◌-◌,
+  ◌<◌,
+  ◌≤◌,
+  ℕ,
+  zero,
+  suc,
+  Bool,
+  true,
+  false,
+  not,
+  ◌&&◌,
+  ◌||◌,
+  nat_lt,
+  nat_le,
+  nat_eq,
+  min,
+  max,
+  if◌then◌else◌,
+  Some,
+  None,
+  List,
+  [],
+  ◌∷◌,
+  ◌++◌,
+  length,
+  take,
+  drop,
+  get_or,
+  set,
+}
 use Rattle.std.specs.List.{IsDistinct, list_any, position, position_or_len}
 use Rattle.std.specs.Set.{is_member}
 use Rattle.std.specs.Cmp.{IsEquivalence}
@@ -9,7 +41,16 @@ use Rattle.std.proofs.lemmas.List.Sums.{position_or_len_is, fails_before_first}
 use Rattle.std.proofs.lemmas.Bool.Decides.{nat_tests}
 use Rattle.std.proofs.lemmas.Map.Keys.{IsDistinct-push}
 use Rattle.std.proofs.lemmas.List.Quantifiers.{position-Some}
-use Rattle.std.proofs.lemmas.List.{get_or_append_left, get_or_push, length_push, get_or_default, drop_more, length-drop, take_all, take_more}
+use Rattle.std.proofs.lemmas.List.{
+  get_or_append_left,
+  get_or_push,
+  length_push,
+  get_or_default,
+  drop_more,
+  length-drop,
+  take_all,
+  take_more,
+}
 use Rattle.raft_safety.specs.Log.{Entry, last_term_or, last_term}
 use Rattle.raft_safety.specs.Trace.{TraceEvent}
 use Rattle.raft_safety.specs.Checker.{event_of, trace_after, trace_of}
@@ -211,6 +252,28 @@ place_push {X} p xs y none passes =
 -- the entries from an index on are all after it
 pub rest_is : {X : Type 0} (xs : List X) (n : ℕ) → take (length xs - n) (drop n xs) ≡ drop n xs
 rest_is xs n = take_all (length xs - n) (drop n xs) (omega (arith, length-drop n xs))
+
+-- a search goes on past an element that does not pass
+pub search_more : {X : Type 0} (p : X → Bool) (xs : List X) (i : ℕ) (x : X) → i < length xs
+    → x ≡ get_or xs i x → p x ≡ false → position_or_len p xs ≡ i + position_or_len p (drop i xs)
+    → position_or_len p xs ≡ i + 1 + position_or_len p (drop (i + 1) xs)
+search_more p xs i x h is fails so_far =
+    let next : position_or_len p (drop i xs) ≡ 1 + position_or_len p (drop (i + 1) xs) =
+    ap (position_or_len p) (drop_more xs i x h)
+    ∙ ap (λ b. if not b then 1 + position_or_len p (drop (i + 1) xs) else 0) (ap p (sym is) ∙ fails) in
+    omega arith
+
+-- a search ends at an element that passes
+pub search_ends : {X : Type 0} (p : X → Bool) (xs : List X) (i : ℕ) (x : X) → i < length xs
+    → x ≡ get_or xs i x → p x ≡ true → position_or_len p xs ≡ i + position_or_len p (drop i xs)
+    → position p xs ≡ Some i
+search_ends p xs i x h is passes so_far =
+    let here : position_or_len p (drop i xs) ≡ 0 =
+    ap (position_or_len p) (drop_more xs i x h)
+    ∙ ap (λ b. if not b then 1 + position_or_len p (drop (i + 1) xs) else 0) (ap p (sym is) ∙ passes) in
+    let found : position_or_len p xs ≡ i = omega arith in
+    ap (λ n. if nat_lt n (length xs) then Some n else None) found
+    ∙ ap (λ b. if b then Some i else None) (lt-ltb i (length xs) h)
 
 -- no element passes, if none was found up to the end
 pub none_to_end : {X : Type 0} (p : X → Bool) (xs : List X) (i : ℕ) → length xs ≤ i

@@ -30,7 +30,14 @@ use Rattle.std.proofs.lemmas.Bool.{cases_eq}
 use Rattle.std.proofs.lemmas.Option.{slice_get-get_or, slice_get_read, slice_get_within}
 use Rattle.raft_safety.specs.Trace.{TraceEvent, Tests}
 use Rattle.raft_safety.specs.Checker.{broken_rule, event_of}
-use Rattle.raft_safety.specs.Merge.{AreAllPlaced, AreRefused, Interleaves, IsNext, IsPlaced, IsRefused}
+use Rattle.raft_safety.specs.Merge.{
+  AreAllPlaced,
+  AreRefused,
+  Interleaves,
+  IsNext,
+  IsPlaced,
+  IsRefused,
+}
 use Rattle.raft_safety.specs.declared.checker.violation.Violation.TheVariants.{Rule as BreaksRule}
 use Rattle.raft_safety.specs.declared.event.Event.{Event as RecordedEvent}
 use Rattle.raft_safety.specs.declared.rule.Rule.{Rule}

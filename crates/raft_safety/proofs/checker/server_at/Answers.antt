@@ -1,7 +1,7 @@
-use Rattle.std.proofs.Common.{◌≡◌, ◌∙◌, Some, None, true, length, ap, inr, arith}
+use Rattle.std.proofs.Common.{◌≡◌, ◌∙◌, Some, None, true, length, refl, sym, ap, inl, inr, arith}
 use Rattle.std.specs.List.{position}
 use Rattle.raft_safety.specs.declared.checker.server.Server.{Server}
-use Rattle.raft_safety.proofs.lemmas.CheckerCodeLemmas.{none_to_end, place_push}
+use Rattle.raft_safety.proofs.lemmas.CheckerCodeLemmas.{none_to_end, place_push, search_ends, search_more}
 use Rattle.raft_safety.proofs.checker.server_at.Goals as goal
 
 pub returns-clause-at : goal.returns-clause-at
@@ -26,3 +26,19 @@ returns-clause-at g c =
         added = c.in_ok-push.ensures.items;
       }),
     )
+
+pub loop-i-preserved : goal.loop-i-preserved
+loop-i-preserved g c =
+    search_more (λ (s : Server g.row.T.Denot g.row.N.Denot g.row.D.Denot). g.N.PartialEq.eq s.id c.args.id)
+    c.args.servers.now.items c.loop-i.i c.server-item.result (omega arith)
+    (rw c.deref-server-items.ensures.value at c.server-item.is) (sym c.eq.ensures ∙ c.if-eq.false)
+    c.loop-i.invariant
+
+pub returns-then-eq-clause-at : goal.returns-then-eq-clause-at
+returns-then-eq-clause-at g c = (
+  search_ends (λ (s : Server g.row.T.Denot g.row.N.Denot g.row.D.Denot). g.N.PartialEq.eq s.id c.args.id)
+      c.args.servers.now.items c.loop-i.i c.server-item.result (omega arith)
+      (rw c.deref-server-items.ensures.value at c.server-item.is) (sym c.eq.ensures ∙ c.if-eq.true)
+      c.loop-i.invariant,
+  inl refl,
+)

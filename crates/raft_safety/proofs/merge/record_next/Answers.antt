@@ -1,6 +1,33 @@
-use Rattle.std.proofs.Common.{◌≡◌, ◌+◌, ◌≤◌, ◌∙◌, ℕ, List, Some, length, get_or, set, slice_get, refl, sym, ap, inl, inr, arith}
+use Rattle.std.proofs.Common.{
+  ◌≡◌,
+  ◌+◌,
+  ◌≤◌,
+  ◌∙◌,
+  ℕ,
+  List,
+  Some,
+  length,
+  get_or,
+  set,
+  slice_get,
+  refl,
+  sym,
+  ap,
+  inl,
+  inr,
+  arith,
+}
 use Rattle.std.proofs.lemmas.Option.{slice_get-get_or, slice_get_read}
-use Rattle.raft_safety.proofs.lemmas.MergeLemmas.{all_ended, all_tried, ended_more, next_read, none_tried, or_some, tried_ended, tried_refused}
+use Rattle.raft_safety.proofs.lemmas.MergeLemmas.{
+  all_ended,
+  all_tried,
+  ended_more,
+  next_read,
+  none_tried,
+  or_some,
+  tried_ended,
+  tried_refused,
+}
 use Rattle.raft_safety.proofs.merge.record_next.Goals as goal
 use Rattle.raft_safety.proofs.merge.record_next.Goals.{then-placed-i+in-Err-Rule, else-placed-i}
 

@@ -3,7 +3,10 @@ use Rattle.std.proofs.lemmas.Bool.{le-leb, lt-leb}
 use Rattle.std.proofs.lemmas.Bool.Decides.{nat_tests}
 use Rattle.raft_safety.proofs.lemmas.CheckerCodeLemmas.{rest_is}
 use Rattle.raft_safety.proofs.checker.broken.append_rule.Goals as goal
-use Rattle.raft_safety.proofs.checker.broken.append_rule.Goals.{else-keep-matching-via-then-keep-matching+else-common_len-entries, else-keep-matching-via-else-keep-matching}
+use Rattle.raft_safety.proofs.checker.broken.append_rule.Goals.{
+  else-keep-matching-via-then-keep-matching+else-common_len-entries,
+  else-keep-matching-via-else-keep-matching,
+}
 
 pub returns-then-not-leader : goal.returns-then-not-leader
 returns-then-not-leader g c = rw c.if-not-leader.true

@@ -17,7 +17,8 @@ loop-i-preserved g c =
     (drop c.loop-i.i c.args.b.now) ≡ suc (common_len (same_entry_by g.T.PartialEq.eq g.D.PartialEq.eq)
     (drop (c.loop-i.i + 1) c.args.a.now) (drop (c.loop-i.i + 1) c.args.b.now)) =
     common_more (same_entry_by g.T.PartialEq.eq g.D.PartialEq.eq) c.args.a.now c.args.b.now c.loop-i.i c.index-a-i.result
-    c.index-b-i.result true (omega arith) (omega arith) c.index-a-i.is c.index-b-i.is (sym c.same_entry.ensures ∙ c.if-not-same_entry.false) in
+    c.index-b-i.result true (omega arith) (omega arith)
+    c.index-a-i.is c.index-b-i.is (sym c.same_entry.ensures ∙ c.if-not-same_entry.false) in
     omega (arith, c.loop-i.invariant)
 
 pub returns-then-not-same_entry-clause-common : goal.returns-then-not-same_entry-clause-common
@@ -25,5 +26,6 @@ returns-then-not-same_entry-clause-common g c =
     let next : common_len (same_entry_by g.T.PartialEq.eq g.D.PartialEq.eq) (drop c.loop-i.i c.args.a.now)
     (drop c.loop-i.i c.args.b.now) ≡ 0 =
     common_more (same_entry_by g.T.PartialEq.eq g.D.PartialEq.eq) c.args.a.now c.args.b.now c.loop-i.i c.index-a-i.result
-    c.index-b-i.result false (omega arith) (omega arith) c.index-a-i.is c.index-b-i.is (sym c.same_entry.ensures ∙ c.if-not-same_entry.true) in
+    c.index-b-i.result false (omega arith) (omega arith)
+    c.index-a-i.is c.index-b-i.is (sym c.same_entry.ensures ∙ c.if-not-same_entry.true) in
     omega (arith, c.loop-i.invariant)
