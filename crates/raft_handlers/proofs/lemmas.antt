@@ -5,6 +5,7 @@ pub mod HonestLemmas
 pub mod KnownLemmas
 pub mod MajorityLemmas
 pub mod RefusalLemmas
+pub mod RestartLemmas
 pub mod RunLemmas
 pub mod SendLemmas
 pub mod SnapshotLemmas

@@ -6,6 +6,7 @@ pub mod Honest
 pub mod Leadership
 pub mod Proposals
 pub mod Responses
+pub mod Restart
 pub mod Snapshot
 pub mod Start
 pub mod Vote

@@ -1,6 +1,13 @@
 //! A restart: the state of a server from what its disk has.
-ghost use Rattle.std.specs.Prelude.{◌≡◌, ◌≤◌, IfOk, length};
+ghost use Rattle.std.specs.Prelude.{◌≡◌, ◌≤◌, ◌++◌, None, true, IfErr, IfOk, IsOk, IsTrue, OnErr, OnOk, drop, length};
 ghost use Rattle.std.specs.Set.{ClonesAreEqual};
+ghost use Rattle.raft_base.specs.LogId.{next_index};
+ghost use Rattle.raft_handlers.specs.Append.{greatest};
+ghost use Rattle.raft_handlers.specs.Entries.{entry_ids, RefusedUnless};
+ghost use Rattle.raft_handlers.specs.Restart.{entries_past, snapshot_fits, snapshot_ids, AppendsStored, CommitsKnown, HasSnapshotAlone, IsRestartRefusal, IsSnapshotAt};
+ghost use Rattle.raft_state.specs.Accepted.{last_accepted};
+ghost use Rattle.raft_state.specs.log_id_list.FullLog.{full_log, same_log};
+ghost use Rattle.raft_state.specs.membership_state.Memberships.{Memberships};
 ghost use Rattle.raft_state.specs.raft_state.Sound.{IsSound};
 ghost use Rattle.raft_state.specs.raft_state.StateView.{vote_of};
 
@@ -36,10 +43,29 @@ pub fn restart_server<NID: NodeId, N: Node, I: Instant, L: LeaderIdentity<Id = N
 ) -> Result<State<NID, N, I, L>, HandlerError>
     requires clones_are_equal { ClonesAreEqual N.eq N.is_clone }
     ensures vote { IfOk result (λ state. vote_of state ≡ stored.now.vote) }
+    ensures accepted { IfOk result (λ state. last_accepted state.accepted ≡ None) }
+    ensures log { IfOk result (λ state. IsTrue (same_log L.Committed.eq (full_log state.log_ids)
+        (snapshot_ids stored.now.snapshot.last_log_id ++ entry_ids (entries_past
+        L.Committed.eq stored.now.snapshot.last_log_id stored.now.entries.items)))) }
+    ensures purge_point { IfOk result (λ state.
+        state.purge_upto ≡ stored.now.snapshot.last_log_id) }
+    ensures purged { IfOk result (λ state.
+        state.purged_next ≡ next_index stored.now.snapshot.last_log_id) }
+    ensures snapshot { IfOk result (λ state. IsSnapshotAt NID.eq N.eq
+        stored.now.snapshot.last_log_id stored.now.snapshot state.snapshot_meta) }
+    ensures committed { IfOk result (λ state. (m : Memberships L.Committed NID N)
+        × AppendsStored L.Committed.cmp NID.eq N.eq stored.now.snapshot (entries_past
+        L.Committed.eq stored.now.snapshot.last_log_id stored.now.entries.items)
+        stored.now.committed m
+        × CommitsKnown L.Committed.eq L.Committed.cmp
+        (greatest L.Committed.cmp stored.now.snapshot.last_log_id stored.now.committed)
+        m state) }
+    ensures refused { IfErr result (IsRestartRefusal L.Committed.eq L.Committed.cmp
+        stored.now.snapshot stored.now.entries.items stored.now.committed) }
     ensures sound { IfOk result (IsSound L.Committed.eq L.Committed.cmp) }
 {
     let mut state: State<NID, N, I, L> = from_snapshot(alloc, &stored.snapshot)?;
-    let place = first_after(&state, &stored.entries);
+    let place = first_past(stored.snapshot.last_log_id, &stored.entries);
     append_new(&mut state, &stored.entries[place..], stored.committed)?;
     commit_known(&mut state)?;
     state.accepted = AcceptedIn::new(L::default(), None);
@@ -52,12 +78,19 @@ pub fn restart_server<NID: NodeId, N: Node, I: Instant, L: LeaderIdentity<Id = N
 fn commit_known<NID: NodeId, N: Node, I: Instant, L: Drop, C: Ord + Copy + Drop>(
     state: &mut RaftStateIn<NID, N, I, L, C>,
 ) -> Result<(), AllocError>
+    ensures known { OnOk result (CommitsKnown C.eq C.cmp state.old.committed
+        state.old.membership_state state.new) }
+    ensures rest { state.new ≡ record state.old {
+      committed = state.new.committed;
+      membership_state = state.new.membership_state;
+    } }
     ensures sound { IsSound C.eq C.cmp state.old → IsSound C.eq C.cmp state.new }
 {
     let known = *state.membership_state.committed().log_id();
-    if state.is_logged(&known) && state.can_commit(&known) {
-        state.update_committed(&known)?;
+    if !state.is_logged(&known) || !state.can_commit(&known) {
+        return Ok(());
     }
+    state.update_committed(&known)?;
     Ok(())
 }
 
@@ -67,6 +100,11 @@ fn from_snapshot<NID: NodeId, N: Node, I: Instant, L: LeaderIdentity<Id = NID> +
     snapshot: &SnapshotMetaOf<L::Committed, NID, N>,
 ) -> Result<State<NID, N, I, L>, HandlerError>
     requires clones_are_equal { ClonesAreEqual N.eq N.is_clone }
+    ensures snapshot { IfOk result (HasSnapshotAlone NID.eq N.eq snapshot.now) }
+    ensures fits { OnOk result (IsTrue (snapshot_fits L.Committed.cmp
+        snapshot.now.last_log_id snapshot.now.last_membership)) }
+    ensures refused { IfErr result (RefusedUnless (snapshot_fits L.Committed.cmp
+        snapshot.now.last_log_id snapshot.now.last_membership) true true true true) }
     ensures sound { IfOk result (IsSound L.Committed.eq L.Committed.cmp) }
 {
     let mut state = State::<NID, N, I, L>::try_default(alloc)?;
@@ -84,20 +122,24 @@ fn from_snapshot<NID: NodeId, N: Node, I: Instant, L: LeaderIdentity<Id = NID> +
     Ok(state)
 }
 
-/// Returns the place of the first entry past what is purged, or the number of entries if there is
-/// none, or if the log has another log id at the index of the last purged one.
-fn first_after<NID: NodeId, N: Node, I: Instant, L: Drop, C: Ord + Copy + Drop, D>(
-    state: &RaftStateIn<NID, N, I, L, C>,
+/// Returns the place of the first entry past the last log id of a snapshot, or the number of entries
+/// if there is none, or if another leader's entry has the index of that log id.
+fn first_past<NID: NodeId, N: Node, C: Ord + Copy, D>(
+    last: Option<LogIdOf<C>>,
     entries: &[EntryOf<C, NID, N, D>],
 ) -> usize
-    ensures { result ≤ length entries.now }
+    ensures within { result ≤ length entries.now }
+    ensures past { drop result entries.now ≡ entries_past C.eq last entries.now }
 {
+    let Some(upto) = last else {
+        return 0;
+    };
     for (place, entry) in entries.iter().enumerate() {
-        let index = entry.log_id.index;
-        if index >= state.purged_next {
+        let log_id = entry.log_id;
+        if upto.index < log_id.index {
             return place;
         }
-        if state.purged_next - index == 1 && !state.is_logged(&Some(entry.log_id)) {
+        if log_id.index == upto.index && log_id.leader_id != upto.leader_id {
             return entries.len();
         }
     }

@@ -1,0 +1,344 @@
+-- A server that has a snapshot alone, and the entries past it.
+use Rattle.std.proofs.Common.{
+  ◌≡◌,
+  ℕ,
+  ◌+◌,
+  ◌^◌,
+  ◌<◌,
+  ◌≤◌,
+  Bool,
+  true,
+  false,
+  ◌&&◌,
+  ◌||◌,
+  List,
+  [],
+  ◌∷◌,
+  ◌++◌,
+  Option,
+  Some,
+  None,
+  IsTrue,
+  if◌then◌else◌,
+  nat_eq,
+  nat_le,
+  nat_lt,
+  not,
+  refl,
+  sym,
+  subst,
+  ap,
+  arith,
+  inl,
+  inr,
+  true≢false,
+  ◌∙◌,
+}
+use Rattle.std.proofs.lemmas.Bool.{and_parts, cases_lt}
+use Rattle.std.proofs.lemmas.Bool.Decides.{nat_tests}
+use Rattle.std.proofs.lemmas.List.{append-nil}
+use Rattle.std.specs.Cmp.{IsEquivalence, IsPartialOrder, IsTotalOrder}
+use Rattle.std.specs.Prelude.{is_some, IfSome}
+use Rattle.std.specs.declared.cmp.Ordering.{Ordering}
+use Rattle.std.specs.declared.cmp.Ordering.TheVariants.{Equal}
+use Rattle.std.specs.Cmp.Derive.{both_true}
+use Rattle.std.specs.Ordering.{partial_ge}
+use Rattle.raft_base.specs.LogId.{id_le, id_lt, index_of, next_index}
+use Rattle.raft_base.specs.LogIndex.{index_le, index_lt}
+use Rattle.raft_base.specs.UTime.{moment_of, utime_of}
+use Rattle.raft_base.specs.Vote.{vote_cmp}
+use Rattle.raft_base.specs.declared.log_id.LogIdOf.{LogIdOf}
+use Rattle.raft_base.specs.declared.vote.VoteIn.{VoteIn}
+use Rattle.raft_base.specs.LogIdLawful.{optional-log_id_cmp-total}
+use Rattle.raft_handlers.proofs.lemmas.RefusalLemmas.{refused_unless_more}
+use Rattle.raft_handlers.specs.Append.{memberships_before, TakesMemberships}
+use Rattle.raft_handlers.specs.Entries.{
+  allows_commit_past,
+  are_in_order,
+  effective_before,
+  effective_with,
+  ends_before,
+  entry_ids,
+  has_committed_with,
+  has_id,
+  has_memberships_in_order,
+  keeps_committed,
+  last_before,
+  log_with_new,
+  IsNewRefusal,
+}
+use Rattle.raft_handlers.specs.Restart.{
+  entries_past,
+  snapshot_fits,
+  snapshot_ids,
+  snapshot_membership,
+  AppendsStored,
+  AreSnapshotMemberships,
+  CommitsKnown,
+  HasSnapshotAlone,
+  IsMembershipAt,
+  IsRestartRefusal,
+  IsSnapshotAt,
+}
+use Rattle.raft_handlers.specs.declared.error.HandlerError.{HandlerError}
+use Rattle.raft_members.specs.membership.Stored.{log_id_of}
+use Rattle.raft_members.specs.declared.membership.stored.StoredMembershipOf.{StoredMembershipOf}
+use Rattle.raft_state.proofs.lemmas.log_id_list.IdOrderLemmas.{none_at_most}
+use Rattle.raft_progress.proofs.lemmas.OrderLemmas.{AtMost-refl, not_lt-from_AtMost}
+use Rattle.raft_state.specs.Accepted.{accepted_from}
+use Rattle.raft_state.specs.SnapshotMeta.{IsSnapshotCopy}
+use Rattle.raft_state.specs.log_id_list.FullLog.{full_log}
+use Rattle.raft_state.specs.log_id_list.LogEdits.{front, log_after_purge}
+use Rattle.raft_state.specs.log_id_list.LogReads.{id_at, last_id}
+use Rattle.raft_state.specs.membership_state.MembershipMoves.{after_commit, may_commit}
+use Rattle.raft_state.specs.membership_state.Memberships.{index_at, IsNoMembership, Memberships}
+use Rattle.raft_state.specs.raft_state.Commit.{state_after_commit, state_may_commit}
+use Rattle.raft_state.specs.raft_state.Install.{
+  is_logged,
+  is_not_above,
+  is_not_past,
+  is_past_committed,
+  keeps_committed as loses_no_membership,
+  keeps_effective,
+  log_after_install,
+  log_to_keep,
+  may_accept,
+  may_install,
+  may_install_to,
+  memberships_after_install,
+  state_after_install,
+}
+use Rattle.raft_state.specs.raft_state.NewState.{HasNewVote, IsNewState}
+use Rattle.raft_state.specs.raft_state.StateView.{view_of, vote_of}
+use Rattle.raft_state.specs.raft_state.Valid.{none_or_logged}
+use Rattle.raft_state.specs.declared.entry.EntryOf.{EntryOf}
+use Rattle.raft_state.specs.declared.raft_state.RaftStateIn.{RaftStateIn}
+use Rattle.raft_state.specs.declared.snapshot_meta.SnapshotMetaOf.{SnapshotMetaOf}
+
+no_index_at_most : (o : Option ℕ) → index_le None o ≡ true
+no_index_at_most None = refl
+no_index_at_most (Some i) = refl
+
+and_true : (b : Bool) → (b && true) ≡ b
+and_true true = refl
+and_true false = refl
+
+pub some_there : {X : Type 0} (o : Option X) → is_some o ≡ true → (x : X) × (o ≡ Some x)
+some_there None h = absurd (true≢false (sym h))
+some_there (Some x) h = (x, refl)
+
+-- a committed vote is at least the vote for the same leader
+pub promises_own : {L : Type 0} (eq : L → L → Bool) (order : L → L → Option Ordering) → IsEquivalence eq → IsPartialOrder eq order
+    → (leader : L) → partial_ge (vote_cmp order) (record { leader_id = leader; committed = true })
+    (record { leader_id = leader; committed = false }) ≡ true
+promises_own eq order eqs partial leader =
+    let same : order leader leader ≡ Some Equal = (partial.matches_eq leader leader).0 (eqs.refl leader) in rw same refl
+
+-- a leader that nothing was accepted from but itself may be accepted from
+pub accepts_own : {K N I L C : Type 0} (eq : L → L → Bool) (order : L → L → Option Ordering) → IsEquivalence eq → IsPartialOrder eq order
+    → (s : RaftStateIn K N I L C) (leader : L) → (vote_of s).leader_id ≡ leader → (vote_of s).committed ≡ true
+    → s.accepted ≡ accepted_from leader None → may_accept order s ≡ true
+accepts_own eq order eqs partial s leader is committed accepted =
+    let same : order leader leader ≡ Some Equal = (partial.matches_eq leader leader).0 (eqs.refl leader) in
+    rw (committed, is, accepted, same) refl
+
+module _ {K N I L C : Type 0} (id_eq : K → K → Bool) (same : N → N → Bool) where
+  -- a new state has no snapshot
+  pub alone_new : (meta : SnapshotMetaOf C K N) (s : RaftStateIn K N I L C) → meta.last_log_id ≡ None → IsNewState s
+      → HasSnapshotAlone id_eq same meta s
+  alone_new meta s none new = record {
+    log = rw none new.log;
+    committed = rw none new.committed;
+    purged_next = rw none new.purged_next;
+    purge_point = rw none new.purge_upto;
+    memberships = rw none (new.committed_membership, new.effective_membership);
+    snapshot = rw none new.snapshot_meta;
+  }
+
+  -- after an install it has that snapshot
+  pub alone_installed : (same_leader : L → L → Bool) (cmp : C → C → Ordering) (eq : C → C → Bool) (meta copy : SnapshotMetaOf C K N)
+      (old new : RaftStateIn K N I L C) (last : LogIdOf C) → meta.last_log_id ≡ Some last → full_log old.log_ids ≡ []
+      → IsSnapshotCopy id_eq same meta copy
+      → IfSome copy.last_log_id (λ upto. full_log new.log_ids ≡ log_after_install eq upto old)
+      → IsSnapshotCopy id_eq same meta new.snapshot_meta
+      → IfSome copy.last_log_id (λ upto. new ≡ record (state_after_install same_leader cmp eq upto copy.last_membership old) {
+        log_ids = new.log_ids;
+        snapshot_meta = new.snapshot_meta;
+      }) → HasSnapshotAlone id_eq same meta new
+  alone_installed same_leader cmp eq meta copy old new last is empty copied log snapshot ok =
+      let upto : copy.last_log_id ≡ Some last = copied.last_log_id ∙ is in
+      let state = rw upto at ok in
+      let kept : is_logged eq last old ≡ false = rw empty refl in
+      let purged = rw upto at log in
+      let begins : nat_le 0 last.index ≡ true = grind (arith, nat_tests) in
+      let members : new.membership_state ≡ record { committed = copy.last_membership; effective = copy.last_membership } =
+      ap (λ s. s.membership_state) state ∙ rw kept refl in
+      record {
+        log = rw is (purged ∙ rw (kept, begins) refl);
+        committed = rw is (ap (λ s. s.committed) state);
+        purged_next = rw is (ap (λ s. s.purged_next) state);
+        purge_point = rw is (ap (λ s. s.purge_upto) state);
+        memberships = rw (is, members) ((copied.log_id, copied.membership), (copied.log_id, copied.membership));
+        snapshot = subst (λ (o : Option (LogIdOf C)). IsSnapshotAt id_eq same o meta new.snapshot_meta) (sym is) snapshot;
+      }
+
+  -- and it may be installed exactly if it fits
+  pub fits_alone : (order : L → L → Option Ordering) (cmp : C → C → Ordering) (eq : C → C → Bool) (meta : SnapshotMetaOf C K N)
+      (s : RaftStateIn K N I L C) (last : LogIdOf C) → meta.last_log_id ≡ Some last → full_log s.log_ids ≡ [] → s.committed ≡ None
+      → IsNoMembership s.membership_state.committed → may_accept order s ≡ true
+      → may_install order cmp eq meta s ≡ snapshot_fits cmp meta.last_log_id meta.last_membership
+  fits_alone order cmp eq meta s last is empty committed member accept =
+      let none = member.log_id in
+      let low : is_not_above cmp s.membership_state.committed meta.last_membership ≡ true =
+      rw none (both_true (none_at_most cmp (log_id_of meta.last_membership)) (no_index_at_most (index_at meta.last_membership))) in
+      let kept : is_logged eq last s ≡ false = rw empty refl in
+      rw (is, committed, low, accept, kept)
+      (and_true ((nat_lt (last.index + 1) (2 ^ 64) && is_not_past cmp last meta.last_membership && true) && true)
+      ∙ and_true (nat_lt (last.index + 1) (2 ^ 64) && is_not_past cmp last meta.last_membership && true)
+      ∙ and_true (nat_lt (last.index + 1) (2 ^ 64) && is_not_past cmp last meta.last_membership))
+
+-- a new state that has promised the committed vote for its own leader
+module _ {K N I L C : Type 0} (id_eq : K → K → Bool) (same : N → N → Bool) (same_leader : L → L → Bool)
+    (order : L → L → Option Ordering) (cmp : C → C → Ordering) (eq : C → C → Bool) (leaders : IsEquivalence same_leader)
+    (partial : IsPartialOrder same_leader order) (leader : L) (elected : C) (s new : RaftStateIn K N I L C) (fresh : IsNewState s)
+    (own : HasNewVote leader elected s) (vote : VoteIn L) (is_vote : vote ≡ record (vote_of s) { committed = true }) (taken : Bool)
+    (answer : taken ≡ partial_ge (vote_cmp order) vote (vote_of s))
+    (is : new ≡ (let t : RaftStateIn K N I L C = (if taken then record s { vote = utime_of vote (moment_of s.vote) } else s) in t)) where
+  made : vote ≡ record { leader_id = leader; committed = true }
+  made = is_vote ∙ ap (λ v. record { leader_id = v.leader_id; committed = true }) own.vote
+
+  pub promised : new ≡ record s { vote = utime_of vote (moment_of s.vote) }
+  promised = let yes : taken ≡ true = answer ∙ rw (made, own.vote) (promises_own same_leader order leaders partial leader) in rw yes at is
+
+  pub fits_promised : (meta : SnapshotMetaOf C K N) → is_some meta.last_log_id ≡ true
+      → may_install order cmp eq meta new ≡ snapshot_fits cmp meta.last_log_id meta.last_membership
+  fits_promised meta some =
+      let there = some_there meta.last_log_id some in
+      let accept = accepts_own same_leader order leaders partial new leader
+      (ap (λ t. (vote_of t).leader_id) promised ∙ ap (λ v. v.leader_id) made)
+      (ap (λ t. (vote_of t).committed) promised ∙ ap (λ v. v.committed) made) (ap (λ t. t.accepted) promised ∙ own.accepted) in
+      fits_alone id_eq same order cmp eq meta new there.0 there.1 (rw promised fresh.log)
+      (ap (λ t. t.committed) promised ∙ fresh.committed) (rw promised fresh.committed_membership) accept
+
+-- entries past a snapshot are past its last log id
+pub past_begin : {C K N D : Type 0} (eq : C → C → Bool) (last : Option (LogIdOf C)) (es rest : List (EntryOf C K N D)) (e : EntryOf C K N D)
+    → entries_past eq last es ≡ e ∷ rest → next_index last ≤ e.log_id.index
+past_begin eq None es rest e h = omega arith
+past_begin eq (Some last) [] rest e h = cc
+past_begin {C} {K} {N} {D} eq (Some last) (x ∷ xs) rest e h =
+    by (nat_lt last.index x.log_id.index) refl
+    (nat_eq x.log_id.index last.index && not (eq x.log_id.leader_id last.leader_id)) (past_begin eq (Some last) xs rest e) h
+  where
+    by : (t : Bool) → t ≡ nat_lt last.index x.log_id.index → (u : Bool)
+        → (entries_past eq (Some last) xs ≡ e ∷ rest → last.index + 1 ≤ e.log_id.index)
+        → (if t then x ∷ xs else (if u then [] else entries_past eq (Some last) xs)) ≡ e ∷ rest → last.index + 1 ≤ e.log_id.index
+    by true t u more h = let is : x ≡ e = cc in rw (← is) (grind (arith, nat_tests))
+    by false t true more h = cc
+    by false t false more h = more h
+
+-- a log of a snapshot alone has nothing past it
+pub front_alone : {C : Type 0} (last : Option (LogIdOf C)) (i : ℕ) → next_index last ≤ i → front (snapshot_ids last) i ≡ snapshot_ids last
+front_alone None i le = refl
+front_alone (Some x) i le = let t : nat_lt x.index i ≡ true = grind (arith, nat_tests) in rw t refl
+
+pub last_alone : {C : Type 0} (last : Option (LogIdOf C)) → last_id (snapshot_ids last) ≡ last
+last_alone None = refl
+last_alone (Some x) = refl
+
+-- what a server with a snapshot alone has before entries past the snapshot
+module _ {K N I L C : Type 0} (id_eq : K → K → Bool) (same : N → N → Bool) (cmp : C → C → Ordering) (eq : C → C → Bool)
+    (meta : SnapshotMetaOf C K N) (s : RaftStateIn K N I L C) (alone : HasSnapshotAlone id_eq same meta s) where
+  last_is : last_id (full_log s.log_ids) ≡ meta.last_log_id
+  last_is = rw alone.log (last_alone meta.last_log_id)
+
+  ends_alone : (i : ℕ) → next_index meta.last_log_id ≤ i → ends_before i s ≡ true
+  ends_alone i le = rw last_is (by meta.last_log_id le)
+    where
+      by : (o : Option (LogIdOf C)) → next_index o ≤ i → index_lt (index_of o) (Some i) ≡ true
+      by None le = refl
+      by (Some x) le = grind (arith, nat_tests)
+
+  effective_alone : log_id_of s.membership_state.effective ≡ snapshot_membership meta.last_log_id meta.last_membership
+  effective_alone = by meta.last_log_id alone.memberships.1
+    where
+      by : (o : Option (LogIdOf C)) → IsMembershipAt id_eq same o meta.last_membership s.membership_state.effective
+          → log_id_of s.membership_state.effective ≡ snapshot_membership o meta.last_membership
+      by None m = m.log_id
+      by (Some x) m = m.0
+
+  module _ {D : Type 0} (stored : List (EntryOf C K N D)) where
+    pub before_alone : (new : List (EntryOf C K N D)) → entries_past eq meta.last_log_id stored ≡ new
+        → (memberships_before new s ≡ s.membership_state) × (last_before new s ≡ meta.last_log_id)
+        × (effective_before new s ≡ snapshot_membership meta.last_log_id meta.last_membership)
+        × (keeps_committed cmp new s ≡ true) × (log_with_new (full_log s.log_ids) new ≡ snapshot_ids meta.last_log_id ++ entry_ids new)
+    before_alone [] is = (refl, last_is, effective_alone, refl, rw alone.log (sym (append-nil (snapshot_ids meta.last_log_id))))
+    before_alone (e ∷ es) is =
+        let le = past_begin eq meta.last_log_id stored es e is in
+        let ends = ends_alone e.log_id.index le in
+        let front_is : front (full_log s.log_ids) e.log_id.index ≡ snapshot_ids meta.last_log_id =
+        rw alone.log (front_alone meta.last_log_id e.log_id.index le) in (
+          rw ends refl,
+          ap last_id front_is ∙ last_alone meta.last_log_id,
+          rw ends effective_alone,
+          rw ends refl,
+          ap (λ xs. xs ++ entry_ids (e ∷ es)) front_is,
+        )
+
+    -- entries past the snapshot are refused for what a restart is refused for
+    pub restart_refused : (new : List (EntryOf C K N D)) → entries_past eq meta.last_log_id stored ≡ new
+        → (committed : Option (LogIdOf C)) (e : HandlerError) → IsNewRefusal eq cmp new committed s e
+        → IsRestartRefusal eq cmp meta stored committed e
+    restart_refused new is committed e refused =
+        let b = before_alone new is in
+        let effective = snapshot_membership meta.last_log_id meta.last_membership in
+        let order = are_in_order cmp meta.last_log_id new in
+        let members = has_memberships_in_order cmp effective new
+        && allows_commit_past cmp (effective_with effective new) meta.last_log_id committed in
+        let has = has_committed_with eq cmp (snapshot_ids meta.last_log_id) meta.last_log_id new committed in
+        rw is (refused_unless_more true true order members has (snapshot_fits cmp meta.last_log_id meta.last_membership) true order members has
+        (λ h. absurd (true≢false h)) (λ h. h) (λ h. h) (λ h. h) (λ h. h) e
+        (rw (b.3, b.1, b.2, alone.log, alone.committed) at refused))
+
+    -- and what they make of the memberships
+    pub restart_members : (new : List (EntryOf C K N D)) → entries_past eq meta.last_log_id stored ≡ new
+        → (committed : Option (LogIdOf C)) (m : Memberships C K N) → TakesMemberships cmp id_eq same new committed s m
+        → AppendsStored cmp id_eq same meta (entries_past eq meta.last_log_id stored) committed m
+    restart_members new is committed m takes =
+        let b = before_alone new is in
+        rw is (s.membership_state, takes.0, alone.memberships, rw b.0 at takes.1, rw alone.committed at takes.2)
+
+-- what is known to be committed
+not_below : {C : Type 0} (cmp : C → C → Ordering) → IsTotalOrder cmp → (o : Option (LogIdOf C)) → id_lt cmp o o ≡ false
+not_below cmp total o = not_lt-from_AtMost (optional-log_id_cmp-total total) o o (AtMost-refl (optional-log_id_cmp-total total) o)
+
+either_way : {C : Type 0} (b : Bool) (o : Option (LogIdOf C)) → o ≡ (if b then o else o)
+either_way true o = refl
+either_way false o = refl
+
+module _ {K N I L C : Type 0} (eq : C → C → Bool) (cmp : C → C → Ordering) (total : IsTotalOrder cmp) where
+  has_is : (s : RaftStateIn K N I L C) (o : Option (LogIdOf C)) → none_or_logged eq (view_of s) o ≡ has_id eq (full_log s.log_ids) o
+  has_is s None = refl
+  has_is s (Some x) = refl
+
+  pub is_known : (s new : RaftStateIn K N I L C) → none_or_logged eq (view_of s) (log_id_of s.membership_state.committed) ≡ true
+      → state_may_commit cmp (log_id_of s.membership_state.committed) s ≡ true
+      → new ≡ state_after_commit cmp (log_id_of s.membership_state.committed) s
+      → CommitsKnown eq cmp s.committed s.membership_state new
+  is_known s new logged may is =
+      rw is (by (id_lt cmp s.committed (log_id_of s.membership_state.committed)) refl
+      (sym (has_is s (log_id_of s.membership_state.committed)) ∙ logged) may)
+    where
+      by : (t : Bool) → t ≡ id_lt cmp s.committed (log_id_of s.membership_state.committed)
+          → has_id eq (full_log s.log_ids) (log_id_of s.membership_state.committed) ≡ true
+          → (if t then may_commit cmp (log_id_of s.membership_state.committed) s.membership_state else true) ≡ true
+          → CommitsKnown eq cmp s.committed s.membership_state (let u : RaftStateIn K N I L C = (if t then record s {
+            committed = log_id_of s.membership_state.committed;
+            membership_state = after_commit cmp (log_id_of s.membership_state.committed) s.membership_state;
+          } else s) in u)
+      by true e has may = record { known = rw (has, may, ← e) refl; memberships = rw (← e) refl }
+      by false e has may = record {
+        known = rw (← e)
+            (either_way (has_id eq (full_log s.log_ids) (log_id_of s.membership_state.committed)
+            && may_commit cmp (log_id_of s.membership_state.committed) s.membership_state) s.committed);
+        memberships = rw (not_below cmp total s.committed) refl;
+      }
