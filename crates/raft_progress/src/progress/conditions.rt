@@ -5,7 +5,7 @@ ghost use Rattle.std.specs.List.{IsDistinct, list_all, list_any};
 ghost use Rattle.std.specs.List.Sorted.{IsSorted};
 ghost use Rattle.std.specs.Option.{option_copied};
 ghost use Rattle.raft_progress.specs.Inner.Recount.{at_least};
-ghost use Rattle.raft_progress.specs.Inner.Conditions.{among, comes_before, ids_differ, is_ordered, never_rises};
+ghost use Rattle.raft_progress.specs.Inner.Conditions.{comes_before, ids_differ, is_ordered, never_rises};
 ghost use Rattle.raft_progress.specs.progress.Steps.{falls};
 
 use super::part::ProgressPart;
@@ -54,8 +54,8 @@ fn has_id<ID: Copy + Ord, V>(walk: &[(ID, V)], id: ID) -> bool
     walk.iter().any(|entry| entry.0 == id)
 }
 
-/// Whether no id is repeated.
-fn has_distinct_ids<ID: Copy + Ord, V>(walk: &[(ID, V)]) -> bool
+/// Whether no id is repeated, by a comparison of each two ids.
+pub(crate) fn has_distinct_ids<ID: Copy + Ord, V>(walk: &[(ID, V)]) -> bool
     ensures { result ≡ ids_differ ID.eq walk.now }
 {
     for place in 0..walk.len() {
@@ -80,41 +80,36 @@ fn is_falling<ID: Copy, V: ProgressPart<P>, P: Copy + Ord>(voters: &[(ID, V)], g
     true
 }
 
-/// Whether each voter's part is at least `least`.
-fn is_at_least<ID: Copy, V: ProgressPart<P>, P: Copy + Ord>(voters: &[(ID, V)], least: P) -> bool
-    ensures { result ≡ list_all (at_least P.cmp V.part_of least) voters.now }
+/// Whether each entry's part is at least `least`.
+pub(crate) fn is_at_least<ID: Copy, V: ProgressPart<P>, P: Copy + Ord>(
+    entries: &[(ID, V)],
+    least: P,
+) -> bool
+    ensures { result ≡ list_all (at_least P.cmp V.part_of least) entries.now }
 {
-    voters
+    entries
         .iter()
         .all(|entry| least.cmp(&entry.1.part()).is_le())
 }
 
-/// Whether no id is repeated, no voter above `granted` comes directly after one with a lesser part,
-/// and no voter's part is below the least allowed one.
+/// Whether no voter above `granted` comes directly after one with a lesser part, and no voter's part
+/// is below the least allowed one.
 pub(crate) fn is_ordered<ID: Copy + Ord, V: ProgressPart<P>, P: Copy + Ord>(
-    walk: &[(ID, V)],
     voters: &[(ID, V)],
     granted: P,
     least: P,
 ) -> bool
-    ensures { result ≡ is_ordered ID.eq P.cmp V.part_of granted least voters.now walk.now }
+    ensures { result ≡ is_ordered P.cmp V.part_of granted least voters.now }
 {
-    has_distinct_ids(walk) && is_falling(voters, granted) && is_at_least(voters, least)
+    is_falling(voters, granted) && is_at_least(voters, least)
 }
 
-/// Whether an id is one of the voters or one of the learners.
-pub(crate) fn is_among<ID: Copy + Ord>(voters: &[ID], learners: &[ID], id: &ID) -> bool
-    ensures { result ≡ among ID.eq voters.now learners.now id.now }
-{
-    voters.contains(id) || learners.contains(id)
-}
-
-/// Whether an id is below the least one so far, or there is none so far.
-pub(crate) fn is_before<ID: Copy + Ord>(id: ID, least: Option<ID>) -> bool
-    ensures { result ≡ comes_before ID.cmp id least }
+/// Whether an id or a part is below the least one so far, or there is none so far.
+pub(crate) fn is_before<T: Copy + Ord>(one: T, least: Option<T>) -> bool
+    ensures { result ≡ comes_before T.cmp one least }
 {
     match least {
-        Some(least) => id.cmp(&least).is_lt(),
+        Some(least) => one.cmp(&least).is_lt(),
         None => true,
     }
 }

@@ -1,5 +1,5 @@
 //! The position of each id among the entries, in a sorted list beside them.
-ghost use Rattle.std.specs.Prelude.{◌≡◌, ◌<◌, ◌≤◌, length, map, IfOk, Ok, Some};
+ghost use Rattle.std.specs.Prelude.{◌≡◌, ◌<◌, ◌≤◌, length, map, IfOk, IsTrue, Ok, Some};
 ghost use Rattle.std.specs.List.{IsDistinct};
 ghost use Rattle.std.specs.List.Sorted.{IsStrictlySortedBy};
 ghost use Rattle.std.specs.Map.{keys_of, values_of};
@@ -9,9 +9,9 @@ ghost use Rattle.raft_progress.specs.Inner.Places.{AreAllPlaces, AreInverse, Tel
 
 use std::alloc::{AllocError, Global};
 
-/// Up to this many ids are compared one after another by a look-up. More ids are searched by
-/// halving.
-const FEW: usize = 16;
+/// Up to this many ids are compared one after another. More ids are searched by halving, and the
+/// tests of a progress do more to compare fewer of them.
+pub(crate) const FEW: usize = 16;
 
 /// The position of each id among the entries, and the reverse.
 ///
@@ -73,6 +73,22 @@ impl<ID: Copy + Ord> Places<ID> {
             Ok(rank) => Some(self.entries[rank].1),
             Err(_) => None,
         }
+    }
+
+    /// Whether the ids of the entries are those of the list, at the same positions. If they are, no
+    /// id is repeated.
+    pub(crate) fn are_of<V>(&self, walk: &[(ID, V)]) -> bool
+        ensures { IsTrue result → IsDistinct ID.eq (keys_of walk.now) }
+    {
+        if self.ranks.len() != walk.len() {
+            return false;
+        }
+        for place in 0..walk.len() {
+            if self.entries[self.ranks[place]].0 != walk[place].0 {
+                return false;
+            }
+        }
+        true
     }
 
     /// Updates the positions after an entry was moved from `last` up to `first`. It never

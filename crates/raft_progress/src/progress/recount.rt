@@ -1,10 +1,13 @@
 //! The greatest part that a quorum has reached, recomputed from all voters.
-ghost use Rattle.std.specs.Prelude.{◌≡◌, ◌≤◌, length, filter, take};
+ghost use Rattle.std.specs.Prelude.{◌≡◌, ◌≤◌, [], false, length, filter, take};
+ghost use Rattle.std.specs.Option.{ForSome};
 ghost use Rattle.std.specs.List.{IsDistinct};
 ghost use Rattle.std.specs.Map.{keys_of};
 ghost use Rattle.raft_progress.specs.Inner.Recount.{IsGreatest, at_least, reaches};
 
+use super::conditions::is_before;
 use super::part::ProgressPart;
+use super::places::FEW;
 use raft_members::quorum::QuorumSet;
 
 /// Writes the ids of the voters whose part is at least `least` to the beginning of the scratch
@@ -45,11 +48,88 @@ fn is_reached<ID: Copy + Ord, V: ProgressPart<P>, P: Copy + Ord, QS: QuorumSet<I
     quorum_set.is_quorum(&room[..n])
 }
 
+/// Returns the part of a voter that equals `granted`, if there are many voters, a quorum has reached
+/// that part, and it exceeds the default's part. Otherwise it returns the default's part.
+fn reached_or_default<ID: Copy + Ord, V: ProgressPart<P>, P: Copy + Ord, QS: QuorumSet<ID>>(
+    quorum_set: &QS,
+    voters: &[(ID, V)],
+    default_part: P,
+    granted: P,
+    room: &mut [ID],
+) -> P
+    requires room { length voters.now ≤ length room.old }
+    requires distinct { IsDistinct ID.eq (keys_of voters.now) }
+    ensures { IsGreatest ID.eq P.cmp V.part_of (QS.has_quorum quorum_set.now)
+        voters.now [] default_part result }
+{
+    if voters.len() <= FEW {
+        return default_part;
+    }
+    for entry in voters {
+        let part = entry.1.part();
+        if granted.cmp(&part).is_eq() {
+            if default_part.cmp(&part).is_lt() && is_reached(quorum_set, voters, part, room) {
+                return part;
+            }
+            return default_part;
+        }
+    }
+    default_part
+}
+
+/// Returns the least part of the voters above `granted`.
+// It has no contract, because any part may be tested in its place.
+fn least_above<ID: Copy + Ord, V: ProgressPart<P>, P: Copy + Ord>(
+    voters: &[(ID, V)],
+    granted: P,
+) -> Option<P> {
+    let mut least: Option<P> = None;
+    for entry in voters {
+        let part = entry.1.part();
+        if granted.cmp(&part).is_lt() && is_before(part, least) {
+            least = Some(part);
+        }
+    }
+    least
+}
+
+/// Returns a part that no quorum has reached: the least one above `granted`, if there are many
+/// voters and it is such a part.
+fn unreached_above<ID: Copy + Ord, V: ProgressPart<P>, P: Copy + Ord, QS: QuorumSet<ID>>(
+    quorum_set: &QS,
+    voters: &[(ID, V)],
+    granted: P,
+    room: &mut [ID],
+) -> Option<P>
+    requires room { length voters.now ≤ length room.old }
+    requires distinct { IsDistinct ID.eq (keys_of voters.now) }
+    ensures { ForSome result (λ part. reaches ID.eq P.cmp V.part_of
+        (QS.has_quorum quorum_set.now) voters.now part ≡ false) }
+{
+    if voters.len() <= FEW {
+        return None;
+    }
+    match least_above(voters, granted) {
+        Some(part) => {
+            if is_reached(quorum_set, voters, part, room) {
+                None
+            } else {
+                Some(part)
+            }
+        }
+        None => None,
+    }
+}
+
 /// Returns the greatest of the default's part and of the voters' parts that a quorum has reached.
+// If there are many voters, `granted` is tested first, and the least part above it. If `granted` is
+// the greatest part, as it is in a progress in order, no other part is tested, because each greater
+// one is reached by fewer voters.
 pub(crate) fn count<ID: Copy + Ord, V: ProgressPart<P>, P: Copy + Ord, QS: QuorumSet<ID>>(
     quorum_set: &QS,
     voters: &[(ID, V)],
     default_part: P,
+    granted: P,
     room: &mut [ID],
 ) -> P
     requires room { length voters.now ≤ length room.old }
@@ -57,10 +137,14 @@ pub(crate) fn count<ID: Copy + Ord, V: ProgressPart<P>, P: Copy + Ord, QS: Quoru
     ensures { IsGreatest ID.eq P.cmp V.part_of (QS.has_quorum quorum_set.now)
         voters.now voters.now default_part result }
 {
-    let mut best = default_part;
+    let mut best = reached_or_default(quorum_set, voters, default_part, granted, room);
+    let unreached = unreached_above(quorum_set, voters, granted, room);
     for entry in voters {
         let part = entry.1.part();
-        if best.cmp(&part).is_lt() && is_reached(quorum_set, voters, part, room) {
+        if best.cmp(&part).is_lt()
+            && is_before(part, unreached)
+            && is_reached(quorum_set, voters, part, room)
+        {
             best = part;
         }
     }

@@ -11,9 +11,9 @@ mod update;
 mod upgrade;
 
 use super::Progress;
-use super::conditions::{are_distinct, is_ordered, with_learners, would_fall};
+use super::conditions::{are_distinct, has_distinct_ids, is_ordered, with_learners, would_fall};
 use super::part::ProgressPart;
-use super::places::Places;
+use super::places::{FEW, Places};
 use super::recount::count;
 use super::stat::Stat;
 use super::walk::place_all;
@@ -57,6 +57,7 @@ impl<
     ghost use Rattle.std.specs.Borrow.{sem};
     ghost use Rattle.std.specs.Option.{ForSome, option_copied};
     ghost use Rattle.std.specs.Slice.Iter.{iter_mut_name, iter_mut_rest};
+    ghost use Rattle.raft_progress.specs.Inner.Conditions.{ids_differ};
     ghost use Rattle.raft_progress.specs.progress.InOrder.{IsInOrder};
     ghost use Rattle.raft_progress.specs.progress.Lends.{LendsWalk};
     ghost use Rattle.raft_progress.specs.progress.NewProgress.{IsFirstWalk, IsNew, LearnersFit};
@@ -149,6 +150,18 @@ impl<
         self.walk.iter().position(|entry| *id == entry.0)
     }
 
+    /// Whether no id is repeated.
+    // If the sorted list has the ids at their positions, each id is compared once. A short stale
+    // list is not asked, because it may have other positions.
+    fn has_distinct_ids(&self) -> bool
+        ensures { result ≡ ids_differ ID.eq (shown self.now).walk }
+    {
+        if (!self.stale || self.walk.len() > FEW) && self.places.are_of(&self.walk) {
+            return true;
+        }
+        has_distinct_ids(&self.walk)
+    }
+
     /// Returns the value at the position that a look-up has found.
     fn value_at(&self, found: Option<usize>) -> Option<&V>
         requires { ForSome found (λ place. place < length (shown self.now).walk) }
@@ -224,11 +237,20 @@ impl<ID: Copy + Ord, V: ProgressPart<P> + Drop, P: Copy + Ord, QS: QuorumSet<ID>
     }
 
     fn is_in_order(&mut self) -> bool {
-        let voters = &self.walk[..self.voter_count];
-        if !is_ordered(&self.walk, voters, self.granted, self.default_part) {
+        if !self.has_distinct_ids() {
             return false;
         }
-        let counted = count(&self.quorum_set, voters, self.default_part, &mut self.room);
+        let voters = &self.walk[..self.voter_count];
+        if !is_ordered(voters, self.granted, self.default_part) {
+            return false;
+        }
+        let counted = count(
+            &self.quorum_set,
+            voters,
+            self.default_part,
+            self.granted,
+            &mut self.room,
+        );
         counted.cmp(&self.granted).is_eq()
     }
 

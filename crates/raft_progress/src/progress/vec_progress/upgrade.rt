@@ -1,7 +1,7 @@
 //! What an upgrade inherits, and what it refuses.
-ghost use Rattle.std.specs.Prelude.{◌≡◌, ◌&&◌, ℕ, IfOk, None};
+ghost use Rattle.std.specs.Prelude.{◌≡◌, ◌++◌, ℕ, IfOk, List, None};
 ghost use Rattle.std.specs.Option.{ForSome};
-ghost use Rattle.raft_progress.specs.Inner.Conditions.{IsLeastPassing, among, is_value_below};
+ghost use Rattle.raft_progress.specs.Inner.Conditions.{IsLeastPassing, is_value_below};
 ghost use Rattle.raft_progress.specs.progress.InOrder.{IsInOrder};
 ghost use Rattle.raft_progress.specs.progress.Shown.{state};
 ghost use Rattle.raft_progress.specs.progress.Statistics.{CountsGoOn};
@@ -11,7 +11,7 @@ ghost use Rattle.raft_progress.specs.progress.VecProgress.{shown};
 
 use super::VecProgress;
 use crate::progress::Progress;
-use crate::progress::conditions::{is_among, is_before};
+use crate::progress::conditions::{is_at_least, is_before};
 use crate::progress::part::ProgressPart;
 use crate::progress::stat::Stat;
 use raft_members::quorum::QuorumSet;
@@ -67,32 +67,31 @@ impl<
             (QS.is_voter quorum_set.now) learners.now default.now
             (state ID.eq (shown self.now)).value)) }
     {
-        let alloc = self.allocator();
-        let voters = quorum_set.ids(alloc)?;
-        Ok(self.least_of(&voters, learners, default.part()))
+        let part = default.part();
+        // If no value is below the default, which is usual, no id is searched for.
+        if is_at_least(&self.walk, part) {
+            return Ok(None);
+        }
+        let voters = quorum_set.ids(self.allocator())?;
+        let least = self.least_of(&voters, part, None);
+        Ok(self.least_of(learners, part, least))
     }
 
-    /// Returns the least id among the voters and the learners whose value is below a part.
-    fn least_of(&self, voters: &[ID], learners: &[ID], part: P) -> Option<ID>
-        ensures { IsLeastPassing ID.cmp (λ x. among ID.eq voters.now learners.now x
-            && is_value_below P.cmp V.part_of part ((state ID.eq (shown self.now)).value x))
-            (shown self.now).walk result }
+    /// Returns the least one of the ids whose value is below a part and of the least id so far.
+    fn least_of(&self, ids: &[ID], part: P, so_far: Option<ID>) -> Option<ID>
+        ensures { (seen : List ID) →
+            IsLeastPassing ID.cmp (λ x. is_value_below P.cmp V.part_of part
+            ((state ID.eq (shown self.now)).value x)) seen so_far →
+            IsLeastPassing ID.cmp (λ x. is_value_below P.cmp V.part_of part
+            ((state ID.eq (shown self.now)).value x)) (seen ++ ids.now) result }
     {
-        let mut least = None;
-        for entry in &self.walk {
-            if self.inherits_below(voters, learners, part, &entry.0) && is_before(entry.0, least) {
-                least = Some(entry.0);
+        let mut least = so_far;
+        for id in ids {
+            if self.is_value_below(part, id) && is_before(*id, least) {
+                least = Some(*id);
             }
         }
         least
-    }
-
-    /// Whether an id is one of the voters or learners, and its value is below a part.
-    fn inherits_below(&self, voters: &[ID], learners: &[ID], part: P, id: &ID) -> bool
-        ensures { result ≡ (among ID.eq voters.now learners.now id.now
-            && is_value_below P.cmp V.part_of part ((state ID.eq (shown self.now)).value id.now)) }
-    {
-        self.is_value_below(part, id) && is_among(voters, learners, id)
     }
 
     /// Whether an id has a value that is below a part.

@@ -30,7 +30,7 @@ use Rattle.std.proofs.lemmas.Bool.Decides.{nat_tests}
 use Rattle.std.proofs.lemmas.List.Quantifiers.{position-Some}
 use Rattle.std.proofs.lemmas.Option.{get_or_from_slice_get, slice_get_within}
 use Rattle.std.proofs.lemmas.Map.Entries.{length-keys_of, place_from_lookup}
-use Rattle.std.proofs.lemmas.Map.Keys.{apart_from_distinct}
+use Rattle.std.proofs.lemmas.Map.Keys.{IsDistinct-from_apart, apart_from_distinct}
 use Rattle.std.proofs.lemmas.Map.Made.{is_some-lookup}
 use Rattle.std.specs.declared.cmp.Ordering.{Ordering}
 use Rattle.raft_progress.specs.Inner.Places.{TellsPlaces, AreInverse, TellsPlacesBefore, place_after, place_in}
@@ -286,3 +286,23 @@ module _ {ID : Type 0} {eq : ID → ID → Bool} (laws : IsEquivalence eq) where
       let e = sym (place_at es f.0 (f.1, k) 0 w) ∙ ap (λ (e : ID × ℕ). e.1) (get_or_from_slice_get es f.0 (f.1, k) (f.1, k) f.2) in
       let c = b.0 in
       omega arith
+
+  -- if the rank of each position leads to the id there, no id is repeated
+  pub distinct_if_told : (es : List (ID × ℕ)) (ranks : List ℕ) → AreInverse (values_of es) ranks → IsDistinct eq (keys_of es)
+      → (ids : List ID) → length ranks ≡ length ids
+      → ((p : ℕ) (d e : ID) → p < length ids → eq (get_or (keys_of es) (get_or ranks p 0) d) (get_or ids p e) ≡ true) → IsDistinct eq ids
+  distinct_if_told es ranks a distinct ids same told =
+      IsDistinct-from_apart eq ids
+      (λ i j d o m.
+      let n = length-keys_of es in
+      let w = length-map es (λ e. e.1) in
+      let f = a.forth i (omega arith) in
+      let g = a.forth j (omega arith) in
+      let one = get_or (keys_of es) (get_or ranks i 0) d in
+      let other = get_or (keys_of es) (get_or ranks j 0) d in
+      let apart : eq one other ≡ false =
+      differs (keys_of es) distinct (get_or ranks i 0) (get_or ranks j 0) d (omega arith) (omega arith)
+      (λ e. let q = ap (λ r. get_or (values_of es) r 0) e in let u = f.1 in let v = g.1 in omega arith) in
+      sym (laws.congr one (get_or ids i d) (get_or ids j d) (told i d d (omega arith)))
+      ∙ laws.symm one (get_or ids j d)
+      ∙ sym (laws.congr other (get_or ids j d) one (told j d d m)) ∙ laws.symm other one ∙ apart)

@@ -1,9 +1,9 @@
-use Rattle.std.proofs.Common.{sym, ap, ◌∙◌, ◌&&◌, true≢false, is_eq, take, List, subst}
+use Rattle.std.proofs.Common.{sym, ap, ◌∙◌, true≢false, is_eq, take, List, subst}
 use Rattle.std.specs.List.{IsDistinct, list_all}
 use Rattle.std.specs.Cmp.{first_so, second_so}
 use Rattle.std.specs.Map.{keys_of}
 use Rattle.raft_progress.specs.Inner.Recount.{IsGreatest, at_least}
-use Rattle.raft_progress.specs.Inner.Conditions.{ids_differ, never_rises}
+use Rattle.raft_progress.specs.Inner.Conditions.{never_rises}
 use Rattle.raft_progress.specs.progress.Walk.{state_of}
 use Rattle.raft_progress.proofs.lemmas.progress.recount.CountedAfreshLemmas.{IsCounted-from_greatest}
 use Rattle.raft_progress.proofs.lemmas.progress.InOrderLemmas.{
@@ -20,15 +20,22 @@ use Rattle.raft_progress.proofs.lemmas.progress.InOrderLemmas.{
 use Rattle.raft_progress.proofs.lemmas.progress.UpdateLemmas.{IsDistinct-voters}
 use Rattle.raft_progress.proofs.progress.vec_progress.VecProgressProgress.is_in_order.Goals as goal
 
+pub returns-then-not-has_distinct_ids-clause-answer : goal.returns-then-not-has_distinct_ids-clause-answer
+returns-then-not-has_distinct_ids-clause-answer g c = (
+  (λ f. absurd (true≢false (sym f))),
+  (λ r. absurd (true≢false
+      (sym (test_from_distinct g.met.ID.Eq.laws c.args.self.now.walk.items r.distinct) ∙ sym c.has_distinct_ids.ensures
+      ∙ c.if-not-has_distinct_ids.true))),
+)
+
 pub returns-then-not-is_ordered-clause-answer : goal.returns-then-not-is_ordered-clause-answer
 returns-then-not-is_ordered-clause-answer g c =
-    let told = rw (c.deref.ensures.value, c.deref-2.ensures.value) at c.is_ordered.ensures in
+    let told = rw c.deref.ensures.value at c.is_ordered.ensures in
     let walk = c.args.self.now.walk.items in
     let voters = take c.args.self.now.voter_count walk in (
       (λ f. absurd (true≢false (sym f))),
       (λ r.
           let all = rw (
-            test_from_distinct g.met.ID.Eq.laws walk r.distinct,
             test_from_falling g.met.P.Ord.total g.V.ProgressPart.part_of c.args.self.now.granted voters r.falling,
             test_from_lowest g.met.ID.Eq.laws g.met.P.Ord.total g.V.ProgressPart.part_of g.QS.QuorumSet.has_quorum
                 c.args.self.now.quorum_set walk c.args.self.now.voter_count c.args.self.now.default_part r.distinct r.not_below,
@@ -38,23 +45,20 @@ returns-then-not-is_ordered-clause-answer g c =
 
 pub count-counted-requires-clause-distinct : goal.count-counted-requires-clause-distinct
 count-counted-requires-clause-distinct g c =
-    let told = rw (c.deref.ensures.value, c.deref-2.ensures.value) at c.is_ordered.ensures in
     let walk = c.args.self.now.walk.items in
-    let voters = take c.args.self.now.voter_count walk in
-    let d = distinct_from_test g.met.ID.Eq.laws walk (first_so _ _ (first_so _ _ (sym told ∙ c.if-not-is_ordered.false))) in
+    let d = distinct_from_test g.met.ID.Eq.laws walk (sym c.has_distinct_ids.ensures ∙ c.if-not-has_distinct_ids.false) in
     rw c.deref.ensures.value (IsDistinct-voters g.met.ID.Eq.laws c.args.self.now.voter_count walk d)
 
 pub returns-clause-answer : goal.returns-clause-answer
 returns-clause-answer g c =
-    let told = rw (c.deref.ensures.value, c.deref-2.ensures.value) at c.is_ordered.ensures in
+    let told = rw c.deref.ensures.value at c.is_ordered.ensures in
     let walk = c.args.self.now.walk.items in
     let voters = take c.args.self.now.voter_count walk in
     let all = sym told ∙ c.if-not-is_ordered.false in
-    let ids = ids_differ g.ID.PartialEq.eq walk in
     let falls = never_rises g.P.Ord.cmp g.V.ProgressPart.part_of c.args.self.now.granted voters in
     let low = list_all (at_least g.P.Ord.cmp g.V.ProgressPart.part_of c.args.self.now.default_part) voters in
     let d : IsDistinct g.ID.PartialEq.eq (keys_of walk) =
-    distinct_from_test g.met.ID.Eq.laws walk (first_so ids falls (first_so (ids && falls) low all)) in
+    distinct_from_test g.met.ID.Eq.laws walk (sym c.has_distinct_ids.ensures ∙ c.if-not-has_distinct_ids.false) in
     let s = state_of g.ID.PartialEq.eq c.args.self.now.quorum_set walk c.args.self.now.voter_count c.args.self.now.default_part in
     let k =
     IsCounted-from_greatest g.met.ID.Eq.laws g.met.P.Ord.total g.V.ProgressPart.part_of g.QS.QuorumSet.has_quorum c.args.self.now.quorum_set
@@ -66,11 +70,11 @@ returns-clause-answer g c =
       (λ e. record {
         distinct = d;
         falling = falling_from_test g.met.P.Ord.total g.V.ProgressPart.part_of c.args.self.now.granted voters
-            (second_so ids falls (first_so (ids && falls) low all));
+            (first_so falls low all);
         not_below =
             lowest_from_test g.met.ID.Eq.laws g.met.P.Ord.total g.V.ProgressPart.part_of g.QS.QuorumSet.has_quorum
             c.args.self.now.quorum_set walk c.args.self.now.voter_count c.args.self.now.default_part d
-            (second_so (ids && falls) low all);
+            (second_so falls low all);
         counted = counted_tied g.met.P.Ord.total g.V.ProgressPart.part_of g.QS.QuorumSet.has_quorum s c.count-counted.result
             c.args.self.now.granted k (equal_from_test _ (ap is_eq (sym c.cmp.ensures) ∙ sym c.is_eq.ensures ∙ e));
       }),
