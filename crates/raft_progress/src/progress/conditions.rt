@@ -1,6 +1,7 @@
 //! Tests of preconditions: whether learners fit, whether a progress is in order, and whether a
 //! value's part falls. It also has the ids of a quorum set and its learners.
-ghost use Rattle.std.specs.Prelude.{◌≡◌, ◌↔◌, ◌++◌, IfOk, IsTrue};
+ghost use Rattle.std.specs.Prelude.{◌≡◌, ◌↔◌, ◌++◌, ◌≤◌, IfOk, IsTrue, length};
+ghost use Rattle.std.specs.Map.{keys_of};
 ghost use Rattle.std.specs.List.{IsDistinct, list_all, list_any};
 ghost use Rattle.std.specs.List.Sorted.{IsSorted};
 ghost use Rattle.std.specs.Option.{option_copied};
@@ -9,6 +10,7 @@ ghost use Rattle.raft_progress.specs.Inner.Conditions.{comes_before, ids_differ,
 ghost use Rattle.raft_progress.specs.progress.Steps.{falls};
 
 use super::part::ProgressPart;
+use super::places::FEW;
 use std::alloc::AllocError;
 
 /// Returns the ids, followed by the learners.
@@ -55,7 +57,7 @@ fn has_id<ID: Copy + Ord, V>(walk: &[(ID, V)], id: ID) -> bool
 }
 
 /// Whether no id is repeated, by a comparison of each two ids.
-pub(crate) fn has_distinct_ids<ID: Copy + Ord, V>(walk: &[(ID, V)]) -> bool
+fn has_distinct_ids<ID: Copy + Ord, V>(walk: &[(ID, V)]) -> bool
     ensures { result ≡ ids_differ ID.eq walk.now }
 {
     for place in 0..walk.len() {
@@ -64,6 +66,69 @@ pub(crate) fn has_distinct_ids<ID: Copy + Ord, V>(walk: &[(ID, V)]) -> bool
         }
     }
     true
+}
+
+/// Writes the ids of the voters to the scratch space `room`.
+fn write_ids<ID: Copy, V>(voters: &[(ID, V)], room: &mut [ID])
+    requires { length room.old ≡ length voters.now }
+    ensures { room.new ≡ keys_of voters.now }
+{
+    for place in 0..voters.len() {
+        room[place] = voters[place].0;
+    }
+}
+
+/// Whether an id of the learners is an id of the voters.
+fn share_id<ID: Copy + Ord, V>(voters: &[(ID, V)], learners: &[(ID, V)]) -> bool
+    ensures { result ≡ list_any (λ e. list_any (λ f. ID.eq f.0 e.0) voters.now) learners.now }
+{
+    learners.iter().any(|entry| has_id(voters, entry.0))
+}
+
+/// Whether no id is repeated, for many voters and few learners.
+// The ids of the voters are sorted in the scratch space `room`, so that equal ones are neighbours.
+fn has_distinct_voters<ID: Copy + Ord, V>(
+    voters: &[(ID, V)],
+    learners: &[(ID, V)],
+    room: &mut [ID],
+) -> bool
+    requires { length room.old ≡ length voters.now }
+    ensures { IsTrue result ↔ IsDistinct ID.eq (keys_of (voters.now ++ learners.now)) }
+{
+    write_ids(voters, room);
+    room.sort_unstable();
+    if !have_no_equal_neighbours(room) {
+        return false;
+    }
+    if !has_distinct_ids(learners) {
+        return false;
+    }
+    if share_id(voters, learners) {
+        return false;
+    }
+    true
+}
+
+/// Whether no id is repeated. If that is known already, no ids are compared.
+pub(crate) fn are_ids_distinct<ID: Copy + Ord, V>(
+    known: bool,
+    walk: &[(ID, V)],
+    voter_count: usize,
+    room: &mut [ID],
+) -> bool
+    requires known { IsTrue known → IsDistinct ID.eq (keys_of walk.now) }
+    requires voters { voter_count ≤ length walk.now }
+    requires room { length room.old ≡ voter_count }
+    ensures { result ≡ ids_differ ID.eq walk.now }
+{
+    if known {
+        return true;
+    }
+    if walk.len() > FEW {
+        let (voters, learners) = walk.split_at(voter_count);
+        return has_distinct_voters(voters, learners, room);
+    }
+    has_distinct_ids(walk)
 }
 
 /// Whether no voter whose part exceeds `granted` comes directly after one with a lesser part.

@@ -56,11 +56,7 @@ impl<ID: Copy + Ord> Places<ID> {
         ensures { result ≡ place_in ID.eq self.now.entries.items id.now }
     {
         if self.entries.len() <= FEW {
-            let id = *id;
-            return match self.entries.iter().find(|entry| id == entry.0) {
-                Some(entry) => Some(entry.1),
-                None => None,
-            };
+            return place_of_few(&self.entries, *id);
         }
         self.get_of_many(id)
     }
@@ -103,6 +99,21 @@ impl<ID: Copy + Ord> Places<ID> {
     {
         shift_between(&mut self.entries, &mut self.ranks, first, last);
     }
+}
+
+/// Returns the position of an id, found by comparison with one id after another.
+// A loop, because after `find` of an iterator the compiler tests a second time whether there is an
+// entry.
+#[inline(always)]
+fn place_of_few<ID: Copy + Ord>(entries: &[(ID, usize)], id: ID) -> Option<usize>
+    ensures { result ≡ place_in ID.eq entries.now id }
+{
+    for entry in entries {
+        if id == entry.0 {
+            return Some(entry.1);
+        }
+    }
+    None
 }
 
 /// Returns the sorted ids of a progress, each with its position.

@@ -33,6 +33,8 @@ fn gather<ID: Copy, V: ProgressPart<P>, P: Copy + Ord>(
 }
 
 /// Whether the voters with a part of at least `part` are a quorum.
+// Inlined, because a call would add a tenth to the test of a few voters.
+#[inline(always)]
 fn is_reached<ID: Copy + Ord, V: ProgressPart<P>, P: Copy + Ord, QS: QuorumSet<ID>>(
     quorum_set: &QS,
     voters: &[(ID, V)],
@@ -50,6 +52,7 @@ fn is_reached<ID: Copy + Ord, V: ProgressPart<P>, P: Copy + Ord, QS: QuorumSet<I
 
 /// Returns the part of a voter that equals `granted`, if there are many voters, a quorum has reached
 /// that part, and it exceeds the default's part. Otherwise it returns the default's part.
+#[inline(always)]
 fn reached_or_default<ID: Copy + Ord, V: ProgressPart<P>, P: Copy + Ord, QS: QuorumSet<ID>>(
     quorum_set: &QS,
     voters: &[(ID, V)],
@@ -95,6 +98,7 @@ fn least_above<ID: Copy + Ord, V: ProgressPart<P>, P: Copy + Ord>(
 
 /// Returns a part that no quorum has reached: the least one above `granted`, if there are many
 /// voters and it is such a part.
+#[inline(always)]
 fn unreached_above<ID: Copy + Ord, V: ProgressPart<P>, P: Copy + Ord, QS: QuorumSet<ID>>(
     quorum_set: &QS,
     voters: &[(ID, V)],

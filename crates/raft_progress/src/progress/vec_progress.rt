@@ -11,7 +11,7 @@ mod update;
 mod upgrade;
 
 use super::Progress;
-use super::conditions::{are_distinct, has_distinct_ids, is_ordered, with_learners, would_fall};
+use super::conditions::{are_distinct, are_ids_distinct, is_ordered, with_learners, would_fall};
 use super::part::ProgressPart;
 use super::places::{FEW, Places};
 use super::recount::count;
@@ -53,11 +53,12 @@ impl<
     P: Copy + Ord,
     QS: QuorumSet<ID> + Drop,
 > VecProgress<ID, V, P, QS> {
-    ghost use Rattle.std.specs.Prelude.{◌≡◌, ◌<◌, IfOk, length, position};
+    ghost use Rattle.std.specs.Prelude.{◌≡◌, ◌<◌, IfOk, IsTrue, length, position};
     ghost use Rattle.std.specs.Borrow.{sem};
+    ghost use Rattle.std.specs.List.{IsDistinct};
+    ghost use Rattle.std.specs.Map.{keys_of};
     ghost use Rattle.std.specs.Option.{ForSome, option_copied};
     ghost use Rattle.std.specs.Slice.Iter.{iter_mut_name, iter_mut_rest};
-    ghost use Rattle.raft_progress.specs.Inner.Conditions.{ids_differ};
     ghost use Rattle.raft_progress.specs.progress.InOrder.{IsInOrder};
     ghost use Rattle.raft_progress.specs.progress.Lends.{LendsWalk};
     ghost use Rattle.raft_progress.specs.progress.NewProgress.{IsFirstWalk, IsNew, LearnersFit};
@@ -150,16 +151,12 @@ impl<
         self.walk.iter().position(|entry| *id == entry.0)
     }
 
-    /// Whether no id is repeated.
-    // If the sorted list has the ids at their positions, each id is compared once. A short stale
-    // list is not asked, because it may have other positions.
-    fn has_distinct_ids(&self) -> bool
-        ensures { result ≡ ids_differ ID.eq (shown self.now).walk }
+    /// Whether the sorted list has the ids at their positions, so that no id is repeated. A short
+    /// stale list is not asked, because it may have other positions.
+    fn tells_ids(&self) -> bool
+        ensures { IsTrue result → IsDistinct ID.eq (keys_of (shown self.now).walk) }
     {
-        if (!self.stale || self.walk.len() > FEW) && self.places.are_of(&self.walk) {
-            return true;
-        }
-        has_distinct_ids(&self.walk)
+        (!self.stale || self.walk.len() > FEW) && self.places.are_of(&self.walk)
     }
 
     /// Returns the value at the position that a look-up has found.
@@ -237,7 +234,8 @@ impl<ID: Copy + Ord, V: ProgressPart<P> + Drop, P: Copy + Ord, QS: QuorumSet<ID>
     }
 
     fn is_in_order(&mut self) -> bool {
-        if !self.has_distinct_ids() {
+        let told = self.tells_ids();
+        if !are_ids_distinct(told, &self.walk, self.voter_count, &mut self.room) {
             return false;
         }
         let voters = &self.walk[..self.voter_count];

@@ -1,5 +1,5 @@
 -- The test whether a progress is in order returns what its definition says.
-use Rattle.std.specs.Prelude.{◌≡◌, ℕ, ◌+◌, ◌≤◌, Bool, true, false, ◌&&◌, ◌||◌, List, [], ◌∷◌, length, drop, take, Some, if◌then◌else◌, ◌⊎◌}
+use Rattle.std.specs.Prelude.{◌≡◌, ℕ, ◌+◌, ◌≤◌, Bool, true, false, ◌&&◌, ◌||◌, List, [], ◌∷◌, ◌++◌, length, drop, take, Some, if◌then◌else◌, ◌⊎◌}
 use Rattle.std.specs.declared.cmp.Ordering.{Ordering}
 use Rattle.std.specs.declared.cmp.Ordering.TheVariants.{Less, Equal, Greater}
 use Rattle.std.specs.Ordering.{is_le, is_lt, is_eq}
@@ -7,13 +7,19 @@ use Rattle.std.specs.Cmp.{IsEquivalence, IsTotalOrder, first_so, second_so}
 use Rattle.std.specs.Map.{keys_of, lookup}
 use Rattle.std.specs.Set.{is_member}
 use Rattle.std.specs.List.{IsDistinct, AllByRecursion, list_any, list_all}
-use Rattle.std.proofs.Common.{arith, sym, ap, refl, ◌∙◌, true≢false, inl, inr, suc, zero}
+use Rattle.std.proofs.Common.{arith, sym, ap, refl, ◌∙◌, true≢false, inl, inr, subst, suc, zero}
+use Rattle.std.proofs.Math.Seq.{take-append_seam}
+use Rattle.std.proofs.lemmas.List.{map-append}
 use Rattle.std.proofs.lemmas.List.Elements.{All-take, recursion_from_All}
 use Rattle.raft_progress.specs.progress.CountedValue.{AtMost, IsCounted, IsReached}
 use Rattle.raft_progress.specs.progress.ProgressState.{ProgressState}
 use Rattle.raft_progress.specs.progress.Walk.{IsFalling}
 use Rattle.raft_progress.specs.Inner.Recount.{at_least}
 use Rattle.raft_progress.specs.Inner.Conditions.{ids_differ, never_rises}
+use Rattle.raft_members.proofs.CallerLemmas.{is_member-alike}
+use Rattle.raft_progress.proofs.lemmas.ListLemmas.{or_right}
+use Rattle.raft_progress.proofs.lemmas.progress.UpdateLemmas.{IsDistinct-voters}
+use Rattle.raft_progress.proofs.lemmas.progress.upgrade.LearnersFitLemmas.{distinct_fits, fits_distinct, neither}
 use Rattle.raft_progress.proofs.lemmas.OrderLemmas.{AtMost-trans, AtMost-from_not_lt, lt_le}
 use Rattle.raft_progress.proofs.lemmas.progress.recount.CountedValueLemmas.{not_both}
 use Rattle.raft_progress.proofs.lemmas.progress.recount.CountedAfreshLemmas.{found, members, voter_value}
@@ -49,6 +55,58 @@ module _ {ID : Type 0} {eq : ID → ID → Bool} (laws : IsEquivalence eq) {V : 
   unfolding IsDistinct
   test_from_distinct [] d = refl
   test_from_distinct (e ∷ es) d = rw (some_alike es e.0 d.0) (test_from_distinct es d.1)
+
+-- tests that imply each other return the same
+pub same_test : (a b : Bool) → (a ≡ true → b ≡ true) → (b ≡ true → a ≡ true) → a ≡ b
+same_test true b h k = sym (h refl)
+same_test false true h k = k refl
+same_test false false h k = refl
+
+-- ---- ids that are distinct among the voters and among the learners
+
+module _ {ID : Type 0} {eq : ID → ID → Bool} (laws : IsEquivalence eq) {V : Type 0} (vs : List (ID × V)) where
+  any_is : (es : List (ID × V)) (k : ID) → list_any (λ f. eq f.0 k) es ≡ is_member eq (keys_of es) k
+  any_is [] k = refl
+  any_is (e ∷ es) k = rw (laws.symm e.0 k, any_is es k) refl
+
+  none_shared : (ls : List (ID × V)) → list_any (λ e. list_any (λ f. eq f.0 e.0) vs) ls ≡ false → (x : ID)
+      → is_member eq (keys_of ls) x ≡ true → is_member eq (keys_of vs) x ≡ false
+  none_shared [] h x m = absurd (true≢false (sym m))
+  none_shared (e ∷ es) h x m =
+      let n = neither (list_any (λ f. eq f.0 e.0) vs) (list_any (λ e. list_any (λ f. eq f.0 e.0) vs) es) h in
+      by (eq x e.0) refl m n.0 (none_shared es n.1 x)
+    where
+      by : (b : Bool) → eq x e.0 ≡ b → (b || is_member eq (keys_of es) x) ≡ true → list_any (λ f. eq f.0 e.0) vs ≡ false
+          → (is_member eq (keys_of es) x ≡ true → is_member eq (keys_of vs) x ≡ false) → is_member eq (keys_of vs) x ≡ false
+      by true t m n r = is_member-alike laws x e.0 t (keys_of vs) ∙ sym (any_is vs e.0) ∙ n
+      by false t m n r = r m
+
+  shared_by_none : (ls : List (ID × V)) → ((x : ID) → is_member eq (keys_of ls) x ≡ true → is_member eq (keys_of vs) x ≡ false)
+      → list_any (λ e. list_any (λ f. eq f.0 e.0) vs) ls ≡ false
+  shared_by_none [] h = refl
+  shared_by_none (e ∷ es) h = rw (
+    any_is vs e.0,
+    h e.0 (ap (λ b. b || is_member eq (keys_of es) e.0) (laws.refl e.0)),
+  ) (shared_by_none es (λ x m. h x (or_right (eq x e.0) (is_member eq (keys_of es) x) m)))
+
+  pub joined_from_tests : (ls : List (ID × V)) → IsDistinct eq (keys_of vs) → ids_differ eq ls ≡ true
+      → list_any (λ e. list_any (λ f. eq f.0 e.0) vs) ls ≡ false → IsDistinct eq (keys_of (vs ++ ls))
+  joined_from_tests ls d t n =
+      subst (IsDistinct eq) (sym (map-append (λ (e : ID × V). e.0) vs ls))
+      (fits_distinct laws (keys_of vs) (is_member eq (keys_of vs)) (λ x. refl) (keys_of ls) d
+      record { distinct = distinct_from_test laws ls t; no_voters = none_shared ls n })
+
+  -- what the tests return if the ids are distinct
+  pub tests_from_joined : (ls : List (ID × V)) → IsDistinct eq (keys_of (vs ++ ls))
+      → IsDistinct eq (keys_of vs) × (ids_differ eq ls ≡ true) × (list_any (λ e. list_any (λ f. eq f.0 e.0) vs) ls ≡ false)
+  tests_from_joined ls d =
+      let joined = subst (IsDistinct eq) (map-append (λ (e : ID × V). e.0) vs ls) d in
+      let fit = distinct_fits laws (keys_of vs) (is_member eq (keys_of vs)) (λ x. refl) (keys_of ls) joined in (
+        subst (λ (es : List (ID × V)). IsDistinct eq (keys_of es)) (take-append_seam vs ls)
+            (IsDistinct-voters laws (length vs) (vs ++ ls) d),
+        test_from_distinct laws ls fit.distinct,
+        shared_by_none ls fit.no_voters,
+      )
 
 -- ---- falling parts
 

@@ -13,7 +13,7 @@ use Rattle.raft_progress.specs.progress.NewProgress.{LearnersFit}
 use Rattle.raft_progress.proofs.lemmas.ListLemmas.{all_both, all_last}
 use Rattle.raft_progress.proofs.lemmas.progress.places.MadeLemmas.{less_from}
 
-neither : (a b : Bool) → (a || b) ≡ false → (a ≡ false) × (b ≡ false)
+pub neither : (a b : Bool) → (a || b) ≡ false → (a ≡ false) × (b ≡ false)
 neither true b h = absurd (true≢false h)
 neither false b h = (refl, h)
 

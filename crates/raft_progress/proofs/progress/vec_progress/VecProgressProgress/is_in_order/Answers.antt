@@ -20,17 +20,17 @@ use Rattle.raft_progress.proofs.lemmas.progress.InOrderLemmas.{
 use Rattle.raft_progress.proofs.lemmas.progress.UpdateLemmas.{IsDistinct-voters}
 use Rattle.raft_progress.proofs.progress.vec_progress.VecProgressProgress.is_in_order.Goals as goal
 
-pub returns-then-not-has_distinct_ids-clause-answer : goal.returns-then-not-has_distinct_ids-clause-answer
-returns-then-not-has_distinct_ids-clause-answer g c = (
+pub returns-then-not-are_ids_distinct-clause-answer : goal.returns-then-not-are_ids_distinct-clause-answer
+returns-then-not-are_ids_distinct-clause-answer g c = (
   (λ f. absurd (true≢false (sym f))),
   (λ r. absurd (true≢false
-      (sym (test_from_distinct g.met.ID.Eq.laws c.args.self.now.walk.items r.distinct) ∙ sym c.has_distinct_ids.ensures
-      ∙ c.if-not-has_distinct_ids.true))),
+      (sym (test_from_distinct g.met.ID.Eq.laws c.args.self.now.walk.items r.distinct) ∙ sym (rw c.deref.ensures.value at c.are_ids_distinct.ensures)
+      ∙ c.if-not-are_ids_distinct.true))),
 )
 
 pub returns-then-not-is_ordered-clause-answer : goal.returns-then-not-is_ordered-clause-answer
 returns-then-not-is_ordered-clause-answer g c =
-    let told = rw c.deref.ensures.value at c.is_ordered.ensures in
+    let told = rw c.deref-2.ensures.value at c.is_ordered.ensures in
     let walk = c.args.self.now.walk.items in
     let voters = take c.args.self.now.voter_count walk in (
       (λ f. absurd (true≢false (sym f))),
@@ -46,26 +46,26 @@ returns-then-not-is_ordered-clause-answer g c =
 pub count-counted-requires-clause-distinct : goal.count-counted-requires-clause-distinct
 count-counted-requires-clause-distinct g c =
     let walk = c.args.self.now.walk.items in
-    let d = distinct_from_test g.met.ID.Eq.laws walk (sym c.has_distinct_ids.ensures ∙ c.if-not-has_distinct_ids.false) in
-    rw c.deref.ensures.value (IsDistinct-voters g.met.ID.Eq.laws c.args.self.now.voter_count walk d)
+    let d = distinct_from_test g.met.ID.Eq.laws walk (sym (rw c.deref.ensures.value at c.are_ids_distinct.ensures) ∙ c.if-not-are_ids_distinct.false) in
+    rw c.deref-2.ensures.value (IsDistinct-voters g.met.ID.Eq.laws c.args.self.now.voter_count walk d)
 
 pub returns-clause-answer : goal.returns-clause-answer
 returns-clause-answer g c =
-    let told = rw c.deref.ensures.value at c.is_ordered.ensures in
+    let told = rw c.deref-2.ensures.value at c.is_ordered.ensures in
     let walk = c.args.self.now.walk.items in
     let voters = take c.args.self.now.voter_count walk in
     let all = sym told ∙ c.if-not-is_ordered.false in
     let falls = never_rises g.P.Ord.cmp g.V.ProgressPart.part_of c.args.self.now.granted voters in
     let low = list_all (at_least g.P.Ord.cmp g.V.ProgressPart.part_of c.args.self.now.default_part) voters in
     let d : IsDistinct g.ID.PartialEq.eq (keys_of walk) =
-    distinct_from_test g.met.ID.Eq.laws walk (sym c.has_distinct_ids.ensures ∙ c.if-not-has_distinct_ids.false) in
+    distinct_from_test g.met.ID.Eq.laws walk (sym (rw c.deref.ensures.value at c.are_ids_distinct.ensures) ∙ c.if-not-are_ids_distinct.false) in
     let s = state_of g.ID.PartialEq.eq c.args.self.now.quorum_set walk c.args.self.now.voter_count c.args.self.now.default_part in
     let k =
     IsCounted-from_greatest g.met.ID.Eq.laws g.met.P.Ord.total g.V.ProgressPart.part_of g.QS.QuorumSet.has_quorum c.args.self.now.quorum_set
     walk c.args.self.now.voter_count c.args.self.now.default_part d c.count-counted.result
     (subst (λ (es : List (g.row.ID.Denot × g.row.V.Denot)). IsGreatest g.ID.PartialEq.eq g.P.Ord.cmp g.V.ProgressPart.part_of
     (g.QS.QuorumSet.has_quorum c.args.self.now.quorum_set) (take c.args.self.now.voter_count es)
-    (take c.args.self.now.voter_count es) c.args.self.now.default_part c.count-counted.result) c.deref.ensures.value
+    (take c.args.self.now.voter_count es) c.args.self.now.default_part c.count-counted.result) c.deref-2.ensures.value
     c.count-counted.ensures) in (
       (λ e. record {
         distinct = d;
