@@ -36,7 +36,8 @@ run_tests() {
     fi
 }
 
-for tests in raft_base_tests raft_members_tests raft_progress_tests raft_state_tests; do
+for tests in raft_base_tests raft_members_tests raft_progress_tests raft_state_tests \
+    raft_handlers_tests; do
     run_tests "$tests"
 done
 

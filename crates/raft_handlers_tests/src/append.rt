@@ -3,7 +3,8 @@
 use crate::states::{Answer, Entry, Row, StateOf, entries, follower, id, members};
 use raft_base::{LeaderAdv, LeaderKind, LeaderStd, LogIdOf, LogStateReader, VoteOf};
 use raft_handlers::{AppendEntries, HandlerError, Outcome, Response, handle_append_entries};
-use raft_state::EntryPayload;
+use raft_members::EffectiveMembershipOf;
+use raft_state::{EntryPayload, MembershipStateOf};
 use std::alloc::{AllocError, Global};
 use std::test::Fail;
 
@@ -194,5 +195,19 @@ fn takes_members<K: LeaderKind<u64>>(alloc: Global) -> Result<bool, HandlerError
 fn memberships_are_effective_at_once(rt: HostRuntime) -> Result<(), Fail> {
     assert!(rt; takes_members::<LeaderAdv>(rt.alloc()) == Ok(true));
     assert!(rt; takes_members::<LeaderStd>(rt.alloc()) == Ok(true));
+    Ok(())
+}
+
+/// Why a membership at (3, 4) is not appended, if the effective one is of a later leader.
+fn refusal<K: LeaderKind<u64>>(alloc: Global) -> Result<Option<HandlerError>, HandlerError> {
+    let mut state = follower::<K>(alloc, None)?;
+    let later = EffectiveMembershipOf::new_arc(id::<K>(Some((9, 1))), members(alloc)?)?;
+    state.membership_state = MembershipStateOf::new(later.clone()?, later);
+    Ok(append_members::<K>(alloc, &mut state, (2, 3), (3, 4)).err())
+}
+
+#[test]
+fn memberships_rise(rt: HostRuntime) -> Result<(), Fail> {
+    assert!(rt; refusal::<LeaderAdv>(rt.alloc())? == Some(HandlerError::MembershipNotInOrder));
     Ok(())
 }

@@ -4,6 +4,14 @@
 #[cfg(test)]
 mod append;
 #[cfg(test)]
+mod candidate;
+#[cfg(test)]
+mod change;
+#[cfg(test)]
+mod growths;
+#[cfg(test)]
+mod leader;
+#[cfg(test)]
 mod snapshot;
 #[cfg(test)]
 mod start;

@@ -1,10 +1,12 @@
 //! The start of a cluster, and a restart.
 
 use crate::states::{StateOf, entries, id, members};
-use raft_base::{LeaderAdv, LeaderKind, LeaderStd, LogStateReader, VoteOf};
+use raft_base::{EmptyNode, LeaderAdv, LeaderKind, LeaderStd, LogStateReader, VoteOf};
 use raft_handlers::{HandlerError, Stored, restart_server, start_cluster};
+use raft_members::Membership;
 use raft_state::SnapshotMetaOf;
-use std::alloc::Global;
+use std::alloc::{AllocError, Global};
+use std::collections::{BTreeMap, BTreeSet};
 use std::test::Fail;
 
 /// Whether a new server that is a member starts a cluster, once.
@@ -27,6 +29,24 @@ fn starts_once<K: LeaderKind<u64>>(alloc: Global) -> Result<bool, HandlerError> 
 fn a_cluster_starts_once(rt: HostRuntime) -> Result<(), Fail> {
     assert!(rt; starts_once::<LeaderAdv>(rt.alloc()) == Ok(true));
     assert!(rt; starts_once::<LeaderStd>(rt.alloc()) == Ok(true));
+    Ok(())
+}
+
+/// A membership of node 1 whose only config has no voter.
+fn no_voter(alloc: Global) -> Result<Membership<u64, EmptyNode>, AllocError> {
+    let nodes: BTreeMap<u64, EmptyNode> = (1..=1).map(|id| (id, EmptyNode::new())).collect(alloc)?;
+    Membership::new_unchecked(vec![in alloc; BTreeSet::new(alloc)]?, nodes)
+}
+
+/// Why a cluster without a voter is not started.
+fn refusal<K: LeaderKind<u64>>(alloc: Global) -> Result<Option<HandlerError>, HandlerError> {
+    let mut state = StateOf::<K>::try_default(alloc)?;
+    Ok(start_cluster::<_, _, _, _, u64>(&mut state, &1, no_voter(alloc)?).err())
+}
+
+#[test]
+fn a_cluster_needs_voters(rt: HostRuntime) -> Result<(), Fail> {
+    assert!(rt; refusal::<LeaderAdv>(rt.alloc())? == Some(HandlerError::InvalidMembership));
     Ok(())
 }
 

@@ -65,6 +65,20 @@ pub fn follower<K: LeaderKind<u64>>(
     Ok(state)
 }
 
+/// The server `follower`, with a membership of the voters 1, 2 and 3 at (2, 4), which is effective.
+pub fn voter<K: LeaderKind<u64>>(alloc: Global) -> Result<StateOf<K>, AllocError> {
+    let mut state = follower::<K>(alloc, None)?;
+    let mut entries = Vec::new(alloc);
+    entries.extend(Some(Entry::<K> {
+        log_id: LogIdOf::new(K::new_committed(2, 1), 4),
+        payload: EntryPayload::Membership(members(alloc)?),
+    }))?;
+    if state.can_append_entries(&entries) {
+        state.append_entries(&entries)?;
+    }
+    Ok(state)
+}
+
 /// What a server answers to a request.
 #[derive(Debug, Clone, Copy, PartialEq, Eq)]
 pub enum Answer {

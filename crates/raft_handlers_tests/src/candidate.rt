@@ -1,0 +1,108 @@
+//! A candidate of the voters 1, 2 and 3.
+
+use crate::leader::Led;
+use crate::states::{StateOf, id, voter};
+use raft_base::{EmptyNode, LeaderAdv, LeaderKind, LeaderStd, VoteOf};
+use raft_handlers::{Candidate, HandlerError, VoteResponse};
+use std::alloc::Global;
+use std::test::Fail;
+
+/// A candidate over a kind of leader ids.
+pub type CandidateOf<K> = Candidate<
+    u64,
+    EmptyNode,
+    <K as LeaderKind<u64>>::Leader,
+    <K as LeaderKind<u64>>::Committed,
+>;
+
+/// Who responds, of which term, and whether the vote is granted.
+type Votes = &'static [(u64, u64, bool)];
+
+/// Votes for the candidate of term 6, and whether they elect it.
+const ROWS: &[(&str, Votes, bool)] = &[
+    ("its own alone", &[], false),
+    ("refusals", &[(2, 6, false), (3, 6, false)], false),
+    ("votes of other terms", &[(2, 5, true), (3, 7, true)], false),
+    ("votes of no members", &[(8, 6, true), (9, 6, true)], false),
+    ("its own, again", &[(1, 6, true), (1, 6, true)], false),
+    ("one more", &[(2, 6, false), (3, 6, true)], true),
+];
+
+/// Counts votes, and returns whether the candidate is elected.
+fn count<K: LeaderKind<u64>>(candidate: &mut CandidateOf<K>, votes: Votes) -> bool {
+    for (from, term, granted) in votes {
+        let response = VoteResponse {
+            vote: VoteOf::<u64, K>::new(*term, 1),
+            granted: *granted,
+        };
+        candidate.handle_vote_response(from, &response);
+    }
+    candidate.is_elected()
+}
+
+/// The candidate of term 6, which all elect.
+pub fn candidate<K: LeaderKind<u64>>(
+    state: &mut StateOf<K>,
+) -> Result<CandidateOf<K>, HandlerError> {
+    let mut candidate = Candidate::campaign(1, 5, state)?;
+    let _elected = count::<K>(&mut candidate, &[(2, 6, true), (3, 6, true)]);
+    Ok(candidate)
+}
+
+/// Whether the candidate of term 6 is elected by votes exactly if it should, and leads then. Term 5
+/// is the greatest that it has heard of, and its own vote is of term 3.
+fn elects<K: LeaderKind<u64>>(
+    alloc: Global,
+    votes: Votes,
+    elected: bool,
+) -> Result<bool, HandlerError> {
+    let mut state = voter::<K>(alloc)?;
+    let mut candidate = Candidate::campaign(1, 5, &mut state)?;
+    let vote = VoteOf::<u64, K>::new(6, 1);
+    let request = candidate.request();
+    let is_asked = request.vote == vote
+        && request.last_log_id == id::<K>(Some((2, 4)))
+        && *state.vote.get() == vote;
+    let is_right = count::<K>(&mut candidate, votes) == elected;
+    let leads = match Led::<K>::elected(state, &candidate) {
+        Ok(led) => led.leader.leads(&led.state),
+        Err(refused) => refused != HandlerError::NotElected,
+    };
+    Ok(is_asked && is_right && leads == elected)
+}
+
+/// Returns the name of the first row that does not elect exactly if it should.
+fn fails<K: LeaderKind<u64>>(alloc: Global) -> Result<Option<&'static str>, HandlerError> {
+    for (name, votes, elected) in ROWS {
+        if !elects::<K>(alloc, *votes, *elected)? {
+            return Ok(Some(*name));
+        }
+    }
+    Ok(None)
+}
+
+#[test]
+fn votes_elect(rt: HostRuntime) -> Result<(), Fail> {
+    assert_eq!(rt; fails::<LeaderAdv>(rt.alloc())?, None);
+    assert_eq!(rt; fails::<LeaderStd>(rt.alloc())?, None);
+    Ok(())
+}
+
+/// Why a node that has heard of a term may not campaign, if it may not.
+fn refusal<K: LeaderKind<u64>>(
+    alloc: Global,
+    node: u64,
+    term: u64,
+) -> Result<Option<HandlerError>, HandlerError> {
+    let mut state: StateOf<K> = voter::<K>(alloc)?;
+    Ok(Candidate::campaign(node, term, &mut state).err())
+}
+
+#[test]
+fn campaigns_are_refused(rt: HostRuntime) -> Result<(), Fail> {
+    let stranger = refusal::<LeaderStd>(rt.alloc(), 4, 5)?;
+    let last_term = refusal::<LeaderStd>(rt.alloc(), 1, u64::MAX)?;
+    let expected = (Some(HandlerError::NotVoter), Some(HandlerError::NoNextTerm));
+    assert!(rt; (stranger, last_term) == expected);
+    Ok(())
+}

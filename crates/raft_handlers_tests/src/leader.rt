@@ -1,0 +1,316 @@
+//! A leader of the voters 1, 2 and 3: what it sends, takes and commits.
+
+use crate::states::{Entry, Row, StateOf, id, voter};
+use raft_base::{EmptyNode, LeaderAdv, LeaderKind, LeaderStd, VoteOf};
+use raft_handlers::{
+    Candidate, HandlerError, InstallSnapshot, Leader, Outcome, Response, handle_install_snapshot,
+};
+use raft_progress::{InflightError, InflightOf};
+use raft_state::SnapshotMetaOf;
+use std::alloc::Global;
+use std::test::Fail;
+
+/// A leader over a kind of leader ids.
+pub type LeaderOf<K> = Leader<u64, EmptyNode, <K as LeaderKind<u64>>::Committed>;
+
+/// A leader with its state. `F` is always its default, because a struct that names `Leader` in a
+/// field repeats its bounds.
+#[derive(Drop)]
+pub struct Led<K: LeaderKind<u64>, F = LeaderOf<K>> {
+    pub state: StateOf<K>,
+    pub leader: F,
+}
+
+/// What happens to a leader.
+#[derive(Clone, Copy)]
+enum Step {
+    /// It may send to a node.
+    Send(u64),
+    /// A node acknowledges a request up to a row.
+    Take(u64, u64, Row),
+    /// A node's log conflicts with a request at an index.
+    Conflict(u64, u64, u64),
+    /// A node has promised a higher vote.
+    Depose(u64),
+    /// The response of a node does not come.
+    GiveUp(u64),
+    /// Its log is on disk up to a row.
+    Flush(Row),
+    Commit,
+    Propose,
+    /// It hears of a higher vote.
+    Promise,
+}
+
+/// What is right then.
+#[derive(Clone, Copy)]
+enum Right {
+    /// A request with this number has the log ids after a row up to another one.
+    Logs(u64, Row, Row),
+    /// A request with this number has the snapshot up to a row.
+    Snapshot(u64, Row),
+    Heartbeat,
+    NoMember,
+    Done,
+    Nothing,
+    Refused(HandlerError),
+}
+
+/// Whether an answer is right.
+fn is(answer: Result<(), HandlerError>, right: Right) -> bool {
+    match right {
+        Right::Done => answer == Ok(()),
+        Right::Refused(refusal) => answer == Err(refusal),
+        _ => false,
+    }
+}
+
+/// What is sent, if it is right.
+fn sent<K: LeaderKind<u64>>(right: Right) -> Option<InflightOf<K::Committed>> {
+    match right {
+        Right::Logs(number, prev, last) => {
+            Some(InflightOf::logs(id::<K>(prev), id::<K>(last)).with_id(number))
+        }
+        Right::Snapshot(number, last) => {
+            Some(InflightOf::snapshot(id::<K>(last)).with_id(number))
+        }
+        Right::Heartbeat => Some(InflightOf::None),
+        _ => None,
+    }
+}
+
+impl<K: LeaderKind<u64>> Led<K> {
+    /// The leader 1 of term 3, whose log is that of `voter` and a blank entry (3, 5), which is on
+    /// disk.
+    pub fn new(mut state: StateOf<K>) -> Result<Self, HandlerError> {
+        let mut leader = Leader::resume(1, &state)?;
+        let _entry: Entry<K> = leader.propose_blank(&mut state)?;
+        leader.handle_flushed(&state, id::<K>(Some((3, 5))))?;
+        Ok(Led { state, leader })
+    }
+
+    /// An elected candidate, as the leader.
+    pub fn elected(
+        mut state: StateOf<K>,
+        candidate: &Candidate<u64, EmptyNode, K::Leader, K::Committed>,
+    ) -> Result<Self, HandlerError> {
+        let leader = Leader::new(&mut state, candidate)?;
+        Ok(Led { state, leader })
+    }
+
+    /// Takes the response of a node.
+    pub fn take(
+        &mut self,
+        from: u64,
+        request: u64,
+        outcome: Outcome<K::Leader, K::Committed>,
+    ) -> Result<(), HandlerError> {
+        let response = Response {
+            request: Some(request),
+            outcome,
+        };
+        self.leader.handle_response(&from, &response)
+    }
+
+    /// Appends an entry with data.
+    pub fn propose(&mut self) -> Result<Entry<K>, HandlerError> {
+        self.leader.propose(&mut self.state, 7)
+    }
+
+    /// Whether something new is committed exactly if that is right.
+    fn commit(&mut self, right: Right) -> bool {
+        match self.leader.commit(&mut self.state) {
+            Ok(more) => more == matches!(right, Right::Done),
+            Err(_) => false,
+        }
+    }
+
+    /// Whether a step has the right result.
+    fn meets(&mut self, step: Step, right: Right) -> bool {
+        match step {
+            Step::Send(to) => self.leader.next_request(&self.state, &to, 8) == sent::<K>(right),
+            Step::Take(from, request, upto) => {
+                is(
+                    self.take(from, request, Outcome::Matches(id::<K>(upto))),
+                    right,
+                )
+            }
+            Step::Conflict(from, request, at) => {
+                is(self.take(from, request, Outcome::Conflict(at)), right)
+            }
+            Step::Depose(from) => {
+                let vote = VoteOf::<u64, K>::new(4, 2);
+                is(self.take(from, 1, Outcome::HigherVote(vote)), right)
+            }
+            Step::GiveUp(to) => {
+                self.leader.give_up(&to);
+                true
+            }
+            Step::Flush(upto) => {
+                is(
+                    self.leader.handle_flushed(&self.state, id::<K>(upto)),
+                    right,
+                )
+            }
+            Step::Commit => self.commit(right),
+            Step::Propose => {
+                match self.propose() {
+                    Ok(_) => is(Ok(()), right),
+                    Err(refusal) => is(Err(refusal), right),
+                }
+            }
+            Step::Promise => {
+                !self.leader.must_step_down(&self.state)
+                    && self.state.promise(VoteOf::<u64, K>::new(4, 2))
+                    && self.leader.must_step_down(&self.state)
+            }
+        }
+    }
+
+    /// Returns the name of the first row with another result.
+    fn fails(&mut self, rows: &[(&'static str, Step, Right)]) -> Option<&'static str> {
+        for (name, step, right) in rows {
+            if !self.meets(*step, *right) {
+                return Some(*name);
+            }
+        }
+        None
+    }
+}
+
+/// Responses to another request than that in flight.
+const LATE: Right = Right::Refused(HandlerError::ResponseRefused(
+    InflightError::InvalidRequestId {
+        mine: Some(2),
+        received: 1,
+    },
+));
+
+const LATE_SNAPSHOT: Right = Right::Refused(HandlerError::ResponseRefused(
+    InflightError::InvalidRequestId {
+        mine: Some(3),
+        received: 2,
+    },
+));
+
+const DOUBLED: Right = Right::Refused(HandlerError::ResponseRefused(
+    InflightError::InvalidRequestId {
+        mine: None,
+        received: 1,
+    },
+));
+
+const PAST: Right = Right::Refused(HandlerError::ResponseRefused(InflightError::AckOutOfRange));
+
+const END: Row = Some((3, 5));
+
+/// What a leader meets that has all of its log.
+const LIFE: &[(&str, Step, Right)] = &[
+    ("all", Step::Send(2), Right::Logs(1, None, END)),
+    ("one request at a time", Step::Send(2), Right::Heartbeat),
+    ("no member", Step::Send(9), Right::NoMember),
+    ("past the request", Step::Take(2, 1, Some((3, 6))), PAST),
+    (
+        "a response of no member",
+        Step::Take(9, 1, END),
+        Right::Refused(HandlerError::UnknownMember),
+    ),
+    (
+        "a higher vote",
+        Step::Depose(2),
+        Right::Refused(HandlerError::HigherVote),
+    ),
+    (
+        "an earlier leader's",
+        Step::Take(2, 1, Some((2, 4))),
+        Right::Done,
+    ),
+    (
+        "nothing is committed by counting those",
+        Step::Commit,
+        Right::Nothing,
+    ),
+    ("its own", Step::Take(2, 1, END), Right::Done),
+    ("a doubled response", Step::Take(2, 1, END), DOUBLED),
+    ("its own are committed", Step::Commit, Right::Done),
+    ("only once", Step::Commit, Right::Nothing),
+    ("another node", Step::Send(3), Right::Logs(1, None, END)),
+    ("it is lost", Step::GiveUp(3), Right::Done),
+    ("it is sent again", Step::Send(3), Right::Logs(2, None, END)),
+    ("a late response", Step::Take(3, 1, END), LATE),
+    (
+        "past the log",
+        Step::Flush(Some((3, 6))),
+        Right::Refused(HandlerError::NotLogged),
+    ),
+    (
+        "the greatest index",
+        Step::Flush(Some((3, u64::MAX))),
+        Right::Refused(HandlerError::NoNextIndex),
+    ),
+    ("its state has a higher vote", Step::Promise, Right::Done),
+    (
+        "it leads no more",
+        Step::Propose,
+        Right::Refused(HandlerError::NotLeader),
+    ),
+];
+
+/// The row up to which there is a snapshot.
+const START: Row = Some((2, 2));
+
+/// What a leader meets whose log begins after a snapshot.
+const SNAPSHOT: &[(&str, Step, Right)] = &[
+    ("its log", Step::Send(2), Right::Logs(1, START, END)),
+    (
+        "the node has none of it",
+        Step::Conflict(2, 1, 2),
+        Right::Done,
+    ),
+    ("the snapshot", Step::Send(2), Right::Snapshot(2, START)),
+    ("one at a time", Step::Send(2), Right::Heartbeat),
+    ("it is lost", Step::GiveUp(2), Right::Done),
+    ("again", Step::Send(2), Right::Snapshot(3, START)),
+    ("a late response", Step::Take(2, 2, START), LATE_SNAPSHOT),
+    ("it is installed", Step::Take(2, 3, START), Right::Done),
+    (
+        "the entries after it",
+        Step::Send(2),
+        Right::Logs(4, START, END),
+    ),
+];
+
+/// Returns the name of the first row of a leader's life with another result.
+fn life<K: LeaderKind<u64>>(alloc: Global) -> Result<Option<&'static str>, HandlerError> {
+    let mut led = Led::<K>::new(voter::<K>(alloc)?)?;
+    Ok(led.fails(LIFE))
+}
+
+/// Returns the name of the first row of a snapshot that is lost with another result.
+fn lost_snapshot<K: LeaderKind<u64>>(alloc: Global) -> Result<Option<&'static str>, HandlerError> {
+    let mut state = voter::<K>(alloc)?;
+    let mut meta = SnapshotMetaOf::<K::Committed, _, _>::try_default(alloc)?;
+    meta.last_log_id = id::<K>(START);
+    let request = InstallSnapshot {
+        leader_id: VoteOf::<u64, K>::new(3, 1).leader_id,
+        request: 1,
+        meta,
+    };
+    let _response = handle_install_snapshot(&mut state, &request)?;
+    let mut led = Led::<K>::new(state)?;
+    Ok(led.fails(SNAPSHOT))
+}
+
+#[test]
+fn a_leader_sends_and_commits(rt: HostRuntime) -> Result<(), Fail> {
+    assert_eq!(rt; life::<LeaderAdv>(rt.alloc())?, None);
+    assert_eq!(rt; life::<LeaderStd>(rt.alloc())?, None);
+    Ok(())
+}
+
+#[test]
+fn a_lost_snapshot_is_sent_again(rt: HostRuntime) -> Result<(), Fail> {
+    assert_eq!(rt; lost_snapshot::<LeaderAdv>(rt.alloc())?, None);
+    assert_eq!(rt; lost_snapshot::<LeaderStd>(rt.alloc())?, None);
+    Ok(())
+}
