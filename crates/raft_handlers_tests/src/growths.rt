@@ -75,7 +75,7 @@ fn install(growth: Growth, state: &mut State) -> Result<bool, AllocError> {
 
 /// A server restarts with a snapshot and an entry after it.
 fn restart(growth: Growth) -> Result<bool, AllocError> {
-    let stored = Stored {
+    let stored = Stored::<Id, Id, u64, EmptyNode, u64> {
         vote: VoteIn::new(3, 1),
         snapshot: snapshot(growth.alloc)?,
         entries: entries::<LeaderAdv>(growth.alloc, &[(3, 10)])?,
