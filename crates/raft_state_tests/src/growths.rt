@@ -136,22 +136,38 @@ fn follower_at(alloc: Global, in_effect: (u64, u64)) -> Result<State, AllocError
     follower::<LeaderAdv>(alloc, Some((1, 1)), None, Some(in_effect))
 }
 
+/// Clones a state.
+fn cloned(growth: Growth, state: &State) -> Result<State, AllocError> {
+    growth.refuse();
+    state.try_clone()
+}
+
+/// Appends entries of a leader to a follower's log, with a membership among them.
+fn append(growth: Growth, state: &mut State) -> Result<(), AllocError> {
+    let entries = entries::<LeaderAdv>(growth.alloc, 4, 5)?;
+    growth.refuse();
+    if !state.can_append_entries(&entries) {
+        return Ok(());
+    }
+    state.append_entries(&entries)
+}
+
+/// Installs a snapshot up to a log id.
+fn install(growth: Growth, state: &mut State, upto: (u64, u64)) -> Result<(), AllocError> {
+    let meta = snapshot::<LeaderAdv>(growth.alloc, Some(upto), Some((1, 2)))?;
+    growth.refuse();
+    if !state.can_install_snapshot(&meta) {
+        return Ok(());
+    }
+    state.install_snapshot(meta)
+}
+
 #[test]
 fn growths_of_states(rt: HostRuntime) -> Result<(), Fail> {
     let state = |alloc: Global| with_snapshot(alloc);
-    let clone = |growth: Growth, state: &mut State| {
-        growth.refuse();
-        state.try_clone()
-    };
+    let clone = |growth: Growth, state: &mut State| cloned(growth, state);
     let follower = |alloc: Global| follower_at(alloc, (1, 2));
-    let append = |growth: Growth, state: &mut State| {
-        let entries = entries::<LeaderAdv>(growth.alloc, 4, 5)?;
-        growth.refuse();
-        if !state.can_append_entries(&entries) {
-            return Ok(());
-        }
-        state.append_entries(&entries)
-    };
+    let append = |growth: Growth, state: &mut State| append(growth, state);
     assert!(rt; is_swept(&rt, rt.alloc(), "RaftState::try_clone", state, clone)?);
     assert!(rt;
         is_swept(
@@ -172,14 +188,7 @@ fn growths_of_snapshots(rt: HostRuntime) -> Result<(), Fail> {
         ("RaftState::install_snapshot, not logged", (2, 4)),
     ] {
         let state = |alloc: Global| follower_at(alloc, (3, 4));
-        let install = |growth: Growth, state: &mut State| {
-            let meta = snapshot::<LeaderAdv>(growth.alloc, Some(upto), Some((1, 2)))?;
-            growth.refuse();
-            if !state.can_install_snapshot(&meta) {
-                return Ok(());
-            }
-            state.install_snapshot(meta)
-        };
+        let install = |growth: Growth, state: &mut State| install(growth, state, upto);
         assert!(rt; is_swept(&rt, rt.alloc(), name, state, install)?);
     }
     Ok(())

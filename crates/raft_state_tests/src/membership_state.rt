@@ -4,7 +4,7 @@ use crate::support::rows::{Effective, Row, effective, id};
 use raft_base::{Invalid, LeaderAdv, LeaderKind, LeaderStd, LogIdOptionExt, Validate};
 use raft_members::{ChangeMembers, ChangeMembershipErrorOf, InProgressOf};
 use raft_state::MembershipStateOf;
-use raft_testing::growths::is_free_on;
+use raft_testing::growths::{is_free, refuse_each};
 use raft_testing::memory::{both, holds};
 use raft_testing::words::ids;
 use std::alloc::{AllocError, Global};
@@ -194,12 +194,11 @@ fn apply_right<K: LeaderKind<u64>>(
 /// shared, and the effective one is changed as it should be.
 fn memberships_right<K: LeaderKind<u64>>(rt: &impl Print, alloc: Global) -> io::Result<bool> {
     let states = both(state::<K>(alloc), state::<K>(alloc));
-    let held = both(states, news::<K>(alloc));
-    let name = "MembershipState, its moves and reads";
-    let are_free = is_free_on(rt, alloc, name, held, |held| {
-        move_right::<K>(&held.0.0, &held.0.1, &held.1)
-    })?;
-    Ok(are_free && apply_right::<K>(alloc, &mut state::<K>(alloc)?)?)
+    let ((mut from, same), news) = both(states, news::<K>(alloc))?;
+    refuse_each(alloc);
+    let is_right = move_right::<K>(&from, &same, &news);
+    let are_free = is_free(rt, alloc, "MembershipState, its moves and reads", is_right)?;
+    Ok(are_free && holds(apply_right::<K>(alloc, &mut from)))
 }
 
 /// Example state 2. Committed at (1, 1), effective at (2, 10): the membership of a snapshot at
