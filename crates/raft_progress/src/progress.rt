@@ -2,16 +2,14 @@
 //! quorum of the voters has reached.
 
 mod conditions;
-mod move_up;
+mod entries;
 mod part;
 mod places;
 mod recount;
 mod replay_any_steps;
-mod scan;
 mod stat;
 mod steps;
 mod vec_progress;
-mod walk;
 
 pub use crate::tracked::{MembershipProgress, Step, Tracked, replay};
 pub use crate::{entry, inflight};

@@ -12,11 +12,11 @@ mod upgrade;
 
 use super::Progress;
 use super::conditions::{are_distinct, are_ids_distinct, is_ordered, with_learners, would_fall};
+use super::entries::append_ids;
 use super::part::ProgressPart;
 use super::places::{FEW, Places};
 use super::recount::count;
 use super::stat::Stat;
-use super::walk::place_all;
 use raft_members::quorum::QuorumSet;
 use std::alloc::{AllocError, Global};
 
@@ -95,8 +95,8 @@ impl<
         let room = quorum_set.ids(alloc)?;
         let voter_count = room.len();
         let mut walk = Vec::with_capacity(alloc, voter_count.saturating_add(learners.len()))?;
-        place_all(&mut walk, &room, &default)?;
-        place_all(&mut walk, learners, &default)?;
+        append_ids(&mut walk, &room, &default)?;
+        append_ids(&mut walk, learners, &default)?;
         let places = Places::of(alloc, &walk)?;
         let part = default.part();
         Ok(VecProgress {

@@ -1,7 +1,7 @@
 //! Clones of a progress.
 
 use super::VecProgress;
-use crate::progress::walk::{clone_walk, copy_ids};
+use crate::progress::entries::{clone_entries, copy_ids};
 use std::alloc::AllocError;
 
 impl<ID: Copy + Ord, V: Clone, P: Copy + Ord, QS: Drop> VecProgress<ID, V, P, QS> {
@@ -22,7 +22,7 @@ impl<ID: Copy + Ord, V: Clone, P: Copy + Ord, QS: Drop> VecProgress<ID, V, P, QS
             granted: self.granted,
             default_part: self.default_part,
             voter_count: self.voter_count,
-            walk: clone_walk(alloc, &self.walk)?,
+            walk: clone_entries(alloc, &self.walk)?,
             places: self.places.try_clone()?,
             stale: self.stale,
             room: copy_ids(alloc, &self.room)?,

@@ -17,11 +17,9 @@ ghost use Rattle.raft_progress.specs.progress.Updated.{IsUpdated, NeverFalls};
 ghost use Rattle.raft_progress.specs.progress.VecProgress.{is_stale, shown};
 
 use super::VecProgress;
-use crate::progress::move_up::move_up;
+use crate::progress::entries::{find_shortest_quorum, gather_leading, move_up, write_at};
 use crate::progress::part::{ProgressPart, is_at_most, is_below};
-use crate::progress::scan::{gather_leading, least_front};
 use crate::progress::steps::Reply;
-use crate::progress::walk::write_at;
 use raft_members::quorum::QuorumSet;
 
 impl<
@@ -262,10 +260,10 @@ impl<
     {
         let voters = &self.walk[..self.voter_count];
         let high = gather_leading(voters, self.granted, &mut self.room);
-        let found = least_front(&self.quorum_set, voters, place, high, &self.room);
+        let found = find_shortest_quorum(&self.quorum_set, voters, place, high, &self.room);
         self.stat.is_quorum_count = self.stat.is_quorum_count.saturating_add(found.tests);
-        if let Some(front) = found.front {
-            self.granted = self.walk[front - 1].1.part();
+        if let Some(len) = found.len {
+            self.granted = self.walk[len - 1].1.part();
         }
     }
 }

@@ -31,7 +31,7 @@ record_move-requires g c =
 pub invariant_of-self : goal.invariant_of-self
 invariant_of-self g c =
     let p = c.move_up-to.ensures.passes in
-    let new = c.move_up-to.new.walk.items in
+    let new = c.move_up-to.new.entries.items in
     let old = place_in g.ID.PartialEq.eq c.args.self.now.places.entries.items in
     let long = passed_length g.P.Ord.cmp g.V.ProgressPart.part_of c.args.self.now.walk.items c.args.place new c.move_up-to.result p in
     record {
@@ -46,7 +46,7 @@ invariant_of-self g c =
 
 pub invariant_of-self-else-to-place : goal.invariant_of-self-else-to-place
 invariant_of-self-else-to-place g c =
-    let same = same_unless_passed g.P.Ord.cmp g.V.ProgressPart.part_of c.args.self.now.walk.items c.args.place c.move_up-to.new.walk.items
+    let same = same_unless_passed g.P.Ord.cmp g.V.ProgressPart.part_of c.args.self.now.walk.items c.args.place c.move_up-to.new.entries.items
     c.move_up-to.result c.move_up-to.ensures.passes c.if-to-place.false in
     record {
       voters_fit = subst (λ n. c.args.self.now.voter_count ≤ n) (sym (ap length same)) c.args.self.now.voters_fit;
@@ -58,7 +58,7 @@ pub returns-else-to-place-clause-risen : goal.returns-else-to-place-clause-risen
 returns-else-to-place-clause-risen g c =
     let same : shown c.else-to-place.self
     ≡ record (shown c.args.self.now) {
-      walk = c.move_up-to.new.walk.items;
+      walk = c.move_up-to.new.entries.items;
       stat = record c.args.self.now.stat { move_count = c.saturating_add-self.result };
     } =
     elim c.else-to-place.branch [

@@ -25,20 +25,20 @@ module _ {ID V : Type 0} {eq : ID → ID → Bool} {has_quorum : (ID → Bool) �
       subst (λ ws. IsLeastFront eq has_quorum (take n ws) place (prefix_len leads (take n ws)) found tests) same
       (subst (λ h. IsLeastFront eq has_quorum (take n lent) place h found tests) count least)
 
-pub least_front-found-requires-clause-within : goal.least_front-found-requires-clause-within
-least_front-found-requires-clause-within g c =
+pub find_shortest_quorum-found-requires-clause-within : goal.find_shortest_quorum-found-requires-clause-within
+find_shortest_quorum-found-requires-clause-within g c =
     let h = prefix_len-le-length (exceeds g.P.Ord.cmp g.V.ProgressPart.part_of c.args.self.now.granted)
     (take c.args.self.now.voter_count c.deref.result.now) in
     rw c.gather_leading-high.ensures.count h
 
-pub least_front-found-requires-clause-distinct : goal.least_front-found-requires-clause-distinct
-least_front-found-requires-clause-distinct g c =
+pub find_shortest_quorum-found-requires-clause-distinct : goal.find_shortest_quorum-found-requires-clause-distinct
+find_shortest_quorum-found-requires-clause-distinct g c =
     rw c.deref.ensures.value (IsDistinct-voters g.met.ID.Eq.laws c.args.self.now.voter_count c.args.self.now.walk.items c.requires.distinct)
 
 pub index-requires : goal.index-requires
 index-requires g c =
     let at = front_within (exceeds g.P.Ord.cmp g.V.ProgressPart.part_of c.args.self.now.granted) c.args.self.now.voter_count
-    c.deref.result.now c.gather_leading-high.ensures.count c.least_front-found.ensures c.in-Some.front c.in-Some.is in
+    c.deref.result.now c.gather_leading-high.ensures.count c.find_shortest_quorum-found.ensures c.in-Some.len c.in-Some.is in
     let near = at.0 in
     let far = at.1 in
     let t = length-take c.args.self.now.voter_count c.deref.result.now in
@@ -52,16 +52,16 @@ returns-in-Some-clause-scanned g c = record {
   group = record { quorum_set = refl; voter_count = refl; default_part = refl; updates = refl };
   same_walk = refl;
   moves = refl;
-  found = c.least_front-found.result.front;
-  tests = c.least_front-found.result.tests;
+  found = c.find_shortest_quorum-found.result.len;
+  tests = c.find_shortest_quorum-found.result.tests;
   scanned = least_of_walk (exceeds g.P.Ord.cmp g.V.ProgressPart.part_of c.args.self.now.granted) c.args.self.now.voter_count
-      c.deref.result.now c.gather_leading-high.ensures.count c.least_front-found.ensures c.args.self.now.walk.items c.deref.ensures.value;
+      c.deref.result.now c.gather_leading-high.ensures.count c.find_shortest_quorum-found.ensures c.args.self.now.walk.items c.deref.ensures.value;
   counts = c.saturating_add-self.ensures;
   stays = λ e. cc;
   rises = λ k e.
-      let is : c.in-Some.front ≡ k = cc in
+      let is : c.in-Some.len ≡ k = cc in
       let at = front_within (exceeds g.P.Ord.cmp g.V.ProgressPart.part_of c.args.self.now.granted) c.args.self.now.voter_count
-      c.deref.result.now c.gather_leading-high.ensures.count c.least_front-found.ensures c.in-Some.front c.in-Some.is in
+      c.deref.result.now c.gather_leading-high.ensures.count c.find_shortest_quorum-found.ensures c.in-Some.len c.in-Some.is in
       let near = at.0 in
       let far = at.1 in
       let t = length_take_le c.deref.result.now c.args.self.now.voter_count in (
@@ -77,10 +77,10 @@ returns-in_default-clause-scanned g c = record {
   group = record { quorum_set = refl; voter_count = refl; default_part = refl; updates = refl };
   same_walk = refl;
   moves = refl;
-  found = c.least_front-found.result.front;
-  tests = c.least_front-found.result.tests;
+  found = c.find_shortest_quorum-found.result.len;
+  tests = c.find_shortest_quorum-found.result.tests;
   scanned = least_of_walk (exceeds g.P.Ord.cmp g.V.ProgressPart.part_of c.args.self.now.granted) c.args.self.now.voter_count
-      c.deref.result.now c.gather_leading-high.ensures.count c.least_front-found.ensures c.args.self.now.walk.items c.deref.ensures.value;
+      c.deref.result.now c.gather_leading-high.ensures.count c.find_shortest_quorum-found.ensures c.args.self.now.walk.items c.deref.ensures.value;
   counts = c.saturating_add-self.ensures;
   stays = λ e. refl;
   rises = λ k e. cc;

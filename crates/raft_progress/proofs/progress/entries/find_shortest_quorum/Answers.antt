@@ -9,10 +9,10 @@ use Rattle.raft_progress.proofs.lemmas.progress.walk.FrontLemmas.{
   single_front,
   tests_fit,
 }
-use Rattle.raft_progress.proofs.progress.scan.least_front.Goals as goal
+use Rattle.raft_progress.proofs.progress.entries.find_shortest_quorum.Goals as goal
 
-pub test_front-requires : goal.test_front-requires
-test_front-requires g c =
+pub test_prefix-requires : goal.test_prefix-requires
+test_prefix-requires g c =
     let t = tests_fit g.ID.PartialEq.eq (g.QS.QuorumSet.has_quorum c.args.quorum_set.now) c.args.voters.now c.args.low c.args.high
     c.loop-failed.failed c.loop-failed.end c.loop-failed.left c.loop-failed.tests c.loop-failed.invariant.halves
     c.loop-failed.invariant.fits in
@@ -25,34 +25,34 @@ loop-failed-init g c = record {
   fits = omega arith;
 }
 
-pub loop-failed-preserved-then-test_front : goal.loop-failed-preserved-then-test_front
-loop-failed-preserved-then-test_front g c =
-    let e = c.min-front.ensures in
+pub loop-failed-preserved-then-test_prefix : goal.loop-failed-preserved-then-test_prefix
+loop-failed-preserved-then-test_prefix g c =
+    let e = c.min-len.ensures in
     let a = c.saturating_add.ensures in
-    let l : c.min-front.result ≤ c.args.high = let w = c.loop-failed.invariant.halves.within in omega arith in
+    let l : c.min-len.result ≤ c.args.high = let w = c.loop-failed.invariant.halves.within in omega arith in
     let tested = front_tested g.met.ID.Eq.laws (g.QS.QuorumSet.has_quorum c.args.quorum_set.now) c.args.voters.now c.requires.distinct
-    c.args.room.now c.args.high c.min-front.result l c.requires.gathered c.test_front.result c.test_front.ensures.quorum in
+    c.args.ids.now c.args.high c.min-len.result l c.requires.gathered c.test_prefix.result c.test_prefix.ensures.quorum in
     record {
-      halves = rw c.test_front.ensures.counted
+      halves = rw c.test_prefix.ensures.counted
           (halves_passed g.ID.PartialEq.eq (g.QS.QuorumSet.has_quorum c.args.quorum_set.now) c.args.voters.now c.args.low c.args.high
           c.loop-failed.failed c.loop-failed.end c.loop-failed.left c.loop-failed.tests c.loop-failed.invariant.halves
-          c.loop-failed-test.true c.min-front.result (omega arith) (sym tested ∙ c.if-test_front.true));
+          c.loop-failed-test.true c.min-len.result (omega arith) (sym tested ∙ c.if-test_prefix.true));
       fits = c.loop-failed.invariant.fits;
     }
 
 pub loop-failed-preserved : goal.loop-failed-preserved
 loop-failed-preserved g c =
-    let e = c.min-front.ensures in
+    let e = c.min-len.ensures in
     let a = c.saturating_add.ensures in
-    let l : c.min-front.result ≤ c.args.high = let w = c.loop-failed.invariant.halves.within in omega arith in
+    let l : c.min-len.result ≤ c.args.high = let w = c.loop-failed.invariant.halves.within in omega arith in
     let tested = front_tested g.met.ID.Eq.laws (g.QS.QuorumSet.has_quorum c.args.quorum_set.now) c.args.voters.now c.requires.distinct
-    c.args.room.now c.args.high c.min-front.result l c.requires.gathered c.test_front.result c.test_front.ensures.quorum in
+    c.args.ids.now c.args.high c.min-len.result l c.requires.gathered c.test_prefix.result c.test_prefix.ensures.quorum in
     record {
-      halves = rw c.test_front.ensures.counted
+      halves = rw c.test_prefix.ensures.counted
           (halves_failed g.ID.PartialEq.eq (g.QS.QuorumSet.has_quorum c.args.quorum_set.now) c.args.voters.now c.args.low c.args.high
           c.loop-failed.failed c.loop-failed.end c.loop-failed.left c.loop-failed.tests c.loop-failed.invariant.halves
-          c.loop-failed-test.true c.min-front.result (omega arith) (g.met.QS.QuorumSet.superset c.args.quorum_set.now)
-          (sym tested ∙ c.if-test_front.false));
+          c.loop-failed-test.true c.min-len.result (omega arith) (g.met.QS.QuorumSet.superset c.args.quorum_set.now)
+          (sym tested ∙ c.if-test_prefix.false));
       fits = c.loop-failed.invariant.fits;
     }
 
@@ -66,11 +66,11 @@ returns-else-end-high g c = halves_missed g.ID.PartialEq.eq (g.QS.QuorumSet.has_
     c.args.high c.loop-failed.failed c.loop-failed.end c.loop-failed.left c.loop-failed.tests c.loop-failed.invariant.halves (omega arith)
     c.if-end-high.false
 
-pub returns-then-fronts-eq1 : goal.returns-then-fronts-eq1
-returns-then-fronts-eq1 g c =
+pub returns-then-prefixes-eq1 : goal.returns-then-prefixes-eq1
+returns-then-prefixes-eq1 g c =
     let is_quorum = g.QS.QuorumSet.has_quorum c.args.quorum_set.now in
-    let tested = front_tested g.met.ID.Eq.laws is_quorum c.args.voters.now c.requires.distinct c.args.room.now c.args.high c.args.high
-    (omega arith) c.requires.gathered c.test_front-passed.result c.test_front-passed.ensures.quorum in
-    rw (c.then_some-front.ensures, c.test_front-passed.ensures.counted)
+    let tested = front_tested g.met.ID.Eq.laws is_quorum c.args.voters.now c.requires.distinct c.args.ids.now c.args.high c.args.high
+    (omega arith) c.requires.gathered c.test_prefix-passed.result c.test_prefix-passed.ensures.quorum in
+    rw (c.then_some-len.ensures, c.test_prefix-passed.ensures.counted)
     (single_front g.ID.PartialEq.eq is_quorum c.args.voters.now c.args.low c.args.high (omega arith) c.requires.within
-    c.test_front-passed.result tested)
+    c.test_prefix-passed.result tested)

@@ -3,7 +3,7 @@ use Rattle.std.proofs.lemmas.Grind.{common_steps}
 use Rattle.std.proofs.lemmas.List.Sums.{prefix_len-le-length}
 use Rattle.raft_progress.specs.Inner.Recount.{exceeds}
 use Rattle.raft_progress.proofs.lemmas.progress.walk.RisingLemmas.{prefix_ends, prefix_goes}
-use Rattle.raft_progress.proofs.progress.scan.gather_leading.Goals as goal
+use Rattle.raft_progress.proofs.progress.entries.gather_leading.Goals as goal
 
 pub returns-then-not-is_lt-clause-count : goal.returns-then-not-is_lt-clause-count
 returns-then-not-is_lt-clause-count g c =

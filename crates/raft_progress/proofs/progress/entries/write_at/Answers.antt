@@ -1,6 +1,6 @@
 use Rattle.std.proofs.Common.{refl}
 use Rattle.std.proofs.lemmas.Option.{slice_get_read}
-use Rattle.raft_progress.proofs.progress.walk.write_at.Goals as goal
+use Rattle.raft_progress.proofs.progress.entries.write_at.Goals as goal
 
 pub returns : goal.returns
 returns g c = (

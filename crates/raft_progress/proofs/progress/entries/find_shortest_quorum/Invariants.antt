@@ -1,6 +1,6 @@
 use Rattle.std.proofs.Common.{◌-◌, ◌<◌, ◌^◌, length}
 use Rattle.raft_progress.proofs.lemmas.progress.walk.FrontLemmas.{Halves}
-use Rattle.raft_progress.proofs.progress.scan.least_front.Given as goal
+use Rattle.raft_progress.proofs.progress.entries.find_shortest_quorum.Given as goal
 
 -- each test halves the remaining prefixes
 abbrev pub invariant-loop-failed : goal.invariant-loop-failed

@@ -1,7 +1,0 @@
-use Rattle.std.proofs.Common.{take}
-use Rattle.raft_progress.specs.Inner.Placed.{IsPlaced}
-use Rattle.raft_progress.proofs.progress.walk.place_all.Given as goal
-
--- the ids so far have been appended
-abbrev pub invariant-loop-id : goal.invariant-loop-id
-invariant-loop-id g l = IsPlaced g.V.Clone.is_clone l.default (take l.id-index l.ids) l.fn.walk.items l.walk.items
