@@ -1,6 +1,5 @@
 -- What the private functions do, one step at a time. No public contract uses these definitions.
 pub mod Conditions
-pub mod Lent
 pub mod Placed
 pub mod Places
 pub mod Recount

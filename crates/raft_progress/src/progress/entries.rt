@@ -1,13 +1,10 @@
 //! The entries of a progress: how they are made and written, how a voter moves up among them, and
 //! which prefix of the voters is the shortest quorum.
-ghost use Rattle.std.specs.Prelude.{◌≡◌, ◌+◌, ◌-◌, ◌^◌, ◌<◌, ◌≤◌, length, slice_get, take, OnOk, IfOk};
+ghost use Rattle.std.specs.Prelude.{◌≡◌, ◌-◌, ◌<◌, ◌≤◌, length, slice_get, take, OnOk, IfOk};
 ghost use Rattle.std.specs.List.{AllZip, IsDistinct, prefix_len, swap};
 ghost use Rattle.std.specs.Fn.{FnOnceTakesAtMut};
 ghost use Rattle.std.specs.Map.{keys_of};
 ghost use Rattle.std.specs.Option.{ForSome};
-ghost use Rattle.std.specs.Ordering.{is_lt};
-ghost use Rattle.std.specs.Set.{is_member};
-ghost use Rattle.std.proofs.Common.{get_or};
 ghost use Rattle.raft_progress.specs.Inner.Placed.{IsPlaced, IsWrittenAt};
 ghost use Rattle.raft_progress.specs.Inner.Recount.{exceeds};
 ghost use Rattle.raft_progress.specs.Inner.Rises.{IsLeastFront, RisesTo};
@@ -87,26 +84,13 @@ pub(crate) fn move_up<ID: Copy, V: ProgressPart<P>, P: Copy + Ord>(
     let part = entries[position].1.part();
     let mut at = position;
     while at > 0 {
-        if !has_part_below(entries, at - 1, part) {
+        if !entries[at - 1].1.part().cmp(&part).is_lt() {
             return at;
         }
         swap_with_previous(entries, at);
         at -= 1;
     }
     at
-}
-
-/// Whether the part of the entry at a position is less than another part.
-fn has_part_below<ID: Copy, V: ProgressPart<P>, P: Copy + Ord>(
-    entries: &[(ID, V)],
-    position: usize,
-    part: P,
-) -> bool
-    requires { position < length entries.now }
-    ensures { (d : ID × V) →
-        result ≡ is_lt (P.cmp (V.part_of (get_or entries.now position d).1) part) }
-{
-    entries[position].1.part().cmp(&part).is_lt()
 }
 
 /// Swaps the entry at a position with the one before it.
@@ -175,22 +159,23 @@ pub(crate) fn find_shortest_quorum<ID: Copy + Ord, V, QS: QuorumSet<ID>>(
     ensures { IsLeastFront ID.eq (QS.has_quorum quorum_set.now) voters.now
         low high result.len result.tests }
 {
-    let mut tests = 0;
     // If a single prefix is left, as is usual when the voters follow their leader, one test is
     // enough.
     let prefixes = high.saturating_sub(low);
     if prefixes == 1 {
-        let passed = test_prefix(quorum_set, &ids[..high], &mut tests);
+        let passed = quorum_set.is_quorum(&ids[..high]);
         let len = passed.then_some(high);
-        return ShortestQuorum { len, tests };
+        return ShortestQuorum { len, tests: 1 };
     }
+    let mut tests = 0;
     let mut failed = low;
     let mut end = high;
     let mut left = voters.len();
     while failed < end {
         left /= 2;
         let len = end.min((failed + 1).saturating_add(left));
-        if test_prefix(quorum_set, &ids[..len], &mut tests) {
+        tests += 1;
+        if quorum_set.is_quorum(&ids[..len]) {
             end = len - 1;
         } else {
             failed = len;
@@ -199,20 +184,4 @@ pub(crate) fn find_shortest_quorum<ID: Copy + Ord, V, QS: QuorumSet<ID>>(
     // A test that passes leaves only the shorter prefixes.
     let len = if end < high { Some(end + 1) } else { None };
     ShortestQuorum { len, tests }
-}
-
-/// Whether a prefix is a quorum. It counts the test.
-#[inline(always)]
-fn test_prefix<ID: Copy + Ord, QS: QuorumSet<ID>>(
-    quorum_set: &QS,
-    prefix: &[ID],
-    tests: &mut u64,
-) -> bool
-    requires { tests.old + 1 < 2 ^ 64 }
-    ensures quorum { IsDistinct ID.eq prefix.now →
-        result ≡ QS.has_quorum quorum_set.now (is_member ID.eq prefix.now) }
-    ensures counted { tests.new ≡ tests.old + 1 }
-{
-    *tests += 1;
-    quorum_set.is_quorum(prefix)
 }

@@ -219,7 +219,10 @@ impl<ID: Copy + Ord, V: ProgressPart<P> + Drop, P: Copy + Ord, QS: QuorumSet<ID>
     }
 
     fn get_mut(&mut self, id: &ID) -> Option<&mut V> {
-        self.value_mut(id)
+        match self.index(id) {
+            Some(position) => Some(&mut self.walk[position].1),
+            None => None,
+        }
     }
 
     fn is_voter(&self, id: &ID) -> Option<bool> {

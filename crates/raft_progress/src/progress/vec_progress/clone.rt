@@ -7,14 +7,13 @@ use std::alloc::AllocError;
 impl<ID: Copy + Ord, V: Clone, P: Copy + Ord, QS: Drop> VecProgress<ID, V, P, QS> {
     ghost use Rattle.std.specs.Prelude.{◌≡◌, IfOk};
     ghost use Rattle.raft_progress.specs.progress.Equal.{IsCloned};
-    ghost use Rattle.raft_progress.specs.progress.VecProgress.{is_stale, shown};
+    ghost use Rattle.raft_progress.specs.progress.VecProgress.{shown};
 
     /// Returns a clone of the values with a quorum set, and with the scratch space that `new`
-    /// allocates. If the sorted list of positions is not stale here, it is not stale in the clone.
+    /// allocates.
     pub(crate) fn clone_over(&self, quorum_set: QS) -> Result<Self, AllocError>
         ensures cloned { IfOk result (λ made.
             IsCloned V.is_clone (λ old new. new ≡ quorum_set) (shown self.now) (shown made)) }
-        ensures mark { IfOk result (λ made. is_stale made ≡ is_stale self.now) }
     {
         let alloc = *self.walk.allocator();
         Ok(VecProgress {

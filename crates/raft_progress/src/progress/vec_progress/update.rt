@@ -1,20 +1,17 @@
 //! How a value is written, and how granted is recomputed.
-ghost use Rattle.std.specs.Prelude.{◌≡◌, ◌≤◌, ◌<◌, ℕ, Some, is_some, length, position, slice_get, true};
-ghost use Rattle.std.specs.Borrow.{sem};
+ghost use Rattle.std.specs.Prelude.{◌≡◌, ◌≤◌, ◌<◌, Some, is_some, length, slice_get, true};
 ghost use Rattle.std.specs.Fn.{FnOnceTakesAtMut};
 ghost use Rattle.std.specs.List.{IsDistinct};
 ghost use Rattle.std.specs.Map.{keys_of};
-ghost use Rattle.std.specs.Option.{ForSome, option_copied_mut};
+ghost use Rattle.std.specs.Option.{ForSome};
 ghost use Rattle.std.specs.Ordering.{is_lt};
-ghost use Rattle.raft_progress.specs.Inner.Lent.{LendsUnmarked};
 ghost use Rattle.raft_progress.specs.Inner.Settled.{IsPutInOrder, IsRisen, IsScanned};
 ghost use Rattle.raft_progress.specs.Inner.ShownAnswers.{IsShownWrite};
-ghost use Rattle.raft_progress.specs.progress.CountedValue.{AtMost};
 ghost use Rattle.raft_progress.specs.progress.InOrder.{IsInOrder};
 ghost use Rattle.raft_progress.specs.progress.Lends.{Leaves};
 ghost use Rattle.raft_progress.specs.progress.Shown.{state};
 ghost use Rattle.raft_progress.specs.progress.Updated.{IsUpdated, NeverFalls};
-ghost use Rattle.raft_progress.specs.progress.VecProgress.{is_stale, shown};
+ghost use Rattle.raft_progress.specs.progress.VecProgress.{shown};
 
 use super::VecProgress;
 use crate::progress::entries::{find_shortest_quorum, gather_leading, move_up, write_at};
@@ -28,26 +25,7 @@ impl<
     P: Copy + Ord,
     QS: QuorumSet<ID> + Drop,
 > VecProgress<ID, V, P, QS> {
-    /// Lends the value of an id for writing. The sorted list is not marked as stale, because no id
-    /// is lent.
-    pub(super) fn value_mut(&mut self, id: &ID) -> Option<&mut V>
-        ensures* writes_back { sem 𝓛 (LendsUnmarked ID.row V.row P.row QS.row ID.Ord.own
-            ID.PartialEq ID.PartialOrd.own self.entry id.now result) }
-        ensures value { option_copied_mut result ≡ (state ID.eq (shown self.old)).value id.now }
-    {
-        match self.index(id) {
-            Some(place) => {
-                let entry = &mut self.walk[place];
-                Some(&mut entry.1)
-            }
-            None => None,
-        }
-    }
-
     /// Changes the value of an id by `f`, and recomputes granted. Returns whether the id is known.
-    // Each way to find the position has its own call of `apply_at`, and the search is a cold
-    // function. With `self.apply_at(self.index(id), f)` an update would take 5 to 11 more
-    // instructions.
     #[inline(always)]
     pub(super) fn apply<F: FnOnce(&mut V)>(&mut self, id: &ID, f: F) -> bool
         requires ordered { IsInOrder ID.eq P.cmp V.part_of QS.has_quorum (shown self.old) }
@@ -59,13 +37,18 @@ impl<
             (shown self.old) id.now (shown self.new) }
         ensures ordered { IsInOrder ID.eq P.cmp V.part_of QS.has_quorum (shown self.new) }
         ensures known { result ≡ is_some ((state ID.eq (shown self.old)).value id.now) }
-        ensures mark { is_stale self.new ≡ is_stale self.old }
     {
-        if self.stale {
-            return self.apply_searching(id, f);
+        // This read is for the proof: it shows that each count fits a u64.
+        let _counts = (self.stat.move_count, self.stat.is_quorum_count);
+        self.stat.update_count = self.stat.update_count.saturating_add(1);
+        match self.index(id) {
+            Some(position) => {
+                let (before, after) = write_at(&mut self.walk, position, f);
+                self.restore_order(position, before, after);
+                true
+            }
+            None => false,
         }
-        let found = self.places.get(id);
-        self.apply_at(found, f)
     }
 
     /// Writes the value of an id, unless its part is below the present one. Returns the reply.
@@ -80,11 +63,11 @@ impl<
     {
         // This read is for the proof: it shows that each count fits a u64.
         let _counts = (self.stat.move_count, self.stat.is_quorum_count);
-        let Some(place) = self.index(id) else {
+        let Some(position) = self.index(id) else {
             self.stat.update_count = self.stat.update_count.saturating_add(1);
             return Reply::Unknown(self.granted);
         };
-        let entry = &mut self.walk[place];
+        let entry = &mut self.walk[position];
         let before = entry.1.part();
         let after = value.part();
         if is_below(&after, &before) {
@@ -92,140 +75,79 @@ impl<
         }
         entry.1 = value;
         self.stat.update_count = self.stat.update_count.saturating_add(1);
-        self.settle(place, before, after);
+        self.restore_order(position, before, after);
         Reply::Granted(self.granted)
     }
 
-    /// Changes the value of an id by `f`, and recomputes granted, with a search for the position.
-    /// Returns whether the id is known.
-    // It is cold, so that an update that uses the sorted list does not set up what the search
-    // needs.
-    #[cold]
-    fn apply_searching<F: FnOnce(&mut V)>(&mut self, id: &ID, f: F) -> bool
-        requires ordered { IsInOrder ID.eq P.cmp V.part_of QS.has_quorum (shown self.old) }
-        requires callable { ForSome ((state ID.eq (shown self.old)).value id.now)
-            (FnOnceTakesAtMut F.FnOnce f) }
-        requires monotone { NeverFalls ID.eq P.cmp V.part_of (Leaves F.FnOnce f)
-            (shown self.old) id.now }
-        ensures updated { IsUpdated ID.eq P.cmp V.part_of (Leaves F.FnOnce f)
-            (shown self.old) id.now (shown self.new) }
-        ensures ordered { IsInOrder ID.eq P.cmp V.part_of QS.has_quorum (shown self.new) }
-        ensures known { result ≡ is_some ((state ID.eq (shown self.old)).value id.now) }
-        ensures mark { is_stale self.new ≡ is_stale self.old }
-    {
-        let found = self.place_in_walk(id);
-        self.apply_at(found, f)
-    }
-
-    /// Changes the value at a position that a look-up has found by `f`, and recomputes granted.
-    /// Returns whether the id is known.
+    /// Restores the order and recomputes granted, after the part of the value at a position went
+    /// from `before` to `after`.
+    // Only a voter whose part has risen past granted moves up. Granted can rise only if the part was
+    // at most granted before.
     #[inline(always)]
-    fn apply_at<F: FnOnce(&mut V)>(&mut self, found: Option<usize>, f: F) -> bool
-        requires within { ForSome found (λ place. place < length (shown self.old).walk) }
-        requires ordered { IsInOrder ID.eq P.cmp V.part_of QS.has_quorum (shown self.old) }
-        requires callable { (place : ℕ) (e : ID × V) → found ≡ Some place →
-            slice_get (shown self.old).walk place ≡ Some e → FnOnceTakesAtMut F.FnOnce f e.1 }
-        requires monotone { (place : ℕ) (e : ID × V) (w : V) → found ≡ Some place →
-            slice_get (shown self.old).walk place ≡ Some e → Leaves F.FnOnce f e.1 w →
-            AtMost P.cmp (V.part_of e.1) (V.part_of w) }
-        ensures updated { (id : ID) → found ≡ position (λ e. ID.eq id e.0) (shown self.old).walk →
-            IsUpdated ID.eq P.cmp V.part_of (Leaves F.FnOnce f)
-            (shown self.old) id (shown self.new) }
-        ensures ordered { (id : ID) → found ≡ position (λ e. ID.eq id e.0) (shown self.old).walk →
-            IsInOrder ID.eq P.cmp V.part_of QS.has_quorum (shown self.new) }
-        ensures known { result ≡ is_some found }
-        ensures mark { is_stale self.new ≡ is_stale self.old }
-    {
-        // This read is for the proof: it shows that each count fits a u64.
-        let _counts = (self.stat.move_count, self.stat.is_quorum_count);
-        self.stat.update_count = self.stat.update_count.saturating_add(1);
-        match found {
-            Some(place) => {
-                let (before, after) = write_at(&mut self.walk, place, f);
-                self.settle(place, before, after);
-                true
-            }
-            None => false,
-        }
-    }
-
-    /// Restores the order, after the part of the value at a position went from `before` to `after`.
-    #[inline(always)]
-    fn settle(&mut self, place: usize, before: P, after: P)
-        requires within { place < length (shown self.old).walk }
-        requires at { (e : ID × V) → slice_get (shown self.old).walk place ≡ Some e →
+    fn restore_order(&mut self, position: usize, before: P, after: P)
+        requires within { position < length (shown self.old).walk }
+        requires at { (e : ID × V) → slice_get (shown self.old).walk position ≡ Some e →
             after ≡ V.part_of e.1 }
         requires distinct { IsDistinct ID.eq (keys_of (shown self.old).walk) }
-        ensures put { IsPutInOrder ID.eq P.cmp V.part_of QS.has_quorum
-            (shown self.old) place before (shown self.new) }
-        ensures mark { is_stale self.new ≡ is_stale self.old }
+        ensures { IsPutInOrder ID.eq P.cmp V.part_of QS.has_quorum
+            (shown self.old) position before (shown self.new) }
     {
-        if place >= self.voter_count || !is_below(&self.granted, &after) {
+        if position >= self.voter_count {
             return;
         }
-        if is_at_most(&before, &self.granted) {
-            let to = self.raise(place);
-            self.scan(to);
-        } else if is_below(&before, &after) {
-            self.raise(place);
+        if !is_below(&self.granted, &after) {
+            return;
+        }
+        let passes_granted = is_at_most(&before, &self.granted);
+        if !passes_granted && !is_below(&before, &after) {
+            return;
+        }
+        let to = self.move_voter_up(position);
+        if passes_granted {
+            self.find_granted(to);
         }
     }
 
-    /// Moves the voter at a position up. Returns its new position.
+    /// Moves the voter at a position up, and updates the sorted list. Returns its new position.
     #[inline(always)]
-    fn raise(&mut self, place: usize) -> usize
-        requires { place < (shown self.old).voter_count }
-        ensures risen { IsRisen P.cmp V.part_of (shown self.old) place result (shown self.new) }
-        ensures within { result ≤ place }
-        ensures mark { is_stale self.new ≡ is_stale self.old }
+    fn move_voter_up(&mut self, position: usize) -> usize
+        requires { position < (shown self.old).voter_count }
+        ensures risen { IsRisen P.cmp V.part_of (shown self.old) position result (shown self.new) }
+        ensures within { result ≤ position }
     {
         self.stat.move_count = self.stat.move_count.saturating_add(1);
-        let to = move_up(&mut self.walk, place);
-        if to < place && !self.stale {
-            self.places.record_move(to, place);
+        let to = move_up(&mut self.walk, position);
+        if to < position && !self.stale {
+            self.places.record_move(to, position);
         }
         to
     }
 
-    /// Searches for the shortest prefix past a position that is a quorum and whose parts exceed
-    /// granted.
-    ///
-    /// If the last voter of the shortest prefix that may be a quorum has at most granted, there is
-    /// none.
+    /// Grants the last part of the shortest prefix past a position that is a quorum and whose parts
+    /// exceed granted, if there is one.
     #[inline(always)]
-    fn scan(&mut self, place: usize)
-        requires within { place < (shown self.old).voter_count }
+    fn find_granted(&mut self, position: usize)
+        requires within { position < (shown self.old).voter_count }
         requires distinct { IsDistinct ID.eq (keys_of (shown self.old).walk) }
-        ensures scanned { IsScanned ID.eq P.cmp V.part_of QS.has_quorum
-            (shown self.old) place (shown self.new) }
-        ensures mark { is_stale self.new ≡ is_stale self.old }
+        ensures { IsScanned ID.eq P.cmp V.part_of QS.has_quorum
+            (shown self.old) position (shown self.new) }
     {
         // This read is for the proof: it shows that the count fits a u64.
         let _count = self.stat.is_quorum_count;
         let least = self.quorum_set.least_quorum_size();
-        // No prefix past the position with at most `short` voters is a quorum.
-        let short = least.saturating_sub(1).max(place);
-        if short < self.voter_count && is_below(&self.granted, &self.walk[short].1.part()) {
-            self.test_from(short);
+        // No prefix past the position with at most `short` voters is a quorum. If the last voter of
+        // the next longer prefix has at most granted, no prefix is left.
+        let short = least.saturating_sub(1).max(position);
+        if short >= self.voter_count {
+            return;
         }
-    }
-
-    /// Searches for the shortest prefix past a position that is a quorum. It requires that the part
-    /// of the voter at the position exceeds granted.
-    #[inline(always)]
-    fn test_from(&mut self, place: usize)
-        requires within { place < (shown self.old).voter_count }
-        requires leads { (e : ID × V) → slice_get (shown self.old).walk place ≡ Some e →
-            is_lt (P.cmp (shown self.old).granted (V.part_of e.1)) ≡ true }
-        requires distinct { IsDistinct ID.eq (keys_of (shown self.old).walk) }
-        ensures scanned { IsScanned ID.eq P.cmp V.part_of QS.has_quorum
-            (shown self.old) place (shown self.new) }
-        ensures mark { is_stale self.new ≡ is_stale self.old }
-    {
+        if !is_below(&self.granted, &self.walk[short].1.part()) {
+            return;
+        }
         if self.voter_count == 1 {
             self.test_only_voter();
         } else {
-            self.test_fronts(place);
+            self.test_prefixes(short);
         }
     }
 
@@ -237,9 +159,8 @@ impl<
         requires only { (shown self.old).voter_count ≡ 1 }
         requires leads { (e : ID × V) → slice_get (shown self.old).walk 0 ≡ Some e →
             is_lt (P.cmp (shown self.old).granted (V.part_of e.1)) ≡ true }
-        ensures scanned { IsScanned ID.eq P.cmp V.part_of QS.has_quorum
+        ensures { IsScanned ID.eq P.cmp V.part_of QS.has_quorum
             (shown self.old) 0 (shown self.new) }
-        ensures mark { is_stale self.new ≡ is_stale self.old }
     {
         let only = &self.walk[0];
         self.room[0] = only.0;
@@ -249,18 +170,18 @@ impl<
         }
     }
 
-    /// Searches for the shortest prefix past a position that is a quorum, by tests of prefixes.
+    /// Tests the prefixes past a position, and grants the last part of the shortest one that is a
+    /// quorum.
     // A separate function, so that an update that grants nothing does not need its registers.
     #[inline(never)]
-    fn test_fronts(&mut self, place: usize)
+    fn test_prefixes(&mut self, position: usize)
         requires distinct { IsDistinct ID.eq (keys_of (shown self.old).walk) }
-        ensures scanned { IsScanned ID.eq P.cmp V.part_of QS.has_quorum
-            (shown self.old) place (shown self.new) }
-        ensures mark { is_stale self.new ≡ is_stale self.old }
+        ensures { IsScanned ID.eq P.cmp V.part_of QS.has_quorum
+            (shown self.old) position (shown self.new) }
     {
         let voters = &self.walk[..self.voter_count];
         let high = gather_leading(voters, self.granted, &mut self.room);
-        let found = find_shortest_quorum(&self.quorum_set, voters, place, high, &self.room);
+        let found = find_shortest_quorum(&self.quorum_set, voters, position, high, &self.room);
         self.stat.is_quorum_count = self.stat.is_quorum_count.saturating_add(found.tests);
         if let Some(len) = found.len {
             self.granted = self.walk[len - 1].1.part();

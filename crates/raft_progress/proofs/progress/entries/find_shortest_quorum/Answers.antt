@@ -11,8 +11,8 @@ use Rattle.raft_progress.proofs.lemmas.progress.walk.FrontLemmas.{
 }
 use Rattle.raft_progress.proofs.progress.entries.find_shortest_quorum.Goals as goal
 
-pub test_prefix-requires : goal.test_prefix-requires
-test_prefix-requires g c =
+pub overflow_add-tests : goal.overflow_add-tests
+overflow_add-tests g c =
     let t = tests_fit g.ID.PartialEq.eq (g.QS.QuorumSet.has_quorum c.args.quorum_set.now) c.args.voters.now c.args.low c.args.high
     c.loop-failed.failed c.loop-failed.end c.loop-failed.left c.loop-failed.tests c.loop-failed.invariant.halves
     c.loop-failed.invariant.fits in
@@ -25,18 +25,17 @@ loop-failed-init g c = record {
   fits = omega arith;
 }
 
-pub loop-failed-preserved-then-test_prefix : goal.loop-failed-preserved-then-test_prefix
-loop-failed-preserved-then-test_prefix g c =
+pub loop-failed-preserved-then-is_quorum : goal.loop-failed-preserved-then-is_quorum
+loop-failed-preserved-then-is_quorum g c =
     let e = c.min-len.ensures in
     let a = c.saturating_add.ensures in
     let l : c.min-len.result ≤ c.args.high = let w = c.loop-failed.invariant.halves.within in omega arith in
     let tested = front_tested g.met.ID.Eq.laws (g.QS.QuorumSet.has_quorum c.args.quorum_set.now) c.args.voters.now c.requires.distinct
-    c.args.ids.now c.args.high c.min-len.result l c.requires.gathered c.test_prefix.result c.test_prefix.ensures.quorum in
+    c.args.ids.now c.args.high c.min-len.result l c.requires.gathered c.is_quorum.result c.is_quorum.ensures.quorum in
     record {
-      halves = rw c.test_prefix.ensures.counted
-          (halves_passed g.ID.PartialEq.eq (g.QS.QuorumSet.has_quorum c.args.quorum_set.now) c.args.voters.now c.args.low c.args.high
+      halves = halves_passed g.ID.PartialEq.eq (g.QS.QuorumSet.has_quorum c.args.quorum_set.now) c.args.voters.now c.args.low c.args.high
           c.loop-failed.failed c.loop-failed.end c.loop-failed.left c.loop-failed.tests c.loop-failed.invariant.halves
-          c.loop-failed-test.true c.min-len.result (omega arith) (sym tested ∙ c.if-test_prefix.true));
+          c.loop-failed-test.true c.min-len.result (omega arith) (sym tested ∙ c.if-is_quorum.true);
       fits = c.loop-failed.invariant.fits;
     }
 
@@ -46,13 +45,12 @@ loop-failed-preserved g c =
     let a = c.saturating_add.ensures in
     let l : c.min-len.result ≤ c.args.high = let w = c.loop-failed.invariant.halves.within in omega arith in
     let tested = front_tested g.met.ID.Eq.laws (g.QS.QuorumSet.has_quorum c.args.quorum_set.now) c.args.voters.now c.requires.distinct
-    c.args.ids.now c.args.high c.min-len.result l c.requires.gathered c.test_prefix.result c.test_prefix.ensures.quorum in
+    c.args.ids.now c.args.high c.min-len.result l c.requires.gathered c.is_quorum.result c.is_quorum.ensures.quorum in
     record {
-      halves = rw c.test_prefix.ensures.counted
-          (halves_failed g.ID.PartialEq.eq (g.QS.QuorumSet.has_quorum c.args.quorum_set.now) c.args.voters.now c.args.low c.args.high
+      halves = halves_failed g.ID.PartialEq.eq (g.QS.QuorumSet.has_quorum c.args.quorum_set.now) c.args.voters.now c.args.low c.args.high
           c.loop-failed.failed c.loop-failed.end c.loop-failed.left c.loop-failed.tests c.loop-failed.invariant.halves
           c.loop-failed-test.true c.min-len.result (omega arith) (g.met.QS.QuorumSet.superset c.args.quorum_set.now)
-          (sym tested ∙ c.if-test_prefix.false));
+          (sym tested ∙ c.if-is_quorum.false);
       fits = c.loop-failed.invariant.fits;
     }
 
@@ -70,7 +68,7 @@ pub returns-then-prefixes-eq1 : goal.returns-then-prefixes-eq1
 returns-then-prefixes-eq1 g c =
     let is_quorum = g.QS.QuorumSet.has_quorum c.args.quorum_set.now in
     let tested = front_tested g.met.ID.Eq.laws is_quorum c.args.voters.now c.requires.distinct c.args.ids.now c.args.high c.args.high
-    (omega arith) c.requires.gathered c.test_prefix-passed.result c.test_prefix-passed.ensures.quorum in
-    rw (c.then_some-len.ensures, c.test_prefix-passed.ensures.counted)
+    (omega arith) c.requires.gathered c.is_quorum-passed.result c.is_quorum-passed.ensures.quorum in
+    rw c.then_some-len.ensures
     (single_front g.ID.PartialEq.eq is_quorum c.args.voters.now c.args.low c.args.high (omega arith) c.requires.within
-    c.test_prefix-passed.result tested)
+    c.is_quorum-passed.result tested)

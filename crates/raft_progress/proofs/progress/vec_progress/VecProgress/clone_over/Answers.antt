@@ -6,15 +6,17 @@ use Rattle.raft_progress.proofs.lemmas.progress.CloneLemmas.{same_ids, same_leng
 use Rattle.raft_progress.proofs.lemmas.progress.places.PlacesLemmas.{tells_alike}
 use Rattle.raft_progress.proofs.progress.vec_progress.VecProgress.clone_over.Goals as goal
 
-pub returns-clause-cloned : goal.returns-clause-cloned
-returns-clause-cloned g c = record {
-  quorum_set = refl;
-  walk = subst (λ (es : List (g.row.ID.Denot × g.row.V.Denot)). AllZip (λ d e. (e.0 ≡ d.0) × g.V.Clone.is_clone d.1 e.1) es
-      c.in_ok-clone_entries.field-0.items) c.deref.ensures.value c.in_ok-clone_entries.ensures;
-  voter_count = refl;
-  default_part = refl;
-  granted = refl;
-  stat = search rules;
+pub returns : goal.returns
+returns g c = record {
+  cloned = record {
+    quorum_set = refl;
+    walk = subst (λ (es : List (g.row.ID.Denot × g.row.V.Denot)). AllZip (λ d e. (e.0 ≡ d.0) × g.V.Clone.is_clone d.1 e.1) es
+        c.in_ok-clone_entries.field-0.items) c.deref.ensures.value c.in_ok-clone_entries.ensures;
+    voter_count = refl;
+    default_part = refl;
+    granted = refl;
+    stat = search rules;
+  };
 }
 
 pub invariant_of-result : goal.invariant_of-result

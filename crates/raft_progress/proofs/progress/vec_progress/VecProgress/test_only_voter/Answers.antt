@@ -10,8 +10,8 @@ first_set : {X : Type 0} (xs : List X) (x : X) → 1 ≤ length xs → take 1 (s
 first_set [] x l = absurd (omega arith)
 first_set (y ∷ ys) x l = refl
 
-pub returns-then-is_quorum-clause-scanned : goal.returns-then-is_quorum-clause-scanned
-returns-then-is_quorum-clause-scanned g c =
+pub returns-then-is_quorum : goal.returns-then-is_quorum
+returns-then-is_quorum g c =
     let p = c.args.self.now in
     let e = c.index-only.result.now in
     let within : 0 < length p.walk.items = let fit = p.voters_fit in let one = c.requires.only in omega arith in
@@ -26,8 +26,8 @@ returns-then-is_quorum-clause-scanned g c =
     (λ failed. absurd (true≢false (sym c.if-is_quorum.true ∙ failed)))
     (λ passed. c.part-self.ensures)
 
-pub returns-else-is_quorum-clause-scanned : goal.returns-else-is_quorum-clause-scanned
-returns-else-is_quorum-clause-scanned g c =
+pub returns-else-is_quorum : goal.returns-else-is_quorum
+returns-else-is_quorum g c =
     let p = c.args.self.now in
     let e = c.index-only.result.now in
     let within : 0 < length p.walk.items = let fit = p.voters_fit in let one = c.requires.only in omega arith in

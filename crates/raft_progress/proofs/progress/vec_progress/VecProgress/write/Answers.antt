@@ -40,7 +40,7 @@ pub returns-then-is_below-clause-step : goal.returns-then-is_below-clause-step
 returns-then-is_below-clause-step g c =
     let p = c.args.self.now in
     let ws = p.walk.items in
-    let place = c.in-Some.place in
+    let place = c.in-Some.position in
     let e = c.index_mut-entry.result.now in
     let found = sym c.in-Some.ensures in
     let within = (position-Some (λ (f : g.row.ID.Denot × g.row.V.Denot). g.ID.PartialEq.eq c.args.id.now f.0) ws place e found).0 in
@@ -70,7 +70,7 @@ pub invariant_of-self-2 : goal.invariant_of-self-2
 invariant_of-self-2 g c =
     let p = c.args.self.now in
     let ws = p.walk.items in
-    let place = c.in-Some.place in
+    let place = c.in-Some.position in
     let e = c.index_mut-entry.result.now in
     let found = sym c.in-Some.ensures in
     let within = (position-Some (λ (f : g.row.ID.Denot × g.row.V.Denot). g.ID.PartialEq.eq c.args.id.now f.0) ws place e found).0 in
@@ -81,10 +81,10 @@ invariant_of-self-2 g c =
       agree = λ fresh. rw (keys_written ws place e c.args.value at) (p.agree fresh);
     }
 
-pub settle-requires-clause-at : goal.settle-requires-clause-at
-settle-requires-clause-at g c = λ f is.
+pub restore_order-requires-clause-at : goal.restore_order-requires-clause-at
+restore_order-requires-clause-at g c = λ f is.
     let ws = c.args.self.now.walk.items in
-    let place = c.in-Some.place in
+    let place = c.in-Some.position in
     let e = c.index_mut-entry.result.now in
     let within =
     (position-Some (λ (f : g.row.ID.Denot × g.row.V.Denot). g.ID.PartialEq.eq c.args.id.now f.0) ws place e (sym c.in-Some.ensures)).0 in
@@ -93,10 +93,10 @@ settle-requires-clause-at g c = λ f is.
     (sym (get_or-set_same ws place (e.0, c.args.value) f within)
     ∙ get_or_from_slice_get (set ws place (e.0, c.args.value)) place f f is)
 
-pub settle-requires-clause-distinct : goal.settle-requires-clause-distinct
-settle-requires-clause-distinct g c =
+pub restore_order-requires-clause-distinct : goal.restore_order-requires-clause-distinct
+restore_order-requires-clause-distinct g c =
     let ws = c.args.self.now.walk.items in
-    let place = c.in-Some.place in
+    let place = c.in-Some.position in
     let e = c.index_mut-entry.result.now in
     let found = sym c.in-Some.ensures in
     let within = (position-Some (λ (f : g.row.ID.Denot × g.row.V.Denot). g.ID.PartialEq.eq c.args.id.now f.0) ws place e found).0 in
@@ -107,7 +107,7 @@ pub returns : goal.returns
 returns g c =
     let p = c.args.self.now in
     let ws = p.walk.items in
-    let place = c.in-Some.place in
+    let place = c.in-Some.position in
     let value = c.args.value in
     let e = c.index_mut-entry.result.now in
     let found = sym c.in-Some.ensures in
@@ -124,10 +124,10 @@ returns g c =
     } in
     let oc = outcome g.met.ID.Eq.laws g.met.P.Ord.total g.V.ProgressPart.part_of g.QS.QuorumSet.has_quorum g.met.QS.QuorumSet.superset
     written
-    (shown c.settle.new.self) ws c.requires c.args.id.now place e found c.index_mut-entry.ensures.value value
+    (shown c.restore_order.new.self) ws c.requires c.args.id.now place e found c.index_mut-entry.ensures.value value
     (AtMost-from_not_lt g.met.P.Ord.total (g.V.ProgressPart.part_of value) (g.V.ProgressPart.part_of e.1) rises) refl present
     (wrote g.met.ID.Eq.laws ws c.args.id.now place e found at value) c.part-before.result c.part-before.ensures fits
-    c.settle.ensures.put in
+    c.restore_order.ensures in
     record {
       step = record {
         values = (e.1, present, rises, oc.written, oc.ordered.counted);
@@ -143,7 +143,7 @@ returns g c =
                   refl,
                   oc.written,
                   subst (λ (u : g.row.V.Denot). IsSettled g.ID.PartialEq.eq g.P.Ord.cmp g.V.ProgressPart.part_of (shown p) c.args.id.now u
-                      value (shown c.settle.new.self)) same
+                      value (shown c.restore_order.new.self)) same
                       record {
                         rises = oc.rises;
                         stays = oc.stays;

@@ -1,13 +1,47 @@
-use Rattle.std.proofs.Common.{Option, Some, None, refl}
-use Rattle.std.specs.Prelude.{OnSome}
+use Rattle.std.proofs.Common.{sym, ap, ◌∙◌, ◌≤◌, refl, Some, set, List, subst}
+use Rattle.std.proofs.Math.ListN.{length-set}
+use Rattle.std.specs.Map.{keys_of}
+use Rattle.raft_progress.proofs.lemmas.progress.places.PlacesLemmas.{keys_rewritten}
+use Rattle.raft_progress.proofs.lemmas.progress.walk.WalkLemmas.{lookup_found, lookup_absent, set_found}
+use Rattle.raft_progress.specs.progress.VecProgress.{shown}
 use Rattle.raft_progress.proofs.progress.vec_progress.VecProgressProgress.get_mut.Goals as goal
 
-first_of_some : {T : Type 0} (o : Option T) (A B : Type 0) → OnSome o (A × B) → OnSome o A
-first_of_some None A B h = h
-first_of_some (Some x) A B h = h.0
+pub returns-in-Some : goal.returns-in-Some
+returns-in-Some g c =
+    let is = c.index_mut.ensures.value in
+    let at = sym c.in-Some.ensures in (
+      (
+        refl,
+        (λ w. ap (λ (es : List (g.row.ID.Denot × g.row.V.Denot)). record (shown c.args.self.now) { walk = es })
+            (ap (λ (e : g.row.ID.Denot × g.row.V.Denot). set c.args.self.now.walk.items c.in-Some.position (e.0, w)) is
+            ∙ set_found (g.ID.PartialEq.eq c.args.id.now) c.args.self.now.walk.items c.in-Some.position c.index_mut.result.now
+            w at)),
+        refl,
+      ),
+      record {
+        writes_back = tt;
+        value = ap (λ (e : g.row.ID.Denot × g.row.V.Denot). Some e.1) is
+            ∙ sym (lookup_found (g.ID.PartialEq.eq c.args.id.now) c.args.self.now.walk.items c.in-Some.position c.index_mut.result.now
+            at);
+      },
+    )
 
-pub returns : goal.returns
-returns g c = (
-  (refl, (λ w. first_of_some c.value_mut.result _ _ (c.value_mut.follows.holds w)), c.value_mut.follows.holds-at-none.0),
-  record { writes_back = tt; value = c.value_mut.ensures.value },
+pub returns-in-None : goal.returns-in-None
+returns-in-None g c = (
+  (refl, (λ w. tt), refl),
+  record {
+    writes_back = tt;
+    value = sym (lookup_absent (g.ID.PartialEq.eq c.args.id.now) c.args.self.now.walk.items
+        (sym c.in-None.ensures));
+  },
 )
+
+pub invariant_of-self-lent : goal.invariant_of-self-lent
+invariant_of-self-lent g c = λ w.
+    let is = c.index_mut.ensures.value in
+    let same = ap (λ (e : g.row.ID.Denot × g.row.V.Denot). keys_of (set c.args.self.now.walk.items c.in-Some.position (e.0, w))) is
+    ∙ keys_rewritten c.args.self.now.walk.items c.in-Some.position c.index_mut.result.now w in (
+      subst (λ n. c.args.self.now.voter_count ≤ n)
+          (sym (length-set c.args.self.now.walk.items c.in-Some.position (c.index_mut.result.now.0, w))) c.args.self.now.voters_fit,
+      (c.args.self.now.room_fits, ((λ fresh. rw same (c.args.self.now.agree fresh)), tt)),
+    )

@@ -6,7 +6,7 @@ use Rattle.raft_progress.specs.Inner.Recount.{exceeds}
 use Rattle.raft_progress.specs.Inner.Rises.{IsLeastFront}
 use Rattle.raft_progress.proofs.lemmas.progress.UpdateLemmas.{IsDistinct-voters}
 use Rattle.raft_progress.proofs.lemmas.ListLemmas.{length_take_le}
-use Rattle.raft_progress.proofs.progress.vec_progress.VecProgress.test_fronts.Goals as goal
+use Rattle.raft_progress.proofs.progress.vec_progress.VecProgress.test_prefixes.Goals as goal
 
 -- the end of a prefix that was found, over the voters, of which the first `high` lead
 module _ {ID V : Type 0} {eq : ID → ID → Bool} {has_quorum : (ID → Bool) → Bool} {place high tests : ℕ} {found : Option ℕ}
@@ -47,15 +47,16 @@ index-requires g c =
     let z = ap (length {A = g.row.ID.Denot × g.row.V.Denot}) c.deref.ensures.value in
     omega arith
 
-pub returns-in-Some-clause-scanned : goal.returns-in-Some-clause-scanned
-returns-in-Some-clause-scanned g c = record {
+pub returns-in-Some : goal.returns-in-Some
+returns-in-Some g c = record {
   group = record { quorum_set = refl; voter_count = refl; default_part = refl; updates = refl };
   same_walk = refl;
   moves = refl;
   found = c.find_shortest_quorum-found.result.len;
   tests = c.find_shortest_quorum-found.result.tests;
   scanned = least_of_walk (exceeds g.P.Ord.cmp g.V.ProgressPart.part_of c.args.self.now.granted) c.args.self.now.voter_count
-      c.deref.result.now c.gather_leading-high.ensures.count c.find_shortest_quorum-found.ensures c.args.self.now.walk.items c.deref.ensures.value;
+      c.deref.result.now c.gather_leading-high.ensures.count c.find_shortest_quorum-found.ensures c.args.self.now.walk.items
+      c.deref.ensures.value;
   counts = c.saturating_add-self.ensures;
   stays = λ e. cc;
   rises = λ k e.
@@ -72,15 +73,16 @@ returns-in-Some-clause-scanned g c = record {
       );
 }
 
-pub returns-in_default-clause-scanned : goal.returns-in_default-clause-scanned
-returns-in_default-clause-scanned g c = record {
+pub returns-in_default : goal.returns-in_default
+returns-in_default g c = record {
   group = record { quorum_set = refl; voter_count = refl; default_part = refl; updates = refl };
   same_walk = refl;
   moves = refl;
   found = c.find_shortest_quorum-found.result.len;
   tests = c.find_shortest_quorum-found.result.tests;
   scanned = least_of_walk (exceeds g.P.Ord.cmp g.V.ProgressPart.part_of c.args.self.now.granted) c.args.self.now.voter_count
-      c.deref.result.now c.gather_leading-high.ensures.count c.find_shortest_quorum-found.ensures c.args.self.now.walk.items c.deref.ensures.value;
+      c.deref.result.now c.gather_leading-high.ensures.count c.find_shortest_quorum-found.ensures c.args.self.now.walk.items
+      c.deref.ensures.value;
   counts = c.saturating_add-self.ensures;
   stays = λ e. refl;
   rises = λ k e. cc;
