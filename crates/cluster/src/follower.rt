@@ -18,6 +18,7 @@ impl<L: LeaderIds> Server<L, L::Committed> {
         let last = request.last_log_id();
         if self.heeds(request.leader_id) && self.acknowledges_untaken(last) {
             return Ok(Response {
+                leader_id: L::to_committed(&request.leader_id),
                 request: request.request,
                 outcome: Outcome::Matches(last),
             });
@@ -34,6 +35,7 @@ impl<L: LeaderIds> Server<L, L::Committed> {
     ) -> Result<Response<L, L::Committed>, HandlerError> {
         if self.heeds(request.leader_id) && self.fault == Some(Fault::AcknowledgeUninstalled) {
             return Ok(Response {
+                leader_id: L::to_committed(&request.leader_id),
                 request: Some(request.request),
                 outcome: Outcome::Matches(request.meta.last_log_id),
             });

@@ -54,22 +54,22 @@ impl<L: LeaderIds> Server<L, L::Committed> {
         }))
     }
 
-    /// Takes the response of a follower, if it answers a request of this leader.
+    /// Takes the response of a follower.
     pub fn take_response(
         &mut self,
         from: u64,
-        leader_id: &L,
         response: &Response<L, L::Committed>,
     ) -> Result<(), HandlerError> {
         if let Outcome::HigherVote(vote) = response.outcome {
             self.hear_of(vote);
         }
-        if *leader_id != self.vote().leader_id {
-            return Ok(());
-        }
         if let Role::Leader(leader) = &mut self.role {
-            // A response that is late or comes twice is refused, and changes nothing.
-            let _ = leader.handle_response(&from, response);
+            // A response that is late, comes twice or answers another leader is refused, and changes
+            // nothing.
+            let taken = leader.handle_response(&from, response);
+            if taken == Err(HandlerError::ForeignResponse) {
+                return Ok(());
+            }
             // A heartbeat is answered after the request that was sent before it, or that one is
             // lost.
             if response.request.is_none() {

@@ -27,6 +27,6 @@ pub enum Content<L, C> {
     Append(AppendEntries<L, C>),
     /// A leader sends a snapshot.
     Install(InstallSnapshot<L, C>),
-    /// A follower answers a request of this leader.
-    Respond(L, Response<L, C>),
+    /// A follower answers a leader.
+    Respond(Response<L, C>),
 }

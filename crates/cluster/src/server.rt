@@ -139,14 +139,14 @@ impl<L: LeaderIds> Server<L, L::Committed> {
             }
             Content::Append(request) => {
                 let response = self.take_entries(request)?;
-                Ok(Some(Content::Respond(request.leader_id, response)))
+                Ok(Some(Content::Respond(response)))
             }
             Content::Install(request) => {
                 let response = self.take_snapshot(request)?;
-                Ok(Some(Content::Respond(request.leader_id, response)))
+                Ok(Some(Content::Respond(response)))
             }
-            Content::Respond(leader_id, response) => {
-                self.take_response(from, leader_id, response)?;
+            Content::Respond(response) => {
+                self.take_response(from, response)?;
                 Ok(None)
             }
         }

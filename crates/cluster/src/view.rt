@@ -63,7 +63,7 @@ pub fn said_by<L: LeaderIds>(answer: &Option<Content<L, L::Committed>>) -> Said 
             let term = L::law_term(&L::to_committed(&leader_id));
             Said::Voted(term, L::voted_for(&leader_id).unwrap_or(0))
         }
-        Some(Content::Respond(_, response)) => match response.outcome {
+        Some(Content::Respond(response)) => match response.outcome {
             Outcome::Matches(Some(upto)) => Said::Matches(upto.index as usize),
             _ => Said::Nothing,
         },

@@ -1,14 +1,19 @@
 -- What a response makes of what a leader knows of its sender.
-use Rattle.std.specs.Prelude.{ℕ, Option, Some, None, Result, Ok, Err}
+use Rattle.std.specs.Prelude.{ℕ, Bool, Option, Some, None, Result, Ok, Err}
 use Rattle.std.specs.declared.cmp.Ordering.{Ordering}
 use Rattle.raft_progress.specs.entry.EntryTable.{entry_after_ack, entry_after_conflict}
 use Rattle.raft_progress.specs.declared.entry.ProgressEntryOf.{ProgressEntryOf}
 use Rattle.raft_progress.specs.declared.inflight.InflightError.{InflightError}
+use Rattle.raft_handlers.specs.Leadership.{Leadership}
 use Rattle.raft_handlers.specs.declared.error.HandlerError.{HandlerError}
 use Rattle.raft_handlers.specs.declared.error.HandlerError.TheVariants.{HigherVote, ResponseRefused}
 use Rattle.raft_handlers.specs.declared.message.Outcome.{Outcome}
 use Rattle.raft_handlers.specs.declared.message.Outcome.TheVariants.{Matches, Conflict, HigherVote as RefusedFor}
 use Rattle.raft_handlers.specs.declared.message.Response.{Response}
+
+-- a response answers a request of this leader
+abbrev pub answers : {L K N C : Type 0} → (C → C → Bool) → Response L C → Leadership K N C → Bool
+answers eq response leader = eq response.leader_id leader.leader_id
 
 -- a refusal of what is in flight as a refusal of the leader
 abbrev pub refused : {S : Type 0} → Result S InflightError → Result S HandlerError

@@ -40,9 +40,12 @@ pub fn handle_append_entries<
     request: &AppendEntries<L, L::Committed, NID, N, D>,
 ) -> Result<Response<L, L::Committed>, HandlerError>
     requires clones_are_equal { ClonesAreEqual N.eq N.is_clone }
+    ensures leader { IfOk result (λ response.
+        response.leader_id ≡ L.committed request.now.leader_id) }
     ensures request { IfOk result (λ response. response.request ≡ request.now.request) }
     ensures higher_vote { partial_ge (vote_cmp L.order) (elected request.now.leader_id)
         (vote_of state.old) ≡ false → result ≡ Ok (record {
+          leader_id = L.committed request.now.leader_id;
           request = request.now.request;
           outcome = HigherVote (vote_of state.old);
         }) }
@@ -111,6 +114,7 @@ pub fn handle_append_entries<
         leader_id: request.leader_id,
         committed: true,
     };
+    let leader_id = L::to_committed(&request.leader_id);
     let promised = *state.vote_ref();
     // Called for the proof alone: an honest request is refused only if an allocation fails.
     honest_request_may_be_taken(state, request);
@@ -118,11 +122,13 @@ pub fn handle_append_entries<
         let outcome = match_log(state, request)?;
         let _promised = state.promise(vote);
         Ok(Response {
+            leader_id,
             request: request.request,
             outcome,
         })
     } else {
         Ok(Response {
+            leader_id,
             request: request.request,
             outcome: Outcome::HigherVote(promised),
         })

@@ -41,6 +41,9 @@ pub enum HandlerError {
     /// The sender is not a member.
     #[error("the sender is not a member")]
     UnknownMember,
+    /// The response answers a request of another leader, perhaps of this node in an earlier term.
+    #[error("the response is to a request of another leader")]
+    ForeignResponse,
     /// The member has promised a higher vote: promise it too, and step down.
     #[error("the member has promised a higher vote")]
     HigherVote,

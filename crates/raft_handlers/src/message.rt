@@ -67,6 +67,8 @@ pub enum Outcome<L, C> {
 /// A follower's response to a leader's request.
 #[derive(Debug, Clone, Copy, PartialEq, Eq)]
 pub struct Response<L, C> {
+    /// The committed leader id of the leader whose request it answers.
+    pub leader_id: C,
     /// The number of the request. The response to a heartbeat has none.
     pub request: Option<u64>,
     /// What the follower has made of the request.

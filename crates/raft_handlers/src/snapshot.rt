@@ -34,9 +34,12 @@ pub fn handle_install_snapshot<
     request: &InstallSnapshot<L, L::Committed, NID, N>,
 ) -> Result<Response<L, L::Committed>, HandlerError>
     requires clones_are_equal { ClonesAreEqual N.eq N.is_clone }
+    ensures leader { IfOk result (λ response.
+        response.leader_id ≡ L.committed request.now.leader_id) }
     ensures answer { IfOk result (λ response. response.request ≡ Some request.now.request) }
     ensures higher_vote { partial_ge (vote_cmp L.order) (elected request.now.leader_id)
         (vote_of state.old) ≡ false → result ≡ Ok (record {
+          leader_id = L.committed request.now.leader_id;
           request = Some request.now.request;
           outcome = HigherVote (vote_of state.old);
         }) }
@@ -66,6 +69,7 @@ pub fn handle_install_snapshot<
         leader_id: request.leader_id,
         committed: true,
     };
+    let leader_id = L::to_committed(&request.leader_id);
     let number = Some(request.request);
     let promised = *state.vote_ref();
     if vote >= promised {
@@ -73,6 +77,7 @@ pub fn handle_install_snapshot<
         let _promised = state.promise(vote);
         match install(state, &request.meta) {
             Ok(()) => Ok(Response {
+                leader_id,
                 request: number,
                 outcome: Outcome::Matches(upto),
             }),
@@ -83,6 +88,7 @@ pub fn handle_install_snapshot<
         }
     } else {
         Ok(Response {
+            leader_id,
             request: number,
             outcome: Outcome::HigherVote(promised),
         })

@@ -14,15 +14,17 @@ type Sent<'a> = (u64, Row, &'a [(u64, u64)], Row);
 /// What is right: the answer, and then the last log id and the committed one.
 type Right = (Answer, Row, Row);
 
-/// What a server answers.
+/// Whether a server answers a leader as it should.
 fn answer<K: LeaderKind<u64>>(
     response: Result<Response<K::Leader, K::Committed>, HandlerError>,
+    leader_id: K::Committed,
     right: Answer,
 ) -> bool {
     match (response, right) {
         (Err(refused), Answer::Refused(right)) => refused == right,
         (Ok(response), right) => {
-            response.request == Some(7)
+            response.leader_id == leader_id
+                && response.request == Some(7)
                 && match (response.outcome, right) {
                     (Outcome::Matches(upto), Answer::Matches(right)) => upto == id::<K>(right),
                     (Outcome::Conflict(at), Answer::Conflict(right)) => at == right,
@@ -52,7 +54,7 @@ fn answers<K: LeaderKind<u64>>(
     };
     let response = handle_append_entries(&mut state, &request);
     Ok(
-        answer::<K>(response, right.0)
+        answer::<K>(response, K::new_committed(sent.0, 1), right.0)
             && state.last_log_id().copied() == id::<K>(right.1)
             && state.committed == id::<K>(right.2)
             && state.is_sound(),

@@ -32,6 +32,8 @@ enum Step {
     Conflict(u64, u64, u64),
     /// A node has promised a higher vote.
     Depose(u64),
+    /// A node acknowledges a request of the leader of term 2.
+    Foreign(u64, u64, Row),
     /// The response of a node does not come.
     GiveUp(u64),
     /// Its log is on disk up to a row.
@@ -106,6 +108,7 @@ impl<K: LeaderKind<u64>> Led<K> {
         outcome: Outcome<K::Leader, K::Committed>,
     ) -> Result<(), HandlerError> {
         let response = Response {
+            leader_id: self.leader.leader_id(),
             request: Some(request),
             outcome,
         };
@@ -141,6 +144,14 @@ impl<K: LeaderKind<u64>> Led<K> {
             Step::Depose(from) => {
                 let vote = VoteOf::<u64, K>::new(4, 2);
                 is(self.take(from, 1, Outcome::HigherVote(vote)), right)
+            }
+            Step::Foreign(from, request, upto) => {
+                let response = Response::<K::Leader, K::Committed> {
+                    leader_id: K::new_committed(2, 2),
+                    request: Some(request),
+                    outcome: Outcome::Matches(id::<K>(upto)),
+                };
+                is(self.leader.handle_response(&from, &response), right)
             }
             Step::GiveUp(to) => {
                 self.leader.give_up(&to);
@@ -219,6 +230,11 @@ const LIFE: &[(&str, Step, Right)] = &[
         "a higher vote",
         Step::Depose(2),
         Right::Refused(HandlerError::HigherVote),
+    ),
+    (
+        "a response to an earlier leader",
+        Step::Foreign(2, 1, END),
+        Right::Refused(HandlerError::ForeignResponse),
     ),
     (
         "an earlier leader's",

@@ -38,6 +38,7 @@ use Rattle.raft_handlers.specs.Entries.{
 use Rattle.raft_handlers.specs.declared.error.HandlerError.{HandlerError}
 use Rattle.raft_handlers.specs.declared.error.HandlerError.TheVariants.{
   CommittedNotLogged,
+  ForeignResponse,
   HigherVote,
   InvalidMembership,
   MembershipNotInOrder,
@@ -77,6 +78,7 @@ module _ (f k o m h f2 k2 o2 m2 h2 : Bool) (fits : f ≡ false → f2 ≡ false)
   refused_unless_more NotLeader r = absurd r
   refused_unless_more NoNextIndex r = absurd r
   refused_unless_more UnknownMember r = absurd r
+  refused_unless_more ForeignResponse r = absurd r
   refused_unless_more HigherVote r = absurd r
   refused_unless_more (ResponseRefused x) r = absurd r
   refused_unless_more NotLogged r = absurd r
@@ -98,6 +100,7 @@ only_memory NotElected r = absurd r
 only_memory NotLeader r = absurd r
 only_memory NoNextIndex r = absurd r
 only_memory UnknownMember r = absurd r
+only_memory ForeignResponse r = absurd r
 only_memory HigherVote r = absurd r
 only_memory (ResponseRefused x) r = absurd r
 only_memory NotLogged r = absurd r

@@ -1,10 +1,10 @@
 //! What a leader sends to the members, and what it learns from their responses.
-ghost use Rattle.std.specs.Prelude.{◌≡◌, None, Some, Ok, Err, IsOk, IsTrue, OnErr, OnOk};
+ghost use Rattle.std.specs.Prelude.{◌≡◌, false, None, Some, Ok, Err, IsOk, IsTrue, OnErr, OnOk};
 ghost use Rattle.raft_base.specs.LogId.{id_le};
 ghost use Rattle.raft_handlers.specs.Leadership.{WritesEntry, after_request, entry_of, flushed_entry, granted_by};
-ghost use Rattle.raft_handlers.specs.Responses.{after_response, refused};
+ghost use Rattle.raft_handlers.specs.Responses.{after_response, answers, refused};
 ghost use Rattle.raft_handlers.specs.declared.error.HandlerError.{HandlerError};
-ghost use Rattle.raft_handlers.specs.declared.error.HandlerError.TheVariants.{UnknownMember};
+ghost use Rattle.raft_handlers.specs.declared.error.HandlerError.TheVariants.{ForeignResponse, UnknownMember};
 ghost use Rattle.raft_progress.specs.declared.entry.ProgressEntryOf.{ProgressEntryOf};
 ghost use Rattle.raft_progress.specs.declared.inflight.InflightOf.TheVariants.{None as Idle};
 ghost use Rattle.raft_progress.specs.inflight.InflightTable.{FollowsTable};
@@ -62,27 +62,39 @@ impl<NID: NodeId, N: Node, C: Ord + Copy + Drop> Leader<NID, N, C> {
 
     /// Takes a member's response to a request. An acknowledgement raises the member's match, and a
     /// conflict lowers the end of the search for it. A response that is late, doubled or does not fit
-    /// what is in flight is refused and changes nothing.
+    /// what is in flight is refused and changes nothing, and so is a response to another leader.
+    ///
+    /// A node that is elected again numbers its requests anew. So the leader id of a response, and not
+    /// its number alone, says which request it answers.
     pub fn handle_response<L>(
         &mut self,
         from: &NID,
         response: &Response<L, C>,
     ) -> Result<(), HandlerError>
-        ensures unknown { entry_of NID.eq self.old from.now ≡ None → result ≡ Err UnknownMember }
+        ensures foreign { answers C.eq response.now self.old ≡ false →
+            result ≡ Err ForeignResponse }
+        ensures unknown { IsTrue (answers C.eq response.now self.old) →
+            entry_of NID.eq self.old from.now ≡ None → result ≡ Err UnknownMember }
         ensures taken { (entry next : ProgressEntryOf C) →
+            IsTrue (answers C.eq response.now self.old) →
             entry_of NID.eq self.old from.now ≡ Some entry →
             after_response C.cmp entry response.now ≡ Ok next →
             WritesEntry NID.eq self.old from.now next self.new }
         ensures ok { (entry next : ProgressEntryOf C) →
+            IsTrue (answers C.eq response.now self.old) →
             entry_of NID.eq self.old from.now ≡ Some entry →
             after_response C.cmp entry response.now ≡ Ok next → IsOk result }
         ensures refused { (entry : ProgressEntryOf C) (e : HandlerError) →
+            IsTrue (answers C.eq response.now self.old) →
             entry_of NID.eq self.old from.now ≡ Some entry →
             after_response C.cmp entry response.now ≡ Err e → result ≡ Err e }
         ensures err { OnErr result (self.new ≡ self.old) }
         ensures monotone { IsTrue
             (id_le C.cmp (granted_by self.old) (granted_by self.new)) }
     {
+        if response.leader_id != self.leader_id {
+            return Err(HandlerError::ForeignResponse);
+        }
         match self.followers.progress().try_get(from).copied() {
             None => Err(HandlerError::UnknownMember),
             Some(found) => {

@@ -14,7 +14,7 @@ returns-in_err-take_response-in-Some-clause-monotone g c =
 
 pub returns-in_ok-take_response-in-Some-clause-taken :
     goal.returns-in_ok-take_response-in-Some-clause-taken
-returns-in_ok-take_response-in-Some-clause-taken g c = λ entry next known after.
+returns-in_ok-take_response-in-Some-clause-taken g c = λ entry next _ known after.
     let from = c.args.from.now in
     let new = c.take_response.new.entry in
     let here = rw (← c.self.view_is) at known in
