@@ -125,12 +125,14 @@ fn propose<K: LeaderKind<u64>>(growth: Growth, is_change: bool) -> Result<bool, 
 }
 
 /// Whether the calls of a leader are right with each growth refused in turn.
-fn is_leader_swept<K: LeaderKind<u64>>(rt: &impl Print, alloc: Global) -> io::Result<bool> {
+fn is_leader_swept(rt: &impl Print, alloc: Global) -> io::Result<bool> {
     let nothing = |_alloc: Global| Ok(());
-    let elects = |growth: Growth, _nothing: &mut ()| elect::<K>(growth);
+    let elects = |growth: Growth, _nothing: &mut ()| elect::<LeaderAdv>(growth);
     let mut is_right = is_swept(rt, alloc, "Leader::new", nothing, elects)?;
     for (name, is_change) in [("Leader::propose", false), ("Leader::propose_change", true)] {
-        let proposes = |growth: Growth, _nothing: &mut ()| propose::<K>(growth, is_change);
+        let proposes = |growth: Growth, _nothing: &mut ()| {
+            propose::<LeaderAdv>(growth, is_change)
+        };
         is_right &= is_swept(rt, alloc, name, nothing, proposes)?;
     }
     Ok(is_right)
@@ -138,6 +140,6 @@ fn is_leader_swept<K: LeaderKind<u64>>(rt: &impl Print, alloc: Global) -> io::Re
 
 #[test]
 fn growths_of_a_leader(rt: HostRuntime) -> Result<(), Fail> {
-    assert!(rt; is_leader_swept::<LeaderAdv>(&rt, rt.alloc())?);
+    assert!(rt; is_leader_swept(&rt, rt.alloc())?);
     Ok(())
 }
