@@ -41,6 +41,11 @@ for tests in raft_base_tests raft_members_tests raft_progress_tests raft_state_t
     run_tests "$tests"
 done
 
+if ! [ -x crates/raft_script/out/raft_script ]; then
+    echo 'raft_script: not built'
+    exit 1
+fi
+
 # The program's script, which begins with the line 0. Each later line has one reply.
 script=('init 0 1,2 3' 'update 1 5' 'update 2 3' 'change add-ids 3 retain 0' 'update 3 4'
     'change add-ids 4 retain 0' 'update 9 1' 'update 3 2' 'change remove 1,2,3 drop 0'
