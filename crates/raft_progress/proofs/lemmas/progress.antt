@@ -1,5 +1,5 @@
 pub mod upgrade
-pub mod walk
+pub mod entries
 pub mod places
 pub mod recount
 pub mod CallStepLemmas

@@ -1,7 +1,7 @@
 -- What contracts see of a `VecProgress`, and what remains of one whose entries have been lent. No
 -- other file reads its private fields.
 use Rattle.raft_progress.specs.progress.Shown.{Shown}
-use Rattle.std.specs.Prelude.{Bool, List, ◌≤◌, true}
+use Rattle.std.specs.Prelude.{List, ◌≤◌, true}
 use Rattle.std.specs.Vec.{with_items}
 use Rattle.std.proofs.Common.{sym, ◌∙◌, subst, true≢false}
 use Rattle.std.specs.declared.cmp.Ord as order_ghosts
@@ -23,12 +23,6 @@ shown p =
       stat = p.stat;
     }
 
--- whether its list of positions is not used any more
-abbrev pub is_stale : {ID V P QS : Type 0} {o : order_ghosts.Ghosts ID} {e : eq_ghosts.Ghosts ID}
-    {q : partial_ghosts.Ghosts ID}
-    → VecProgress ID V P QS o e q → Bool
-is_stale p = p.stale
-
 -- the progress with other entries, as many as before, and a list of positions that is not used any
 -- more
 abbrev pub with_walk : {ID V P QS : Type 0} {o : order_ghosts.Ghosts ID} {e : eq_ghosts.Ghosts ID}
@@ -37,7 +31,7 @@ abbrev pub with_walk : {ID V P QS : Type 0} {o : order_ghosts.Ghosts ID} {e : eq
 with_walk p walk =
     record p {
       walk = with_items p.walk walk;
-      stale = true;
+      places = record p.places { stale = true };
       voters_fit =
           subst (λ n. p.voter_count ≤ n)
           (sym p.walk.ok.0 ∙ (with_items p.walk walk).ok.0) p.voters_fit;

@@ -1,5 +1,6 @@
-//! The position of each id among the entries, in a sorted list beside them.
-ghost use Rattle.std.specs.Prelude.{◌≡◌, ◌<◌, ◌≤◌, length, map, IfOk, IsTrue, Ok, Some};
+//! The position of each id among the entries, in a sorted list beside them, or by a search of the
+//! entries if the list may be stale.
+ghost use Rattle.std.specs.Prelude.{◌≡◌, ◌<◌, ◌≤◌, false, length, map, position, IfOk, IsTrue, Ok, Some};
 ghost use Rattle.std.specs.List.{IsDistinct};
 ghost use Rattle.std.specs.List.Sorted.{IsStrictlySortedBy};
 ghost use Rattle.std.specs.Map.{keys_of, values_of};
@@ -23,6 +24,9 @@ pub(crate) struct Places<ID: Copy + Ord> {
     entries: Vec<(ID, usize)>,
     /// For each position, the rank of its id: the index of the id in `entries`.
     ranks: Vec<usize>,
+    /// Whether ids may have been written through `iter_mut` since the list was made. If so, the list
+    /// is not used, and positions are searched for among the entries.
+    pub(super) stale: bool,
     ghost ascending: { IsStrictlySortedBy ID.cmp (keys_of entries.items) } by { Prim.hlevel props },
     ghost inverse: { AreInverse (values_of entries.items) ranks.items } by { Prim.hlevel props },
 }
@@ -37,32 +41,46 @@ impl<ID: Copy + Ord> Places<ID> {
     {
         let entries = sorted_entries(alloc, walk)?;
         let ranks = ranks_of(alloc, &entries)?;
-        Ok(Places { entries, ranks })
+        Ok(Places {
+            entries,
+            ranks,
+            stale: false,
+        })
     }
 
-    /// Returns the same positions, or an allocation error.
+    /// Returns a copy, which is stale if this list is, or an allocation error.
     pub(crate) fn try_clone(&self) -> Result<Self, AllocError>
         ensures entries { IfOk result (λ made. made.entries.items ≡ self.now.entries.items) }
         ensures ranks { IfOk result (λ made. made.ranks.items ≡ self.now.ranks.items) }
+        ensures stale { IfOk result (λ made. made.stale ≡ self.now.stale) }
     {
         let entries = Vec::from_slice(self.entries.allocator().clone()?, &self.entries)?;
         let ranks = self.ranks.clone()?;
-        Ok(Places { entries, ranks })
+        Ok(Places {
+            entries,
+            ranks,
+            stale: self.stale,
+        })
     }
 
-    /// Returns the position of an id, if the id is known.
+    /// Returns the position of an id among the entries, if the id is known.
     #[inline(always)]
-    pub(crate) fn get(&self, id: &ID) -> Option<usize>
-        ensures { result ≡ place_in ID.eq self.now.entries.items id.now }
+    pub(crate) fn find<V>(&self, walk: &[(ID, V)], id: &ID) -> Option<usize>
+        requires { self.now.stale ≡ false →
+            TellsPlaces ID.eq (keys_of walk.now) (place_in ID.eq self.now.entries.items) }
+        ensures { result ≡ position (λ e. ID.eq id.now e.0) walk.now }
     {
-        if self.entries.len() <= FEW {
-            return place_of_few(&self.entries, *id);
+        if self.stale {
+            return search(walk, id);
         }
-        self.get_of_many(id)
+        if self.entries.len() > FEW {
+            return self.find_among_many(id);
+        }
+        place_of_few(&self.entries, *id)
     }
 
-    /// Returns the position of an id, found by halving.
-    fn get_of_many(&self, id: &ID) -> Option<usize>
+    /// Returns the position that the list has for an id, found by halving.
+    fn find_among_many(&self, id: &ID) -> Option<usize>
         ensures { result ≡ place_in ID.eq self.now.entries.items id.now }
     {
         match self.entries.binary_search_by(|entry| entry.0.cmp(id)) {
@@ -87,17 +105,21 @@ impl<ID: Copy + Ord> Places<ID> {
         true
     }
 
-    /// Updates the positions after an entry was moved from `last` up to `first`. It never
-    /// allocates.
+    /// Updates the positions after an entry was moved from `last` up to `first`, unless the list is
+    /// stale. It never allocates.
     #[inline(always)]
     pub(crate) fn record_move(&mut self, first: usize, last: usize)
         requires ascending { first ≤ last }
-        requires within { last < length self.old.ranks.items }
-        ensures shifted { (x : ID) → place_in ID.eq self.new.entries.items x ≡
+        requires within { self.old.stale ≡ false → last < length self.old.ranks.items }
+        ensures stale { self.new.stale ≡ self.old.stale }
+        ensures shifted { self.old.stale ≡ false → (x : ID) →
+            place_in ID.eq self.new.entries.items x ≡
             option_map (place_after first last) (place_in ID.eq self.old.entries.items x) }
         ensures one_length { length self.new.ranks.items ≡ length self.old.ranks.items }
     {
-        shift_between(&mut self.entries, &mut self.ranks, first, last);
+        if !self.stale {
+            shift_between(&mut self.entries, &mut self.ranks, first, last);
+        }
     }
 }
 
@@ -114,6 +136,15 @@ fn place_of_few<ID: Copy + Ord>(entries: &[(ID, usize)], id: ID) -> Option<usize
         }
     }
     None
+}
+
+/// Returns the position of an id, searched for among the entries without the sorted list.
+// It is cold, so that a look-up in the sorted list does not set up what the search needs.
+#[cold]
+fn search<ID: Copy + Ord, V>(walk: &[(ID, V)], id: &ID) -> Option<usize>
+    ensures { result ≡ position (λ e. ID.eq id.now e.0) walk.now }
+{
+    walk.iter().position(|entry| *id == entry.0)
 }
 
 /// Returns the sorted ids of a progress, each with its position.

@@ -36,14 +36,11 @@ pub struct VecProgress<ID: Copy + Ord, V, P, QS> {
     voter_count: usize,
     walk: Vec<(ID, V)>,
     places: Places<ID>,
-    // Whether ids may have been written through `iter_mut`, so that positions are searched for
-    // among the entries.
-    stale: bool,
-    room: Vec<ID>,
+    scratch: Vec<ID>,
     stat: Stat,
     ghost voters_fit: { voter_count ≤ length walk.items },
-    ghost room_fits: { length room.items ≡ voter_count },
-    ghost agree: { stale ≡ false →
+    ghost scratch_fits: { length scratch.items ≡ voter_count },
+    ghost agree: { places.stale ≡ false →
         TellsPlaces ID.eq (keys_of walk.items) (place_in ID.eq places.entries.items) } by { Prim.hlevel props },
 }
 
@@ -92,10 +89,10 @@ impl<
             IsInOrder ID.eq P.cmp V.part_of QS.has_quorum (shown made)) }
         ensures no_counts { IfOk result (λ made. (shown made).stat ≡ no_counts) }
     {
-        let room = quorum_set.ids(alloc)?;
-        let voter_count = room.len();
+        let scratch = quorum_set.ids(alloc)?;
+        let voter_count = scratch.len();
         let mut walk = Vec::with_capacity(alloc, voter_count.saturating_add(learners.len()))?;
-        append_ids(&mut walk, &room, &default)?;
+        append_ids(&mut walk, &scratch, &default)?;
         append_ids(&mut walk, learners, &default)?;
         let places = Places::of(alloc, &walk)?;
         let part = default.part();
@@ -106,8 +103,7 @@ impl<
             voter_count,
             walk,
             places,
-            stale: false,
-            room,
+            scratch,
             stat: Stat {
                 update_count: 0,
                 move_count: 0,
@@ -136,19 +132,7 @@ impl<
     pub fn index(&self, id: &ID) -> Option<usize>
         ensures { result ≡ position (λ e. ID.eq id.now e.0) ((shown self.now).walk) }
     {
-        if self.stale {
-            return self.place_in_walk(id);
-        }
-        self.places.get(id)
-    }
-
-    /// Returns the position of an id, searched for among the entries without the sorted list.
-    // It is cold, so that a look-up in the sorted list does not set up what the search needs.
-    #[cold]
-    fn place_in_walk(&self, id: &ID) -> Option<usize>
-        ensures { result ≡ position (λ e. ID.eq id.now e.0) ((shown self.now).walk) }
-    {
-        self.walk.iter().position(|entry| *id == entry.0)
+        self.places.find(&self.walk, id)
     }
 
     /// Whether the sorted list has the ids at their positions, so that no id is repeated. A short
@@ -156,7 +140,7 @@ impl<
     fn tells_ids(&self) -> bool
         ensures { IsTrue result → IsDistinct ID.eq (keys_of (shown self.now).walk) }
     {
-        (!self.stale || self.walk.len() > FEW) && self.places.are_of(&self.walk)
+        (!self.places.stale || self.walk.len() > FEW) && self.places.are_of(&self.walk)
     }
 
     /// Returns the value at the position that a look-up has found.
@@ -188,7 +172,7 @@ impl<
             ID.PartialOrd.own self.entry (iter_mut_name result)) }
         ensures rest { iter_mut_rest result ≡ (shown self.old).walk }
     {
-        self.stale = true;
+        self.places.stale = true;
         self.walk.iter_mut()
     }
 }
@@ -250,7 +234,7 @@ impl<ID: Copy + Ord, V: ProgressPart<P> + Drop, P: Copy + Ord, QS: QuorumSet<ID>
             voters,
             self.default_part,
             self.granted,
-            &mut self.room,
+            &mut self.scratch,
         );
         counted.cmp(&self.granted).is_eq()
     }

@@ -12,7 +12,7 @@ use Rattle.raft_progress.specs.progress.InOrder.{IsInOrder}
 use Rattle.raft_progress.specs.progress.ProgressState.{ProgressState}
 use Rattle.raft_progress.specs.progress.Shown.{Shown, state}
 use Rattle.raft_progress.specs.progress.Walk.{IsFalling}
-use Rattle.raft_progress.proofs.lemmas.progress.walk.WalkLemmas.{no_value}
+use Rattle.raft_progress.proofs.lemmas.progress.entries.EntriesLemmas.{no_value}
 
 -- the two states have the same quorums and voters, and each voter has the same part
 pub record HasSameParts {ID V P QS : Type 0} (part : V → P) (has_quorum : QS → (ID → Bool) → Bool)

@@ -16,7 +16,7 @@ use Rattle.raft_progress.specs.Inner.Placed.{IsPlaced}
 use Rattle.raft_progress.specs.progress.NewProgress.{IsNew, LearnersFit}
 use Rattle.raft_progress.specs.progress.Walk.{IsFalling, state_of}
 use Rattle.raft_progress.proofs.lemmas.OrderLemmas.{AtMost-refl}
-use Rattle.raft_progress.proofs.lemmas.progress.walk.WalkLemmas.{no_value}
+use Rattle.raft_progress.proofs.lemmas.progress.entries.EntriesLemmas.{no_value}
 use Rattle.raft_progress.proofs.lemmas.ListLemmas.{or_right}
 
 -- distinct by the type's own `==`

@@ -44,7 +44,7 @@ use Rattle.raft_progress.specs.progress.Shown.{Shown, state}
 use Rattle.raft_progress.specs.progress.Statistics.{count_after}
 use Rattle.raft_progress.specs.progress.Walk.{walk_after_rise, state_of}
 use Rattle.raft_progress.proofs.lemmas.OrderLemmas.{AtMost-from_lt, AtMost-from_not_lt, AtMost-refl}
-use Rattle.raft_progress.proofs.lemmas.progress.walk.MovedLemmas.{is_risen}
+use Rattle.raft_progress.proofs.lemmas.progress.entries.MovedLemmas.{is_risen}
 use Rattle.raft_progress.proofs.lemmas.progress.SettledLemmas as settles
 use Rattle.raft_progress.proofs.lemmas.progress.UpdateLemmas.{same_keys, lookup_written, writes}
 use Rattle.raft_progress.proofs.lemmas.ListLemmas.{of_both, length_take_le}

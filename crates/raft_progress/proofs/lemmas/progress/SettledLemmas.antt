@@ -55,9 +55,9 @@ use Rattle.raft_progress.specs.Inner.Recount.{exceeds, front_test}
 use Rattle.raft_progress.specs.Inner.Rises.{IsLeastFront, Passed, RisesTo}
 use Rattle.raft_progress.specs.progress.Walk.{IsFalling}
 use Rattle.raft_progress.proofs.lemmas.OrderLemmas.{AtMost-from_not_lt, lt_le}
-use Rattle.raft_progress.proofs.lemmas.progress.walk.FallingLemmas.{falling_risen, falling_set, falling_weaker}
-use Rattle.raft_progress.proofs.lemmas.progress.walk.FrontLemmas.{front_fails}
-use Rattle.raft_progress.proofs.lemmas.progress.walk.MovedLemmas.{distinct_moved, member_moved, lookup_moved}
+use Rattle.raft_progress.proofs.lemmas.progress.entries.FallingLemmas.{falling_risen, falling_set, falling_weaker}
+use Rattle.raft_progress.proofs.lemmas.progress.entries.FrontLemmas.{front_fails}
+use Rattle.raft_progress.proofs.lemmas.progress.entries.MovedLemmas.{distinct_moved, member_moved, lookup_moved}
 use Rattle.raft_progress.proofs.lemmas.ListLemmas.{take_add}
 use Rattle.raft_progress.proofs.lemmas.progress.recount.CountedValueLemmas.{
   counted_still,

@@ -12,7 +12,7 @@ use Rattle.raft_progress.specs.progress.ProgressState.{IsSame, ProgressState, Wr
 use Rattle.raft_progress.specs.progress.Shown.{Shown, state}
 use Rattle.raft_progress.specs.progress.Updated.{IsUpdated}
 use Rattle.raft_progress.specs.progress.Walk.{state_of}
-use Rattle.raft_progress.proofs.lemmas.progress.walk.WalkLemmas.{lookup_found, set_found}
+use Rattle.raft_progress.proofs.lemmas.progress.entries.EntriesLemmas.{lookup_found, set_found}
 
 module _ {ID : Type 0} {eq : ID → ID → Bool} (laws : IsEquivalence eq) where
   all_take : (k : ID) (n : ℕ) (ks : List ID) → AllByRecursion (λ y. eq k y ≡ false) ks → AllByRecursion (λ y. eq k y ≡ false) (take n ks)

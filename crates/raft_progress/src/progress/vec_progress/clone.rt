@@ -23,8 +23,7 @@ impl<ID: Copy + Ord, V: Clone, P: Copy + Ord, QS: Drop> VecProgress<ID, V, P, QS
             voter_count: self.voter_count,
             walk: clone_entries(alloc, &self.walk)?,
             places: self.places.try_clone()?,
-            stale: self.stale,
-            room: copy_ids(alloc, &self.room)?,
+            scratch: copy_ids(alloc, &self.scratch)?,
             stat: self.stat.clone()?,
         })
     }

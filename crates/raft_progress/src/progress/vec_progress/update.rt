@@ -117,7 +117,7 @@ impl<
     {
         self.stat.move_count = self.stat.move_count.saturating_add(1);
         let to = move_up(&mut self.walk, position);
-        if to < position && !self.stale {
+        if to < position {
             self.places.record_move(to, position);
         }
         to
@@ -163,9 +163,9 @@ impl<
             (shown self.old) 0 (shown self.new) }
     {
         let only = &self.walk[0];
-        self.room[0] = only.0;
+        self.scratch[0] = only.0;
         self.stat.is_quorum_count = self.stat.is_quorum_count.saturating_add(1);
-        if self.quorum_set.is_quorum(&self.room[..1]) {
+        if self.quorum_set.is_quorum(&self.scratch[..1]) {
             self.granted = only.1.part();
         }
     }
@@ -180,8 +180,8 @@ impl<
             (shown self.old) position (shown self.new) }
     {
         let voters = &self.walk[..self.voter_count];
-        let high = gather_leading(voters, self.granted, &mut self.room);
-        let found = find_shortest_quorum(&self.quorum_set, voters, position, high, &self.room);
+        let high = gather_leading(voters, self.granted, &mut self.scratch);
+        let found = find_shortest_quorum(&self.quorum_set, voters, position, high, &self.scratch);
         self.stat.is_quorum_count = self.stat.is_quorum_count.saturating_add(found.tests);
         if let Some(len) = found.len {
             self.granted = self.walk[len - 1].1.part();

@@ -36,8 +36,8 @@ use Rattle.std.specs.declared.cmp.Ordering.{Ordering}
 use Rattle.raft_progress.specs.Inner.Places.{TellsPlaces, AreInverse, TellsPlacesBefore, place_after, place_in}
 use Rattle.raft_progress.specs.Inner.Rises.{Passed}
 use Rattle.raft_progress.proofs.lemmas.progress.places.MadeLemmas.{place_at}
-use Rattle.raft_progress.proofs.lemmas.progress.walk.MovedLemmas.{member_moved}
-use Rattle.raft_progress.proofs.lemmas.progress.walk.WalkLemmas.{lookup_absent}
+use Rattle.raft_progress.proofs.lemmas.progress.entries.MovedLemmas.{member_moved}
+use Rattle.raft_progress.proofs.lemmas.progress.entries.EntriesLemmas.{lookup_absent}
 
 -- the id at a position is the id of the entry there
 pub key_at : {ID V : Type 0} (es : List (ID × V)) (i : ℕ) (d : ID × V) (x : ID) → i < length es

@@ -39,10 +39,10 @@ use Rattle.raft_progress.specs.progress.ProgressState.{ProgressState}
 use Rattle.raft_progress.specs.progress.Walk.{IsFalling, state_of}
 use Rattle.raft_progress.proofs.lemmas.OrderLemmas.{AtMost-refl, AtMost-trans, AtMost-from_lt, AtMost-from_not_lt, lt_le, le_lt}
 use Rattle.raft_progress.proofs.lemmas.progress.recount.CountedAfreshLemmas.{absent, members, found, same_test, voter_value}
-use Rattle.raft_progress.proofs.lemmas.progress.walk.FallingLemmas.{filter_is_front, in_front}
+use Rattle.raft_progress.proofs.lemmas.progress.entries.FallingLemmas.{filter_is_front, in_front}
 use Rattle.raft_progress.proofs.lemmas.ListLemmas.{all_get, of_both}
-use Rattle.raft_progress.proofs.lemmas.progress.walk.FrontLemmas.{front_grows}
-use Rattle.raft_progress.proofs.lemmas.progress.walk.RisingLemmas.{split_at}
+use Rattle.raft_progress.proofs.lemmas.progress.entries.FrontLemmas.{front_grows}
+use Rattle.raft_progress.proofs.lemmas.progress.entries.RisingLemmas.{split_at}
 use Rattle.raft_progress.proofs.lemmas.progress.UpdateLemmas.{lookup_alike}
 use Rattle.raft_members.proofs.CallerLemmas.{is_member-alike}
 

@@ -9,7 +9,7 @@ use Rattle.raft_progress.specs.progress.Statistics.{CountsGoOn}
 use Rattle.raft_progress.specs.progress.Updated.{IsUpdated}
 use Rattle.raft_progress.specs.progress.UpgradeFold.{BeginsAnew, IsFold, TakesOverEach}
 use Rattle.raft_progress.specs.declared.progress.stat.Stat.{Stat}
-use Rattle.raft_progress.proofs.lemmas.progress.walk.LearnersPlaceLemmas.{learners_first, learners_stay}
+use Rattle.raft_progress.proofs.lemmas.progress.entries.LearnersPlaceLemmas.{learners_first, learners_stay}
 use Rattle.raft_progress.proofs.lemmas.progress.StatisticsLemmas.{counts_more}
 
 module _ {ID V P QS : Type 0} (eq : ID → ID → Bool) (cmp : P → P → Ordering) (part : V → P) where

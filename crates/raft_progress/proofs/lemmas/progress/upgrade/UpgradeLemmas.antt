@@ -8,7 +8,7 @@ use Rattle.std.proofs.Common.{arith, sym, ap, refl, ◌∙◌, get_or, subst, su
 use Rattle.raft_progress.specs.progress.NewProgress.{HasClone, IsNew}
 use Rattle.raft_progress.specs.progress.ProgressState.{IsSame, ProgressState, Writes}
 use Rattle.raft_progress.specs.progress.Upgrade.{Inherits, IsUpgraded}
-use Rattle.raft_progress.proofs.lemmas.progress.walk.WalkLemmas.{no_value}
+use Rattle.raft_progress.proofs.lemmas.progress.entries.EntriesLemmas.{no_value}
 use Rattle.std.proofs.lemmas.Option.{slice_get-get_or}
 use Rattle.std.proofs.lemmas.Map.Entries.{lookup_from_place}
 

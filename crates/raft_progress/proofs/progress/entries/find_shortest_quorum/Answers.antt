@@ -1,5 +1,5 @@
 use Rattle.std.proofs.Common.{arith, sym, ◌∙◌, ◌≤◌}
-use Rattle.raft_progress.proofs.lemmas.progress.walk.FrontLemmas.{
+use Rattle.raft_progress.proofs.lemmas.progress.entries.FrontLemmas.{
   front_tested,
   halves_failed,
   halves_found,

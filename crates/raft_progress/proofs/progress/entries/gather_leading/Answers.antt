@@ -2,7 +2,7 @@ use Rattle.std.proofs.Common.{arith, sym, ap, ◌∙◌, is_lt}
 use Rattle.std.proofs.lemmas.Grind.{common_steps}
 use Rattle.std.proofs.lemmas.List.Sums.{prefix_len-le-length}
 use Rattle.raft_progress.specs.Inner.Recount.{exceeds}
-use Rattle.raft_progress.proofs.lemmas.progress.walk.RisingLemmas.{prefix_ends, prefix_goes}
+use Rattle.raft_progress.proofs.lemmas.progress.entries.RisingLemmas.{prefix_ends, prefix_goes}
 use Rattle.raft_progress.proofs.progress.entries.gather_leading.Goals as goal
 
 pub returns-then-not-is_lt-clause-count : goal.returns-then-not-is_lt-clause-count

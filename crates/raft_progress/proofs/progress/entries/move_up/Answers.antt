@@ -3,7 +3,7 @@ use Rattle.std.specs.List.{swap}
 use Rattle.std.proofs.lemmas.List.Edits.{swapped_from_swap}
 use Rattle.raft_progress.specs.Inner.Rises.{Passed, RisesTo}
 use Rattle.raft_progress.proofs.lemmas.progress.places.PlacesLemmas.{any_default}
-use Rattle.raft_progress.proofs.lemmas.progress.walk.RisingLemmas.{passed_none, passed_more, passed_within, rises_stop, rises_front}
+use Rattle.raft_progress.proofs.lemmas.progress.entries.RisingLemmas.{passed_none, passed_more, passed_within, rises_stop, rises_front}
 use Rattle.raft_progress.proofs.progress.entries.move_up.Goals as goal
 
 -- the position before a position in a list is in it too

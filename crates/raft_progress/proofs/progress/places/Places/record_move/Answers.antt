@@ -5,8 +5,8 @@ use Rattle.raft_progress.specs.Inner.Places.{place_after}
 use Rattle.raft_progress.proofs.lemmas.progress.places.InverseLemmas.{lent_whole, lookup_renumbered}
 use Rattle.raft_progress.proofs.progress.places.Places.record_move.Goals as goal
 
-pub returns-clause-shifted : goal.returns-clause-shifted
-returns-clause-shifted g c x =
+pub returns-then-not-self-clause-shifted : goal.returns-then-not-self-clause-shifted
+returns-then-not-self-clause-shifted g c _ x =
     let es = c.args.self.now.entries.items in
     let fs = c.shift_between.new.entries in
     let same_keys = c.shift_between.ensures.ids ∙ ap (λ (es : List (g.row.ID.Denot × ℕ)). keys_of es) c.deref_mut.ensures.value in

@@ -7,7 +7,7 @@ use Rattle.raft_progress.proofs.lemmas.progress.places.PlacesLemmas.{keys_writte
 use Rattle.std.proofs.lemmas.List.{get_or-set_same}
 use Rattle.std.proofs.lemmas.List.Quantifiers.{position-Some}
 use Rattle.std.proofs.lemmas.Option.{get_or_from_slice_get}
-use Rattle.raft_progress.proofs.lemmas.progress.walk.WalkLemmas.{lookup_absent, no_value}
+use Rattle.raft_progress.proofs.lemmas.progress.entries.EntriesLemmas.{lookup_absent, no_value}
 use Rattle.raft_progress.proofs.lemmas.progress.UpdateLemmas.{was, wrote}
 use Rattle.raft_progress.proofs.lemmas.progress.OutcomeLemmas.{outcome}
 use Rattle.raft_progress.proofs.lemmas.OrderLemmas.{AtMost-refl}
@@ -27,7 +27,7 @@ invariant_of-self-in-Some g c =
     record {
       voters_fit = subst (λ n. c.args.self.now.voter_count ≤ n)
           (sym (ap length h.4 ∙ length-set c.args.self.now.walk.items c.in-Some.position (h.0.0, h.1))) c.args.self.now.voters_fit;
-      room_fits = c.args.self.now.room_fits;
+      scratch_fits = c.args.self.now.scratch_fits;
       agree = λ fresh. rw same (c.args.self.now.agree fresh);
     }
 

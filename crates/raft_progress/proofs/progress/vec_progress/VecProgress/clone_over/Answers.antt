@@ -24,7 +24,7 @@ invariant_of-result g c = record {
   voters_fit = subst (λ n. c.args.self.now.voter_count ≤ n)
       (sym (same_length (λ (d e : g.row.ID.Denot × g.row.V.Denot). (e.0 ≡ d.0) × g.V.Clone.is_clone d.1 e.1) c.deref.result.now
       c.in_ok-clone_entries.field-0.items c.in_ok-clone_entries.ensures ∙ ap length c.deref.ensures.value)) c.args.self.now.voters_fit;
-  room_fits = ap length (c.in_ok-copy_ids.ensures ∙ c.deref-2.ensures.value) ∙ c.args.self.now.room_fits;
+  scratch_fits = ap length (c.in_ok-copy_ids.ensures ∙ c.deref-2.ensures.value) ∙ c.args.self.now.scratch_fits;
   agree = λ fresh.
       let same : keys_of c.in_ok-clone_entries.field-0.items ≡ keys_of c.args.self.now.walk.items =
       same_ids g.V.Clone.is_clone c.deref.result.now c.in_ok-clone_entries.field-0.items c.in_ok-clone_entries.ensures
@@ -32,5 +32,6 @@ invariant_of-result g c = record {
       tells_alike g.met.ID.Eq.laws (keys_of c.args.self.now.walk.items) (keys_of c.in_ok-clone_entries.field-0.items)
       (place_in g.ID.PartialEq.eq c.args.self.now.places.entries.items)
       (place_in g.ID.PartialEq.eq c.in_ok-try_clone.field-0.entries.items) same
-      (λ x. ap (lookup (g.ID.PartialEq.eq x)) c.in_ok-try_clone.ensures.entries) (c.args.self.now.agree fresh);
+      (λ x. ap (lookup (g.ID.PartialEq.eq x)) c.in_ok-try_clone.ensures.entries)
+      (c.args.self.now.agree (sym c.in_ok-try_clone.ensures.stale ∙ fresh));
 }

@@ -5,7 +5,7 @@ use Rattle.std.proofs.lemmas.List.Sums.{prefix_len-le-length}
 use Rattle.raft_progress.specs.Inner.Recount.{exceeds}
 use Rattle.raft_progress.specs.Inner.Settled.{IsScanned}
 use Rattle.raft_progress.specs.progress.VecProgress.{shown}
-use Rattle.raft_progress.proofs.lemmas.progress.walk.ShortFrontLemmas.{lead_ends, not_scanned, scanned_from}
+use Rattle.raft_progress.proofs.lemmas.progress.entries.ShortFrontLemmas.{lead_ends, not_scanned, scanned_from}
 use Rattle.raft_progress.proofs.lemmas.ListLemmas.{length_take_le}
 use Rattle.raft_progress.proofs.lemmas.progress.UpdateLemmas.{IsDistinct-voters}
 use Rattle.raft_progress.proofs.progress.vec_progress.VecProgress.find_granted.Goals as goal

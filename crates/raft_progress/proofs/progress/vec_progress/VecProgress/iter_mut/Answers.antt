@@ -4,6 +4,6 @@ use Rattle.raft_progress.proofs.progress.vec_progress.VecProgress.iter_mut.Goals
 
 pub returns : goal.returns
 returns g c = (
-  (sym c.iter_mut.ensures.iter_mut_name, (λ w. walk_left c.args.self.now w _ _ _)),
+  (sym c.iter_mut.ensures.iter_mut_name, (λ w. walk_left c.args.self.now w _ _ _ _ _)),
   record { writes_back = tt; rest = c.iter_mut.ensures.rest ∙ c.deref_mut.ensures.value },
 )

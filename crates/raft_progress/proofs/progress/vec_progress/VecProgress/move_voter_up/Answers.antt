@@ -12,10 +12,6 @@ use Rattle.raft_progress.proofs.lemmas.progress.places.PlacesLemmas.{
   tells_after,
 }
 use Rattle.raft_progress.proofs.progress.vec_progress.VecProgress.move_voter_up.Goals as goal
-use Rattle.raft_progress.proofs.progress.vec_progress.VecProgress.move_voter_up.Goals.{
-  else-to-position-via-then-to-position+else-not-self,
-  else-to-position-via-else-to-position,
-}
 
 pub record_move-requires : goal.record_move-requires
 record_move-requires g c =
@@ -23,9 +19,9 @@ record_move-requires g c =
     let l = c.requires in
     record {
       ascending = omega arith;
-      within = place_ranked g.met.ID.Eq.laws c.args.self.now.places.entries.items c.args.self.now.places.ranks.items
+      within = λ fresh. place_ranked g.met.ID.Eq.laws c.args.self.now.places.entries.items c.args.self.now.places.ranks.items
           c.args.self.now.places.inverse (keys_of c.args.self.now.walk.items) c.args.position
-          (rw (length-keys_of c.args.self.now.walk.items) (omega arith)) (c.args.self.now.agree c.if-not-self.true);
+          (rw (length-keys_of c.args.self.now.walk.items) (omega arith)) (c.args.self.now.agree fresh);
     }
 
 pub invariant_of-self : goal.invariant_of-self
@@ -36,12 +32,13 @@ invariant_of-self g c =
     let long = passed_length g.P.Ord.cmp g.V.ProgressPart.part_of c.args.self.now.walk.items c.args.position new c.move_up-to.result p in
     record {
       voters_fit = subst (λ n. c.args.self.now.voter_count ≤ n) (sym long) c.args.self.now.voters_fit;
-      room_fits = c.args.self.now.room_fits;
+      scratch_fits = c.args.self.now.scratch_fits;
       agree = λ fresh.
+          let was = sym c.record_move.ensures.stale ∙ fresh in
           tells_after g.met.ID.Eq.laws (keys_of new) c.move_up-to.result c.args.position (omega arith) old
           (before_passed g.met.ID.Eq.laws g.P.Ord.cmp g.V.ProgressPart.part_of c.args.self.now.walk.items c.args.position new
-          c.move_up-to.result p old (c.args.self.now.agree fresh))
-          (place_in g.ID.PartialEq.eq c.record_move.new.self.entries.items) c.record_move.ensures.shifted;
+          c.move_up-to.result p old (c.args.self.now.agree was))
+          (place_in g.ID.PartialEq.eq c.record_move.new.self.entries.items) (c.record_move.ensures.shifted was);
     }
 
 pub invariant_of-self-else-to-position : goal.invariant_of-self-else-to-position
@@ -50,31 +47,6 @@ invariant_of-self-else-to-position g c =
     c.move_up-to.new.entries.items c.move_up-to.result c.move_up-to.ensures.passes c.if-to-position.false in
     record {
       voters_fit = subst (λ n. c.args.self.now.voter_count ≤ n) (sym (ap length same)) c.args.self.now.voters_fit;
-      room_fits = c.args.self.now.room_fits;
+      scratch_fits = c.args.self.now.scratch_fits;
       agree = λ fresh. rw same (c.args.self.now.agree fresh);
-    }
-
-pub returns-else-to-position-clause-risen : goal.returns-else-to-position-clause-risen
-returns-else-to-position-clause-risen g c =
-    let same : shown c.else-to-position.self
-    ≡ record (shown c.args.self.now) {
-      walk = c.move_up-to.new.entries.items;
-      stat = record c.args.self.now.stat { move_count = c.saturating_add-self.result };
-    } =
-    elim c.else-to-position.branch [
-      | else-to-position-via-then-to-position+else-not-self w ↦ ap (λ p. shown p) w.self-is
-      | else-to-position-via-else-to-position w ↦ ap (λ p. shown p) w.self-is
-    ] in
-    record {
-      group = record {
-        quorum_set = ap (λ p. p.quorum_set) same;
-        voter_count = ap (λ p. p.voter_count) same;
-        default_part = ap (λ p. p.default_part) same;
-        updates = ap (λ p. p.stat.update_count) same;
-      };
-      granted = ap (λ p. p.granted) same;
-      tests = ap (λ p. p.stat.is_quorum_count) same;
-      moves = ap (λ p. p.stat.move_count) same ∙ c.saturating_add-self.ensures;
-      rises = subst (λ (es : List (g.row.ID.Denot × g.row.V.Denot)). RisesTo g.P.Ord.cmp g.V.ProgressPart.part_of c.args.self.now.walk.items
-          c.args.position es c.move_up-to.result) (sym (ap (λ p. p.walk) same)) c.move_up-to.ensures;
     }

@@ -23,7 +23,7 @@ use Rattle.std.proofs.lemmas.Option.{get_or_from_slice_get}
 use Rattle.raft_progress.specs.progress.VecProgress.{shown}
 use Rattle.raft_progress.proofs.lemmas.OrderLemmas.{le_lt}
 use Rattle.raft_progress.proofs.lemmas.ListLemmas.{element_at}
-use Rattle.raft_progress.proofs.lemmas.progress.walk.MovedLemmas.{distinct_moved}
+use Rattle.raft_progress.proofs.lemmas.progress.entries.MovedLemmas.{distinct_moved}
 use Rattle.raft_progress.proofs.progress.vec_progress.VecProgress.restore_order.Goals as goal
 use Rattle.raft_progress.proofs.progress.vec_progress.VecProgress.restore_order.Goals.{
   else-not-passes_granted-via-then-not-passes_granted+else-not-is_below-2,

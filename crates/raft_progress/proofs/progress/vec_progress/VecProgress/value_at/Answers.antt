@@ -1,5 +1,5 @@
 use Rattle.std.proofs.Common.{Some, sym, ap, ◌∙◌}
-use Rattle.raft_progress.proofs.lemmas.progress.walk.WalkLemmas.{lookup_found, lookup_absent}
+use Rattle.raft_progress.proofs.lemmas.progress.entries.EntriesLemmas.{lookup_found, lookup_absent}
 use Rattle.raft_progress.proofs.progress.vec_progress.VecProgress.value_at.Goals as goal
 
 pub returns-in-Some : goal.returns-in-Some

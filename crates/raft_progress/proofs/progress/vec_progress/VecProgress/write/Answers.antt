@@ -14,7 +14,7 @@ use Rattle.raft_progress.proofs.lemmas.OrderLemmas.{AtMost-refl, AtMost-from_not
 use Rattle.raft_progress.proofs.lemmas.progress.OutcomeLemmas.{outcome}
 use Rattle.raft_progress.proofs.lemmas.progress.UpdateLemmas.{IsSame-refl, was, wrote}
 use Rattle.raft_progress.proofs.lemmas.progress.places.PlacesLemmas.{keys_written}
-use Rattle.raft_progress.proofs.lemmas.progress.walk.WalkLemmas.{lookup_absent, no_value}
+use Rattle.raft_progress.proofs.lemmas.progress.entries.EntriesLemmas.{lookup_absent, no_value}
 use Rattle.raft_progress.proofs.progress.vec_progress.VecProgress.write.Goals as goal
 
 pub returns-in_default-clause-step : goal.returns-in_default-clause-step
@@ -77,7 +77,7 @@ invariant_of-self-2 g c =
     let at = slice_get_read ws (length ws) place e refl within c.index_mut-entry.ensures.value in
     record {
       voters_fit = subst (λ n. p.voter_count ≤ n) (sym (length-set ws place (e.0, c.args.value))) p.voters_fit;
-      room_fits = p.room_fits;
+      scratch_fits = p.scratch_fits;
       agree = λ fresh. rw (keys_written ws place e c.args.value at) (p.agree fresh);
     }
 

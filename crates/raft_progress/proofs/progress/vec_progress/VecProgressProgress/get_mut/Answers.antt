@@ -2,7 +2,7 @@ use Rattle.std.proofs.Common.{sym, ap, ◌∙◌, ◌≤◌, refl, Some, set, Li
 use Rattle.std.proofs.Math.ListN.{length-set}
 use Rattle.std.specs.Map.{keys_of}
 use Rattle.raft_progress.proofs.lemmas.progress.places.PlacesLemmas.{keys_rewritten}
-use Rattle.raft_progress.proofs.lemmas.progress.walk.WalkLemmas.{lookup_found, lookup_absent, set_found}
+use Rattle.raft_progress.proofs.lemmas.progress.entries.EntriesLemmas.{lookup_found, lookup_absent, set_found}
 use Rattle.raft_progress.specs.progress.VecProgress.{shown}
 use Rattle.raft_progress.proofs.progress.vec_progress.VecProgressProgress.get_mut.Goals as goal
 
@@ -43,5 +43,5 @@ invariant_of-self-lent g c = λ w.
     ∙ keys_rewritten c.args.self.now.walk.items c.in-Some.position c.index_mut.result.now w in (
       subst (λ n. c.args.self.now.voter_count ≤ n)
           (sym (length-set c.args.self.now.walk.items c.in-Some.position (c.index_mut.result.now.0, w))) c.args.self.now.voters_fit,
-      (c.args.self.now.room_fits, ((λ fresh. rw same (c.args.self.now.agree fresh)), tt)),
+      (c.args.self.now.scratch_fits, ((λ fresh. rw same (c.args.self.now.agree fresh)), tt)),
     )

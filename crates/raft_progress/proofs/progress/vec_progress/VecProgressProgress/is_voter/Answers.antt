@@ -1,6 +1,6 @@
 use Rattle.std.proofs.Common.{Some, ap, refl, sym}
-use Rattle.raft_progress.proofs.lemmas.progress.walk.WalkLemmas.{lookup_absent}
-use Rattle.raft_progress.proofs.lemmas.progress.walk.VoterLemmas.{member_place, value_place}
+use Rattle.raft_progress.proofs.lemmas.progress.entries.EntriesLemmas.{lookup_absent}
+use Rattle.raft_progress.proofs.lemmas.progress.entries.VoterLemmas.{member_place, value_place}
 use Rattle.raft_progress.proofs.progress.vec_progress.VecProgressProgress.is_voter.Goals as goal
 
 pub returns-in-Some : goal.returns-in-Some

@@ -17,7 +17,7 @@ use Rattle.raft_progress.specs.progress.Shown.{Shown}
 use Rattle.raft_progress.specs.progress.Statistics.{count_after}
 use Rattle.raft_progress.proofs.lemmas.progress.UpdateLemmas.{IsDistinct-voters}
 use Rattle.raft_progress.proofs.lemmas.ListLemmas.{length_take_le, some_inside}
-use Rattle.raft_progress.proofs.lemmas.progress.walk.FrontLemmas.{single_front}
+use Rattle.raft_progress.proofs.lemmas.progress.entries.FrontLemmas.{single_front}
 
 -- entries that pass a test lead up to one that doesn't at most
 pub lead_ends : {X : Type 0} (p : X → Bool) (xs : List X) (n : ℕ) (d : X) → p (get_or xs n d) ≡ false → prefix_len p xs ≤ n

@@ -6,7 +6,7 @@ use Rattle.std.proofs.Common.{arith, refl, get_or, ltb, ltb-true, ltb-false}
 use Rattle.std.proofs.lemmas.List.Quantifiers.{position-Some}
 use Rattle.raft_progress.proofs.lemmas.progress.SettledLemmas.{none_before}
 use Rattle.raft_progress.proofs.lemmas.progress.OutcomeLemmas.{some_before}
-use Rattle.raft_progress.proofs.lemmas.progress.walk.WalkLemmas.{lookup_found}
+use Rattle.raft_progress.proofs.lemmas.progress.entries.EntriesLemmas.{lookup_found}
 
 module _ {ID V : Type 0} (eq : ID → ID → Bool) (id : ID) (n i : ℕ) where
   at_some : (walk : List (ID × V)) → position (λ (f : ID × V). eq id f.0) walk ≡ Some i → ID × V

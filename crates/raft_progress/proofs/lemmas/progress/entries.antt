@@ -1,3 +1,4 @@
+pub mod EntriesLemmas
 pub mod FallingLemmas
 pub mod FrontLemmas
 pub mod LearnersPlaceLemmas
@@ -5,4 +6,3 @@ pub mod MovedLemmas
 pub mod RisingLemmas
 pub mod ShortFrontLemmas
 pub mod VoterLemmas
-pub mod WalkLemmas

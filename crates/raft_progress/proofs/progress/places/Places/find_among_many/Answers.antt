@@ -1,7 +1,7 @@
 use Rattle.std.proofs.Common.{rules, sym, ap, ◌∙◌, ◌<◌, get_or, length, subst, Some, List, ℕ}
 use Rattle.std.proofs.lemmas.Fn.{always_returns_same}
 use Rattle.raft_progress.proofs.lemmas.progress.places.LookupLemmas.{found_at, searchable, unfound_between}
-use Rattle.raft_progress.proofs.progress.places.Places.get_of_many.Goals as goal
+use Rattle.raft_progress.proofs.progress.places.Places.find_among_many.Goals as goal
 
 pub returns-in-Ok : goal.returns-in-Ok
 returns-in-Ok g c =
