@@ -24,8 +24,8 @@ pub(crate) struct Places<ID: Copy + Ord> {
     entries: Vec<(ID, usize)>,
     /// For each position, the rank of its id: the index of the id in `entries`.
     ranks: Vec<usize>,
-    /// Whether ids may have been written through `iter_mut` since the list was made. If so, the list
-    /// is not used, and positions are searched for among the entries.
+    /// Whether ids may have been written through `iter_mut`. If so, the list is not used, and
+    /// positions are searched for among the entries.
     pub(super) stale: bool,
     ghost ascending: { IsStrictlySortedBy ID.cmp (keys_of entries.items) } by { Prim.hlevel props },
     ghost inverse: { AreInverse (values_of entries.items) ranks.items } by { Prim.hlevel props },

@@ -81,8 +81,8 @@ impl<
 
     /// Restores the order and recomputes granted, after the part of the value at a position went
     /// from `before` to `after`.
-    // Only a voter whose part has risen past granted moves up. Granted can rise only if the part was
-    // at most granted before.
+    // Only a voter whose part has risen past granted moves up. Granted can rise only if the part
+    // was at most granted before.
     #[inline(always)]
     fn restore_order(&mut self, position: usize, before: P, after: P)
         requires within { position < length (shown self.old).walk }
