@@ -222,7 +222,7 @@ impl<ID: Copy + Ord, V: ProgressPart<P> + Drop, P: Copy + Ord, QS: QuorumSet<ID>
 
     fn is_in_order(&mut self) -> bool {
         let told = self.tells_ids();
-        if !are_ids_distinct(told, &self.walk, self.voter_count, &mut self.room) {
+        if !are_ids_distinct(told, &self.walk, self.voter_count, &mut self.scratch) {
             return false;
         }
         let voters = &self.walk[..self.voter_count];
