@@ -90,8 +90,7 @@ pub fn conflicts_are_answered<C: Numbered>() -> bool {
 pub fn logs_read_back() -> bool {
     let logs = Inflight::<u64>::logs(id(1, 2), id(1, 5)).with_id(7);
     let are_right = [
-        logs.get_id() == Some(7),
-        logs.id() == 7,
+        logs.get_id() == Some(7) && logs.id() == 7,
         !logs.is_none(),
         logs.is_sending_log(),
         !logs.is_sending_snapshot(),
