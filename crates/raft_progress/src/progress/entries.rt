@@ -1,14 +1,11 @@
-//! The entries of a progress: how they are made and written, how a voter moves up among them, and
+//! The entries of a progress: how they are made and cloned, how a voter moves up among them, and
 //! which prefix of the voters is the shortest quorum.
-ghost use Rattle.std.specs.Prelude.{◌≡◌, ◌-◌, ◌<◌, ◌≤◌, length, slice_get, take, OnOk, IfOk};
+ghost use Rattle.std.specs.Prelude.{◌≡◌, ◌-◌, ◌<◌, ◌≤◌, length, take, OnOk, IfOk};
 ghost use Rattle.std.specs.List.{AllZip, IsDistinct, prefix_len, swap};
-ghost use Rattle.std.specs.Fn.{FnOnceTakesAtMut};
 ghost use Rattle.std.specs.Map.{keys_of};
-ghost use Rattle.std.specs.Option.{ForSome};
-ghost use Rattle.raft_progress.specs.Inner.Placed.{IsPlaced, IsWrittenAt};
+ghost use Rattle.raft_progress.specs.Inner.Placed.{IsPlaced};
 ghost use Rattle.raft_progress.specs.Inner.Recount.{exceeds};
 ghost use Rattle.raft_progress.specs.Inner.Rises.{IsLeastFront, RisesTo};
-ghost use Rattle.raft_progress.specs.progress.Lends.{Leaves};
 
 use super::part::ProgressPart;
 use raft_members::quorum::QuorumSet;
@@ -50,26 +47,6 @@ pub(crate) fn copy_ids<ID: Copy>(alloc: Global, ids: &[ID]) -> Result<Vec<ID>, A
     ensures { IfOk result (λ made. made.items ≡ ids.now) }
 {
     ids.iter().copied().collect(alloc)
-}
-
-/// Runs `f` on the value at a position. Returns its part before and afterwards.
-#[inline(always)]
-pub(crate) fn write_at<ID: Copy, V: ProgressPart<P>, P: Copy, F: FnOnce(&mut V)>(
-    entries: &mut Vec<(ID, V)>,
-    position: usize,
-    f: F,
-) -> (P, P)
-    requires within { position < length entries.old.items }
-    requires callable { ForSome (slice_get entries.old.items position)
-        (λ e. FnOnceTakesAtMut F.FnOnce f e.1) }
-    ensures { IsWrittenAt V.part_of (Leaves F.FnOnce f) position entries.old.items entries.new.items
-        result.0 result.1 }
-{
-    let entry = &mut entries[position];
-    let before = entry.1.part();
-    f(&mut entry.1);
-    let after = entry.1.part();
-    (before, after)
 }
 
 /// Moves an entry up past the entries directly before it whose parts are less. Returns its new

@@ -14,7 +14,7 @@ ghost use Rattle.raft_progress.specs.progress.Updated.{IsUpdated, NeverFalls};
 ghost use Rattle.raft_progress.specs.progress.VecProgress.{shown};
 
 use super::VecProgress;
-use crate::progress::entries::{find_shortest_quorum, gather_leading, move_up, write_at};
+use crate::progress::entries::{find_shortest_quorum, gather_leading, move_up};
 use crate::progress::part::{ProgressPart, is_at_most, is_below};
 use crate::progress::steps::Reply;
 use raft_members::quorum::QuorumSet;
@@ -43,7 +43,10 @@ impl<
         self.stat.update_count = self.stat.update_count.saturating_add(1);
         match self.index(id) {
             Some(position) => {
-                let (before, after) = write_at(&mut self.walk, position, f);
+                let entry = &mut self.walk[position];
+                let before = entry.1.part();
+                f(&mut entry.1);
+                let after = entry.1.part();
                 self.restore_order(position, before, after);
                 true
             }

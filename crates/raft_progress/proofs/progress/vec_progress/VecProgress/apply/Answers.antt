@@ -6,23 +6,45 @@ use Rattle.std.specs.Map.{keys_of}
 use Rattle.raft_progress.proofs.lemmas.progress.places.PlacesLemmas.{keys_written}
 use Rattle.std.proofs.lemmas.List.{get_or-set_same}
 use Rattle.std.proofs.lemmas.List.Quantifiers.{position-Some}
-use Rattle.std.proofs.lemmas.Option.{get_or_from_slice_get}
+use Rattle.std.proofs.lemmas.Option.{get_or_from_slice_get, slice_get_read}
 use Rattle.raft_progress.proofs.lemmas.progress.entries.EntriesLemmas.{lookup_absent, no_value}
 use Rattle.raft_progress.proofs.lemmas.progress.UpdateLemmas.{was, wrote}
 use Rattle.raft_progress.proofs.lemmas.progress.OutcomeLemmas.{outcome}
 use Rattle.raft_progress.proofs.lemmas.OrderLemmas.{AtMost-refl}
+use Rattle.raft_progress.specs.Inner.Placed.{IsWrittenAt}
+use Rattle.raft_progress.specs.progress.Lends.{Leaves}
 use Rattle.raft_progress.specs.progress.Updated.{IsSettled}
 use Rattle.raft_progress.specs.progress.VecProgress.{shown}
 use Rattle.raft_progress.proofs.lemmas.ListLemmas.{some_inside}
 use Rattle.raft_progress.proofs.progress.vec_progress.VecProgress.apply.Goals as goal
 
-pub write_at-before-requires-clause-callable : goal.write_at-before-requires-clause-callable
-write_at-before-requires-clause-callable g c = λ e at.
-    c.requires.callable e.1 (was g.met.ID.Eq.laws c.args.self.now.walk.items c.args.id.now c.in-Some.position e (sym c.in-Some.ensures) at)
+pub f-requires : goal.f-requires
+f-requires g c =
+    let ws = c.args.self.now.walk.items in
+    let e = c.index_mut-entry.result.now in
+    let found = sym c.in-Some.ensures in
+    let is_id = λ (d : g.row.ID.Denot × g.row.V.Denot). g.ID.PartialEq.eq c.args.id.now d.0 in
+    let within = (position-Some is_id ws c.in-Some.position e found).0 in
+    let at = slice_get_read ws (length ws) c.in-Some.position e refl within c.index_mut-entry.ensures.value in
+    c.requires.callable e.1 (was g.met.ID.Eq.laws ws c.args.id.now c.in-Some.position e found at) _ refl
 
 pub invariant_of-self-in-Some : goal.invariant_of-self-in-Some
 invariant_of-self-in-Some g c =
-    let h = c.write_at-before.ensures in
+    let e = c.index_mut-entry.result.now in
+    let is_id = λ (d : g.row.ID.Denot × g.row.V.Denot). g.ID.PartialEq.eq c.args.id.now d.0 in
+    let inside = (position-Some is_id c.args.self.now.walk.items c.in-Some.position e (sym c.in-Some.ensures)).0 in
+    let at = slice_get_read c.args.self.now.walk.items (length c.args.self.now.walk.items) c.in-Some.position e refl inside
+    c.index_mut-entry.ensures.value in
+    let h : IsWrittenAt g.V.ProgressPart.part_of (Leaves g.F.FnOnce c.args.f) c.in-Some.position c.args.self.now.walk.items
+    (set c.args.self.now.walk.items c.in-Some.position (e.0, c.f.new.arg2)) c.part-before.result c.part-after.result = (
+      e,
+      c.f.new.arg2,
+      at,
+      record { shown = _; shows = refl; left = _; met = c.f.ensures; leaves = refl },
+      refl,
+      c.part-before.ensures,
+      c.part-after.ensures,
+    ) in
     let same = ap keys_of h.4 ∙ keys_written c.args.self.now.walk.items c.in-Some.position h.0 h.1 h.2 in
     record {
       voters_fit = subst (λ n. c.args.self.now.voter_count ≤ n)
@@ -33,7 +55,21 @@ invariant_of-self-in-Some g c =
 
 pub restore_order-requires-clause-at : goal.restore_order-requires-clause-at
 restore_order-requires-clause-at g c = λ f is.
-    let h = c.write_at-before.ensures in
+    let e = c.index_mut-entry.result.now in
+    let is_id = λ (d : g.row.ID.Denot × g.row.V.Denot). g.ID.PartialEq.eq c.args.id.now d.0 in
+    let inside = (position-Some is_id c.args.self.now.walk.items c.in-Some.position e (sym c.in-Some.ensures)).0 in
+    let at = slice_get_read c.args.self.now.walk.items (length c.args.self.now.walk.items) c.in-Some.position e refl inside
+    c.index_mut-entry.ensures.value in
+    let h : IsWrittenAt g.V.ProgressPart.part_of (Leaves g.F.FnOnce c.args.f) c.in-Some.position c.args.self.now.walk.items
+    (set c.args.self.now.walk.items c.in-Some.position (e.0, c.f.new.arg2)) c.part-before.result c.part-after.result = (
+      e,
+      c.f.new.arg2,
+      at,
+      record { shown = _; shows = refl; left = _; met = c.f.ensures; leaves = refl },
+      refl,
+      c.part-before.ensures,
+      c.part-after.ensures,
+    ) in
     let ws = c.args.self.now.walk.items in
     let position = c.in-Some.position in
     let is_id = λ (e : g.row.ID.Denot × g.row.V.Denot). g.ID.PartialEq.eq c.args.id.now e.0 in
@@ -45,13 +81,41 @@ restore_order-requires-clause-at g c = λ f is.
 
 pub restore_order-requires-clause-distinct : goal.restore_order-requires-clause-distinct
 restore_order-requires-clause-distinct g c =
-    let h = c.write_at-before.ensures in
+    let e = c.index_mut-entry.result.now in
+    let is_id = λ (d : g.row.ID.Denot × g.row.V.Denot). g.ID.PartialEq.eq c.args.id.now d.0 in
+    let inside = (position-Some is_id c.args.self.now.walk.items c.in-Some.position e (sym c.in-Some.ensures)).0 in
+    let at = slice_get_read c.args.self.now.walk.items (length c.args.self.now.walk.items) c.in-Some.position e refl inside
+    c.index_mut-entry.ensures.value in
+    let h : IsWrittenAt g.V.ProgressPart.part_of (Leaves g.F.FnOnce c.args.f) c.in-Some.position c.args.self.now.walk.items
+    (set c.args.self.now.walk.items c.in-Some.position (e.0, c.f.new.arg2)) c.part-before.result c.part-after.result = (
+      e,
+      c.f.new.arg2,
+      at,
+      record { shown = _; shows = refl; left = _; met = c.f.ensures; leaves = refl },
+      refl,
+      c.part-before.ensures,
+      c.part-after.ensures,
+    ) in
     subst (IsDistinct g.ID.PartialEq.eq) (sym (ap keys_of h.4 ∙ keys_written c.args.self.now.walk.items c.in-Some.position h.0 h.1 h.2))
     c.requires.ordered.distinct
 
 pub returns-in-Some : goal.returns-in-Some
 returns-in-Some g c =
-    let h = c.write_at-before.ensures in
+    let e = c.index_mut-entry.result.now in
+    let is_id = λ (d : g.row.ID.Denot × g.row.V.Denot). g.ID.PartialEq.eq c.args.id.now d.0 in
+    let inside = (position-Some is_id c.args.self.now.walk.items c.in-Some.position e (sym c.in-Some.ensures)).0 in
+    let at = slice_get_read c.args.self.now.walk.items (length c.args.self.now.walk.items) c.in-Some.position e refl inside
+    c.index_mut-entry.ensures.value in
+    let h : IsWrittenAt g.V.ProgressPart.part_of (Leaves g.F.FnOnce c.args.f) c.in-Some.position c.args.self.now.walk.items
+    (set c.args.self.now.walk.items c.in-Some.position (e.0, c.f.new.arg2)) c.part-before.result c.part-after.result = (
+      e,
+      c.f.new.arg2,
+      at,
+      record { shown = _; shows = refl; left = _; met = c.f.ensures; leaves = refl },
+      refl,
+      c.part-before.ensures,
+      c.part-after.ensures,
+    ) in
     let ws = c.args.self.now.walk.items in
     let found = sym c.in-Some.ensures in
     let here : h.0 ≡ get_or ws c.in-Some.position h.0 = sym (get_or_from_slice_get ws c.in-Some.position h.0 h.0 h.2) in
@@ -60,7 +124,7 @@ returns-in-Some g c =
     let oc = outcome g.met.ID.Eq.laws g.met.P.Ord.total g.V.ProgressPart.part_of g.QS.QuorumSet.has_quorum g.met.QS.QuorumSet.superset _
     (shown c.restore_order.new.self) ws c.requires.ordered c.args.id.now c.in-Some.position h.0 found here h.1
     (c.requires.monotone h.0.1 h.1 before h.3) h.4 before
-    (h.4 ∙ wrote g.met.ID.Eq.laws ws c.args.id.now c.in-Some.position h.0 found h.2 h.1) c.write_at-before.result.0 h.5
+    (h.4 ∙ wrote g.met.ID.Eq.laws ws c.args.id.now c.in-Some.position h.0 found h.2 h.1) c.part-before.result h.5
     fits c.restore_order.ensures in
     record {
       updated = record {
