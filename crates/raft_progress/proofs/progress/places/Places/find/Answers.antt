@@ -8,5 +8,5 @@ returns-then-len-gt-FEW g c = c.find_among_many.ensures ∙ place_is g.met.ID.Eq
     (place_in g.ID.PartialEq.eq c.args.self.now.entries.items) (c.requires c.if-self.false) c.args.id.now
 
 pub returns : goal.returns
-returns g c = c.place_of_few.ensures ∙ place_is g.met.ID.Eq.laws c.args.walk.now
+returns g c = (rw c.deref.ensures.value at c.place_of_few.ensures) ∙ place_is g.met.ID.Eq.laws c.args.walk.now
     (place_in g.ID.PartialEq.eq c.args.self.now.entries.items) (c.requires c.if-self.false) c.args.id.now
