@@ -28,12 +28,11 @@ fn indexes_read(id: &LogIdOf<CommittedLeaderId>) -> bool {
     let absent: Option<LogIdOf<CommittedLeaderId>> = None;
     let are_right = [
         there.index() == Some(4),
-        there.next_index() == 5,
+        there.has_next_index() && there.next_index() == 5,
         absent.index() == None,
-        absent.next_index() == 0,
+        absent.has_next_index() && absent.next_index() == 0,
         Some(id).index() == Some(4),
-        Some(id).next_index() == 5,
-        (there.has_next_index() && absent.has_next_index() && Some(id).has_next_index()),
+        Some(id).has_next_index() && Some(id).next_index() == 5,
     ];
     !are_right.contains(&false)
 }
