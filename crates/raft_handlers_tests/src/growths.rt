@@ -1,4 +1,4 @@
-//! Handlers with each growth refused in turn.
+//! Handlers with each allocation refused in turn.
 
 use crate::candidate::candidate;
 use crate::leader::Led;
@@ -124,7 +124,7 @@ fn propose<K: LeaderKind<u64>>(growth: Growth, is_change: bool) -> Result<bool, 
     }
 }
 
-/// Whether the calls of a leader are right with each growth refused in turn.
+/// Whether the calls of a leader are right with each allocation refused in turn.
 fn is_leader_swept(rt: &impl Print, alloc: Global) -> io::Result<bool> {
     let nothing = |_alloc: Global| Ok(());
     let elects = |growth: Growth, _nothing: &mut ()| elect::<LeaderAdv>(growth);

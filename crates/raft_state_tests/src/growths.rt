@@ -1,5 +1,5 @@
-//! The list of log ids, the memberships of a node and its whole state, with each growth refused in
-//! turn or all of them.
+//! The list of log ids, the memberships of a node and its whole state, with each allocation refused
+//! in turn or all of them.
 
 use crate::membership_state;
 use crate::support::messages::{entries, snapshot};

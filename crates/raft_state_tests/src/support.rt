@@ -1,4 +1,4 @@
-//! What tests share: worked rows and calls as words, states, what a follower is sent, followers, and
+//! What tests share: examples as rows of words, states, what a follower is sent, and followers.
 
 pub mod followers;
 pub mod messages;
