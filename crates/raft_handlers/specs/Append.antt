@@ -36,7 +36,6 @@ use Rattle.raft_handlers.specs.Entries.{
   RefusedUnless,
 }
 use Rattle.raft_handlers.specs.declared.error.HandlerError.{HandlerError}
-use Rattle.raft_handlers.specs.declared.message.AppendEntries.{AppendEntries}
 use Rattle.raft_handlers.specs.declared.message.Outcome.{Outcome}
 use Rattle.raft_handlers.specs.declared.message.Outcome.TheVariants.{Matches, Conflict, HigherVote}
 use Rattle.raft_state.specs.raft_state.Appended.{are_consecutive, AppendsMemberships}

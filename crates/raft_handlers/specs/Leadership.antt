@@ -1,12 +1,11 @@
 -- What a leader knows of its members, and when it leads, commits and proposes.
-use Rattle.std.specs.Prelude.{◌≡◌, ℕ, Bool, true, false, ◌&&◌, not, Option, Some, None, Result, Ok, Err, is_some, if◌then◌else◌}
+use Rattle.std.specs.Prelude.{◌≡◌, ℕ, Bool, true, false, ◌&&◌, not, Option, Some, None, Result, Ok, Err, if◌then◌else◌}
 use Rattle.std.specs.Map.{update}
 use Rattle.std.specs.Option.{option_cmp, option_eq}
 use Rattle.std.specs.declared.cmp.Ordering.{Ordering}
 use Rattle.raft_base.specs.LogId.{log_id_cmp, next_index}
 use Rattle.raft_base.specs.LogView.{LogView}
 use Rattle.raft_base.specs.declared.log_id.LogIdOf.{LogIdOf}
-use Rattle.raft_base.specs.declared.vote.VoteIn.{VoteIn}
 use Rattle.raft_members.specs.membership.Change.{changed}
 use Rattle.raft_members.specs.quorum.Majority.{is_voter_of}
 use Rattle.raft_members.specs.membership.Members.{members_of}

@@ -1,6 +1,5 @@
 -- What a leader proposes.
-use Rattle.std.specs.Prelude.{◌≡◌, Bool, true, false, ◌&&◌, ◌++◌, [], ◌∷◌, List, Option, Some, None}
-use Rattle.std.specs.Prelude.{IsTrue}
+use Rattle.std.specs.Prelude.{◌≡◌, Bool, ◌++◌, [], ◌∷◌, List, Option, Some, None}
 use Rattle.raft_base.specs.declared.log_id.LogIdOf.{LogIdOf}
 use Rattle.raft_state.specs.log_id_list.FullLog.{end_index, full_log}
 use Rattle.raft_members.specs.membership.Members.{MemberList}

@@ -1,11 +1,10 @@
 -- What a leader's snapshot leaves of a server, and why it is refused.
-use Rattle.std.specs.Prelude.{◌≡◌, Bool, not, ◌&&◌, Option, Some, None, Result, Ok, Err, IfErr, IfSome, if◌then◌else◌}
+use Rattle.std.specs.Prelude.{◌≡◌, Bool, not, ◌&&◌, Option, Some, None, Result, Err, IfErr, IfSome, if◌then◌else◌}
 use Rattle.std.specs.Ordering.{partial_ge}
 use Rattle.std.specs.declared.cmp.Ordering.{Ordering}
 use Rattle.raft_base.specs.LogId.{id_lt}
 use Rattle.raft_base.specs.UTime.{moment_of, utime_of}
 use Rattle.raft_base.specs.Vote.{vote_cmp}
-use Rattle.raft_base.specs.declared.log_id.LogIdOf.{LogIdOf}
 use Rattle.raft_handlers.specs.Append.{elected}
 use Rattle.raft_handlers.specs.declared.error.HandlerError.{HandlerError}
 use Rattle.raft_handlers.specs.declared.error.HandlerError.TheVariants.{OutOfMemory, SnapshotDoesNotFit}

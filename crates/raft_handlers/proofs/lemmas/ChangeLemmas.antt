@@ -1,30 +1,10 @@
 -- What a change of the membership leaves of what is known of the members, and the step from a joint
 -- membership to its last config.
-use Rattle.std.specs.Prelude.{
-  ◌≡◌,
-  ℕ,
-  ◌<◌,
-  ◌-◌,
-  Bool,
-  true,
-  false,
-  ◌||◌,
-  cond,
-  List,
-  [],
-  ◌∷◌,
-  Option,
-  Some,
-  None,
-  is_some,
-  length,
-  nat_lt,
-  refl,
-}
+use Rattle.std.specs.Prelude.{◌≡◌, ℕ, ◌<◌, ◌-◌, Bool, true, false, cond, List, [], ◌∷◌, Option, Some, None, is_some, length, nat_lt, refl}
 use Rattle.std.specs.Cmp.{IsEquivalence}
 use Rattle.std.specs.Cmp.Lexicographic.{lists_equiv, pointwise}
-use Rattle.std.specs.List.{AllZip, list_any, slice_get}
-use Rattle.std.specs.Option.{option_map_or, unwrap_or}
+use Rattle.std.specs.List.{AllZip, slice_get}
+use Rattle.std.specs.Option.{option_map_or}
 use Rattle.std.specs.declared.cmp.Ordering.{Ordering}
 use Rattle.std.proofs.Common.{ap, arith, sym, subst, ◌∙◌, true≢false}
 use Rattle.std.proofs.lemmas.Bool.Decides.{nat_tests}
@@ -34,8 +14,8 @@ use Rattle.raft_members.specs.membership.Members.{MemberList}
 use Rattle.raft_members.proofs.lemmas.membership.ReplaceLemmas.{last_passes}
 use Rattle.raft_progress.specs.progress.Equal.{IsCloned}
 use Rattle.raft_progress.specs.progress.NewProgress.{HasClone}
-use Rattle.raft_progress.specs.progress.Shown.{Shown, state}
-use Rattle.raft_progress.specs.progress.Upgrade.{Inherits, IsUpgraded}
+use Rattle.raft_progress.specs.progress.Shown.{state}
+use Rattle.raft_progress.specs.progress.Upgrade.{Inherits}
 use Rattle.raft_progress.specs.tracked.SingleSteps.{IsTrackedChangeTo}
 use Rattle.raft_progress.specs.tracked.TrackedState.{HasSameConfigs, TrackedShown}
 use Rattle.raft_progress.specs.declared.progress.steps.Reply.TheVariants.{Granted}

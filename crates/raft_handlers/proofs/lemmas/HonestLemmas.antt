@@ -40,7 +40,7 @@ use Rattle.std.specs.List.{prefix_len}
 use Rattle.std.specs.Option.{option_cmp, option_or}
 use Rattle.std.specs.Cmp.{IsEquivalence, IsTotalOrder}
 use Rattle.std.specs.Cmp.Derive.{both_true}
-use Rattle.std.specs.Ordering.{is_eq, is_le, is_lt, nat_cmp, ordering_then}
+use Rattle.std.specs.Ordering.{is_eq, is_le, ordering_then}
 use Rattle.std.specs.declared.cmp.Ordering.{Ordering}
 use Rattle.std.specs.declared.cmp.Ordering.TheVariants.{Less, Equal, Greater}
 use Rattle.raft_base.specs.LogId.{id_le, id_lt, index_of, log_id_cmp, next_index, same_ids}
@@ -49,28 +49,10 @@ use Rattle.raft_base.specs.LogIndex.{index_le, index_lt}
 use Rattle.raft_base.specs.declared.log_id.LogIdOf.{LogIdOf}
 use Rattle.raft_handlers.proofs.EntryLemmas.{same_through}
 use Rattle.raft_handlers.specs.Append.{has_entry, last_of, least, may_cut_at, may_take, new_of}
-use Rattle.raft_handlers.specs.Entries.{
-  allows_commit,
-  effective_before,
-  effective_below,
-  effective_with,
-  ends_before as log_ends_before,
-  entry_ids,
-  has_id,
-  has_with,
-  keeps_committed,
-  last_before,
-  last_below,
-  may_append_after,
-  may_commit_with,
-  may_cut,
-  may_take_new,
-  stores_membership,
-}
-use Rattle.raft_handlers.specs.Honest.{known_end, HasBelow, IsHonest, IsLeadersLog, IsPieceOf}
+use Rattle.raft_handlers.specs.Entries.{allows_commit, effective_below, effective_with, ends_before as log_ends_before, entry_ids, has_id, has_with, last_below, may_append_after, may_commit_with, may_cut, may_take_new}
+use Rattle.raft_handlers.specs.Honest.{known_end, HasBelow, IsLeadersLog, IsPieceOf}
 use Rattle.raft_members.specs.membership.Stored.{log_id_of}
-use Rattle.raft_progress.proofs.lemmas.OrderLemmas.{AtMost-from_lt, AtMost-from_not_lt, AtMost-refl, AtMost-trans, not_lt-from_AtMost}
-use Rattle.raft_state.proofs.lemmas.TruncateLemmas.{upto_committed}
+use Rattle.raft_progress.proofs.lemmas.OrderLemmas.{AtMost-from_lt, AtMost-refl, AtMost-trans, not_lt-from_AtMost}
 use Rattle.raft_state.proofs.lemmas.log_id_list.EndsLemmas.{last_of_some}
 use Rattle.raft_state.proofs.lemmas.log_id_list.ExtendLemmas.{is_key_list}
 use Rattle.raft_state.proofs.lemmas.log_id_list.FrontLemmas.{from_first, front_last, none_stay}
@@ -91,11 +73,11 @@ use Rattle.raft_state.specs.log_id_list.LogKept.{HasIds}
 use Rattle.raft_state.specs.log_id_list.LogReads.{first_id, id_at, last_id}
 use Rattle.raft_state.specs.log_id_list.LogReadsLawful.{id_at-indexed}
 use Rattle.raft_state.specs.membership_state.MembershipMoves.{after_truncate, is_cut}
-use Rattle.raft_state.specs.membership_state.Memberships.{Memberships, index_at}
+use Rattle.raft_state.specs.membership_state.Memberships.{Memberships}
 use Rattle.raft_state.specs.raft_state.Appended.{are_consecutive, last_stored, memberships_follow}
 use Rattle.raft_state.specs.raft_state.Sound.{purged_or_logged, IsSound}
 use Rattle.raft_state.specs.raft_state.Truncate.{may_truncate}
-use Rattle.raft_state.specs.raft_state.Valid.{broken_relation, fits_purged_next, upto_relation}
+use Rattle.raft_state.specs.raft_state.Valid.{fits_purged_next}
 use Rattle.raft_state.specs.declared.entry.EntryOf.{EntryOf}
 use Rattle.raft_state.specs.declared.raft_state.RaftStateIn.{RaftStateIn}
 

@@ -1,12 +1,11 @@
 -- What each quorum knows before a change of the membership, each quorum of the new one knows after it.
-use Rattle.std.specs.Prelude.{◌≡◌, ◌<◌, Bool, true, false, ◌&&◌, ◌||◌, List, Option, Some, None, is_some, length, refl}
+use Rattle.std.specs.Prelude.{◌≡◌, Bool, true, ◌&&◌, List, Option, Some, None, is_some, refl}
 use Rattle.std.specs.Cmp.{IsEquivalence, first_so, second_so}
 use Rattle.std.specs.declared.cmp.Ordering.{Ordering}
-use Rattle.std.proofs.Common.{ap, sym, subst, ◌∙◌, true≢false}
+use Rattle.std.proofs.Common.{ap, sym, ◌∙◌, true≢false}
 use Rattle.raft_members.specs.membership.Change.{changed, last_config, union_of, without}
 use Rattle.raft_members.specs.quorum.Coherence.{next_configs}
-use Rattle.raft_members.specs.quorum.Majority.{is_voter_of}
-use Rattle.raft_members.specs.membership.Members.{Members, members_of}
+use Rattle.raft_members.specs.membership.Members.{Members}
 use Rattle.raft_members.specs.quorum.Reached.{EachQuorumKnows}
 use Rattle.raft_members.specs.declared.change_members.ChangeMembers.{ChangeMembers}
 use Rattle.raft_members.specs.declared.change_members.ChangeMembers.TheVariants.{

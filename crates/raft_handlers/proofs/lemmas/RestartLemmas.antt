@@ -1,40 +1,5 @@
 -- A server that has a snapshot alone, and the entries past it.
-use Rattle.std.proofs.Common.{
-  ◌≡◌,
-  ℕ,
-  ◌+◌,
-  ◌^◌,
-  ◌<◌,
-  ◌≤◌,
-  Bool,
-  true,
-  false,
-  ◌&&◌,
-  ◌||◌,
-  List,
-  [],
-  ◌∷◌,
-  ◌++◌,
-  Option,
-  Some,
-  None,
-  IsTrue,
-  if◌then◌else◌,
-  nat_eq,
-  nat_le,
-  nat_lt,
-  not,
-  refl,
-  sym,
-  subst,
-  ap,
-  arith,
-  inl,
-  inr,
-  true≢false,
-  ◌∙◌,
-}
-use Rattle.std.proofs.lemmas.Bool.{and_parts, cases_lt}
+use Rattle.std.proofs.Common.{◌≡◌, ℕ, ◌+◌, ◌^◌, ◌≤◌, Bool, true, false, ◌&&◌, List, [], ◌∷◌, ◌++◌, Option, Some, None, if◌then◌else◌, nat_eq, nat_le, nat_lt, not, refl, sym, subst, ap, arith, true≢false, ◌∙◌}
 use Rattle.std.proofs.lemmas.Bool.Decides.{nat_tests}
 use Rattle.std.proofs.lemmas.List.{append-nil}
 use Rattle.std.specs.Cmp.{IsEquivalence, IsPartialOrder, IsTotalOrder}
@@ -43,7 +8,7 @@ use Rattle.std.specs.declared.cmp.Ordering.{Ordering}
 use Rattle.std.specs.declared.cmp.Ordering.TheVariants.{Equal}
 use Rattle.std.specs.Cmp.Derive.{both_true}
 use Rattle.std.specs.Ordering.{partial_ge}
-use Rattle.raft_base.specs.LogId.{id_le, id_lt, index_of, next_index}
+use Rattle.raft_base.specs.LogId.{id_lt, index_of, next_index}
 use Rattle.raft_base.specs.LogIndex.{index_le, index_lt}
 use Rattle.raft_base.specs.UTime.{moment_of, utime_of}
 use Rattle.raft_base.specs.Vote.{vote_cmp}
@@ -67,47 +32,20 @@ use Rattle.raft_handlers.specs.Entries.{
   log_with_new,
   IsNewRefusal,
 }
-use Rattle.raft_handlers.specs.Restart.{
-  entries_past,
-  snapshot_fits,
-  snapshot_ids,
-  snapshot_membership,
-  AppendsStored,
-  AreSnapshotMemberships,
-  CommitsKnown,
-  HasSnapshotAlone,
-  IsMembershipAt,
-  IsRestartRefusal,
-  IsSnapshotAt,
-}
+use Rattle.raft_handlers.specs.Restart.{entries_past, snapshot_fits, snapshot_ids, snapshot_membership, AppendsStored, CommitsKnown, HasSnapshotAlone, IsMembershipAt, IsRestartRefusal, IsSnapshotAt}
 use Rattle.raft_handlers.specs.declared.error.HandlerError.{HandlerError}
 use Rattle.raft_members.specs.membership.Stored.{log_id_of}
-use Rattle.raft_members.specs.declared.membership.stored.StoredMembershipOf.{StoredMembershipOf}
 use Rattle.raft_state.proofs.lemmas.log_id_list.IdOrderLemmas.{none_at_most}
 use Rattle.raft_progress.proofs.lemmas.OrderLemmas.{AtMost-refl, not_lt-from_AtMost}
 use Rattle.raft_state.specs.Accepted.{accepted_from}
 use Rattle.raft_state.specs.SnapshotMeta.{IsSnapshotCopy}
 use Rattle.raft_state.specs.log_id_list.FullLog.{full_log}
-use Rattle.raft_state.specs.log_id_list.LogEdits.{front, log_after_purge}
-use Rattle.raft_state.specs.log_id_list.LogReads.{id_at, last_id}
+use Rattle.raft_state.specs.log_id_list.LogEdits.{front}
+use Rattle.raft_state.specs.log_id_list.LogReads.{last_id}
 use Rattle.raft_state.specs.membership_state.MembershipMoves.{after_commit, may_commit}
 use Rattle.raft_state.specs.membership_state.Memberships.{index_at, IsNoMembership, Memberships}
 use Rattle.raft_state.specs.raft_state.Commit.{state_after_commit, state_may_commit}
-use Rattle.raft_state.specs.raft_state.Install.{
-  is_logged,
-  is_not_above,
-  is_not_past,
-  is_past_committed,
-  keeps_committed as loses_no_membership,
-  keeps_effective,
-  log_after_install,
-  log_to_keep,
-  may_accept,
-  may_install,
-  may_install_to,
-  memberships_after_install,
-  state_after_install,
-}
+use Rattle.raft_state.specs.raft_state.Install.{is_logged, is_not_above, is_not_past, log_after_install, may_accept, may_install, state_after_install}
 use Rattle.raft_state.specs.raft_state.NewState.{HasNewVote, IsNewState}
 use Rattle.raft_state.specs.raft_state.StateView.{view_of, vote_of}
 use Rattle.raft_state.specs.raft_state.Valid.{none_or_logged}

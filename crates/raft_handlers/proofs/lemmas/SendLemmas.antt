@@ -3,9 +3,8 @@ use Rattle.std.specs.Prelude.{◌≡◌, ℕ, Bool, true, false, Option, Some, N
 use Rattle.std.specs.Borrow.{Bor}
 use Rattle.std.specs.declared.cmp.Ordering.{Ordering}
 use Rattle.std.proofs.Common.{ap, sym, subst, ◌∙◌}
-use Rattle.raft_base.specs.LogId.{id_le, next_index}
+use Rattle.raft_base.specs.LogId.{next_index}
 use Rattle.raft_base.specs.LogView.{LogView}
-use Rattle.raft_base.specs.declared.log_id.LogIdOf.{LogIdOf}
 use Rattle.raft_progress.specs.entry.EntryTable.{entry_after_conflict, with_search_end}
 use Rattle.raft_progress.specs.entry.Send.{IsSent, can_be_sent, idle_send_table, send_table}
 use Rattle.raft_progress.specs.inflight.Inflight.{is_idle}
@@ -15,7 +14,6 @@ use Rattle.raft_progress.specs.declared.inflight.InflightError.{InflightError}
 use Rattle.raft_progress.specs.declared.inflight.InflightOf.{InflightOf}
 use Rattle.raft_handlers.specs.Leadership.{after_request, sent}
 use Rattle.raft_handlers.specs.Responses.{refused}
-use Rattle.raft_handlers.specs.declared.error.HandlerError.{HandlerError}
 use Rattle.raft_handlers.specs.declared.error.HandlerError.TheVariants.{ResponseRefused}
 
 -- of the two that a choice among three gives as Ok, what holds of both

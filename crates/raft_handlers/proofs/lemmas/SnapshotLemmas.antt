@@ -1,6 +1,6 @@
 -- What an install leaves, and why it is refused.
-use Rattle.std.proofs.Common.{◌≡◌, Bool, List, Option, Some, None, refl, ap, sym, ◌∙◌}
-use Rattle.std.specs.Prelude.{IfErr, IfSome, Result, Ok, Err}
+use Rattle.std.proofs.Common.{◌≡◌, Bool, Option, Some, None, ap, ◌∙◌}
+use Rattle.std.specs.Prelude.{IfSome, Result, Ok, Err}
 use Rattle.std.specs.Cmp.{IsEquivalence}
 use Rattle.std.specs.declared.cmp.Ordering.{Ordering}
 use Rattle.raft_base.specs.declared.log_id.LogIdOf.{LogIdOf}

@@ -1,27 +1,6 @@
 -- A log that has its first entry alone, and why a start is refused.
-use Rattle.std.proofs.Common.{
-  ◌≡◌,
-  Bool,
-  true,
-  false,
-  ◌&&◌,
-  List,
-  [],
-  ◌∷◌,
-  Option,
-  Some,
-  None,
-  nat_eq,
-  nat_lt,
-  refl,
-  ap,
-  arith,
-  true≢false,
-  sym,
-  ◌∙◌,
-}
+use Rattle.std.proofs.Common.{◌≡◌, Bool, true, false, ◌&&◌, List, [], ◌∷◌, Option, Some, None, refl, true≢false, sym}
 use Rattle.std.proofs.lemmas.Bool.{and_parts}
-use Rattle.std.proofs.lemmas.Bool.Decides.{nat_tests}
 use Rattle.std.specs.Prelude.{is_some, IfOk, Result, Ok, Err}
 use Rattle.std.specs.Result.{is_err}
 use Rattle.std.specs.declared.cmp.Ordering.{Ordering}

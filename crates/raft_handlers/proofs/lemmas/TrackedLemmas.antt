@@ -1,14 +1,13 @@
 -- What an update of a tracked progress writes, if the id is known and its part does not fall.
-use Rattle.std.specs.Prelude.{◌≡◌, Bool, true, false, ◌||◌, List, Option, Some, None, refl}
-use Rattle.std.specs.Set.{is_member}
+use Rattle.std.specs.Prelude.{◌≡◌, Bool, true, false, Option, Some, None, refl}
 use Rattle.std.specs.declared.cmp.Ordering.{Ordering}
 use Rattle.std.proofs.Common.{sym, subst, ◌∙◌, true≢false}
-use Rattle.raft_progress.specs.progress.NewProgress.{HasClone, IsNew}
-use Rattle.raft_progress.specs.progress.ProgressState.{IsSame, ProgressState, Writes}
+use Rattle.raft_progress.specs.progress.NewProgress.{HasClone}
+use Rattle.raft_progress.specs.progress.ProgressState.{Writes}
 use Rattle.raft_progress.specs.progress.Shown.{state}
 use Rattle.raft_progress.specs.progress.Steps.{IsWritten, falls}
 use Rattle.raft_progress.specs.tracked.SingleSteps.{IsTrackedUpdate}
-use Rattle.raft_progress.specs.tracked.TrackedState.{TrackedShown, has_quorum, is_voter, tracked_state}
+use Rattle.raft_progress.specs.tracked.TrackedState.{TrackedShown, has_quorum}
 use Rattle.raft_progress.specs.tracked.TrackedNew.{BeginsOver}
 use Rattle.raft_progress.specs.declared.progress.steps.Reply.{Reply}
 use Rattle.raft_progress.specs.declared.progress.steps.Reply.TheVariants.{

@@ -1,10 +1,9 @@
 -- What a vote that is counted changes.
 use Rattle.std.specs.Prelude.{◌≡◌, Bool, true, false, ◌&&◌, ◌||◌, cond, Option, Some, None, is_some, refl}
 use Rattle.std.specs.Cmp.{IsEquivalence}
-use Rattle.std.specs.Map.{update}
 use Rattle.std.specs.Option.{option_map_or}
 use Rattle.std.specs.Ordering.{bool_cmp, is_lt}
-use Rattle.std.proofs.Common.{ap, sym, subst, ◌∙◌, true≢false}
+use Rattle.std.proofs.Common.{ap, sym, ◌∙◌, true≢false}
 use Rattle.raft_progress.specs.progress.Shown.{state}
 use Rattle.raft_progress.specs.tracked.SingleSteps.{IsTrackedUpdate}
 use Rattle.raft_progress.specs.tracked.TrackedState.{TrackedShown}

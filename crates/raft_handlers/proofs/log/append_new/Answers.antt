@@ -1,4 +1,4 @@
-use Rattle.std.proofs.Common.{◌≡◌, ◌∙◌, Some, None, refl, sym, ap, ◌&&◌}
+use Rattle.std.proofs.Common.{◌≡◌, ◌∙◌, Some, refl, sym, ap}
 use Rattle.std.proofs.lemmas.Bool.{and_parts}
 use Rattle.std.proofs.lemmas.Result.{on_ok_weaker}
 use Rattle.std.specs.Prelude.{slice_get}
@@ -15,7 +15,6 @@ use Rattle.raft_handlers.proofs.EntryLemmas.{
   replaced_first,
   same_log_itself,
 }
-use Rattle.raft_handlers.specs.Append.{KeepsBelow}
 use Rattle.raft_members.specs.membership.Stored.{log_id_of}
 use Rattle.raft_state.proofs.lemmas.log_id_list.KeptLemmas.{front_reads}
 use Rattle.raft_state.proofs.lemmas.sound.LoggedIds.{is_logged, same_itself}

@@ -1,6 +1,5 @@
 use Rattle.std.proofs.Common.{◌≡◌, [], ◌∷◌, ◌++◌, List, ap, rules, sym, ◌∙◌}
 use Rattle.std.proofs.lemmas.Bool.{or_parts}
-use Rattle.raft_state.specs.entry.Entry.{payload_membership}
 use Rattle.raft_state.specs.log_id_list.FullLog.{full_log}
 use Rattle.raft_state.specs.raft_state.StateView.{vote_of}
 use Rattle.raft_state.specs.declared.entry.EntryOf.{EntryOf}
@@ -9,7 +8,6 @@ use Rattle.raft_members.specs.membership.Members.{members_of}
 use Rattle.raft_members.specs.membership.Stored.{log_id_of}
 use Rattle.raft_members.specs.membership.Valid.{IsValid}
 use Rattle.raft_handlers.specs.Start.{first_log_id}
-use Rattle.raft_handlers.proofs.lemmas.AppendLemmas.{appends_payload}
 use Rattle.raft_handlers.proofs.lemmas.StartLemmas.{comes_first, if_no_err, is_empty, only_one}
 use Rattle.raft_handlers.proofs.start.start_cluster.Goals as goal
 

@@ -1,4 +1,4 @@
-use Rattle.std.proofs.Common.{◌≡◌, ap, ◌∙◌}
+use Rattle.std.proofs.Common.{ap, ◌∙◌}
 use Rattle.raft_progress.specs.tracked.Tracked.{tracked}
 use Rattle.raft_handlers.specs.Leadership.{unknown_entry}
 use Rattle.raft_handlers.proofs.lemmas.ChangeLemmas.{begins_value, keeps_value}
