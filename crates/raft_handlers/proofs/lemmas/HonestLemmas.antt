@@ -49,7 +49,20 @@ use Rattle.raft_base.specs.LogIndex.{index_le, index_lt}
 use Rattle.raft_base.specs.declared.log_id.LogIdOf.{LogIdOf}
 use Rattle.raft_handlers.proofs.EntryLemmas.{same_through}
 use Rattle.raft_handlers.specs.Append.{has_entry, last_of, least, may_cut_at, may_take, new_of}
-use Rattle.raft_handlers.specs.Entries.{allows_commit, effective_below, effective_with, ends_before as log_ends_before, entry_ids, has_id, has_with, last_below, may_append_after, may_commit_with, may_cut, may_take_new}
+use Rattle.raft_handlers.specs.Entries.{
+  allows_commit,
+  effective_below,
+  effective_with,
+  ends_before as log_ends_before,
+  entry_ids,
+  has_id,
+  has_with,
+  last_below,
+  may_append_after,
+  may_commit_with,
+  may_cut,
+  may_take_new,
+}
 use Rattle.raft_handlers.specs.Honest.{known_end, HasBelow, IsLeadersLog, IsPieceOf}
 use Rattle.raft_members.specs.membership.Stored.{log_id_of}
 use Rattle.raft_progress.proofs.lemmas.OrderLemmas.{AtMost-from_lt, AtMost-refl, AtMost-trans, not_lt-from_AtMost}
@@ -61,7 +74,16 @@ use Rattle.raft_state.proofs.lemmas.log_id_list.KeptLemmas.{from_end, has_id_at}
 use Rattle.raft_state.proofs.lemmas.log_id_list.KeyListLemmas.{IsKeyList}
 use Rattle.raft_state.proofs.lemmas.log_id_list.OrderLemmas.{From, index_within, never_fall_by_index}
 use Rattle.raft_state.proofs.lemmas.log_id_list.SameLogLemmas.{equal_found}
-use Rattle.raft_state.proofs.lemmas.sound.LoggedIds.{either_second, ends_before, ends_not_past, found_below, in_log, in_order, is_kept, within}
+use Rattle.raft_state.proofs.lemmas.sound.LoggedIds.{
+  either_second,
+  ends_before,
+  ends_not_past,
+  found_below,
+  in_log,
+  in_order,
+  is_kept,
+  within,
+}
 use Rattle.raft_state.proofs.lemmas.sound.SoundCalls.{committed_in, purge_before, purge_point_in}
 use Rattle.raft_state.proofs.lemmas.validate.CommittedLemmas.{cut_past_committed}
 use Rattle.raft_state.proofs.lemmas.validate.RelationLemmas.{all_hold}
@@ -241,7 +263,8 @@ module _ {C : Type 0} (cmp : C → C → Ordering) (eq : C → C → Bool) (tota
       entries_follow l (e ∷ es) there own row =
           let at = first_after l e.log_id (entry_ids es) row in
           both_true (next l there at)
-          (entries_follow (Some e.log_id) es (own 0 e.log_id refl) (λ n id at. own (suc n) id at) (rest_after l e.log_id (entry_ids es) row))
+          (entries_follow (Some e.log_id) es (own 0 e.log_id refl) (λ n id at. own (suc n) id at)
+          (rest_after l e.log_id (entry_ids es) row))
         where
           next : (l : Option (LogIdOf C)) → in_log eq (full_log ks) l ≡ true → e.log_id.index ≡ next_index l
               → follows cmp l e.log_id ≡ true
@@ -353,7 +376,8 @@ module _ {C : Type 0} (cmp : C → C → Ordering) (eq : C → C → Bool) (tota
     may_cut_fresh : (x : LogIdOf C) → in_log eq (full_log ks) (Some x) ≡ true → purged_or_logged eq s (Some x) ≡ false
         → (s.purged_next ≤ x.index) × (may_cut cmp x.index s ≡ true)
     may_cut_fresh x there fresh =
-        let apart = or_parts (nat_le (x.index + 1) s.purged_next) (in_log eq (full_log s.log_ids) (Some x)) (sym (is_kept eq s (Some x)) ∙ fresh) in
+        let apart = or_parts (nat_le (x.index + 1) s.purged_next) (in_log eq (full_log s.log_ids) (Some x))
+        (sym (is_kept eq s (Some x)) ∙ fresh) in
         let apart0 = apart.0 in
         let past : s.purged_next ≤ x.index = grind (arith, nat_tests) in
         (past, by (log_ends_before x.index s) refl past apart.1)

@@ -1,5 +1,34 @@
 -- A server that has a snapshot alone, and the entries past it.
-use Rattle.std.proofs.Common.{◌≡◌, ℕ, ◌+◌, ◌^◌, ◌≤◌, Bool, true, false, ◌&&◌, List, [], ◌∷◌, ◌++◌, Option, Some, None, if◌then◌else◌, nat_eq, nat_le, nat_lt, not, refl, sym, subst, ap, arith, true≢false, ◌∙◌}
+use Rattle.std.proofs.Common.{
+  ◌≡◌,
+  ℕ,
+  ◌+◌,
+  ◌^◌,
+  ◌≤◌,
+  Bool,
+  true,
+  false,
+  ◌&&◌,
+  List,
+  [],
+  ◌∷◌,
+  ◌++◌,
+  Option,
+  Some,
+  None,
+  if◌then◌else◌,
+  nat_eq,
+  nat_le,
+  nat_lt,
+  not,
+  refl,
+  sym,
+  subst,
+  ap,
+  arith,
+  true≢false,
+  ◌∙◌,
+}
 use Rattle.std.proofs.lemmas.Bool.Decides.{nat_tests}
 use Rattle.std.proofs.lemmas.List.{append-nil}
 use Rattle.std.specs.Cmp.{IsEquivalence, IsPartialOrder, IsTotalOrder}
@@ -32,7 +61,18 @@ use Rattle.raft_handlers.specs.Entries.{
   log_with_new,
   IsNewRefusal,
 }
-use Rattle.raft_handlers.specs.Restart.{entries_past, snapshot_fits, snapshot_ids, snapshot_membership, AppendsStored, CommitsKnown, HasSnapshotAlone, IsMembershipAt, IsRestartRefusal, IsSnapshotAt}
+use Rattle.raft_handlers.specs.Restart.{
+  entries_past,
+  snapshot_fits,
+  snapshot_ids,
+  snapshot_membership,
+  AppendsStored,
+  CommitsKnown,
+  HasSnapshotAlone,
+  IsMembershipAt,
+  IsRestartRefusal,
+  IsSnapshotAt,
+}
 use Rattle.raft_handlers.specs.declared.error.HandlerError.{HandlerError}
 use Rattle.raft_members.specs.membership.Stored.{log_id_of}
 use Rattle.raft_state.proofs.lemmas.log_id_list.IdOrderLemmas.{none_at_most}
@@ -45,7 +85,15 @@ use Rattle.raft_state.specs.log_id_list.LogReads.{last_id}
 use Rattle.raft_state.specs.membership_state.MembershipMoves.{after_commit, may_commit}
 use Rattle.raft_state.specs.membership_state.Memberships.{index_at, IsNoMembership, Memberships}
 use Rattle.raft_state.specs.raft_state.Commit.{state_after_commit, state_may_commit}
-use Rattle.raft_state.specs.raft_state.Install.{is_logged, is_not_above, is_not_past, log_after_install, may_accept, may_install, state_after_install}
+use Rattle.raft_state.specs.raft_state.Install.{
+  is_logged,
+  is_not_above,
+  is_not_past,
+  log_after_install,
+  may_accept,
+  may_install,
+  state_after_install,
+}
 use Rattle.raft_state.specs.raft_state.NewState.{HasNewVote, IsNewState}
 use Rattle.raft_state.specs.raft_state.StateView.{view_of, vote_of}
 use Rattle.raft_state.specs.raft_state.Valid.{none_or_logged}
@@ -233,7 +281,8 @@ module _ {K N I L C : Type 0} (id_eq : K → K → Bool) (same : N → N → Boo
         let members = has_memberships_in_order cmp effective new
         && allows_commit_past cmp (effective_with effective new) meta.last_log_id committed in
         let has = has_committed_with eq cmp (snapshot_ids meta.last_log_id) meta.last_log_id new committed in
-        rw is (refused_unless_more true true order members has (snapshot_fits cmp meta.last_log_id meta.last_membership) true order members has
+        rw is (refused_unless_more true true order members has
+        (snapshot_fits cmp meta.last_log_id meta.last_membership) true order members has
         (λ h. absurd (true≢false h)) (λ h. h) (λ h. h) (λ h. h) (λ h. h) e
         (rw (b.3, b.1, b.2, alone.log, alone.committed) at refused))
 

@@ -40,10 +40,11 @@ module _ {K N C : Type 0} (id_eq : K → K → Bool) (same : N → N → Bool) (
     rest = by meta.last_log_id (rw copied.last_log_id at ok);
   }
     where
-      by : (o : Option (LogIdOf C)) → IfSome o (λ upto. new ≡ record (state_after_install same_leader cmp eq upto copy.last_membership old) {
-        log_ids = new.log_ids;
-        snapshot_meta = new.snapshot_meta;
-      }) → IfSome o (λ upto. (given : SnapshotMetaOf C K N) × IsSnapshotCopy id_eq same meta given
+      by : (o : Option (LogIdOf C)) → IfSome o
+          (λ upto. new ≡ record (state_after_install same_leader cmp eq upto copy.last_membership old) {
+            log_ids = new.log_ids;
+            snapshot_meta = new.snapshot_meta;
+          }) → IfSome o (λ upto. (given : SnapshotMetaOf C K N) × IsSnapshotCopy id_eq same meta given
           × (new ≡ record (state_after_install same_leader cmp eq upto given.last_membership old) {
             log_ids = new.log_ids;
             snapshot_meta = new.snapshot_meta;
@@ -57,7 +58,8 @@ pub refused_ok : {A B : Type 0} (o : Option HandlerError) (r : Result A HandlerE
 refused_ok None r a b is h = tt
 refused_ok (Some e) r a b is h = cc
 
-pub refused_err : {A : Type 0} (B : Type 0) (o : Option HandlerError) (r : Result A HandlerError) (e : HandlerError) → r ≡ Err e → RefusedFor o r
+pub refused_err : {A : Type 0} (B : Type 0) (o : Option HandlerError) (r : Result A HandlerError)
+    (e : HandlerError) → r ≡ Err e → RefusedFor o r
     → RefusedFor o (let out : Result B HandlerError = Err e in out)
 refused_err B None r e is h = rw is at h
 refused_err B (Some d) r e is h = let same : e ≡ d = cc in ap (λ x. (let out : Result B HandlerError = Err x in out)) same

@@ -12,7 +12,8 @@ returns-in-Ok-clause-refused g c =
     let s = c.args.state.now in
     let leader = c.args.request.now.leader_id in
     let order = g.L.LeaderIdentity.order in
-    let followed : partial_ge (vote_cmp order) (elected leader) (vote_of s) ≡ true = sym (rw c.vote_ref.ensures at c.ge.ensures) ∙ c.if-ge.true in
+    let followed : partial_ge (vote_cmp order) (elected leader) (vote_of s) ≡ true =
+    sym (rw c.vote_ref.ensures at c.ge.ensures) ∙ c.if-ge.true in
     let is = rw (c.promise-promised.ensures.answer ∙ followed) at c.promise-promised.ensures.taken in
     rw followed (refused_ok
     (install_refusal order g.L.Committed.Ord.cmp g.L.Committed.PartialEq.eq c.args.request.now.meta (following leader s))
@@ -23,7 +24,8 @@ returns-in-Err-clause-refused g c =
     let s = c.args.state.now in
     let leader = c.args.request.now.leader_id in
     let order = g.L.LeaderIdentity.order in
-    let followed : partial_ge (vote_cmp order) (elected leader) (vote_of s) ≡ true = sym (rw c.vote_ref.ensures at c.ge.ensures) ∙ c.if-ge.true in
+    let followed : partial_ge (vote_cmp order) (elected leader) (vote_of s) ≡ true =
+    sym (rw c.vote_ref.ensures at c.ge.ensures) ∙ c.if-ge.true in
     let is = rw (c.promise-promised.ensures.answer ∙ followed) at c.promise-promised.ensures.taken in
     rw followed (refused_err _
     (install_refusal order g.L.Committed.Ord.cmp g.L.Committed.PartialEq.eq c.args.request.now.meta (following leader s))

@@ -24,7 +24,8 @@ pub returns-then-not-are_ids_distinct-clause-answer : goal.returns-then-not-are_
 returns-then-not-are_ids_distinct-clause-answer g c = (
   (λ f. absurd (true≢false (sym f))),
   (λ r. absurd (true≢false
-      (sym (test_from_distinct g.met.ID.Eq.laws c.args.self.now.walk.items r.distinct) ∙ sym (rw c.deref.ensures.value at c.are_ids_distinct.ensures)
+      (sym (test_from_distinct g.met.ID.Eq.laws c.args.self.now.walk.items r.distinct)
+      ∙ sym (rw c.deref.ensures.value at c.are_ids_distinct.ensures)
       ∙ c.if-not-are_ids_distinct.true))),
 )
 
@@ -46,7 +47,8 @@ returns-then-not-is_ordered-clause-answer g c =
 pub count-counted-requires-clause-distinct : goal.count-counted-requires-clause-distinct
 count-counted-requires-clause-distinct g c =
     let walk = c.args.self.now.walk.items in
-    let d = distinct_from_test g.met.ID.Eq.laws walk (sym (rw c.deref.ensures.value at c.are_ids_distinct.ensures) ∙ c.if-not-are_ids_distinct.false) in
+    let d = distinct_from_test g.met.ID.Eq.laws walk
+    (sym (rw c.deref.ensures.value at c.are_ids_distinct.ensures) ∙ c.if-not-are_ids_distinct.false) in
     rw c.deref-2.ensures.value (IsDistinct-voters g.met.ID.Eq.laws c.args.self.now.voter_count walk d)
 
 pub returns-clause-answer : goal.returns-clause-answer
@@ -58,7 +60,8 @@ returns-clause-answer g c =
     let falls = never_rises g.P.Ord.cmp g.V.ProgressPart.part_of c.args.self.now.granted voters in
     let low = list_all (at_least g.P.Ord.cmp g.V.ProgressPart.part_of c.args.self.now.default_part) voters in
     let d : IsDistinct g.ID.PartialEq.eq (keys_of walk) =
-    distinct_from_test g.met.ID.Eq.laws walk (sym (rw c.deref.ensures.value at c.are_ids_distinct.ensures) ∙ c.if-not-are_ids_distinct.false) in
+    distinct_from_test g.met.ID.Eq.laws walk
+    (sym (rw c.deref.ensures.value at c.are_ids_distinct.ensures) ∙ c.if-not-are_ids_distinct.false) in
     let s = state_of g.ID.PartialEq.eq c.args.self.now.quorum_set walk c.args.self.now.voter_count c.args.self.now.default_part in
     let k =
     IsCounted-from_greatest g.met.ID.Eq.laws g.met.P.Ord.total g.V.ProgressPart.part_of g.QS.QuorumSet.has_quorum c.args.self.now.quorum_set
