@@ -5,7 +5,7 @@ use raft_base::leader_id_std::{CommittedLeaderId, LeaderId, Vote};
 use raft_base::order::{
     compare_standard_leader_ids, compare_standard_log_ids, compare_standard_votes,
 };
-use raft_testing::growths::{is_free, refuse_each};
+use raft_testing::allocations::{is_free, refuse_each};
 use std::cmp::Ordering;
 use std::test::Fail;
 

@@ -1,7 +1,7 @@
 //! Log ids.
 
 use raft_base::{CommittedLeaderId, LeaderId, LogId};
-use raft_testing::growths::{is_free, refuse_each};
+use raft_testing::allocations::{is_free, refuse_each};
 use std::cmp::Ordering;
 use std::test::Fail;
 

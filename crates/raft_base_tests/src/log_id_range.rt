@@ -1,7 +1,7 @@
 //! Ranges of logs.
 
 use raft_base::{Invalid, LeaderId, LogId, LogIdOf, LogIdRange, Validate};
-use raft_testing::growths::{is_free, refuse_each};
+use raft_testing::allocations::{is_free, refuse_each};
 use raft_testing::plain_log::id;
 use raft_testing::printing::{debugs, displays};
 use std::alloc::{AllocError, Global};

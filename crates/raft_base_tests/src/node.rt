@@ -3,7 +3,7 @@ ghost use Rattle.std.specs.Prelude.{◌≡◌, IfOk};
 
 use raft_base::{BasicNode, EmptyNode, LeaderId, Node, NodeDefault, Vote};
 use raft_testing::address::Address;
-use raft_testing::growths::is_compared;
+use raft_testing::allocations::is_compared;
 use raft_testing::printing::displays;
 use std::alloc::{AllocError, Global};
 use std::fmt;

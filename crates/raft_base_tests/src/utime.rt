@@ -5,7 +5,7 @@ ghost use Rattle.std.specs.Ordering.{is_ge};
 ghost use Rattle.std.specs.Prelude.{if◌then◌else◌, ◌≡◌, Some};
 
 use raft_base::{Instant, UTime};
-use raft_testing::growths::{is_free, refuse_each};
+use raft_testing::allocations::{is_free, refuse_each};
 use std::alloc::{AllocError, Global};
 use std::test::Fail;
 

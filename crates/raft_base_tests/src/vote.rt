@@ -8,7 +8,7 @@ ghost use Rattle.std.specs.Prelude.{◌&&◌, ◌≡◌, IsTrue, Some, false, tr
 use raft_base::{
     CommittedLeaderId, LeaderAdv, LeaderId, LeaderKind, LogId, LogIdOf, NodeId, Vote, VoteOf,
 };
-use raft_testing::growths::{is_free, refuse_each};
+use raft_testing::allocations::{is_free, refuse_each};
 use std::cmp::Ordering;
 use std::test::Fail;
 

@@ -6,8 +6,8 @@ use Rattle.raft_base.specs.declared.log_id.LogIdOf.{LogIdOf}
 use Rattle.raft_base.specs.declared.vote.VoteIn.{VoteIn}
 use Rattle.raft_members.specs.quorum.Majority.{is_joint_majority, is_voter_of}
 use Rattle.raft_members.specs.membership.Stored.{membership_of}
-use Rattle.raft_progress.specs.progress.Shown.{state}
-use Rattle.raft_progress.specs.tracked.TrackedState.{TrackedShown}
+use Rattle.raft_progress.specs.progress.ProgressView.{state}
+use Rattle.raft_progress.specs.tracked.TrackedState.{TrackedView}
 use Rattle.raft_state.specs.membership_state.Memberships.{Memberships}
 use Rattle.raft_handlers.specs.declared.message.VoteResponse.{VoteResponse}
 
@@ -16,7 +16,7 @@ pub record Campaign (K N L C : Type 0) : Type 0 where
   pub id : K
   pub vote : VoteIn L
   pub last_log_id : Option (LogIdOf C)
-  pub votes : TrackedShown K N Bool Bool
+  pub votes : TrackedView K N Bool Bool
 
 module _ {K N L C : Type 0} (eq : K → K → Bool) where
   -- whether an id is a member of the membership that votes are counted by

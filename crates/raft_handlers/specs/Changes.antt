@@ -3,8 +3,8 @@ use Rattle.std.specs.Prelude.{◌≡◌, ℕ, Bool, true, Some, None, Option, is
 use Rattle.raft_base.specs.declared.log_id.LogIdOf.{LogIdOf}
 use Rattle.raft_handlers.specs.Leadership.{Leadership, unknown_entry}
 use Rattle.raft_members.specs.membership.Members.{MemberList, same_members}
-use Rattle.raft_progress.specs.progress.Shown.{state}
-use Rattle.raft_progress.specs.tracked.TrackedState.{TrackedShown}
+use Rattle.raft_progress.specs.progress.ProgressView.{state}
+use Rattle.raft_progress.specs.tracked.TrackedState.{TrackedView}
 use Rattle.raft_progress.specs.declared.entry.ProgressEntryOf.{ProgressEntryOf}
 use Rattle.raft_state.specs.declared.entry.payload.EntryPayload.{EntryPayload}
 use Rattle.raft_state.specs.declared.entry.payload.EntryPayload.TheVariants.{Blank, Normal, Membership}
@@ -12,7 +12,7 @@ use Rattle.raft_state.specs.declared.entry.payload.EntryPayload.TheVariants.{Bla
 module _ {K N C : Type 0} (eq : K → K → Bool) where
   -- who stays a member keeps what is known of it, and of a new member nothing is known but that its
   -- log does not match from an index on
-  pub record KeepsValues (end : ℕ) (old new : TrackedShown K N (ProgressEntryOf C) (Option (LogIdOf C)))
+  pub record KeepsValues (end : ℕ) (old new : TrackedView K N (ProgressEntryOf C) (Option (LogIdOf C)))
       : Type 0 where
     pub kept : (id : K) (entry : ProgressEntryOf C)
         → (state eq old.progress).value id ≡ Some entry

@@ -43,7 +43,7 @@ use Rattle.raft_state.specs.log_id_list.LogEdits.{front}
 use Rattle.raft_state.specs.log_id_list.LogReads.{id_at, last_id}
 use Rattle.raft_state.specs.membership_state.MembershipMoves.{after_truncate}
 use Rattle.raft_state.specs.membership_state.Memberships.{Memberships}
-use Rattle.raft_state.specs.raft_state.Truncate.{may_truncate}
+use Rattle.raft_state.specs.raft_state.Truncate.{can_truncate_log}
 use Rattle.raft_state.specs.declared.entry.EntryOf.{EntryOf}
 use Rattle.raft_state.specs.declared.raft_state.RaftStateIn.{RaftStateIn}
 
@@ -65,7 +65,7 @@ ends_before since s = index_lt (index_of (last_id (full_log s.log_ids))) (Some s
 
 -- the log may be truncated at an index, or ends before it
 abbrev pub may_cut : {K N I L C : Type 0} → (C → C → Ordering) → ℕ → RaftStateIn K N I L C → Bool
-may_cut cmp since s = ends_before since s || may_truncate cmp since s
+may_cut cmp since s = ends_before since s || can_truncate_log cmp since s
 
 -- the last log id below an index
 abbrev pub last_below : {K N I L C : Type 0} → ℕ → RaftStateIn K N I L C → Option (LogIdOf C)

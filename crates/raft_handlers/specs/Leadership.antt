@@ -12,11 +12,11 @@ use Rattle.raft_members.specs.membership.Members.{members_of}
 use Rattle.raft_members.specs.quorum.Reached.{EachQuorumKnows}
 use Rattle.raft_members.specs.membership.Stored.{membership_of}
 use Rattle.raft_members.specs.declared.change_members.ChangeMembers.{ChangeMembers}
-use Rattle.raft_progress.specs.entry.Send.{can_be_sent, send_table}
+use Rattle.raft_progress.specs.entry.Send.{can_send, send_table}
 use Rattle.raft_progress.specs.progress.CountedValue.{has_part}
-use Rattle.raft_progress.specs.progress.Shown.{state}
+use Rattle.raft_progress.specs.progress.ProgressView.{state}
 use Rattle.raft_progress.specs.tracked.Known.{QuorumsKnow}
-use Rattle.raft_progress.specs.tracked.TrackedState.{TrackedShown}
+use Rattle.raft_progress.specs.tracked.TrackedState.{TrackedView}
 use Rattle.raft_progress.specs.declared.entry.ProgressEntryOf.{ProgressEntryOf}
 use Rattle.raft_progress.specs.declared.inflight.InflightOf.TheVariants.{None as Idle}
 use Rattle.raft_handlers.specs.declared.error.HandlerError.{HandlerError}
@@ -24,7 +24,7 @@ use Rattle.raft_handlers.specs.declared.error.HandlerError.TheVariants.{Membersh
 use Rattle.raft_state.specs.raft_state.Commit.{state_commits, state_may_commit}
 use Rattle.raft_state.specs.log_id_list.FullLog.{end_index, full_log}
 use Rattle.raft_state.specs.membership_state.Memberships.{Memberships}
-use Rattle.raft_state.specs.raft_state.StateView.{view_of, vote_of}
+use Rattle.raft_state.specs.raft_state.VoteAndLog.{log_view_of, vote_of}
 use Rattle.raft_state.specs.raft_state.Valid.{none_or_logged}
 use Rattle.raft_state.specs.declared.raft_state.RaftStateIn.{RaftStateIn}
 
@@ -32,7 +32,7 @@ use Rattle.raft_state.specs.declared.raft_state.RaftStateIn.{RaftStateIn}
 pub record Leadership (K N C : Type 0) : Type 0 where
   pub id : K
   pub leader_id : C
-  pub followers : TrackedShown K N (ProgressEntryOf C) (Option (LogIdOf C))
+  pub followers : TrackedView K N (ProgressEntryOf C) (Option (LogIdOf C))
 
 -- the last log id that a quorum has
 abbrev pub granted_by : {K N C : Type 0} → Leadership K N C → Option (LogIdOf C)
@@ -114,7 +114,7 @@ sent (Err entry) = None
 abbrev pub after_request : {C : Type 0} → (C → C → Ordering) → ProgressEntryOf C → LogView C → ℕ
     → Option (ProgressEntryOf C)
 after_request cmp entry log max_entries =
-    if can_be_sent entry log then sent (send_table cmp entry log max_entries) else None
+    if can_send entry log then sent (send_table cmp entry log max_entries) else None
 
 -- what is known of a node whose log is on disk up to a log id, as the leader's own is
 abbrev pub flushed_entry : {C : Type 0} → Option (LogIdOf C) → ProgressEntryOf C
@@ -129,7 +129,7 @@ flushed_entry upto = record {
 -- the order of the log, or an allocation failed, which only the commit of a membership makes
 abbrev pub IsCommitRefusal : {K N I L C : Type 0} → (C → C → Bool) → (C → C → Ordering)
     → Option (LogIdOf C) → RaftStateIn K N I L C → HandlerError → Type 0
-IsCommitRefusal eq cmp granted s NotLogged = none_or_logged eq (view_of s) granted ≡ false
+IsCommitRefusal eq cmp granted s NotLogged = none_or_logged eq (log_view_of s) granted ≡ false
 IsCommitRefusal eq cmp granted s MembershipNotInOrder = state_may_commit cmp granted s ≡ false
 IsCommitRefusal eq cmp granted s OutOfMemory = state_commits cmp granted s ≡ true
 IsCommitRefusal eq cmp granted s refusal = ⊥

@@ -15,7 +15,7 @@ use Rattle.raft_members.specs.membership.Stored.{log_id_of}
 use Rattle.raft_members.specs.membership.Valid.{IsValid}
 use Rattle.raft_state.specs.log_id_list.FullLog.{full_log}
 use Rattle.raft_state.specs.raft_state.Leads.{is_initialized}
-use Rattle.raft_state.specs.raft_state.StateView.{vote_of}
+use Rattle.raft_state.specs.raft_state.VoteAndLog.{vote_of}
 use Rattle.raft_state.specs.declared.raft_state.RaftStateIn.{RaftStateIn}
 
 -- the log id of the first entry of a cluster: index 0, of the leader that the vote is for

@@ -16,7 +16,7 @@ ghost use Rattle.raft_state.specs.log_id_list.FullLog.{full_log};
 ghost use Rattle.raft_state.specs.log_id_list.LogEdits.{front};
 ghost use Rattle.raft_state.specs.log_id_list.LogReads.{last_id};
 ghost use Rattle.raft_state.specs.raft_state.Sound.{purged_or_logged, IsSound};
-ghost use Rattle.raft_state.specs.raft_state.StateView.{vote_of};
+ghost use Rattle.raft_state.specs.raft_state.VoteAndLog.{vote_of};
 
 use crate::error::HandlerError;
 use crate::laws::honest_request_may_be_taken;

@@ -9,7 +9,7 @@ ghost use Rattle.raft_state.specs.log_id_list.FullLog.{full_log};
 ghost use Rattle.raft_state.specs.log_id_list.LogReads.{last_id};
 ghost use Rattle.raft_state.specs.membership_state.Memberships.{in_effect};
 ghost use Rattle.raft_state.specs.raft_state.Sound.{IsSound};
-ghost use Rattle.raft_state.specs.raft_state.StateView.{vote_of};
+ghost use Rattle.raft_state.specs.raft_state.VoteAndLog.{vote_of};
 
 use crate::error::HandlerError;
 use crate::message::{VoteRequest, VoteResponse};
@@ -36,7 +36,7 @@ pub struct Candidate<NID: NodeId, N: Node, L, C> {
 impl<NID: NodeId, N: Node, L, C> Model for Candidate<NID, N, L, C> {
     ghost use Rattle.std.specs.Prelude.{◌≡◌, false};
     ghost use Rattle.raft_handlers.specs.Campaign.{Campaign};
-    ghost use Rattle.raft_progress.specs.tracked.Tracked.{tracked};
+    ghost use Rattle.raft_progress.specs.tracked.Tracked.{tracked_view};
 
     ghost Value = { Campaign NID N L C };
 
@@ -44,10 +44,10 @@ impl<NID: NodeId, N: Node, L, C> Model for Candidate<NID, N, L, C> {
       id = a.id;
       vote = a.vote;
       last_log_id = a.last_log_id;
-      votes = tracked a.votes;
+      votes = tracked_view a.votes;
     } };
 
-    ghost invariant = { λ a. (tracked a.votes).progress.default_part ≡ false };
+    ghost invariant = { λ a. (tracked_view a.votes).progress.default_part ≡ false };
 }
 
 impl<

@@ -5,7 +5,7 @@ ghost use Rattle.raft_base.specs.UTime.{moment_of, utime_of};
 ghost use Rattle.raft_handlers.specs.Campaign.{HasMajorities, same_vote};
 ghost use Rattle.raft_handlers.specs.Leadership.{KnowsNothing, leads};
 ghost use Rattle.raft_state.specs.raft_state.Sound.{IsSound};
-ghost use Rattle.raft_state.specs.raft_state.StateView.{vote_of};
+ghost use Rattle.raft_state.specs.raft_state.VoteAndLog.{vote_of};
 
 mod change;
 mod commit;
@@ -42,14 +42,14 @@ where
     ProgressEntryOf<C>: ProgressPart<Option<LogIdOf<C>>>,
 {
     ghost use Rattle.raft_handlers.specs.Leadership.{Leadership};
-    ghost use Rattle.raft_progress.specs.tracked.Tracked.{tracked};
+    ghost use Rattle.raft_progress.specs.tracked.Tracked.{tracked_view};
 
     ghost Value = { Leadership NID N C };
 
     ghost view = { λ a. record {
       id = a.id;
       leader_id = a.leader_id;
-      followers = tracked a.followers;
+      followers = tracked_view a.followers;
     } };
 }
 

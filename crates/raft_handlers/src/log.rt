@@ -15,7 +15,7 @@ ghost use Rattle.raft_state.specs.log_id_list.LogReads.{last_id};
 ghost use Rattle.raft_state.specs.raft_state.Commit.{state_after_commit, state_may_commit};
 ghost use Rattle.raft_state.specs.membership_state.MembershipMoves.{after_commit};
 ghost use Rattle.raft_state.specs.raft_state.Sound.{purged_or_logged, IsSound};
-ghost use Rattle.raft_state.specs.raft_state.StateView.{view_of};
+ghost use Rattle.raft_state.specs.raft_state.VoteAndLog.{log_view_of};
 ghost use Rattle.raft_state.specs.raft_state.Valid.{none_or_logged};
 
 use crate::error::HandlerError;
@@ -351,7 +351,7 @@ fn commit<NID: NodeId, N: Node, I: Instant, L: Drop, C: Ord + Copy + Drop>(
     ensures memory { IfErr result (λ e. e ≡ OutOfMemory) }
     ensures sound { IsSound C.eq C.cmp state.old →
         (IsTrue (id_lt C.cmp state.old.committed committed) →
-        IsTrue (none_or_logged C.eq (view_of state.old) committed)) →
+        IsTrue (none_or_logged C.eq (log_view_of state.old) committed)) →
         IsSound C.eq C.cmp state.new }
 {
     if log_id_below(state.committed, committed) {

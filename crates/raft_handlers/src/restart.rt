@@ -9,7 +9,7 @@ ghost use Rattle.raft_state.specs.Accepted.{last_accepted};
 ghost use Rattle.raft_state.specs.log_id_list.FullLog.{full_log, same_log};
 ghost use Rattle.raft_state.specs.membership_state.Memberships.{Memberships};
 ghost use Rattle.raft_state.specs.raft_state.Sound.{IsSound};
-ghost use Rattle.raft_state.specs.raft_state.StateView.{vote_of};
+ghost use Rattle.raft_state.specs.raft_state.VoteAndLog.{vote_of};
 
 use crate::error::HandlerError;
 use crate::log::append_new;

@@ -9,7 +9,7 @@ ghost use Rattle.raft_base.specs.UTime.{moment_of, utime_of};
 ghost use Rattle.raft_handlers.specs.Snapshot.{following, install_refusal, snapshot_refusal, InstallsSnapshot, RefusedFor};
 ghost use Rattle.raft_handlers.specs.declared.message.Outcome.TheVariants.{HigherVote};
 ghost use Rattle.raft_state.specs.raft_state.Sound.{IsSound};
-ghost use Rattle.raft_state.specs.raft_state.StateView.{vote_of};
+ghost use Rattle.raft_state.specs.raft_state.VoteAndLog.{vote_of};
 
 use crate::error::HandlerError;
 use crate::message::{InstallSnapshot, Outcome, Response};

@@ -7,7 +7,7 @@ ghost use Rattle.raft_members.specs.membership.Members.{members_of, node_at};
 ghost use Rattle.raft_members.specs.membership.Valid.{IsValid};
 ghost use Rattle.raft_state.specs.log_id_list.FullLog.{full_log};
 ghost use Rattle.raft_state.specs.raft_state.Sound.{IsSound};
-ghost use Rattle.raft_state.specs.raft_state.StateView.{vote_of};
+ghost use Rattle.raft_state.specs.raft_state.VoteAndLog.{vote_of};
 ghost use Rattle.raft_state.specs.declared.entry.payload.EntryPayload.TheVariants.{Membership as Stores};
 
 use crate::error::HandlerError;

@@ -5,7 +5,7 @@ ghost use Rattle.raft_base.specs.UTime.{moment_of, utime_of};
 ghost use Rattle.raft_base.specs.Vote.{vote_cmp};
 ghost use Rattle.raft_handlers.specs.Vote.{is_up_to_date};
 ghost use Rattle.raft_state.specs.raft_state.Sound.{IsSound};
-ghost use Rattle.raft_state.specs.raft_state.StateView.{vote_of};
+ghost use Rattle.raft_state.specs.raft_state.VoteAndLog.{vote_of};
 
 use crate::message::{VoteRequest, VoteResponse};
 use crate::state::State;

@@ -8,7 +8,7 @@ mod candidate;
 #[cfg(test)]
 mod change;
 #[cfg(test)]
-mod growths;
+mod allocations;
 #[cfg(test)]
 mod leader;
 #[cfg(test)]

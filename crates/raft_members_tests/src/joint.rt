@@ -3,7 +3,7 @@ ghost use Rattle.std.specs.Prelude.{IfOk, IsTrue};
 
 use crate::support::quorums::{Configs, has_ids, joint};
 use raft_members::quorum::{AsJoint, AtLeast, Joint, QuorumSet};
-use raft_testing::growths::is_free_on;
+use raft_testing::allocations::is_free_on;
 use raft_testing::words::configs;
 use std::alloc::{AllocError, Global};
 use std::collections::BTreeSet;

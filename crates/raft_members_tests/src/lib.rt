@@ -2,7 +2,7 @@
 //! ships nothing.
 //!
 //! A file has the tests of the module of `raft_members` that has its name. Those that go over all
-//! modules have the name of what they test: `compared` with the original, `growths` for allocations
+//! modules have the name of what they test: `compared` with the original, `allocations` for allocations
 //! that are refused, `laws` by their callers, and `texts`.
 #![tactic(auto)]
 
@@ -23,7 +23,7 @@ mod error;
 #[cfg(test)]
 mod first_caller;
 #[cfg(test)]
-mod growths;
+mod allocations;
 #[cfg(test)]
 mod into_nodes;
 #[cfg(test)]

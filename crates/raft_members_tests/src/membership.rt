@@ -2,7 +2,7 @@
 
 use crate::support::lines::{read_is_right, step_is_right, test_is_right};
 use raft_members::{EmptyMembership, IntoNodes, Membership};
-use raft_testing::growths::is_free_on;
+use raft_testing::allocations::is_free_on;
 use raft_testing::memory::both;
 use raft_testing::words::{configs, ids, members, nodes};
 use std::alloc::{AllocError, Global};

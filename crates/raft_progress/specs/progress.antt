@@ -1,9 +1,9 @@
 -- What a progress is, and what its functions do.
 pub mod ProgressState
 pub mod CountedValue
-pub mod Walk
+pub mod Entries
 pub mod InOrder
-pub mod Shown
+pub mod ProgressView
 pub mod VecProgress
 pub mod NewProgress
 pub mod Statistics
@@ -16,7 +16,7 @@ pub mod Comparisons
 pub mod Run
 pub mod Answered
 pub mod Steps
-pub mod ShownSteps
+pub mod ViewSteps
 pub mod Equal
 pub mod EqualLawful
 pub mod Threshold

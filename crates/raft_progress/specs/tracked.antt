@@ -4,7 +4,7 @@ pub mod Tracked
 pub mod TrackedNew
 pub mod Over
 pub mod TrackedSteps
-pub mod TrackedShownSteps
+pub mod TrackedViewSteps
 pub mod SingleSteps
 pub mod TrackedCalls
 pub mod Headline

@@ -5,7 +5,7 @@ ghost use Rattle.raft_base.specs.Validate.{first_false};
 ghost use Rattle.raft_progress.specs.entry.EntryTable.{entry_after_conflict, entry_after_ack};
 ghost use Rattle.raft_progress.specs.entry.LateResponse.{RefusesResponsesTo};
 ghost use Rattle.raft_progress.specs.entry.EntryValid.{entry_relations};
-ghost use Rattle.raft_progress.specs.entry.Send.{IsSent, calc_mid, can_be_sent, send_table};
+ghost use Rattle.raft_progress.specs.entry.Send.{IsSent, calc_mid, can_send, send_table};
 ghost use Rattle.raft_progress.specs.inflight.Inflight.{is_after_prev, is_idle};
 ghost use Rattle.raft_progress.specs.inflight.InflightTable.{FollowsTable};
 ghost use Rattle.raft_base.specs.LogView.{LogView};
@@ -207,7 +207,7 @@ impl<C: Ord + Copy> ProgressEntryOf<C> {
 
     /// Whether the precondition of `next_send` with a log holds.
     pub fn can_send<L: LogStateReader<C>>(&self, log: &L) -> bool
-        ensures { result ≡ can_be_sent self.now (L.log_view log.now) }
+        ensures { result ≡ can_send self.now (L.log_view log.now) }
     {
         if !self.inflight.is_none() {
             return true;
@@ -239,7 +239,7 @@ impl<C: Ord + Copy> ProgressEntryOf<C> {
         log: &L,
         max_entries: u64,
     ) -> Result<&InflightOf<C>, &InflightOf<C>>
-        requires { IsTrue (can_be_sent self.old (L.log_view log.now)) }
+        requires { IsTrue (can_send self.old (L.log_view log.now)) }
         ensures* after { sem 𝓛 (Rests (the_row C.row) self.entry
             (IsSent (send_table C.cmp self.old (L.log_view log.now) max_entries) result)) }
     {
@@ -253,7 +253,7 @@ impl<C: Ord + Copy> ProgressEntryOf<C> {
     /// Whether something was sent, or at least a request id was taken.
     #[inline(always)]
     fn send<L: LogStateReader<C>>(&mut self, log: &L, max_entries: u64) -> bool
-        requires { IsTrue (can_be_sent self.old (L.log_view log.now)) }
+        requires { IsTrue (can_send self.old (L.log_view log.now)) }
         ensures { send_table C.cmp self.old (L.log_view log.now) max_entries
             ≡ (if result then Ok self.new else Err self.new) }
     {

@@ -4,7 +4,7 @@
 mod conditions;
 mod entries;
 mod part;
-mod places;
+mod positions;
 mod recount;
 mod replay_any_steps;
 mod stat;
@@ -33,7 +33,7 @@ pub trait Progress<ID: Copy + Ord, V: ProgressPart<P>, P: Copy + Ord, QS: Quorum
     ghost use Rattle.raft_progress.specs.progress.InOrder.{IsInOrder};
     ghost use Rattle.raft_progress.specs.progress.Lends.{IsAnsweredUpdate, Leaves, LendsGranted, LendsValue};
     ghost use Rattle.raft_progress.specs.progress.NewProgress.{LearnersFit};
-    ghost use Rattle.raft_progress.specs.progress.Shown.{Shown, learner_ids, state};
+    ghost use Rattle.raft_progress.specs.progress.ProgressView.{ProgressView, learner_ids, state};
     ghost use Rattle.raft_progress.specs.progress.ProgressState.{voter_of};
     ghost use Rattle.raft_progress.specs.progress.Statistics.{CountsGoOn};
     ghost use Rattle.raft_progress.specs.progress.Steps.{falls};
@@ -42,21 +42,21 @@ pub trait Progress<ID: Copy + Ord, V: ProgressPart<P>, P: Copy + Ord, QS: Quorum
     ghost use Rattle.raft_progress.specs.progress.UpgradeFold.{IsUpgradeFold};
 
     /// What contracts see of a progress.
-    ghost shows: { Self → Shown ID V P QS };
+    ghost view_of: { Self → ProgressView ID V P QS };
 
     /// Returns the granted value: the greatest part that a quorum of the voters has reached, which
     /// is at least the default's part.
     fn granted(&self) -> &P
-        ensures { result.now ≡ (shows self.now).granted };
+        ensures { result.now ≡ (view_of self.now).granted };
 
     /// Returns the value of an id, if the id is known.
     fn try_get(&self, id: &ID) -> Option<&V>
-        ensures { option_copied result ≡ (state ID.eq (shows self.now)).value id.now };
+        ensures { option_copied result ≡ (state ID.eq (view_of self.now)).value id.now };
 
     /// Returns the value of a known id. It requires that `try_get` returns a value.
     fn get(&self, id: &ID) -> &V
-        requires { IsSome ((state ID.eq (shows self.now)).value id.now) }
-        ensures { (state ID.eq (shows self.now)).value id.now ≡ Some result.now };
+        requires { IsSome ((state ID.eq (view_of self.now)).value id.now) }
+        ensures { (state ID.eq (view_of self.now)).value id.now ≡ Some result.now };
 
     /// Lends the value of an id for writing.
     ///
@@ -65,17 +65,17 @@ pub trait Progress<ID: Copy + Ord, V: ProgressPart<P>, P: Copy + Ord, QS: Quorum
     /// (`laws::kept_parts_keep_order`).
     fn get_mut(&mut self, id: &ID) -> Option<&mut V>
         ensures* writes_back { sem 𝓛
-            (LendsValue Self.row V.row shows ID.eq self.entry id.now result) }
-        ensures value { option_copied_mut result ≡ (state ID.eq (shows self.old)).value id.now };
+            (LendsValue Self.row V.row view_of ID.eq self.entry id.now result) }
+        ensures value { option_copied_mut result ≡ (state ID.eq (view_of self.old)).value id.now };
 
     /// Whether an id is a voter, or `None` for an unknown id.
     fn is_voter(&self, id: &ID) -> Option<bool>
-        ensures { result ≡ voter_of (state ID.eq (shows self.now)) id.now };
+        ensures { result ≡ voter_of (state ID.eq (view_of self.now)) id.now };
 
     /// Returns the number of voters. An update makes at most k quorum tests if this number is less
     /// than 2^k.
     fn voter_count(&self) -> usize
-        ensures { result ≡ (shows self.now).voter_count };
+        ensures { result ≡ (view_of self.now).voter_count };
 
     /// Whether the progress is in order, which updates and upgrades require.
     ///
@@ -86,18 +86,18 @@ pub trait Progress<ID: Copy + Ord, V: ProgressPart<P>, P: Copy + Ord, QS: Quorum
     /// sets the same quorums (`laws::clones_keep_order`). The test changes nothing.
     fn is_in_order(&mut self) -> bool
         ensures answer { IsTrue result ↔
-            IsInOrder ID.eq P.cmp V.part_of QS.has_quorum (shows self.old) }
-        ensures same { shows self.new ≡ shows self.old }
+            IsInOrder ID.eq P.cmp V.part_of QS.has_quorum (view_of self.old) }
+        ensures same { view_of self.new ≡ view_of self.old }
         ensures ordered { IsTrue result →
-            IsInOrder ID.eq P.cmp V.part_of QS.has_quorum (shows self.new) };
+            IsInOrder ID.eq P.cmp V.part_of QS.has_quorum (view_of self.new) };
 
     /// Returns the quorum set.
     fn quorum_set(&self) -> &QS
-        ensures { result.now ≡ (shows self.now).quorum_set };
+        ensures { result.now ≡ (view_of self.now).quorum_set };
 
     /// Returns the ids and their values: the voters, then the learners.
     fn iter(&self) -> std::slice::Iter<(ID, V)>
-        ensures { iter_rest result ≡ (shows self.now).walk };
+        ensures { iter_rest result ≡ (view_of self.now).entries };
 
     /// Changes the value of an id by `f`. Returns granted, as an error if the id is unknown.
     ///
@@ -114,12 +114,12 @@ pub trait Progress<ID: Copy + Ord, V: ProgressPart<P>, P: Copy + Ord, QS: Quorum
     /// - tested, `4:5 0:4 1:4`: the prefix up to its new position has three of five voters, so
     ///   granted is 4.
     fn update_with<F: FnOnce(&mut V)>(&mut self, id: &ID, f: F) -> Result<&P, &P>
-        requires ordered { IsInOrder ID.eq P.cmp V.part_of QS.has_quorum (shows self.old) }
-        requires callable { ForSome ((state ID.eq (shows self.old)).value id.now)
+        requires ordered { IsInOrder ID.eq P.cmp V.part_of QS.has_quorum (view_of self.old) }
+        requires callable { ForSome ((state ID.eq (view_of self.old)).value id.now)
             (FnOnceTakesAtMut F.FnOnce f) }
         requires monotone { NeverFalls ID.eq P.cmp V.part_of (Leaves F.FnOnce f)
-            (shows self.old) id.now }
-        ensures* after { sem 𝓛 (LendsGranted Self.row shows self.entry
+            (view_of self.old) id.now }
+        ensures* after { sem 𝓛 (LendsGranted Self.row view_of self.entry
             (IsAnsweredUpdate ID.eq P.cmp V.part_of QS.has_quorum
             (Leaves F.FnOnce f) id.now result)) };
 
@@ -129,16 +129,16 @@ pub trait Progress<ID: Copy + Ord, V: ProgressPart<P>, P: Copy + Ord, QS: Quorum
     /// value.
     fn would_fall(&self, id: &ID, value: &V) -> bool
         ensures answer { result
-            ≡ falls P.cmp V.part_of ((state ID.eq (shows self.now)).value id.now) value.now }
+            ≡ falls P.cmp V.part_of ((state ID.eq (view_of self.now)).value id.now) value.now }
         ensures monotone { result ≡ false →
-            IsNotLower ID.eq P.cmp V.part_of (shows self.now) id.now value.now };
+            IsNotLower ID.eq P.cmp V.part_of (view_of self.now) id.now value.now };
 
     /// Writes the value of an id. Returns granted, as an error if the id is unknown. The part may
     /// not fall, which `would_fall` tests.
     fn update(&mut self, id: &ID, value: V) -> Result<&P, &P>
-        requires ordered { IsInOrder ID.eq P.cmp V.part_of QS.has_quorum (shows self.old) }
-        requires monotone { IsNotLower ID.eq P.cmp V.part_of (shows self.old) id.now value }
-        ensures* after { sem 𝓛 (LendsGranted Self.row shows self.entry
+        requires ordered { IsInOrder ID.eq P.cmp V.part_of QS.has_quorum (view_of self.old) }
+        requires monotone { IsNotLower ID.eq P.cmp V.part_of (view_of self.old) id.now value }
+        ensures* after { sem 𝓛 (LendsGranted Self.row view_of self.entry
             (IsAnsweredUpdate ID.eq P.cmp V.part_of QS.has_quorum
             (λ v w. w ≡ value) id.now result)) };
 
@@ -148,10 +148,10 @@ pub trait Progress<ID: Copy + Ord, V: ProgressPart<P>, P: Copy + Ord, QS: Quorum
     fn increase_to(&mut self, id: &ID, value: V) -> Result<&P, &P>
     where
         V: PartialOrd,
-        requires ordered { IsInOrder ID.eq P.cmp V.part_of QS.has_quorum (shows self.old) }
+        requires ordered { IsInOrder ID.eq P.cmp V.part_of QS.has_quorum (view_of self.old) }
         requires monotone { IsNotLowerIfGreater ID.eq P.cmp V.part_of V.partial_cmp
-            (shows self.old) id.now value }
-        ensures* after { sem 𝓛 (LendsGranted Self.row shows self.entry
+            (view_of self.old) id.now value }
+        ensures* after { sem 𝓛 (LendsGranted Self.row view_of self.entry
             (IsAnsweredUpdate ID.eq P.cmp V.part_of QS.has_quorum
             (IsGreaterOf V.partial_cmp value) id.now result)) };
 
@@ -170,7 +170,7 @@ pub trait Progress<ID: Copy + Ord, V: ProgressPart<P>, P: Copy + Ord, QS: Quorum
     fn can_upgrade(&self, quorum_set: &QS, learners: &[ID], default: &V) -> Result<bool, AllocError>
         ensures { IfOk result (λ can. IsTrue can ↔ CanUpgrade ID.eq P.cmp V.part_of
             (QS.is_voter quorum_set.now) learners.now default.now
-            (state ID.eq (shows self.now)).value) };
+            (state ID.eq (view_of self.now)).value) };
 
     /// Returns a progress with another quorum set that inherits the values of the ids that stay, or
     /// an allocation error.
@@ -187,22 +187,22 @@ pub trait Progress<ID: Copy + Ord, V: ProgressPart<P>, P: Copy + Ord, QS: Quorum
     ) -> Result<Self, AllocError>
     where
         V: Clone,
-        requires ordered { IsInOrder ID.eq P.cmp V.part_of QS.has_quorum (shows self.now) }
+        requires ordered { IsInOrder ID.eq P.cmp V.part_of QS.has_quorum (view_of self.now) }
         requires clones_have_the_part { (v w : V) → V.is_clone v w → V.part_of w ≡ V.part_of v }
         requires learners_fit { LearnersFit ID.eq (QS.is_voter quorum_set) learners.now }
         requires can_upgrade { CanUpgrade ID.eq P.cmp V.part_of (QS.is_voter quorum_set)
-            learners.now default (state ID.eq (shows self.now)).value }
+            learners.now default (state ID.eq (view_of self.now)).value }
         ensures made { IfOk result (λ made.
             IsUpgraded ID.eq V.is_clone V.part_of (QS.is_voter quorum_set)
-            quorum_set learners.now default (state ID.eq (shows self.now)).value
-            (state ID.eq (shows made))) }
+            quorum_set learners.now default (state ID.eq (view_of self.now)).value
+            (state ID.eq (view_of made))) }
         ensures ordered { IfOk result (λ made.
-            IsInOrder ID.eq P.cmp V.part_of QS.has_quorum (shows made)) }
+            IsInOrder ID.eq P.cmp V.part_of QS.has_quorum (view_of made)) }
         ensures fold { IfOk result (λ made.
             IsUpgradeFold ID.eq ID.cmp P.cmp V.part_of V.is_clone QS.has_quorum QS.is_voter
-            (shows self.now) quorum_set learners.now default (shows made)) }
-        ensures learners { IfOk result (λ made. learner_ids (shows made) ≡ learners.now) }
+            (view_of self.now) quorum_set learners.now default (view_of made)) }
+        ensures learners { IfOk result (λ made. learner_ids (view_of made) ≡ learners.now) }
         ensures counts { IfOk result (λ made.
-            CountsGoOn (length (shows self.now).walk) (shows made).voter_count
-            (shows self.now).stat (shows made).stat) };
+            CountsGoOn (length (view_of self.now).entries) (view_of made).voter_count
+            (view_of self.now).stat (view_of made).stat) };
 }

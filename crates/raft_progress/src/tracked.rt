@@ -3,7 +3,7 @@ ghost use Rattle.std.specs.Prelude.{◌≡◌, IfOk};
 ghost use Rattle.raft_members.specs.membership.Learners.{learners_of};
 ghost use Rattle.raft_members.specs.membership.Members.{members_of};
 ghost use Rattle.raft_progress.specs.tracked.TrackedState.{AreLearners, IsReady};
-ghost use Rattle.raft_progress.specs.progress.VecProgress.{shown};
+ghost use Rattle.raft_progress.specs.progress.VecProgress.{view};
 
 mod membership_progress;
 mod replay_steps;
@@ -36,15 +36,15 @@ pub struct Tracked<NID: NodeId, N: Node, V: ProgressPart<P>, P: Copy + Ord> {
     membership: Membership<NID, N>,
     progress: MembershipProgress<NID, V, P>,
     pub ghost ready: { ∥ IsReady NID.eq NID.cmp P.cmp V.part_of
-        (record { membership = membership; progress = shown progress }) ∥₁ },
+        (record { membership = membership; progress = view progress }) ∥₁ },
 }
 
-impl<NID: NodeId, N: Node, V: ProgressPart<P> + Drop, P: Copy + Ord> Tracked<NID, N, V, P> {
+impl<NID: NodeId, N: Node, V: ProgressPart<P>, P: Copy + Ord> Tracked<NID, N, V, P> {
     ghost use Rattle.std.specs.Prelude.{◌≡◌, IfOk};
-    ghost use Rattle.raft_progress.specs.tracked.Tracked.{tracked};
+    ghost use Rattle.raft_progress.specs.tracked.Tracked.{tracked_view};
     ghost use Rattle.raft_progress.specs.tracked.TrackedNew.{BeginsOver};
     ghost use Rattle.raft_progress.specs.tracked.TrackedState.{IsReady};
-    ghost use Rattle.raft_progress.specs.progress.VecProgress.{shown};
+    ghost use Rattle.raft_progress.specs.progress.VecProgress.{view};
 
     /// Returns the membership with a progress in which each voter and each learner has a clone of
     /// the default, or an allocation error.
@@ -53,13 +53,13 @@ impl<NID: NodeId, N: Node, V: ProgressPart<P> + Drop, P: Copy + Ord> Tracked<NID
         V: Clone,
         requires clones_have_the_part { (w : V) → V.is_clone default w →
             V.part_of w ≡ V.part_of default }
-        ensures membership { IfOk result (λ made. (tracked made).membership ≡ membership) }
+        ensures membership { IfOk result (λ made. (tracked_view made).membership ≡ membership) }
         ensures progress { IfOk result (λ made.
-            BeginsOver NID.eq NID.cmp P.cmp V.part_of V.is_clone default (tracked made)) }
+            BeginsOver NID.eq NID.cmp P.cmp V.part_of V.is_clone default (tracked_view made)) }
         ensures granted { IfOk result (λ made.
-            (tracked made).progress.granted ≡ V.part_of default) }
+            (tracked_view made).progress.granted ≡ V.part_of default) }
         ensures ready { IfOk result (λ made.
-            IsReady NID.eq NID.cmp P.cmp V.part_of (tracked made)) }
+            IsReady NID.eq NID.cmp P.cmp V.part_of (tracked_view made)) }
     {
         let progress = MembershipProgress::of(&membership, default)?;
         Ok(Tracked {
@@ -70,25 +70,25 @@ impl<NID: NodeId, N: Node, V: ProgressPart<P> + Drop, P: Copy + Ord> Tracked<NID
 
     /// Returns the membership.
     pub fn membership(&self) -> &Membership<NID, N>
-        ensures { result.now ≡ (tracked self.now).membership }
+        ensures { result.now ≡ (tracked_view self.now).membership }
     {
         &self.membership
     }
 
     /// Returns the progress of its voters and learners.
     pub fn progress(&self) -> &MembershipProgress<NID, V, P>
-        ensures { shown result.now ≡ (tracked self.now).progress }
+        ensures { view result.now ≡ (tracked_view self.now).progress }
     {
         &self.progress
     }
 }
 
-impl<NID: NodeId, N: Node, V: ProgressPart<P> + Clone + Drop, P: Copy + Ord> Tracked<NID, N, V, P> {
+impl<NID: NodeId, N: Node, V: ProgressPart<P> + Clone, P: Copy + Ord> Tracked<NID, N, V, P> {
     ghost use Rattle.std.specs.Prelude.{◌≡◌, IfOk, IsTrue};
     ghost use Rattle.std.specs.Set.{ClonesAreEqual};
     ghost use Rattle.raft_members.specs.membership.Members.{same_members};
     ghost use Rattle.raft_progress.specs.progress.Equal.{IsCloned};
-    ghost use Rattle.raft_progress.specs.tracked.Tracked.{tracked};
+    ghost use Rattle.raft_progress.specs.tracked.Tracked.{tracked_view};
     ghost use Rattle.raft_progress.specs.tracked.TrackedState.{HasSameConfigs};
 
     /// Returns an equal membership with a progress that has a clone of each value and is otherwise
@@ -97,9 +97,9 @@ impl<NID: NodeId, N: Node, V: ProgressPart<P> + Clone + Drop, P: Copy + Ord> Tra
         requires clones_have_the_part { (v w : V) → V.is_clone v w → V.part_of w ≡ V.part_of v }
         requires clones_are_equal { ClonesAreEqual N.eq N.is_clone }
         ensures membership { IfOk result (λ made. IsTrue (same_members NID.eq N.eq
-            (tracked self.now).membership (tracked made).membership)) }
+            (tracked_view self.now).membership (tracked_view made).membership)) }
         ensures progress { IfOk result (λ made. IsCloned V.is_clone HasSameConfigs
-            (tracked self.now).progress (tracked made).progress) }
+            (tracked_view self.now).progress (tracked_view made).progress) }
     {
         let membership = self.membership.try_clone()?;
         let configs = membership.to_quorum_set()?;

@@ -14,7 +14,7 @@ type Both = Joint<u64, Enough, Vec<Enough>>;
 type Updates<'a> = &'a [(u64, u64, u64)];
 
 /// Makes the updates, and compares what each grants.
-fn compare<QS: QuorumSet<u64> + Drop>(
+fn compare<QS: QuorumSet<u64>>(
     rt: &impl Abort,
     alloc: Global,
     progress: &mut VecProgress<u64, u64, u64, QS>,

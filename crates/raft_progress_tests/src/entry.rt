@@ -5,8 +5,8 @@ ghost use Rattle.raft_progress.specs.declared.entry.ProgressEntryOf.{ProgressEnt
 ghost use Rattle.raft_progress.specs.entry.EntryValid.{entry_relations};
 ghost use Rattle.raft_progress.specs.entry.Send.{send_table};
 ghost use Rattle.raft_progress.specs.progress.InOrder.{IsInOrder};
-ghost use Rattle.raft_progress.specs.progress.Shown.{state};
-ghost use Rattle.raft_progress.specs.progress.VecProgress.{shown};
+ghost use Rattle.raft_progress.specs.progress.ProgressView.{state};
+ghost use Rattle.raft_progress.specs.progress.VecProgress.{view};
 ghost use Rattle.std.specs.Option.{option_cmp};
 ghost use Rattle.std.specs.Prelude.{◌≡◌, IfSome, IsTrue, None, Ok, Some, false};
 
@@ -25,22 +25,22 @@ use std::test::Fail;
 
 /// Takes a follower's ack of all up to a log id. A match never falls, so neither the update nor the
 /// order of the progress needs a test.
-pub fn take_ack<ID: Copy + Ord, C: Ord + Copy + Drop + 'static, QS: QuorumSet<ID> + Drop>(
+pub fn take_ack<ID: Copy + Ord, C: Ord + Copy + Drop + 'static, QS: QuorumSet<ID>>(
     followers: &mut VecProgress<ID, ProgressEntryOf<C>, Option<LogIdOf<C>>, QS>,
     id: &ID,
     request: u64,
     upto: Option<LogIdOf<C>>,
 ) -> bool
     requires ordered { IsInOrder ID.eq (option_cmp (log_id_cmp C.cmp)) (λ e. e.matching)
-        QS.has_quorum (shown followers.old) }
+        QS.has_quorum (view followers.old) }
     ensures ordered { IsInOrder ID.eq (option_cmp (log_id_cmp C.cmp)) (λ e. e.matching)
-        QS.has_quorum (shown followers.new) }
+        QS.has_quorum (view followers.new) }
     ensures matched { IsTrue result → (entry : ProgressEntryOf C)
-        × ((state ID.eq (shown followers.new)).value id.now ≡ Some entry)
+        × ((state ID.eq (view followers.new)).value id.now ≡ Some entry)
         × (entry.matching ≡ upto) × (first_false (entry_relations C.cmp entry) ≡ None) }
-    ensures granted { IsTrue (id_le C.cmp (shown followers.old).granted
-        (shown followers.new).granted) }
-    ensures refused { result ≡ false → shown followers.new ≡ shown followers.old }
+    ensures granted { IsTrue (id_le C.cmp (view followers.old).granted
+        (view followers.new).granted) }
+    ensures refused { result ≡ false → view followers.new ≡ view followers.old }
 {
     match followers.try_get(id).copied() {
         None => false,

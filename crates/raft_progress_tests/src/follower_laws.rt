@@ -3,9 +3,9 @@ ghost use Rattle.raft_base.specs.LogId.{log_id_cmp, next_index};
 ghost use Rattle.raft_progress.specs.progress.CountedValue.{AtMost};
 ghost use Rattle.raft_progress.specs.progress.InOrder.{IsInOrder};
 ghost use Rattle.raft_progress.specs.progress.LoggedMatches.{MatchesAreLogged, is_logged_or_purged};
-ghost use Rattle.raft_progress.specs.progress.VecProgress.{shown};
+ghost use Rattle.raft_progress.specs.progress.VecProgress.{view};
 ghost use Rattle.raft_progress.specs.tracked.Known.{QuorumsKnow};
-ghost use Rattle.raft_progress.specs.tracked.Tracked.{tracked};
+ghost use Rattle.raft_progress.specs.tracked.Tracked.{tracked_view};
 ghost use Rattle.std.specs.Option.{option_cmp};
 ghost use Rattle.std.specs.Prelude.{◌≡◌, ◌<◌, ◌≤◌, ◌^◌, IsTrue, true};
 
@@ -18,14 +18,14 @@ use raft_progress::tracked::Tracked;
 
 /// Takes what followers have acknowledged, one call after another. Together the calls are one
 /// replay, so granted never falls, and each quorum knows what it knew.
-fn take_responses<NID: NodeId, N: Node, V: ProgressPart<P> + Clone + Drop, P: Copy + Ord>(
+fn take_responses<NID: NodeId, N: Node, V: ProgressPart<P> + Clone, P: Copy + Ord>(
     cluster: &mut Tracked<NID, N, V, P>,
     responses: Vec<(NID, V)>,
 )
     ensures monotone { AtMost P.cmp
-        (tracked cluster.old).progress.granted (tracked cluster.new).progress.granted }
-    ensures known { (p : P) → QuorumsKnow NID.eq P.cmp V.part_of (tracked cluster.old) p →
-        QuorumsKnow NID.eq P.cmp V.part_of (tracked cluster.new) p }
+        (tracked_view cluster.old).progress.granted (tracked_view cluster.new).progress.granted }
+    ensures known { (p : P) → QuorumsKnow NID.eq P.cmp V.part_of (tracked_view cluster.old) p →
+        QuorumsKnow NID.eq P.cmp V.part_of (tracked_view cluster.new) p }
 {
     tracked_calls_are_runs::<NID, N, V, P>();
     known_stays::<NID, N, V, P>();
@@ -38,16 +38,16 @@ fn take_responses<NID: NodeId, N: Node, V: ProgressPart<P> + Clone + Drop, P: Co
 fn commit_upto<
     ID: Copy + Ord,
     C: Ord + Copy + Drop,
-    QS: QuorumSet<ID> + Drop,
+    QS: QuorumSet<ID>,
     L: LogStateReader<C>,
 >(
     followers: &VecProgress<ID, ProgressEntryOf<C>, Option<LogIdOf<C>>, QS>,
     log: &L,
 ) -> Option<LogIdOf<C>>
     requires ordered { IsInOrder ID.eq (option_cmp (log_id_cmp C.cmp)) (λ e. e.matching)
-        QS.has_quorum (shown followers.now) }
+        QS.has_quorum (view followers.now) }
     requires logged { MatchesAreLogged ID.eq C.eq (λ e. e.matching) (L.log_view log.now)
-        (shown followers.now) }
+        (view followers.now) }
     ensures { is_logged_or_purged C.eq (L.log_view log.now) result ≡ true }
 {
     granted_is_logged::<ID, ProgressEntryOf<C>, C, QS>();

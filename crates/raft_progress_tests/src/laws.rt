@@ -10,19 +10,19 @@ ghost use Rattle.raft_progress.specs.progress.CountedValue.{AtMost};
 ghost use Rattle.raft_progress.specs.progress.InOrder.{IsInOrder};
 ghost use Rattle.raft_progress.specs.progress.NewProgress.{LearnersFit};
 ghost use Rattle.raft_progress.specs.progress.ProgressState.{IsSame};
-ghost use Rattle.raft_progress.specs.progress.Shown.{state};
-ghost use Rattle.raft_progress.specs.progress.ShownSteps.{IsShownRun, IsShownStep};
+ghost use Rattle.raft_progress.specs.progress.ProgressView.{state};
+ghost use Rattle.raft_progress.specs.progress.ViewSteps.{IsViewRun, IsViewStep};
 ghost use Rattle.raft_progress.specs.progress.Threshold.{QuorumReached, QuorumsHavePart, QuorumsShareVoter};
 ghost use Rattle.raft_progress.specs.progress.Updated.{IsNotLower, IsNotLowerIfGreater};
 ghost use Rattle.raft_progress.specs.progress.Upgrade.{CanUpgrade};
-ghost use Rattle.raft_progress.specs.progress.VecProgress.{shown};
+ghost use Rattle.raft_progress.specs.progress.VecProgress.{view};
 ghost use Rattle.raft_progress.specs.search.Purged.{IsPurgedWithin};
 ghost use Rattle.raft_progress.specs.search.Search.{CanSearch, stretch};
 ghost use Rattle.raft_progress.specs.tracked.Elected.{NoneVotedPast};
 ghost use Rattle.raft_progress.specs.tracked.Headline.{QuorumsKnowGranted};
 ghost use Rattle.raft_progress.specs.tracked.Known.{QuorumsKnow};
-ghost use Rattle.raft_progress.specs.tracked.Tracked.{tracked};
-ghost use Rattle.raft_progress.specs.tracked.TrackedShownSteps.{IsTrackedShownRun, IsTrackedShownStep, is_change};
+ghost use Rattle.raft_progress.specs.tracked.Tracked.{tracked_view};
+ghost use Rattle.raft_progress.specs.tracked.TrackedViewSteps.{IsTrackedViewRun, IsTrackedViewStep, is_change};
 ghost use Rattle.std.specs.List.{AllByRecursion, list_any};
 ghost use Rattle.std.specs.Ordering.{bool_cmp, nat_cmp};
 ghost use Rattle.std.specs.declared.cmp.Ordering.{Ordering};
@@ -45,13 +45,13 @@ use std::alloc::{AllocError, Global};
 
 /// Whether a part is granted: an index committed, a vote won, a quorum heard since a moment. It is
 /// exactly where it is at most the default's, or a quorum of the voters has reached it.
-fn is_granted<ID: Copy + Ord, V: ProgressPart<P> + Drop, P: Copy + Ord, QS: QuorumSet<ID> + Drop>(
+fn is_granted<ID: Copy + Ord, V: ProgressPart<P>, P: Copy + Ord, QS: QuorumSet<ID>>(
     progress: &VecProgress<ID, V, P, QS>,
     part: P,
 ) -> bool
-    requires { IsInOrder ID.eq P.cmp V.part_of QS.has_quorum (shown progress.now) }
-    ensures { IsTrue result ↔ (AtMost P.cmp part (shown progress.now).default_part
-        ⊎ QuorumReached P.cmp V.part_of QS.has_quorum (state ID.eq (shown progress.now)) part) }
+    requires { IsInOrder ID.eq P.cmp V.part_of QS.has_quorum (view progress.now) }
+    ensures { IsTrue result ↔ (AtMost P.cmp part (view progress.now).default_part
+        ⊎ QuorumReached P.cmp V.part_of QS.has_quorum (state ID.eq (view progress.now)) part) }
 {
     granted_is_threshold::<ID, V, P, QS>();
     part.cmp(progress.granted()).is_le()
@@ -60,16 +60,16 @@ fn is_granted<ID: Copy + Ord, V: ProgressPart<P> + Drop, P: Copy + Ord, QS: Quor
 /// Takes an ack, which is a step of a run: also of a follower, whose values have no order.
 pub fn acked<
     ID: Copy + Ord,
-    V: ProgressPart<P> + Clone + Drop,
+    V: ProgressPart<P> + Clone,
     P: Copy + Ord,
-    QS: QuorumSet<ID> + Drop,
+    QS: QuorumSet<ID>,
 >(progress: &mut VecProgress<ID, V, P, QS>, id: &ID, value: V)
-    requires ordered { IsInOrder ID.eq P.cmp V.part_of QS.has_quorum (shown progress.old) }
-    requires monotone { IsNotLower ID.eq P.cmp V.part_of (shown progress.old) id.now value }
+    requires ordered { IsInOrder ID.eq P.cmp V.part_of QS.has_quorum (view progress.old) }
+    requires monotone { IsNotLower ID.eq P.cmp V.part_of (view progress.old) id.now value }
     ensures { (order : V → V → Option Ordering) →
         let by = comparisons_ordered ID.Ord P.Ord order V.ProgressPart V.Clone in
-        (reply : Reply ID P) × IsShownStep by QS.has_quorum QS.is_voter (shown progress.old)
-        (Update id.now value) reply (shown progress.new) }
+        (reply : Reply ID P) × IsViewStep by QS.has_quorum QS.is_voter (view progress.old)
+        (Update id.now value) reply (view progress.new) }
 {
     calls_are_runs::<ID, V, P, QS>();
     let _ = progress.update(id, value);
@@ -78,16 +78,16 @@ pub fn acked<
 /// Takes the value of a response where it is greater than what is there, which is a step of a run.
 fn heard<
     ID: Copy + Ord,
-    V: ProgressPart<P> + PartialOrd + Clone + Drop,
+    V: ProgressPart<P> + PartialOrd + Clone,
     P: Copy + Ord,
-    QS: QuorumSet<ID> + Drop,
+    QS: QuorumSet<ID>,
 >(progress: &mut VecProgress<ID, V, P, QS>, id: &ID, value: V)
-    requires ordered { IsInOrder ID.eq P.cmp V.part_of QS.has_quorum (shown progress.old) }
+    requires ordered { IsInOrder ID.eq P.cmp V.part_of QS.has_quorum (view progress.old) }
     requires monotone { IsNotLowerIfGreater ID.eq P.cmp V.part_of V.partial_cmp
-        (shown progress.old) id.now value }
+        (view progress.old) id.now value }
     ensures { let by = comparisons ID.Ord P.Ord V.PartialOrd V.ProgressPart V.Clone in
-        (reply : Reply ID P) × IsShownStep by QS.has_quorum QS.is_voter (shown progress.old)
-        (IncreaseTo id.now value) reply (shown progress.new) }
+        (reply : Reply ID P) × IsViewStep by QS.has_quorum QS.is_voter (view progress.old)
+        (IncreaseTo id.now value) reply (view progress.new) }
 {
     calls_are_runs::<ID, V, P, QS>();
     let _ = progress.increase_to(id, value);
@@ -96,23 +96,23 @@ fn heard<
 /// Goes over to other voters and learners, which is a step of a run.
 fn gone_over<
     ID: Copy + Ord,
-    V: ProgressPart<P> + PartialOrd + Clone + Drop,
+    V: ProgressPart<P> + PartialOrd + Clone,
     P: Copy + Ord,
-    QS: QuorumSet<ID> + Drop,
+    QS: QuorumSet<ID>,
 >(
     progress: &VecProgress<ID, V, P, QS>,
     quorum_set: QS,
     learners: Vec<ID>,
     default: V,
 ) -> Result<VecProgress<ID, V, P, QS>, AllocError>
-    requires ordered { IsInOrder ID.eq P.cmp V.part_of QS.has_quorum (shown progress.now) }
+    requires ordered { IsInOrder ID.eq P.cmp V.part_of QS.has_quorum (view progress.now) }
     requires values { (v w : V) → V.is_clone v w → V.part_of w ≡ V.part_of v }
     requires learners_fit { LearnersFit ID.eq (QS.is_voter quorum_set) learners.items }
     requires can_upgrade { CanUpgrade ID.eq P.cmp V.part_of (QS.is_voter quorum_set)
-        learners.items default (state ID.eq (shown progress.now)).value }
+        learners.items default (state ID.eq (view progress.now)).value }
     ensures { let by = comparisons ID.Ord P.Ord V.PartialOrd V.ProgressPart V.Clone in
-        IfOk result (λ made. IsShownStep by QS.has_quorum QS.is_voter (shown progress.now)
-        (Upgrade quorum_set learners default) (Granted (shown made).granted) (shown made)) }
+        IfOk result (λ made. IsViewStep by QS.has_quorum QS.is_voter (view progress.now)
+        (Upgrade quorum_set learners default) (Granted (view made).granted) (view made)) }
 {
     calls_are_runs::<ID, V, P, QS>();
     progress.upgrade_quorum_set(quorum_set, &learners, default)
@@ -121,21 +121,21 @@ fn gone_over<
 /// Makes the steps of two turns, each turn's as they come: together they are one run.
 fn two_turns<
     ID: Copy + Ord,
-    V: ProgressPart<P> + PartialOrd + Clone + Drop,
+    V: ProgressPart<P> + PartialOrd + Clone,
     P: Copy + Ord,
-    QS: QuorumSet<ID> + Drop,
+    QS: QuorumSet<ID>,
 >(
     alloc: Global,
     progress: &mut VecProgress<ID, V, P, QS>,
     first: Vec<AnyStep<ID, V, QS>>,
     second: Vec<AnyStep<ID, V, QS>>,
 ) -> Result<(Vec<Reply<ID, P>>, Vec<Reply<ID, P>>), AllocError>
-    requires ordered { IsInOrder ID.eq P.cmp V.part_of QS.has_quorum (shown progress.old) }
+    requires ordered { IsInOrder ID.eq P.cmp V.part_of QS.has_quorum (view progress.old) }
     requires values { (v w : V) → V.is_clone v w → V.part_of w ≡ V.part_of v }
     ensures { let by = comparisons ID.Ord P.Ord V.PartialOrd V.ProgressPart V.Clone in
-        IfOk result (λ replies. IsShownRun by QS.has_quorum QS.is_voter (shown progress.old)
+        IfOk result (λ replies. IsViewRun by QS.has_quorum QS.is_voter (view progress.old)
         (first.items ++ second.items) (replies.0.items ++ replies.1.items)
-        (shown progress.new)) }
+        (view progress.new)) }
 {
     calls_are_runs::<ID, V, P, QS>();
     let replies = replay_any(alloc, progress, first)?;
@@ -148,7 +148,7 @@ fn two_turns<
 fn acked_before_turn<
     NID: NodeId,
     N: Node,
-    V: ProgressPart<P> + PartialOrd + Clone + Drop,
+    V: ProgressPart<P> + PartialOrd + Clone,
     P: Copy + Ord,
 >(
     alloc: Global,
@@ -160,9 +160,9 @@ fn acked_before_turn<
     requires nodes { ClonesAreEqual N.eq N.is_clone }
     requires values { (v w : V) → V.is_clone v w → V.part_of w ≡ V.part_of v }
     ensures { let by = comparisons NID.Ord P.Ord V.PartialOrd V.ProgressPart V.Clone in
-        IfOk result (λ replies. IsTrackedShownRun by N.eq (tracked cluster.old)
+        IfOk result (λ replies. IsTrackedViewRun by N.eq (tracked_view cluster.old)
         (TrackedUpdate id value ∷ turn.items) (replies.0 ∷ replies.1.items)
-        (tracked cluster.new)) }
+        (tracked_view cluster.new)) }
 {
     tracked_calls_are_runs::<NID, N, V, P>();
     let reply = cluster.update(&id, value);
@@ -172,7 +172,7 @@ fn acked_before_turn<
 
 /// Goes over to what a change makes of the members, once it has come through the log, which is a
 /// step of a replay.
-fn gone_over_to<NID: NodeId, N: Node, V: ProgressPart<P> + Clone + Drop, P: Copy + Ord>(
+fn gone_over_to<NID: NodeId, N: Node, V: ProgressPart<P> + Clone, P: Copy + Ord>(
     cluster: &mut Tracked<NID, N, V, P>,
     change: ChangeMembers<NID, N>,
     retain: bool,
@@ -182,8 +182,8 @@ fn gone_over_to<NID: NodeId, N: Node, V: ProgressPart<P> + Clone + Drop, P: Copy
     requires values { (v w : V) → V.is_clone v w → V.part_of w ≡ V.part_of v }
     ensures { (order : V → V → Option Ordering) →
         let by = comparisons_ordered NID.Ord P.Ord order V.ProgressPart V.Clone in
-        IfOk result (λ reply. IsTrackedShownStep by N.eq (tracked cluster.old)
-        (Change change retain default) reply (tracked cluster.new)) }
+        IfOk result (λ reply. IsTrackedViewStep by N.eq (tracked_view cluster.old)
+        (Change change retain default) reply (tracked_view cluster.new)) }
 {
     tracked_calls_are_runs::<NID, N, V, P>();
     let next = cluster.membership().change(change, retain)?;
@@ -192,7 +192,7 @@ fn gone_over_to<NID: NodeId, N: Node, V: ProgressPart<P> + Clone + Drop, P: Copy
 
 /// Goes over to what a change makes of the members: where it is made, each quorum of the new members
 /// has a voter that has what was granted before, also where less is granted now.
-fn gone_over_known<NID: NodeId, N: Node, V: ProgressPart<P> + Clone + Drop, P: Copy + Ord>(
+fn gone_over_known<NID: NodeId, N: Node, V: ProgressPart<P> + Clone, P: Copy + Ord>(
     cluster: &mut Tracked<NID, N, V, P>,
     change: ChangeMembers<NID, N>,
     retain: bool,
@@ -201,9 +201,9 @@ fn gone_over_known<NID: NodeId, N: Node, V: ProgressPart<P> + Clone + Drop, P: C
     requires nodes { ClonesAreEqual N.eq N.is_clone }
     requires values { (v w : V) → V.is_clone v w → V.part_of w ≡ V.part_of v }
     ensures { IfOk result (λ reply. (granted : P) → reply ≡ Granted granted →
-        0 < length (tracked cluster.old).membership.configs →
-        QuorumsKnow NID.eq P.cmp V.part_of (tracked cluster.new)
-        (tracked cluster.old).progress.granted) }
+        0 < length (tracked_view cluster.old).membership.configs →
+        QuorumsKnow NID.eq P.cmp V.part_of (tracked_view cluster.new)
+        (tracked_view cluster.old).progress.granted) }
 {
     quorums_know_granted(cluster);
     change_keeps_granted::<NID, N, V, P>();
@@ -211,27 +211,27 @@ fn gone_over_known<NID: NodeId, N: Node, V: ProgressPart<P> + Clone + Drop, P: C
 }
 
 /// What is granted over quorums that share voters, of whatever kind: each of them knows it.
-fn granted_of<ID: Copy + Ord, V: ProgressPart<P> + Drop, P: Copy + Ord, QS: QuorumSet<ID> + Drop>(
+fn granted_of<ID: Copy + Ord, V: ProgressPart<P>, P: Copy + Ord, QS: QuorumSet<ID>>(
     progress: &VecProgress<ID, V, P, QS>,
 ) -> P
-    requires ordered { IsInOrder ID.eq P.cmp V.part_of QS.has_quorum (shown progress.now) }
+    requires ordered { IsInOrder ID.eq P.cmp V.part_of QS.has_quorum (view progress.now) }
     requires share { QuorumsShareVoter P.cmp V.part_of QS.has_quorum
-        (state ID.eq (shown progress.now)) }
+        (state ID.eq (view progress.now)) }
     ensures { QuorumsHavePart P.cmp V.part_of QS.has_quorum
-        (state ID.eq (shown progress.now)) result }
+        (state ID.eq (view progress.now)) result }
 {
     meeting_quorums_know_granted::<ID, V, P, QS>();
     *progress.granted()
 }
 
 /// Whether two progresses of the same voters and values grant the same, however they came to be.
-fn grant_alike<ID: Copy + Ord, V: ProgressPart<P> + Drop, P: Copy + Ord, QS: QuorumSet<ID> + Drop>(
+fn grant_alike<ID: Copy + Ord, V: ProgressPart<P>, P: Copy + Ord, QS: QuorumSet<ID>>(
     one: &VecProgress<ID, V, P, QS>,
     other: &VecProgress<ID, V, P, QS>,
 ) -> bool
-    requires one { IsInOrder ID.eq P.cmp V.part_of QS.has_quorum (shown one.now) }
-    requires other { IsInOrder ID.eq P.cmp V.part_of QS.has_quorum (shown other.now) }
-    requires same { IsSame (state ID.eq (shown one.now)) (state ID.eq (shown other.now)) }
+    requires one { IsInOrder ID.eq P.cmp V.part_of QS.has_quorum (view one.now) }
+    requires other { IsInOrder ID.eq P.cmp V.part_of QS.has_quorum (view other.now) }
+    requires same { IsSame (state ID.eq (view one.now)) (state ID.eq (view other.now)) }
     ensures { IsTrue result }
 {
     counted_values_tie::<ID, V, P, QS>();
@@ -241,16 +241,16 @@ fn grant_alike<ID: Copy + Ord, V: ProgressPart<P> + Drop, P: Copy + Ord, QS: Quo
 /// A clone that may go on with updates, without a test of its order.
 fn copy_of<
     ID: Copy + Ord,
-    V: ProgressPart<P> + Clone + Drop,
+    V: ProgressPart<P> + Clone,
     P: Copy + Ord,
-    QS: QuorumSet<ID> + Clone + Drop,
+    QS: QuorumSet<ID> + Clone,
 >(progress: &VecProgress<ID, V, P, QS>) -> Result<VecProgress<ID, V, P, QS>, AllocError>
-    requires ordered { IsInOrder ID.eq P.cmp V.part_of QS.has_quorum (shown progress.now) }
+    requires ordered { IsInOrder ID.eq P.cmp V.part_of QS.has_quorum (view progress.now) }
     requires values { (v w : V) → V.is_clone v w → V.part_of w ≡ V.part_of v }
     requires quorum_sets { (c d : QS) → QS.is_clone c d → (set : ID → Bool) →
         QS.has_quorum d set ≡ QS.has_quorum c set }
     ensures { IfOk result (λ copy.
-        IsInOrder ID.eq P.cmp V.part_of QS.has_quorum (shown copy)) }
+        IsInOrder ID.eq P.cmp V.part_of QS.has_quorum (view copy)) }
 {
     clones_keep_order::<ID, V, P, QS>();
     progress.clone()
@@ -266,10 +266,10 @@ fn step_once_granted<NID: NodeId, N: Node>(
 ) -> Result<bool, AllocError>
     requires nodes { ClonesAreEqual N.eq N.is_clone }
     requires one { length step.items ≡ 1 }
-    ensures { 0 < length (tracked cluster.old).membership.configs →
-        QuorumsKnow NID.eq nat_cmp (λ (v : ℕ). v) (tracked cluster.old) matched →
-        IfOk result (λ _. (0 < length (tracked cluster.new).membership.configs)
-        × QuorumsKnow NID.eq nat_cmp (λ (v : ℕ). v) (tracked cluster.new) matched) }
+    ensures { 0 < length (tracked_view cluster.old).membership.configs →
+        QuorumsKnow NID.eq nat_cmp (λ (v : ℕ). v) (tracked_view cluster.old) matched →
+        IfOk result (λ _. (0 < length (tracked_view cluster.new).membership.configs)
+        × QuorumsKnow NID.eq nat_cmp (λ (v : ℕ). v) (tracked_view cluster.new) matched) }
 {
     if *cluster.progress().granted() < matched {
         return Ok(false);
@@ -288,11 +288,11 @@ fn take_acks<NID: NodeId, N: Node>(
 ) -> Result<(), AllocError>
     requires nodes { ClonesAreEqual N.eq N.is_clone }
     requires acks { list_any is_change acks.items ≡ false }
-    ensures configs { IfOk result (λ _. (tracked cluster.new).membership
-        ≡ (tracked cluster.old).membership) }
+    ensures configs { IfOk result (λ _. (tracked_view cluster.new).membership
+        ≡ (tracked_view cluster.old).membership) }
     ensures known { IfOk result (λ _. (p : ℕ) →
-        QuorumsKnow NID.eq nat_cmp (λ (v : ℕ). v) (tracked cluster.old) p →
-        QuorumsKnow NID.eq nat_cmp (λ (v : ℕ). v) (tracked cluster.new) p) }
+        QuorumsKnow NID.eq nat_cmp (λ (v : ℕ). v) (tracked_view cluster.old) p →
+        QuorumsKnow NID.eq nat_cmp (λ (v : ℕ). v) (tracked_view cluster.new) p) }
 {
     known_stays::<NID, N, u64, u64>();
     let _replies = replay(alloc, cluster, acks)?;
@@ -313,10 +313,10 @@ fn change_twice<NID: NodeId, N: Node>(
     requires first { length first.items ≡ 1 }
     requires acks { list_any is_change acks.items ≡ false }
     requires second { length second.items ≡ 1 }
-    ensures { 0 < length (tracked cluster.old).membership.configs →
-        QuorumsKnow NID.eq nat_cmp (λ (v : ℕ). v) (tracked cluster.old) matched →
+    ensures { 0 < length (tracked_view cluster.old).membership.configs →
+        QuorumsKnow NID.eq nat_cmp (λ (v : ℕ). v) (tracked_view cluster.old) matched →
         IfOk result (λ _.
-        QuorumsKnow NID.eq nat_cmp (λ (v : ℕ). v) (tracked cluster.new) matched) }
+        QuorumsKnow NID.eq nat_cmp (λ (v : ℕ). v) (tracked_view cluster.new) matched) }
 {
     let _is_changed = step_once_granted(alloc, cluster, matched, first)?;
     take_acks(alloc, cluster, acks)?;
@@ -331,12 +331,12 @@ fn has_won<NID: NodeId, N: Node>(
     votes: &Tracked<NID, N, bool, bool>,
     last: u64,
 ) -> bool
-    requires one_change { is_coherent NID.eq (tracked matches.now).membership.configs
-        (tracked votes.now).membership.configs ≡ true }
-    requires from_false { (tracked votes.now).progress.default_part ≡ false }
+    requires one_change { is_coherent NID.eq (tracked_view matches.now).membership.configs
+        (tracked_view votes.now).membership.configs ≡ true }
+    requires from_false { (tracked_view votes.now).progress.default_part ≡ false }
     requires up_to_date { NoneVotedPast NID.eq NID.cmp nat_cmp (λ (v : ℕ). v) bool_cmp
-        (λ (v : Bool). v) (tracked matches.now) (tracked votes.now) last }
-    ensures { IsTrue result → AtMost nat_cmp (tracked matches.now).progress.granted last }
+        (λ (v : Bool). v) (tracked_view matches.now) (tracked_view votes.now) last }
+    ensures { IsTrue result → AtMost nat_cmp (tracked_view matches.now).progress.granted last }
 {
     quorums_know_granted(matches);
     quorums_know_granted(votes);
@@ -353,10 +353,10 @@ fn ballot_over<NID: NodeId, N: Node>(
 ) -> Result<Tracked<NID, N, bool, bool>, ChangeMembershipError<NID>>
     requires nodes { ClonesAreEqual N.eq N.is_clone }
     ensures one_change { IfOk result (λ votes.
-        0 < length (tracked matches.now).membership.configs → is_coherent NID.eq
-        (tracked matches.now).membership.configs (tracked votes).membership.configs ≡ true) }
+        0 < length (tracked_view matches.now).membership.configs → is_coherent NID.eq
+        (tracked_view matches.now).membership.configs (tracked_view votes).membership.configs ≡ true) }
     ensures from_false { IfOk result (λ votes.
-        (tracked votes).progress.default_part ≡ false) }
+        (tracked_view votes).progress.default_part ≡ false) }
 {
     let members = matches.membership().change(change, retain)?;
     Ok(Tracked::new(members, false)?)
@@ -379,8 +379,8 @@ fn conflicts_of<C: Ord + Copy, L: LogStateReader<C>>(
 /// What is granted of a membership and its progress, whether or not a replay has touched them: each
 /// quorum of the membership has a voter with at least that value.
 pub fn granted_now<NID: NodeId, N: Node>(cluster: &Tracked<NID, N, u64, u64>) -> u64
-    ensures quorums { QuorumsKnowGranted NID.eq nat_cmp (λ v. v) (tracked cluster.now) }
-    ensures granted { result ≡ (tracked cluster.now).progress.granted }
+    ensures quorums { QuorumsKnowGranted NID.eq nat_cmp (λ v. v) (tracked_view cluster.now) }
+    ensures granted { result ≡ (tracked_view cluster.now).progress.granted }
 {
     quorums_know_granted(cluster);
     *cluster.progress().granted()
@@ -388,16 +388,16 @@ pub fn granted_now<NID: NodeId, N: Node>(cluster: &Tracked<NID, N, u64, u64>) ->
 
 /// Writes another value at an id, of the same part where it is a voter, and answers whether the id
 /// is known. The progress stays in order, so that updates may follow.
-pub fn replaced<ID: Copy + Ord, V: ProgressPart<P> + Drop, P: Copy + Ord, QS: QuorumSet<ID> + Drop>(
+pub fn replaced<ID: Copy + Ord, V: ProgressPart<P>, P: Copy + Ord, QS: QuorumSet<ID>>(
     progress: &mut VecProgress<ID, V, P, QS>,
     id: &ID,
     value: V,
 ) -> bool
-    requires ordered { IsInOrder ID.eq P.cmp V.part_of QS.has_quorum (shown progress.old) }
-    requires same_part { (v : V) → (state ID.eq (shown progress.old)).value id.now ≡ Some v →
-        (state ID.eq (shown progress.old)).is_voter id.now ≡ true →
+    requires ordered { IsInOrder ID.eq P.cmp V.part_of QS.has_quorum (view progress.old) }
+    requires same_part { (v : V) → (state ID.eq (view progress.old)).value id.now ≡ Some v →
+        (state ID.eq (view progress.old)).is_voter id.now ≡ true →
         V.part_of value ≡ V.part_of v }
-    ensures { IsInOrder ID.eq P.cmp V.part_of QS.has_quorum (shown progress.new) }
+    ensures { IsInOrder ID.eq P.cmp V.part_of QS.has_quorum (view progress.new) }
 {
     kept_parts_keep_order::<ID, V, P, QS>();
     match progress.get_mut(id) {

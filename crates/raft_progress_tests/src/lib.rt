@@ -3,7 +3,7 @@
 //!
 //! A file has the tests of the module of `raft_progress` that has its name. Those that go over several
 //! modules have the name of what they test: `at_least` quorums of a stated size, `events` of any kind
-//! against a table, `growths` for allocations that are refused, `laws` by their callers,
+//! against a table, `allocations` for allocations that are refused, `laws` by their callers,
 //! `follower_laws` by callers over a leader's followers, ids whose order is `reversed`, `texts`, and
 //! `uses` of the theorem.
 #![tactic(auto)]
@@ -21,7 +21,7 @@ mod first_caller;
 #[cfg(test)]
 mod follower_laws;
 #[cfg(test)]
-mod growths;
+mod allocations;
 #[cfg(test)]
 mod inflight;
 #[cfg(test)]

@@ -3,10 +3,10 @@
 ghost use Rattle.raft_base.specs.LeaderIdStd.{std_log_id_cmp};
 ghost use Rattle.raft_progress.specs.progress.CountedValue.{IsCounted};
 ghost use Rattle.raft_progress.specs.progress.InOrder.{IsInOrder};
-ghost use Rattle.raft_progress.specs.progress.Shown.{state};
-ghost use Rattle.raft_progress.specs.progress.VecProgress.{shown};
+ghost use Rattle.raft_progress.specs.progress.ProgressView.{state};
+ghost use Rattle.raft_progress.specs.progress.VecProgress.{view};
 ghost use Rattle.raft_progress.specs.tracked.Headline.{QuorumsKnowGranted};
-ghost use Rattle.raft_progress.specs.tracked.Tracked.{tracked};
+ghost use Rattle.raft_progress.specs.tracked.Tracked.{tracked_view};
 ghost use Rattle.std.specs.Option.{option_cmp};
 ghost use Rattle.std.specs.Prelude.{◌≡◌, nat_eq};
 
@@ -84,15 +84,15 @@ type Last = Option<LogIdOf<CommittedLeaderId>>;
 
 /// Makes the steps. Granted is then the greatest log id, by term and then by index, that a quorum
 /// has reached.
-fn replies_of<QS: QuorumSet<u64> + Drop>(
+fn replies_of<QS: QuorumSet<u64>>(
     alloc: Global,
     progress: &mut VecProgress<u64, Last, Last, QS>,
     steps: Vec<AnyStep<u64, Last, QS>>,
 ) -> Result<Vec<Reply<u64, Last>>, AllocError>
     requires { IsInOrder nat_eq (option_cmp std_log_id_cmp) (λ last. last) QS.has_quorum
-        (shown progress.old) }
+        (view progress.old) }
     ensures { IsCounted (option_cmp std_log_id_cmp) (λ last. last) QS.has_quorum
-        (state nat_eq (shown progress.new)) (shown progress.new).granted }
+        (state nat_eq (view progress.new)) (view progress.new).granted }
 {
     replay_any(alloc, progress, steps)
 }
@@ -105,7 +105,7 @@ fn tracked_replies_of(
     steps: Vec<Step<u64, EmptyNode, Last>>,
 ) -> Result<Vec<Reply<u64, Last>>, AllocError>
     ensures { QuorumsKnowGranted nat_eq (option_cmp std_log_id_cmp) (λ last. last)
-        (tracked cluster.new) }
+        (tracked_view cluster.new) }
 {
     replay(alloc, cluster, steps)
 }
@@ -162,9 +162,9 @@ type Followers = VecProgress<u64, ProgressEntry<u64>, Option<LogId<u64>>, Vec<u6
 /// What is granted once a progress has gone over to another quorum set, without learners.
 fn granted_over<
     ID: Copy + Ord,
-    V: ProgressPart<P> + Clone + Drop,
+    V: ProgressPart<P> + Clone,
     P: Copy + Ord,
-    QS: QuorumSet<ID> + Drop,
+    QS: QuorumSet<ID>,
 >(
     rt: &impl Abort,
     alloc: Global,

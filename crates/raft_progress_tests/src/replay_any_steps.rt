@@ -17,9 +17,9 @@ use std::test::Fail;
 /// What is granted after some steps from a new progress, or nothing where the learners don't fit.
 pub fn granted_after<
     ID: Copy + Ord,
-    V: ProgressPart<P> + PartialOrd + Clone + Drop,
+    V: ProgressPart<P> + PartialOrd + Clone,
     P: Copy + Ord,
-    QS: QuorumSet<ID> + Drop,
+    QS: QuorumSet<ID>,
 >(
     alloc: Global,
     quorum_set: QS,
@@ -47,7 +47,7 @@ pub fn granted_after<
 /// Steps with their replies, the walk that they leave, and how many updates and moves they count.
 struct Script {
     rows: &'static [(Row, Reply<u64, u64>)],
-    walk: &'static [(u64, u64)],
+    entries: &'static [(u64, u64)],
     updates: u64,
     moves: u64,
 }
@@ -71,7 +71,7 @@ fn are_replied(
 
 /// Whether a progress is what a script leaves.
 fn is_left(progress: &Numbers, script: &Script) -> bool {
-    progress.iter().copied().eq(script.walk.iter().copied())
+    progress.iter().copied().eq(script.entries.iter().copied())
         && progress.stat().update_count == script.updates
         && progress.stat().move_count == script.moves
 }
@@ -105,7 +105,7 @@ const INCREASES: Script = Script {
         (Row::IncreaseTo(1, 6), Reply::Granted(5)),
         (Row::IncreaseTo(9, 6), Reply::Unknown(5)),
     ],
-    walk: &[(1, 6), (0, 5), (2, 0), (7, 0)],
+    entries: &[(1, 6), (0, 5), (2, 0), (7, 0)],
     updates: 5,
     moves: 2,
 };
@@ -122,7 +122,7 @@ const UPGRADE: Script = Script {
         (Row::Update(1, 6), Reply::Granted(5)),
         (Row::Upgrade(&[2, 3, 4], &[1], 0), Reply::Granted(0)),
     ],
-    walk: &[(2, 0), (3, 0), (4, 0), (1, 6)],
+    entries: &[(2, 0), (3, 0), (4, 0), (1, 6)],
     updates: 5,
     moves: 2,
 };
@@ -142,7 +142,7 @@ const BEFORE_UPGRADES: Script = Script {
         (Row::Update(1, 6), Reply::Granted(5)),
         (Row::Update(5, 9), Reply::Granted(5)),
     ],
-    walk: &[(1, 6), (0, 5), (2, 0), (5, 9)],
+    entries: &[(1, 6), (0, 5), (2, 0), (5, 9)],
     updates: 3,
     moves: 2,
 };
@@ -193,7 +193,7 @@ const UPDATES: Script = Script {
         (Row::Update(2, 5), Reply::WouldFall),
         (Row::Update(7, 1), Reply::Unknown(4)),
     ],
-    walk: &[(2, 6), (1, 4), (3, 0)],
+    entries: &[(2, 6), (1, 4), (3, 0)],
     updates: 3,
     moves: 2,
 };
@@ -215,7 +215,7 @@ const RISEN_LEARNERS: Script = Script {
         (Row::Update(3, 7), Reply::Granted(0)),
         (Row::Upgrade(&[1, 2, 3], &[], 0), Reply::Granted(6)),
     ],
-    walk: &[(3, 7), (2, 6), (1, 5)],
+    entries: &[(3, 7), (2, 6), (1, 5)],
     updates: 7,
     moves: 3,
 };

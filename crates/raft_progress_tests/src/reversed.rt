@@ -86,7 +86,7 @@ fn the_first_voter_without_a_node_is_the_greatest_number(rt: HostRuntime) -> Res
 type Progress = VecProgress<Reversed, u64, u64, Vec<Reversed>>;
 
 /// Whether a progress walks the ids of these numbers, in turn.
-fn walks(progress: &Progress, want: &[u64]) -> bool {
+fn has_ids(progress: &Progress, want: &[u64]) -> bool {
     progress
         .iter()
         .map(|entry| entry.0.number)
@@ -95,10 +95,10 @@ fn walks(progress: &Progress, want: &[u64]) -> bool {
 
 /// Example progress 14. If the order of ids is reversed, a new progress has 2 before 1.
 #[test]
-fn a_new_progress_walks_the_greatest_number_first(rt: HostRuntime) -> Result<(), Fail> {
+fn a_new_progress_has_the_greatest_number_first(rt: HostRuntime) -> Result<(), Fail> {
     let alloc = rt.alloc();
     let progress: Progress = made(&rt, alloc, ids(alloc, &[1, 2])?, &[], 0)?;
-    assert!(rt; walks(&progress, &[2, 1]));
+    assert!(rt; has_ids(&progress, &[2, 1]));
     Ok(())
 }
 

@@ -3,7 +3,7 @@
 ghost use Rattle.raft_members.specs.quorum.Majority.{is_majority};
 ghost use Rattle.raft_members.specs.quorum.MajorityLawful.{is_majority-superset};
 ghost use Rattle.raft_progress.specs.progress.InOrder.{IsInOrder};
-ghost use Rattle.raft_progress.specs.progress.VecProgress.{shown};
+ghost use Rattle.raft_progress.specs.progress.VecProgress.{view};
 ghost use Rattle.std.specs.Ordering.{nat_cmp};
 ghost use Rattle.std.specs.Prelude.{nat_eq};
 ghost use Rattle.std.specs.Set.{is_member};
@@ -66,7 +66,7 @@ fn is_counted(progress: &Progress, before: u64, most: u64) -> bool {
 /// makes at most so many quorum tests.
 fn compare_updates(rt: &impl Abort, progress: &mut Progress, updates: Updates<'_>, most: u64)
     requires { IsInOrder nat_eq nat_cmp (λ x. x) (λ a s. is_majority nat_eq a.voters.items s)
-        (shown progress.old) }
+        (view progress.old) }
 {
     for (id, value, want) in updates {
         let falls = progress.would_fall(id, value);
@@ -93,7 +93,7 @@ fn compare_replays(
     most: u64,
 ) -> Result<(), AllocError>
     requires { IsInOrder nat_eq nat_cmp (λ x. x) (λ a s. is_majority nat_eq a.voters.items s)
-        (shown progress.old) }
+        (view progress.old) }
 {
     for (id, value, want) in updates {
         let mut steps = Vec::new(alloc);
@@ -111,7 +111,7 @@ fn compare_replays(
 }
 
 /// Whether the walk is the wanted one, where one is wanted, and each id of it is at its place.
-fn has_walk(progress: &Progress, want: &[(u64, u64)]) -> bool {
+fn shows_entries(progress: &Progress, want: &[(u64, u64)]) -> bool {
     let is_placed = |(place, entry): (usize, &(u64, u64))| progress.index(&entry.0) == Some(place);
     want.is_empty()
         || progress.iter().copied().eq(want.iter().copied())
@@ -206,10 +206,10 @@ const ROWS: [Row<'static>; 8] = [
 
 /// Makes the updates of a row, and again by replays, and compares what each counts.
 fn compare(rt: &impl Abort, alloc: Global, row: &Row<'_>) -> Result<(), AllocError> {
-    let (voters, digits, learners, updates, walk, counts) = row;
+    let (voters, digits, learners, updates, entries, counts) = row;
     let mut updated = made(rt, alloc, make_asked(alloc, *voters)?, learners, 0)?;
     compare_updates(rt, &mut updated, updates, *digits);
-    assert!(rt; has_walk(&updated, walk) && has_counts(&updated, counts));
+    assert!(rt; shows_entries(&updated, entries) && has_counts(&updated, counts));
     let mut replayed = made(rt, alloc, make_asked(alloc, *voters)?, learners, 0)?;
     compare_replays(rt, alloc, &mut replayed, updates, *digits)?;
     assert!(rt; *updated.stat() == *replayed.stat());
@@ -260,7 +260,7 @@ fn an_upgrade_counts_its_calls(rt: HostRuntime) -> Result<(), Fail> {
         (&[0, 1, 2], &[], 5, 4, &[(1, 6), (0, 5), (2, 0)]),
         (&[2, 3, 4], &[1], 0, 2, &[(2, 0), (3, 0), (4, 0), (1, 6)]),
     ];
-    for (voters, learners, granted, moves, walk) in rows {
+    for (voters, learners, granted, moves, entries) in rows {
         let mut progress = made(&rt, alloc, make_asked(alloc, 3)?, &[], 0)?;
         compare_updates(&rt, &mut progress, &[(0, 5, Ok(0)), (1, 6, Ok(5))], 2);
         let before = progress.stat().is_quorum_count;
@@ -273,7 +273,7 @@ fn an_upgrade_counts_its_calls(rt: HostRuntime) -> Result<(), Fail> {
         assert!(rt; reply == Some(Reply::Granted(granted)));
         let calls = progress.quorum_set().calls.get();
         assert!(rt; counts_are(progress.stat(), moves, before.saturating_add(calls)));
-        assert!(rt; has_walk(&progress, walk));
+        assert!(rt; shows_entries(&progress, entries));
     }
     Ok(())
 }

@@ -2,7 +2,7 @@
 //! stand in the tests of the program.
 ghost use Rattle.raft_progress.specs.progress.Comparisons.{comparisons};
 ghost use Rattle.raft_progress.specs.tracked.Headline.{QuorumsKnowGranted};
-ghost use Rattle.raft_progress.specs.tracked.TrackedState.{TrackedShown, tracked_state};
+ghost use Rattle.raft_progress.specs.tracked.TrackedState.{TrackedView, tracked_state};
 ghost use Rattle.raft_progress.specs.tracked.TrackedSteps.{IsTrackedRun};
 ghost use Rattle.std.specs.Ordering.{nat_cmp};
 ghost use Rattle.std.specs.Prelude.{◌≡◌, IfOk, List, Ok, ℕ};
@@ -14,7 +14,7 @@ use raft_members::change_members::ChangeMembers;
 use raft_members::membership::Membership;
 use raft_progress::progress::{Progress, ProgressPart, Reply};
 use raft_progress::tracked::{Step, Tracked, replay};
-use raft_testing::growths::is_free_on;
+use raft_testing::allocations::is_free_on;
 use std::alloc::{AllocError, Global};
 use std::collections::BTreeMap;
 use std::test::Fail;
@@ -30,7 +30,7 @@ pub fn granted_of<NID: NodeId, N: Node>(
     ensures { let by = comparisons NID.Ord ⟦<u64 as Ord>⟧ ⟦<u64 as PartialOrd>⟧
         ⟦<u64 as ProgressPart<u64>>⟧ ⟦<u64 as Clone>⟧ in
         IfOk result (λ granted.
-        (first last : TrackedShown NID N ℕ ℕ) × (replies : List (Reply NID ℕ))
+        (first last : TrackedView NID N ℕ ℕ) × (replies : List (Reply NID ℕ))
         × (first.membership ≡ membership)
         × IsTrackedRun by N.eq (tracked_state NID.eq first) steps.items replies
         (tracked_state NID.eq last)
@@ -97,8 +97,8 @@ fn are_replied(alloc: Global, cluster: &mut TrackedNumbers) -> Result<bool, Allo
 /// counted is right. A change counts each node as an update, and each that rises as a move.
 fn is_ended(alloc: Global, cluster: &TrackedNumbers) -> Result<bool, AllocError> {
     let progress = cluster.progress();
-    let walk = [(2, 7), (1, 5), (3, 4)];
-    let is_right = progress.iter().copied().eq(walk.iter().copied())
+    let entries = [(2, 7), (1, 5), (3, 4)];
+    let is_right = progress.iter().copied().eq(entries.iter().copied())
         && *progress.granted() == 5
         && progress.stat().update_count == 8
         && progress.stat().move_count == 6;

@@ -1,5 +1,5 @@
 //! One theorem, three uses: what is granted where a value is a match, a vote, or a moment.
-ghost use Rattle.raft_progress.specs.tracked.Tracked.{tracked};
+ghost use Rattle.raft_progress.specs.tracked.Tracked.{tracked_view};
 ghost use Rattle.raft_progress_tests.specs.Uses.{MajorityOfEach};
 ghost use Rattle.std.specs.Prelude.{◌<◌, ◌↔◌, ◌≡◌, ◌≤◌, IsTrue, false, nat_le, ℕ};
 
@@ -17,8 +17,8 @@ type Configs<NID> = Joint<NID, Vec<NID>, Vec<Vec<NID>>>;
 
 /// The commit index: an index is committed exactly where a majority of each config matches it.
 fn commit_index<NID: NodeId, N: Node>(matches: &Tracked<NID, N, u64, u64>) -> u64
-    ensures { (index : ℕ) → (tracked matches.now).progress.default_part < index → index ≤ result
-        ↔ MajorityOfEach NID.eq (tracked matches.now) (λ matched. nat_le index matched) }
+    ensures { (index : ℕ) → (tracked_view matches.now).progress.default_part < index → index ≤ result
+        ↔ MajorityOfEach NID.eq (tracked_view matches.now) (λ matched. nat_le index matched) }
 {
     quorums_know_granted(matches);
     granted_is_threshold::<NID, u64, u64, Configs<NID>>();
@@ -27,8 +27,8 @@ fn commit_index<NID: NodeId, N: Node>(matches: &Tracked<NID, N, u64, u64>) -> u6
 
 /// Whether a candidate is elected: exactly where a majority of each config has voted `true`.
 fn is_elected<NID: NodeId, N: Node>(votes: &Tracked<NID, N, bool, bool>) -> bool
-    ensures { (tracked votes.now).progress.default_part ≡ false → IsTrue result
-        ↔ MajorityOfEach NID.eq (tracked votes.now) (λ voted. voted) }
+    ensures { (tracked_view votes.now).progress.default_part ≡ false → IsTrue result
+        ↔ MajorityOfEach NID.eq (tracked_view votes.now) (λ voted. voted) }
 {
     quorums_know_granted(votes);
     granted_is_threshold::<NID, bool, bool, Configs<NID>>();
@@ -38,8 +38,8 @@ fn is_elected<NID: NodeId, N: Node>(votes: &Tracked<NID, N, bool, bool>) -> bool
 /// Whether a lease from a moment on is held: exactly where a majority of each config has replied
 /// then or later.
 fn holds_lease<NID: NodeId, N: Node>(replies: &Tracked<NID, N, u64, u64>, since: u64) -> bool
-    ensures { (tracked replies.now).progress.default_part < since → IsTrue result
-        ↔ MajorityOfEach NID.eq (tracked replies.now) (λ last. nat_le since last) }
+    ensures { (tracked_view replies.now).progress.default_part < since → IsTrue result
+        ↔ MajorityOfEach NID.eq (tracked_view replies.now) (λ last. nat_le since last) }
 {
     quorums_know_granted(replies);
     granted_is_threshold::<NID, u64, u64, Configs<NID>>();
@@ -47,7 +47,7 @@ fn holds_lease<NID: NodeId, N: Node>(replies: &Tracked<NID, N, u64, u64>, since:
 }
 
 /// A membership of these configs, with a progress from a default on.
-fn cluster<V: ProgressPart<V> + Copy + Ord + Drop>(
+fn cluster<V: ProgressPart<V> + Copy + Ord>(
     alloc: Global,
     configs: &[&[u64]],
     default: V,

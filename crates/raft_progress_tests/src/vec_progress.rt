@@ -1,5 +1,5 @@
 //! A progress: its calls, each once, and upgrades through a joint.
-ghost use Rattle.raft_progress.specs.progress.VecProgress.{shown};
+ghost use Rattle.raft_progress.specs.progress.VecProgress.{view};
 ghost use Rattle.std.specs.Prelude.{◌≡◌, length};
 
 use crate::support::rows::Numbers;
@@ -165,9 +165,9 @@ fn any_progress_grants(rt: HostRuntime) -> Result<(), Fail> {
 
 /// Writes a value at each id. Only the walk changes, and it stays as long as it was.
 fn fill(progress: &mut VecProgress<u64, u64, u64, Vec<u64>>, value: u64)
-    ensures all_else { shown progress.new ≡
-        record (shown progress.old) { walk = (shown progress.new).walk } }
-    ensures as_long { length (shown progress.new).walk ≡ length (shown progress.old).walk }
+    ensures all_else { view progress.new ≡
+        record (view progress.old) { entries = (view progress.new).entries } }
+    ensures as_long { length (view progress.new).entries ≡ length (view progress.old).entries }
 {
     for entry in progress.iter_mut() {
         entry.1 = value;

@@ -33,9 +33,9 @@ use Rattle.raft_safety.specs.Log.{Entry, last_term, last_term_or}
 use Rattle.raft_safety.specs.AppendEntries.{ConsistencyChecksSuffice, after_append_entries, has_next}
 use Rattle.raft_safety.specs.Events.{log_after}
 
-pub shown_length : (l : List LogEntry) → length (entries_of l) ≡ length l
-shown_length [] = refl
-shown_length (e ∷ l) = ap suc (shown_length l)
+pub entries_of_length : (l : List LogEntry) → length (entries_of l) ≡ length l
+entries_of_length [] = refl
+entries_of_length (e ∷ l) = ap suc (entries_of_length l)
 
 term_from : (t : ℕ) (l : List LogEntry) (i : ℕ) → i < length l
     → last_term_or number t (take (suc i) (entries_of l)) ≡ (get_or l i unset).term
@@ -47,7 +47,7 @@ term_from t (e ∷ l) (suc i) lt = term_from e.term l i (omega arith)
 pub there : (l : List LogEntry) (i t : ℕ) → i < length l → (get_or l i unset).term ≡ t
     → has_next number i (entries_of l) t ≡ true
 there l i t lt e =
-    both_true (lt-ltb i (length (entries_of l)) (omega (arith, shown_length l, lt)))
+    both_true (lt-ltb i (length (entries_of l)) (omega (arith, entries_of_length l, lt)))
     (eq-eqb (last_term number (take (suc i) (entries_of l))) t (term_from 0 l i lt ∙ e))
 
 not_true : (b : Bool) → (b ≡ true → ⊥) → b ≡ false
@@ -62,7 +62,7 @@ absent l i t h =
     let lt : i < length l =
     omega (
       arith,
-      shown_length l,
+      entries_of_length l,
       ltb-true i (length (entries_of l))
           (first_so (nat_lt i (length (entries_of l))) (nat_eq (last_term number (take (suc i) (entries_of l))) t) b),
     ) in
@@ -112,7 +112,7 @@ pub may_take : ConsistencyChecksSuffice ℕ ℕ ℕ → (old : List LogEntry) (f
     → entries_of new ≡ after_append_entries number from (entries_of old) (entries_of es)
     → MayTake (entries_of old) from (entries_of es) (entries_of new)
 may_take law old from es new fits is quorum h follows safe s ds t c ok log term sent last =
-    let le : from ≤ length (log_after ds) = omega (arith, fits, ap length log, shown_length old) in
+    let le : from ≤ length (log_after ds) = omega (arith, fits, ap length log, entries_of_length old) in
     let same : last_term number (take from (log_after ds)) ≡ last_term number (take from (h.leader_log t c)) =
     ap (λ (l : List (Entry ℕ ℕ)). last_term number (take from l)) log ∙ last in
     rw (is, ← log)
@@ -121,7 +121,7 @@ may_take law old from es new fits is quorum h follows safe s ds t c ok log term 
 pub last_is : (l : List LogEntry) → 0 < length l
     → (get_or l (length l - 1) unset).term ≡ last_term number (entries_of l)
 last_is l some =
-    let e : suc (length l - 1) ≡ length (entries_of l) = omega (arith, shown_length l) in
+    let e : suc (length l - 1) ≡ length (entries_of l) = omega (arith, entries_of_length l) in
     sym (term_from 0 l (length l - 1) (omega arith))
     ∙ ap (last_term number)
     (ap (λ (n : ℕ). take n (entries_of l)) e ∙ take_all (length (entries_of l)) (entries_of l) (omega arith))

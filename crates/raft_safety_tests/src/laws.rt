@@ -1,6 +1,6 @@
 //! Callers of the laws, each as an engine has the need of it.
 ghost use Rattle.raft_base.specs.LeaderId.{leader_id_cmp};
-ghost use Rattle.raft_base.specs.declared.leader_id.LeaderId.{LeaderId as LeaderIdShown};
+ghost use Rattle.raft_base.specs.declared.leader_id.LeaderId.{LeaderId as LeaderIdRecord};
 ghost use Rattle.raft_safety.specs.Apply.{StateMachinesAgree};
 ghost use Rattle.raft_safety.specs.Configs.{JointMembersAreSafe, StepsAreCoherent};
 ghost use Rattle.raft_safety.specs.Execution.{ExecutionsKeepFacts, StateMachinesAgreeAtAllTimes};
@@ -50,7 +50,7 @@ pub fn kind_is_safe<NID: NodeId, K: LeaderKind<NID>, D, M>()
 
 /// Leader ids of a term and a node, as they are by default.
 pub fn default_ids_are_safe()
-    ensures { AllowedTracesAgree (LeaderIdShown ℕ) ℕ ℕ ℕ (leader_id_cmp nat_cmp) }
+    ensures { AllowedTracesAgree (LeaderIdRecord ℕ) ℕ ℕ ℕ (leader_id_cmp nat_cmp) }
 {
     kind_is_safe::<u64, LeaderAdv, u64, u64>();
 }

@@ -9,10 +9,10 @@ use Rattle.raft_members.specs.membership.Members.{node_at}
 use Rattle.raft_progress.specs.progress.Comparisons.{Comparisons}
 use Rattle.raft_progress.specs.progress.CountedValue.{IsCounted}
 use Rattle.raft_progress.specs.tracked.Headline.{ChangedQuorumsKnowGranted, QuorumsKnowGranted}
-use Rattle.raft_progress.specs.progress.Shown.{state}
-use Rattle.raft_progress.specs.tracked.Tracked.{tracked}
+use Rattle.raft_progress.specs.progress.ProgressView.{state}
+use Rattle.raft_progress.specs.tracked.Tracked.{tracked_view}
 use Rattle.raft_progress.specs.tracked.TrackedState as tracked_state
-use Rattle.raft_progress.specs.tracked.TrackedState.{CountsBy, TrackedShown, TrackedState, has_quorum}
+use Rattle.raft_progress.specs.tracked.TrackedState.{CountsBy, TrackedView, TrackedState, has_quorum}
 use Rattle.raft_progress.specs.tracked.TrackedSteps.{IsTrackedRun}
 use Rattle.raft_progress.specs.declared.progress.steps.Reply.{Reply}
 use Rattle.raft_progress.specs.declared.tracked.step.Step.{Step}
@@ -39,21 +39,21 @@ by_number =
     }
 
 -- what contracts see of a membership and its progress
-abbrev pub EngineShown : Type 0
-EngineShown = TrackedShown ℕ EmptyNode ℕ ℕ
+abbrev pub EngineView : Type 0
+EngineView = TrackedView ℕ EmptyNode ℕ ℕ
 
 -- a membership and its progress, apart from how they are stored
 abbrev pub EngineState : Type 0
 EngineState = TrackedState ℕ EmptyNode ℕ ℕ
 
 -- what contracts see of an engine's membership and its progress, if the engine has them
-abbrev pub shown_of : Engine → Option EngineShown
-shown_of engine = option_map tracked engine.tracked
+abbrev pub engine_view : Engine → Option EngineView
+engine_view engine = option_map tracked_view engine.tracked
 
 -- an engine's membership and its progress, apart from how they are stored, if it has them
 abbrev pub engine_state : Engine → Option EngineState
 engine_state engine =
-    option_map (λ t. tracked_state.tracked_state nat_eq (tracked t)) engine.tracked
+    option_map (λ t. tracked_state.tracked_state nat_eq (tracked_view t)) engine.tracked
 
 -- the membership has the configs, and a node for each voter and learner, which all have the
 -- default; the progress counts by it
@@ -84,7 +84,7 @@ AnswersStep (Some old) step (Some reply) new =
 
 -- granted is the counted value, and each quorum, now and after one change of the membership, has a
 -- voter with at least that value
-abbrev pub GrantedIsKnown : EngineShown → Type 0
+abbrev pub GrantedIsKnown : EngineView → Type 0
 GrantedIsKnown t =
     IsCounted nat_cmp part (has_quorum nat_eq) (state nat_eq t.progress) t.progress.granted
     × QuorumsKnowGranted nat_eq nat_cmp part t

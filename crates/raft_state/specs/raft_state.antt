@@ -1,5 +1,5 @@
 -- The state of a node: what is valid and sound, and what its calls leave.
-pub mod StateView
+pub mod VoteAndLog
 pub mod NewState
 pub mod Valid
 pub mod Sound

@@ -3,11 +3,11 @@ ghost use Rattle.std.specs.Prelude.{◌≡◌, ◌+◌, ◌-◌, ◌*◌, ◌/�
 ghost use Rattle.raft_base.specs.LogId.{id_le, next_index};
 ghost use Rattle.raft_progress.specs.catch_up.CatchUp.{MatchesAll};
 ghost use Rattle.raft_progress.specs.catch_up.HonestRun.{HonestRunEnds};
-ghost use Rattle.raft_progress.specs.progress.VecProgress.{shown};
+ghost use Rattle.raft_progress.specs.progress.VecProgress.{view};
 ghost use Rattle.raft_progress.specs.search.Search.{stretch};
 ghost use Rattle.raft_state.specs.raft_state.CatchUp.{state_can_catch_up};
 ghost use Rattle.raft_state.specs.raft_state.Round.{IsCaughtUp, IsInOrderByMatch, IsRoundEnd, Visits};
-ghost use Rattle.raft_state.specs.raft_state.StateView.{view_of};
+ghost use Rattle.raft_state.specs.raft_state.VoteAndLog.{log_view_of};
 
 use crate::raft_state::RaftStateIn;
 use raft_base::{Instant, LogIdOf, Node, NodeId, Validate};
@@ -40,13 +40,13 @@ impl<NID: NodeId, N: Node, I: Instant, L: Drop, C: Ord + Copy + Drop> RaftStateI
         max_entries: u64,
     ) -> (u64, u64)
         requires { IsTrue (state_can_catch_up C.eq C.cmp self.now entry.old agree max_entries) }
-        ensures run { HonestRunEnds C.cmp (view_of self.now) max_entries
+        ensures run { HonestRunEnds C.cmp (log_view_of self.now) max_entries
             entry.old agree entry.new result.0 result.1 }
-        ensures caught_up { MatchesAll C.eq (view_of self.now) entry.new }
+        ensures caught_up { MatchesAll C.eq (log_view_of self.now) entry.new }
         ensures monotone { IsTrue (id_le C.cmp entry.old.matching entry.new.matching) }
         ensures conflicts { (k : ℕ) → stretch entry.old / 16 < 2 ^ k → result.0 ≤ k }
         ensures acks { let left =
-            next_index (view_of self.now).last - next_index entry.old.matching in
+            next_index (log_view_of self.now).last - next_index entry.old.matching in
             result.1 * max_entries < left + max_entries }
     {
         // This read is for the proof: by its contract the log has all that is sent.
@@ -62,17 +62,17 @@ impl<NID: NodeId, N: Node, I: Instant, L: Drop, C: Ord + Copy + Drop> RaftStateI
     ///
     /// If at least one voter was caught up, and the followers that were caught up are a quorum, the
     /// last log id is granted, or more if a voter matched past it before.
-    pub fn catch_up_all<QS: QuorumSet<NID> + Drop>(
+    pub fn catch_up_all<QS: QuorumSet<NID>>(
         &self,
         progress: &mut FollowersOf<C, NID, QS>,
         followers: &[(NID, u64)],
         max_entries: u64,
     ) -> u64
-        requires { IsInOrderByMatch NID.eq C.cmp QS.has_quorum (shown progress.old) }
-        ensures ordered { IsInOrderByMatch NID.eq C.cmp QS.has_quorum (shown progress.new) }
+        requires { IsInOrderByMatch NID.eq C.cmp QS.has_quorum (view progress.old) }
+        ensures ordered { IsInOrderByMatch NID.eq C.cmp QS.has_quorum (view progress.new) }
         ensures round { let can = state_can_catch_up C.eq C.cmp self.now in
-            (ran : List NID) × IsRoundEnd NID.eq C.eq C.cmp QS.has_quorum (view_of self.now)
-            max_entries can (shown progress.old) followers.now result (shown progress.new) ran }
+            (ran : List NID) × IsRoundEnd NID.eq C.eq C.cmp QS.has_quorum (log_view_of self.now)
+            max_entries can (view progress.old) followers.now result (view progress.new) ran }
     {
         let mut count = 0;
         for follower in followers {
@@ -84,20 +84,20 @@ impl<NID: NodeId, N: Node, I: Instant, L: Drop, C: Ord + Copy + Drop> RaftStateI
     }
 
     /// Catches a follower up if it is known and `can_catch_up` is true. Returns whether it did.
-    fn visit<QS: QuorumSet<NID> + Drop>(
+    fn visit<QS: QuorumSet<NID>>(
         &self,
         progress: &mut FollowersOf<C, NID, QS>,
         id: &NID,
         agree: u64,
         max_entries: u64,
     ) -> bool
-        requires { IsInOrderByMatch NID.eq C.cmp QS.has_quorum (shown progress.old) }
-        ensures ordered { IsInOrderByMatch NID.eq C.cmp QS.has_quorum (shown progress.new) }
+        requires { IsInOrderByMatch NID.eq C.cmp QS.has_quorum (view progress.old) }
+        ensures ordered { IsInOrderByMatch NID.eq C.cmp QS.has_quorum (view progress.new) }
         ensures visited { let can = state_can_catch_up C.eq C.cmp self.now in
-            Visits NID.eq C.cmp QS.has_quorum (view_of self.now) max_entries can
-            (shown progress.old) id.now agree result (shown progress.new) }
+            Visits NID.eq C.cmp QS.has_quorum (log_view_of self.now) max_entries can
+            (view progress.old) id.now agree result (view progress.new) }
         ensures caught_up { IsTrue result →
-            IsCaughtUp NID.eq C.eq (view_of self.now) (shown progress.new) id.now }
+            IsCaughtUp NID.eq C.eq (log_view_of self.now) (view progress.new) id.now }
     {
         match progress.try_get(id).copied() {
             None => false,

@@ -6,12 +6,12 @@ ghost use Rattle.raft_base.specs.LogId.{id_le, same_ids};
 ghost use Rattle.raft_base.specs.LogIndex.{index_le};
 ghost use Rattle.raft_members.specs.membership.Stored.{log_id_of};
 ghost use Rattle.raft_state.specs.raft_state.Install.{is_logged, is_not_past, is_past_committed, keeps_committed, keeps_effective, may_install, log_to_keep, log_after_install, memberships_after_install, state_after_install};
-ghost use Rattle.raft_state.specs.log_id_list.LogConditions.{may_be_purged_to};
+ghost use Rattle.raft_state.specs.log_id_list.LogConditions.{can_purge};
 ghost use Rattle.raft_state.specs.log_id_list.LogReads.{last_id};
 ghost use Rattle.raft_state.specs.membership_state.Memberships.{index_at};
 ghost use Rattle.raft_state.specs.SnapshotMeta.{IsSnapshotCopy};
 ghost use Rattle.raft_state.specs.raft_state.Sound.{IsSound};
-ghost use Rattle.raft_state.specs.raft_state.StateView.{view_of};
+ghost use Rattle.raft_state.specs.raft_state.VoteAndLog.{log_view_of};
 ghost use Rattle.raft_state.specs.raft_state.Valid.{broken_relation, none_or_logged};
 
 use crate::log_id_list::LogIdListOf;
@@ -89,7 +89,7 @@ impl<
         ensures committed { OnOk result (self.new.committed ≡ meta.last_log_id) }
         ensures purge_point { OnOk result (self.new.purge_upto ≡ meta.last_log_id) }
         ensures logged { OnOk result
-            (IsTrue (none_or_logged C.eq (view_of self.new) meta.last_log_id)) }
+            (IsTrue (none_or_logged C.eq (log_view_of self.new) meta.last_log_id)) }
         ensures own_membership { OnOk result (IfSome meta.last_log_id (λ upto. IsTrue
             (index_le (index_at self.old.membership_state.committed) (Some upto.index)) →
             IsTrue (same_ids C.eq (log_id_of self.new.membership_state.committed)
@@ -151,7 +151,7 @@ impl<
     /// Returns the log ids from the last one of a snapshot on.
     fn log_ids_from(&self, upto: LogIdOf<C>) -> Result<LogIdListOf<C>, AllocError>
         requires { IsTrue
-            (may_be_purged_to C.cmp (last_id (log_to_keep C.eq upto self.now)) upto) }
+            (can_purge C.cmp (last_id (log_to_keep C.eq upto self.now)) upto) }
         ensures { IfOk result (λ log_ids.
             full_log log_ids ≡ log_after_install C.eq upto self.now) }
     {

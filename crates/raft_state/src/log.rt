@@ -16,7 +16,7 @@ ghost use Rattle.raft_state.specs.log_id_list.LogKept.{HasIds, KeepsIds};
 ghost use Rattle.raft_state.specs.log_id_list.LogReads.{id_at, last_id};
 ghost use Rattle.raft_state.specs.raft_state.Purge.{first_after_purge, may_purge};
 ghost use Rattle.raft_state.specs.raft_state.Sound.{IsSound};
-ghost use Rattle.raft_state.specs.raft_state.StateView.{view_of};
+ghost use Rattle.raft_state.specs.raft_state.VoteAndLog.{log_view_of};
 ghost use Rattle.raft_state.specs.raft_state.Valid.{broken_relation, none_or_logged};
 
 use crate::log_id_list::LeaderRange;
@@ -131,12 +131,12 @@ impl<NID: NodeId, N: Node, I: Instant, L: Drop, C: Ord + Copy + Drop> RaftStateI
             IsTrue (id_le C.cmp committed.now (last_id (full_log self.old.log_ids))) →
             broken_relation C.cmp self.new ≡ None }
         ensures sound { IsSound C.eq C.cmp self.old →
-            IsTrue (none_or_logged C.eq (view_of self.old) committed.now) →
+            IsTrue (none_or_logged C.eq (log_view_of self.old) committed.now) →
             IsSound C.eq C.cmp self.new }
         ensures stays_logged { OnOk result
-            (none_or_logged C.eq (view_of self.old) self.old.committed ≡ true →
-            none_or_logged C.eq (view_of self.old) committed.now ≡ true →
-            none_or_logged C.eq (view_of self.new) self.new.committed ≡ true) }
+            (none_or_logged C.eq (log_view_of self.old) self.old.committed ≡ true →
+            none_or_logged C.eq (log_view_of self.old) committed.now ≡ true →
+            none_or_logged C.eq (log_view_of self.new) self.new.committed ≡ true) }
         ensures no_memory { state_commits C.cmp committed.now self.old ≡ false → IsOk result }
     {
         // This read is for the proof: by its contract the keys are in order.
@@ -154,7 +154,7 @@ impl<NID: NodeId, N: Node, I: Instant, L: Drop, C: Ord + Copy + Drop> RaftStateI
     /// Whether the precondition of `first_conflicting_index` holds: `can_ask` is true of the log id
     /// of each entry.
     pub fn can_ask_all<Ent: RaftLogId<C>>(&self, entries: &[Ent]) -> bool
-        ensures { result ≡ list_all (λ e. may_ask C.cmp (view_of self.now) (Ent.id_of e))
+        ensures { result ≡ list_all (λ e. may_ask C.cmp (log_view_of self.now) (Ent.id_of e))
             entries.now }
     {
         for entry in entries {
@@ -172,15 +172,15 @@ impl<NID: NodeId, N: Node, I: Instant, L: Drop, C: Ord + Copy + Drop> RaftStateI
     /// what is committed. Use `is_purged_or_logged` to compare a log id with all that is not
     /// purged.
     pub fn first_conflicting_index<Ent: RaftLogId<C>>(&self, entries: &[Ent]) -> usize
-        requires { IsTrue (list_all (λ e. may_ask C.cmp (view_of self.now) (Ent.id_of e))
+        requires { IsTrue (list_all (λ e. may_ask C.cmp (log_view_of self.now) (Ent.id_of e))
             entries.now) }
-        ensures place { result ≡ prefix_len (λ e. has_id C.eq (view_of self.now) (Ent.id_of e))
+        ensures place { result ≡ prefix_len (λ e. has_id C.eq (log_view_of self.now) (Ent.id_of e))
             entries.now }
         ensures within { result ≤ length entries.now }
-        ensures before { IsTrue (list_all (λ e. has_id C.eq (view_of self.now) (Ent.id_of e))
+        ensures before { IsTrue (list_all (λ e. has_id C.eq (log_view_of self.now) (Ent.id_of e))
             (take result entries.now)) }
         ensures at { IfSome (slice_get entries.now result)
-            (λ e. has_id C.eq (view_of self.now) (Ent.id_of e) ≡ false) }
+            (λ e. has_id C.eq (log_view_of self.now) (Ent.id_of e) ≡ false) }
     {
         let mut range = None;
         for (place, entry) in entries.iter().enumerate() {
@@ -198,7 +198,7 @@ impl<NID: NodeId, N: Node, I: Instant, L: Drop, C: Ord + Copy + Drop> RaftStateI
     fn has_entry<Ent: RaftLogId<C>>(&self, entry: &Ent, range: &mut Option<LeaderRange<C>>) -> bool
         requires { IfSome range.old
             (λ r. HasOneLeader (full_log self.now.log_ids) r.leader_id r.first r.last) }
-        ensures answer { result ≡ has_id C.eq (view_of self.now) (Ent.id_of entry.now) }
+        ensures answer { result ≡ has_id C.eq (log_view_of self.now) (Ent.id_of entry.now) }
         ensures range { IfSome range.new
             (λ r. HasOneLeader (full_log self.now.log_ids) r.leader_id r.first r.last) }
     {

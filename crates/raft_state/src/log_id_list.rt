@@ -7,7 +7,7 @@ ghost use Rattle.raft_state.specs.log_id_list.FullLog.{full_log, first_index, en
 ghost use Rattle.raft_state.specs.log_id_list.LogReads.{id_at, first_id, last_id, last_two_share_leader, leader_count};
 ghost use Rattle.raft_state.specs.log_id_list.LogEdits.{log_after_append, log_after_extend, front, log_after_purge};
 ghost use Rattle.raft_state.specs.log_id_list.LogKept.{HasIds, KeepsIds};
-ghost use Rattle.raft_state.specs.log_id_list.LogConditions.{follows, all_follow, all_follow_of_one_leader, may_be_purged_to};
+ghost use Rattle.raft_state.specs.log_id_list.LogConditions.{follows, all_follow, all_follow_of_one_leader, can_purge};
 ghost use Rattle.raft_state.specs.log_id_list.Keys.{may_be_keys, by_last_leader};
 ghost use Rattle.raft_state.specs.Inner.LeaderRange.{HasOneLeader};
 
@@ -192,7 +192,7 @@ impl<C: Ord + Copy> LogIdListOf<C> {
     /// below the first index, nothing changes. Otherwise the first index becomes the index of
     /// `upto`. It allocates only for an empty list.
     pub fn purge(&mut self, upto: &LogIdOf<C>) -> Result<(), AllocError>
-        requires { IsTrue (may_be_purged_to C.cmp (last_id (full_log self.old)) upto.now) }
+        requires { IsTrue (can_purge C.cmp (last_id (full_log self.old)) upto.now) }
         ensures ok { OnOk result (full_log self.new ≡ log_after_purge (full_log self.old)
             upto.now) }
         ensures first { OnOk result (first_index (full_log self.new)
@@ -215,7 +215,7 @@ impl<C: Ord + Copy> LogIdListOf<C> {
     /// Whether the log may be purged up to a log id: its index is not past the last one, or its
     /// leader is not less than the last one's.
     pub fn can_purge(&self, upto: &LogIdOf<C>) -> bool
-        ensures { result ≡ may_be_purged_to C.cmp (last_id (full_log self.now)) upto.now }
+        ensures { result ≡ can_purge C.cmp (last_id (full_log self.now)) upto.now }
     {
         match self.last() {
             None => true,

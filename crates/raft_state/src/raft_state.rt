@@ -14,7 +14,7 @@ ghost use Rattle.raft_state.specs.log_id_list.LogReads.{last_id};
 ghost use Rattle.raft_state.specs.raft_state.NewState.{IsNewState, HasNewVote};
 ghost use Rattle.raft_state.specs.SnapshotMeta.{IsSnapshotCopy};
 ghost use Rattle.raft_state.specs.raft_state.Sound.{IsSound};
-ghost use Rattle.raft_state.specs.raft_state.StateView.{view_of, vote_of};
+ghost use Rattle.raft_state.specs.raft_state.VoteAndLog.{log_view_of, vote_of};
 ghost use Rattle.raft_state.specs.raft_state.Valid.{broken_relation};
 
 pub use crate::accepted::Accepted;
@@ -80,7 +80,7 @@ impl<NID: NodeId, N: Node, I: Instant, L: Drop, C: Ord + Copy + Drop> LogStateRe
     for RaftStateIn<NID, N, I, L, C> {
     ghost use Rattle.raft_state.specs.log_id_list.LogReadsLawful.{id_at-indexed};
 
-    ghost log_view = { view_of };
+    ghost log_view = { log_view_of };
 
     fn get_log_id(&self, index: u64) -> Option<LogIdOf<C>> {
         self.log_ids.get(index)

@@ -2,7 +2,7 @@
 ghost use Rattle.std.specs.Prelude.{◌≡◌, ◌↔◌, IsTrue};
 ghost use Rattle.raft_state.specs.Inner.SoundTest.{passes_sound};
 ghost use Rattle.raft_state.specs.raft_state.Sound.{IsSound, purged_or_logged};
-ghost use Rattle.raft_state.specs.raft_state.StateView.{view_of};
+ghost use Rattle.raft_state.specs.raft_state.VoteAndLog.{log_view_of};
 ghost use Rattle.raft_state.specs.raft_state.Valid.{none_or_logged};
 
 use crate::raft_state::RaftStateIn;
@@ -42,7 +42,7 @@ impl<NID: NodeId, N: Node, I: Instant, L: Drop, C: Ord + Copy + Drop> RaftStateI
     /// Whether a log id is absent, or the log has it at its index. Of what is purged the log has
     /// only the last log id.
     pub fn is_logged(&self, log_id: &Option<LogIdOf<C>>) -> bool
-        ensures { result ≡ none_or_logged C.eq (view_of self.now) log_id.now }
+        ensures { result ≡ none_or_logged C.eq (log_view_of self.now) log_id.now }
     {
         match log_id {
             None => true,

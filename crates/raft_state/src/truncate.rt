@@ -6,8 +6,8 @@ ghost use Rattle.raft_state.specs.log_id_list.LogEdits.{front};
 ghost use Rattle.raft_state.specs.log_id_list.LogReads.{id_at, last_id};
 ghost use Rattle.raft_state.specs.membership_state.MembershipMoves.{after_truncate, is_cut};
 ghost use Rattle.raft_state.specs.raft_state.Sound.{IsSound};
-ghost use Rattle.raft_state.specs.raft_state.StateView.{view_of};
-ghost use Rattle.raft_state.specs.raft_state.Truncate.{may_truncate};
+ghost use Rattle.raft_state.specs.raft_state.VoteAndLog.{log_view_of};
+ghost use Rattle.raft_state.specs.raft_state.Truncate.{can_truncate_log};
 ghost use Rattle.raft_state.specs.raft_state.Valid.{broken_relation, none_or_logged};
 
 use crate::log_id_list::LogIdListOf;
@@ -24,7 +24,7 @@ impl<NID: NodeId, N: Node, I: Instant, L: Drop, C: Ord + Copy + Drop> RaftStateI
     /// The second condition follows from the first if the committed log id is in the log. Otherwise
     /// it need not, because log ids are compared by their leaders first.
     pub fn can_truncate_log(&self, since: u64) -> bool
-        ensures { result ≡ may_truncate C.cmp since self.now }
+        ensures { result ≡ can_truncate_log C.cmp since self.now }
     {
         index_below(self.committed.index(), Some(since))
             && log_id_at_most(self.committed, last_below(&self.log_ids, since))
@@ -39,7 +39,7 @@ impl<NID: NodeId, N: Node, I: Instant, L: Drop, C: Ord + Copy + Drop> RaftStateI
     ///
     /// After an error nothing has changed.
     pub fn truncate_log(&mut self, since: u64) -> Result<bool, AllocError>
-        requires { IsTrue (may_truncate C.cmp since self.old) }
+        requires { IsTrue (can_truncate_log C.cmp since self.old) }
         ensures log { OnOk result
             (full_log self.new.log_ids ≡ front (full_log self.old.log_ids) since) }
         ensures ok { OnOk result (self.new ≡ record self.old {
@@ -56,8 +56,8 @@ impl<NID: NodeId, N: Node, I: Instant, L: Drop, C: Ord + Copy + Drop> RaftStateI
         ensures kept { OnOk result ((index : ℕ) → index < since →
             id_at (full_log self.new.log_ids) index ≡ id_at (full_log self.old.log_ids) index) }
         ensures committed_stays_logged { OnOk result
-            (none_or_logged C.eq (view_of self.old) self.old.committed ≡ true →
-            none_or_logged C.eq (view_of self.new) self.new.committed ≡ true) }
+            (none_or_logged C.eq (log_view_of self.old) self.old.committed ≡ true →
+            none_or_logged C.eq (log_view_of self.new) self.new.committed ≡ true) }
         ensures no_memory { is_cut since self.old.membership_state ≡ false → IsOk result }
     {
         // This read is for the proof: by its contract the keys are in order.

@@ -6,7 +6,7 @@ ghost use Rattle.raft_base.specs.LogIndex.{index_lt};
 ghost use Rattle.raft_state.specs.log_id_list.FullLog.{full_log};
 ghost use Rattle.raft_state.specs.log_id_list.LogEdits.{front};
 ghost use Rattle.raft_state.specs.log_id_list.LogReads.{last_id};
-ghost use Rattle.raft_state.specs.raft_state.StateView.{view_of};
+ghost use Rattle.raft_state.specs.raft_state.VoteAndLog.{log_view_of};
 ghost use Rattle.raft_state.specs.raft_state.Valid.{broken_relation, fits_purged_next, none_or_logged, upto_relation};
 
 use crate::raft_state::RaftStateIn;
@@ -48,9 +48,9 @@ impl<NID: NodeId, N: Node, I: Instant, L: Drop, C: Ord + Copy + Drop> RaftStateI
     /// A valid state may have a purge point that is not in its log, because its relations compare
     /// log ids by their leaders first.
     pub fn purge_upto_is_logged(&self) -> bool
-        ensures exact { result ≡ none_or_logged C.eq (view_of self.now) self.now.purge_upto }
+        ensures exact { result ≡ none_or_logged C.eq (log_view_of self.now) self.now.purge_upto }
         ensures logged { broken_relation C.cmp self.now ≡ None → IsTrue result →
-            Logged C.cmp (view_of self.now) }
+            Logged C.cmp (log_view_of self.now) }
     {
         // This read is for the proof: by its contract the keys are in order.
         let _keys = self.log_ids.key_log_ids();
@@ -63,7 +63,7 @@ impl<NID: NodeId, N: Node, I: Instant, L: Drop, C: Ord + Copy + Drop> RaftStateI
     /// A valid state may have committed a log id that is not in its log, because its relations
     /// compare log ids by their leaders first.
     pub fn committed_is_logged(&self) -> bool
-        ensures exact { result ≡ none_or_logged C.eq (view_of self.now) self.now.committed }
+        ensures exact { result ≡ none_or_logged C.eq (log_view_of self.now) self.now.committed }
         ensures cut { IsTrue result → (since : ℕ) →
             IsTrue (index_lt (index_of self.now.committed) (Some since)) → IsTrue (id_le C.cmp
             self.now.committed (last_id (front (full_log self.now.log_ids) since))) }

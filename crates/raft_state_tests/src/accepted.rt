@@ -3,7 +3,7 @@
 use crate::support::states::State;
 use raft_base::{LeaderAdv, LeaderKind, LeaderStd, LogIdOf, UTime, VoteOf};
 use raft_state::{AcceptedOf, VoteStateReader};
-use raft_testing::growths::is_free_on;
+use raft_testing::allocations::is_free_on;
 use std::alloc::Global;
 use std::io;
 use std::test::Fail;

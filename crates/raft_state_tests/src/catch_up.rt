@@ -5,7 +5,7 @@ use crate::support::rows::{Row, id};
 use crate::support::states::{State, hundred, valid_state};
 use raft_base::{LeaderAdv, LeaderKind, LeaderStd, LogStateReader};
 use raft_progress::{Progress, ProgressEntryOf};
-use raft_testing::growths::is_free_on;
+use raft_testing::allocations::is_free_on;
 use raft_testing::memory::both;
 use std::alloc::Global;
 use std::io;

@@ -5,7 +5,7 @@ use crate::support::states::{State, valid_state};
 use raft_base::order::log_id_below;
 use raft_base::{LeaderAdv, LeaderKind, LeaderStd, VoteOf};
 use raft_state::{IOStateOf, LogIOIdOf};
-use raft_testing::growths::is_free_on;
+use raft_testing::allocations::is_free_on;
 use std::alloc::Global;
 use std::io;
 use std::test::Fail;

@@ -6,7 +6,7 @@ ghost use Rattle.raft_state.specs.log_id_list.LogEdits.{log_after_append};
 ghost use Rattle.raft_state.specs.log_id_list.LogReads.{first_id, id_at, last_id};
 ghost use Rattle.raft_state.specs.raft_state.Purge.{may_purge};
 ghost use Rattle.raft_state.specs.raft_state.Sending.{FromLog};
-ghost use Rattle.raft_state.specs.raft_state.StateView.{view_of};
+ghost use Rattle.raft_state.specs.raft_state.VoteAndLog.{log_view_of};
 ghost use Rattle.std.specs.Prelude.{◌≡◌, IsTrue, OnOk, Some, ℕ};
 
 use raft_base::order::log_id_at_most;
@@ -81,7 +81,7 @@ pub fn send<NID: NodeId, N: Node, I: Instant, L: Drop, C: Ord + Copy + Drop>(
     max_entries: u64,
 ) -> bool
     ensures { IsTrue result →
-        FromLog (view_of state.now) max_entries follower.old follower.new.inflight }
+        FromLog (log_view_of state.now) max_entries follower.old follower.new.inflight }
 {
     sends_from_log::<C>();
     if state.validate().is_err() {

@@ -4,7 +4,7 @@ use crate::support::rows::{Effective, Row, effective, id};
 use raft_base::{Invalid, LeaderAdv, LeaderKind, LeaderStd, LogIdOptionExt, Validate};
 use raft_members::{ChangeMembers, ChangeMembershipErrorOf, InProgressOf};
 use raft_state::MembershipStateOf;
-use raft_testing::growths::{is_free, refuse_each};
+use raft_testing::allocations::{is_free, refuse_each};
 use raft_testing::memory::{both, holds};
 use raft_testing::words::ids;
 use std::alloc::{AllocError, Global};

@@ -2,11 +2,11 @@
 //! granted, one finds what a follower lacks.
 ghost use Rattle.raft_base.specs.LogId.{id_le, id_lt};
 ghost use Rattle.raft_base.specs.LogView.{has_id, may_ask};
-ghost use Rattle.raft_progress.specs.progress.VecProgress.{shown};
+ghost use Rattle.raft_progress.specs.progress.VecProgress.{view};
 ghost use Rattle.raft_state.specs.raft_state.Commit.{state_after_commit};
 ghost use Rattle.raft_state.specs.log_id_list.FullLog.{full_log};
 ghost use Rattle.raft_state.specs.log_id_list.LogReads.{last_id};
-ghost use Rattle.raft_state.specs.raft_state.StateView.{view_of};
+ghost use Rattle.raft_state.specs.raft_state.VoteAndLog.{log_view_of};
 ghost use Rattle.raft_state.specs.raft_state.Valid.{broken_relation};
 ghost use Rattle.std.specs.List.{list_all};
 ghost use Rattle.std.specs.Prelude.{◌≡◌, IfOk, IfSome, IsTrue, None, OnErr, false, slice_get};
@@ -24,7 +24,7 @@ use raft_base::{
 use raft_members::quorum::QuorumSet;
 use raft_progress::{InflightOf, Progress, ProgressEntryOf};
 use raft_state::{AcceptedOf, FollowersOf, RaftStateIn};
-use raft_testing::growths::{is_free, is_free_on, refuse_each};
+use raft_testing::allocations::{is_free, is_free_on, refuse_each};
 use raft_testing::memory::{both, holds};
 use std::alloc::{AllocError, Global};
 use std::io;
@@ -39,16 +39,16 @@ fn commit_granted<
     I: Instant,
     L: Drop,
     C: Ord + Copy + Drop,
-    QS: QuorumSet<NID> + Drop,
+    QS: QuorumSet<NID>,
 >(
     state: &mut RaftStateIn<NID, N, I, L, C>,
     followers: &FollowersOf<C, NID, QS>,
 ) -> Result<bool, AllocError>
     ensures valid { IfOk result (λ more. IsTrue more → broken_relation C.cmp state.old ≡ None) }
     ensures in_log { IfOk result (λ more. IsTrue more → IsTrue (id_le C.cmp
-        (shown followers.now).granted (last_id (full_log state.old.log_ids)))) }
+        (view followers.now).granted (last_id (full_log state.old.log_ids)))) }
     ensures committed { IfOk result (λ more. IsTrue more →
-        state.new ≡ state_after_commit C.cmp (shown followers.now).granted state.old) }
+        state.new ≡ state_after_commit C.cmp (view followers.now).granted state.old) }
     ensures greater { IfOk result (λ more. IsTrue more →
         IsTrue (id_lt C.cmp state.old.committed state.new.committed)) }
     ensures stays_valid { broken_relation C.cmp state.old ≡ None →
@@ -72,10 +72,10 @@ fn lacking<'a, NID: NodeId, N: Node, I: Instant, L: Drop, C: Ord + Copy + Drop, 
     state: &RaftStateIn<NID, N, I, L, C>,
     entries: &'a [Ent],
 ) -> &'a [Ent]
-    requires { IsTrue (list_all (λ e. may_ask C.cmp (view_of state.now) (Ent.id_of e))
+    requires { IsTrue (list_all (λ e. may_ask C.cmp (log_view_of state.now) (Ent.id_of e))
         entries.now) }
     ensures { IfSome (slice_get result.now 0)
-        (λ e. has_id C.eq (view_of state.now) (Ent.id_of e) ≡ false) }
+        (λ e. has_id C.eq (log_view_of state.now) (Ent.id_of e) ≡ false) }
 {
     let place = state.first_conflicting_index(entries);
     &entries[place..]

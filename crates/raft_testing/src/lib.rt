@@ -4,7 +4,7 @@
 #![tactic(auto)]
 
 pub mod address;
-pub mod growths;
+pub mod allocations;
 pub mod memory;
 pub mod plain_log;
 pub mod printing;

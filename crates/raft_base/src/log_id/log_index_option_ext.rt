@@ -6,35 +6,35 @@ ghost use Rattle.raft_base.specs.LogIndex.{index_before, index_plus, next_index_
 /// Arithmetic with an index that may be absent.
 pub trait LogIndexOptionExt: Sized {
     /// The index, if there is one.
-    ghost shown: { Self → Option ℕ };
+    ghost view: { Self → Option ℕ };
 
     /// Whether the precondition of `next_index` holds: the next index is below 2^64.
     fn has_next_index(&self) -> bool
-        ensures { result ≡ nat_lt (next_index_of (shown self.now)) (2 ^ 64) };
+        ensures { result ≡ nat_lt (next_index_of (view self.now)) (2 ^ 64) };
 
     /// Returns the index after this one, or 0 if there is none. It requires `has_next_index`.
     fn next_index(&self) -> u64
-        requires { next_index_of (shown self.now) < 2 ^ 64 }
-        ensures { result ≡ next_index_of (shown self.now) };
+        requires { next_index_of (view self.now) < 2 ^ 64 }
+        ensures { result ≡ next_index_of (view self.now) };
 
     /// Returns the index before this one, or `None` before 0. It requires that there is an index,
     /// which `is_some` tests.
     fn prev_index(&self) -> Self
-        requires { IsSome (shown self.now) }
-        ensures { shown result ≡ index_before (shown self.now) };
+        requires { IsSome (view self.now) }
+        ensures { view result ≡ index_before (view self.now) };
 
     /// Whether the precondition of `add` holds: the index after the sum is below 2^64.
     fn can_add(&self, places: u64) -> bool
-        ensures { result ≡ nat_lt (next_index_of (shown self.now) + places) (2 ^ 64) };
+        ensures { result ≡ nat_lt (next_index_of (view self.now) + places) (2 ^ 64) };
 
     /// Returns the index that many positions further on. It requires `can_add`.
     fn add(&self, places: u64) -> Self
-        requires { next_index_of (shown self.now) + places < 2 ^ 64 }
-        ensures { shown result ≡ index_plus (shown self.now) places };
+        requires { next_index_of (view self.now) + places < 2 ^ 64 }
+        ensures { view result ≡ index_plus (view self.now) places };
 }
 
 impl LogIndexOptionExt for Option<u64> {
-    ghost shown = { λ index. index };
+    ghost view = { λ index. index };
 
     fn has_next_index(&self) -> bool {
         match self {

@@ -14,22 +14,22 @@ use Rattle.raft_members.specs.membership.Members.{MemberList}
 use Rattle.raft_members.proofs.lemmas.membership.ReplaceLemmas.{last_passes}
 use Rattle.raft_progress.specs.progress.Equal.{IsCloned}
 use Rattle.raft_progress.specs.progress.NewProgress.{HasClone}
-use Rattle.raft_progress.specs.progress.Shown.{state}
+use Rattle.raft_progress.specs.progress.ProgressView.{state}
 use Rattle.raft_progress.specs.progress.Upgrade.{Inherits}
 use Rattle.raft_progress.specs.tracked.SingleSteps.{IsTrackedChangeTo}
-use Rattle.raft_progress.specs.tracked.TrackedState.{HasSameConfigs, TrackedShown}
+use Rattle.raft_progress.specs.tracked.TrackedState.{HasSameConfigs, TrackedView}
 use Rattle.raft_progress.specs.declared.progress.steps.Reply.TheVariants.{Granted}
 
-same_walk : {K V : Type 0} (IsClone : V → V → Type 0) → ((v w : V) → IsClone v w → w ≡ v) → (es fs : List (K × V))
+same_progress_entries : {K V : Type 0} (IsClone : V → V → Type 0) → ((v w : V) → IsClone v w → w ≡ v) → (es fs : List (K × V))
     → AllZip (λ d e. (e.0 ≡ d.0) × IsClone d.1 e.1) es fs → fs ≡ es
-same_walk IsClone same [] [] z = refl
-same_walk IsClone same [] (f ∷ fs) z = absurd z
-same_walk IsClone same (e ∷ es) [] z = absurd z
-same_walk IsClone same (e ∷ es) (f ∷ fs) z =
+same_progress_entries IsClone same [] [] z = refl
+same_progress_entries IsClone same [] (f ∷ fs) z = absurd z
+same_progress_entries IsClone same (e ∷ es) [] z = absurd z
+same_progress_entries IsClone same (e ∷ es) (f ∷ fs) z =
     let value = same e.1 f.1 z.0.1 in
     let key = z.0.0 in
     let pairs : f ≡ e = λ i. (key i, value i) in
-    let rest = same_walk IsClone same es fs z.1 in
+    let rest = same_progress_entries IsClone same es fs z.1 in
     λ i. pairs i ∷ rest i
 
 -- a value that is inherited, or the default
@@ -54,17 +54,17 @@ begun IsClone same default v old new false takes none known some = let e : None 
 
 module _ {K N V P : Type 0} (eq : K → K → Bool) (id_cmp : K → K → Ordering) (cmp : P → P → Ordering) (part : V → P)
     (IsClone : V → V → Type 0) (same : (v w : V) → IsClone v w → w ≡ v) where
-  abbrev value : TrackedShown K N V P → K → Option V
+  abbrev value : TrackedView K N V P → K → Option V
   value t id = (state eq t.progress).value id
 
   -- a clone has the values of what was cloned
-  clone_values : (old clone : TrackedShown K N V P) → IsCloned IsClone HasSameConfigs old.progress clone.progress → (id : K)
+  clone_values : (old clone : TrackedView K N V P) → IsCloned IsClone HasSameConfigs old.progress clone.progress → (id : K)
       → value clone id ≡ value old id
   clone_values old clone c id =
-      let walk = same_walk IsClone same old.progress.walk clone.progress.walk c.walk in
-      λ i. (state eq (record clone.progress { walk = walk i })).value id
+      let entries = same_progress_entries IsClone same old.progress.entries clone.progress.entries c.entries in
+      λ i. (state eq (record clone.progress { entries = entries i })).value id
 
-  module _ (old clone new : TrackedShown K N V P) (next : MemberList K N) (default : V) (p : P)
+  module _ (old clone new : TrackedView K N V P) (next : MemberList K N) (default : V) (p : P)
       (made : IsTrackedChangeTo eq id_cmp cmp part IsClone clone next default (Granted p) new)
       (cloned : IsCloned IsClone HasSameConfigs old.progress clone.progress) where
     -- it counts by the membership that was given

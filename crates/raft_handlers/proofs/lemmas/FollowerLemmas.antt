@@ -9,10 +9,10 @@ use Rattle.std.proofs.Common.{ap, sym, ◌∙◌, true≢false}
 use Rattle.raft_base.specs.LogId.{id_le, log_id_cmp}
 use Rattle.raft_base.specs.LogIdLawful.{optional-log_id_cmp-total}
 use Rattle.raft_base.specs.declared.log_id.LogIdOf.{LogIdOf}
-use Rattle.raft_progress.specs.progress.Shown.{state}
+use Rattle.raft_progress.specs.progress.ProgressView.{state}
 use Rattle.raft_progress.specs.progress.Steps.{falls}
 use Rattle.raft_progress.specs.tracked.SingleSteps.{IsTrackedUpdate}
-use Rattle.raft_progress.specs.tracked.TrackedState.{TrackedShown}
+use Rattle.raft_progress.specs.tracked.TrackedState.{TrackedView}
 use Rattle.raft_progress.specs.declared.entry.ProgressEntryOf.{ProgressEntryOf}
 use Rattle.raft_progress.specs.declared.progress.steps.Reply.{Reply}
 use Rattle.raft_progress.proofs.lemmas.OrderLemmas.{AtMost-refl}
@@ -40,7 +40,7 @@ module _ {C : Type 0} {cmp : C → C → Ordering} (total : IsTotalOrder cmp) wh
 
   -- what is known of a member is written, if its match does not fall
   pub entry_written : {K N : Type 0} (eq : K → K → Bool) (l : Leadership K N C)
-      (new : TrackedShown K N (ProgressEntryOf C) (Option (LogIdOf C))) (id : K) (current next : ProgressEntryOf C)
+      (new : TrackedView K N (ProgressEntryOf C) (Option (LogIdOf C))) (id : K) (current next : ProgressEntryOf C)
       (reply : Reply K (Option (LogIdOf C)))
       → IsTrackedUpdate eq (option_cmp (log_id_cmp cmp)) (λ (e : ProgressEntryOf C). e.matching) l.followers id next reply new
       → (state eq l.followers.progress).value id ≡ Some current → id_le cmp current.matching next.matching ≡ true

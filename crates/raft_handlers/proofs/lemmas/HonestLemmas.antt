@@ -98,7 +98,7 @@ use Rattle.raft_state.specs.membership_state.MembershipMoves.{after_truncate, is
 use Rattle.raft_state.specs.membership_state.Memberships.{Memberships}
 use Rattle.raft_state.specs.raft_state.Appended.{are_consecutive, last_stored, memberships_follow}
 use Rattle.raft_state.specs.raft_state.Sound.{purged_or_logged, IsSound}
-use Rattle.raft_state.specs.raft_state.Truncate.{may_truncate}
+use Rattle.raft_state.specs.raft_state.Truncate.{can_truncate_log}
 use Rattle.raft_state.specs.raft_state.Valid.{fits_purged_next}
 use Rattle.raft_state.specs.declared.entry.EntryOf.{EntryOf}
 use Rattle.raft_state.specs.declared.raft_state.RaftStateIn.{RaftStateIn}
@@ -391,7 +391,7 @@ module _ {C : Type 0} (cmp : C → C → Ordering) (eq : C → C → Bool) (tota
 
         by : (t : Bool) → log_ends_before x.index s ≡ t → s.purged_next ≤ x.index → in_log eq (full_log s.log_ids) (Some x) ≡ false
             → may_cut cmp x.index s ≡ true
-        by true e past none = or_left (log_ends_before x.index s) (may_truncate cmp x.index s) e
+        by true e past none = or_left (log_ends_before x.index s) (can_truncate_log cmp x.index s) e
         by false e past none =
             let upto = index_not_below (last_id (full_log s.log_ids)) x.index e in
             let from = begins_at_most s.purged_next x.index (full_log s.log_ids) fits past in
@@ -400,7 +400,7 @@ module _ {C : Type 0} (cmp : C → C → Ordering) (eq : C → C → Bool) (tota
             let committed = index_is_below s.committed x.index (omega arith) in
             let member = index_is_below (log_id_of s.membership_state.committed) x.index (omega arith) in
             let low = cut_past_committed cmp eq total law eqs s x.index are sound.committed committed in
-            or_right (log_ends_before x.index s) (may_truncate cmp x.index s) (both_true (both_true committed low) member)
+            or_right (log_ends_before x.index s) (can_truncate_log cmp x.index s) (both_true (both_true committed low) member)
 
     -- if the log has what a log id of the leader's is, or its index is purged, both agree up to it
     agree_upto : (p : Option (LogIdOf C)) → purged_or_logged eq s p ≡ true → in_log eq (full_log ks) p ≡ true
@@ -506,7 +506,7 @@ module _ {C : Type 0} (cmp : C → C → Ordering) (eq : C → C → Bool) (tota
         )
         cut false e le = effective (ends_not_past (log_id_of s.membership_state.effective) since (sym e))
 
-        by : (t : Bool) → t ≡ log_ends_before since s → t || may_truncate cmp since s ≡ true
+        by : (t : Bool) → t ≡ log_ends_before since s → t || can_truncate_log cmp since s ≡ true
             → (in_log eq (full_log ks) (log_id_of (let m : Memberships C K N = (if t then s.membership_state
             else after_truncate since s.membership_state) in m).effective) ≡ true)
             × (next_index (log_id_of (let m : Memberships C K N = (if t then s.membership_state

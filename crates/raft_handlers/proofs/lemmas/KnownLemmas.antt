@@ -19,8 +19,8 @@ use Rattle.raft_members.specs.declared.change_members.ChangeMembers.TheVariants.
   ReplaceAllNodes,
 }
 use Rattle.raft_progress.specs.progress.CountedValue.{has_part}
-use Rattle.raft_progress.specs.progress.Shown.{state}
-use Rattle.raft_progress.specs.tracked.TrackedState.{IsReady, TrackedShown}
+use Rattle.raft_progress.specs.progress.ProgressView.{state}
+use Rattle.raft_progress.specs.tracked.TrackedState.{IsReady, TrackedView}
 use Rattle.raft_handlers.proofs.lemmas.MajorityLemmas.{joint_within}
 
 module _ {K N : Type 0} (eq : K → K → Bool) (cmp : K → K → Ordering) where
@@ -38,8 +38,8 @@ module _ {K N : Type 0} (eq : K → K → Bool) (cmp : K → K → Ordering) whe
   changed_configs m n (ReplaceAllNodes nodes) retain e = e
 
 module _ {K N V P : Type 0} {eq : K → K → Bool} (laws : IsEquivalence eq) (id_cmp : K → K → Ordering)
-    (cmp : P → P → Ordering) (part : V → P) (old new : TrackedShown K N V P) (p : P) where
-  abbrev value : TrackedShown K N V P → K → Option V
+    (cmp : P → P → Ordering) (part : V → P) (old new : TrackedView K N V P) (p : P) where
+  abbrev value : TrackedView K N V P → K → Option V
   value t id = (state eq t.progress).value id
 
   kept_part : (before after : Option V) → ((v : V) → before ≡ Some v → after ≡ Some v)

@@ -95,7 +95,7 @@ use Rattle.raft_state.specs.raft_state.Install.{
   state_after_install,
 }
 use Rattle.raft_state.specs.raft_state.NewState.{HasNewVote, IsNewState}
-use Rattle.raft_state.specs.raft_state.StateView.{view_of, vote_of}
+use Rattle.raft_state.specs.raft_state.VoteAndLog.{log_view_of, vote_of}
 use Rattle.raft_state.specs.raft_state.Valid.{none_or_logged}
 use Rattle.raft_state.specs.declared.entry.EntryOf.{EntryOf}
 use Rattle.raft_state.specs.declared.raft_state.RaftStateIn.{RaftStateIn}
@@ -303,11 +303,11 @@ either_way true o = refl
 either_way false o = refl
 
 module _ {K N I L C : Type 0} (eq : C → C → Bool) (cmp : C → C → Ordering) (total : IsTotalOrder cmp) where
-  has_is : (s : RaftStateIn K N I L C) (o : Option (LogIdOf C)) → none_or_logged eq (view_of s) o ≡ has_id eq (full_log s.log_ids) o
+  has_is : (s : RaftStateIn K N I L C) (o : Option (LogIdOf C)) → none_or_logged eq (log_view_of s) o ≡ has_id eq (full_log s.log_ids) o
   has_is s None = refl
   has_is s (Some x) = refl
 
-  pub is_known : (s new : RaftStateIn K N I L C) → none_or_logged eq (view_of s) (log_id_of s.membership_state.committed) ≡ true
+  pub is_known : (s new : RaftStateIn K N I L C) → none_or_logged eq (log_view_of s) (log_id_of s.membership_state.committed) ≡ true
       → state_may_commit cmp (log_id_of s.membership_state.committed) s ≡ true
       → new ≡ state_after_commit cmp (log_id_of s.membership_state.committed) s
       → CommitsKnown eq cmp s.committed s.membership_state new

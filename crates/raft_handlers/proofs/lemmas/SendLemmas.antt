@@ -6,7 +6,7 @@ use Rattle.std.proofs.Common.{ap, sym, subst, ◌∙◌}
 use Rattle.raft_base.specs.LogId.{next_index}
 use Rattle.raft_base.specs.LogView.{LogView}
 use Rattle.raft_progress.specs.entry.EntryTable.{entry_after_conflict, with_search_end}
-use Rattle.raft_progress.specs.entry.Send.{IsSent, can_be_sent, idle_send_table, send_table}
+use Rattle.raft_progress.specs.entry.Send.{IsSent, can_send, idle_send_table, send_table}
 use Rattle.raft_progress.specs.inflight.Inflight.{is_idle}
 use Rattle.raft_progress.specs.inflight.InflightTable.{FollowsTable, inflight_after_conflict}
 use Rattle.raft_progress.specs.declared.entry.ProgressEntryOf.{ProgressEntryOf}
@@ -46,10 +46,10 @@ module _ {C : Type 0} (cmp : C → C → Ordering) where
 
   -- what is sent where a send may be made is the next request
   pub request_is : (entry next new : ProgressEntryOf C) (log : LogView C) (max_entries : ℕ)
-      → can_be_sent entry log ≡ true → send_table cmp entry log max_entries ≡ Ok new
+      → can_send entry log ≡ true → send_table cmp entry log max_entries ≡ Ok new
       → after_request cmp entry log max_entries ≡ Some next → new ≡ next
   request_is entry next new log max_entries can is after =
-      let chosen : (if can_be_sent entry log then sent (send_table cmp entry log max_entries) else None)
+      let chosen : (if can_send entry log then sent (send_table cmp entry log max_entries) else None)
       ≡ (if true then Some new else None) =
       ap (λ b. if b then sent (send_table cmp entry log max_entries) else None) can ∙ ap sent is in
       let e : Some new ≡ Some next = sym chosen ∙ after in

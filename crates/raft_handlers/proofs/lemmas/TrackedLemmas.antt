@@ -4,10 +4,10 @@ use Rattle.std.specs.declared.cmp.Ordering.{Ordering}
 use Rattle.std.proofs.Common.{sym, subst, ◌∙◌, true≢false}
 use Rattle.raft_progress.specs.progress.NewProgress.{HasClone}
 use Rattle.raft_progress.specs.progress.ProgressState.{Writes}
-use Rattle.raft_progress.specs.progress.Shown.{state}
+use Rattle.raft_progress.specs.progress.ProgressView.{state}
 use Rattle.raft_progress.specs.progress.Steps.{IsWritten, falls}
 use Rattle.raft_progress.specs.tracked.SingleSteps.{IsTrackedUpdate}
-use Rattle.raft_progress.specs.tracked.TrackedState.{TrackedShown, has_quorum}
+use Rattle.raft_progress.specs.tracked.TrackedState.{TrackedView, has_quorum}
 use Rattle.raft_progress.specs.tracked.TrackedNew.{BeginsOver}
 use Rattle.raft_progress.specs.declared.progress.steps.Reply.{Reply}
 use Rattle.raft_progress.specs.declared.progress.steps.Reply.TheVariants.{
@@ -21,12 +21,12 @@ use Rattle.raft_progress.specs.declared.progress.steps.Reply.TheVariants.{
 }
 
 module _ {K N V P : Type 0} (eq : K → K → Bool) (cmp : P → P → Ordering) (part : V → P) where
-  abbrev pub IsWrite : TrackedShown K N V P → K → V → Reply K P → TrackedShown K N V P → Type 0
+  abbrev pub IsWrite : TrackedView K N V P → K → V → Reply K P → TrackedView K N V P → Type 0
   IsWrite old id value reply new =
       IsWritten eq cmp part (has_quorum eq) (state eq old.progress) id value reply (state eq new.progress)
 
   -- by the reply
-  write_by : (old new : TrackedShown K N V P) (id : K) (value current : V) (reply : Reply K P)
+  write_by : (old new : TrackedView K N V P) (id : K) (value current : V) (reply : Reply K P)
       → IsWrite old id value reply new → (state eq old.progress).value id ≡ Some current
       → falls cmp part (Some current) value ≡ false
       → Writes eq (state eq old.progress) id value (state eq new.progress)
@@ -42,14 +42,14 @@ module _ {K N V P : Type 0} (eq : K → K → Bool) (cmp : P → P → Ordering)
   write_by old new id value current OutOfMemory w known stays = absurd w
 
   -- an update of a known id whose part does not fall writes the value
-  pub update_writes : (old new : TrackedShown K N V P) (id : K) (value current : V) (reply : Reply K P)
+  pub update_writes : (old new : TrackedView K N V P) (id : K) (value current : V) (reply : Reply K P)
       → IsTrackedUpdate eq cmp part old id value reply new → (state eq old.progress).value id ≡ Some current
       → falls cmp part (Some current) value ≡ false
       → Writes eq (state eq old.progress) id value (state eq new.progress)
   update_writes old new id value current reply u known stays =
       write_by old new id value current reply u.values known stays
 
-  default_by : (old new : TrackedShown K N V P) (id : K) (value : V) (reply : Reply K P)
+  default_by : (old new : TrackedView K N V P) (id : K) (value : V) (reply : Reply K P)
       → IsWrite old id value reply new → new.progress.default_part ≡ old.progress.default_part
   default_by old new id value (Granted p) w = w.3.default_part
   default_by old new id value (Unknown p) w = w.2.default_part
@@ -60,7 +60,7 @@ module _ {K N V P : Type 0} (eq : K → K → Bool) (cmp : P → P → Ordering)
   default_by old new id value OutOfMemory w = absurd w
 
   -- an update leaves the default
-  pub default_stays : (old new : TrackedShown K N V P) (id : K) (value : V) (reply : Reply K P)
+  pub default_stays : (old new : TrackedView K N V P) (id : K) (value : V) (reply : Reply K P)
       → IsTrackedUpdate eq cmp part old id value reply new → new.progress.default_part ≡ old.progress.default_part
   default_stays old new id value reply u = default_by old new id value reply u.values
 
@@ -78,7 +78,7 @@ module _ {V : Type 0} (IsClone : V → V → Type 0) (default : V) where
 module _ {K N V P : Type 0} (eq : K → K → Bool) (id_cmp : K → K → Ordering) (cmp : P → P → Ordering) (part : V → P)
     (IsClone : V → V → Type 0) where
   -- each value of a new tracked progress is a clone of the default
-  pub begins_with_default : (default : V) (made : TrackedShown K N V P) → BeginsOver eq id_cmp cmp part IsClone default made
+  pub begins_with_default : (default : V) (made : TrackedView K N V P) → BeginsOver eq id_cmp cmp part IsClone default made
       → (id : K) (v : V) → (state eq made.progress).value id ≡ Some v → IsClone default v
   begins_with_default default made b id v known =
       by_membership IsClone default ((state eq made.progress).value id) v _ (b.begins.values.value id) (b.begins.values.others id) known

@@ -4,9 +4,9 @@ use Rattle.std.specs.Cmp.{IsEquivalence}
 use Rattle.std.specs.Option.{option_map_or}
 use Rattle.std.specs.Ordering.{bool_cmp, is_lt}
 use Rattle.std.proofs.Common.{ap, sym, ◌∙◌, true≢false}
-use Rattle.raft_progress.specs.progress.Shown.{state}
+use Rattle.raft_progress.specs.progress.ProgressView.{state}
 use Rattle.raft_progress.specs.tracked.SingleSteps.{IsTrackedUpdate}
-use Rattle.raft_progress.specs.tracked.TrackedState.{TrackedShown}
+use Rattle.raft_progress.specs.tracked.TrackedState.{TrackedView}
 use Rattle.raft_progress.specs.declared.progress.steps.Reply.{Reply}
 use Rattle.raft_progress.specs.declared.progress.steps.Reply.TheVariants.{
   Granted,
@@ -51,13 +51,13 @@ none_voted None h = refl
 none_voted (Some v) h = h v refl
 
 module _ {K N : Type 0} (eq : K → K → Bool) where
-  abbrev voted : TrackedShown K N Bool Bool → K → Bool
+  abbrev voted : TrackedView K N Bool Bool → K → Bool
   voted t id = option_map_or (λ v. v) ((state eq t.progress).value id) false
 
-  abbrev known : TrackedShown K N Bool Bool → K → Bool
+  abbrev known : TrackedView K N Bool Bool → K → Bool
   known t id = is_some ((state eq t.progress).value id)
 
-  counts_by : (old new : TrackedShown K N Bool Bool) (from : K) (reply : Reply K Bool)
+  counts_by : (old new : TrackedView K N Bool Bool) (from : K) (reply : Reply K Bool)
       → IsWrite eq bool_cmp (λ (v : Bool). v) old from true reply new → (id : K)
       → voted new id ≡ (voted old id || (eq from id && known old from))
   counts_by old new from (Granted p) w id =
@@ -73,12 +73,12 @@ module _ {K N : Type 0} (eq : K → K → Bool) where
   counts_by old new from OutOfMemory w id = absurd w
 
   -- a vote of a member counts, and no other one
-  pub counts : (old new : TrackedShown K N Bool Bool) (from : K) (reply : Reply K Bool)
+  pub counts : (old new : TrackedView K N Bool Bool) (from : K) (reply : Reply K Bool)
       → IsTrackedUpdate eq bool_cmp (λ (v : Bool). v) old from true reply new → (id : K)
       → voted new id ≡ (voted old id || (eq from id && known old from))
   counts old new from reply u = counts_by old new from reply u.values
 
-  stays_by : IsEquivalence eq → (old new : TrackedShown K N Bool Bool) (from : K) (reply : Reply K Bool)
+  stays_by : IsEquivalence eq → (old new : TrackedView K N Bool Bool) (from : K) (reply : Reply K Bool)
       → IsWrite eq bool_cmp (λ (v : Bool). v) old from true reply new → known new from ≡ known old from
   stays_by laws old new from (Granted p) w =
       ap is_some (w.3.value from ∙ ap (λ b. cond b (Some true) ((state eq old.progress).value from)) (laws.refl from))
@@ -91,12 +91,12 @@ module _ {K N : Type 0} (eq : K → K → Bool) where
   stays_by laws old new from OutOfMemory w = absurd w
 
   -- whose vote is counted is a member as before
-  pub stays_known : IsEquivalence eq → (old new : TrackedShown K N Bool Bool) (from : K) (reply : Reply K Bool)
+  pub stays_known : IsEquivalence eq → (old new : TrackedView K N Bool Bool) (from : K) (reply : Reply K Bool)
       → IsTrackedUpdate eq bool_cmp (λ (v : Bool). v) old from true reply new → known new from ≡ known old from
   stays_known laws old new from reply u = stays_by laws old new from reply u.values
 
   -- where nobody has voted yet, the first vote is the only one
-  pub first_vote : IsEquivalence eq → (old new : TrackedShown K N Bool Bool) (id : K) (reply : Reply K Bool)
+  pub first_vote : IsEquivalence eq → (old new : TrackedView K N Bool Bool) (id : K) (reply : Reply K Bool)
       → IsTrackedUpdate eq bool_cmp (λ (v : Bool). v) old id true reply new
       → ((x : K) (v : Bool) → (state eq old.progress).value x ≡ Some v → v ≡ false)
       → (x : K) → voted new x ≡ (eq id x && known new id)

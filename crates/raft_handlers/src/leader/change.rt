@@ -7,7 +7,7 @@ ghost use Rattle.raft_handlers.specs.Leadership.{QuorumsHave, granted_by, is_of_
 ghost use Rattle.raft_handlers.specs.Proposals.{AppendsPayload, log_with_own, next_own_id};
 ghost use Rattle.raft_members.specs.membership.Change.{last_config};
 ghost use Rattle.raft_members.specs.quorum.Coherence.{is_coherent};
-ghost use Rattle.raft_members.specs.membership.Members.{Says};
+ghost use Rattle.raft_members.specs.membership.Members.{HasMembers};
 ghost use Rattle.raft_state.specs.membership_state.Apply.{in_progress, members_after_change};
 ghost use Rattle.raft_state.specs.entry.Entry.{payload_membership};
 ghost use Rattle.raft_state.specs.log_id_list.FullLog.{end_index, full_log, same_log};
@@ -71,7 +71,7 @@ impl<NID: NodeId, N: Node, C: Ord + Copy + Default + Debug + Drop + 'static> Lea
             IsTrue (leads NID.eq C.eq L.committed L.voted self.old state.old) }
 
         // The new membership, by which the leader counts.
-        ensures changed { OnOk result (Says N.eq NID.cmp self.new.followers.membership
+        ensures changed { OnOk result (HasMembers N.eq NID.cmp self.new.followers.membership
             (members_after_change NID.eq NID.cmp state.old.membership_state change retain)) }
         ensures coherent { OnOk result
             (0 < length (in_effect state.old.membership_state).configs →
@@ -173,7 +173,7 @@ impl<NID: NodeId, N: Node, C: Ord + Copy + Drop> Leader<NID, N, C> {
     ghost use Rattle.raft_handlers.specs.Changes.{KeepsValues};
     ghost use Rattle.raft_progress.specs.tracked.TrackedState.{IsReady};
     ghost use Rattle.std.specs.Option.{option_cmp};
-    ghost use Rattle.raft_progress.specs.tracked.Tracked.{tracked};
+    ghost use Rattle.raft_progress.specs.tracked.Tracked.{tracked_view};
 
     /// What is known of the members of a membership, in which those who stay keep what is known of
     /// them, and nothing is known of the others.
@@ -183,11 +183,11 @@ impl<NID: NodeId, N: Node, C: Ord + Copy + Drop> Leader<NID, N, C> {
         last: Option<LogIdOf<C>>,
     ) -> Result<Tracked<NID, N, ProgressEntryOf<C>, Option<LogIdOf<C>>>, HandlerError>
         requires clones_are_equal { ClonesAreEqual N.eq N.is_clone }
-        ensures members { IfOk result (λ made. (tracked made).membership ≡ members) }
+        ensures members { IfOk result (λ made. (tracked_view made).membership ≡ members) }
         ensures kept { IfOk result (λ made. KeepsValues NID.eq (next_index last)
-            self.now.followers (tracked made)) }
+            self.now.followers (tracked_view made)) }
         ensures ready { IfOk result (λ made. IsReady NID.eq NID.cmp (option_cmp (log_id_cmp C.cmp))
-            (λ entry. entry.matching) (tracked made)) }
+            (λ entry. entry.matching) (tracked_view made)) }
     {
         if !last.has_next_index() {
             return Err(HandlerError::NoNextIndex);

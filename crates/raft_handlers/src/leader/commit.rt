@@ -4,7 +4,7 @@ ghost use Rattle.raft_base.specs.LogId.{id_le, id_lt};
 ghost use Rattle.raft_handlers.specs.Leadership.{ChangedQuorumsHave, IsCommitRefusal, QuorumsHave, granted_by, is_of_leader};
 ghost use Rattle.raft_state.specs.raft_state.Commit.{state_after_commit};
 ghost use Rattle.raft_state.specs.raft_state.Sound.{IsSound};
-ghost use Rattle.raft_state.specs.raft_state.StateView.{view_of};
+ghost use Rattle.raft_state.specs.raft_state.VoteAndLog.{log_view_of};
 ghost use Rattle.raft_state.specs.raft_state.Valid.{none_or_logged};
 
 use super::Leader;
@@ -58,7 +58,7 @@ impl<NID: NodeId, N: Node, C: Ord + Copy + Drop> Leader<NID, N, C> {
         ensures is_granted { IfOk result (λ more. IsTrue more →
             state.new.committed ≡ granted_by self.now) }
         ensures logged { IfOk result (λ more. IsTrue more →
-            IsTrue (none_or_logged C.eq (view_of state.old) (granted_by self.now))) }
+            IsTrue (none_or_logged C.eq (log_view_of state.old) (granted_by self.now))) }
         ensures monotone { IsTrue (id_le C.cmp state.old.committed state.new.committed) }
         ensures refused { IfErr result
             (IsCommitRefusal C.eq C.cmp (granted_by self.now) state.old) }

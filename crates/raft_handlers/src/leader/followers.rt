@@ -8,7 +8,7 @@ ghost use Rattle.raft_handlers.specs.declared.error.HandlerError.TheVariants.{Fo
 ghost use Rattle.raft_progress.specs.declared.entry.ProgressEntryOf.{ProgressEntryOf};
 ghost use Rattle.raft_progress.specs.declared.inflight.InflightOf.TheVariants.{None as Idle};
 ghost use Rattle.raft_progress.specs.inflight.InflightTable.{FollowsTable};
-ghost use Rattle.raft_state.specs.raft_state.StateView.{view_of};
+ghost use Rattle.raft_state.specs.raft_state.VoteAndLog.{log_view_of};
 ghost use Rattle.raft_state.specs.raft_state.Valid.{none_or_logged};
 
 use super::Leader;
@@ -32,20 +32,20 @@ impl<NID: NodeId, N: Node, C: Ord + Copy + Drop> Leader<NID, N, C> {
         ensures unknown { entry_of NID.eq self.old to.now ≡ None → result ≡ None }
         ensures sent { (entry next : ProgressEntryOf C) →
             entry_of NID.eq self.old to.now ≡ Some entry →
-            after_request C.cmp entry (view_of state.now) max_entries ≡ Some next →
+            after_request C.cmp entry (log_view_of state.now) max_entries ≡ Some next →
             result ≡ Some next.inflight }
         ensures in_flight { (entry next : ProgressEntryOf C) →
             entry_of NID.eq self.old to.now ≡ Some entry →
-            after_request C.cmp entry (view_of state.now) max_entries ≡ Some next →
+            after_request C.cmp entry (log_view_of state.now) max_entries ≡ Some next →
             WritesEntry NID.eq self.old to.now next self.new }
         ensures heartbeat { (entry : ProgressEntryOf C) →
             entry_of NID.eq self.old to.now ≡ Some entry →
-            after_request C.cmp entry (view_of state.now) max_entries ≡ None →
+            after_request C.cmp entry (log_view_of state.now) max_entries ≡ None →
             result ≡ Some Idle }
         ensures unchanged { result ≡ None → self.new ≡ self.old }
         ensures unchanged_by_heartbeat { (entry : ProgressEntryOf C) →
             entry_of NID.eq self.old to.now ≡ Some entry →
-            after_request C.cmp entry (view_of state.now) max_entries ≡ None →
+            after_request C.cmp entry (log_view_of state.now) max_entries ≡ None →
             self.new ≡ self.old }
     {
         let mut entry = *self.followers.progress().try_get(to)?;
@@ -131,7 +131,7 @@ impl<NID: NodeId, N: Node, C: Ord + Copy + Drop> Leader<NID, N, C> {
             entry_of NID.eq self.old self.old.id ≡ Some entry →
             IsTrue (id_le C.cmp entry.matching upto) →
             WritesEntry NID.eq self.old self.old.id (flushed_entry upto) self.new) }
-        ensures logged { OnOk result (IsTrue (none_or_logged C.eq (view_of state.now) upto)) }
+        ensures logged { OnOk result (IsTrue (none_or_logged C.eq (log_view_of state.now) upto)) }
         ensures err { OnErr result (self.new ≡ self.old) }
         ensures monotone { IsTrue
             (id_le C.cmp (granted_by self.old) (granted_by self.new)) }

@@ -33,9 +33,9 @@ AddsNoId {K} cmp old new =
     (id : K) → IsTrue (is_some (node_at cmp new id)) → IsTrue (is_some (node_at cmp old id))
 
 -- the membership has exactly these configs, and at each id an equal node, or none if they have none
-abbrev pub Says : {K N : Type 0} → (N → N → Bool) → (K → K → Ordering) → MemberList K N
+abbrev pub HasMembers : {K N : Type 0} → (N → N → Bool) → (K → K → Ordering) → MemberList K N
     → Members K N → Type 0
-Says same cmp m w = (m.configs ≡ w.configs) × HasNodes same cmp m.nodes w.node
+HasMembers same cmp m w = (m.configs ≡ w.configs) × HasNodes same cmp m.nodes w.node
 
 -- two lists of nodes are equal: the same ids, with equal nodes
 abbrev pub same_nodes : {K N : Type 0} → (K → K → Bool) → (N → N → Bool) → List (K × N)

@@ -5,7 +5,7 @@ ghost use Rattle.std.specs.Set.{ClonesAreEqual};
 ghost use Rattle.std.specs.BTreeMap.{get};
 ghost use Rattle.std.specs.BTreeSet.{contains};
 ghost use Rattle.raft_members.specs.quorum.Coherence.{is_coherent};
-ghost use Rattle.raft_members.specs.membership.Members.{node_at, members_of, Says};
+ghost use Rattle.raft_members.specs.membership.Members.{node_at, members_of, HasMembers};
 ghost use Rattle.raft_members.specs.membership.Valid.{IsValid};
 ghost use Rattle.raft_members.specs.membership.Change.{next_members, with_nodes, changed, last_config, union_of, without};
 ghost use Rattle.raft_members.specs.declared.change_members.ChangeMembers.TheVariants.{AddVoters};
@@ -31,7 +31,7 @@ impl<NID: NodeId, N: Node> Membership<NID, N> {
     /// `retain` it loses its node too.
     pub fn next_coherent(&self, goal: BTreeSet<NID>, retain: bool) -> Result<Self, AllocError>
         requires clones_are_equal { ClonesAreEqual N.eq N.is_clone }
-        ensures { IfOk result (λ m. Says N.eq NID.cmp m
+        ensures { IfOk result (λ m. HasMembers N.eq NID.cmp m
             (next_members NID.eq (members_of NID.cmp self.now) goal.keys retain)) }
     {
         let alloc = *self.configs.allocator();
@@ -60,7 +60,7 @@ impl<NID: NodeId, N: Node> Membership<NID, N> {
         ensures valid { IfOk result (λ _. IsValid NID.eq
             (changed NID.eq NID.cmp (members_of NID.cmp self.now) change retain)) }
         ensures valid_itself { IfOk result (λ m. IsValid NID.eq (members_of NID.cmp m)) }
-        ensures changed { IfOk result (λ m. Says N.eq NID.cmp m
+        ensures changed { IfOk result (λ m. HasMembers N.eq NID.cmp m
             (changed NID.eq NID.cmp (members_of NID.cmp self.now) change retain)) }
         ensures refused { IfErr result (IsRefusal NID.eq NID.cmp
             (changed NID.eq NID.cmp (members_of NID.cmp self.now) change retain)) }
@@ -89,7 +89,7 @@ impl<NID: NodeId, N: Node> Membership<NID, N> {
     /// Returns what a change makes of this membership, before it is tested for validity.
     fn changed(&self, change: ChangeMembers<NID, N>, retain: bool) -> Result<Self, AllocError>
         requires clones_are_equal { ClonesAreEqual N.eq N.is_clone }
-        ensures { IfOk result (λ m. Says N.eq NID.cmp m
+        ensures { IfOk result (λ m. HasMembers N.eq NID.cmp m
             (changed NID.eq NID.cmp (members_of NID.cmp self.now) change retain)) }
     {
         match change {
@@ -107,7 +107,7 @@ impl<NID: NodeId, N: Node> Membership<NID, N> {
     /// Returns the next membership on the way to these voters and the voters of the last config.
     fn with_voter_ids(&self, ids: BTreeSet<NID>, retain: bool) -> Result<Self, AllocError>
         requires clones_are_equal { ClonesAreEqual N.eq N.is_clone }
-        ensures { IfOk result (λ m. Says N.eq NID.cmp m
+        ensures { IfOk result (λ m. HasMembers N.eq NID.cmp m
             (next_members NID.eq (members_of NID.cmp self.now)
             (union_of NID.cmp (last_config self.now.configs) ids.keys) retain)) }
     {
@@ -120,7 +120,7 @@ impl<NID: NodeId, N: Node> Membership<NID, N> {
     /// with the nodes of the new voters whose ids have none.
     fn with_voters(&self, voters: BTreeMap<NID, N>, retain: bool) -> Result<Self, AllocError>
         requires clones_are_equal { ClonesAreEqual N.eq N.is_clone }
-        ensures { IfOk result (λ m. Says N.eq NID.cmp m
+        ensures { IfOk result (λ m. HasMembers N.eq NID.cmp m
             (changed NID.eq NID.cmp (members_of NID.cmp self.now) (AddVoters voters) retain)) }
     {
         let alloc = *self.configs.allocator();
@@ -132,7 +132,7 @@ impl<NID: NodeId, N: Node> Membership<NID, N> {
     /// Returns the next membership on the way to the voters of the last config without these.
     fn without_voters(&self, ids: &BTreeSet<NID>, retain: bool) -> Result<Self, AllocError>
         requires clones_are_equal { ClonesAreEqual N.eq N.is_clone }
-        ensures { IfOk result (λ m. Says N.eq NID.cmp m
+        ensures { IfOk result (λ m. HasMembers N.eq NID.cmp m
             (next_members NID.eq (members_of NID.cmp self.now)
             (without NID.eq (last_config self.now.configs) ids.now.keys) retain)) }
     {
@@ -156,7 +156,7 @@ impl<NID: NodeId, N: Node> Membership<NID, N> {
     /// Returns this membership, with copies of those of these nodes whose ids have none.
     fn with_added(&self, more: BTreeMap<NID, N>) -> Result<Self, AllocError>
         requires clones_are_equal { ClonesAreEqual N.eq N.is_clone }
-        ensures { IfOk result (λ m. Says N.eq NID.cmp m (with_nodes (members_of NID.cmp self.now)
+        ensures { IfOk result (λ m. HasMembers N.eq NID.cmp m (with_nodes (members_of NID.cmp self.now)
             (λ id. option_or (node_at NID.cmp self.now.nodes id) (get NID.cmp more id)))) }
     {
         let copies = nodes::copy(*self.configs.allocator(), &self.nodes)?;
@@ -167,7 +167,7 @@ impl<NID: NodeId, N: Node> Membership<NID, N> {
     /// ids.
     fn with_set(&self, more: BTreeMap<NID, N>) -> Result<Self, AllocError>
         requires clones_are_equal { ClonesAreEqual N.eq N.is_clone }
-        ensures { IfOk result (λ m. Says N.eq NID.cmp m (with_nodes (members_of NID.cmp self.now)
+        ensures { IfOk result (λ m. HasMembers N.eq NID.cmp m (with_nodes (members_of NID.cmp self.now)
             (λ id. option_or (get NID.cmp more id) (node_at NID.cmp self.now.nodes id)))) }
     {
         self.with_only(nodes::added(more, &self.nodes)?)
@@ -176,7 +176,7 @@ impl<NID: NodeId, N: Node> Membership<NID, N> {
     /// Returns this membership without the nodes at these ids.
     fn without_nodes(&self, ids: &BTreeSet<NID>) -> Result<Self, AllocError>
         requires clones_are_equal { ClonesAreEqual N.eq N.is_clone }
-        ensures { IfOk result (λ m. Says N.eq NID.cmp m (with_nodes (members_of NID.cmp self.now)
+        ensures { IfOk result (λ m. HasMembers N.eq NID.cmp m (with_nodes (members_of NID.cmp self.now)
             (λ id. cond (contains NID.cmp ids.now id) None (node_at NID.cmp self.now.nodes id)))) }
     {
         let mut nodes = nodes::copy(*self.configs.allocator(), &self.nodes)?;
@@ -186,7 +186,7 @@ impl<NID: NodeId, N: Node> Membership<NID, N> {
 
     /// Returns the membership with these nodes and the configs of this one.
     fn with_only(&self, nodes: BTreeMap<NID, N>) -> Result<Self, AllocError>
-        ensures { IfOk result (λ m. Says N.eq NID.cmp m
+        ensures { IfOk result (λ m. HasMembers N.eq NID.cmp m
             (with_nodes (members_of NID.cmp self.now) (get NID.cmp nodes))) }
     {
         let alloc = *self.configs.allocator();

@@ -40,7 +40,7 @@ impl<ID: Copy + Ord, QS: QuorumSet<ID> + Eq> Coherent<ID, QS> for Joint<ID, QS, 
 /// If the goal is a child, or there are no children, the goal alone is next. Otherwise the last
 /// child and the goal are next. So the next joint shares a child with this one if this one has any,
 /// it has the goal as a child, and after it the goal alone is next.
-impl<ID: Copy + Ord, QS: QuorumSet<ID> + Clone + Eq + Drop> FindCoherent<ID, QS>
+impl<ID: Copy + Ord, QS: QuorumSet<ID> + Clone + Eq> FindCoherent<ID, QS>
     for Joint<ID, QS, Vec<QS>> {
     ghost clones_are_equal = { ClonesAreEqual QS.eq QS.is_clone };
 

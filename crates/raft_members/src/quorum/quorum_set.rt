@@ -16,7 +16,7 @@ use std::alloc::{AllocError, Global};
 /// To write your own quorum set, write the two functions `is_quorum` and `ids`, state what they
 /// compute as `has_quorum` and `is_voter`, and prove `superset`. The third function,
 /// `least_quorum_size`, has a default body.
-pub trait QuorumSet<ID: Copy + Ord> {
+pub trait QuorumSet<ID: Copy + Ord>: Drop {
     /// Whether a set of ids is a quorum.
     ghost has_quorum: { Self → (ID → Bool) → Bool };
 

@@ -94,7 +94,7 @@ impl<ID: Copy + Ord> QuorumSet<ID> for BTreeSet<ID> {
 }
 
 /// A shared quorum set has the quorums and voters of the one that it shares.
-impl<ID: Copy + Ord, T: QuorumSet<ID> + Drop> QuorumSet<ID> for Rc<T> {
+impl<ID: Copy + Ord, T: QuorumSet<ID>> QuorumSet<ID> for Rc<T> {
     ghost has_quorum = { λ q s. T.has_quorum q.value s };
 
     ghost is_voter = { λ q x. T.is_voter q.value x };

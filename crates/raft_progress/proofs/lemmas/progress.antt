@@ -1,6 +1,6 @@
 pub mod upgrade
 pub mod entries
-pub mod places
+pub mod positions
 pub mod recount
 pub mod CallStepLemmas
 pub mod CloneLemmas

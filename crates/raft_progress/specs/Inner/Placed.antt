@@ -15,6 +15,6 @@ module _ {ID V P : Type 0} (part : V → P) (Left : V → V → Type 0) where
   -- the value at a position became one that Left allows, and nothing else has changed; its part
   -- went from `before` to `after`
   abbrev pub IsWrittenAt : ℕ → List (ID × V) → List (ID × V) → P → P → Type 0
-  IsWrittenAt place old new before after =
-      (e : ID × V) × (w : V) × (slice_get old place ≡ Some e) × Left e.1 w
-      × (new ≡ slice_set old place (e.0, w)) × (before ≡ part e.1) × (after ≡ part w)
+  IsWrittenAt position old new before after =
+      (e : ID × V) × (w : V) × (slice_get old position ≡ Some e) × Left e.1 w
+      × (new ≡ slice_set old position (e.0, w)) × (before ≡ part e.1) × (after ≡ part w)

@@ -33,6 +33,6 @@ module _ {ID V P : Type 0} (eq : ID → ID → Bool) (cmp : P → P → Ordering
         → AtMost cmp (part e.1) g) seen
 
 -- whether the first voters are a quorum
-abbrev pub front_test : {ID V : Type 0} → (ID → ID → Bool) → ((ID → Bool) → Bool) → List (ID × V)
+abbrev pub prefix_test : {ID V : Type 0} → (ID → ID → Bool) → ((ID → Bool) → Bool) → List (ID × V)
     → ℕ → Bool
-front_test eq is_quorum voters front = is_quorum (is_member eq (keys_of (take front voters)))
+prefix_test eq is_quorum voters prefix = is_quorum (is_member eq (keys_of (take prefix voters)))

@@ -5,12 +5,12 @@ use Rattle.std.specs.Ordering.{is_le, is_lt}
 use Rattle.std.specs.List.{prefix_len}
 use Rattle.std.proofs.Common.{get_or}
 use Rattle.raft_progress.specs.Inner.Recount.{exceeds}
-use Rattle.raft_progress.specs.Inner.Rises.{IsLeastFront, RisesTo}
-use Rattle.raft_progress.specs.progress.Shown.{Shown}
+use Rattle.raft_progress.specs.Inner.Rises.{IsShortestPrefix, RisesTo}
+use Rattle.raft_progress.specs.progress.ProgressView.{ProgressView}
 use Rattle.raft_progress.specs.progress.Statistics.{count_after}
 
 -- what no step changes
-pub record IsSameGroup {ID V P QS : Type 0} (old new : Shown ID V P QS) : Type 0 where
+pub record IsSameGroup {ID V P QS : Type 0} (old new : ProgressView ID V P QS) : Type 0 where
   pub quorum_set : new.quorum_set ≡ old.quorum_set
   pub voter_count : new.voter_count ≡ old.voter_count
   pub default_part : new.default_part ≡ old.default_part
@@ -19,50 +19,50 @@ pub record IsSameGroup {ID V P QS : Type 0} (old new : Shown ID V P QS) : Type 0
 module _ {ID V P QS : Type 0} (eq : ID → ID → Bool) (cmp : P → P → Ordering) (part : V → P)
     (has_quorum : QS → (ID → Bool) → Bool) where
   -- granted becomes the last part of the shortest prefix that was found
-  pub record IsScanned (old : Shown ID V P QS) (place : ℕ) (new : Shown ID V P QS) : Type 0 where
+  pub record IsScanned (old : ProgressView ID V P QS) (position : ℕ) (new : ProgressView ID V P QS) : Type 0 where
     pub group : IsSameGroup old new
-    pub same_walk : new.walk ≡ old.walk
+    pub same_progress_entries : new.entries ≡ old.entries
     pub moves : new.stat.move_count ≡ old.stat.move_count
     pub found : Option ℕ
     pub tests : ℕ
-    pub scanned : IsLeastFront eq (has_quorum old.quorum_set) (take old.voter_count old.walk) place
-        (prefix_len (exceeds cmp part old.granted) (take old.voter_count old.walk)) found tests
+    pub scanned : IsShortestPrefix eq (has_quorum old.quorum_set) (take old.voter_count old.entries) position
+        (prefix_len (exceeds cmp part old.granted) (take old.voter_count old.entries)) found tests
     pub counts : new.stat.is_quorum_count ≡ count_after old.stat.is_quorum_count tests
     pub stays : found ≡ None → new.granted ≡ old.granted
     pub rises : (k : ℕ) → found ≡ Some k
-        → (f : ID × V) × (f ≡ get_or (take old.voter_count old.walk) (k - 1) f)
+        → (f : ID × V) × (f ≡ get_or (take old.voter_count old.entries) (k - 1) f)
         × (new.granted ≡ part f.1)
 
 module _ {ID V P QS : Type 0} (cmp : P → P → Ordering) (part : V → P) where
   -- the voter has moved up to a position, and granted is not recomputed yet
-  pub record IsRisen (old : Shown ID V P QS) (place to : ℕ) (new : Shown ID V P QS) : Type 0 where
+  pub record IsRisen (old : ProgressView ID V P QS) (position to : ℕ) (new : ProgressView ID V P QS) : Type 0 where
     pub group : IsSameGroup old new
     pub granted : new.granted ≡ old.granted
     pub tests : new.stat.is_quorum_count ≡ old.stat.is_quorum_count
     pub moves : new.stat.move_count ≡ count_after old.stat.move_count 1
-    pub rises : RisesTo cmp part old.walk place new.walk to
+    pub rises : RisesTo cmp part old.entries position new.entries to
 
 module _ {ID V P QS : Type 0} (eq : ID → ID → Bool) (cmp : P → P → Ordering) (part : V → P)
     (has_quorum : QS → (ID → Bool) → Bool) where
   -- the voter has moved up to a position, and the prefixes past it were tested if granted may rise
-  pub record IsRaised (old : Shown ID V P QS) (place : ℕ) (may_grant : Bool) (new : Shown ID V P QS)
+  pub record IsRaised (old : ProgressView ID V P QS) (position : ℕ) (may_grant : Bool) (new : ProgressView ID V P QS)
       : Type 0 where
-    pub middle : Shown ID V P QS
+    pub middle : ProgressView ID V P QS
     pub to : ℕ
-    pub risen : IsRisen cmp part old place to middle
+    pub risen : IsRisen cmp part old position to middle
     pub looked : may_grant ≡ true → IsScanned eq cmp part has_quorum middle to new
     pub kept : may_grant ≡ false → new ≡ middle
 
 module _ {ID V P QS : Type 0} (eq : ID → ID → Bool) (cmp : P → P → Ordering) (part : V → P)
     (has_quorum : QS → (ID → Bool) → Bool) where
   -- the part of the value at the position was `before`, and the order is restored
-  pub record IsPutInOrder (old : Shown ID V P QS) (place : ℕ) (before : P) (new : Shown ID V P QS)
+  pub record IsPutInOrder (old : ProgressView ID V P QS) (position : ℕ) (before : P) (new : ProgressView ID V P QS)
       : Type 0 where
     pub entry : ID × V
-    pub at : entry ≡ get_or old.walk place entry
-    pub raised : (nat_lt place old.voter_count
+    pub at : entry ≡ get_or old.entries position entry
+    pub raised : (nat_lt position old.voter_count
         && (is_lt (cmp before (part entry.1)) && is_lt (cmp old.granted (part entry.1)))) ≡ true
-        → IsRaised eq cmp part has_quorum old place (is_le (cmp before old.granted)) new
-    pub kept : (nat_lt place old.voter_count
+        → IsRaised eq cmp part has_quorum old position (is_le (cmp before old.granted)) new
+    pub kept : (nat_lt position old.voter_count
         && (is_lt (cmp before (part entry.1)) && is_lt (cmp old.granted (part entry.1)))) ≡ false
         → new ≡ old

@@ -3,7 +3,7 @@ use Rattle.std.specs.Prelude.{◌≡◌, ℕ, ◌+◌, ◌^◌, Bool, true, ◌&
 use Rattle.std.specs.declared.cmp.Ordering.{Ordering}
 use Rattle.raft_base.specs.LogId.{id_le, next_index, same_ids}
 use Rattle.raft_base.specs.LogView.{LogView, prev_id}
-use Rattle.raft_progress.specs.entry.Send.{can_be_sent}
+use Rattle.raft_progress.specs.entry.Send.{can_send}
 use Rattle.raft_progress.specs.inflight.Inflight.{is_idle}
 use Rattle.raft_progress.specs.declared.entry.ProgressEntryOf.{ProgressEntryOf}
 
@@ -32,7 +32,7 @@ match_fits eq cmp log entry =
 abbrev pub can_catch_up : {C : Type 0} → (C → C → Bool) → (C → C → Ordering) → LogView C
     → ProgressEntryOf C → ℕ → ℕ → Bool
 can_catch_up eq cmp log entry agree max_entries =
-    is_idle entry.inflight && can_be_sent entry log && nat_le 1 max_entries
+    is_idle entry.inflight && can_send entry log && nat_le 1 max_entries
     && can_agree (next_index entry.matching) entry.searching_end (next_index log.purge_upto) agree
     && has_request_ids entry.curr_inflight_id (next_index log.last)
     && match_fits eq cmp log entry

@@ -75,8 +75,8 @@ send_table cmp entry log max_entries =
 -- a send may be made if something is in flight; otherwise, matching must be below the searching
 -- end, the searching end must not be past the log, and neither an index nor the request id may be
 -- the greatest u64
-abbrev pub can_be_sent : {C : Type 0} → ProgressEntryOf C → LogView C → Bool
-can_be_sent entry log =
+abbrev pub can_send : {C : Type 0} → ProgressEntryOf C → LogView C → Bool
+can_send entry log =
     if is_idle entry.inflight then
     (nat_le (next_index entry.matching) entry.searching_end
     && nat_lt (next_index log.last) (2 ^ 64) && nat_le entry.searching_end (next_index log.last)

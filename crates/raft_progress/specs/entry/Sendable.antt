@@ -6,7 +6,7 @@ use Rattle.raft_base.specs.LogId.{next_index}
 use Rattle.raft_base.specs.LogView.{LogView}
 use Rattle.raft_base.specs.declared.log_id.LogIdOf.{LogIdOf}
 use Rattle.raft_progress.specs.entry.EntryTable.{entry_after_ack, entry_after_conflict}
-use Rattle.raft_progress.specs.entry.Send.{can_be_sent, send_table}
+use Rattle.raft_progress.specs.entry.Send.{can_send, send_table}
 use Rattle.raft_progress.specs.inflight.Inflight.{is_idle, is_sending_snapshot}
 use Rattle.raft_progress.specs.declared.entry.ProgressEntryOf.{ProgressEntryOf}
 use Rattle.raft_progress.specs.declared.inflight.InflightOf.{InflightOf}
@@ -33,13 +33,13 @@ module _ (C : Type 0) where
   abbrev pub BeginsSendable : Type 0
   BeginsSendable =
       (entry : ProgressEntryOf C) (log : LogView C) → is_idle entry.inflight ≡ true
-      → can_be_sent entry log ≡ true → IsSendable entry log
+      → can_send entry log ≡ true → IsSendable entry log
 
   -- if an entry is sendable, a send may be made
   abbrev pub SendableCanSend : Type 0
   SendableCanSend =
       (entry : ProgressEntryOf C) (log : LogView C) → IsSendable entry log
-      → can_be_sent entry log ≡ true
+      → can_send entry log ≡ true
 
   -- an accepted conflict keeps an entry sendable
   abbrev pub ConflictKeepsSendable : Type 0

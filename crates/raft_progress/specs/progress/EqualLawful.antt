@@ -4,7 +4,7 @@ use Rattle.std.specs.Prelude.{Bool}
 use Rattle.std.specs.Cmp.{IsEquivalence, IsPartialEquivalence, and_equiv, and_per, nat_eq_equiv, on_equiv, on_per, partial_equiv_from_equiv}
 use Rattle.std.specs.Cmp.Lexicographic.{lists_equiv, lists_per}
 use Rattle.raft_progress.specs.progress.Equal.{equal}
-use Rattle.raft_progress.specs.progress.Shown.{Shown}
+use Rattle.raft_progress.specs.progress.ProgressView.{ProgressView}
 
 module _ {ID V P QS : Type 0} {id_eq : ID → ID → Bool} {value_eq : V → V → Bool}
     {part_eq : P → P → Bool} {set_eq : QS → QS → Bool} where
@@ -18,10 +18,10 @@ module _ {ID V P QS : Type 0} {id_eq : ID → ID → Bool} {value_eq : V → V �
       (and_per
       (and_per
       (and_per
-      (and_per (on_per (λ (p : Shown ID V P QS). p.quorum_set) sets)
+      (and_per (on_per (λ (p : ProgressView ID V P QS). p.quorum_set) sets)
       (on_per (λ p. p.granted) parts))
       (on_per (λ p. p.voter_count) number))
-      (on_per (λ p. p.walk)
+      (on_per (λ p. p.entries)
       (lists_per (and_per (on_per (λ e. e.0) ids) (on_per (λ e. e.1) values)))))
       (on_per (λ p. p.default_part) parts))
       (on_per (λ p. p.stat)
@@ -36,10 +36,10 @@ module _ {ID V P QS : Type 0} {id_eq : ID → ID → Bool} {value_eq : V → V �
       (and_equiv
       (and_equiv
       (and_equiv
-      (and_equiv (on_equiv (λ (p : Shown ID V P QS). p.quorum_set) sets)
+      (and_equiv (on_equiv (λ (p : ProgressView ID V P QS). p.quorum_set) sets)
       (on_equiv (λ p. p.granted) parts))
       (on_equiv (λ p. p.voter_count) nat_eq_equiv))
-      (on_equiv (λ p. p.walk)
+      (on_equiv (λ p. p.entries)
       (lists_equiv (and_equiv (on_equiv (λ e. e.0) ids) (on_equiv (λ e. e.1) values)))))
       (on_equiv (λ p. p.default_part) parts))
       (on_equiv (λ p. p.stat)

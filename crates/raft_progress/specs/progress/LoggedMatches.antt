@@ -6,7 +6,7 @@ use Rattle.raft_base.specs.LogId.{log_id_cmp, next_index, same_ids}
 use Rattle.raft_base.specs.LogView.{LogView}
 use Rattle.raft_base.specs.declared.log_id.LogIdOf.{LogIdOf}
 use Rattle.raft_progress.specs.progress.InOrder.{IsInOrder}
-use Rattle.raft_progress.specs.progress.Shown.{Shown, state}
+use Rattle.raft_progress.specs.progress.ProgressView.{ProgressView, state}
 
 -- the log has the log id at its index, or that index is purged, so that the log no longer has it;
 -- an absent log id counts as logged
@@ -20,7 +20,7 @@ is_logged_or_purged eq log (Some id) =
 module _ {ID V C QS : Type 0} (eq : ID → ID → Bool) (same : C → C → Bool)
     (part : V → Option (LogIdOf C)) (log : LogView C) where
   -- the default's matching log id is logged or purged, and so is the one of each voter
-  pub record MatchesAreLogged (p : Shown ID V (Option (LogIdOf C)) QS) : Type 0 where
+  pub record MatchesAreLogged (p : ProgressView ID V (Option (LogIdOf C)) QS) : Type 0 where
     pub default : is_logged_or_purged same log p.default_part ≡ true
     pub voters : (id : ID) (v : V) → (state eq p).is_voter id ≡ true
         → (state eq p).value id ≡ Some v → is_logged_or_purged same log (part v) ≡ true
@@ -30,6 +30,6 @@ module _ (ID V C QS : Type 0) (eq : ID → ID → Bool) (same : C → C → Bool
   -- if they are, what is granted is logged or purged too
   abbrev pub GrantedIsLogged : Type 0
   GrantedIsLogged =
-      (p : Shown ID V (Option (LogIdOf C)) QS)
+      (p : ProgressView ID V (Option (LogIdOf C)) QS)
       → IsInOrder eq (option_cmp (log_id_cmp cmp)) part has_quorum p → (log : LogView C)
       → MatchesAreLogged eq same part log p → is_logged_or_purged same log p.granted ≡ true

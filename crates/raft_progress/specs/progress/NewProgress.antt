@@ -6,7 +6,7 @@ use Rattle.std.specs.Map.{keys_of}
 use Rattle.std.specs.Set.{is_member}
 use Rattle.std.specs.declared.cmp.Ordering.{Ordering}
 use Rattle.raft_progress.specs.progress.ProgressState.{ProgressState}
-use Rattle.raft_progress.specs.progress.Shown.{Shown}
+use Rattle.raft_progress.specs.progress.ProgressView.{ProgressView}
 
 -- no learner is repeated, and none is a voter
 pub record LearnersFit {ID : Type 0} (eq : ID → ID → Bool) (is_voter : ID → Bool)
@@ -32,9 +32,9 @@ module _ {ID V P QS : Type 0} (eq : ID → ID → Bool) (IsClone : V → V → T
 
 -- the entries of a new progress: the voters, each once, ascending, and then the learners in the
 -- given order
-pub record IsFirstWalk {ID V P QS : Type 0} (id_cmp : ID → ID → Ordering) (learners : List ID)
-    (made : Shown ID V P QS) : Type 0 where
+pub record AreFirstEntries {ID V P QS : Type 0} (id_cmp : ID → ID → Ordering) (learners : List ID)
+    (made : ProgressView ID V P QS) : Type 0 where
   pub voters : List ID
   pub ascending : IsStrictlySortedBy id_cmp voters
-  pub ids : keys_of made.walk ≡ voters ++ learners
+  pub ids : keys_of made.entries ≡ voters ++ learners
   pub first : made.voter_count ≡ length voters

@@ -6,7 +6,7 @@ use Rattle.std.specs.declared.cmp.Ordering.TheVariants.{Equal}
 use Rattle.raft_progress.specs.progress.CountedValue.{AtMost, IsCounted, has_part, reached}
 use Rattle.raft_progress.specs.progress.InOrder.{IsInOrder}
 use Rattle.raft_progress.specs.progress.ProgressState.{ProgressState}
-use Rattle.raft_progress.specs.progress.Shown.{Shown, state}
+use Rattle.raft_progress.specs.progress.ProgressView.{ProgressView, state}
 
 module _ {ID V P QS : Type 0} (cmp : P → P → Ordering) (part : V → P)
     (has_quorum : QS → (ID → Bool) → Bool) where
@@ -36,14 +36,14 @@ module _ (ID V P QS : Type 0) (eq : ID → ID → Bool) (cmp : P → P → Order
   -- quorum has reached it
   abbrev pub GrantedIsThreshold : Type 0
   GrantedIsThreshold =
-      (p : Shown ID V P QS) → IsInOrder eq cmp part has_quorum p → (q : P)
+      (p : ProgressView ID V P QS) → IsInOrder eq cmp part has_quorum p → (q : P)
       → AtMost cmp q p.granted
       ↔ (AtMost cmp q p.default_part ⊎ QuorumReached cmp part has_quorum (state eq p) q)
 
   -- if any two quorums share a voter, each quorum has a voter whose part is at least granted
   abbrev pub MeetingQuorumsKnowGranted : Type 0
   MeetingQuorumsKnowGranted =
-      (p : Shown ID V P QS) → IsInOrder eq cmp part has_quorum p
+      (p : ProgressView ID V P QS) → IsInOrder eq cmp part has_quorum p
       → QuorumsShareVoter cmp part has_quorum (state eq p)
       → QuorumsHavePart cmp part has_quorum (state eq p) p.granted
 

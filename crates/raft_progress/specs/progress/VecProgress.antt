@@ -1,6 +1,6 @@
 -- What contracts see of a `VecProgress`, and what remains of one whose entries have been lent. No
 -- other file reads its private fields.
-use Rattle.raft_progress.specs.progress.Shown.{Shown}
+use Rattle.raft_progress.specs.progress.ProgressView.{ProgressView}
 use Rattle.std.specs.Prelude.{List, ◌≤◌, true}
 use Rattle.std.specs.Vec.{with_items}
 use Rattle.std.proofs.Common.{sym, ◌∙◌, subst, true≢false}
@@ -10,13 +10,13 @@ use Rattle.std.specs.declared.cmp.PartialOrd as partial_ghosts
 use Rattle.raft_progress.specs.declared.progress.vec_progress.VecProgress.{VecProgress}
 
 -- all but the list of positions and the scratch space
-abbrev pub shown : {ID V P QS : Type 0} {o : order_ghosts.Ghosts ID} {e : eq_ghosts.Ghosts ID}
+abbrev pub view : {ID V P QS : Type 0} {o : order_ghosts.Ghosts ID} {e : eq_ghosts.Ghosts ID}
     {q : partial_ghosts.Ghosts ID}
-    → VecProgress ID V P QS o e q → Shown ID V P QS
-shown p =
+    → VecProgress ID V P QS o e q → ProgressView ID V P QS
+view p =
     record {
       quorum_set = p.quorum_set;
-      walk = p.walk.items;
+      entries = p.entries.items;
       voter_count = p.voter_count;
       default_part = p.default_part;
       granted = p.granted;
@@ -25,15 +25,15 @@ shown p =
 
 -- the progress with other entries, as many as before, and a list of positions that is not used any
 -- more
-abbrev pub with_walk : {ID V P QS : Type 0} {o : order_ghosts.Ghosts ID} {e : eq_ghosts.Ghosts ID}
+abbrev pub with_entries : {ID V P QS : Type 0} {o : order_ghosts.Ghosts ID} {e : eq_ghosts.Ghosts ID}
     {q : partial_ghosts.Ghosts ID}
     → VecProgress ID V P QS o e q → List (ID × V) → VecProgress ID V P QS o e q
-with_walk p walk =
+with_entries p entries =
     record p {
-      walk = with_items p.walk walk;
-      places = record p.places { stale = true };
+      entries = with_items p.entries entries;
+      positions = record p.positions { stale = true };
       voters_fit =
           subst (λ n. p.voter_count ≤ n)
-          (sym p.walk.ok.0 ∙ (with_items p.walk walk).ok.0) p.voters_fit;
+          (sym p.entries.ok.0 ∙ (with_items p.entries entries).ok.0) p.voters_fit;
       agree = λ e. absurd (true≢false e);
     }

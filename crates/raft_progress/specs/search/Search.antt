@@ -4,7 +4,7 @@ use Rattle.std.specs.declared.cmp.Ordering.{Ordering}
 use Rattle.raft_base.specs.LogId.{next_index}
 use Rattle.raft_base.specs.LogView.{LogView}
 use Rattle.raft_progress.specs.entry.EntryTable.{entry_after_conflict}
-use Rattle.raft_progress.specs.entry.Send.{can_be_sent, send_table}
+use Rattle.raft_progress.specs.entry.Send.{can_send, send_table}
 use Rattle.raft_progress.specs.inflight.Inflight.{is_idle}
 use Rattle.raft_progress.specs.declared.entry.ProgressEntryOf.{ProgressEntryOf}
 use Rattle.raft_progress.specs.declared.search.SearchEvent.{SearchEvent}
@@ -40,7 +40,7 @@ module _ {L C : Type 0} (cmp : C → C → Ordering) (log_view : L → LogView C
   -- a send, unless it may not be made, or the purge point has moved back since an earlier send
   abbrev pub after_sending : Search C → LogView C → ℕ → Search C
   after_sending search log max_entries =
-      if can_be_sent search.entry log && nat_le search.purged (next_index log.purge_upto)
+      if can_send search.entry log && nat_le search.purged (next_index log.purge_upto)
       then record {
         entry = after_send (send_table cmp search.entry log max_entries);
         purged = next_index log.purge_upto;

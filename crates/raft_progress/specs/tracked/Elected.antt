@@ -5,14 +5,14 @@ use Rattle.std.specs.Ordering.{is_lt}
 use Rattle.std.specs.declared.cmp.Ordering.{Ordering}
 use Rattle.raft_members.specs.quorum.Coherence.{is_coherent}
 use Rattle.raft_progress.specs.progress.CountedValue.{AtMost, has_part}
-use Rattle.raft_progress.specs.progress.Shown.{state}
-use Rattle.raft_progress.specs.tracked.TrackedState.{IsReady, TrackedShown}
+use Rattle.raft_progress.specs.progress.ProgressView.{state}
+use Rattle.raft_progress.specs.tracked.TrackedState.{IsReady, TrackedView}
 
 module _ {K N M V P W Q : Type 0} (eq : K → K → Bool) (id_cmp : K → K → Ordering)
     (cmp : P → P → Ordering) (part : V → P) (vote_cmp : Q → Q → Ordering) (vote_part : W → Q) where
   -- matching log ids and votes, each counted under a membership, which share a config, as before
   -- and after one change; and more is granted of the votes than their default: a quorum has voted
-  pub record IsElection (matches : TrackedShown K N V P) (votes : TrackedShown K M W Q) : Type 0
+  pub record IsElection (matches : TrackedView K N V P) (votes : TrackedView K M W Q) : Type 0
     where
       pub matches_ready : IsReady eq id_cmp cmp part matches
       pub votes_ready : IsReady eq id_cmp vote_cmp vote_part votes
@@ -21,7 +21,7 @@ module _ {K N M V P W Q : Type 0} (eq : K → K → Bool) (id_cmp : K → K → 
 
   -- some voter of both memberships matches what is granted of the matching log ids, and has voted
   -- what is granted of the votes
-  pub record HasMatchedAndVoted (matches : TrackedShown K N V P) (votes : TrackedShown K M W Q)
+  pub record HasMatchedAndVoted (matches : TrackedView K N V P) (votes : TrackedView K M W Q)
       : Type 0 where
     pub voter : K
     pub counts_in_matches : (state eq matches.progress).is_voter voter ≡ true
@@ -32,7 +32,7 @@ module _ {K N M V P W Q : Type 0} (eq : K → K → Bool) (id_cmp : K → K → 
         ((state eq votes.progress).value voter) ≡ true
 
   -- no voter that has voted what is granted of votes matches more than p
-  abbrev pub NoneVotedPast : TrackedShown K N V P → TrackedShown K M W Q → P → Type 0
+  abbrev pub NoneVotedPast : TrackedView K N V P → TrackedView K M W Q → P → Type 0
   NoneVotedPast matches votes p =
       (id : K) (v : V) → (state eq votes.progress).is_voter id ≡ true
       → has_part vote_cmp vote_part votes.progress.granted ((state eq votes.progress).value id)
@@ -44,14 +44,14 @@ module _ (K N M V P W Q : Type 0) (eq : K → K → Bool) (id_cmp : K → K → 
   -- in an election a voter of both has at least what is granted in each
   abbrev pub GrantedMeet : Type 0
   GrantedMeet =
-      (matches : TrackedShown K N V P) (votes : TrackedShown K M W Q)
+      (matches : TrackedView K N V P) (votes : TrackedView K M W Q)
       → IsElection eq id_cmp cmp part vote_cmp vote_part matches votes
       → HasMatchedAndVoted eq id_cmp cmp part vote_cmp vote_part matches votes
 
   -- a candidate that has at least as much as each of its voters has all that is granted
   abbrev pub ElectedLacksNothing : Type 0
   ElectedLacksNothing =
-      (matches : TrackedShown K N V P) (votes : TrackedShown K M W Q) (p : P)
+      (matches : TrackedView K N V P) (votes : TrackedView K M W Q) (p : P)
       → IsElection eq id_cmp cmp part vote_cmp vote_part matches votes
       → NoneVotedPast eq id_cmp cmp part vote_cmp vote_part matches votes p
       → AtMost cmp matches.progress.granted p

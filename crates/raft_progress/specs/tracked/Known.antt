@@ -7,9 +7,9 @@ use Rattle.raft_members.specs.declared.change_members.ChangeMembers.{ChangeMembe
 use Rattle.raft_progress.specs.progress.Answered.{is_refused}
 use Rattle.raft_progress.specs.progress.Comparisons.{Comparisons}
 use Rattle.raft_progress.specs.progress.CountedValue.{AtMost, has_part}
-use Rattle.raft_progress.specs.progress.Shown.{state}
-use Rattle.raft_progress.specs.tracked.TrackedState.{IsReady, TrackedShown, tracked_state}
-use Rattle.raft_progress.specs.tracked.TrackedShownSteps.{IsTrackedShownRun, is_change}
+use Rattle.raft_progress.specs.progress.ProgressView.{state}
+use Rattle.raft_progress.specs.tracked.TrackedState.{IsReady, TrackedView, tracked_state}
+use Rattle.raft_progress.specs.tracked.TrackedViewSteps.{IsTrackedViewRun, is_change}
 use Rattle.raft_progress.specs.tracked.TrackedSteps.{IsChanged}
 use Rattle.raft_progress.specs.declared.progress.steps.Reply.{Reply}
 use Rattle.raft_progress.specs.declared.tracked.step.Step.{Step}
@@ -17,7 +17,7 @@ use Rattle.raft_progress.specs.declared.progress.steps.Reply.TheVariants.{Grante
 
 -- each quorum of the membership has a voter whose present part is at least p
 abbrev pub QuorumsKnow : {K N V P : Type 0} → (K → K → Bool) → (P → P → Ordering) → (V → P)
-    → TrackedShown K N V P → P → Type 0
+    → TrackedView K N V P → P → Type 0
 QuorumsKnow eq cmp part t p =
     EachQuorumKnows eq t.membership.configs (state eq t.progress).is_voter
     (λ id. has_part cmp part p ((state eq t.progress).value id))
@@ -29,7 +29,7 @@ module _ (K N V P : Type 0) (eq : K → K → Bool) (id_cmp : K → K → Orderi
   abbrev pub ChangeKeepsGranted : Type 0
   ChangeKeepsGranted =
       ((v w : V) → IsClone v w → part w ≡ part v)
-      → (old new : TrackedShown K N V P) → IsReady eq id_cmp cmp part old
+      → (old new : TrackedView K N V P) → IsReady eq id_cmp cmp part old
       → IsReady eq id_cmp cmp part new → (change : ChangeMembers K N) (retain : Bool) (default : V)
       (g : P)
       → IsChanged eq id_cmp same cmp part IsClone (tracked_state eq old) change retain default
@@ -56,8 +56,8 @@ module _ (K N V P : Type 0) (by : Comparisons K V P) (same : N → N → Bool) w
   -- after a run without a change, the membership is what it was, and its quorums know what they knew
   abbrev pub KnownStays : Type 0
   KnownStays =
-      (old new : TrackedShown K N V P) (steps : List (Step K N V)) (replies : List (Reply K P))
-      → list_any is_change steps ≡ false → IsTrackedShownRun by same old steps replies new
+      (old new : TrackedView K N V P) (steps : List (Step K N V)) (replies : List (Reply K P))
+      → list_any is_change steps ≡ false → IsTrackedViewRun by same old steps replies new
       → (new.membership ≡ old.membership)
       × ((p : P) → QuorumsKnow by.eq by.cmp by.part old p → QuorumsKnow by.eq by.cmp by.part new p)
 
@@ -66,10 +66,10 @@ module _ (K N V P : Type 0) (by : Comparisons K V P) (same : N → N → Bool) w
   abbrev pub KnownOverChanges : Type 0
   KnownOverChanges =
       ((v w : V) → by.IsClone v w → by.part w ≡ by.part v)
-      → (old new : TrackedShown K N V P) (steps : List (Step K N V)) (replies : List (Reply K P))
+      → (old new : TrackedView K N V P) (steps : List (Step K N V)) (replies : List (Reply K P))
       (p : P)
       → IsReady by.eq by.id_cmp by.cmp by.part old → 0 < length old.membership.configs
-      → IsTrackedShownRun by same old steps replies new
+      → IsTrackedViewRun by same old steps replies new
       → GrantedAtChanges by.cmp p old.progress.granted steps replies
       → QuorumsKnow by.eq by.cmp by.part old p
       → (0 < length new.membership.configs) × QuorumsKnow by.eq by.cmp by.part new p

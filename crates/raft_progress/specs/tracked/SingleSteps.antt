@@ -4,10 +4,10 @@ use Rattle.std.specs.Prelude.{◌≡◌, Bool}
 use Rattle.std.specs.declared.cmp.Ordering.{Ordering}
 use Rattle.raft_members.specs.membership.Members.{MemberList, members_of}
 use Rattle.raft_progress.specs.progress.Answered.{IsAnswered}
-use Rattle.raft_progress.specs.progress.ShownSteps.{IsUpdatedTo}
+use Rattle.raft_progress.specs.progress.ViewSteps.{IsUpdatedTo}
 use Rattle.raft_progress.specs.progress.Steps.{IsWritten}
-use Rattle.raft_progress.specs.tracked.TrackedShownSteps.{IsChangeFold}
-use Rattle.raft_progress.specs.tracked.TrackedState.{TrackedShown, TrackedState, has_quorum, tracked_state}
+use Rattle.raft_progress.specs.tracked.TrackedViewSteps.{IsChangeFold}
+use Rattle.raft_progress.specs.tracked.TrackedState.{TrackedView, TrackedState, has_quorum, tracked_state}
 use Rattle.raft_progress.specs.tracked.TrackedSteps.{GoesOver, IsSameTracked}
 use Rattle.raft_progress.specs.declared.progress.steps.Reply.{Reply}
 use Rattle.raft_progress.specs.declared.progress.steps.Reply.TheVariants.{Granted, BelowDefault, OutOfMemory}
@@ -15,8 +15,8 @@ use Rattle.raft_progress.specs.declared.progress.steps.Reply.TheVariants.{Grante
 module _ {K N V P : Type 0} (eq : K → K → Bool) (cmp : P → P → Ordering) (part : V → P) where
   -- the value of an id is written, or the write is refused, and the membership stays, as a replay
   -- does at `Update`
-  pub record IsTrackedUpdate (old : TrackedShown K N V P) (id : K) (value : V) (reply : Reply K P)
-      (new : TrackedShown K N V P) : Type 0 where
+  pub record IsTrackedUpdate (old : TrackedView K N V P) (id : K) (value : V) (reply : Reply K P)
+      (new : TrackedView K N V P) : Type 0 where
     pub membership : new.membership ≡ old.membership
     pub values : IsWritten eq cmp part (has_quorum eq) (tracked_state eq old).progress id value
         reply (tracked_state eq new).progress
@@ -39,8 +39,8 @@ module _ {K N V P : Type 0} (eq : K → K → Bool) (id_cmp : K → K → Orderi
   GoBothOver old next default reply new = ⊥
 
   -- both switch to a membership, over all that contracts see of them
-  pub record IsTrackedChangeTo (old : TrackedShown K N V P) (next : MemberList K N) (default : V)
-      (reply : Reply K P) (new : TrackedShown K N V P) : Type 0 where
+  pub record IsTrackedChangeTo (old : TrackedView K N V P) (next : MemberList K N) (default : V)
+      (reply : Reply K P) (new : TrackedView K N V P) : Type 0 where
     pub values : GoBothOver (tracked_state eq old) next default reply (tracked_state eq new)
     pub answered : IsAnswered (λ t. t.progress.granted)
         (IsChangeFold eq id_cmp cmp part IsClone old default) old reply new

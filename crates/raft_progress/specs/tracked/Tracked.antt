@@ -8,8 +8,8 @@ use Rattle.std.specs.declared.fmt.Debug as debug_ghosts
 use Rattle.std.specs.declared.fmt.Display as display_ghosts
 use Rattle.std.specs.declared.hash.Hash as hash_ghosts
 use Rattle.raft_base.specs.declared.node.NodeDefault as node_ghosts
-use Rattle.raft_progress.specs.tracked.TrackedState.{TrackedShown}
-use Rattle.raft_progress.specs.progress.VecProgress.{shown}
+use Rattle.raft_progress.specs.tracked.TrackedState.{TrackedView}
+use Rattle.raft_progress.specs.progress.VecProgress.{view}
 use Rattle.raft_progress.specs.declared.progress.part.ProgressPart as part_ghosts
 use Rattle.raft_progress.specs.declared.tracked.Tracked.{Tracked}
 
@@ -21,7 +21,7 @@ module _ {K N V P : Type 0} {ids : eq_ghosts.Ghosts K} {ids' : order_ghosts.Ghos
     {values : part_ghosts.Ghosts V P} {parts : order_ghosts.Ghosts P} {parts' : eq_ghosts.Ghosts P}
     {parts'' : partial_ghosts.Ghosts P} where
   -- its membership, and what contracts see of its progress
-  abbrev pub tracked : Tracked K N V P ids ids' ids'' debug display hash zero nodes nodes' nodes''
+  abbrev pub tracked_view : Tracked K N V P ids ids' ids'' debug display hash zero nodes nodes' nodes''
       node values parts parts' parts''
-      → TrackedShown K N V P
-  tracked t = record { membership = t.membership; progress = shown t.progress }
+      → TrackedView K N V P
+  tracked_view t = record { membership = t.membership; progress = view t.progress }

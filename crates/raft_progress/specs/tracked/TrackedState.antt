@@ -8,7 +8,7 @@ use Rattle.raft_members.specs.quorum.Majority.{is_majority, is_voter_of}
 use Rattle.raft_members.specs.membership.Members.{MemberList, Members, members_of, node_at}
 use Rattle.raft_progress.specs.progress.InOrder.{IsInOrder}
 use Rattle.raft_progress.specs.progress.ProgressState.{ProgressState}
-use Rattle.raft_progress.specs.progress.Shown.{Shown, state}
+use Rattle.raft_progress.specs.progress.ProgressView.{ProgressView, state}
 
 -- the configs of a membership as one quorum set: a joint of lists of voters
 abbrev pub Configs : Type 0 → Type 0
@@ -24,9 +24,9 @@ module _ {K : Type 0} (eq : K → K → Bool) where
   is_voter configs id = list_any (λ c. is_member eq c.items id) configs.items
 
 -- what contracts see of a tracked progress: its membership and its progress
-pub record TrackedShown (K N V P : Type 0) : Type 0 where
+pub record TrackedView (K N V P : Type 0) : Type 0 where
   pub membership : MemberList K N
-  pub progress : Shown K V P (Configs K)
+  pub progress : ProgressView K V P (Configs K)
 
 -- a membership, and voters, learners and values apart from how they are stored
 pub record TrackedState (K N V P : Type 0) : Type 0 where
@@ -34,7 +34,7 @@ pub record TrackedState (K N V P : Type 0) : Type 0 where
   pub progress : ProgressState K V P (Configs K)
 
 -- what contracts see of a tracked progress, apart from how it is stored
-abbrev pub tracked_state : {K N V P : Type 0} → (K → K → Bool) → TrackedShown K N V P
+abbrev pub tracked_state : {K N V P : Type 0} → (K → K → Bool) → TrackedView K N V P
     → TrackedState K N V P
 tracked_state eq t = record { membership = t.membership; progress = state eq t.progress }
 
@@ -65,6 +65,6 @@ pub record CountsBy {K N V P : Type 0} (eq : K → K → Bool) (cmp : K → K �
 
 -- a tracked progress is ready if its progress is in order and counts by its membership
 pub record IsReady {K N V P : Type 0} (eq : K → K → Bool) (id_cmp : K → K → Ordering)
-    (cmp : P → P → Ordering) (part : V → P) (t : TrackedShown K N V P) : Type 0 where
+    (cmp : P → P → Ordering) (part : V → P) (t : TrackedView K N V P) : Type 0 where
   pub ordered : IsInOrder eq cmp part (has_quorum eq) t.progress
   pub counts_by : CountsBy eq id_cmp (tracked_state eq t)

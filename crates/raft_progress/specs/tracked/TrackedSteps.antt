@@ -2,7 +2,7 @@
 use Rattle.std.specs.Prelude.{◌≡◌, Bool, true, false, Some, None, List}
 use Rattle.std.specs.declared.cmp.Ordering.{Ordering}
 use Rattle.raft_members.specs.membership.Change.{changed}
-use Rattle.raft_members.specs.membership.Members.{Members, Says, members_of}
+use Rattle.raft_members.specs.membership.Members.{Members, HasMembers, members_of}
 use Rattle.raft_members.specs.membership.Valid.{FirstWithoutNode, IsValid, has_empty_config}
 use Rattle.raft_members.specs.declared.change_members.ChangeMembers.{ChangeMembers}
 use Rattle.raft_progress.specs.progress.Comparisons.{Comparisons}
@@ -38,7 +38,7 @@ module _ {K N V P : Type 0} (eq : K → K → Bool) (id_cmp : K → K → Orderi
   abbrev pub IsChangedTo : TrackedState K N V P → Members K N → V → Reply K P → TrackedState K N V P
       → Type 0
   IsChangedTo old next default (Granted p) new =
-      IsValid eq next × Says same id_cmp new.membership next
+      IsValid eq next × HasMembers same id_cmp new.membership next
       × GoesOver eq id_cmp cmp part IsClone old.progress next default (Granted p) new.progress
   IsChangedTo old next default (BelowDefault id) new =
       IsValid eq next × (new.membership ≡ old.membership)

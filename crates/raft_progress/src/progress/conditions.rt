@@ -10,7 +10,7 @@ ghost use Rattle.raft_progress.specs.Inner.Conditions.{comes_before, ids_differ,
 ghost use Rattle.raft_progress.specs.progress.Steps.{falls};
 
 use super::part::ProgressPart;
-use super::places::FEW;
+use super::positions::FEW;
 use std::alloc::AllocError;
 
 /// Returns the ids, followed by the learners.
@@ -41,8 +41,8 @@ fn have_no_equal_neighbours<ID: Copy + Ord>(ids: &[ID]) -> bool
     requires { IsSorted ID.cmp ids.now }
     ensures { IsTrue result ↔ IsDistinct ID.eq ids.now }
 {
-    for place in 1..ids.len() {
-        if ids[place - 1] == ids[place] {
+    for position in 1..ids.len() {
+        if ids[position - 1] == ids[position] {
             return false;
         }
     }
@@ -50,31 +50,31 @@ fn have_no_equal_neighbours<ID: Copy + Ord>(ids: &[ID]) -> bool
 }
 
 /// Whether an entry has the id.
-fn has_id<ID: Copy + Ord, V>(walk: &[(ID, V)], id: ID) -> bool
-    ensures { result ≡ list_any (λ e. ID.eq e.0 id) walk.now }
+fn has_id<ID: Copy + Ord, V>(entries: &[(ID, V)], id: ID) -> bool
+    ensures { result ≡ list_any (λ e. ID.eq e.0 id) entries.now }
 {
-    walk.iter().any(|entry| entry.0 == id)
+    entries.iter().any(|entry| entry.0 == id)
 }
 
 /// Whether no id is repeated, by a comparison of each two ids.
-fn has_distinct_ids<ID: Copy + Ord, V>(walk: &[(ID, V)]) -> bool
-    ensures { result ≡ ids_differ ID.eq walk.now }
+fn has_distinct_ids<ID: Copy + Ord, V>(entries: &[(ID, V)]) -> bool
+    ensures { result ≡ ids_differ ID.eq entries.now }
 {
-    for place in 0..walk.len() {
-        if has_id(&walk[place + 1..], walk[place].0) {
+    for position in 0..entries.len() {
+        if has_id(&entries[position + 1..], entries[position].0) {
             return false;
         }
     }
     true
 }
 
-/// Writes the ids of the voters to the scratch space `room`.
-fn write_ids<ID: Copy, V>(voters: &[(ID, V)], room: &mut [ID])
-    requires { length room.old ≡ length voters.now }
-    ensures { room.new ≡ keys_of voters.now }
+/// Writes the ids of the voters to the scratch space `scratch`.
+fn write_ids<ID: Copy, V>(voters: &[(ID, V)], scratch: &mut [ID])
+    requires { length scratch.old ≡ length voters.now }
+    ensures { scratch.new ≡ keys_of voters.now }
 {
-    for place in 0..voters.len() {
-        room[place] = voters[place].0;
+    for position in 0..voters.len() {
+        scratch[position] = voters[position].0;
     }
 }
 
@@ -86,18 +86,18 @@ fn share_id<ID: Copy + Ord, V>(voters: &[(ID, V)], learners: &[(ID, V)]) -> bool
 }
 
 /// Whether no id is repeated, for many voters and few learners.
-// The ids of the voters are sorted in the scratch space `room`, so that equal ones are neighbours.
+// The ids of the voters are sorted in the scratch space `scratch`, so that equal ones are neighbours.
 fn has_distinct_voters<ID: Copy + Ord, V>(
     voters: &[(ID, V)],
     learners: &[(ID, V)],
-    room: &mut [ID],
+    scratch: &mut [ID],
 ) -> bool
-    requires { length room.old ≡ length voters.now }
+    requires { length scratch.old ≡ length voters.now }
     ensures { IsTrue result ↔ IsDistinct ID.eq (keys_of (voters.now ++ learners.now)) }
 {
-    write_ids(voters, room);
-    room.sort_unstable();
-    if !have_no_equal_neighbours(room) {
+    write_ids(voters, scratch);
+    scratch.sort_unstable();
+    if !have_no_equal_neighbours(scratch) {
         return false;
     }
     if !has_distinct_ids(learners) {
@@ -112,32 +112,32 @@ fn has_distinct_voters<ID: Copy + Ord, V>(
 /// Whether no id is repeated. If that is known already, no ids are compared.
 pub(crate) fn are_ids_distinct<ID: Copy + Ord, V>(
     known: bool,
-    walk: &[(ID, V)],
+    entries: &[(ID, V)],
     voter_count: usize,
-    room: &mut [ID],
+    scratch: &mut [ID],
 ) -> bool
-    requires known { IsTrue known → IsDistinct ID.eq (keys_of walk.now) }
-    requires voters { voter_count ≤ length walk.now }
-    requires room { length room.old ≡ voter_count }
-    ensures { result ≡ ids_differ ID.eq walk.now }
+    requires known { IsTrue known → IsDistinct ID.eq (keys_of entries.now) }
+    requires voters { voter_count ≤ length entries.now }
+    requires scratch { length scratch.old ≡ voter_count }
+    ensures { result ≡ ids_differ ID.eq entries.now }
 {
     if known {
         return true;
     }
-    if walk.len() > FEW {
-        let (voters, learners) = walk.split_at(voter_count);
-        return has_distinct_voters(voters, learners, room);
+    if entries.len() > FEW {
+        let (voters, learners) = entries.split_at(voter_count);
+        return has_distinct_voters(voters, learners, scratch);
     }
-    has_distinct_ids(walk)
+    has_distinct_ids(entries)
 }
 
 /// Whether no voter whose part exceeds `granted` comes directly after one with a lesser part.
 fn is_falling<ID: Copy, V: ProgressPart<P>, P: Copy + Ord>(voters: &[(ID, V)], granted: P) -> bool
     ensures { result ≡ never_rises P.cmp V.part_of granted voters.now }
 {
-    for place in 1..voters.len() {
-        let part = voters[place].1.part();
-        let before = voters[place - 1].1.part();
+    for position in 1..voters.len() {
+        let part = voters[position].1.part();
+        let before = voters[position - 1].1.part();
         if granted.cmp(&part).is_lt() && before.cmp(&part).is_lt() {
             return false;
         }

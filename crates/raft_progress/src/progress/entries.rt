@@ -5,7 +5,7 @@ ghost use Rattle.std.specs.List.{AllZip, IsDistinct, prefix_len, swap};
 ghost use Rattle.std.specs.Map.{keys_of};
 ghost use Rattle.raft_progress.specs.Inner.Placed.{IsPlaced};
 ghost use Rattle.raft_progress.specs.Inner.Recount.{exceeds};
-ghost use Rattle.raft_progress.specs.Inner.Rises.{IsLeastFront, RisesTo};
+ghost use Rattle.raft_progress.specs.Inner.Rises.{IsShortestPrefix, RisesTo};
 
 use super::part::ProgressPart;
 use raft_members::quorum::QuorumSet;
@@ -133,7 +133,7 @@ pub(crate) fn find_shortest_quorum<ID: Copy + Ord, V, QS: QuorumSet<ID>>(
     requires fits { length voters.now ≤ length ids.now }
     requires gathered { take high ids.now ≡ keys_of (take high voters.now) }
     requires distinct { IsDistinct ID.eq (keys_of voters.now) }
-    ensures { IsLeastFront ID.eq (QS.has_quorum quorum_set.now) voters.now
+    ensures { IsShortestPrefix ID.eq (QS.has_quorum quorum_set.now) voters.now
         low high result.len result.tests }
 {
     // If a single prefix is left, as is usual when the voters follow their leader, one test is

@@ -7,25 +7,25 @@ ghost use Rattle.raft_progress.specs.Inner.Recount.{IsGreatest, at_least, reache
 
 use super::conditions::is_before;
 use super::part::ProgressPart;
-use super::places::FEW;
+use super::positions::FEW;
 use raft_members::quorum::QuorumSet;
 
 /// Writes the ids of the voters whose part is at least `least` to the beginning of the scratch
-/// space `room`. Returns their number.
+/// space `scratch`. Returns their number.
 fn gather<ID: Copy, V: ProgressPart<P>, P: Copy + Ord>(
     voters: &[(ID, V)],
     least: P,
-    room: &mut [ID],
+    scratch: &mut [ID],
 ) -> usize
-    requires { length voters.now ≤ length room.old }
+    requires { length voters.now ≤ length scratch.old }
     ensures within { result ≤ length voters.now }
-    ensures front { take result room.new ≡
+    ensures prefix { take result scratch.new ≡
         keys_of (filter (at_least P.cmp V.part_of least) voters.now) }
 {
     let mut n = 0;
     for entry in voters {
         if least.cmp(&entry.1.part()).is_le() {
-            room[n] = entry.0;
+            scratch[n] = entry.0;
             n += 1;
         }
     }
@@ -39,15 +39,15 @@ fn is_reached<ID: Copy + Ord, V: ProgressPart<P>, P: Copy + Ord, QS: QuorumSet<I
     quorum_set: &QS,
     voters: &[(ID, V)],
     part: P,
-    room: &mut [ID],
+    scratch: &mut [ID],
 ) -> bool
-    requires room { length voters.now ≤ length room.old }
+    requires scratch { length voters.now ≤ length scratch.old }
     requires distinct { IsDistinct ID.eq (keys_of voters.now) }
     ensures { result ≡ reaches ID.eq P.cmp V.part_of
         (QS.has_quorum quorum_set.now) voters.now part }
 {
-    let n = gather(voters, part, room);
-    quorum_set.is_quorum(&room[..n])
+    let n = gather(voters, part, scratch);
+    quorum_set.is_quorum(&scratch[..n])
 }
 
 /// Returns the part of a voter that equals `granted`, if there are many voters, a quorum has reached
@@ -58,9 +58,9 @@ fn reached_or_default<ID: Copy + Ord, V: ProgressPart<P>, P: Copy + Ord, QS: Quo
     voters: &[(ID, V)],
     default_part: P,
     granted: P,
-    room: &mut [ID],
+    scratch: &mut [ID],
 ) -> P
-    requires room { length voters.now ≤ length room.old }
+    requires scratch { length voters.now ≤ length scratch.old }
     requires distinct { IsDistinct ID.eq (keys_of voters.now) }
     ensures { IsGreatest ID.eq P.cmp V.part_of (QS.has_quorum quorum_set.now)
         voters.now [] default_part result }
@@ -71,7 +71,7 @@ fn reached_or_default<ID: Copy + Ord, V: ProgressPart<P>, P: Copy + Ord, QS: Quo
     for entry in voters {
         let part = entry.1.part();
         if granted.cmp(&part).is_eq() {
-            if default_part.cmp(&part).is_lt() && is_reached(quorum_set, voters, part, room) {
+            if default_part.cmp(&part).is_lt() && is_reached(quorum_set, voters, part, scratch) {
                 return part;
             }
             return default_part;
@@ -103,9 +103,9 @@ fn unreached_above<ID: Copy + Ord, V: ProgressPart<P>, P: Copy + Ord, QS: Quorum
     quorum_set: &QS,
     voters: &[(ID, V)],
     granted: P,
-    room: &mut [ID],
+    scratch: &mut [ID],
 ) -> Option<P>
-    requires room { length voters.now ≤ length room.old }
+    requires scratch { length voters.now ≤ length scratch.old }
     requires distinct { IsDistinct ID.eq (keys_of voters.now) }
     ensures { ForSome result (λ part. reaches ID.eq P.cmp V.part_of
         (QS.has_quorum quorum_set.now) voters.now part ≡ false) }
@@ -115,7 +115,7 @@ fn unreached_above<ID: Copy + Ord, V: ProgressPart<P>, P: Copy + Ord, QS: Quorum
     }
     match least_above(voters, granted) {
         Some(part) => {
-            if is_reached(quorum_set, voters, part, room) {
+            if is_reached(quorum_set, voters, part, scratch) {
                 None
             } else {
                 Some(part)
@@ -134,20 +134,20 @@ pub(crate) fn count<ID: Copy + Ord, V: ProgressPart<P>, P: Copy + Ord, QS: Quoru
     voters: &[(ID, V)],
     default_part: P,
     granted: P,
-    room: &mut [ID],
+    scratch: &mut [ID],
 ) -> P
-    requires room { length voters.now ≤ length room.old }
+    requires scratch { length voters.now ≤ length scratch.old }
     requires distinct { IsDistinct ID.eq (keys_of voters.now) }
     ensures { IsGreatest ID.eq P.cmp V.part_of (QS.has_quorum quorum_set.now)
         voters.now voters.now default_part result }
 {
-    let mut best = reached_or_default(quorum_set, voters, default_part, granted, room);
-    let unreached = unreached_above(quorum_set, voters, granted, room);
+    let mut best = reached_or_default(quorum_set, voters, default_part, granted, scratch);
+    let unreached = unreached_above(quorum_set, voters, granted, scratch);
     for entry in voters {
         let part = entry.1.part();
         if best.cmp(&part).is_lt()
             && is_before(part, unreached)
-            && is_reached(quorum_set, voters, part, room)
+            && is_reached(quorum_set, voters, part, scratch)
         {
             best = part;
         }

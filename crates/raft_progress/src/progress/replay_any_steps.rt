@@ -8,10 +8,10 @@ ghost use Rattle.raft_progress.specs.progress.InOrder.{IsInOrder};
 ghost use Rattle.raft_progress.specs.progress.NewProgress.{LearnersFit};
 ghost use Rattle.raft_progress.specs.progress.Upgrade.{CanUpgrade};
 ghost use Rattle.raft_progress.specs.Inner.Refusal.{RefusesUpgrade};
-ghost use Rattle.raft_progress.specs.Inner.ShownAnswers.{IsShownIncrease, IsShownUpgrade};
-ghost use Rattle.raft_progress.specs.progress.Shown.{state};
-ghost use Rattle.raft_progress.specs.progress.ShownSteps.{IsShownRun, IsShownStep, is_upgrade};
-ghost use Rattle.raft_progress.specs.progress.VecProgress.{shown};
+ghost use Rattle.raft_progress.specs.Inner.ViewAnswers.{IsViewIncrease, IsViewUpgrade};
+ghost use Rattle.raft_progress.specs.progress.ProgressView.{state};
+ghost use Rattle.raft_progress.specs.progress.ViewSteps.{IsViewRun, IsViewStep, is_upgrade};
+ghost use Rattle.raft_progress.specs.progress.VecProgress.{view};
 ghost use Rattle.raft_progress.specs.progress.Steps.{IsRun, falls, stays};
 
 use super::Progress;
@@ -25,16 +25,16 @@ use std::alloc::{AllocError, Global};
 /// Makes one step, and returns its reply.
 fn answer<
     ID: Copy + Ord,
-    V: ProgressPart<P> + PartialOrd + Clone + Drop,
+    V: ProgressPart<P> + PartialOrd + Clone,
     P: Copy + Ord,
-    QS: QuorumSet<ID> + Drop,
+    QS: QuorumSet<ID>,
 >(progress: &mut VecProgress<ID, V, P, QS>, step: AnyStep<ID, V, QS>) -> Reply<ID, P>
-    requires ordered { IsInOrder ID.eq P.cmp V.part_of QS.has_quorum (shown progress.old) }
+    requires ordered { IsInOrder ID.eq P.cmp V.part_of QS.has_quorum (view progress.old) }
     requires clones_have_the_part { (v w : V) → V.is_clone v w → V.part_of w ≡ V.part_of v }
     ensures step { let by = comparisons ID.Ord P.Ord V.PartialOrd V.ProgressPart V.Clone in
-        IsShownStep by QS.has_quorum QS.is_voter (shown progress.old) step result
-        (shown progress.new) }
-    ensures ordered { IsInOrder ID.eq P.cmp V.part_of QS.has_quorum (shown progress.new) }
+        IsViewStep by QS.has_quorum QS.is_voter (view progress.old) step result
+        (view progress.new) }
+    ensures ordered { IsInOrder ID.eq P.cmp V.part_of QS.has_quorum (view progress.new) }
 {
     match step {
         AnyStep::Update(id, value) => progress.write(&id, value),
@@ -50,20 +50,20 @@ fn answer<
 /// Upgrades to another quorum set, or leaves the progress as it is. Returns the reply.
 fn upgrade<
     ID: Copy + Ord,
-    V: ProgressPart<P> + Clone + Drop,
+    V: ProgressPart<P> + Clone,
     P: Copy + Ord,
-    QS: QuorumSet<ID> + Drop,
+    QS: QuorumSet<ID>,
 >(
     progress: &mut VecProgress<ID, V, P, QS>,
     quorum_set: QS,
     learners: &[ID],
     default: V,
 ) -> Reply<ID, P>
-    requires ordered { IsInOrder ID.eq P.cmp V.part_of QS.has_quorum (shown progress.old) }
+    requires ordered { IsInOrder ID.eq P.cmp V.part_of QS.has_quorum (view progress.old) }
     requires clones_have_the_part { (v w : V) → V.is_clone v w → V.part_of w ≡ V.part_of v }
-    ensures step { IsShownUpgrade ID.eq ID.cmp P.cmp V.part_of V.is_clone QS.has_quorum QS.is_voter
-        (shown progress.old) quorum_set learners.now default result (shown progress.new) }
-    ensures ordered { IsInOrder ID.eq P.cmp V.part_of QS.has_quorum (shown progress.new) }
+    ensures step { IsViewUpgrade ID.eq ID.cmp P.cmp V.part_of V.is_clone QS.has_quorum QS.is_voter
+        (view progress.old) quorum_set learners.now default result (view progress.new) }
+    ensures ordered { IsInOrder ID.eq P.cmp V.part_of QS.has_quorum (view progress.new) }
 {
     match try_upgrade(progress, quorum_set, learners, default) {
         Ok(reply) => reply,
@@ -75,22 +75,22 @@ fn upgrade<
 /// allocation error.
 fn try_upgrade<
     ID: Copy + Ord,
-    V: ProgressPart<P> + Clone + Drop,
+    V: ProgressPart<P> + Clone,
     P: Copy + Ord,
-    QS: QuorumSet<ID> + Drop,
+    QS: QuorumSet<ID>,
 >(
     progress: &mut VecProgress<ID, V, P, QS>,
     quorum_set: QS,
     learners: &[ID],
     default: V,
 ) -> Result<Reply<ID, P>, AllocError>
-    requires ordered { IsInOrder ID.eq P.cmp V.part_of QS.has_quorum (shown progress.old) }
+    requires ordered { IsInOrder ID.eq P.cmp V.part_of QS.has_quorum (view progress.old) }
     requires clones_have_the_part { (v w : V) → V.is_clone v w → V.part_of w ≡ V.part_of v }
     ensures step { IfOk result (λ reply.
-        IsShownUpgrade ID.eq ID.cmp P.cmp V.part_of V.is_clone QS.has_quorum QS.is_voter
-        (shown progress.old) quorum_set learners.now default reply (shown progress.new)) }
-    ensures err { OnErr result (shown progress.new ≡ shown progress.old) }
-    ensures ordered { IsInOrder ID.eq P.cmp V.part_of QS.has_quorum (shown progress.new) }
+        IsViewUpgrade ID.eq ID.cmp P.cmp V.part_of V.is_clone QS.has_quorum QS.is_voter
+        (view progress.old) quorum_set learners.now default reply (view progress.new)) }
+    ensures err { OnErr result (view progress.new ≡ view progress.old) }
+    ensures ordered { IsInOrder ID.eq P.cmp V.part_of QS.has_quorum (view progress.new) }
 {
     let refusal = find_refusal(progress, &quorum_set, learners, &default)?;
     upgrade_unless_refused(progress, refusal, quorum_set, learners, default)
@@ -98,7 +98,7 @@ fn try_upgrade<
 
 /// Returns the reply that refuses an upgrade, if there is one: `BadLearners` comes before
 /// `BelowDefault`.
-fn find_refusal<ID: Copy + Ord, V: ProgressPart<P> + Drop, P: Copy + Ord, QS: QuorumSet<ID> + Drop>(
+fn find_refusal<ID: Copy + Ord, V: ProgressPart<P>, P: Copy + Ord, QS: QuorumSet<ID>>(
     progress: &VecProgress<ID, V, P, QS>,
     quorum_set: &QS,
     learners: &[ID],
@@ -107,10 +107,10 @@ fn find_refusal<ID: Copy + Ord, V: ProgressPart<P> + Drop, P: Copy + Ord, QS: Qu
     ensures none { IfOk result (λ found. found ≡ None →
         LearnersFit ID.eq (QS.is_voter quorum_set.now) learners.now
         × CanUpgrade ID.eq P.cmp V.part_of (QS.is_voter quorum_set.now) learners.now default.now
-        (state ID.eq (shown progress.now)).value) }
+        (state ID.eq (view progress.now)).value) }
     ensures some { IfOk result (λ found. ForSome found
         (RefusesUpgrade ID.eq ID.cmp P.cmp V.part_of (QS.is_voter quorum_set.now) learners.now
-        default.now (state ID.eq (shown progress.now)).value)) }
+        default.now (state ID.eq (view progress.now)).value)) }
 {
     let alloc = progress.allocator();
     let fits = VecProgress::<ID, V, P, QS>::learners_fit(alloc, quorum_set, learners)?;
@@ -129,9 +129,9 @@ fn find_refusal<ID: Copy + Ord, V: ProgressPart<P> + Drop, P: Copy + Ord, QS: Qu
 // `try_upgrade` allow an allocation failure in place of any refusal.
 fn upgrade_unless_refused<
     ID: Copy + Ord,
-    V: ProgressPart<P> + Clone + Drop,
+    V: ProgressPart<P> + Clone,
     P: Copy + Ord,
-    QS: QuorumSet<ID> + Drop,
+    QS: QuorumSet<ID>,
 >(
     progress: &mut VecProgress<ID, V, P, QS>,
     refusal: Option<Reply<ID, P>>,
@@ -139,20 +139,20 @@ fn upgrade_unless_refused<
     learners: &[ID],
     default: V,
 ) -> Result<Reply<ID, P>, AllocError>
-    requires ordered { IsInOrder ID.eq P.cmp V.part_of QS.has_quorum (shown progress.old) }
+    requires ordered { IsInOrder ID.eq P.cmp V.part_of QS.has_quorum (view progress.old) }
     requires clones_have_the_part { (v w : V) → V.is_clone v w → V.part_of w ≡ V.part_of v }
     requires none { refusal ≡ None → LearnersFit ID.eq (QS.is_voter quorum_set) learners.now
         × CanUpgrade ID.eq P.cmp V.part_of (QS.is_voter quorum_set) learners.now default
-        (state ID.eq (shown progress.old)).value }
+        (state ID.eq (view progress.old)).value }
     requires some { ForSome refusal
         (RefusesUpgrade ID.eq ID.cmp P.cmp V.part_of (QS.is_voter quorum_set) learners.now
-        default (state ID.eq (shown progress.old)).value) }
+        default (state ID.eq (view progress.old)).value) }
     ensures refused { (reply : Reply ID P) → refusal ≡ Some reply → result ≡ Ok reply }
     ensures step { IfOk result (λ reply.
-        IsShownUpgrade ID.eq ID.cmp P.cmp V.part_of V.is_clone QS.has_quorum QS.is_voter
-        (shown progress.old) quorum_set learners.now default reply (shown progress.new)) }
-    ensures err { OnErr result (shown progress.new ≡ shown progress.old) }
-    ensures ordered { IsInOrder ID.eq P.cmp V.part_of QS.has_quorum (shown progress.new) }
+        IsViewUpgrade ID.eq ID.cmp P.cmp V.part_of V.is_clone QS.has_quorum QS.is_voter
+        (view progress.old) quorum_set learners.now default reply (view progress.new)) }
+    ensures err { OnErr result (view progress.new ≡ view progress.old) }
+    ensures ordered { IsInOrder ID.eq P.cmp V.part_of QS.has_quorum (view progress.new) }
 {
     match refusal {
         Some(refusal) => Ok(refusal),
@@ -168,14 +168,14 @@ fn upgrade_unless_refused<
 /// Returns the reply.
 pub(crate) fn increase<
     ID: Copy + Ord,
-    V: ProgressPart<P> + PartialOrd + Drop,
+    V: ProgressPart<P> + PartialOrd,
     P: Copy + Ord,
-    QS: QuorumSet<ID> + Drop,
+    QS: QuorumSet<ID>,
 >(progress: &mut VecProgress<ID, V, P, QS>, id: &ID, value: V) -> Reply<ID, P>
-    requires { IsInOrder ID.eq P.cmp V.part_of QS.has_quorum (shown progress.old) }
-    ensures step { IsShownIncrease ID.eq P.cmp V.partial_cmp V.part_of QS.has_quorum
-        (shown progress.old) id.now value result (shown progress.new) }
-    ensures ordered { IsInOrder ID.eq P.cmp V.part_of QS.has_quorum (shown progress.new) }
+    requires { IsInOrder ID.eq P.cmp V.part_of QS.has_quorum (view progress.old) }
+    ensures step { IsViewIncrease ID.eq P.cmp V.partial_cmp V.part_of QS.has_quorum
+        (view progress.old) id.now value result (view progress.new) }
+    ensures ordered { IsInOrder ID.eq P.cmp V.part_of QS.has_quorum (view progress.new) }
 {
     let current = progress.try_get(id);
     if !is_not_greater(current, &value) && would_fall(current, &value) {
@@ -202,29 +202,29 @@ fn is_not_greater<V: PartialOrd>(current: Option<&V>, value: &V) -> bool
 /// Granted never falls if no step is an upgrade.
 pub fn replay_any<
     ID: Copy + Ord,
-    V: ProgressPart<P> + PartialOrd + Clone + Drop,
+    V: ProgressPart<P> + PartialOrd + Clone,
     P: Copy + Ord,
-    QS: QuorumSet<ID> + Drop,
+    QS: QuorumSet<ID>,
 >(
     alloc: Global,
     progress: &mut VecProgress<ID, V, P, QS>,
     steps: Vec<AnyStep<ID, V, QS>>,
 ) -> Result<Vec<Reply<ID, P>>, AllocError>
-    requires ordered { IsInOrder ID.eq P.cmp V.part_of QS.has_quorum (shown progress.old) }
+    requires ordered { IsInOrder ID.eq P.cmp V.part_of QS.has_quorum (view progress.old) }
     requires clones_have_the_part { (v w : V) → V.is_clone v w → V.part_of w ≡ V.part_of v }
     ensures run { let by = comparisons ID.Ord P.Ord V.PartialOrd V.ProgressPart V.Clone in
         IfOk result (λ replies. IsRun by QS.has_quorum QS.is_voter
-        (state ID.eq (shown progress.old)) steps.items replies.items
-        (state ID.eq (shown progress.new))) }
-    ensures shown_run { let by = comparisons ID.Ord P.Ord V.PartialOrd V.ProgressPart V.Clone in
-        IfOk result (λ replies. IsShownRun by QS.has_quorum QS.is_voter
-        (shown progress.old) steps.items replies.items (shown progress.new)) }
-    ensures ordered { IsInOrder ID.eq P.cmp V.part_of QS.has_quorum (shown progress.new) }
+        (state ID.eq (view progress.old)) steps.items replies.items
+        (state ID.eq (view progress.new))) }
+    ensures view_run { let by = comparisons ID.Ord P.Ord V.PartialOrd V.ProgressPart V.Clone in
+        IfOk result (λ replies. IsViewRun by QS.has_quorum QS.is_voter
+        (view progress.old) steps.items replies.items (view progress.new)) }
+    ensures ordered { IsInOrder ID.eq P.cmp V.part_of QS.has_quorum (view progress.new) }
     ensures granted { IsCounted P.cmp V.part_of QS.has_quorum
-        (state ID.eq (shown progress.new)) (shown progress.new).granted }
+        (state ID.eq (view progress.new)) (view progress.new).granted }
     ensures monotone { list_any is_upgrade steps.items ≡ false →
-        AtMost P.cmp (shown progress.old).granted (shown progress.new).granted }
-    ensures err { OnErr result (shown progress.new ≡ shown progress.old) }
+        AtMost P.cmp (view progress.old).granted (view progress.new).granted }
+    ensures err { OnErr result (view progress.new ≡ view progress.old) }
 {
     let mut replies = Vec::with_capacity(alloc, steps.len())?;
     for step in steps {

@@ -2,7 +2,7 @@
 ghost use Rattle.std.specs.Prelude.{◌≡◌, ◌≤◌, ◌<◌, false, length};
 ghost use Rattle.std.specs.Map.{keys_of};
 ghost use Rattle.std.proofs.Props.{props};
-ghost use Rattle.raft_progress.specs.Inner.Places.{TellsPlaces, place_in};
+ghost use Rattle.raft_progress.specs.Inner.Positions.{TellsPositions, position_in};
 
 mod clone;
 mod compare;
@@ -14,7 +14,7 @@ use super::Progress;
 use super::conditions::{are_distinct, are_ids_distinct, is_ordered, with_learners, would_fall};
 use super::entries::append_ids;
 use super::part::ProgressPart;
-use super::places::{FEW, Places};
+use super::positions::{FEW, Positions};
 use super::recount::count;
 use super::stat::Stat;
 use raft_members::quorum::QuorumSet;
@@ -34,21 +34,21 @@ pub struct VecProgress<ID: Copy + Ord, V, P, QS> {
     granted: P,
     default_part: P,
     voter_count: usize,
-    walk: Vec<(ID, V)>,
-    places: Places<ID>,
+    entries: Vec<(ID, V)>,
+    positions: Positions<ID>,
     scratch: Vec<ID>,
     stat: Stat,
-    ghost voters_fit: { voter_count ≤ length walk.items },
+    ghost voters_fit: { voter_count ≤ length entries.items },
     ghost scratch_fits: { length scratch.items ≡ voter_count },
-    ghost agree: { places.stale ≡ false →
-        TellsPlaces ID.eq (keys_of walk.items) (place_in ID.eq places.entries.items) } by { Prim.hlevel props },
+    ghost agree: { positions.stale ≡ false →
+        TellsPositions ID.eq (keys_of entries.items) (position_in ID.eq positions.sorted.items) } by { Prim.hlevel props },
 }
 
 impl<
     ID: Copy + Ord,
-    V: ProgressPart<P> + Drop,
+    V: ProgressPart<P>,
     P: Copy + Ord,
-    QS: QuorumSet<ID> + Drop,
+    QS: QuorumSet<ID>,
 > VecProgress<ID, V, P, QS> {
     ghost use Rattle.std.specs.Prelude.{◌≡◌, ◌<◌, IfOk, IsTrue, length, position};
     ghost use Rattle.std.specs.Borrow.{sem};
@@ -57,11 +57,11 @@ impl<
     ghost use Rattle.std.specs.Option.{ForSome, option_copied};
     ghost use Rattle.std.specs.Slice.Iter.{iter_mut_name, iter_mut_rest};
     ghost use Rattle.raft_progress.specs.progress.InOrder.{IsInOrder};
-    ghost use Rattle.raft_progress.specs.progress.Lends.{LendsWalk};
-    ghost use Rattle.raft_progress.specs.progress.NewProgress.{IsFirstWalk, IsNew, LearnersFit};
-    ghost use Rattle.raft_progress.specs.progress.Shown.{state};
+    ghost use Rattle.raft_progress.specs.progress.Lends.{LendsEntries};
+    ghost use Rattle.raft_progress.specs.progress.NewProgress.{AreFirstEntries, IsNew, LearnersFit};
+    ghost use Rattle.raft_progress.specs.progress.ProgressView.{state};
     ghost use Rattle.raft_progress.specs.progress.Statistics.{no_counts};
-    ghost use Rattle.raft_progress.specs.progress.VecProgress.{shown};
+    ghost use Rattle.raft_progress.specs.progress.VecProgress.{view};
 
     /// Returns a progress in which each voter and each learner has a clone of the default, or an
     /// allocation error.
@@ -82,27 +82,27 @@ impl<
         requires learners_fit { LearnersFit ID.eq (QS.is_voter quorum_set) learners.now }
         ensures made { IfOk result (λ made.
             IsNew ID.eq V.is_clone V.part_of (QS.is_voter quorum_set)
-            quorum_set learners.now default (state ID.eq (shown made))) }
-        ensures walk { IfOk result (λ made. IsFirstWalk ID.cmp learners.now (shown made)) }
-        ensures granted { IfOk result (λ made. (shown made).granted ≡ V.part_of default) }
+            quorum_set learners.now default (state ID.eq (view made))) }
+        ensures entries { IfOk result (λ made. AreFirstEntries ID.cmp learners.now (view made)) }
+        ensures granted { IfOk result (λ made. (view made).granted ≡ V.part_of default) }
         ensures ordered { IfOk result (λ made.
-            IsInOrder ID.eq P.cmp V.part_of QS.has_quorum (shown made)) }
-        ensures no_counts { IfOk result (λ made. (shown made).stat ≡ no_counts) }
+            IsInOrder ID.eq P.cmp V.part_of QS.has_quorum (view made)) }
+        ensures no_counts { IfOk result (λ made. (view made).stat ≡ no_counts) }
     {
         let scratch = quorum_set.ids(alloc)?;
         let voter_count = scratch.len();
-        let mut walk = Vec::with_capacity(alloc, voter_count.saturating_add(learners.len()))?;
-        append_ids(&mut walk, &scratch, &default)?;
-        append_ids(&mut walk, learners, &default)?;
-        let places = Places::of(alloc, &walk)?;
+        let mut entries = Vec::with_capacity(alloc, voter_count.saturating_add(learners.len()))?;
+        append_ids(&mut entries, &scratch, &default)?;
+        append_ids(&mut entries, learners, &default)?;
+        let positions = Positions::of(alloc, &entries)?;
         let part = default.part();
         Ok(VecProgress {
             quorum_set,
             granted: part,
             default_part: part,
             voter_count,
-            walk,
-            places,
+            entries,
+            positions,
             scratch,
             stat: Stat {
                 update_count: 0,
@@ -114,12 +114,12 @@ impl<
 
     /// Returns the allocator of its entries.
     pub(crate) fn allocator(&self) -> Global {
-        *self.walk.allocator()
+        *self.entries.allocator()
     }
 
     /// Returns the part of the default.
     pub fn default_part(&self) -> &P
-        ensures { result.now ≡ (shown self.now).default_part }
+        ensures { result.now ≡ (view self.now).default_part }
     {
         &self.default_part
     }
@@ -130,34 +130,34 @@ impl<
     /// It has the original's name, and is not an index of a log.
     #[inline(always)]
     pub fn index(&self, id: &ID) -> Option<usize>
-        ensures { result ≡ position (λ e. ID.eq id.now e.0) ((shown self.now).walk) }
+        ensures { result ≡ position (λ e. ID.eq id.now e.0) ((view self.now).entries) }
     {
-        self.places.find(&self.walk, id)
+        self.positions.find(&self.entries, id)
     }
 
     /// Whether the sorted list has the ids at their positions, so that no id is repeated. A short
     /// stale list is not asked, because it may have other positions.
     fn tells_ids(&self) -> bool
-        ensures { IsTrue result → IsDistinct ID.eq (keys_of (shown self.now).walk) }
+        ensures { IsTrue result → IsDistinct ID.eq (keys_of (view self.now).entries) }
     {
-        (!self.places.stale || self.walk.len() > FEW) && self.places.are_of(&self.walk)
+        (!self.positions.stale || self.entries.len() > FEW) && self.positions.are_of(&self.entries)
     }
 
     /// Returns the value at the position that a look-up has found.
     fn value_at(&self, found: Option<usize>) -> Option<&V>
-        requires { ForSome found (λ place. place < length (shown self.now).walk) }
-        ensures { (id : ID) → found ≡ position (λ e. ID.eq id e.0) (shown self.now).walk →
-            option_copied result ≡ (state ID.eq (shown self.now)).value id }
+        requires { ForSome found (λ position. position < length (view self.now).entries) }
+        ensures { (id : ID) → found ≡ position (λ e. ID.eq id e.0) (view self.now).entries →
+            option_copied result ≡ (state ID.eq (view self.now)).value id }
     {
         match found {
-            Some(place) => Some(&self.walk[place].1),
+            Some(position) => Some(&self.entries[position].1),
             None => None,
         }
     }
 
     /// Returns the counts of what it has done.
     pub fn stat(&self) -> &Stat
-        ensures { result.now ≡ (shown self.now).stat }
+        ensures { result.now ≡ (view self.now).stat }
     {
         &self.stat
     }
@@ -168,24 +168,24 @@ impl<
     /// progress may be out of order afterwards, which `is_in_order` tests. Otherwise it stays in
     /// order (`laws::kept_parts_keep_order`).
     pub fn iter_mut(&mut self) -> std::slice::IterMut<(ID, V)>
-        ensures* writes_back { sem 𝓛 (LendsWalk ID.row V.row P.row QS.row ID.Ord.own ID.PartialEq
+        ensures* writes_back { sem 𝓛 (LendsEntries ID.row V.row P.row QS.row ID.Ord.own ID.PartialEq
             ID.PartialOrd.own self.entry (iter_mut_name result)) }
-        ensures rest { iter_mut_rest result ≡ (shown self.old).walk }
+        ensures rest { iter_mut_rest result ≡ (view self.old).entries }
     {
-        self.places.stale = true;
-        self.walk.iter_mut()
+        self.positions.stale = true;
+        self.entries.iter_mut()
     }
 }
 
-impl<ID: Copy + Ord, V: ProgressPart<P> + Drop, P: Copy + Ord, QS: QuorumSet<ID> + Drop> Progress<
+impl<ID: Copy + Ord, V: ProgressPart<P>, P: Copy + Ord, QS: QuorumSet<ID>> Progress<
     ID,
     V,
     P,
     QS,
 > for VecProgress<ID, V, P, QS> {
-    ghost use Rattle.raft_progress.specs.progress.VecProgress.{shown};
+    ghost use Rattle.raft_progress.specs.progress.VecProgress.{view};
 
-    ghost shows = { shown };
+    ghost view_of = { view };
 
     fn granted(&self) -> &P {
         &self.granted
@@ -204,14 +204,14 @@ impl<ID: Copy + Ord, V: ProgressPart<P> + Drop, P: Copy + Ord, QS: QuorumSet<ID>
 
     fn get_mut(&mut self, id: &ID) -> Option<&mut V> {
         match self.index(id) {
-            Some(position) => Some(&mut self.walk[position].1),
+            Some(position) => Some(&mut self.entries[position].1),
             None => None,
         }
     }
 
     fn is_voter(&self, id: &ID) -> Option<bool> {
         match self.index(id) {
-            Some(place) => Some(place < self.voter_count),
+            Some(position) => Some(position < self.voter_count),
             None => None,
         }
     }
@@ -222,10 +222,10 @@ impl<ID: Copy + Ord, V: ProgressPart<P> + Drop, P: Copy + Ord, QS: QuorumSet<ID>
 
     fn is_in_order(&mut self) -> bool {
         let told = self.tells_ids();
-        if !are_ids_distinct(told, &self.walk, self.voter_count, &mut self.scratch) {
+        if !are_ids_distinct(told, &self.entries, self.voter_count, &mut self.scratch) {
             return false;
         }
-        let voters = &self.walk[..self.voter_count];
+        let voters = &self.entries[..self.voter_count];
         if !is_ordered(voters, self.granted, self.default_part) {
             return false;
         }
@@ -244,7 +244,7 @@ impl<ID: Copy + Ord, V: ProgressPart<P> + Drop, P: Copy + Ord, QS: QuorumSet<ID>
     }
 
     fn iter(&self) -> std::slice::Iter<(ID, V)> {
-        self.walk.iter()
+        self.entries.iter()
     }
 
     fn would_fall(&self, id: &ID, value: &V) -> bool {
@@ -304,7 +304,7 @@ impl<ID: Copy + Ord, V: ProgressPart<P> + Drop, P: Copy + Ord, QS: QuorumSet<ID>
         let alloc = self.allocator();
         let mut made = VecProgress::new(alloc, quorum_set, learners, default)?;
         made.go_on_from(&self.stat);
-        for entry in &self.walk {
+        for entry in &self.entries {
             let value = entry.1.clone()?;
             made.inherit(&entry.0, value);
         }

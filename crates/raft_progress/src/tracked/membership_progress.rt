@@ -3,10 +3,10 @@ ghost use Rattle.std.specs.Prelude.{◌≡◌, ◌↔◌, IfOk, IsTrue};
 ghost use Rattle.raft_members.specs.membership.Learners.{learners_of};
 ghost use Rattle.raft_members.specs.quorum.Majority.{is_voter_of};
 ghost use Rattle.raft_progress.specs.progress.InOrder.{IsInOrder};
-ghost use Rattle.raft_progress.specs.progress.Shown.{state};
+ghost use Rattle.raft_progress.specs.progress.ProgressView.{state};
 ghost use Rattle.raft_progress.specs.progress.Upgrade.{CanUpgrade, IsUpgraded};
 ghost use Rattle.raft_progress.specs.progress.UpgradeFold.{IsUpgradeFold};
-ghost use Rattle.raft_progress.specs.progress.VecProgress.{shown};
+ghost use Rattle.raft_progress.specs.progress.VecProgress.{view};
 ghost use Rattle.raft_progress.specs.tracked.Over.{over};
 ghost use Rattle.raft_progress.specs.tracked.TrackedNew.{BeginsOver};
 ghost use Rattle.raft_progress.specs.tracked.TrackedState.{IsReady, has_quorum, is_voter};
@@ -20,7 +20,7 @@ use std::alloc::AllocError;
 
 /// The functions of a `MembershipProgress` beside those of any progress. Voters and learners are
 /// those of one membership, so they fit.
-impl<NID: NodeId, V: ProgressPart<P> + Drop, P: Copy + Ord> VecProgress<
+impl<NID: NodeId, V: ProgressPart<P>, P: Copy + Ord> VecProgress<
     NID,
     V,
     P,
@@ -35,9 +35,9 @@ impl<NID: NodeId, V: ProgressPart<P> + Drop, P: Copy + Ord> VecProgress<
             V.part_of w ≡ V.part_of default }
         ensures begins { IfOk result (λ made.
             BeginsOver NID.eq NID.cmp P.cmp V.part_of V.is_clone default
-            (over membership.now (shown made))) }
+            (over membership.now (view made))) }
         ensures ready { IfOk result (λ made.
-            IsReady NID.eq NID.cmp P.cmp V.part_of (over membership.now (shown made))) }
+            IsReady NID.eq NID.cmp P.cmp V.part_of (over membership.now (view made))) }
     {
         let alloc = *membership.get_joint_config().allocator();
         let configs = membership.to_quorum_set()?;
@@ -55,7 +55,7 @@ impl<NID: NodeId, V: ProgressPart<P> + Drop, P: Copy + Ord> VecProgress<
     ) -> Result<bool, AllocError>
         ensures { IfOk result (λ can. IsTrue can ↔ CanUpgrade NID.eq P.cmp V.part_of
             (is_voter_of NID.eq membership.now.configs) (learners_of NID.eq membership.now)
-            default.now (state NID.eq (shown self.now)).value) }
+            default.now (state NID.eq (view self.now)).value) }
     {
         let alloc = *membership.get_joint_config().allocator();
         let configs = membership.to_quorum_set()?;
@@ -72,20 +72,20 @@ impl<NID: NodeId, V: ProgressPart<P> + Drop, P: Copy + Ord> VecProgress<
     ) -> Result<Self, AllocError>
     where
         V: Clone,
-        requires ordered { IsInOrder NID.eq P.cmp V.part_of (has_quorum NID.eq) (shown self.now) }
+        requires ordered { IsInOrder NID.eq P.cmp V.part_of (has_quorum NID.eq) (view self.now) }
         requires clones_have_the_part { (v w : V) → V.is_clone v w → V.part_of w ≡ V.part_of v }
         requires can_upgrade { CanUpgrade NID.eq P.cmp V.part_of
             (is_voter_of NID.eq membership.now.configs) (learners_of NID.eq membership.now)
-            default (state NID.eq (shown self.now)).value }
+            default (state NID.eq (view self.now)).value }
         ensures made { IfOk result (λ made. IsUpgraded NID.eq V.is_clone V.part_of
-            (is_voter NID.eq (shown made).quorum_set) (shown made).quorum_set
-            (learners_of NID.eq membership.now) default (state NID.eq (shown self.now)).value
-            (state NID.eq (shown made))) }
+            (is_voter NID.eq (view made).quorum_set) (view made).quorum_set
+            (learners_of NID.eq membership.now) default (state NID.eq (view self.now)).value
+            (state NID.eq (view made))) }
         ensures fold { IfOk result (λ made. IsUpgradeFold NID.eq NID.cmp P.cmp V.part_of V.is_clone
-            (has_quorum NID.eq) (is_voter NID.eq) (shown self.now) (shown made).quorum_set
-            (learners_of NID.eq membership.now) default (shown made)) }
+            (has_quorum NID.eq) (is_voter NID.eq) (view self.now) (view made).quorum_set
+            (learners_of NID.eq membership.now) default (view made)) }
         ensures ready { IfOk result (λ made.
-            IsReady NID.eq NID.cmp P.cmp V.part_of (over membership.now (shown made))) }
+            IsReady NID.eq NID.cmp P.cmp V.part_of (over membership.now (view made))) }
     {
         let alloc = *membership.get_joint_config().allocator();
         let configs = membership.to_quorum_set()?;

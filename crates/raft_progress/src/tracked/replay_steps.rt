@@ -7,10 +7,10 @@ ghost use Rattle.raft_progress.specs.progress.CountedValue.{AtMost, IsCounted};
 ghost use Rattle.raft_progress.specs.tracked.Headline.{ChangedQuorumsKnowGranted, QuorumsKnowGranted};
 ghost use Rattle.raft_progress.specs.tracked.SingleSteps.{IsTrackedChangeTo};
 ghost use Rattle.raft_progress.specs.Inner.Refusal.{refusal_reply};
-ghost use Rattle.raft_progress.specs.Inner.ShownAnswers.{IsShownChange};
-ghost use Rattle.raft_progress.specs.progress.Shown.{state};
-ghost use Rattle.raft_progress.specs.tracked.Tracked.{tracked};
-ghost use Rattle.raft_progress.specs.tracked.TrackedShownSteps.{IsTrackedShownRun, IsTrackedShownStep, is_change};
+ghost use Rattle.raft_progress.specs.Inner.ViewAnswers.{IsViewChange};
+ghost use Rattle.raft_progress.specs.progress.ProgressView.{state};
+ghost use Rattle.raft_progress.specs.tracked.Tracked.{tracked_view};
+ghost use Rattle.raft_progress.specs.tracked.TrackedViewSteps.{IsTrackedViewRun, IsTrackedViewStep, is_change};
 ghost use Rattle.raft_progress.specs.tracked.TrackedState.{IsReady, has_quorum, tracked_state};
 ghost use Rattle.raft_progress.specs.tracked.TrackedSteps.{IsTrackedRun};
 
@@ -24,14 +24,14 @@ use raft_members::membership::Membership;
 use std::alloc::{AllocError, Global};
 
 /// Makes one step, and returns its reply.
-fn answer<NID: NodeId, N: Node, V: ProgressPart<P> + PartialOrd + Clone + Drop, P: Copy + Ord>(
+fn answer<NID: NodeId, N: Node, V: ProgressPart<P> + PartialOrd + Clone, P: Copy + Ord>(
     cluster: &mut Tracked<NID, N, V, P>,
     step: Step<NID, N, V>,
 ) -> Reply<NID, P>
     requires clones_have_the_part { (v w : V) → V.is_clone v w → V.part_of w ≡ V.part_of v }
     requires clones_are_equal { ClonesAreEqual N.eq N.is_clone }
     ensures { let by = comparisons NID.Ord P.Ord V.PartialOrd V.ProgressPart V.Clone in
-        IsTrackedShownStep by N.eq (tracked cluster.old) step result (tracked cluster.new) }
+        IsTrackedViewStep by N.eq (tracked_view cluster.old) step result (tracked_view cluster.new) }
 {
     match step {
         Step::Update(id, value) => cluster.update(&id, value),
@@ -46,7 +46,7 @@ fn answer<NID: NodeId, N: Node, V: ProgressPart<P> + PartialOrd + Clone + Drop, 
 
 /// Changes the membership and upgrades the progress to the changed one, or leaves both as they are.
 /// Returns the reply.
-fn change_members<NID: NodeId, N: Node, V: ProgressPart<P> + Clone + Drop, P: Copy + Ord>(
+fn change_members<NID: NodeId, N: Node, V: ProgressPart<P> + Clone, P: Copy + Ord>(
     cluster: &mut Tracked<NID, N, V, P>,
     change: ChangeMembers<NID, N>,
     retain: bool,
@@ -54,8 +54,8 @@ fn change_members<NID: NodeId, N: Node, V: ProgressPart<P> + Clone + Drop, P: Co
 ) -> Reply<NID, P>
     requires clones_have_the_part { (v w : V) → V.is_clone v w → V.part_of w ≡ V.part_of v }
     requires clones_are_equal { ClonesAreEqual N.eq N.is_clone }
-    ensures { IsShownChange NID.eq NID.cmp N.eq P.cmp V.part_of V.is_clone
-        (tracked cluster.old) change retain default result (tracked cluster.new) }
+    ensures { IsViewChange NID.eq NID.cmp N.eq P.cmp V.part_of V.is_clone
+        (tracked_view cluster.old) change retain default result (tracked_view cluster.new) }
 {
     let made = cluster.membership.change(change, retain);
     answer_change(cluster, made, default)
@@ -65,16 +65,16 @@ fn change_members<NID: NodeId, N: Node, V: ProgressPart<P> + Clone + Drop, P: Co
 /// granted after the upgrade.
 // A separate function, so that a clause states that the refusal is returned. The clauses of
 // `change_members` allow an allocation failure in place of any refusal.
-fn answer_change<NID: NodeId, N: Node, V: ProgressPart<P> + Clone + Drop, P: Copy + Ord>(
+fn answer_change<NID: NodeId, N: Node, V: ProgressPart<P> + Clone, P: Copy + Ord>(
     cluster: &mut Tracked<NID, N, V, P>,
     made: Result<Membership<NID, N>, ChangeMembershipError<NID>>,
     default: V,
 ) -> Reply<NID, P>
     requires clones_have_the_part { (v w : V) → V.is_clone v w → V.part_of w ≡ V.part_of v }
     ensures refused { IfErr made (λ e. (result ≡ refusal_reply e)
-        × (tracked cluster.new ≡ tracked cluster.old)) }
+        × (tracked_view cluster.new ≡ tracked_view cluster.old)) }
     ensures changed { IfOk made (λ next. IsTrackedChangeTo NID.eq NID.cmp P.cmp V.part_of V.is_clone
-        (tracked cluster.old) next default result (tracked cluster.new)) }
+        (tracked_view cluster.old) next default result (tracked_view cluster.new)) }
 {
     match made {
         Ok(next) => cluster.change_to(next, default),
@@ -97,7 +97,7 @@ fn answer_change<NID: NodeId, N: Node, V: ProgressPart<P> + Clone + Drop, P: Cop
 /// At the end granted is recomputed from the values and the membership as they are then. It never
 /// falls if no step is a change. If that membership has a config, every quorum of it, and every
 /// quorum of what one change makes of it, has a voter whose part is at least granted.
-pub fn replay<NID: NodeId, N: Node, V: ProgressPart<P> + PartialOrd + Clone + Drop, P: Copy + Ord>(
+pub fn replay<NID: NodeId, N: Node, V: ProgressPart<P> + PartialOrd + Clone, P: Copy + Ord>(
     alloc: Global,
     cluster: &mut Tracked<NID, N, V, P>,
     steps: Vec<Step<NID, N, V>>,
@@ -106,21 +106,21 @@ pub fn replay<NID: NodeId, N: Node, V: ProgressPart<P> + PartialOrd + Clone + Dr
     requires clones_are_equal { ClonesAreEqual N.eq N.is_clone }
     ensures run { let by = comparisons NID.Ord P.Ord V.PartialOrd V.ProgressPart V.Clone in
         IfOk result (λ replies. IsTrackedRun by N.eq
-        (tracked_state NID.eq (tracked cluster.old)) steps.items replies.items
-        (tracked_state NID.eq (tracked cluster.new))) }
-    ensures shown_run { let by = comparisons NID.Ord P.Ord V.PartialOrd V.ProgressPart V.Clone in
+        (tracked_state NID.eq (tracked_view cluster.old)) steps.items replies.items
+        (tracked_state NID.eq (tracked_view cluster.new))) }
+    ensures view_run { let by = comparisons NID.Ord P.Ord V.PartialOrd V.ProgressPart V.Clone in
         IfOk result (λ replies.
-        IsTrackedShownRun by N.eq (tracked cluster.old) steps.items replies.items
-        (tracked cluster.new)) }
-    ensures ready { IsReady NID.eq NID.cmp P.cmp V.part_of (tracked cluster.new) }
+        IsTrackedViewRun by N.eq (tracked_view cluster.old) steps.items replies.items
+        (tracked_view cluster.new)) }
+    ensures ready { IsReady NID.eq NID.cmp P.cmp V.part_of (tracked_view cluster.new) }
     ensures granted { IsCounted P.cmp V.part_of (has_quorum NID.eq)
-        (state NID.eq (tracked cluster.new).progress) (tracked cluster.new).progress.granted }
+        (state NID.eq (tracked_view cluster.new).progress) (tracked_view cluster.new).progress.granted }
     ensures monotone { list_any is_change steps.items ≡ false →
-        AtMost P.cmp (tracked cluster.old).progress.granted (tracked cluster.new).progress.granted }
-    ensures quorums { QuorumsKnowGranted NID.eq P.cmp V.part_of (tracked cluster.new) }
+        AtMost P.cmp (tracked_view cluster.old).progress.granted (tracked_view cluster.new).progress.granted }
+    ensures quorums { QuorumsKnowGranted NID.eq P.cmp V.part_of (tracked_view cluster.new) }
     ensures changed_quorums { ChangedQuorumsKnowGranted NID.eq NID.cmp P.cmp V.part_of
-        (tracked cluster.new) }
-    ensures err { OnErr result (tracked cluster.new ≡ tracked cluster.old) }
+        (tracked_view cluster.new) }
+    ensures err { OnErr result (tracked_view cluster.new ≡ tracked_view cluster.old) }
 {
     let mut replies = Vec::with_capacity(alloc, steps.len())?;
     for step in steps {

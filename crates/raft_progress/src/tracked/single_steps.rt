@@ -5,11 +5,11 @@ ghost use Rattle.raft_members.specs.membership.Learners.{learners_of};
 ghost use Rattle.raft_members.specs.quorum.Majority.{is_voter_of};
 ghost use Rattle.raft_members.specs.membership.Members.{members_of};
 ghost use Rattle.raft_progress.specs.progress.CountedValue.{AtMost, IsCounted};
-ghost use Rattle.raft_progress.specs.progress.Shown.{state};
+ghost use Rattle.raft_progress.specs.progress.ProgressView.{state};
 ghost use Rattle.raft_progress.specs.progress.Upgrade.{CanUpgrade, IsLeastBelow};
 ghost use Rattle.raft_progress.specs.tracked.Headline.{ChangedQuorumsKnowGranted, QuorumsKnowGranted};
 ghost use Rattle.raft_progress.specs.tracked.SingleSteps.{IsTrackedChangeTo, IsTrackedUpdate};
-ghost use Rattle.raft_progress.specs.tracked.Tracked.{tracked};
+ghost use Rattle.raft_progress.specs.tracked.Tracked.{tracked_view};
 ghost use Rattle.raft_progress.specs.tracked.TrackedState.{AreLearners, HasConfigs, is_voter};
 ghost use Rattle.raft_progress.specs.tracked.TrackedState.{IsReady, has_quorum};
 ghost use Rattle.raft_progress.specs.declared.progress.steps.Reply.TheVariants.{BelowDefault};
@@ -21,7 +21,7 @@ use raft_members::membership::Membership;
 use raft_members::quorum::Joint;
 use std::alloc::AllocError;
 
-impl<NID: NodeId, N: Node, V: ProgressPart<P> + Drop, P: Copy + Ord> Tracked<NID, N, V, P> {
+impl<NID: NodeId, N: Node, V: ProgressPart<P>, P: Copy + Ord> Tracked<NID, N, V, P> {
     /// Writes the value of an id, as a replay does at `Step::Update`, without a list of steps. It
     /// never allocates.
     ///
@@ -32,15 +32,15 @@ impl<NID: NodeId, N: Node, V: ProgressPart<P> + Drop, P: Copy + Ord> Tracked<NID
     #[inline(always)]
     pub fn update(&mut self, id: &NID, value: V) -> Reply<NID, P>
         ensures step { IsTrackedUpdate NID.eq P.cmp V.part_of
-            (tracked self.old) id.now value result (tracked self.new) }
-        ensures ready { IsReady NID.eq NID.cmp P.cmp V.part_of (tracked self.new) }
+            (tracked_view self.old) id.now value result (tracked_view self.new) }
+        ensures ready { IsReady NID.eq NID.cmp P.cmp V.part_of (tracked_view self.new) }
         ensures granted { IsCounted P.cmp V.part_of (has_quorum NID.eq)
-            (state NID.eq (tracked self.new).progress) (tracked self.new).progress.granted }
-        ensures monotone { AtMost P.cmp (tracked self.old).progress.granted
-            (tracked self.new).progress.granted }
-        ensures quorums { QuorumsKnowGranted NID.eq P.cmp V.part_of (tracked self.new) }
+            (state NID.eq (tracked_view self.new).progress) (tracked_view self.new).progress.granted }
+        ensures monotone { AtMost P.cmp (tracked_view self.old).progress.granted
+            (tracked_view self.new).progress.granted }
+        ensures quorums { QuorumsKnowGranted NID.eq P.cmp V.part_of (tracked_view self.new) }
         ensures changed_quorums { ChangedQuorumsKnowGranted NID.eq NID.cmp P.cmp V.part_of
-            (tracked self.new) }
+            (tracked_view self.new) }
     {
         self.progress.write(id, value)
     }
@@ -55,13 +55,13 @@ impl<NID: NodeId, N: Node, V: ProgressPart<P> + Drop, P: Copy + Ord> Tracked<NID
         V: Clone,
         requires clones_have_the_part { (v w : V) → V.is_clone v w → V.part_of w ≡ V.part_of v }
         ensures step { IsTrackedChangeTo NID.eq NID.cmp P.cmp V.part_of V.is_clone
-            (tracked self.old) membership default result (tracked self.new) }
-        ensures ready { IsReady NID.eq NID.cmp P.cmp V.part_of (tracked self.new) }
+            (tracked_view self.old) membership default result (tracked_view self.new) }
+        ensures ready { IsReady NID.eq NID.cmp P.cmp V.part_of (tracked_view self.new) }
         ensures granted { IsCounted P.cmp V.part_of (has_quorum NID.eq)
-            (state NID.eq (tracked self.new).progress) (tracked self.new).progress.granted }
-        ensures quorums { QuorumsKnowGranted NID.eq P.cmp V.part_of (tracked self.new) }
+            (state NID.eq (tracked_view self.new).progress) (tracked_view self.new).progress.granted }
+        ensures quorums { QuorumsKnowGranted NID.eq P.cmp V.part_of (tracked_view self.new) }
         ensures changed_quorums { ChangedQuorumsKnowGranted NID.eq NID.cmp P.cmp V.part_of
-            (tracked self.new) }
+            (tracked_view self.new) }
     {
         upgrade_to(self, membership, default).unwrap_or(Reply::OutOfMemory)
     }
@@ -69,15 +69,15 @@ impl<NID: NodeId, N: Node, V: ProgressPart<P> + Drop, P: Copy + Ord> Tracked<NID
 
 /// Replaces the membership, and upgrades the progress to it, unless an inherited value is below the
 /// new default. Returns the reply, or an allocation error.
-fn upgrade_to<NID: NodeId, N: Node, V: ProgressPart<P> + Clone + Drop, P: Copy + Ord>(
+fn upgrade_to<NID: NodeId, N: Node, V: ProgressPart<P> + Clone, P: Copy + Ord>(
     cluster: &mut Tracked<NID, N, V, P>,
     next: Membership<NID, N>,
     default: V,
 ) -> Result<Reply<NID, P>, AllocError>
     requires clones_have_the_part { (v w : V) → V.is_clone v w → V.part_of w ≡ V.part_of v }
     ensures step { IfOk result (λ reply. IsTrackedChangeTo NID.eq NID.cmp P.cmp V.part_of V.is_clone
-        (tracked cluster.old) next default reply (tracked cluster.new)) }
-    ensures err { OnErr result (tracked cluster.new ≡ tracked cluster.old) }
+        (tracked_view cluster.old) next default reply (tracked_view cluster.new)) }
+    ensures err { OnErr result (tracked_view cluster.new ≡ tracked_view cluster.old) }
 {
     let alloc = *next.get_joint_config().allocator();
     let configs = next.to_quorum_set()?;
@@ -91,7 +91,7 @@ fn upgrade_to<NID: NodeId, N: Node, V: ProgressPart<P> + Clone + Drop, P: Copy +
 /// upgrade.
 // A separate function, so that a clause states that `BelowDefault` is returned. The clauses of
 // `upgrade_to` allow an allocation failure in its place.
-fn upgrade_unless_below<NID: NodeId, N: Node, V: ProgressPart<P> + Clone + Drop, P: Copy + Ord>(
+fn upgrade_unless_below<NID: NodeId, N: Node, V: ProgressPart<P> + Clone, P: Copy + Ord>(
     cluster: &mut Tracked<NID, N, V, P>,
     below: Option<NID>,
     next: Membership<NID, N>,
@@ -105,14 +105,14 @@ fn upgrade_unless_below<NID: NodeId, N: Node, V: ProgressPart<P> + Clone + Drop,
     requires learners { learners.now ≡ learners_of NID.eq next }
     requires are_learners { AreLearners NID.eq (members_of NID.cmp next) learners.now }
     requires none { below ≡ None → CanUpgrade NID.eq P.cmp V.part_of (is_voter NID.eq configs)
-        learners.now default (state NID.eq (tracked cluster.old).progress).value }
+        learners.now default (state NID.eq (tracked_view cluster.old).progress).value }
     requires some { ForSome below (IsLeastBelow NID.eq NID.cmp P.cmp V.part_of
         (is_voter NID.eq configs) learners.now default
-        (state NID.eq (tracked cluster.old).progress).value) }
+        (state NID.eq (tracked_view cluster.old).progress).value) }
     ensures below { (id : NID) → below ≡ Some id → result ≡ Ok (BelowDefault id) }
     ensures step { IfOk result (λ reply. IsTrackedChangeTo NID.eq NID.cmp P.cmp V.part_of V.is_clone
-        (tracked cluster.old) next default reply (tracked cluster.new)) }
-    ensures err { OnErr result (tracked cluster.new ≡ tracked cluster.old) }
+        (tracked_view cluster.old) next default reply (tracked_view cluster.new)) }
+    ensures err { OnErr result (tracked_view cluster.new ≡ tracked_view cluster.old) }
 {
     match below {
         Some(id) => Ok(Reply::BelowDefault(id)),

@@ -41,9 +41,9 @@ use Rattle.raft_members.specs.quorum.MajorityLawful.{is_joint_majority-superset}
 use Rattle.raft_members.proofs.CallerLemmas.{majority_member}
 use Rattle.raft_members.proofs.lemmas.quorum.MajorityLemmas.{is_member-unique_keys}
 use Rattle.raft_progress.specs.progress.CountedValue.{AtMost, has_part, reached}
-use Rattle.raft_progress.specs.progress.Shown.{state}
+use Rattle.raft_progress.specs.progress.ProgressView.{state}
 use Rattle.raft_progress.specs.progress.Threshold.{QuorumReached}
-use Rattle.raft_progress.specs.tracked.TrackedState.{IsReady, TrackedShown, has_quorum}
+use Rattle.raft_progress.specs.tracked.TrackedState.{IsReady, TrackedView, has_quorum}
 use Rattle.raft_progress.proofs.lemmas.ListLemmas.{all_weaker, or_right}
 use Rattle.raft_progress_tests.specs.Uses.{MajorityOfEach}
 use Rattle.std.proofs.lemmas.List.Folds.{list_all-map}
@@ -101,7 +101,7 @@ module _ {K : Type 0} {eq : K → K → Bool} (laws : IsEquivalence eq) where
   some_member (c ∷ cs) s some h = let m = majority_member laws c s (first_so _ _ h) in (m.0, m.2)
 
 module _ {K N V P : Type 0} {eq : K → K → Bool} (laws : IsEquivalence eq) {id_cmp : K → K → Ordering} {cmp : P → P → Ordering}
-    (part : V → P) (t : TrackedShown K N V P) (r : IsReady eq id_cmp cmp part t) (q : P) where
+    (part : V → P) (t : TrackedView K N V P) (r : IsReady eq id_cmp cmp part t) (q : P) where
   abbrev has : K → Bool
   has id = option_map_or (λ v. is_le (cmp q (part v))) ((state eq t.progress).value id) false
 
@@ -157,7 +157,7 @@ same_vote false = refl
 
 module _ {K N : Type 0} {eq : K → K → Bool} (laws : IsEquivalence eq) {id_cmp : K → K → Ordering} where
   -- past the default, a number is at most what is granted exactly where a majority of each config has it
-  pub number_granted : (t : TrackedShown K N ℕ ℕ) → IsReady eq id_cmp nat_cmp (λ v. v) t → (n : ℕ)
+  pub number_granted : (t : TrackedView K N ℕ ℕ) → IsReady eq id_cmp nat_cmp (λ v. v) t → (n : ℕ)
       → AtMost nat_cmp n t.progress.granted ↔ (AtMost nat_cmp n t.progress.default_part
       ⊎ QuorumReached nat_cmp (λ (v : ℕ). v) (has_quorum eq) (state eq t.progress) n) → t.progress.default_part < n
       → n ≤ t.progress.granted ↔ MajorityOfEach eq t (λ v. nat_le n v)
@@ -172,7 +172,7 @@ module _ {K N : Type 0} {eq : K → K → Bool} (laws : IsEquivalence eq) {id_cm
       )
 
   -- `true` is granted, where it is not the default, exactly where a majority of each config has it
-  pub vote_granted : (t : TrackedShown K N Bool Bool) → IsReady eq id_cmp bool_cmp (λ v. v) t
+  pub vote_granted : (t : TrackedView K N Bool Bool) → IsReady eq id_cmp bool_cmp (λ v. v) t
       → AtMost bool_cmp true t.progress.granted ↔
       (AtMost bool_cmp true t.progress.default_part ⊎ QuorumReached bool_cmp (λ (v : Bool). v) (has_quorum eq) (state eq t.progress) true)
       → t.progress.default_part ≡ false → (t.progress.granted ≡ true) ↔ MajorityOfEach eq t (λ v. v)

@@ -1,6 +1,6 @@
 //! Steps of a progress in order: how one is made, moved and asked.
 ghost use Rattle.raft_progress.specs.progress.InOrder.{IsInOrder};
-ghost use Rattle.raft_progress.specs.progress.VecProgress.{shown};
+ghost use Rattle.raft_progress.specs.progress.VecProgress.{view};
 ghost use Rattle.std.specs.Prelude.{◌≡◌, IfOk};
 
 use raft_members::quorum::QuorumSet;
@@ -11,9 +11,9 @@ use std::process::Abort;
 /// A progress whose learners fit.
 pub fn made<
     ID: Copy + Ord,
-    V: ProgressPart<P> + Clone + Drop,
+    V: ProgressPart<P> + Clone,
     P: Copy + Ord,
-    QS: QuorumSet<ID> + Drop,
+    QS: QuorumSet<ID>,
 >(
     rt: &impl Abort,
     alloc: Global,
@@ -22,7 +22,7 @@ pub fn made<
     default: V,
 ) -> Result<VecProgress<ID, V, P, QS>, AllocError>
     requires { (w : V) → V.is_clone default w → V.part_of w ≡ V.part_of default }
-    ensures { IfOk result (λ made. IsInOrder ID.eq P.cmp V.part_of QS.has_quorum (shown made)) }
+    ensures { IfOk result (λ made. IsInOrder ID.eq P.cmp V.part_of QS.has_quorum (view made)) }
 {
     let fits = VecProgress::<ID, V, P, QS>::learners_fit(alloc, &quorum_set, learners)?;
     assert!(rt; fits);
@@ -30,7 +30,7 @@ pub fn made<
 }
 
 /// An update of a progress in order that doesn't lower the value.
-pub fn updated<ID: Copy + Ord, V: ProgressPart<P> + Drop, P: Copy + Ord, QS: QuorumSet<ID> + Drop>(
+pub fn updated<ID: Copy + Ord, V: ProgressPart<P>, P: Copy + Ord, QS: QuorumSet<ID>>(
     rt: &impl Abort,
     progress: &mut VecProgress<ID, V, P, QS>,
     id: ID,
@@ -54,9 +54,9 @@ pub fn first_ids(alloc: Global, n: u64) -> Result<Vec<u64>, AllocError> {
 /// The reply of a progress in order to one step.
 pub fn replied<
     ID: Copy + Ord,
-    V: ProgressPart<P> + PartialOrd + Clone + Drop,
+    V: ProgressPart<P> + PartialOrd + Clone,
     P: Copy + Ord,
-    QS: QuorumSet<ID> + Drop,
+    QS: QuorumSet<ID>,
 >(
     rt: &impl Abort,
     alloc: Global,

@@ -9,8 +9,8 @@ use Rattle.raft_members.specs.quorum.Majority.{is_voter_of}
 use Rattle.raft_members.specs.membership.Members.{MemberList, node_at}
 use Rattle.raft_progress.specs.progress.NewProgress as new_progress
 use Rattle.raft_progress.specs.progress.NewProgress.{HasClone}
-use Rattle.raft_progress.specs.progress.Shown.{state}
-use Rattle.raft_progress.specs.tracked.TrackedState.{Configs, IsReady, TrackedShown, is_voter, tracked_state}
+use Rattle.raft_progress.specs.progress.ProgressView.{state}
+use Rattle.raft_progress.specs.tracked.TrackedState.{Configs, IsReady, TrackedView, is_voter, tracked_state}
 use Rattle.raft_script.specs.Engine.{IsStart, part}
 
 or_true : (a : Bool) → (a || true) ≡ true
@@ -42,7 +42,7 @@ value_there false there default value some none known =
     let is : value ≡ None = none refl in
     is ∙ ap (λ (b : Bool). if b then Some default else None) (sym (ap is_some is) ∙ known)
 
-module _ (configs : List (List ℕ)) (learners : List ℕ) (default : ℕ) (made : TrackedShown ℕ EmptyNode ℕ ℕ)
+module _ (configs : List (List ℕ)) (learners : List ℕ) (default : ℕ) (made : TrackedView ℕ EmptyNode ℕ ℕ)
     (membership : MemberList ℕ EmptyNode) (same : made.membership ≡ membership) (same_configs : membership.configs ≡ configs)
     (IsDefault : EmptyNode → Type 0) (given : List (ℕ × EmptyNode))
     (gives : (id : ℕ) → WithDefault IsDefault None (is_member nat_eq learners id) (node_at nat_cmp given id))

@@ -19,7 +19,7 @@ pub struct Engine {
 
 impl Engine {
     ghost use Rattle.std.specs.Prelude.{IfOk, OnErr, OnOk, IfSome, IsNone, IsSomeAnd, map};
-    ghost use Rattle.raft_script.specs.Engine.{AnswersStep, GrantedIsKnown, IsStart, engine_state, shown_of};
+    ghost use Rattle.raft_script.specs.Engine.{AnswersStep, GrantedIsKnown, IsStart, engine_state, engine_view};
 
     /// Returns an engine before any `init`.
     pub fn new() -> Engine
@@ -54,8 +54,8 @@ impl Engine {
     ) -> Result<Option<Reply<u64, u64>>, AllocError>
         ensures ok { IfOk result (λ reply.
             AnswersStep (engine_state self.old) step reply (engine_state self.new)) }
-        ensures err { OnErr result (shown_of self.new ≡ shown_of self.old) }
-        ensures known { OnOk result (IfSome (shown_of self.new) GrantedIsKnown) }
+        ensures err { OnErr result (engine_view self.new ≡ engine_view self.old) }
+        ensures known { OnOk result (IfSome (engine_view self.new) GrantedIsKnown) }
     {
         let Some(tracked) = &mut self.tracked else {
             return Ok(None);

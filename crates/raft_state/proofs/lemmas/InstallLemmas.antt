@@ -59,7 +59,7 @@ use Rattle.raft_state.specs.raft_state.Install.{
   log_to_keep,
   memberships_after_install,
 }
-use Rattle.raft_state.specs.log_id_list.LogConditions.{may_be_purged_to}
+use Rattle.raft_state.specs.log_id_list.LogConditions.{can_purge}
 use Rattle.raft_state.specs.log_id_list.LogEdits.{front, log_after_purge, rest}
 use Rattle.raft_state.specs.log_id_list.LogReads.{first_id, id_at, last_id}
 use Rattle.raft_state.specs.membership_state.MembershipMoves.{after_update_committed, is_covered}
@@ -157,11 +157,11 @@ module _ {C : Type 0} (cmp : C → C → Ordering) (eq : C → C → Bool) (tota
 
   -- the log may be purged to the snapshot's last log id
   pub purge_fits : {K N I L : Type 0} (s : RaftStateIn K N I L C) (id : LogIdOf C)
-      → IsKeyList cmp s.log_ids → may_be_purged_to cmp (last_id (log_to_keep eq id s)) id ≡ true
+      → IsKeyList cmp s.log_ids → can_purge cmp (last_id (log_to_keep eq id s)) id ≡ true
   purge_fits s id keys = by (is_logged eq id s) refl
     where
       whole : (ks : List (LogIdOf C)) → IsKeyList cmp ks → same_ids eq (id_at (full_log ks) id.index) (Some id) ≡ true
-          → may_be_purged_to cmp (last_id (full_log ks)) id ≡ true
+          → can_purge cmp (last_id (full_log ks)) id ≡ true
       whole [] is h = cc
       whole (k ∷ ks) is h =
           let f = equal_found eq (id_at (full_log (k ∷ ks)) id.index) id h in
@@ -172,7 +172,7 @@ module _ {C : Type 0} (cmp : C → C → Ordering) (eq : C → C → Bool) (tota
           rw z.1 (or_left (nat_le id.index z.0.index) (is_le (cmp z.0.leader_id id.leader_id)) t)
 
       by : (t : Bool) → t ≡ is_logged eq id s
-          → may_be_purged_to cmp (last_id (let log : List (LogIdOf C) = (if t then full_log s.log_ids else []) in log)) id ≡ true
+          → can_purge cmp (last_id (let log : List (LogIdOf C) = (if t then full_log s.log_ids else []) in log)) id ≡ true
       by true e = whole s.log_ids keys (sym e)
       by false e = refl
 

@@ -32,7 +32,7 @@ use Rattle.raft_base.specs.LogId.{id_lt, next_index}
 use Rattle.raft_base.specs.LogView.{LogView, prev_id}
 use Rattle.raft_base.specs.Logged.{Logged}
 use Rattle.raft_base.proofs.lemmas.log_id.LoggedLemmas.{prev_at, prev_rises}
-use Rattle.raft_progress.specs.entry.Send.{can_be_sent, end_of, send_table, start_of}
+use Rattle.raft_progress.specs.entry.Send.{can_send, end_of, send_table, start_of}
 use Rattle.raft_progress.specs.inflight.Inflight.{is_idle}
 use Rattle.raft_progress.specs.declared.entry.ProgressEntryOf.{ProgressEntryOf}
 use Rattle.raft_progress.specs.declared.inflight.InflightOf.TheVariants.{Logs, Snapshot}
@@ -82,7 +82,7 @@ module _ {C : Type 0} (cmp : C → C → Ordering) (log : LogView C) (logged : L
         rw (idle, t, u, v) refl
 
     -- what is sent is from the log
-    pub sends_from_log : (entry new : ProgressEntryOf C) → is_idle entry.inflight ≡ true → IsTrue (can_be_sent entry log)
+    pub sends_from_log : (entry new : ProgressEntryOf C) → is_idle entry.inflight ≡ true → IsTrue (can_send entry log)
         → send_table cmp entry log n ≡ Ok new → FromLog log n entry new.inflight
     sends_from_log entry new idle can ok =
         let two = first_and_third (nat_le (next_index entry.matching) entry.searching_end) (nat_lt (next_index log.last) (2 ^ 64))

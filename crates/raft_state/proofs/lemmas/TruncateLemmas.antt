@@ -41,7 +41,7 @@ use Rattle.raft_state.specs.log_id_list.LogReads.{first_id, last_id}
 use Rattle.raft_state.specs.membership_state.MembershipMoves.{after_truncate, is_cut}
 use Rattle.raft_state.specs.membership_state.MembershipRelations.{membership_relations}
 use Rattle.raft_state.specs.membership_state.Memberships.{Memberships, index_at}
-use Rattle.raft_state.specs.raft_state.Truncate.{may_truncate}
+use Rattle.raft_state.specs.raft_state.Truncate.{can_truncate_log}
 use Rattle.raft_state.specs.raft_state.Valid.{broken_relation, fits_purged_next, upto_relation}
 use Rattle.raft_state.specs.declared.raft_state.RaftStateIn.{RaftStateIn}
 
@@ -98,7 +98,7 @@ module _ {C : Type 0} {cmp : C → C → Ordering} (total : IsTotalOrder cmp) wh
 
   pub cut_stays_valid : {K N I L : Type 0} (s : RaftStateIn K N I L C) (since b : ℕ) (keys : List (LogIdOf C)) (m : Memberships C K N)
       → From b (full_log s.log_ids)
-      → full_log keys ≡ front (full_log s.log_ids) since → m ≡ after_truncate since s.membership_state → may_truncate cmp since s ≡ true
+      → full_log keys ≡ front (full_log s.log_ids) since → m ≡ after_truncate since s.membership_state → can_truncate_log cmp since s ≡ true
       → broken_relation cmp s ≡ None → broken_relation cmp (record s { log_ids = keys; membership_state = m }) ≡ None
   cut_stays_valid s since b keys m row is is_m may valid =
       let fits = all_hold _ _ _ valid in

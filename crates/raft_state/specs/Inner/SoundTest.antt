@@ -8,7 +8,7 @@ use Rattle.raft_state.specs.Accepted.{last_accepted}
 use Rattle.raft_state.specs.log_id_list.FullLog.{full_log}
 use Rattle.raft_state.specs.log_id_list.LogReads.{last_id}
 use Rattle.raft_state.specs.raft_state.Sound.{purged_or_logged}
-use Rattle.raft_state.specs.raft_state.StateView.{view_of}
+use Rattle.raft_state.specs.raft_state.VoteAndLog.{log_view_of}
 use Rattle.raft_state.specs.raft_state.Valid.{broken_relation, none_or_logged}
 use Rattle.raft_state.specs.declared.raft_state.RaftStateIn.{RaftStateIn}
 
@@ -17,8 +17,8 @@ abbrev pub passes_sound : {K N I L C : Type 0} → (C → C → Bool) → (C →
     → RaftStateIn K N I L C → Bool
 passes_sound eq cmp s =
     is_none (broken_relation cmp s)
-    && none_or_logged eq (view_of s) s.purge_upto
-    && none_or_logged eq (view_of s) s.committed
+    && none_or_logged eq (log_view_of s) s.purge_upto
+    && none_or_logged eq (log_view_of s) s.committed
     && id_le cmp (last_accepted s.accepted) (last_id (full_log s.log_ids))
     && purged_or_logged eq s (log_id_of s.membership_state.committed)
     && purged_or_logged eq s (log_id_of s.membership_state.effective)

@@ -29,8 +29,8 @@ all_follow_of_one_leader cmp eq last ids = all_follow cmp last ids && ends_share
 
 -- a log with this last log id may be purged up to the other one, which has no lesser leader if it
 -- is past the last index
-abbrev pub may_be_purged_to : {C : Type 0} → (C → C → Ordering) → Option (LogIdOf C) → LogIdOf C
+abbrev pub can_purge : {C : Type 0} → (C → C → Ordering) → Option (LogIdOf C) → LogIdOf C
     → Bool
-may_be_purged_to cmp None upto = true
-may_be_purged_to cmp (Some last) upto =
+can_purge cmp None upto = true
+can_purge cmp (Some last) upto =
     nat_le upto.index last.index || is_le (cmp last.leader_id upto.leader_id)

@@ -6,7 +6,7 @@ use Rattle.raft_base.specs.LogIndex.{index_le}
 use Rattle.raft_base.specs.declared.log_id.LogIdOf.{LogIdOf}
 use Rattle.raft_members.specs.membership.Stored.{log_id_of}
 use Rattle.raft_state.specs.membership_state.Memberships.{index_at}
-use Rattle.raft_state.specs.raft_state.StateView.{view_of}
+use Rattle.raft_state.specs.raft_state.VoteAndLog.{log_view_of}
 use Rattle.raft_state.specs.raft_state.Valid.{none_or_logged}
 use Rattle.raft_state.specs.declared.raft_state.RaftStateIn.{RaftStateIn}
 use Rattle.raft_state.specs.declared.snapshot_meta.SnapshotMetaOf.{SnapshotMetaOf}
@@ -27,6 +27,6 @@ may_build_snapshot cmp meta s =
 abbrev pub may_schedule_purge : {K N I L C : Type 0} → (C → C → Bool) → (C → C → Ordering)
     → LogIdOf C → RaftStateIn K N I L C → Bool
 may_schedule_purge eq cmp upto s =
-    none_or_logged eq (view_of s) (Some upto)
+    none_or_logged eq (log_view_of s) (Some upto)
     && id_le cmp s.purge_upto (Some upto)
     && id_le cmp (Some upto) s.snapshot_meta.last_log_id

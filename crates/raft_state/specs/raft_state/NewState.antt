@@ -7,7 +7,7 @@ use Rattle.raft_state.specs.log_id_list.FullLog.{full_log}
 use Rattle.raft_state.specs.IOState.{io_state}
 use Rattle.raft_state.specs.membership_state.Memberships.{IsNoMembership}
 use Rattle.raft_state.specs.SnapshotMeta.{IsNoSnapshot}
-use Rattle.raft_state.specs.raft_state.StateView.{vote_of}
+use Rattle.raft_state.specs.raft_state.VoteAndLog.{vote_of}
 use Rattle.raft_state.specs.declared.raft_state.RaftStateIn.{RaftStateIn}
 
 -- a learner without log, membership and snapshot, whose vote was never updated

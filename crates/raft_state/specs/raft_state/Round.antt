@@ -11,14 +11,14 @@ use Rattle.raft_base.specs.declared.log_id.LogIdOf.{LogIdOf}
 use Rattle.raft_progress.specs.catch_up.CatchUp.{MatchesAll}
 use Rattle.raft_progress.specs.catch_up.HonestRun.{HonestRunEnds}
 use Rattle.raft_progress.specs.progress.InOrder.{IsInOrder}
-use Rattle.raft_progress.specs.progress.Shown.{Shown, state}
+use Rattle.raft_progress.specs.progress.ProgressView.{ProgressView, state}
 use Rattle.raft_progress.specs.progress.Statistics.{count_after}
 use Rattle.raft_progress.specs.progress.Updated.{IsUpdated}
 use Rattle.raft_progress.specs.declared.entry.ProgressEntryOf.{ProgressEntryOf}
 
 -- the followers of a leader: a progress of entries, compared by their matching log ids
 abbrev pub Followers : Type 0 → Type 0 → Type 0 → Type 0
-Followers ID C QS = Shown ID (ProgressEntryOf C) (Option (LogIdOf C)) QS
+Followers ID C QS = ProgressView ID (ProgressEntryOf C) (Option (LogIdOf C)) QS
 
 module _ {ID C QS : Type 0} (eq : ID → ID → Bool) (cmp : C → C → Ordering)
     (has_quorum : QS → (ID → Bool) → Bool) where

@@ -4,7 +4,7 @@ use Rattle.std.specs.declared.cmp.Ordering.{Ordering}
 use Rattle.raft_base.specs.LogId.{next_index}
 use Rattle.raft_base.specs.LogView.{LogView, prev_id}
 use Rattle.raft_base.specs.Logged.{Logged}
-use Rattle.raft_progress.specs.entry.Send.{can_be_sent, end_of, send_table, start_of}
+use Rattle.raft_progress.specs.entry.Send.{can_send, end_of, send_table, start_of}
 use Rattle.raft_progress.specs.inflight.Inflight.{is_idle}
 use Rattle.raft_progress.specs.declared.entry.ProgressEntryOf.{ProgressEntryOf}
 use Rattle.raft_progress.specs.declared.inflight.InflightOf.{InflightOf}
@@ -25,5 +25,5 @@ FromLog log max_entries entry (Logs id range) =
 abbrev pub SendsFromLog : {C : Type 0} → (C → C → Ordering) → Type 0
 SendsFromLog {C} cmp =
     (log : LogView C) (entry new : ProgressEntryOf C) (max_entries : ℕ) → Logged cmp log
-    → IsTrue (is_idle entry.inflight) → IsTrue (can_be_sent entry log)
+    → IsTrue (is_idle entry.inflight) → IsTrue (can_send entry log)
     → send_table cmp entry log max_entries ≡ Ok new → FromLog log max_entries entry new.inflight

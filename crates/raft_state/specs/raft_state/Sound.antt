@@ -8,7 +8,7 @@ use Rattle.raft_state.specs.Accepted.{last_accepted}
 use Rattle.raft_state.specs.log_id_list.FullLog.{full_log}
 use Rattle.raft_state.specs.log_id_list.LogReads.{last_id}
 use Rattle.raft_state.specs.membership_state.MembershipMoves.{is_effective_committed}
-use Rattle.raft_state.specs.raft_state.StateView.{view_of}
+use Rattle.raft_state.specs.raft_state.VoteAndLog.{log_view_of}
 use Rattle.raft_state.specs.raft_state.Valid.{broken_relation, none_or_logged}
 use Rattle.raft_state.specs.declared.raft_state.RaftStateIn.{RaftStateIn}
 
@@ -16,7 +16,7 @@ use Rattle.raft_state.specs.declared.raft_state.RaftStateIn.{RaftStateIn}
 abbrev pub purged_or_logged : {K N I L C : Type 0} → (C → C → Bool) → RaftStateIn K N I L C
     → Option (LogIdOf C) → Bool
 purged_or_logged eq s id =
-    nat_le (next_index id) s.purged_next || none_or_logged eq (view_of s) id
+    nat_le (next_index id) s.purged_next || none_or_logged eq (log_view_of s) id
 
 -- a state is sound: it is valid, the log has the purge point and the committed log id, what was
 -- accepted is not past the log, both memberships are purged or in the log, and the effective
@@ -24,8 +24,8 @@ purged_or_logged eq s id =
 pub record IsSound {K N I L C : Type 0} (eq : C → C → Bool) (cmp : C → C → Ordering)
     (s : RaftStateIn K N I L C) : Type 0 where
   pub valid : broken_relation cmp s ≡ None
-  pub purge_point : IsTrue (none_or_logged eq (view_of s) s.purge_upto)
-  pub committed : IsTrue (none_or_logged eq (view_of s) s.committed)
+  pub purge_point : IsTrue (none_or_logged eq (log_view_of s) s.purge_upto)
+  pub committed : IsTrue (none_or_logged eq (log_view_of s) s.committed)
   pub accepted : IsTrue (id_le cmp (last_accepted s.accepted) (last_id (full_log s.log_ids)))
   pub committed_membership :
       IsTrue (purged_or_logged eq s (log_id_of s.membership_state.committed))

@@ -11,9 +11,9 @@ use Rattle.raft_state.specs.declared.raft_state.RaftStateIn.{RaftStateIn}
 
 -- nothing that is committed is truncated: the index is past the committed one, the committed log id
 -- is not above the last one that stays, and the index is past the committed membership
-abbrev pub may_truncate : {K N I L C : Type 0} → (C → C → Ordering) → ℕ → RaftStateIn K N I L C
+abbrev pub can_truncate_log : {K N I L C : Type 0} → (C → C → Ordering) → ℕ → RaftStateIn K N I L C
     → Bool
-may_truncate cmp since s =
+can_truncate_log cmp since s =
     index_lt (index_of s.committed) (Some since)
     && id_le cmp s.committed (last_id (front (full_log s.log_ids) since))
     && index_lt (index_at s.membership_state.committed) (Some since)

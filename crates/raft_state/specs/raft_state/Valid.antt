@@ -18,7 +18,7 @@ use Rattle.raft_base.specs.declared.log_id.validate.Invalid.TheVariants.{
 use Rattle.raft_state.specs.log_id_list.FullLog.{full_log}
 use Rattle.raft_state.specs.log_id_list.LogReads.{first_id}
 use Rattle.raft_state.specs.membership_state.MembershipRelations.{membership_relations}
-use Rattle.raft_state.specs.raft_state.StateView.{view_of}
+use Rattle.raft_state.specs.raft_state.VoteAndLog.{log_view_of}
 use Rattle.raft_state.specs.declared.raft_state.RaftStateIn.{RaftStateIn}
 
 -- nothing was purged, and the log is empty or begins at index 0; or it begins
@@ -37,7 +37,7 @@ upto_relation cmp upto committed (Some snapshot) =
 -- each relation, with the case of its breach
 abbrev pub state_relations : {K N I L C : Type 0} → (C → C → Ordering) → RaftStateIn K N I L C
     → List (Bool × Invalid)
-state_relations cmp s = let log = view_of s in
+state_relations cmp s = let log = log_view_of s in
     (fits_purged_next s.purged_next (first_id (full_log s.log_ids)), PurgedNext)
     ∷ (id_le cmp log.last_purged log.purge_upto, LastPurgedPastUpto)
     ∷ upto_relation cmp log.purge_upto log.committed log.snapshot

@@ -3,7 +3,7 @@ ghost use Rattle.std.specs.Prelude.{◌≡◌, ◌<◌, None, IfOk, IfErr, true,
 ghost use Rattle.std.specs.Result.{result_err};
 ghost use Rattle.std.specs.Set.{ClonesAreEqual};
 ghost use Rattle.raft_members.specs.quorum.Coherence.{is_coherent};
-ghost use Rattle.raft_members.specs.membership.Members.{members_of, Says};
+ghost use Rattle.raft_members.specs.membership.Members.{members_of, HasMembers};
 ghost use Rattle.raft_members.specs.membership.ReplaceAll.{OnlyMemory, TwoChanges};
 ghost use Rattle.raft_members.specs.membership.Valid.{IsValid};
 ghost use Rattle.raft_state.specs.membership_state.Apply.{members_after_change, in_progress, IsApplyRefusal};
@@ -53,7 +53,7 @@ impl<'m, C: Ord + Copy + Default + Debug + Drop, NID: NodeId, N: Node> ChangeHan
         ensures valid { IfOk result (λ _. IsValid NID.eq
             (members_after_change NID.eq NID.cmp self.now.state.now change retain)) }
         ensures valid_itself { IfOk result (λ m. IsValid NID.eq (members_of NID.cmp m)) }
-        ensures changed { IfOk result (λ m. Says N.eq NID.cmp m
+        ensures changed { IfOk result (λ m. HasMembers N.eq NID.cmp m
             (members_after_change NID.eq NID.cmp self.now.state.now change retain)) }
         ensures coherent { IfOk result (λ m. let old = in_effect self.now.state.now in
             0 < length old.configs → is_coherent NID.eq old.configs m.configs ≡ true) }

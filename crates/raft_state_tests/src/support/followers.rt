@@ -1,8 +1,8 @@
 //! Followers of a leader, over any kind of leader ids.
 ghost use Rattle.raft_base.specs.LogId.{id_le};
-ghost use Rattle.raft_progress.specs.progress.VecProgress.{shown};
+ghost use Rattle.raft_progress.specs.progress.VecProgress.{view};
 ghost use Rattle.raft_state.specs.raft_state.Round.{QuorumRan};
-ghost use Rattle.raft_state.specs.raft_state.StateView.{view_of};
+ghost use Rattle.raft_state.specs.raft_state.VoteAndLog.{log_view_of};
 ghost use Rattle.std.specs.Prelude.{◌≡◌, IfSome, IsTrue, List, length, nat_eq, ℕ};
 
 use crate::support::states::State;
@@ -39,8 +39,8 @@ pub fn caught_up<K: LeaderKind<u64>>(
 ) -> Option<u64>
     ensures { let has_quorum = ⟦<Vec<u64> as QuorumSet<u64>>⟧.has_quorum in
         IfSome result (λ count. (ran : List ℕ) × (count ≡ length ran)
-        × (QuorumRan nat_eq has_quorum (shown followers.old) ran
-        → IsTrue (id_le K.Committed.cmp (view_of state.now).last (shown followers.new).granted))) }
+        × (QuorumRan nat_eq has_quorum (view followers.old) ran
+        → IsTrue (id_le K.Committed.cmp (log_view_of state.now).last (view followers.new).granted))) }
 {
     if !followers.is_in_order() {
         return None;

@@ -2,7 +2,7 @@ use Rattle.std.proofs.Common.{◌≡◌, true, ap, not, sym, ◌∙◌}
 use Rattle.raft_handlers.proofs.lemmas.RestartLemmas.{alone_installed, fits_promised, promised, some_there}
 use Rattle.raft_handlers.proofs.lemmas.SnapshotLemmas.{copy_of_copy}
 use Rattle.raft_base.specs.declared.vote.VoteIn.{VoteIn}
-use Rattle.raft_state.specs.raft_state.StateView.{vote_of}
+use Rattle.raft_state.specs.raft_state.VoteAndLog.{vote_of}
 use Rattle.raft_handlers.proofs.restart.from_snapshot.Goals as goal
 
 pub returns-then-not-can_install_snapshot-clause-refused : goal.returns-then-not-can_install_snapshot-clause-refused

@@ -4,7 +4,7 @@ use Rattle.raft_base.specs.Vote.{vote_cmp}
 use Rattle.raft_handlers.proofs.lemmas.SnapshotLemmas.{refused_err, refused_ok}
 use Rattle.raft_handlers.specs.Append.{elected}
 use Rattle.raft_handlers.specs.Snapshot.{following, install_refusal}
-use Rattle.raft_state.specs.raft_state.StateView.{vote_of}
+use Rattle.raft_state.specs.raft_state.VoteAndLog.{vote_of}
 use Rattle.raft_handlers.proofs.snapshot.handle_install_snapshot.Goals as goal
 
 pub returns-in-Ok-clause-refused : goal.returns-in-Ok-clause-refused

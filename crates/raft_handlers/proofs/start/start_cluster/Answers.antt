@@ -1,7 +1,7 @@
 use Rattle.std.proofs.Common.{◌≡◌, [], ◌∷◌, ◌++◌, List, ap, rules, sym, ◌∙◌}
 use Rattle.std.proofs.lemmas.Bool.{or_parts}
 use Rattle.raft_state.specs.log_id_list.FullLog.{full_log}
-use Rattle.raft_state.specs.raft_state.StateView.{vote_of}
+use Rattle.raft_state.specs.raft_state.VoteAndLog.{vote_of}
 use Rattle.raft_state.specs.declared.entry.EntryOf.{EntryOf}
 use Rattle.raft_state.specs.declared.entry.payload.EntryPayload.TheVariants.{Membership as Stores}
 use Rattle.raft_members.specs.membership.Members.{members_of}

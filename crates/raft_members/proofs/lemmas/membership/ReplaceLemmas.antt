@@ -34,7 +34,7 @@ use Rattle.raft_members.specs.quorum.Coherence.{has_config, next_configs}
 use Rattle.raft_members.specs.quorum.Majority.{is_voter_of}
 use Rattle.raft_members.proofs.lemmas.membership.UnionLemmas.{union_again}
 use Rattle.raft_members.proofs.lemmas.quorum.NextLemmas.{has_last, next_if_has, next_if_lacks, next_if_none, next_has_goal}
-use Rattle.raft_members.specs.membership.Members.{Members, MemberList, Says, members_of}
+use Rattle.raft_members.specs.membership.Members.{Members, MemberList, HasMembers, members_of}
 use Rattle.raft_members.specs.membership.Change.{next_members, last_config, changed, union_of, without}
 use Rattle.raft_members.specs.membership.Valid.{has_empty_config, is_empty_config}
 use Rattle.raft_members.specs.membership.Refusal.{IsRefusal}
@@ -163,7 +163,7 @@ module _ {K N : Type 0} {e : K → K → Bool} (laws : IsEquivalence e) (cmp : K
       }
 
   pub two_changes : ((x : K) → cmp x x ≡ Equal) → (same : N → N → Bool) (c : ChangeMembers K N) (n : MemberList K N)
-      → Says same cmp n (changed e cmp m c retain) → TwoChanges e cmp m c n
+      → HasMembers same cmp n (changed e cmp m c retain) → TwoChanges e cmp m c n
   two_changes ties same (AddVoterIds ids) n s =
       leads_to (AddVoterIds ids) n (λ last. union_of cmp last ids.keys) (union_again cmp ties (last_config m.configs) ids.keys) s.0
       (λ retain. refl)

@@ -40,7 +40,7 @@ use Rattle.raft_members.proofs.lemmas.membership.UnionLemmas.{is_member-union_of
 use Rattle.raft_members.proofs.lemmas.membership.AddedLemmas.{or_none, option_or_alike, option_trans}
 use Rattle.raft_members.proofs.lemmas.membership.ReachedLemmas.{self_coherent, quorum_reaches}
 use Rattle.raft_members.specs.quorum.Reached.{ChangeKeepsReached}
-use Rattle.raft_members.specs.membership.Members.{MemberList, node_at, members_of, Says, Members}
+use Rattle.raft_members.specs.membership.Members.{MemberList, node_at, members_of, HasMembers, Members}
 use Rattle.raft_members.specs.membership.Refusal.{IsRefusal}
 use Rattle.raft_members.specs.membership.Valid.{has_empty_config, FirstWithoutNode, FirstUnknown}
 use Rattle.raft_members.specs.membership.Change.{changed, next_members, with_nodes, union_of, last_config, keeps_node}
@@ -65,7 +65,7 @@ some_alike same (Some x) None h = cc
 some_alike same (Some x) (Some y) h = refl
 
 module _ {K N : Type 0} (same : N → N → Bool) (eq : K → K → Bool) (cmp : K → K → Ordering) (m : MemberList K N) (w : Members K N)
-    (s : Says same cmp m w) where
+    (s : HasMembers same cmp m w) where
   pub same_first_missing : (o : Option K) → FirstWithoutNode eq cmp (members_of cmp m) o → FirstWithoutNode eq cmp w o
   same_first_missing o h =
       let known : K → Bool = λ k. is_some (w.node k) in
@@ -97,7 +97,7 @@ module _ {K N : Type 0} {eq : K → K → Bool} (laws : IsEquivalence eq) (cmp :
 
   -- the result of a change is coherent with the membership that it changes
   pub made_coherent : {E : Type 0} (same : N → N → Bool) (r : Result (MemberList K N) E) (old next : MemberList K N) (c : ChangeMembers K N)
-      (retain : Bool) → Says same cmp next (changed eq cmp (members_of cmp old) c retain) → IfOk r (λ m. m ≡ next)
+      (retain : Bool) → HasMembers same cmp next (changed eq cmp (members_of cmp old) c retain) → IfOk r (λ m. m ≡ next)
       → IfOk r (λ m. 0 < length old.configs → is_coherent eq old.configs m.configs ≡ true)
   made_coherent same (Ok m) old next c retain s is =
       λ n. ap (λ (x : MemberList K N). is_coherent eq old.configs x.configs) is ∙ ap (λ cs. is_coherent eq old.configs cs) s.0
@@ -138,9 +138,10 @@ module _ {K N : Type 0} {eq : K → K → Bool} (laws : IsEquivalence eq) (cmp :
       (is_member-union_of laws cmp ties id (last_config m.configs) (keys more) named)
 
   -- a step to voters with nodes, to which those nodes are added, is the change that adds the voters
-  pub more_says : (n r : MemberList K N) → Says same cmp n (next_members eq m (union_of cmp (last_config m.configs) (keys more)) retain)
+  pub more_says : (n r : MemberList K N) → HasMembers same cmp n (next_members eq m (union_of cmp (last_config m.configs)
+      (keys more)) retain)
       → r.configs ≡ n.configs → ((id : K) → node_at cmp r.nodes id ≡ option_or (node_at cmp n.nodes id) (get cmp more id))
-      → Says same cmp r (changed eq cmp m (AddVoters more) retain)
+      → HasMembers same cmp r (changed eq cmp m (AddVoters more) retain)
   more_says n r s c u =
       let next : List (List K) = next_configs eq m.configs (union_of cmp (last_config m.configs) (keys more)) in (
         c ∙ s.0,
@@ -152,8 +153,8 @@ module _ {K N : Type 0} {eq : K → K → Bool} (laws : IsEquivalence eq) (cmp :
 -- the same configs with nodes that equal the given ones
 pub if_says : {K N E : Type 0} {same : N → N → Bool} → IsEquivalence same
     → (cmp : K → K → Ordering) (m : Members K N) (given node : K → Option N) (r : Result (MemberList K N) E)
-    → ((id : K) → IsTrue (option_eq same (given id) (node id))) → IfOk r (λ n. Says same cmp n (with_nodes m given))
-    → IfOk r (λ n. Says same cmp n (with_nodes m node))
+    → ((id : K) → IsTrue (option_eq same (given id) (node id))) → IfOk r (λ n. HasMembers same cmp n (with_nodes m given))
+    → IfOk r (λ n. HasMembers same cmp n (with_nodes m node))
 if_says alike cmp m given node (Ok n) e s = (s.0, λ id. option_trans alike (node_at cmp n.nodes id) (given id) (node id) (s.1 id) (e id))
 if_says alike cmp m given node (Err _) e s = tt
 

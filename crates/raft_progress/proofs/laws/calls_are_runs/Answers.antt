@@ -1,7 +1,7 @@
 use Rattle.raft_progress.specs.progress.Comparisons.{Comparisons}
 use Rattle.raft_progress.specs.progress.ProgressState.{IsSame}
-use Rattle.raft_progress.specs.progress.Shown.{state}
-use Rattle.raft_progress.specs.progress.ShownSteps.{IsShownStep}
+use Rattle.raft_progress.specs.progress.ProgressView.{state}
+use Rattle.raft_progress.specs.progress.ViewSteps.{IsViewStep}
 use Rattle.raft_progress.specs.progress.Steps.{IsStep}
 use Rattle.raft_progress.proofs.lemmas.progress.CallStepLemmas.{increases_are_steps, runs_compose, updates_are_steps, upgrades_are_steps}
 use Rattle.raft_progress.proofs.lemmas.progress.GrantedLemmas.{run_not_lower}
@@ -14,7 +14,7 @@ pub returns-clause-compose : goal.returns-clause-compose
 returns-clause-compose g c order =
     let by : Comparisons g.row.ID.Denot g.row.V.Denot g.row.P.Denot =
     compared g.ID.PartialEq.eq g.ID.Ord.cmp g.P.Ord.cmp order g.V.ProgressPart.part_of g.V.Clone.is_clone in
-    runs_compose (IsShownStep by g.QS.QuorumSet.has_quorum g.QS.QuorumSet.is_voter)
+    runs_compose (IsViewStep by g.QS.QuorumSet.has_quorum g.QS.QuorumSet.is_voter)
 
 pub returns-clause-updates : goal.returns-clause-updates
 returns-clause-updates g c order =
@@ -38,7 +38,7 @@ pub returns-clause-values : goal.returns-clause-values
 returns-clause-values g c order =
     let by : Comparisons g.row.ID.Denot g.row.V.Denot g.row.P.Denot =
     compared g.ID.PartialEq.eq g.ID.Ord.cmp g.P.Ord.cmp order g.V.ProgressPart.part_of g.V.Clone.is_clone in
-    λ old new steps replies run. run_seen (IsShownStep by g.QS.QuorumSet.has_quorum g.QS.QuorumSet.is_voter)
+    λ old new steps replies run. run_seen (IsViewStep by g.QS.QuorumSet.has_quorum g.QS.QuorumSet.is_voter)
     (IsStep by g.QS.QuorumSet.has_quorum g.QS.QuorumSet.is_voter) IsSame (state g.ID.PartialEq.eq) (λ old step reply new s. s.values)
     IsSame-refl old steps replies new run
 

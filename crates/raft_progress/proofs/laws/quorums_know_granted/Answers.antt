@@ -1,21 +1,21 @@
 use Rattle.std.specs.Coded.{Coded-set, coded_list}
-use Rattle.raft_progress.specs.tracked.Tracked.{tracked}
+use Rattle.raft_progress.specs.tracked.Tracked.{tracked_view}
 use Rattle.raft_progress.proofs.lemmas.tracked.HeadlineLemmas.{each_quorum_knows}
 use Rattle.raft_progress.proofs.lemmas.tracked.ReadyLemmas.{ready_of}
 use Rattle.raft_progress.proofs.laws.quorums_know_granted.Goals as goal
 
 pub returns-clause-ready : goal.returns-clause-ready
 returns-clause-ready g c = ready_of g.met.NID.Eq.laws g.NID.Ord.cmp g.met.P.Ord.total g.V.ProgressPart.part_of
-    (Coded-set (coded_list (coded_list g.row.NID.coded))) (tracked c.args.cluster.now) c.args.cluster.now.ready
+    (Coded-set (coded_list (coded_list g.row.NID.coded))) (tracked_view c.args.cluster.now) c.args.cluster.now.ready
 
 pub returns-clause-granted : goal.returns-clause-granted
 returns-clause-granted g c = (returns-clause-ready g c).ordered.counted
 
 pub returns-clause-quorums : goal.returns-clause-quorums
 returns-clause-quorums g c = λ some. (each_quorum_knows g.met.NID.Eq.laws g.NID.Ord.cmp g.met.P.Ord.total g.V.ProgressPart.part_of
-    (tracked c.args.cluster.now) (returns-clause-ready g c) some).0
+    (tracked_view c.args.cluster.now) (returns-clause-ready g c) some).0
 
 pub returns-clause-changed_quorums : goal.returns-clause-changed_quorums
 returns-clause-changed_quorums g c = λ some.
-    (each_quorum_knows g.met.NID.Eq.laws g.NID.Ord.cmp g.met.P.Ord.total g.V.ProgressPart.part_of (tracked c.args.cluster.now)
+    (each_quorum_knows g.met.NID.Eq.laws g.NID.Ord.cmp g.met.P.Ord.total g.V.ProgressPart.part_of (tracked_view c.args.cluster.now)
     (returns-clause-ready g c) some).1

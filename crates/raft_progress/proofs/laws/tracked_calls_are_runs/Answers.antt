@@ -1,5 +1,5 @@
 use Rattle.raft_progress.specs.progress.Comparisons.{Comparisons}
-use Rattle.raft_progress.specs.tracked.TrackedShownSteps.{IsTrackedShownStep}
+use Rattle.raft_progress.specs.tracked.TrackedViewSteps.{IsTrackedViewStep}
 use Rattle.raft_progress.specs.tracked.TrackedState.{tracked_state}
 use Rattle.raft_progress.specs.tracked.TrackedSteps.{IsSameTracked, IsTrackedStep}
 use Rattle.raft_progress.proofs.lemmas.progress.CallStepLemmas.{runs_compose}
@@ -14,7 +14,7 @@ pub returns-clause-compose : goal.returns-clause-compose
 returns-clause-compose g c order =
     let by : Comparisons g.row.NID.Denot g.row.V.Denot g.row.P.Denot =
     compared g.NID.PartialEq.eq g.NID.Ord.cmp g.P.Ord.cmp order g.V.ProgressPart.part_of g.V.Clone.is_clone in
-    runs_compose (IsTrackedShownStep by g.N.PartialEq.eq)
+    runs_compose (IsTrackedViewStep by g.N.PartialEq.eq)
 
 pub returns-clause-updates : goal.returns-clause-updates
 returns-clause-updates g c order =
@@ -32,7 +32,7 @@ pub returns-clause-values : goal.returns-clause-values
 returns-clause-values g c order =
     let by : Comparisons g.row.NID.Denot g.row.V.Denot g.row.P.Denot =
     compared g.NID.PartialEq.eq g.NID.Ord.cmp g.P.Ord.cmp order g.V.ProgressPart.part_of g.V.Clone.is_clone in
-    λ old new steps replies run. run_seen (IsTrackedShownStep by g.N.PartialEq.eq) (IsTrackedStep by g.N.PartialEq.eq) IsSameTracked
+    λ old new steps replies run. run_seen (IsTrackedViewStep by g.N.PartialEq.eq) (IsTrackedStep by g.N.PartialEq.eq) IsSameTracked
     (tracked_state g.NID.PartialEq.eq) (λ old step reply new s. s.values) IsSameTracked-refl old steps replies new run
 
 pub returns-clause-monotone : goal.returns-clause-monotone

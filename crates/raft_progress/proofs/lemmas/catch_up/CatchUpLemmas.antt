@@ -54,7 +54,7 @@ use Rattle.raft_members.proofs.lemmas.membership.AddedLemmas.{is_equal}
 use Rattle.raft_progress.specs.catch_up.CatchUp.{MatchesAll, can_agree, can_catch_up, has_request_ids, match_fits}
 use Rattle.raft_progress.specs.catch_up.HonestRun.{HonestRun, HonestRunEnds, TurnsLeadTo, new_run, run_after_response, run_after_logs, turn}
 use Rattle.raft_progress.specs.entry.EntryTable.{entry_after_ack}
-use Rattle.raft_progress.specs.entry.Send.{IsSent, can_be_sent, end_of, send_table, start_of}
+use Rattle.raft_progress.specs.entry.Send.{IsSent, can_send, end_of, send_table, start_of}
 use Rattle.raft_progress.specs.inflight.Inflight.{is_idle}
 use Rattle.raft_progress.specs.inflight.InflightTable.{FollowsTable}
 use Rattle.raft_progress.specs.Inner.Turns.{IsBetweenTurns}
@@ -116,10 +116,10 @@ module _ {C : Type 0} (eq : C → C → Bool) (cmp : C → C → Ordering) where
   pub ready_from : (log : LogView C) (n : ℕ) (entry : ProgressEntryOf C) (agree : ℕ) → can_catch_up eq cmp log entry agree n ≡ true
       → IsBetweenTurns eq cmp log n entry agree × (entry.curr_inflight_id + 64 + next_index log.last + 1 < 2 ^ 64)
   ready_from log n entry agree can =
-      let p = of_both (is_idle entry.inflight && can_be_sent entry log && nat_le 1 n
+      let p = of_both (is_idle entry.inflight && can_send entry log && nat_le 1 n
       && can_agree (next_index entry.matching) entry.searching_end (next_index log.purge_upto) agree
       && has_request_ids entry.curr_inflight_id (next_index log.last)) (match_fits eq cmp log entry) can in
-      let q = five (is_idle entry.inflight) (can_be_sent entry log) (nat_le 1 n)
+      let q = five (is_idle entry.inflight) (can_send entry log) (nat_le 1 n)
       (can_agree (next_index entry.matching) entry.searching_end (next_index log.purge_upto) agree)
       (has_request_ids entry.curr_inflight_id (next_index log.last)) p.0 in
       let s = five (nat_le (next_index entry.matching) entry.searching_end) (nat_lt (next_index log.last) (2 ^ 64))

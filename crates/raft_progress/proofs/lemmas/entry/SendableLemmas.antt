@@ -38,7 +38,7 @@ use Rattle.raft_base.specs.LogView.{LogView, prev_id}
 use Rattle.raft_base.specs.declared.log_id.LogIdOf.{LogIdOf}
 use Rattle.raft_base.specs.declared.log_id.log_id_range.LogIdRangeOf.{LogIdRangeOf}
 use Rattle.raft_progress.specs.entry.EntryTable.{entry_after_ack, entry_after_conflict, with_matching, with_search_end}
-use Rattle.raft_progress.specs.entry.Send.{can_be_sent, end_of, send_table, start_of}
+use Rattle.raft_progress.specs.entry.Send.{can_send, end_of, send_table, start_of}
 use Rattle.raft_progress.specs.entry.Sendable.{IsSendable, end_in_flight}
 use Rattle.raft_progress.specs.inflight.Inflight.{is_idle, is_sending_snapshot, logs_from}
 use Rattle.raft_progress.specs.inflight.InflightTable.{inflight_after_ack, inflight_after_conflict, is_within}
@@ -96,7 +96,7 @@ module _ {C : Type 0} where
   logs_end true id l range h = h
   logs_end false id l range h = omega arith
 
-  pub sendable_can_send : (entry : ProgressEntryOf C) (log : LogView C) → IsSendable entry log → can_be_sent entry log ≡ true
+  pub sendable_can_send : (entry : ProgressEntryOf C) (log : LogView C) → IsSendable entry log → can_send entry log ≡ true
   sendable_can_send entry log fits =
       let a : nat_le (next_index entry.matching) entry.searching_end ≡ true = let h = fits.matched in grind (arith, nat_tests) in
       let b : nat_lt (next_index log.last) (2 ^ 64) ≡ true = let h = fits.last in grind (arith, nat_tests) in
@@ -115,7 +115,7 @@ module _ {C : Type 0} where
   idle_ends (Logs id range) l h = cc
   idle_ends (Snapshot id last) l h = cc
 
-  pub begins_sendable : (entry : ProgressEntryOf C) (log : LogView C) → is_idle entry.inflight ≡ true → can_be_sent entry log ≡ true
+  pub begins_sendable : (entry : ProgressEntryOf C) (log : LogView C) → is_idle entry.inflight ≡ true → can_send entry log ≡ true
       → IsSendable entry log
   begins_sendable entry log idle can =
       let s = five (nat_le (next_index entry.matching) entry.searching_end) (nat_lt (next_index log.last) (2 ^ 64))

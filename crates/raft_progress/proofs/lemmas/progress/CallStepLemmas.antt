@@ -9,7 +9,7 @@ use Rattle.raft_progress.specs.progress.Comparisons.{Comparisons}
 use Rattle.raft_progress.specs.progress.CountedValue.{AtMost, IsCounted}
 use Rattle.raft_progress.specs.progress.ProgressState.{IsSame, Writes}
 use Rattle.raft_progress.specs.progress.Run.{Runs}
-use Rattle.raft_progress.specs.progress.Shown.{Shown, state}
+use Rattle.raft_progress.specs.progress.ProgressView.{ProgressView, state}
 use Rattle.raft_progress.specs.progress.Steps.{IsWritten, falls, stays}
 use Rattle.raft_progress.specs.progress.Updated.{IsGreaterOf}
 use Rattle.raft_progress.specs.declared.progress.steps.Reply.{Reply}
@@ -55,7 +55,7 @@ module _ {ID V P QS : Type 0} (by : Comparisons ID V P) (laws : IsEquivalence by
         record {
           values = (
             e,
-            subst (λ (n : Shown ID V P QS). IsCounted by.cmp by.part has_quorum (state by.eq old) n.granted) (sym same)
+            subst (λ (n : ProgressView ID V P QS). IsCounted by.cmp by.part has_quorum (state by.eq old) n.granted) (sym same)
                 was.counted,
             unknown_same by.eq by.cmp by.part (λ v w. w ≡ value) old id new u e,
           );
@@ -91,7 +91,8 @@ module _ {ID V P QS : Type 0} (by : Comparisons ID V P) (laws : IsEquivalence by
               (IsWritten by.eq by.cmp by.part has_quorum (state by.eq old) id value (Unknown new.granted) (state by.eq new)))
               (sym (ap (λ o. stays by.partial_cmp o value) e)) (
                 e,
-                subst (λ (n : Shown ID V P QS). IsCounted by.cmp by.part has_quorum (state by.eq old) n.granted) (sym same) was.counted,
+                subst (λ (n : ProgressView ID V P QS). IsCounted by.cmp by.part has_quorum (state by.eq old) n.granted)
+                    (sym same) was.counted,
                 unknown_same by.eq by.cmp by.part (IsGreaterOf by.partial_cmp value) old id new u e,
               );
           answered = record { refused = λ r. absurd (true≢false (sym r)); done = λ _. u; tells = refl };

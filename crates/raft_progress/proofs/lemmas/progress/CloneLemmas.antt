@@ -30,7 +30,7 @@ use Rattle.std.specs.Cmp.Lexicographic.{pointwise}
 use Rattle.std.proofs.Common.{ap, subst, suc, sym, ◌∙◌, get_or, refl, zero}
 use Rattle.std.proofs.lemmas.List.{take_more}
 use Rattle.raft_progress.specs.progress.Equal.{IsCloned, equal}
-use Rattle.raft_progress.specs.progress.Shown.{Shown}
+use Rattle.raft_progress.specs.progress.ProgressView.{ProgressView}
 use Rattle.raft_progress.proofs.lemmas.ListLemmas.{both}
 use Rattle.std.proofs.lemmas.Slice.Zip.{all_zipped_more}
 use Rattle.std.specs.declared.cmp.Ordering.{Ordering}
@@ -60,20 +60,21 @@ same_ids IsClone (e ∷ es) [] a = absurd a
 same_ids IsClone (e ∷ es) (f ∷ fs) a = λ i. a.0.0 i ∷ same_ids IsClone es fs a.1 i
 
 -- if a value equals its clone, entries equal their clones
-walks_equal : {ID V : Type 0} {eq : ID → ID → Bool} (laws : IsEquivalence eq) (value_eq : V → V → Bool) (IsClone : V → V → Type 0)
+entries_equal : {ID V : Type 0} {eq : ID → ID → Bool} (laws : IsEquivalence eq) (value_eq : V → V → Bool) (IsClone : V → V → Type 0)
     → ClonesAreEqual value_eq IsClone → (es fs : List (ID × V)) → AllZip (λ d e. (e.0 ≡ d.0) × IsClone d.1 e.1) es fs
     → pointwise (λ d e. eq d.0 e.0 && value_eq d.1 e.1) es fs ≡ true
-walks_equal laws value_eq IsClone c [] [] a = refl
-walks_equal laws value_eq IsClone c [] (f ∷ fs) a = absurd a
-walks_equal laws value_eq IsClone c (e ∷ es) [] a = absurd a
-walks_equal {ID} {V} {eq} laws value_eq IsClone c (e ∷ es) (f ∷ fs) a =
+entries_equal laws value_eq IsClone c [] [] a = refl
+entries_equal laws value_eq IsClone c [] (f ∷ fs) a = absurd a
+entries_equal laws value_eq IsClone c (e ∷ es) [] a = absurd a
+entries_equal {ID} {V} {eq} laws value_eq IsClone c (e ∷ es) (f ∷ fs) a =
     both _ _ (both _ _ (subst (λ (x : ID). eq e.0 x ≡ true) (sym a.0.0) (laws.refl e.0)) (c e.1 f.1 a.0.1))
-    (walks_equal laws value_eq IsClone c es fs a.1)
+    (entries_equal laws value_eq IsClone c es fs a.1)
 
 -- a clone is equal
 pub clone_is_equal : {ID V P QS : Type 0} {id_eq : ID → ID → Bool} (laws : IsEquivalence id_eq) (value_eq : V → V → Bool)
     {part_eq : P → P → Bool} (part_laws : IsEquivalence part_eq) (set_eq : QS → QS → Bool) (IsClone : V → V → Type 0)
-    (IsSetClone : QS → QS → Type 0) → ClonesAreEqual value_eq IsClone → ClonesAreEqual set_eq IsSetClone → (old new : Shown ID V P QS)
+    (IsSetClone : QS → QS → Type 0) → ClonesAreEqual value_eq IsClone → ClonesAreEqual set_eq IsSetClone
+        → (old new : ProgressView ID V P QS)
     → IsCloned IsClone IsSetClone old new → equal id_eq value_eq part_eq set_eq old new ≡ true
 clone_is_equal {ID} {V} {P} {QS} {id_eq} laws value_eq {part_eq} part_laws set_eq IsClone IsSetClone values sets old new c =
     both _ _
@@ -83,7 +84,7 @@ clone_is_equal {ID} {V} {P} {QS} {id_eq} laws value_eq {part_eq} part_laws set_e
     (both _ _ (sets old.quorum_set new.quorum_set c.quorum_set)
     (subst (λ (p : P). part_eq old.granted p ≡ true) (sym c.granted) (part_laws.refl old.granted)))
     (subst (λ (n : ℕ). nat_eq old.voter_count n ≡ true) (sym c.voter_count) (nat_eq_equiv.refl old.voter_count)))
-    (walks_equal laws value_eq IsClone values old.walk new.walk c.walk))
+    (entries_equal laws value_eq IsClone values old.entries new.entries c.entries))
     (subst (λ (p : P). part_eq old.default_part p ≡ true) (sym c.default_part) (part_laws.refl old.default_part)))
     (both _ _
     (both _ _
@@ -123,4 +124,4 @@ pub clones_keep_order : {ID V P QS : Type 0} (eq : ID → ID → Bool) (cmp : P 
     → ClonesKeepOrder ID V P QS eq part cmp has_quorum IsClone IsSetClone
 clones_keep_order eq cmp part has_quorum IsClone IsSetClone clones sets old new c =
     order_alike eq cmp part has_quorum old new (sets old.quorum_set new.quorum_set c.quorum_set) c.voter_count c.default_part c.granted
-    (same_ids IsClone old.walk new.walk c.walk) (same_parts IsClone part clones old.voter_count old.walk new.walk c.walk)
+    (same_ids IsClone old.entries new.entries c.entries) (same_parts IsClone part clones old.voter_count old.entries new.entries c.entries)

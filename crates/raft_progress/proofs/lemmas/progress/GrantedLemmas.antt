@@ -9,10 +9,10 @@ use Rattle.raft_progress.specs.progress.Answered.{IsAnswered, is_refused}
 use Rattle.raft_progress.specs.progress.Comparisons.{Comparisons}
 use Rattle.raft_progress.specs.progress.CountedValue.{AtMost}
 use Rattle.raft_progress.specs.progress.Run.{Runs}
-use Rattle.raft_progress.specs.progress.Shown.{Shown}
-use Rattle.raft_progress.specs.progress.ShownSteps.{IsShownRun, IsShownStep, is_upgrade}
-use Rattle.raft_progress.specs.tracked.TrackedShownSteps.{IsTrackedShownRun, IsTrackedShownStep, is_change}
-use Rattle.raft_progress.specs.tracked.TrackedState.{TrackedShown}
+use Rattle.raft_progress.specs.progress.ProgressView.{ProgressView}
+use Rattle.raft_progress.specs.progress.ViewSteps.{IsViewRun, IsViewStep, is_upgrade}
+use Rattle.raft_progress.specs.tracked.TrackedViewSteps.{IsTrackedViewRun, IsTrackedViewStep, is_change}
+use Rattle.raft_progress.specs.tracked.TrackedState.{TrackedView}
 use Rattle.raft_progress.specs.declared.progress.steps.AnyStep.{AnyStep}
 use Rattle.raft_progress.specs.declared.progress.steps.AnyStep.TheVariants as any_step
 use Rattle.raft_progress.specs.declared.progress.steps.Reply.{Reply}
@@ -45,11 +45,12 @@ answered_keeps {cmp = cmp} o granted_of Done old reply new a up = by (is_refused
 
 module _ {ID V P QS : Type 0} (by : Comparisons ID V P) (o : IsTotalOrder by.cmp) (has_quorum : QS → (ID → Bool) → Bool)
     (is_voter : QS → ID → Bool) where
-  abbrev NotLower : Shown ID V P QS → Shown ID V P QS → Type 0
+  abbrev NotLower : ProgressView ID V P QS → ProgressView ID V P QS → Type 0
   NotLower old new = AtMost by.cmp old.granted new.granted
 
-  step_not_lower : (old : Shown ID V P QS) (step : AnyStep ID V QS) (reply : Reply ID P) (new : Shown ID V P QS) → is_upgrade step ≡ false
-      → IsShownStep by has_quorum is_voter old step reply new → NotLower old new
+  step_not_lower : (old : ProgressView ID V P QS) (step : AnyStep ID V QS) (reply : Reply ID P) (new : ProgressView ID V P QS)
+      → is_upgrade step ≡ false
+      → IsViewStep by has_quorum is_voter old step reply new → NotLower old new
   step_not_lower old (any_step.Update id value) reply new h s =
       answered_keeps o (λ p. p.granted) _ old reply new s.answered (λ u. u.monotone)
   step_not_lower old (any_step.IncreaseTo id value) reply new h s =
@@ -57,17 +58,18 @@ module _ {ID V P QS : Type 0} (by : Comparisons ID V P) (o : IsTotalOrder by.cmp
   step_not_lower old (any_step.Upgrade quorum_set learners default) reply new h s = absurd (true≢false h)
 
   -- granted is at least what it was, if no step is an upgrade
-  pub run_not_lower : (old : Shown ID V P QS) (steps : List (AnyStep ID V QS)) (replies : List (Reply ID P)) (new : Shown ID V P QS)
-      → IsShownRun by has_quorum is_voter old steps replies new → list_any is_upgrade steps ≡ false → NotLower old new
-  run_not_lower = run_keeps (IsShownStep by has_quorum is_voter) NotLower (λ s. AtMost-refl o s.granted)
+  pub run_not_lower : (old : ProgressView ID V P QS) (steps : List (AnyStep ID V QS)) (replies : List (Reply ID P))
+      (new : ProgressView ID V P QS)
+      → IsViewRun by has_quorum is_voter old steps replies new → list_any is_upgrade steps ≡ false → NotLower old new
+  run_not_lower = run_keeps (IsViewStep by has_quorum is_voter) NotLower (λ s. AtMost-refl o s.granted)
       (λ a b c h k. AtMost-trans o a.granted b.granted c.granted h k) is_upgrade step_not_lower
 
 module _ {K N V P : Type 0} (by : Comparisons K V P) (o : IsTotalOrder by.cmp) (same : N → N → Bool) where
-  abbrev TrackedNotLower : TrackedShown K N V P → TrackedShown K N V P → Type 0
+  abbrev TrackedNotLower : TrackedView K N V P → TrackedView K N V P → Type 0
   TrackedNotLower old new = AtMost by.cmp old.progress.granted new.progress.granted
 
-  pair_step_not_lower : (old : TrackedShown K N V P) (step : Step K N V) (reply : Reply K P) (new : TrackedShown K N V P)
-      → is_change step ≡ false → IsTrackedShownStep by same old step reply new → TrackedNotLower old new
+  pair_step_not_lower : (old : TrackedView K N V P) (step : Step K N V) (reply : Reply K P) (new : TrackedView K N V P)
+      → is_change step ≡ false → IsTrackedViewStep by same old step reply new → TrackedNotLower old new
   pair_step_not_lower old (step_of.Update id value) reply new h s =
       answered_keeps o (λ t. t.progress.granted) _ old reply new s.answered (λ u. u.1.monotone)
   pair_step_not_lower old (step_of.IncreaseTo id value) reply new h s =
@@ -75,8 +77,8 @@ module _ {K N V P : Type 0} (by : Comparisons K V P) (o : IsTotalOrder by.cmp) (
   pair_step_not_lower old (step_of.Change change retain default) reply new h s = absurd (true≢false h)
 
   -- granted is at least what it was, if no step is a change
-  pub tracked_run_not_lower : (old : TrackedShown K N V P) (steps : List (Step K N V)) (replies : List (Reply K P))
-      (new : TrackedShown K N V P) → IsTrackedShownRun by same old steps replies new → list_any is_change steps ≡ false
+  pub tracked_run_not_lower : (old : TrackedView K N V P) (steps : List (Step K N V)) (replies : List (Reply K P))
+      (new : TrackedView K N V P) → IsTrackedViewRun by same old steps replies new → list_any is_change steps ≡ false
       → TrackedNotLower old new
-  tracked_run_not_lower = run_keeps (IsTrackedShownStep by same) TrackedNotLower (λ t. AtMost-refl o t.progress.granted)
+  tracked_run_not_lower = run_keeps (IsTrackedViewStep by same) TrackedNotLower (λ t. AtMost-refl o t.progress.granted)
       (λ a b c h k. AtMost-trans o a.progress.granted b.progress.granted c.progress.granted h k) is_change pair_step_not_lower

@@ -33,7 +33,7 @@ use Rattle.std.proofs.lemmas.List.{map-append}
 use Rattle.std.proofs.lemmas.List.Elements.{All-take, recursion_from_All}
 use Rattle.raft_progress.specs.progress.CountedValue.{AtMost, IsCounted, IsReached}
 use Rattle.raft_progress.specs.progress.ProgressState.{ProgressState}
-use Rattle.raft_progress.specs.progress.Walk.{IsFalling}
+use Rattle.raft_progress.specs.progress.Entries.{IsFalling}
 use Rattle.raft_progress.specs.Inner.Recount.{at_least}
 use Rattle.raft_progress.specs.Inner.Conditions.{ids_differ, never_rises}
 use Rattle.raft_members.proofs.CallerLemmas.{is_member-alike}
@@ -246,17 +246,17 @@ each_passes t [] h = tt
 each_passes t (x ∷ xs) h = (first_so _ _ h, each_passes t xs (second_so _ _ h))
 
 module _ {ID V P QS : Type 0} {eq : ID → ID → Bool} (laws : IsEquivalence eq) {cmp : P → P → Ordering} (o : IsTotalOrder cmp) (part : V → P)
-    (has_quorum : QS → (ID → Bool) → Bool) (quorum_set : QS) (walk : List (ID × V)) (n : ℕ) (d0 : P)
-    (d : IsDistinct eq (keys_of walk)) where
-  pub lowest_from_test : list_all (at_least cmp part d0) (take n walk) ≡ true → (x : ID) (v : V)
-      → is_member eq (take n (keys_of walk)) x ≡ true → lookup (eq x) walk ≡ Some v → AtMost cmp d0 (part v)
-  lowest_from_test h x v m l = voter_value laws (λ (u : V). AtMost cmp d0 (part u)) walk n x v m l
-      (each_passes (at_least cmp part d0) (take n walk) h)
+    (has_quorum : QS → (ID → Bool) → Bool) (quorum_set : QS) (entries : List (ID × V)) (n : ℕ) (d0 : P)
+    (d : IsDistinct eq (keys_of entries)) where
+  pub lowest_from_test : list_all (at_least cmp part d0) (take n entries) ≡ true → (x : ID) (v : V)
+      → is_member eq (take n (keys_of entries)) x ≡ true → lookup (eq x) entries ≡ Some v → AtMost cmp d0 (part v)
+  lowest_from_test h x v m l = voter_value laws (λ (u : V). AtMost cmp d0 (part u)) entries n x v m l
+      (each_passes (at_least cmp part d0) (take n entries) h)
 
-  pub test_from_lowest : ((x : ID) (v : V) → is_member eq (take n (keys_of walk)) x ≡ true → lookup (eq x) walk ≡ Some v
-      → AtMost cmp d0 (part v)) → list_all (at_least cmp part d0) (take n walk) ≡ true
+  pub test_from_lowest : ((x : ID) (v : V) → is_member eq (take n (keys_of entries)) x ≡ true → lookup (eq x) entries ≡ Some v
+      → AtMost cmp d0 (part v)) → list_all (at_least cmp part d0) (take n entries) ≡ true
   test_from_lowest low =
-      all_pass (λ (e : ID × V). is_member eq (take n (keys_of walk)) e.0 ≡ true) (λ e. lookup (eq e.0) walk ≡ Some e.1)
-      (at_least cmp part d0) (λ e m l. low e.0 e.1 m l) (take n walk) (members laws walk n)
-      (recursion_from_All (λ (e : ID × V). lookup (eq e.0) walk ≡ Some e.1) (take n walk)
-      (All-take (λ (e : ID × V). lookup (eq e.0) walk ≡ Some e.1) n walk (found laws o part has_quorum quorum_set walk n d0 d)))
+      all_pass (λ (e : ID × V). is_member eq (take n (keys_of entries)) e.0 ≡ true) (λ e. lookup (eq e.0) entries ≡ Some e.1)
+      (at_least cmp part d0) (λ e m l. low e.0 e.1 m l) (take n entries) (members laws entries n)
+      (recursion_from_All (λ (e : ID × V). lookup (eq e.0) entries ≡ Some e.1) (take n entries)
+      (All-take (λ (e : ID × V). lookup (eq e.0) entries ≡ Some e.1) n entries (found laws o part has_quorum quorum_set entries n d0 d)))

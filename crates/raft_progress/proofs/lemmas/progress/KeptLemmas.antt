@@ -10,8 +10,8 @@ use Rattle.std.proofs.Common.{ap, inl, inr, refl, subst, suc, sym, zero, ◌∙�
 use Rattle.raft_progress.specs.progress.CountedValue.{AtMost, IsCounted, IsReached, has_part, reached}
 use Rattle.raft_progress.specs.progress.InOrder.{IsInOrder}
 use Rattle.raft_progress.specs.progress.ProgressState.{ProgressState}
-use Rattle.raft_progress.specs.progress.Shown.{Shown, state}
-use Rattle.raft_progress.specs.progress.Walk.{IsFalling}
+use Rattle.raft_progress.specs.progress.ProgressView.{ProgressView, state}
+use Rattle.raft_progress.specs.progress.Entries.{IsFalling}
 use Rattle.raft_progress.proofs.lemmas.progress.entries.EntriesLemmas.{no_value}
 
 -- the two states have the same quorums and voters, and each voter has the same part
@@ -153,13 +153,13 @@ module _ {ID V P : Type 0} (part : V → P) where
       by false i s r = ap (λ ps. part x.1 ∷ ps) (r i s)
 
 module _ {ID V P QS : Type 0} (eq : ID → ID → Bool) (cmp : P → P → Ordering) (part : V → P) (has_quorum : QS → (ID → Bool) → Bool)
-    (old new : Shown ID V P QS) (quorums : (set : ID → Bool) → has_quorum new.quorum_set set ≡ has_quorum old.quorum_set set)
+    (old new : ProgressView ID V P QS) (quorums : (set : ID → Bool) → has_quorum new.quorum_set set ≡ has_quorum old.quorum_set set)
     (voter_count : new.voter_count ≡ old.voter_count) (default_part : new.default_part ≡ old.default_part)
-    (granted : new.granted ≡ old.granted) (ids : keys_of new.walk ≡ keys_of old.walk)
-    (parts : map (λ e. part e.1) (take old.voter_count new.walk) ≡ map (λ e. part e.1) (take old.voter_count old.walk)) where
-  voter_parts : (x : ID) → is_member eq (take old.voter_count (keys_of old.walk)) x ≡ true
-      → option_map part (lookup (eq x) new.walk) ≡ option_map part (lookup (eq x) old.walk)
-  voter_parts x m = value_parts part eq x old.voter_count new.walk old.walk ids parts m
+    (granted : new.granted ≡ old.granted) (ids : keys_of new.entries ≡ keys_of old.entries)
+    (parts : map (λ e. part e.1) (take old.voter_count new.entries) ≡ map (λ e. part e.1) (take old.voter_count old.entries)) where
+  voter_parts : (x : ID) → is_member eq (take old.voter_count (keys_of old.entries)) x ≡ true
+      → option_map part (lookup (eq x) new.entries) ≡ option_map part (lookup (eq x) old.entries)
+  voter_parts x m = value_parts part eq x old.voter_count new.entries old.entries ids parts m
 
   pub voters_alike : (x : ID) → (state eq new).is_voter x ≡ (state eq old).is_voter x
   voters_alike x = λ i. is_member eq (take (voter_count i) (ids i)) x
@@ -169,12 +169,12 @@ module _ {ID V P QS : Type 0} (eq : ID → ID → Bool) (cmp : P → P → Order
   order_alike r = record {
     distinct = subst (IsDistinct eq) (sym ids) r.distinct;
     falling =
-        subst (λ (n : ℕ). IsFalling cmp part new.granted (take n new.walk)) (sym voter_count)
-        (subst (λ (g : P). IsFalling cmp part g (take old.voter_count new.walk)) (sym granted)
-        (falling_alike part cmp old.granted (take old.voter_count old.walk) (take old.voter_count new.walk) (sym parts) r.falling));
+        subst (λ (n : ℕ). IsFalling cmp part new.granted (take n new.entries)) (sym voter_count)
+        (subst (λ (g : P). IsFalling cmp part g (take old.voter_count new.entries)) (sym granted)
+        (falling_alike part cmp old.granted (take old.voter_count old.entries) (take old.voter_count new.entries) (sym parts) r.falling));
     not_below = λ x v m h.
-        let voter : is_member eq (take old.voter_count (keys_of old.walk)) x ≡ true = sym (voters_alike x) ∙ m in
-        let there = same_part part (lookup (eq x) new.walk) (lookup (eq x) old.walk) v (voter_parts x voter) h in
+        let voter : is_member eq (take old.voter_count (keys_of old.entries)) x ≡ true = sym (voters_alike x) ∙ m in
+        let there = same_part part (lookup (eq x) new.entries) (lookup (eq x) old.entries) v (voter_parts x voter) h in
         subst (λ (d : P). AtMost cmp d (part v)) (sym default_part)
         (subst (λ (q : P). AtMost cmp old.default_part q) (sym there.2) (r.not_below x there.0 voter there.1));
     counted =

@@ -11,10 +11,10 @@ use Rattle.std.proofs.Common.{arith, sym, ap, refl, ◌∙◌, true≢false, inl
 use Rattle.std.proofs.lemmas.Cmp.{tied_itself}
 use Rattle.std.proofs.lemmas.Map.Keys.{IsDistinct-from_sorted}
 use Rattle.raft_progress.specs.progress.CountedValue.{AtMost}
-use Rattle.raft_progress.specs.progress.InOrder.{IsWalkInOrder}
+use Rattle.raft_progress.specs.progress.InOrder.{AreEntriesInOrder}
 use Rattle.raft_progress.specs.Inner.Placed.{IsPlaced}
 use Rattle.raft_progress.specs.progress.NewProgress.{IsNew, LearnersFit}
-use Rattle.raft_progress.specs.progress.Walk.{IsFalling, state_of}
+use Rattle.raft_progress.specs.progress.Entries.{IsFalling, state_of}
 use Rattle.raft_progress.proofs.lemmas.OrderLemmas.{AtMost-refl}
 use Rattle.raft_progress.proofs.lemmas.progress.entries.EntriesLemmas.{no_value}
 use Rattle.raft_progress.proofs.lemmas.ListLemmas.{or_right}
@@ -125,17 +125,18 @@ module _ {ID : Type 0} {eq : ID → ID → Bool} (laws : IsEquivalence eq) where
 
   module _ {V P QS : Type 0} {cmp : P → P → Ordering} (o : IsTotalOrder cmp) (part : V → P) (has_quorum : QS → (ID → Bool) → Bool)
       (IsClone : V → V → Type 0) (is_voter : ID → Bool) (set : QS) (ids learners : List ID) (v : V)
-      (same_part : (w : V) → IsClone v w → part w ≡ part v) (walk : List (ID × V)) (n : ℕ) (p : P) (distinct : IsDistinct eq ids)
-      (voters : (x : ID) → is_member eq ids x ≡ is_voter x) (fit : LearnersFit eq is_voter learners) (keys : keys_of walk ≡ ids ++ learners)
-      (clones : AllByRecursion (λ e. IsClone v e.1) walk) (counted : n ≡ length ids) (default : p ≡ part v) where
-    front : take n (keys_of walk) ≡ ids
-    front = rw (counted, keys) (take_front ids learners)
+      (same_part : (w : V) → IsClone v w → part w ≡ part v) (entries : List (ID × V)) (n : ℕ) (p : P) (distinct : IsDistinct eq ids)
+      (voters : (x : ID) → is_member eq ids x ≡ is_voter x) (fit : LearnersFit eq is_voter learners)
+          (keys : keys_of entries ≡ ids ++ learners)
+      (clones : AllByRecursion (λ e. IsClone v e.1) entries) (counted : n ≡ length ids) (default : p ≡ part v) where
+    prefix : take n (keys_of entries) ≡ ids
+    prefix = rw (counted, keys) (take_front ids learners)
 
-    is_key : (x : ID) → is_member eq (keys_of walk) x ≡ (is_voter x || is_member eq learners x)
+    is_key : (x : ID) → is_member eq (keys_of entries) x ≡ (is_voter x || is_member eq learners x)
     is_key x = ap (λ ks. is_member eq ks x) keys ∙ member_append ids learners x ∙ ap (λ b. b || is_member eq learners x) (voters x)
 
-    part_at : (x : ID) (u : V) → lookup (eq x) walk ≡ Some u → part u ≡ p
-    part_at x u e = lookup_all (λ w. part w ≡ p) walk x u e (all_parts walk clones)
+    part_at : (x : ID) (u : V) → lookup (eq x) entries ≡ Some u → part u ≡ p
+    part_at x u e = lookup_all (λ w. part w ≡ p) entries x u e (all_parts entries clones)
       where
         all_parts : (es : List (ID × V)) → AllByRecursion (λ e. IsClone v e.1) es → AllByRecursion (λ e. part e.1 ≡ p) es
         all_parts [] a = tt
@@ -153,18 +154,18 @@ module _ {ID : Type 0} {eq : ID → ID → Bool} (laws : IsEquivalence eq) where
         none (suc k) [] b = tt
         none (suc k) (f ∷ fs) b = ((λ _. rw (same_part f.1 b.0, same_part e.1 a.0) (AtMost-refl o (part v))), none k fs b.1)
 
-    pub fresh_is_new : IsNew eq IsClone part is_voter set learners v (state_of eq set walk n p)
+    pub fresh_is_new : IsNew eq IsClone part is_voter set learners v (state_of eq set entries n p)
     fresh_is_new = record {
       same_quorum_set = refl;
-      voters = λ x. ap (λ ks. is_member eq ks x) front ∙ voters x;
-      value = λ x h. lookup_key (IsClone v) walk x (is_key x ∙ h) clones;
-      others = λ x h. lookup_other walk x (is_key x ∙ h);
+      voters = λ x. ap (λ ks. is_member eq ks x) prefix ∙ voters x;
+      value = λ x h. lookup_key (IsClone v) entries x (is_key x ∙ h) clones;
+      others = λ x h. lookup_other entries x (is_key x ∙ h);
       default_part = default;
     }
 
-    pub fresh_in_order : IsWalkInOrder eq cmp part has_quorum set walk n p p
+    pub fresh_in_order : AreEntriesInOrder eq cmp part has_quorum set entries n p p
     fresh_in_order = record {
-      falling = falling_at n walk clones;
+      falling = falling_at n entries clones;
       distinct = rw keys (distinct_with_learners is_voter ids learners distinct voters fit);
       not_below = λ x u m l. rw (part_at x u l) (AtMost-refl o p);
       counted = record {

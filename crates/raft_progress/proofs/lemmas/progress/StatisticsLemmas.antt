@@ -2,7 +2,7 @@
 use Rattle.std.specs.Prelude.{◌≡◌, ℕ, ◌+◌, ◌*◌, ◌<◌, ◌≤◌, ◌^◌, Bool, true, false, Option, Some, None}
 use Rattle.std.specs.declared.cmp.Ordering.{Ordering}
 use Rattle.std.proofs.Common.{arith, ◌∙◌, refl, ap, subst}
-use Rattle.raft_progress.specs.progress.Shown.{Shown, state}
+use Rattle.raft_progress.specs.progress.ProgressView.{ProgressView, state}
 use Rattle.raft_progress.specs.progress.Statistics.{CountsGoOn, count_after}
 use Rattle.raft_progress.specs.progress.Updated.{IsSettled, IsUpdated, rises_past_granted}
 use Rattle.raft_progress.specs.declared.progress.stat.Stat.{Stat}
@@ -27,7 +27,7 @@ counts_begin voters s a b c = record {
 }
 
 module _ {ID V P QS : Type 0} (eq : ID → ID → Bool) (cmp : P → P → Ordering) (part : V → P) (Left : V → V → Type 0) (n : ℕ) (s : Stat)
-    (old : Shown ID V P QS) (id : ID) (new : Shown ID V P QS) (u : IsUpdated eq cmp part Left old id new)
+    (old : ProgressView ID V P QS) (id : ID) (new : ProgressView ID V P QS) (u : IsUpdated eq cmp part Left old id new)
     (c : CountsGoOn n old.voter_count s old.stat) where
   same : new.voter_count ≡ old.voter_count
   same = u.same_voter_count

@@ -5,11 +5,11 @@ use Rattle.std.specs.Option.{is_some}
 use Rattle.std.specs.Ordering.{partial_gt}
 use Rattle.std.specs.Cmp.{IsEquivalence}
 use Rattle.std.proofs.Common.{ap, sym, subst, true≢false, ◌∙◌}
-use Rattle.raft_progress.specs.Inner.ShownAnswers.{IsShownIncrease}
+use Rattle.raft_progress.specs.Inner.ViewAnswers.{IsViewIncrease}
 use Rattle.raft_progress.specs.progress.CountedValue.{IsCounted}
 use Rattle.raft_progress.specs.progress.InOrder.{IsInOrder}
 use Rattle.raft_progress.specs.progress.ProgressState.{IsSame, ProgressState, Writes}
-use Rattle.raft_progress.specs.progress.Shown.{Shown, state}
+use Rattle.raft_progress.specs.progress.ProgressView.{ProgressView, state}
 use Rattle.raft_progress.specs.progress.Steps.{IsIncreased, IsWritten, falls, stays}
 use Rattle.raft_progress.specs.progress.Updated.{IsUpdated}
 use Rattle.raft_progress.specs.declared.progress.steps.Reply.{Reply}
@@ -41,7 +41,8 @@ module _ {ID V P QS : Type 0} where
       by x false t = refl
 
 module _ {ID V P QS : Type 0} {eq : ID → ID → Bool} (laws : IsEquivalence eq) (cmp : P → P → Ordering)
-    (partial_cmp : V → V → Option Ordering) (part : V → P) (has_quorum : QS → (ID → Bool) → Bool) (old new : Shown ID V P QS) (id : ID)
+    (partial_cmp : V → V → Option Ordering) (part : V → P) (has_quorum : QS → (ID → Bool)
+        → Bool) (old new : ProgressView ID V P QS) (id : ID)
     (value : V) (granted : P) (is_granted : granted ≡ new.granted)
     (u : IsUpdated eq cmp part (λ v w. w ≡ (if partial_gt partial_cmp value v then value else v)) old id new)
     (r : IsInOrder eq cmp part has_quorum new) where
@@ -77,7 +78,7 @@ module _ {ID V P QS : Type 0} {eq : ID → ID → Bool} (laws : IsEquivalence eq
           )
       by false t =
           let is : k.0 ≡ v = k.1 ∙ ap (λ b. cond b value v) t in
-          let same = written_same eq (state eq old) (state eq new) id v (λ x y h. lookup_alike laws x y h old.walk) e
+          let same = written_same eq (state eq old) (state eq new) id v (λ x y h. lookup_alike laws x y h old.entries) e
           (subst (λ (w : V). Writes eq (state eq old) id w (state eq new)) is k.2) in (
             granted,
             refl,
@@ -88,7 +89,7 @@ module _ {ID V P QS : Type 0} {eq : ID → ID → Bool} (laws : IsEquivalence eq
 
 -- what a reply to an increase says of a progress that was updated
 module _ {ID V P QS : Type 0} {eq : ID → ID → Bool} (laws : IsEquivalence eq) (cmp : P → P → Ordering) (part : V → P)
-    (has_quorum : QS → (ID → Bool) → Bool) (old new : Shown ID V P QS) (id : ID) (value : V) (granted : P)
+    (has_quorum : QS → (ID → Bool) → Bool) (old new : ProgressView ID V P QS) (id : ID) (value : V) (granted : P)
     (is_granted : granted ≡ new.granted) (after : IsInOrder eq cmp part has_quorum new) where
   present : (o : Option V) → is_some o ≡ true → (v : V) × (o ≡ Some v)
   present (Some v) h = (v, refl)
@@ -98,7 +99,7 @@ module _ {ID V P QS : Type 0} {eq : ID → ID → Bool} (laws : IsEquivalence eq
       (u : IsUpdated eq cmp part (λ v w. w ≡ (if partial_gt partial_cmp value v then value else v)) old id new)
       → is_some ((state eq old).value id) ≡ true
       → (stays partial_cmp ((state eq old).value id) value ≡ false → falls cmp part ((state eq old).value id) value ≡ false)
-      → IsShownIncrease eq cmp partial_cmp part has_quorum old id value (Granted granted) new
+      → IsViewIncrease eq cmp partial_cmp part has_quorum old id value (Granted granted) new
   increase_known partial_cmp u h up =
       let v = present ((state eq old).value id) h in
       record {

@@ -12,7 +12,7 @@ use Rattle.std.proofs.lemmas.List.Elements.{All-take, recursion_from_All}
 use Rattle.raft_progress.specs.Inner.Recount.{at_least}
 use Rattle.raft_progress.specs.progress.CountedValue.{AtMost, has_part, reached}
 use Rattle.raft_progress.specs.progress.InOrder.{IsInOrder}
-use Rattle.raft_progress.specs.progress.Shown.{Shown, state}
+use Rattle.raft_progress.specs.progress.ProgressView.{ProgressView, state}
 use Rattle.raft_progress.specs.progress.Threshold.{CountedValuesTie, GrantedIsThreshold, QuorumReached}
 use Rattle.raft_progress.proofs.lemmas.progress.recount.CountedAfreshLemmas.{found, members, voter_value}
 use Rattle.raft_progress.proofs.lemmas.tracked.HeadlineLemmas.{granted_reached}
@@ -80,7 +80,7 @@ module _ {ID V P : Type 0} {cmp : P → P → Ordering} (o : IsTotalOrder cmp) (
 
 module _ {ID V P QS : Type 0} {eq : ID → ID → Bool} (laws : IsEquivalence eq) {cmp : P → P → Ordering} (o : IsTotalOrder cmp) (part : V → P)
     (has_quorum : QS → (ID → Bool) → Bool) (superset : (c : QS) (s t : ID → Bool) → ((x : ID) → s x ≡ true → t x ≡ true)
-    → has_quorum c s ≡ true → has_quorum c t ≡ true) (p : Shown ID V P QS) (r : IsInOrder eq cmp part has_quorum p) where
+    → has_quorum c s ≡ true → has_quorum c t ≡ true) (p : ProgressView ID V P QS) (r : IsInOrder eq cmp part has_quorum p) where
   back : (a b : P) → cmp a b ≡ Equal → AtMost cmp b a
   back a b e = AtMost-from_not_lt o a b (ap is_lt e)
 
@@ -104,33 +104,33 @@ module _ {ID V P QS : Type 0} {eq : ID → ID → Bool} (laws : IsEquivalence eq
             )
       ]
 
-  rises_to : (q pm : P) → AllByRecursion (λ f. at_least cmp part q f ≡ true → AtMost cmp pm (part f.1)) (take p.voter_count p.walk)
-      → (y : ID) → (state eq p).is_voter y ≡ true → (value : Option V) → lookup (eq y) p.walk ≡ value → has_part cmp part q value ≡ true
+  rises_to : (q pm : P) → AllByRecursion (λ f. at_least cmp part q f ≡ true → AtMost cmp pm (part f.1)) (take p.voter_count p.entries)
+      → (y : ID) → (state eq p).is_voter y ≡ true → (value : Option V) → lookup (eq y) p.entries ≡ value → has_part cmp part q value ≡ true
       → has_part cmp part pm value ≡ true
   rises_to q pm a y m None l h = h
-  rises_to q pm a y m (Some v) l h = voter_value laws (λ (u : V). is_le (cmp q (part u)) ≡ true → AtMost cmp pm (part u)) p.walk
+  rises_to q pm a y m (Some v) l h = voter_value laws (λ (u : V). is_le (cmp q (part u)) ≡ true → AtMost cmp pm (part u)) p.entries
       p.voter_count y v m l a h
 
-  none_reached : (q : P) → AllByRecursion (λ f. at_least cmp part q f ≡ false) (take p.voter_count p.walk) → (y : ID)
-      → (state eq p).is_voter y ≡ true → (value : Option V) → lookup (eq y) p.walk ≡ value → has_part cmp part q value ≡ true → ⊥
+  none_reached : (q : P) → AllByRecursion (λ f. at_least cmp part q f ≡ false) (take p.voter_count p.entries) → (y : ID)
+      → (state eq p).is_voter y ≡ true → (value : Option V) → lookup (eq y) p.entries ≡ value → has_part cmp part q value ≡ true → ⊥
   none_reached q a y m None l h = true≢false (sym h)
   none_reached q a y m (Some v) l h = true≢false
-      (sym h ∙ voter_value laws (λ (u : V). is_le (cmp q (part u)) ≡ false) p.walk p.voter_count y v m l a)
+      (sym h ∙ voter_value laws (λ (u : V). is_le (cmp q (part u)) ≡ false) p.entries p.voter_count y v m l a)
 
-  good : AllByRecursion (λ e. (is_member eq (take p.voter_count (keys_of p.walk)) e.0 ≡ true) × (lookup (eq e.0) p.walk ≡ Some e.1))
-      (take p.voter_count p.walk)
-  good = pair_all (λ (e : ID × V). is_member eq (take p.voter_count (keys_of p.walk)) e.0 ≡ true)
-      (λ (e : ID × V). lookup (eq e.0) p.walk ≡ Some e.1) (take p.voter_count p.walk) (members laws p.walk p.voter_count)
-      (recursion_from_All (λ (e : ID × V). lookup (eq e.0) p.walk ≡ Some e.1) (take p.voter_count p.walk)
-      (All-take (λ (e : ID × V). lookup (eq e.0) p.walk ≡ Some e.1) p.voter_count p.walk
-      (found laws o part has_quorum p.quorum_set p.walk p.voter_count p.default_part r.distinct)))
+  good : AllByRecursion (λ e. (is_member eq (take p.voter_count (keys_of p.entries)) e.0 ≡ true) × (lookup (eq e.0) p.entries ≡ Some e.1))
+      (take p.voter_count p.entries)
+  good = pair_all (λ (e : ID × V). is_member eq (take p.voter_count (keys_of p.entries)) e.0 ≡ true)
+      (λ (e : ID × V). lookup (eq e.0) p.entries ≡ Some e.1) (take p.voter_count p.entries) (members laws p.entries p.voter_count)
+      (recursion_from_All (λ (e : ID × V). lookup (eq e.0) p.entries ≡ Some e.1) (take p.voter_count p.entries)
+      (All-take (λ (e : ID × V). lookup (eq e.0) p.entries ≡ Some e.1) p.voter_count p.entries
+      (found laws o part has_quorum p.quorum_set p.entries p.voter_count p.default_part r.distinct)))
 
   pub below_reached : (q : P) → AtMost cmp q p.default_part ⊎ QuorumReached cmp part has_quorum (state eq p) q → AtMost cmp q p.granted
   below_reached q (inl d) = AtMost-trans o q p.default_part p.granted d r.counted.default_at_most
   below_reached q (inr k) =
       let voter : (state eq p).is_voter k.voter ≡ true = first_so _ _ k.has_reached in
-      elim (least_reached o part (λ (e : ID × V). (is_member eq (take p.voter_count (keys_of p.walk)) e.0 ≡ true)
-      × (lookup (eq e.0) p.walk ≡ Some e.1)) q (take p.voter_count p.walk) good) as (λ _. AtMost cmp q p.granted) [
+      elim (least_reached o part (λ (e : ID × V). (is_member eq (take p.voter_count (keys_of p.entries)) e.0 ≡ true)
+      × (lookup (eq e.0) p.entries ≡ Some e.1)) q (take p.voter_count p.entries) good) as (λ _. AtMost cmp q p.granted) [
         | inl none ↦ absurd (none_reached q none k.voter voter ((state eq p).value k.voter) refl
             (second_so ((state eq p).is_voter k.voter) _ k.has_reached))
         | inr m ↦ AtMost-trans o q (part m.entry.1) p.granted m.passes (r.counted.others_at_most m.entry.0 m.entry.1 record {

@@ -1,8 +1,8 @@
 pub mod EntriesLemmas
 pub mod FallingLemmas
-pub mod FrontLemmas
-pub mod LearnersPlaceLemmas
+pub mod PrefixLemmas
+pub mod LearnersPositionLemmas
 pub mod MovedLemmas
 pub mod RisingLemmas
-pub mod ShortFrontLemmas
+pub mod ShortPrefixLemmas
 pub mod VoterLemmas

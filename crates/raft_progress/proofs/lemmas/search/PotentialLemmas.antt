@@ -48,7 +48,7 @@ use Rattle.raft_base.specs.LogId.{id_lt, index_of, next_index}
 use Rattle.raft_base.specs.LogView.{LogView, prev_id}
 use Rattle.raft_base.specs.declared.log_id.LogIdOf.{LogIdOf}
 use Rattle.raft_progress.specs.entry.EntryTable.{entry_after_conflict, with_search_end}
-use Rattle.raft_progress.specs.entry.Send.{calc_mid, can_be_sent, end_of, send_table, idle_send_table, start_of}
+use Rattle.raft_progress.specs.entry.Send.{calc_mid, can_send, end_of, send_table, idle_send_table, start_of}
 use Rattle.raft_progress.specs.inflight.Inflight.{is_idle, logs_from}
 use Rattle.raft_progress.specs.inflight.InflightTable.{inflight_after_conflict}
 use Rattle.raft_progress.specs.search.Search.{Search, after_event, after_events, after_response, after_send, new_search, one_if_accepted}
@@ -68,7 +68,7 @@ idle_is (Snapshot id last) h = cc
 -- the purge point that was sent over last never goes back
 module _ {L C : Type 0} (cmp : C → C → Ordering) (log_view : L → LogView C) where
   purged_step : (s : Search C) (event : SearchEvent L) → s.purged ≤ (after_event cmp log_view s event).purged
-  purged_step s (Send log n) = by (can_be_sent s.entry (log_view log.now)) (nat_le s.purged (next_index (log_view log.now).purge_upto))
+  purged_step s (Send log n) = by (can_send s.entry (log_view log.now)) (nat_le s.purged (next_index (log_view log.now).purge_upto))
       (λ t. grind (arith, nat_tests))
     where
       by : (t u : Bool) → (u ≡ true → s.purged ≤ next_index (log_view log.now).purge_upto)
@@ -376,7 +376,7 @@ module _ (Fits : ℕ → ℕ → Type 0)
       step_keeps : (s : Search C) (event : SearchEvent L) → (after_event cmp log_view s event).purged ≤ last → Sound event → Keeps-search s
           → Keeps-search (after_event cmp log_view s event)
       step_keeps s (Send log n) within sound w =
-          sent_step s (log_view log.now) n (can_be_sent s.entry (log_view log.now))
+          sent_step s (log_view log.now) n (can_send s.entry (log_view log.now))
           (nat_le s.purged (next_index (log_view log.now).purge_upto)) (λ t. grind (arith, nat_tests)) within sound w
       step_keeps s (Conflict id index) within sound w = conflict_keeps total m s.purged s.accepted s.entry id index w
       step_keeps s (Heartbeat index) within sound w = heartbeat_keeps total m s.purged s.accepted s.entry index w

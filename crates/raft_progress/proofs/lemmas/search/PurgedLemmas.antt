@@ -4,7 +4,7 @@ use Rattle.std.proofs.Common.{Bool, true, false, ◌&&◌, nat_le, if◌then◌e
 use Rattle.std.specs.declared.cmp.Ordering.{Ordering}
 use Rattle.raft_base.specs.LogId.{next_index}
 use Rattle.raft_base.specs.LogView.{LogView}
-use Rattle.raft_progress.specs.entry.Send.{can_be_sent, send_table}
+use Rattle.raft_progress.specs.entry.Send.{can_send, send_table}
 use Rattle.raft_progress.specs.search.Purged.{IsPurgedWithin}
 use Rattle.raft_progress.specs.search.Search.{NonePurgedPast, Search, after_event, after_events, after_send}
 use Rattle.raft_progress.specs.declared.search.SearchEvent.{SearchEvent}
@@ -27,6 +27,6 @@ module _ {L C : Type 0} (cmp : C → C → Ordering) (log_view : L → LogView C
         accepted = search.accepted;
       } in
       none_purged_past (after_event cmp log_view search (Send log n)) es
-      (either_within (can_be_sent search.entry view && nat_le search.purged (next_index view.purge_upto)) search next l all.0) all.1
+      (either_within (can_send search.entry view && nat_le search.purged (next_index view.purge_upto)) search next l all.0) all.1
   none_purged_past search (Conflict id i ∷ es) l all = none_purged_past (after_event cmp log_view search (Conflict id i)) es l all.1
   none_purged_past search (Heartbeat i ∷ es) l all = none_purged_past (after_event cmp log_view search (Heartbeat i)) es l all.1

@@ -33,7 +33,7 @@ use Rattle.std.specs.declared.cmp.Ordering.{Ordering}
 use Rattle.raft_base.specs.LogId.{next_index}
 use Rattle.raft_base.specs.LogView.{LogView, prev_id}
 use Rattle.raft_progress.specs.entry.EntryTable.{with_search_end}
-use Rattle.raft_progress.specs.entry.Send.{can_be_sent, end_of, send_table, start_of}
+use Rattle.raft_progress.specs.entry.Send.{can_send, end_of, send_table, start_of}
 use Rattle.raft_progress.specs.inflight.Inflight.{is_idle, logs_from}
 use Rattle.raft_progress.specs.inflight.InflightTable.{inflight_after_conflict}
 use Rattle.raft_progress.specs.search.Search.{Search, after_event, after_events, after_response, after_send}
@@ -101,7 +101,7 @@ module _ {C : Type 0} where
 
 module _ {L C : Type 0} (cmp : C → C → Ordering) (log_view : L → LogView C) where
   event_keeps : (s : Search C) (event : SearchEvent L) → Keeps s.entry (after_event cmp log_view s event).entry
-  event_keeps s (Send log n) = by (can_be_sent s.entry (log_view log.now) && nat_le s.purged (next_index (log_view log.now).purge_upto))
+  event_keeps s (Send log n) = by (can_send s.entry (log_view log.now) && nat_le s.purged (next_index (log_view log.now).purge_upto))
     where
       by : (t : Bool) → Keeps s.entry (if t then record {
         entry = after_send (send_table cmp s.entry (log_view log.now) n);

@@ -100,9 +100,9 @@ module _ {L C : Type 0} (cmp : C → C → Ordering) (log_view : L → LogView C
 pub next_event : {L C : Type 0} (cmp : C → C → Ordering) (log_view : L → LogView C) (s t : Search C) (events : List (SearchEvent L)) (i : ℕ)
     (x : SearchEvent L) → i < length events → x ≡ get_or events i x → after_event cmp log_view s x ≡ t
     → after_events cmp log_view t (drop (i + 1) events) ≡ after_events cmp log_view s (drop i events)
-next_event cmp log_view s t events i x lt place st =
+next_event cmp log_view s t events i x lt position st =
     let here = drop-cons events i x lt in
-    rw (add-one, here, ← place, ← st) refl
+    rw (add-one, here, ← position, ← st) refl
 
 -- after the last event the count is the one of the whole run
 pub accepted_at_end : {L C : Type 0} (cmp : C → C → Ordering) (log_view : L → LogView C) (s t : Search C) (events : List (SearchEvent L))

@@ -9,9 +9,9 @@ use Rattle.raft_members.specs.quorum.Coherence.{is_coherent}
 use Rattle.raft_members.specs.quorum.Majority.{is_joint_majority}
 use Rattle.raft_members.proofs.CallerLemmas.{quorum_reaches}
 use Rattle.raft_progress.specs.progress.CountedValue.{AtMost, IsReached, has_part, reached}
-use Rattle.raft_progress.specs.progress.Shown.{state}
+use Rattle.raft_progress.specs.progress.ProgressView.{state}
 use Rattle.raft_progress.specs.tracked.Elected.{ElectedLacksNothing, GrantedMeet}
-use Rattle.raft_progress.specs.tracked.TrackedState.{IsReady, TrackedShown, has_quorum}
+use Rattle.raft_progress.specs.tracked.TrackedState.{IsReady, TrackedView, has_quorum}
 use Rattle.raft_progress.proofs.lemmas.tracked.HeadlineLemmas.{by_configs, is_granted, larger}
 use Rattle.raft_progress.proofs.lemmas.OrderLemmas.{AtMost-from_not_lt, AtMost-trans}
 use Rattle.raft_progress.proofs.lemmas.ListLemmas.{both}
@@ -26,7 +26,7 @@ some_config eq [] ds h = absurd (true≢false (sym h ∙ no_configs eq ds))
 some_config eq (c ∷ cs) ds h = omega arith
 
 module _ {K N V P : Type 0} {eq : K → K → Bool} (laws : IsEquivalence eq) {id_cmp : K → K → Ordering} {cmp : P → P → Ordering}
-    (o : IsTotalOrder cmp) (part : V → P) (t : TrackedShown K N V P) (r : IsReady eq id_cmp cmp part t) where
+    (o : IsTotalOrder cmp) (part : V → P) (t : TrackedView K N V P) (r : IsReady eq id_cmp cmp part t) where
   abbrev votes : K → Bool
   votes id = (state eq t.progress).is_voter id && has_part cmp part t.progress.granted ((state eq t.progress).value id)
 

@@ -17,8 +17,8 @@ use Rattle.raft_members.specs.declared.change_members.ChangeMembers.{ChangeMembe
 use Rattle.raft_members.proofs.CallerLemmas.{change_keeps_reached}
 use Rattle.raft_progress.specs.progress.CountedValue.{AtMost, has_part, reached}
 use Rattle.raft_progress.specs.progress.InOrder.{IsInOrder}
-use Rattle.raft_progress.specs.progress.Shown.{Shown, state}
-use Rattle.raft_progress.specs.tracked.TrackedState.{IsReady, TrackedShown, has_quorum}
+use Rattle.raft_progress.specs.progress.ProgressView.{ProgressView, state}
+use Rattle.raft_progress.specs.tracked.TrackedState.{IsReady, TrackedView, has_quorum}
 use Rattle.raft_progress.proofs.lemmas.OrderLemmas.{AtMost-from_not_lt, AtMost-trans}
 use Rattle.raft_progress.proofs.lemmas.progress.UpdateLemmas.{lookup_alike}
 use Rattle.raft_progress.proofs.lemmas.ListLemmas.{both}
@@ -26,9 +26,9 @@ use Rattle.raft_members.proofs.CallerLemmas.{is_member-alike}
 use Rattle.std.proofs.lemmas.List.Folds.{list_all-map}
 
 -- a member of the first keys has a value
-has_value : {K V : Type 0} (eq : K → K → Bool) (n : ℕ) (walk : List (K × V)) (x : K) → is_member eq (take n (keys_of walk)) x ≡ true
-    → (v : V) × (lookup (eq x) walk ≡ Some v)
-has_value eq zero walk x h = absurd (true≢false (sym h))
+has_value : {K V : Type 0} (eq : K → K → Bool) (n : ℕ) (entries : List (K × V)) (x : K) → is_member eq (take n (keys_of entries)) x ≡ true
+    → (v : V) × (lookup (eq x) entries ≡ Some v)
+has_value eq zero entries x h = absurd (true≢false (sym h))
 has_value eq (suc n) [] x h = absurd (true≢false (sym h))
 has_value {K} {V} eq (suc n) (e ∷ es) x h = by (eq x e.0) h (has_value eq n es x)
   where
@@ -39,15 +39,15 @@ has_value {K} {V} eq (suc n) (e ∷ es) x h = by (eq x e.0) h (has_value eq n es
     by false m r = r m
 
 module _ {K V P QS : Type 0} {eq : K → K → Bool} (laws : IsEquivalence eq) {cmp : P → P → Ordering} (o : IsTotalOrder cmp) (part : V → P)
-    (has_quorum : QS → (K → Bool) → Bool) (p : Shown K V P QS)
+    (has_quorum : QS → (K → Bool) → Bool) (p : ProgressView K V P QS)
     (superset : (s t : K → Bool) → ((x : K) → s x ≡ true → t x ≡ true) → has_quorum p.quorum_set s ≡ true
     → has_quorum p.quorum_set t ≡ true) (r : IsInOrder eq cmp part has_quorum p) where
   abbrev knows : K → Bool
   knows id = has_part cmp part p.granted ((state eq p).value id)
 
   pub knows_alike : RespectsEquality eq (λ id. (state eq p).is_voter id && knows id)
-  knows_alike x y e = λ i. is_member-alike laws x y e (take p.voter_count (keys_of p.walk)) i
-      && has_part cmp part p.granted (lookup_alike laws x y e p.walk i)
+  knows_alike x y e = λ i. is_member-alike laws x y e (take p.voter_count (keys_of p.entries)) i
+      && has_part cmp part p.granted (lookup_alike laws x y e p.entries i)
 
   back : (a b : P) → cmp a b ≡ Equal → AtMost cmp b a
   back a b e = AtMost-from_not_lt o a b (ap is_lt e)
@@ -70,12 +70,12 @@ module _ {K V P QS : Type 0} {eq : K → K → Bool} (laws : IsEquivalence eq) {
     where
       all : cmp p.default_part p.granted ≡ Equal → (id : K) → (state eq p).is_voter id ≡ true → knows id ≡ true
       all e id v =
-          let at = has_value eq p.voter_count p.walk id v in
+          let at = has_value eq p.voter_count p.entries id v in
           ap (has_part cmp part p.granted) at.1
           ∙ AtMost-trans o p.granted p.default_part (part at.0) (back p.default_part p.granted e) (r.not_below id at.0 v at.1)
 
 module _ {K N V P : Type 0} {eq : K → K → Bool} (laws : IsEquivalence eq) {id_cmp : K → K → Ordering} {cmp : P → P → Ordering}
-    (o : IsTotalOrder cmp) (part : V → P) (t : TrackedShown K N V P) (r : IsReady eq id_cmp cmp part t) where
+    (o : IsTotalOrder cmp) (part : V → P) (t : TrackedView K N V P) (r : IsReady eq id_cmp cmp part t) where
   abbrev pub voter : K → Bool
   voter = (state eq t.progress).is_voter
 
@@ -108,7 +108,7 @@ module _ {K N V P : Type 0} {eq : K → K → Bool} (laws : IsEquivalence eq) {i
 
 -- the membership half of what is granted: each quorum of the membership, and of what one change makes of it, knows of it
 pub each_quorum_knows : {K N V P : Type 0} {eq : K → K → Bool} (laws : IsEquivalence eq) (id_cmp : K → K → Ordering)
-    {cmp : P → P → Ordering} (o : IsTotalOrder cmp) (part : V → P) (t : TrackedShown K N V P) → IsReady eq id_cmp cmp part t
+    {cmp : P → P → Ordering} (o : IsTotalOrder cmp) (part : V → P) (t : TrackedView K N V P) → IsReady eq id_cmp cmp part t
     → 0 < length t.membership.configs
     → EachQuorumKnows eq t.membership.configs (state eq t.progress).is_voter
     (λ id. has_part cmp part t.progress.granted ((state eq t.progress).value id))

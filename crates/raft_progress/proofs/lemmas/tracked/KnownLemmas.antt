@@ -31,7 +31,7 @@ use Rattle.std.proofs.lemmas.List.Sums.{sum_by-cons}
 use Rattle.raft_members.specs.quorum.Majority.{is_joint_majority, is_majority, is_voter_of}
 use Rattle.raft_members.proofs.lemmas.quorum.MajorityLemmas.{is_member-unique_keys}
 use Rattle.raft_progress.specs.progress.CountedValue.{has_part}
-use Rattle.raft_progress.specs.progress.Shown.{state}
+use Rattle.raft_progress.specs.progress.ProgressView.{state}
 use Rattle.raft_progress.specs.progress.Upgrade.{Inherits}
 use Rattle.raft_progress.specs.tracked.Known.{ChangeKeepsGranted}
 use Rattle.raft_progress.proofs.lemmas.tracked.HeadlineLemmas.{each_quorum_knows}

@@ -32,11 +32,11 @@ use Rattle.raft_progress.specs.progress.Answered.{IsAnswered, is_refused}
 use Rattle.raft_progress.specs.progress.Comparisons.{Comparisons}
 use Rattle.raft_progress.specs.progress.CountedValue.{AtMost, IsCounted, has_part}
 use Rattle.raft_progress.specs.progress.ProgressState.{IsSame, ProgressState, Writes}
-use Rattle.raft_progress.specs.progress.Shown.{state}
+use Rattle.raft_progress.specs.progress.ProgressView.{state}
 use Rattle.raft_progress.specs.progress.Steps.{IsIncreased, IsWritten, stays}
 use Rattle.raft_progress.specs.tracked.Known.{GrantedAtChanges, KnownOverChanges, KnownStays, QuorumsKnow, granted_after}
-use Rattle.raft_progress.specs.tracked.TrackedShownSteps.{IsTrackedDone, IsTrackedShownRun, IsTrackedShownStep, is_change}
-use Rattle.raft_progress.specs.tracked.TrackedState.{Configs, IsReady, TrackedShown, has_quorum}
+use Rattle.raft_progress.specs.tracked.TrackedViewSteps.{IsTrackedDone, IsTrackedViewRun, IsTrackedViewStep, is_change}
+use Rattle.raft_progress.specs.tracked.TrackedState.{Configs, IsReady, TrackedView, has_quorum}
 use Rattle.raft_progress.specs.declared.progress.steps.Reply.{Reply}
 use Rattle.raft_progress.specs.declared.progress.steps.Reply.TheVariants.{
   Granted,
@@ -108,14 +108,14 @@ module _ {K V P : Type 0} {eq : K → K → Bool} {cmp : P → P → Ordering} (
       by false w = rises_step hq old new alike id value reply w
 
 module _ {K N V P : Type 0} (by : Comparisons K V P) (laws : IsEquivalence by.eq) (o : IsTotalOrder by.cmp) (same : N → N → Bool) where
-  abbrev Knows : TrackedShown K N V P → P → Type 0
+  abbrev Knows : TrackedView K N V P → P → Type 0
   Knows t p = QuorumsKnow by.eq by.cmp by.part t p
 
   -- the membership is the same, and each of its quorums knows what it knew
-  abbrev Stays : TrackedShown K N V P → TrackedShown K N V P → Type 0
+  abbrev Stays : TrackedView K N V P → TrackedView K N V P → Type 0
   Stays old new = (new.membership ≡ old.membership) × ((p : P) → Knows old p → Knows new p)
 
-  carried : (old new : TrackedShown K N V P) → new.membership ≡ old.membership
+  carried : (old new : TrackedView K N V P) → new.membership ≡ old.membership
       → Rises by.cmp by.part (state by.eq old.progress) (state by.eq new.progress) → Stays old new
   carried old new members r = (
     members,
@@ -124,18 +124,18 @@ module _ {K N V P : Type 0} (by : Comparisons K V P) (laws : IsEquivalence by.eq
         (k.0, k.1, r.voters k.0 ∙ k.2, r.parts k.0 p k.3),
   )
 
-  step_stays : (old new : TrackedShown K N V P) (step : Step K N V) (reply : Reply K P) → is_change step ≡ false
-      → IsTrackedShownStep by same old step reply new → Stays old new
+  step_stays : (old new : TrackedView K N V P) (step : Step K N V) (reply : Reply K P) → is_change step ≡ false
+      → IsTrackedViewStep by same old step reply new → Stays old new
   step_stays old new (Update id value) reply n s =
       carried old new s.values.0 (rises_step o by.part (has_quorum by.eq) (state by.eq old.progress) (state by.eq new.progress)
-      (λ x y e. lookup_alike laws x y e old.progress.walk) id value reply s.values.1)
+      (λ x y e. lookup_alike laws x y e old.progress.entries) id value reply s.values.1)
   step_stays old new (IncreaseTo id value) reply n s =
       carried old new s.values.0 (rises_increase o by.part by.partial_cmp (has_quorum by.eq) (state by.eq old.progress)
-      (state by.eq new.progress) (λ x y e. lookup_alike laws x y e old.progress.walk) id value reply s.values.1)
+      (state by.eq new.progress) (λ x y e. lookup_alike laws x y e old.progress.entries) id value reply s.values.1)
   step_stays old new (Change change retain default) reply n s = absurd (true≢false n)
 
   pub known_stays : KnownStays K N V P by same
-  known_stays old new [] [] n run = (ap (λ t. t.membership) run, λ p known. subst (λ (t : TrackedShown K N V P). Knows t p) (sym run) known)
+  known_stays old new [] [] n run = (ap (λ t. t.membership) run, λ p known. subst (λ (t : TrackedView K N V P). Knows t p) (sym run) known)
   known_stays old new (x ∷ xs) (r ∷ rs) n (middle, here, rest) =
       let first = step_stays old middle x r (left_false _ _ n) here in
       let later = known_stays middle new xs rs (right_false _ _ n) rest in
@@ -144,7 +144,7 @@ module _ {K N V P : Type 0} (by : Comparisons K V P) (laws : IsEquivalence by.eq
   known_stays old new (x ∷ xs) [] n run = absurd run
 
   -- the membership has a config, and each of its quorums knows of p
-  abbrev IsKnown : TrackedShown K N V P → P → Type 0
+  abbrev IsKnown : TrackedView K N V P → P → Type 0
   IsKnown t p = (0 < length t.membership.configs) × Knows t p
 
   has_other : (cs ds : List (List K)) → is_coherent by.eq cs ds ≡ true → 0 < length ds
@@ -156,14 +156,14 @@ module _ {K N V P : Type 0} (by : Comparisons K V P) (laws : IsEquivalence by.eq
   less a b up None h = h
   less a b up (Some v) h = AtMost-trans o a b (by.part v) up h
 
-  kept : (old new : TrackedShown K N V P) (p : P) → new ≡ old → IsKnown old p → IsKnown new p
-  kept old new p is known = subst (λ (t : TrackedShown K N V P). IsKnown t p) (sym is) known
+  kept : (old new : TrackedView K N V P) (p : P) → new ≡ old → IsKnown old p → IsKnown new p
+  kept old new p is known = subst (λ (t : TrackedView K N V P). IsKnown t p) (sym is) known
 
   -- what is granted is known after a change, made or not
-  changed_known : ((v w : V) → by.IsClone v w → by.part w ≡ by.part v) → (old new : TrackedShown K N V P) (p : P)
+  changed_known : ((v w : V) → by.IsClone v w → by.part w ≡ by.part v) → (old new : TrackedView K N V P) (p : P)
       → IsReady by.eq by.id_cmp by.cmp by.part old → IsKnown old p
       → (change : ChangeMembers K N) (retain : Bool) (default : V) (reply : Reply K P)
-      → IsTrackedShownStep by same old (Change change retain default) reply new
+      → IsTrackedViewStep by same old (Change change retain default) reply new
       → (is_refused reply ≡ false → AtMost by.cmp p old.progress.granted) → IsKnown new p
   changed_known clones old new p was known change retain default (Granted g) s at = (
     has_other old.membership.configs new.membership.configs
@@ -182,7 +182,7 @@ module _ {K N V P : Type 0} (by : Comparisons K V P) (laws : IsEquivalence by.eq
   changed_known clones old new p was known change retain default OutOfMemory s at = kept old new p (s.answered.refused refl) known
 
   -- a reply contains what is granted after it
-  told : (step : Step K N V) (old new : TrackedShown K N V P) (reply : Reply K P)
+  told : (step : Step K N V) (old new : TrackedView K N V P) (reply : Reply K P)
       → IsAnswered (λ t. t.progress.granted) (IsTrackedDone by old step) old reply new
       → granted_after old.progress.granted reply ≡ new.progress.granted
   told step old new (Granted p) a = a.tells
@@ -193,9 +193,9 @@ module _ {K N V P : Type 0} (by : Comparisons K V P) (laws : IsEquivalence by.eq
   told step old new BadLearners a = ap (λ t. t.progress.granted) (sym (a.refused refl))
   told step old new OutOfMemory a = ap (λ t. t.progress.granted) (sym (a.refused refl))
 
-  step_known : ((v w : V) → by.IsClone v w → by.part w ≡ by.part v) → (old new : TrackedShown K N V P) (p : P)
+  step_known : ((v w : V) → by.IsClone v w → by.part w ≡ by.part v) → (old new : TrackedView K N V P) (p : P)
       → IsReady by.eq by.id_cmp by.cmp by.part old → IsKnown old p → (step : Step K N V) (reply : Reply K P)
-      → IsTrackedShownStep by same old step reply new
+      → IsTrackedViewStep by same old step reply new
       → ((is_change step && not (is_refused reply)) ≡ true → AtMost by.cmp p old.progress.granted) → IsKnown new p
   step_known clones old new p was known (Change change retain default) reply s at =
       changed_known clones old new p was known change retain default reply s (λ r. at (ap not r))
@@ -207,8 +207,8 @@ module _ {K N V P : Type 0} (by : Comparisons K V P) (laws : IsEquivalence by.eq
       (subst (λ (m : MemberList K N). 0 < length m.configs) (sym k.0) known.0, k.1 p known.1)
 
   runs_known : ((v w : V) → by.IsClone v w → by.part w ≡ by.part v)
-      → (old new : TrackedShown K N V P) (steps : List (Step K N V)) (replies : List (Reply K P)) (p : P)
-      → IsReady by.eq by.id_cmp by.cmp by.part old → IsTrackedShownRun by same old steps replies new
+      → (old new : TrackedView K N V P) (steps : List (Step K N V)) (replies : List (Reply K P)) (p : P)
+      → IsReady by.eq by.id_cmp by.cmp by.part old → IsTrackedViewRun by same old steps replies new
       → GrantedAtChanges by.cmp p old.progress.granted steps replies → IsKnown old p → IsKnown new p
   runs_known clones old new [] [] p was run at known = kept old new p run known
   runs_known clones old new (x ∷ xs) (r ∷ rs) p was (middle, here, rest) at known =

@@ -6,8 +6,8 @@ use Rattle.raft_members.specs.membership.Learners.{learners_of}
 use Rattle.raft_members.specs.quorum.Majority.{is_voter_of}
 use Rattle.raft_members.specs.membership.Members.{MemberList, members_of}
 use Rattle.raft_progress.specs.progress.InOrder.{IsInOrder}
-use Rattle.raft_progress.specs.progress.NewProgress.{IsFirstWalk, IsNew}
-use Rattle.raft_progress.specs.progress.Shown.{Shown, state}
+use Rattle.raft_progress.specs.progress.NewProgress.{AreFirstEntries, IsNew}
+use Rattle.raft_progress.specs.progress.ProgressView.{ProgressView, state}
 use Rattle.raft_progress.specs.progress.Statistics.{no_counts}
 use Rattle.raft_progress.specs.progress.Upgrade.{IsUpgraded}
 use Rattle.raft_progress.specs.progress.UpgradeFold.{IsUpgradeFold}
@@ -17,27 +17,27 @@ use Rattle.raft_progress.specs.tracked.TrackedState.{AreLearners, Configs, HasCo
 use Rattle.raft_progress.proofs.lemmas.tracked.TrackedLemmas.{ready_upgraded}
 
 module _ {K N V P X E : Type 0} (eq : K → K → Bool) (id_cmp : K → K → Ordering) (cmp : P → P → Ordering) (part : V → P)
-    (IsClone : V → V → Type 0) (seen : X → Shown K V P (Configs K)) (m : MemberList K N) (configs : Configs K)
+    (IsClone : V → V → Type 0) (seen : X → ProgressView K V P (Configs K)) (m : MemberList K N) (configs : Configs K)
     (has_configs : HasConfigs (members_of id_cmp m) configs) (learners : List K) (same : learners ≡ learners_of eq m) (default : V) where
   -- a new progress begins over the membership
   pub begins_over : (made : Result X E) → IfOk made
       (λ p. IsNew eq IsClone part (is_voter eq configs) configs learners default (state eq (seen p)))
-      → IfOk made (λ p. IsFirstWalk id_cmp learners (seen p)) → IfOk made (λ p. (seen p).granted ≡ part default)
+      → IfOk made (λ p. AreFirstEntries id_cmp learners (seen p)) → IfOk made (λ p. (seen p).granted ≡ part default)
       → IfOk made (λ p. (seen p).stat ≡ no_counts)
       → IfOk made (λ p. BeginsOver eq id_cmp cmp part IsClone default (over m (seen p)))
-  begins_over (Ok p) values walk granted counts = record {
+  begins_over (Ok p) values entries granted counts = record {
     configs = configs;
     has_configs = has_configs;
     begins = record {
       values = subst (λ (ls : List K). IsNew eq IsClone part (is_voter eq configs) configs ls default (state eq (seen p))) same values;
-      walk = subst (λ (ls : List K). IsFirstWalk id_cmp ls (seen p)) same walk;
+      entries = subst (λ (ls : List K). AreFirstEntries id_cmp ls (seen p)) same entries;
       granted = granted;
       counts = counts;
     };
   }
-  begins_over (Err e) values walk granted counts = tt
+  begins_over (Err e) values entries granted counts = tt
 
-  module _ (old : Shown K V P (Configs K)) where
+  module _ (old : ProgressView K V P (Configs K)) where
     -- an upgraded one has its own quorum set, and the membership's learners
     pub upgraded_over : (made : Result X E)
         → IfOk made (λ p. IsUpgraded eq IsClone part (is_voter eq configs) configs learners default (state eq old).value

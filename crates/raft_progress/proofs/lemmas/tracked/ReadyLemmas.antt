@@ -13,10 +13,10 @@ use Rattle.raft_progress.specs.progress.CountedValue.{IsCounted}
 use Rattle.raft_progress.specs.progress.InOrder.{IsInOrder}
 use Rattle.raft_progress.specs.Inner.Recount.{IsGreatest, at_least, reaches}
 use Rattle.raft_progress.specs.Inner.Conditions.{ids_differ, never_rises}
-use Rattle.raft_progress.specs.progress.Shown.{Shown, state}
+use Rattle.raft_progress.specs.progress.ProgressView.{ProgressView, state}
 use Rattle.raft_progress.specs.progress.Answered.{IsAnswered}
 use Rattle.raft_progress.specs.progress.Steps.{IsIncreased, IsWritten}
-use Rattle.raft_progress.specs.tracked.TrackedState.{Configs, IsReady, TrackedShown, has_quorum}
+use Rattle.raft_progress.specs.tracked.TrackedState.{Configs, IsReady, TrackedView, has_quorum}
 use Rattle.raft_progress.specs.declared.progress.steps.Reply.{Reply}
 use Rattle.raft_progress.proofs.lemmas.progress.recount.CountedAfreshLemmas.{IsCounted-from_greatest}
 use Rattle.raft_progress.proofs.lemmas.progress.InOrderLemmas.{
@@ -69,14 +69,14 @@ module _ {ID V P : Type 0} (eq : ID → ID → Bool) {cmp : P → P → Ordering
       )
 
 module _ {ID V P QS : Type 0} {eq : ID → ID → Bool} (laws : IsEquivalence eq) {cmp : P → P → Ordering} (o : IsTotalOrder cmp) (part : V → P)
-    (has_quorum : QS → (ID → Bool) → Bool) (p : Shown ID V P QS) where
+    (has_quorum : QS → (ID → Bool) → Bool) (p : ProgressView ID V P QS) where
   -- some value is counted
-  some_counted : IsDistinct eq (keys_of p.walk) → (g : P) × IsCounted cmp part has_quorum (state eq p) g
+  some_counted : IsDistinct eq (keys_of p.entries) → (g : P) × IsCounted cmp part has_quorum (state eq p) g
   some_counted d =
-      let voters = take p.voter_count p.walk in
+      let voters = take p.voter_count p.entries in
       let r = greatest eq o part (has_quorum p.quorum_set) voters p.default_part (length voters) (omega arith) in (
         r.0,
-        IsCounted-from_greatest laws o part has_quorum p.quorum_set p.walk p.voter_count p.default_part d r.0
+        IsCounted-from_greatest laws o part has_quorum p.quorum_set p.entries p.voter_count p.default_part d r.0
             (subst (λ (vs : List (ID × V)). IsGreatest eq cmp part (has_quorum p.quorum_set) voters vs p.default_part r.0)
             (take_all (length voters) voters (omega arith)) r.1),
       )
@@ -84,13 +84,14 @@ module _ {ID V P QS : Type 0} {eq : ID → ID → Bool} (laws : IsEquivalence eq
   -- in order by some proof is in order
   pub in_order_of : ∥ IsInOrder eq cmp part has_quorum p ∥₁ → IsInOrder eq cmp part has_quorum p
   in_order_of h =
-      let voters = take p.voter_count p.walk in
-      let differ : ids_differ eq p.walk ≡ true = ∥∥₁_elim h (Coded-set coded_bool _ _) (λ r. test_from_distinct laws p.walk r.distinct) in
+      let voters = take p.voter_count p.entries in
+      let differ : ids_differ eq p.entries ≡ true = ∥∥₁_elim h (Coded-set coded_bool _ _)
+          (λ r. test_from_distinct laws p.entries r.distinct) in
       let falls : never_rises cmp part p.granted voters ≡ true =
       ∥∥₁_elim h (Coded-set coded_bool _ _) (λ r. test_from_falling o part p.granted voters r.falling) in
-      let d = distinct_from_test laws p.walk differ in
+      let d = distinct_from_test laws p.entries differ in
       let lowest : list_all (at_least cmp part p.default_part) voters ≡ true =
-      ∥∥₁_elim h (Coded-set coded_bool _ _) (λ r. test_from_lowest laws o part has_quorum p.quorum_set p.walk p.voter_count
+      ∥∥₁_elim h (Coded-set coded_bool _ _) (λ r. test_from_lowest laws o part has_quorum p.quorum_set p.entries p.voter_count
       p.default_part d r.not_below) in
       let k = some_counted d in
       let tied : is_eq (cmp k.0 p.granted) ≡ true =
@@ -98,13 +99,13 @@ module _ {ID V P QS : Type 0} {eq : ID → ID → Bool} (laws : IsEquivalence eq
       record {
         distinct = d;
         falling = falling_from_test o part p.granted voters falls;
-        not_below = lowest_from_test laws o part has_quorum p.quorum_set p.walk p.voter_count p.default_part d lowest;
+        not_below = lowest_from_test laws o part has_quorum p.quorum_set p.entries p.voter_count p.default_part d lowest;
         counted = counted_tied o part has_quorum (state eq p) k.0 p.granted k.1 (equal_from_test (cmp k.0 p.granted) tied);
       }
 
 -- ready by some proof is ready
 pub ready_of : {K N V P : Type 0} {eq : K → K → Bool} (laws : IsEquivalence eq) (id_cmp : K → K → Ordering) {cmp : P → P → Ordering}
-    (o : IsTotalOrder cmp) (part : V → P) → IsSet (List (List K)) → (t : TrackedShown K N V P) → ∥ IsReady eq id_cmp cmp part t ∥₁
+    (o : IsTotalOrder cmp) (part : V → P) → IsSet (List (List K)) → (t : TrackedView K N V P) → ∥ IsReady eq id_cmp cmp part t ∥₁
     → IsReady eq id_cmp cmp part t
 ready_of {eq = eq} laws id_cmp {cmp} o part lists t h = record {
   ordered = in_order_of laws o part (has_quorum eq) t.progress (∥∥₁_elim h ∥∥₁_prop (λ r. ∣ r.ordered ∣₁));
@@ -116,10 +117,10 @@ ready_of {eq = eq} laws id_cmp {cmp} o part lists t h = record {
 }
 
 -- a step that keeps the membership is one of both
-pub answered_tracked : {K N V P : Type 0} (Done : Shown K V P (Configs K) → Type 0) (old : TrackedShown K N V P) (reply : Reply K P)
-    (new : TrackedShown K N V P) → new.membership ≡ old.membership
-    → IsAnswered (λ (p : Shown K V P (Configs K)). p.granted) Done old.progress reply new.progress
-    → IsAnswered (λ (t : TrackedShown K N V P). t.progress.granted) (λ t. (t.membership ≡ old.membership) × Done t.progress) old reply new
+pub answered_tracked : {K N V P : Type 0} (Done : ProgressView K V P (Configs K) → Type 0) (old : TrackedView K N V P) (reply : Reply K P)
+    (new : TrackedView K N V P) → new.membership ≡ old.membership
+    → IsAnswered (λ (p : ProgressView K V P (Configs K)). p.granted) Done old.progress reply new.progress
+    → IsAnswered (λ (t : TrackedView K N V P). t.progress.granted) (λ t. (t.membership ≡ old.membership) × Done t.progress) old reply new
 answered_tracked Done old reply new kept a = record {
   refused = λ r i. record { membership = kept i; progress = a.refused r i };
   done = λ r. (kept, a.done r);
@@ -127,7 +128,7 @@ answered_tracked Done old reply new kept a = record {
 }
 
 module _ {K N V P : Type 0} {eq : K → K → Bool} (laws : IsEquivalence eq) (id_cmp : K → K → Ordering) {cmp : P → P → Ordering}
-    (o : IsTotalOrder cmp) (part : V → P) (lists : IsSet (List (List K))) (old new : TrackedShown K N V P)
+    (o : IsTotalOrder cmp) (part : V → P) (lists : IsSet (List (List K))) (old new : TrackedView K N V P)
     (kept : new.membership ≡ old.membership) (h : ∥ IsReady eq id_cmp cmp part old ∥₁)
     (r : IsInOrder eq cmp part (has_quorum eq) new.progress) (id : K) (value : V) (reply : Reply K P) where
   -- a write keeps it ready
@@ -137,7 +138,7 @@ module _ {K N V P : Type 0} {eq : K → K → Bool} (laws : IsEquivalence eq) (i
     ordered = r;
     counts_by = counts_written eq id_cmp old.membership new.membership (state eq old.progress) (state eq new.progress) kept
         (ready_of laws id_cmp o part lists old h).counts_by cmp part (has_quorum eq) id value reply
-        (λ x y e. lookup_alike laws x y e old.progress.walk) w;
+        (λ x y e. lookup_alike laws x y e old.progress.entries) w;
   }
 
   -- and so does an increase
@@ -148,5 +149,5 @@ module _ {K N V P : Type 0} {eq : K → K → Bool} (laws : IsEquivalence eq) (i
     ordered = r;
     counts_by = counts_increased eq id_cmp old.membership new.membership (state eq old.progress) (state eq new.progress) kept
         (ready_of laws id_cmp o part lists old h).counts_by cmp partial_cmp part (has_quorum eq) id value reply
-        (λ x y e. lookup_alike laws x y e old.progress.walk) w;
+        (λ x y e. lookup_alike laws x y e old.progress.entries) w;
   }

@@ -10,8 +10,8 @@ use Rattle.std.proofs.Common.{ap, refl, suc, sym, zero, ◌∙◌, true≢false}
 use Rattle.raft_members.specs.quorum.Majority.{is_majority, is_voter_of}
 use Rattle.raft_members.specs.membership.Members.{node_at, same_members, same_nodes}
 use Rattle.raft_progress.specs.progress.Equal.{IsCloned}
-use Rattle.raft_progress.specs.progress.Shown.{Shown}
-use Rattle.raft_progress.specs.tracked.TrackedState.{Configs, HasSameConfigs, IsReady, TrackedShown, has_quorum}
+use Rattle.raft_progress.specs.progress.ProgressView.{ProgressView}
+use Rattle.raft_progress.specs.tracked.TrackedState.{Configs, HasSameConfigs, IsReady, TrackedView, has_quorum}
 use Rattle.raft_progress.proofs.lemmas.progress.KeptLemmas.{order_alike, voters_alike}
 use Rattle.raft_progress.proofs.lemmas.progress.CloneLemmas.{same_ids, same_parts}
 use Rattle.std.proofs.lemmas.List.Folds.{list_all-map}
@@ -52,11 +52,11 @@ nodes_there {K} {N} {eq} laws id_cmp ties same (x ∷ xs) (y ∷ ys) h id =
     by false r = r
 
 -- a clone over a quorum set of the same configs
-pub same_configs : {K V P : Type 0} (old new : Shown K V P (Configs K)) (configs : Configs K) (IsClone : V → V → Type 0)
+pub same_configs : {K V P : Type 0} (old new : ProgressView K V P (Configs K)) (configs : Configs K) (IsClone : V → V → Type 0)
     → IsCloned IsClone (λ a b. b ≡ configs) old new → HasSameConfigs old.quorum_set configs → IsCloned IsClone HasSameConfigs old new
 same_configs {K} old new configs IsClone c same = record {
   quorum_set = ap (λ (q : Configs K). map (λ x. x.items) q.items) c.quorum_set ∙ same;
-  walk = c.walk;
+  entries = c.entries;
   voter_count = c.voter_count;
   default_part = c.default_part;
   granted = c.granted;
@@ -66,12 +66,12 @@ same_configs {K} old new configs IsClone c same = record {
 -- and it is ready
 pub ready_cloned : {K N V P : Type 0} {eq : K → K → Bool} (laws : IsEquivalence eq) (id_cmp : K → K → Ordering)
     → ((x y : K) → eq x y ≡ eq_by_cmp id_cmp x y) → (same : N → N → Bool) (cmp : P → P → Ordering) (part : V → P) (IsClone : V → V → Type 0)
-    → ((v w : V) → IsClone v w → part w ≡ part v) → (old new : TrackedShown K N V P) → new.membership.configs ≡ old.membership.configs
+    → ((v w : V) → IsClone v w → part w ≡ part v) → (old new : TrackedView K N V P) → new.membership.configs ≡ old.membership.configs
     → same_members eq same old.membership new.membership ≡ true → IsCloned IsClone HasSameConfigs old.progress new.progress
     → IsReady eq id_cmp cmp part old → IsReady eq id_cmp cmp part new
 ready_cloned {K} {N} {V} {P} {eq} laws id_cmp ties same cmp part IsClone clones old new configs nodes c r =
-    let ids = same_ids IsClone old.progress.walk new.progress.walk c.walk in
-    let parts = same_parts IsClone part clones old.progress.voter_count old.progress.walk new.progress.walk c.walk in
+    let ids = same_ids IsClone old.progress.entries new.progress.entries c.entries in
+    let parts = same_parts IsClone part clones old.progress.voter_count old.progress.entries new.progress.entries c.entries in
     let quorums : (set : K → Bool) → has_quorum eq new.progress.quorum_set set ≡ has_quorum eq old.progress.quorum_set set = λ set.
     sym (list_all-map (λ ks. is_majority eq ks set) (λ q. q.items) new.progress.quorum_set.items)
     ∙ ap (λ cs. list_all (λ ks. is_majority eq ks set) cs) c.quorum_set
@@ -84,7 +84,7 @@ ready_cloned {K} {N} {V} {P} {eq} laws id_cmp ties same cmp part IsClone clones 
         voters = λ id. voters_alike eq cmp part (has_quorum eq) old.progress new.progress quorums c.voter_count c.default_part c.granted ids
             parts id ∙ r.counts_by.voters id ∙ ap (λ cs. is_voter_of eq cs id) (sym configs);
         known = λ id.
-            zip_there IsClone (eq id) old.progress.walk new.progress.walk c.walk ∙ r.counts_by.known id
+            zip_there IsClone (eq id) old.progress.entries new.progress.entries c.entries ∙ r.counts_by.known id
             ∙ ap (λ cs. is_voter_of eq cs id || is_some (node_at id_cmp old.membership.nodes id)) (sym configs)
             ∙ ap (λ b. is_voter_of eq new.membership.configs id || b)
             (sym (nodes_there laws id_cmp ties same old.membership.nodes new.membership.nodes (second_so _ _ nodes) id));

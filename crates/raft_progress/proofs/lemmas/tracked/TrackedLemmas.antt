@@ -5,10 +5,10 @@ use Rattle.std.specs.Option.{option_eq}
 use Rattle.std.specs.Set.{is_member}
 use Rattle.std.proofs.Common.{ap, sym, subst, ◌∙◌, true≢false}
 use Rattle.raft_members.specs.quorum.Majority.{is_voter_of}
-use Rattle.raft_members.specs.membership.Members.{MemberList, Members, Says, members_of, node_at}
+use Rattle.raft_members.specs.membership.Members.{MemberList, Members, HasMembers, members_of, node_at}
 use Rattle.raft_progress.specs.progress.InOrder.{IsInOrder}
 use Rattle.raft_progress.specs.progress.NewProgress.{HasClone, LearnersFit}
-use Rattle.raft_progress.specs.progress.Shown.{Shown, state}
+use Rattle.raft_progress.specs.progress.ProgressView.{ProgressView, state}
 use Rattle.raft_progress.specs.progress.ProgressState.{IsSame, ProgressState, Writes}
 use Rattle.raft_progress.specs.progress.Steps.{IsIncreased, IsWritten, stays}
 use Rattle.raft_progress.specs.tracked.TrackedState.{AreLearners, Configs, CountsBy, HasConfigs, IsReady, has_quorum, is_voter}
@@ -83,7 +83,8 @@ counts_upgraded {K} eq id_cmp list configs learners voters h l IsClone part defa
 pub ready_upgraded : {K N V P : Type 0} (eq : K → K → Bool) (id_cmp : K → K → Ordering) (cmp : P → P → Ordering) (part : V → P)
     (list : MemberList K N) (configs : Configs K) (learners : List K) → ((id : K) → is_voter eq configs id ≡ is_voter_of eq list.configs id)
     → HasConfigs (members_of id_cmp list) configs → AreLearners eq (members_of id_cmp list) learners
-    → (IsClone : V → V → Type 0) (default : V) (old : K → Option V) (p : Shown K V P (Configs K)) → IsInOrder eq cmp part (has_quorum eq) p
+    → (IsClone : V → V → Type 0) (default : V) (old : K → Option V) (p : ProgressView K V P (Configs K))
+        → IsInOrder eq cmp part (has_quorum eq) p
     → IsUpgraded eq IsClone part (is_voter eq configs) configs learners default old (state eq p)
     → IsReady eq id_cmp cmp part (record { membership = list; progress = p })
 ready_upgraded eq id_cmp cmp part list configs learners voters h l IsClone default old p r u = record {
@@ -152,7 +153,7 @@ alike_there same None (Some y) h = absurd (true≢false (sym h))
 alike_there same (Some x) None h = absurd (true≢false (sym h))
 
 module _ {K N : Type 0} (eq : K → K → Bool) (id_cmp : K → K → Ordering) (same : N → N → Bool) (list : MemberList K N) (w : Members K N)
-    (says : Says same id_cmp list w) where
+    (says : HasMembers same id_cmp list w) where
   pub says_configs : (configs : Configs K) → HasConfigs (members_of id_cmp list) configs → HasConfigs w configs
   says_configs configs h = h ∙ says.0
 

@@ -9,9 +9,9 @@ use std::fmt::Display;
 
 impl<
     ID: Copy + Ord + Display,
-    V: ProgressPart<P> + Display + Drop,
+    V: ProgressPart<P> + Display,
     P: Copy + Ord,
-    QS: QuorumSet<ID> + Drop,
+    QS: QuorumSet<ID>,
 > Display for VecProgress<ID, V, P, QS> {
     fn fmt<W: fmt::Write>(&self, f: &mut fmt::Formatter<W>) -> fmt::Result {
         f.write_str("{")?;

@@ -6,12 +6,12 @@ ghost use Rattle.std.specs.Map.{keys_of};
 ghost use Rattle.std.specs.Option.{ForSome};
 ghost use Rattle.std.specs.Ordering.{is_lt};
 ghost use Rattle.raft_progress.specs.Inner.Settled.{IsPutInOrder, IsRisen, IsScanned};
-ghost use Rattle.raft_progress.specs.Inner.ShownAnswers.{IsShownWrite};
+ghost use Rattle.raft_progress.specs.Inner.ViewAnswers.{IsViewWrite};
 ghost use Rattle.raft_progress.specs.progress.InOrder.{IsInOrder};
 ghost use Rattle.raft_progress.specs.progress.Lends.{Leaves};
-ghost use Rattle.raft_progress.specs.progress.Shown.{state};
+ghost use Rattle.raft_progress.specs.progress.ProgressView.{state};
 ghost use Rattle.raft_progress.specs.progress.Updated.{IsUpdated, NeverFalls};
-ghost use Rattle.raft_progress.specs.progress.VecProgress.{shown};
+ghost use Rattle.raft_progress.specs.progress.VecProgress.{view};
 
 use super::VecProgress;
 use crate::progress::entries::{find_shortest_quorum, gather_leading, move_up};
@@ -21,29 +21,29 @@ use raft_members::quorum::QuorumSet;
 
 impl<
     ID: Copy + Ord,
-    V: ProgressPart<P> + Drop,
+    V: ProgressPart<P>,
     P: Copy + Ord,
-    QS: QuorumSet<ID> + Drop,
+    QS: QuorumSet<ID>,
 > VecProgress<ID, V, P, QS> {
     /// Changes the value of an id by `f`, and recomputes granted. Returns whether the id is known.
     #[inline(always)]
     pub(super) fn apply<F: FnOnce(&mut V)>(&mut self, id: &ID, f: F) -> bool
-        requires ordered { IsInOrder ID.eq P.cmp V.part_of QS.has_quorum (shown self.old) }
-        requires callable { ForSome ((state ID.eq (shown self.old)).value id.now)
+        requires ordered { IsInOrder ID.eq P.cmp V.part_of QS.has_quorum (view self.old) }
+        requires callable { ForSome ((state ID.eq (view self.old)).value id.now)
             (FnOnceTakesAtMut F.FnOnce f) }
         requires monotone { NeverFalls ID.eq P.cmp V.part_of (Leaves F.FnOnce f)
-            (shown self.old) id.now }
+            (view self.old) id.now }
         ensures updated { IsUpdated ID.eq P.cmp V.part_of (Leaves F.FnOnce f)
-            (shown self.old) id.now (shown self.new) }
-        ensures ordered { IsInOrder ID.eq P.cmp V.part_of QS.has_quorum (shown self.new) }
-        ensures known { result ≡ is_some ((state ID.eq (shown self.old)).value id.now) }
+            (view self.old) id.now (view self.new) }
+        ensures ordered { IsInOrder ID.eq P.cmp V.part_of QS.has_quorum (view self.new) }
+        ensures known { result ≡ is_some ((state ID.eq (view self.old)).value id.now) }
     {
         // This read is for the proof: it shows that each count fits a u64.
         let _counts = (self.stat.move_count, self.stat.is_quorum_count);
         self.stat.update_count = self.stat.update_count.saturating_add(1);
         match self.index(id) {
             Some(position) => {
-                let entry = &mut self.walk[position];
+                let entry = &mut self.entries[position];
                 let before = entry.1.part();
                 f(&mut entry.1);
                 let after = entry.1.part();
@@ -59,10 +59,10 @@ impl<
     // update would move it twice.
     #[inline(always)]
     pub(crate) fn write(&mut self, id: &ID, value: V) -> Reply<ID, P>
-        requires { IsInOrder ID.eq P.cmp V.part_of QS.has_quorum (shown self.old) }
-        ensures step { IsShownWrite ID.eq P.cmp V.part_of QS.has_quorum
-            (shown self.old) id.now value result (shown self.new) }
-        ensures ordered { IsInOrder ID.eq P.cmp V.part_of QS.has_quorum (shown self.new) }
+        requires { IsInOrder ID.eq P.cmp V.part_of QS.has_quorum (view self.old) }
+        ensures step { IsViewWrite ID.eq P.cmp V.part_of QS.has_quorum
+            (view self.old) id.now value result (view self.new) }
+        ensures ordered { IsInOrder ID.eq P.cmp V.part_of QS.has_quorum (view self.new) }
     {
         // This read is for the proof: it shows that each count fits a u64.
         let _counts = (self.stat.move_count, self.stat.is_quorum_count);
@@ -70,7 +70,7 @@ impl<
             self.stat.update_count = self.stat.update_count.saturating_add(1);
             return Reply::Unknown(self.granted);
         };
-        let entry = &mut self.walk[position];
+        let entry = &mut self.entries[position];
         let before = entry.1.part();
         let after = value.part();
         if is_below(&after, &before) {
@@ -88,12 +88,12 @@ impl<
     // was at most granted before.
     #[inline(always)]
     fn restore_order(&mut self, position: usize, before: P, after: P)
-        requires within { position < length (shown self.old).walk }
-        requires at { (e : ID × V) → slice_get (shown self.old).walk position ≡ Some e →
+        requires within { position < length (view self.old).entries }
+        requires at { (e : ID × V) → slice_get (view self.old).entries position ≡ Some e →
             after ≡ V.part_of e.1 }
-        requires distinct { IsDistinct ID.eq (keys_of (shown self.old).walk) }
+        requires distinct { IsDistinct ID.eq (keys_of (view self.old).entries) }
         ensures { IsPutInOrder ID.eq P.cmp V.part_of QS.has_quorum
-            (shown self.old) position before (shown self.new) }
+            (view self.old) position before (view self.new) }
     {
         if position >= self.voter_count {
             return;
@@ -114,14 +114,14 @@ impl<
     /// Moves the voter at a position up, and updates the sorted list. Returns its new position.
     #[inline(always)]
     fn move_voter_up(&mut self, position: usize) -> usize
-        requires { position < (shown self.old).voter_count }
-        ensures risen { IsRisen P.cmp V.part_of (shown self.old) position result (shown self.new) }
+        requires { position < (view self.old).voter_count }
+        ensures risen { IsRisen P.cmp V.part_of (view self.old) position result (view self.new) }
         ensures within { result ≤ position }
     {
         self.stat.move_count = self.stat.move_count.saturating_add(1);
-        let to = move_up(&mut self.walk, position);
+        let to = move_up(&mut self.entries, position);
         if to < position {
-            self.places.record_move(to, position);
+            self.positions.record_move(to, position);
         }
         to
     }
@@ -130,10 +130,10 @@ impl<
     /// exceed granted, if there is one.
     #[inline(always)]
     fn find_granted(&mut self, position: usize)
-        requires within { position < (shown self.old).voter_count }
-        requires distinct { IsDistinct ID.eq (keys_of (shown self.old).walk) }
+        requires within { position < (view self.old).voter_count }
+        requires distinct { IsDistinct ID.eq (keys_of (view self.old).entries) }
         ensures { IsScanned ID.eq P.cmp V.part_of QS.has_quorum
-            (shown self.old) position (shown self.new) }
+            (view self.old) position (view self.new) }
     {
         // This read is for the proof: it shows that the count fits a u64.
         let _count = self.stat.is_quorum_count;
@@ -144,7 +144,7 @@ impl<
         if short >= self.voter_count {
             return;
         }
-        if !is_below(&self.granted, &self.walk[short].1.part()) {
+        if !is_below(&self.granted, &self.entries[short].1.part()) {
             return;
         }
         if self.voter_count == 1 {
@@ -159,13 +159,13 @@ impl<
     // many instructions.
     #[inline(always)]
     fn test_only_voter(&mut self)
-        requires only { (shown self.old).voter_count ≡ 1 }
-        requires leads { (e : ID × V) → slice_get (shown self.old).walk 0 ≡ Some e →
-            is_lt (P.cmp (shown self.old).granted (V.part_of e.1)) ≡ true }
+        requires only { (view self.old).voter_count ≡ 1 }
+        requires leads { (e : ID × V) → slice_get (view self.old).entries 0 ≡ Some e →
+            is_lt (P.cmp (view self.old).granted (V.part_of e.1)) ≡ true }
         ensures { IsScanned ID.eq P.cmp V.part_of QS.has_quorum
-            (shown self.old) 0 (shown self.new) }
+            (view self.old) 0 (view self.new) }
     {
-        let only = &self.walk[0];
+        let only = &self.entries[0];
         self.scratch[0] = only.0;
         self.stat.is_quorum_count = self.stat.is_quorum_count.saturating_add(1);
         if self.quorum_set.is_quorum(&self.scratch[..1]) {
@@ -178,16 +178,16 @@ impl<
     // A separate function, so that an update that grants nothing does not need its registers.
     #[inline(never)]
     fn test_prefixes(&mut self, position: usize)
-        requires distinct { IsDistinct ID.eq (keys_of (shown self.old).walk) }
+        requires distinct { IsDistinct ID.eq (keys_of (view self.old).entries) }
         ensures { IsScanned ID.eq P.cmp V.part_of QS.has_quorum
-            (shown self.old) position (shown self.new) }
+            (view self.old) position (view self.new) }
     {
-        let voters = &self.walk[..self.voter_count];
+        let voters = &self.entries[..self.voter_count];
         let high = gather_leading(voters, self.granted, &mut self.scratch);
         let found = find_shortest_quorum(&self.quorum_set, voters, position, high, &self.scratch);
         self.stat.is_quorum_count = self.stat.is_quorum_count.saturating_add(found.tests);
         if let Some(len) = found.len {
-            self.granted = self.walk[len - 1].1.part();
+            self.granted = self.entries[len - 1].1.part();
         }
     }
 }

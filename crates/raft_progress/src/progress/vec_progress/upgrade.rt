@@ -3,11 +3,11 @@ ghost use Rattle.std.specs.Prelude.{◌≡◌, ◌++◌, ℕ, IfOk, List, None};
 ghost use Rattle.std.specs.Option.{ForSome};
 ghost use Rattle.raft_progress.specs.Inner.Conditions.{IsLeastPassing, is_value_below};
 ghost use Rattle.raft_progress.specs.progress.InOrder.{IsInOrder};
-ghost use Rattle.raft_progress.specs.progress.Shown.{state};
+ghost use Rattle.raft_progress.specs.progress.ProgressView.{state};
 ghost use Rattle.raft_progress.specs.progress.Statistics.{CountsGoOn};
 ghost use Rattle.raft_progress.specs.progress.Updated.{IsNotLower, IsUpdated};
 ghost use Rattle.raft_progress.specs.progress.Upgrade.{CanUpgrade, IsLeastBelow};
-ghost use Rattle.raft_progress.specs.progress.VecProgress.{shown};
+ghost use Rattle.raft_progress.specs.progress.VecProgress.{view};
 
 use super::VecProgress;
 use crate::progress::Progress;
@@ -19,13 +19,13 @@ use std::alloc::AllocError;
 
 impl<
     ID: Copy + Ord,
-    V: ProgressPart<P> + Drop,
+    V: ProgressPart<P>,
     P: Copy + Ord,
-    QS: QuorumSet<ID> + Drop,
+    QS: QuorumSet<ID>,
 > VecProgress<ID, V, P, QS> {
     /// Continues the counts of another progress.
     pub(super) fn go_on_from(&mut self, stat: &Stat)
-        ensures same { shown self.new ≡ record (shown self.old) { stat = stat.now } }
+        ensures same { view self.new ≡ record (view self.old) { stat = stat.now } }
         ensures counts { (voters : ℕ) → CountsGoOn 0 voters stat.now stat.now }
     {
         let (update_count, move_count, is_quorum_count) = (
@@ -42,11 +42,11 @@ impl<
 
     /// Writes the value of an id, if the id is known.
     pub(super) fn inherit(&mut self, id: &ID, value: V)
-        requires ordered { IsInOrder ID.eq P.cmp V.part_of QS.has_quorum (shown self.old) }
-        requires monotone { IsNotLower ID.eq P.cmp V.part_of (shown self.old) id.now value }
+        requires ordered { IsInOrder ID.eq P.cmp V.part_of QS.has_quorum (view self.old) }
+        requires monotone { IsNotLower ID.eq P.cmp V.part_of (view self.old) id.now value }
         ensures updated { IsUpdated ID.eq P.cmp V.part_of (λ v w. w ≡ value)
-            (shown self.old) id.now (shown self.new) }
-        ensures ordered { IsInOrder ID.eq P.cmp V.part_of QS.has_quorum (shown self.new) }
+            (view self.old) id.now (view self.new) }
+        ensures ordered { IsInOrder ID.eq P.cmp V.part_of QS.has_quorum (view self.new) }
     {
         self.apply(id, |current| *current = value);
     }
@@ -61,15 +61,15 @@ impl<
     ) -> Result<Option<ID>, AllocError>
         ensures none { IfOk result (λ least. least ≡ None → CanUpgrade ID.eq P.cmp V.part_of
             (QS.is_voter quorum_set.now) learners.now default.now
-            (state ID.eq (shown self.now)).value) }
+            (state ID.eq (view self.now)).value) }
         ensures some { IfOk result (λ least.
             ForSome least (IsLeastBelow ID.eq ID.cmp P.cmp V.part_of
             (QS.is_voter quorum_set.now) learners.now default.now
-            (state ID.eq (shown self.now)).value)) }
+            (state ID.eq (view self.now)).value)) }
     {
         let part = default.part();
         // If no value is below the default, which is usual, no id is searched for.
-        if is_at_least(&self.walk, part) {
+        if is_at_least(&self.entries, part) {
             return Ok(None);
         }
         let voters = quorum_set.ids(self.allocator())?;
@@ -81,9 +81,9 @@ impl<
     fn least_of(&self, ids: &[ID], part: P, so_far: Option<ID>) -> Option<ID>
         ensures { (seen : List ID) →
             IsLeastPassing ID.cmp (λ x. is_value_below P.cmp V.part_of part
-            ((state ID.eq (shown self.now)).value x)) seen so_far →
+            ((state ID.eq (view self.now)).value x)) seen so_far →
             IsLeastPassing ID.cmp (λ x. is_value_below P.cmp V.part_of part
-            ((state ID.eq (shown self.now)).value x)) (seen ++ ids.now) result }
+            ((state ID.eq (view self.now)).value x)) (seen ++ ids.now) result }
     {
         let mut least = so_far;
         for id in ids {
@@ -97,7 +97,7 @@ impl<
     /// Whether an id has a value that is below a part.
     fn is_value_below(&self, part: P, id: &ID) -> bool
         ensures { result ≡ is_value_below P.cmp V.part_of part
-            ((state ID.eq (shown self.now)).value id.now) }
+            ((state ID.eq (view self.now)).value id.now) }
     {
         match self.try_get(id) {
             Some(value) => value.part().cmp(&part).is_lt(),

@@ -4,9 +4,9 @@ use Rattle.std.specs.Result.{is_err}
 use Rattle.std.specs.declared.cmp.Ordering.{Ordering}
 use Rattle.raft_base.specs.LogIdLawful.{optional-log_id_cmp-total}
 use Rattle.raft_progress.specs.progress.ProgressState.{Writes}
-use Rattle.raft_progress.specs.progress.Shown.{Shown, state}
+use Rattle.raft_progress.specs.progress.ProgressView.{ProgressView, state}
 use Rattle.raft_progress.specs.progress.Updated.{IsUpdated}
-use Rattle.raft_progress.specs.progress.VecProgress.{shown}
+use Rattle.raft_progress.specs.progress.VecProgress.{view}
 use Rattle.raft_progress.proofs.lemmas.OrderLemmas.{AtMost-refl}
 use Rattle.raft_progress_tests.proofs.entry.take_ack.Goals as goal
 
@@ -16,7 +16,7 @@ not_err P (Ok x) h m = m
 not_err P (Err x) h m = cc
 
 -- an update of a known id to a value writes that value
-writes : {ID V P QS : Type 0} (eq : ID → ID → Bool) (cmp : P → P → Ordering) (part : V → P) (old new : Shown ID V P QS) (id : ID)
+writes : {ID V P QS : Type 0} (eq : ID → ID → Bool) (cmp : P → P → Ordering) (part : V → P) (old new : ProgressView ID V P QS) (id : ID)
     (v end : V) → IsUpdated eq cmp part (λ before after. after ≡ end) old id new → (state eq old).value id ≡ Some v
     → Writes eq (state eq old) id end (state eq new)
 writes eq cmp part old new id v end up known = let k = up.known v known in subst (λ w. Writes eq (state eq old) id w (state eq new)) k.1 k.2
@@ -28,13 +28,13 @@ update-requires-clause-monotone g c = λ old known.
     rw same at c.update_matching.ensures.monotone
 
 pub returns-then-is_err-clause-granted : goal.returns-then-is_err-clause-granted
-returns-then-is_err-clause-granted g c = AtMost-refl (optional-log_id_cmp-total g.met.C.Ord.total) (shown c.args.followers.now).granted
+returns-then-is_err-clause-granted g c = AtMost-refl (optional-log_id_cmp-total g.met.C.Ord.total) (view c.args.followers.now).granted
 
 pub returns-else-is_err-clause-matched : goal.returns-else-is_err-clause-matched
 returns-else-is_err-clause-matched g c = λ _.
-    let known : (state g.ID.PartialEq.eq (shown c.args.followers.now)).value c.args.id.now ≡ Some c.in-Some.found =
+    let known : (state g.ID.PartialEq.eq (view c.args.followers.now)).value c.args.id.now ≡ Some c.in-Some.found =
     sym c.try_get.ensures ∙ sym c.copied.ensures ∙ c.in-Some.is in
-    let written = writes g.ID.PartialEq.eq _ _ (shown c.args.followers.now) (shown c.update.follows.lender-at-none) c.args.id.now
+    let written = writes g.ID.PartialEq.eq _ _ (view c.args.followers.now) (view c.update.follows.lender-at-none) c.args.id.now
     c.in-Some.found c.update_matching.new.self c.update.follows.holds-at-none.updated known in
     let ok = sym c.is_err.ensures.value ∙ c.if-is_err.false in (
       c.update_matching.new.self,

@@ -1,6 +1,6 @@
 use Rattle.std.proofs.Common.{◌≡◌, Option, Some, None, refl}
-use Rattle.raft_progress.specs.progress.Shown.{state}
-use Rattle.raft_progress.specs.progress.VecProgress.{shown}
+use Rattle.raft_progress.specs.progress.ProgressView.{state}
+use Rattle.raft_progress.specs.progress.VecProgress.{view}
 use Rattle.raft_progress.specs.declared.progress.steps.Reply.TheVariants.{Granted, Unknown}
 use Rattle.raft_progress_tests.proofs.laws.acked.Goals as goal
 
@@ -10,8 +10,8 @@ known_or_not value (Some v) e known unknown = known v e
 
 pub returns : goal.returns
 returns g c order =
-    let old = shown c.args.progress.now in
-    let new = shown c.update.follows.lender-at-none in
+    let old = view c.args.progress.now in
+    let new = view c.update.follows.lender-at-none in
     let h = c.update.follows.holds-at-none in
     let value = (state g.ID.PartialEq.eq old).value c.args.id.now in
     let made = c.calls_are_runs.ensures.updates order old new c.args.id.now c.args.value c.requires.ordered c.requires.monotone h.updated

@@ -1,10 +1,10 @@
 use Rattle.std.proofs.lemmas.Result.{MatchResult-weaker}
-use Rattle.raft_progress.specs.progress.VecProgress.{shown}
+use Rattle.raft_progress.specs.progress.VecProgress.{view}
 use Rattle.raft_progress_tests.proofs.laws.copy_of.Goals as goal
 
 pub returns : goal.returns
 returns g c =
     MatchResult-weaker c.clone.result c.clone.ensures.cases
-    (λ copy cloned. c.clones_keep_order.ensures c.requires.values c.requires.quorum_sets (shown c.args.progress.now) (shown copy) cloned
+    (λ copy cloned. c.clones_keep_order.ensures c.requires.values c.requires.quorum_sets (view c.args.progress.now) (view copy) cloned
     c.requires.ordered)
     (λ e _. tt)

@@ -3,15 +3,15 @@ use Rattle.std.specs.Ordering.{is_eq}
 use Rattle.std.specs.declared.cmp.Ordering.TheVariants.{Equal}
 use Rattle.raft_progress.specs.progress.CountedValue.{IsCounted}
 use Rattle.raft_progress.specs.progress.ProgressState.{ProgressState}
-use Rattle.raft_progress.specs.progress.Shown.{state}
-use Rattle.raft_progress.specs.progress.VecProgress.{shown}
+use Rattle.raft_progress.specs.progress.ProgressView.{state}
+use Rattle.raft_progress.specs.progress.VecProgress.{view}
 use Rattle.raft_progress.proofs.lemmas.progress.StepLemmas.{same_is_equal}
 use Rattle.raft_progress_tests.proofs.laws.grant_alike.Goals as goal
 
 pub returns : goal.returns
 returns g c =
-    let one = shown c.args.one.now in
-    let other = shown c.args.other.now in
+    let one = view c.args.one.now in
+    let other = view c.args.other.now in
     let mine = state g.ID.PartialEq.eq one in
     let counted : IsCounted g.P.Ord.cmp g.V.ProgressPart.part_of g.QS.QuorumSet.has_quorum mine other.granted =
     subst (λ (s : ProgressState g.row.ID.Denot g.row.V.Denot g.row.P.Denot g.row.QS.Denot). IsCounted g.P.Ord.cmp

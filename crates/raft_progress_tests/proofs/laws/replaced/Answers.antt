@@ -2,12 +2,12 @@ use Rattle.std.proofs.Common.{ap, subst, sym, ◌∙◌}
 use Rattle.std.specs.Option.{option_copied_mut}
 use Rattle.raft_progress.specs.progress.InOrder.{IsInOrder}
 use Rattle.raft_progress.specs.progress.Kept.{with_value}
-use Rattle.raft_progress.specs.progress.VecProgress.{shown}
+use Rattle.raft_progress.specs.progress.VecProgress.{view}
 use Rattle.raft_progress_tests.proofs.laws.replaced.Goals as goal
 
 pub returns-in-Some : goal.returns-in-Some
 returns-in-Some g c =
-    let old = shown c.args.progress.now in
+    let old = view c.args.progress.now in
     let new = with_value g.ID.PartialEq.eq old c.args.id.now c.args.value in
     let value = sym c.get_mut.ensures.value ∙ ap option_copied_mut c.in-Some.is in
     let kept = c.kept_parts_keep_order.ensures.same_part old c.args.id.now c.in-Some.current.now c.args.value value

@@ -1,11 +1,11 @@
 use Rattle.std.proofs.Common.{ap, ◌∙◌}
-use Rattle.raft_progress.specs.tracked.Tracked.{tracked}
+use Rattle.raft_progress.specs.tracked.Tracked.{tracked_view}
 use Rattle.raft_progress_tests.proofs.tracked.granted_of.Goals as goal
 
 pub returns : goal.returns
 returns g c = (
-  tracked c.in_ok-cluster.cluster,
-  tracked c.replay.new.cluster,
+  tracked_view c.in_ok-cluster.cluster,
+  tracked_view c.replay.new.cluster,
   c.in_ok-_replies._replies.items,
   c.in_ok-cluster.ensures.membership,
   c.in_ok-_replies.ensures.run,

@@ -47,7 +47,7 @@ use Rattle.raft_progress.proofs.lemmas.catch_up.CatchUpLemmas.{tied}
 use Rattle.raft_progress.proofs.lemmas.OrderLemmas.{le_of_eq, AtMost-refl, AtMost-trans}
 use Rattle.raft_progress.specs.progress.CountedValue.{IsReached, reached}
 use Rattle.raft_progress.specs.progress.ProgressState.{Writes}
-use Rattle.raft_progress.specs.progress.Shown.{Shown, state}
+use Rattle.raft_progress.specs.progress.ProgressView.{ProgressView, state}
 use Rattle.raft_progress.specs.progress.Statistics.{count_after}
 use Rattle.raft_progress.specs.progress.Updated.{IsUpdated}
 use Rattle.raft_progress.specs.declared.entry.ProgressEntryOf.{ProgressEntryOf}
@@ -64,7 +64,7 @@ use Rattle.raft_state.specs.raft_state.Round.{
 }
 
 -- an update of a known id to a value writes that value
-pub writes : {ID V P QS : Type 0} (eq : ID → ID → Bool) (cmp : P → P → Ordering) (part : V → P) (old new : Shown ID V P QS) (id : ID)
+pub writes : {ID V P QS : Type 0} (eq : ID → ID → Bool) (cmp : P → P → Ordering) (part : V → P) (old new : ProgressView ID V P QS) (id : ID)
     (v end : V) → IsUpdated eq cmp part (λ before after. after ≡ end) old id new → (state eq old).value id ≡ Some v
     → Writes eq (state eq old) id end (state eq new)
 writes eq cmp part old new id v end up known = let k = up.known v known in subst (λ w. Writes eq (state eq old) id w (state eq new)) k.1 k.2

@@ -41,7 +41,7 @@ use Rattle.raft_state.proofs.lemmas.log_id_list.KeptLemmas.{ends_there, from_end
 use Rattle.raft_state.proofs.lemmas.validate.RelationLemmas.{all_hold, hold_all}
 use Rattle.raft_state.proofs.lemmas.log_id_list.OrderLemmas.{From}
 use Rattle.raft_state.specs.log_id_list.FullLog.{end_index, first_index, full_log}
-use Rattle.raft_state.specs.log_id_list.LogConditions.{may_be_purged_to}
+use Rattle.raft_state.specs.log_id_list.LogConditions.{can_purge}
 use Rattle.raft_state.specs.log_id_list.LogEdits.{log_after_purge, rest}
 use Rattle.raft_state.specs.log_id_list.LogReads.{first_id, id_at, last_id}
 use Rattle.raft_state.specs.log_id_list.LogReadsLawful.{id_at-indexed}
@@ -94,7 +94,7 @@ fits_so i first is =
 
 module _ {C : Type 0} {cmp : C → C → Ordering} (total : IsTotalOrder cmp) where
   -- past the end of a log it is above the last log id
-  past_last : (last : Option (LogIdOf C)) (upto : LogIdOf C) → may_be_purged_to cmp last upto ≡ true
+  past_last : (last : Option (LogIdOf C)) (upto : LogIdOf C) → can_purge cmp last upto ≡ true
       → nat_le (next_index last) upto.index ≡ true → id_le cmp last (Some upto) ≡ true
   past_last None upto may past = refl
   past_last (Some l) upto may past =
@@ -127,7 +127,7 @@ module _ {C : Type 0} {cmp : C → C → Ordering} (total : IsTotalOrder cmp) wh
     where
       last_so : (t : Bool) → nat_le (end_index (full_log s.log_ids)) upto.index ≡ t
           → id_le cmp s.committed (last_id (full_log s.log_ids)) ≡ true
-          → may_be_purged_to cmp (last_id (full_log s.log_ids)) upto ≡ true
+          → can_purge cmp (last_id (full_log s.log_ids)) upto ≡ true
           → id_le cmp s.committed (if t then Some upto else last_id (full_log s.log_ids)) ≡ true
       last_so true e up can = AtMost-trans (optional-log_id_cmp-total total) s.committed (last_id (full_log s.log_ids)) (Some upto) up
           (past_last (last_id (full_log s.log_ids)) upto can e)

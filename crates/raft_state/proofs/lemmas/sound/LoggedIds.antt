@@ -45,7 +45,7 @@ use Rattle.raft_state.specs.log_id_list.LogKept.{KeepsIds}
 use Rattle.raft_state.specs.log_id_list.LogReads.{id_at, last_id}
 use Rattle.raft_state.specs.log_id_list.LogReadsLawful.{id_at-indexed}
 use Rattle.raft_state.specs.raft_state.Sound.{purged_or_logged}
-use Rattle.raft_state.specs.raft_state.StateView.{view_of}
+use Rattle.raft_state.specs.raft_state.VoteAndLog.{log_view_of}
 use Rattle.raft_state.specs.raft_state.Valid.{none_or_logged}
 use Rattle.raft_state.specs.declared.raft_state.RaftStateIn.{RaftStateIn}
 
@@ -59,7 +59,7 @@ abbrev pub purged_or_in : {C : Type 0} → (C → C → Bool) → ℕ → List (
 purged_or_in eq next log id = nat_le (next_index id) next || in_log eq log id
 
 pub is_logged : {K N I L C : Type 0} (eq : C → C → Bool) (s : RaftStateIn K N I L C) (o : Option (LogIdOf C))
-    → none_or_logged eq (view_of s) o ≡ in_log eq (full_log s.log_ids) o
+    → none_or_logged eq (log_view_of s) o ≡ in_log eq (full_log s.log_ids) o
 is_logged eq s None = refl
 is_logged eq s (Some id) = refl
 

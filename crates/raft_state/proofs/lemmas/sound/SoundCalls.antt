@@ -76,7 +76,7 @@ use Rattle.raft_state.specs.membership_state.MembershipRelations.{membership_rel
 use Rattle.raft_state.specs.membership_state.Memberships.{Memberships, index_at}
 use Rattle.raft_state.specs.raft_state.Purge.{first_after_purge, may_purge}
 use Rattle.raft_state.specs.raft_state.Sound.{IsSound}
-use Rattle.raft_state.specs.raft_state.Truncate.{may_truncate}
+use Rattle.raft_state.specs.raft_state.Truncate.{can_truncate_log}
 use Rattle.raft_state.specs.raft_state.Valid.{broken_relation, fits_purged_next, upto_relation}
 use Rattle.raft_state.specs.declared.accepted.AcceptedIn.{AcceptedIn}
 use Rattle.raft_state.specs.declared.raft_state.RaftStateIn.{RaftStateIn}
@@ -243,7 +243,7 @@ module _ {C : Type 0} (cmp : C → C → Ordering) (eq : C → C → Bool) (tota
   pub cut_sound : {K N I L : Type 0} (s : RaftStateIn K N I L C) (since : ℕ) (keys : List (LogIdOf C)) (m : Memberships C K N)
       (accepted : AcceptedIn L C)
       → IsKeyList cmp s.log_ids → full_log keys ≡ front (full_log s.log_ids) since → m ≡ after_truncate since s.membership_state
-      → accepted ≡ accepted_upto cmp s.accepted (last_id (full_log keys)) → may_truncate cmp since s ≡ true → IsSound eq cmp s
+      → accepted ≡ accepted_upto cmp s.accepted (last_id (full_log keys)) → can_truncate_log cmp since s ≡ true → IsSound eq cmp s
       → IsSound eq cmp (record s { log_ids = keys; membership_state = m; accepted = accepted })
   cut_sound s since keys m accepted are is is_m is_accepted may sound =
       let row = from_first cmp s.log_ids are in

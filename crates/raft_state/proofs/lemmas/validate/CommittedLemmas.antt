@@ -19,7 +19,7 @@ use Rattle.raft_state.specs.log_id_list.FullLog.{end_index, first_index, full_lo
 use Rattle.raft_state.specs.log_id_list.LogEdits.{front}
 use Rattle.raft_state.specs.log_id_list.LogReads.{id_at, last_id}
 use Rattle.raft_state.specs.log_id_list.LogReadsLawful.{id_at-indexed}
-use Rattle.raft_state.specs.raft_state.StateView.{view_of}
+use Rattle.raft_state.specs.raft_state.VoteAndLog.{log_view_of}
 use Rattle.raft_state.specs.raft_state.Valid.{none_or_logged}
 use Rattle.raft_state.specs.declared.raft_state.RaftStateIn.{RaftStateIn}
 
@@ -51,12 +51,12 @@ module _ {C : Type 0} (cmp : C → C → Ordering) (eq : C → C → Bool) (tota
       rw (front_ends b log since row, s, z.1) (then_below (cmp x.leader_id z.0.leader_id) x.index z.0.index leader (omega arith))
 
   pub cut_past_committed : {K N I L : Type 0} (s : RaftStateIn K N I L C) (since : ℕ) → IsKeyList cmp s.log_ids
-      → none_or_logged eq (view_of s) s.committed ≡ true → index_lt (index_of s.committed) (Some since) ≡ true
+      → none_or_logged eq (log_view_of s) s.committed ≡ true → index_lt (index_of s.committed) (Some since) ≡ true
       → id_le cmp s.committed (last_id (front (full_log s.log_ids) since)) ≡ true
   cut_past_committed s since are logged past = by s.committed s.log_ids are logged past
     where
       by : (o : Option (LogIdOf C)) (ks : List (LogIdOf C)) → IsKeyList cmp ks
-          → none_or_logged eq (record (view_of s) { id_at = id_at (full_log ks) }) o ≡ true → index_lt (index_of o) (Some since) ≡ true
+          → none_or_logged eq (record (log_view_of s) { id_at = id_at (full_log ks) }) o ≡ true → index_lt (index_of o) (Some since) ≡ true
           → id_le cmp o (last_id (front (full_log ks) since)) ≡ true
       by None ks are logged past = none_at_most cmp (last_id (front (full_log ks) since))
       by (Some x) [] are logged past = cc

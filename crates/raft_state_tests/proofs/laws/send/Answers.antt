@@ -1,6 +1,6 @@
 use Rattle.std.proofs.Common.{rules, subst, Err, IsTrue, MatchResult, Ok, Result}
 use Rattle.std.specs.Result.{is_ok}
-use Rattle.raft_state.specs.raft_state.StateView.{view_of}
+use Rattle.raft_state.specs.raft_state.VoteAndLog.{log_view_of}
 use Rattle.raft_state_tests.proofs.laws.send.Goals as goal
 
 -- what holds of an answer that is an Ok
@@ -11,5 +11,5 @@ of_ok P Q (Err x) h m = cc
 pub returns : goal.returns
 returns g c ok =
     let sending = of_ok _ _ c.next_send.result (subst IsTrue c.is_ok.ensures.value ok) c.next_send.follows.holds-at-none in
-    c.sends_from_log.ensures (view_of c.args.state.now) c.args.follower.now c.next_send.follows.lender-at-none c.args.max_entries
+    c.sends_from_log.ensures (log_view_of c.args.state.now) c.args.follower.now c.next_send.follows.lender-at-none c.args.max_entries
     (search rules) (search rules) (search rules) sending.1.0

@@ -1,6 +1,6 @@
 use Rattle.std.proofs.Common.{◌≡◌, ◌+◌, ◌<◌, ap, arith, true, ◌∙◌}
-use Rattle.raft_progress.specs.tracked.Tracked.{tracked}
-use Rattle.raft_state.specs.raft_state.StateView.{vote_of}
+use Rattle.raft_progress.specs.tracked.Tracked.{tracked_view}
+use Rattle.raft_state.specs.raft_state.VoteAndLog.{vote_of}
 use Rattle.raft_handlers.proofs.lemmas.TermLemmas.{at_least, later_term}
 use Rattle.raft_handlers.proofs.lemmas.TrackedLemmas.{begins_with_default}
 use Rattle.raft_handlers.proofs.lemmas.VoteLemmas.{first_vote}
@@ -22,9 +22,9 @@ returns-clause-is_greater g c =
 
 pub returns-clause-own_vote : goal.returns-clause-own_vote
 returns-clause-own_vote g c = λ x.
-    first_vote g.NID.PartialEq.eq g.met.NID.Eq.laws (tracked c.in-Ok-new.votes) (tracked c.update-reply.new.self) c.args.id
+    first_vote g.NID.PartialEq.eq g.met.NID.Eq.laws (tracked_view c.in-Ok-new.votes) (tracked_view c.update-reply.new.self) c.args.id
     c.update-reply.result c.update-reply.ensures.step
-    (λ y v known. begins_with_default g.NID.PartialEq.eq _ _ _ _ _ (tracked c.in-Ok-new.votes) c.in-Ok-new.ensures.progress y v known)
+    (λ y v known. begins_with_default g.NID.PartialEq.eq _ _ _ _ _ (tracked_view c.in-Ok-new.votes) c.in-Ok-new.ensures.progress y v known)
     x
 
 pub returns-clause-promised : goal.returns-clause-promised

@@ -1,14 +1,14 @@
 use Rattle.std.proofs.Common.{ap, ◌∙◌}
-use Rattle.raft_progress.specs.tracked.Tracked.{tracked}
+use Rattle.raft_progress.specs.tracked.Tracked.{tracked_view}
 use Rattle.raft_handlers.specs.Leadership.{unknown_entry}
 use Rattle.raft_handlers.proofs.lemmas.ChangeLemmas.{begins_value, keeps_value}
 use Rattle.raft_handlers.proofs.leader.Leader.followers_over.Goals as goal
 
 pub returns-in-Granted-clause-kept : goal.returns-in-Granted-clause-kept
 returns-in-Granted-clause-kept g c =
-    let old = tracked c.self.inside.followers in
-    let clone = tracked c.in-Ok.followers in
-    let new = tracked c.change_to.new.self in
+    let old = tracked_view c.self.inside.followers in
+    let clone = tracked_view c.in-Ok.followers in
+    let new = tracked_view c.change_to.new.self in
     let eq = g.NID.PartialEq.eq in
     rw (← c.self.view_is) (record {
       kept = keeps_value eq _ _ _ _ (λ v w is. is) old clone new c.args.members c.empty-unknown.result _ c.in-Granted.ensures.step

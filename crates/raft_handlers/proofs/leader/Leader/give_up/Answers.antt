@@ -1,8 +1,8 @@
 use Rattle.std.proofs.Common.{◌≡◌, Some, ap, sym, true, ◌∙◌}
 use Rattle.raft_base.specs.LogId.{id_le}
 use Rattle.raft_progress.specs.declared.inflight.InflightOf.TheVariants.{None as Idle}
-use Rattle.raft_progress.specs.progress.Shown.{state}
-use Rattle.raft_progress.specs.tracked.Tracked.{tracked}
+use Rattle.raft_progress.specs.progress.ProgressView.{state}
+use Rattle.raft_progress.specs.tracked.Tracked.{tracked_view}
 use Rattle.raft_handlers.proofs.lemmas.FollowerLemmas.{entry_written, id_le-refl}
 use Rattle.raft_handlers.proofs.leader.Leader.give_up.Goals as goal
 
@@ -18,5 +18,5 @@ returns-in-Some-clause-idle g c = λ entry known.
     let idle : new ≡ record entry { inflight = Idle } = rw same at c.give_up.ensures.idle in
     let le : id_le g.C.Ord.cmp entry.matching new.matching ≡ true = rw idle (id_le-refl g.met.C.Ord.total entry.matching) in
     rw (← c.self.view_is, ← idle) (entry_written g.met.C.Ord.total g.NID.PartialEq.eq
-    (record { id = c.self.inside.id; leader_id = c.self.inside.leader_id; followers = tracked c.self.inside.followers })
-    (tracked c.update-reply.new.self) to entry new c.update-reply.result c.update-reply.ensures.step here le)
+    (record { id = c.self.inside.id; leader_id = c.self.inside.leader_id; followers = tracked_view c.self.inside.followers })
+    (tracked_view c.update-reply.new.self) to entry new c.update-reply.result c.update-reply.ensures.step here le)

@@ -1,7 +1,7 @@
 use Rattle.std.proofs.Common.{◌≡◌, Ok, Some, ap, sym, true, ◌∙◌}
 use Rattle.raft_base.specs.LogId.{id_le}
-use Rattle.raft_progress.specs.progress.Shown.{state}
-use Rattle.raft_progress.specs.tracked.Tracked.{tracked}
+use Rattle.raft_progress.specs.progress.ProgressView.{state}
+use Rattle.raft_progress.specs.tracked.Tracked.{tracked_view}
 use Rattle.raft_handlers.specs.Leadership.{granted_by}
 use Rattle.raft_handlers.proofs.lemmas.FollowerLemmas.{entry_written, id_le-refl}
 use Rattle.raft_handlers.proofs.lemmas.SendLemmas.{table_ok}
@@ -27,5 +27,5 @@ returns-in_ok-take_response-in-Some-clause-taken g c = λ entry next _ known aft
     let is : new ≡ next = cc in
     let le : id_le g.C.Ord.cmp entry.matching new.matching ≡ true = rw same at c.take_response.ensures.monotone in
     rw (← c.self.view_is, ← is) (entry_written g.met.C.Ord.total g.NID.PartialEq.eq
-    (record { id = c.self.inside.id; leader_id = c.self.inside.leader_id; followers = tracked c.self.inside.followers })
-    (tracked c.update-reply.new.self) from entry new c.update-reply.result c.update-reply.ensures.step here le)
+    (record { id = c.self.inside.id; leader_id = c.self.inside.leader_id; followers = tracked_view c.self.inside.followers })
+    (tracked_view c.update-reply.new.self) from entry new c.update-reply.result c.update-reply.ensures.step here le)

@@ -1,6 +1,6 @@
 use Rattle.std.proofs.Common.{◌≡◌, ap, rules, ◌∙◌}
 use Rattle.raft_base.specs.LogId.{next_index}
-use Rattle.raft_progress.specs.tracked.Tracked.{tracked}
+use Rattle.raft_progress.specs.tracked.Tracked.{tracked_view}
 use Rattle.raft_state.specs.log_id_list.FullLog.{end_index, full_log}
 use Rattle.raft_handlers.specs.Leadership.{unknown_entry}
 use Rattle.raft_handlers.proofs.lemmas.TrackedLemmas.{begins_with_default}
@@ -13,7 +13,7 @@ returns-in-Ok-new-clause-followers g c =
     record {
       configs = search rules;
       entries = λ x entry known.
-          begins_with_default g.NID.PartialEq.eq _ _ _ _ c.empty-unknown.result (tracked c.in-Ok-new.followers)
+          begins_with_default g.NID.PartialEq.eq _ _ _ _ c.empty-unknown.result (tracked_view c.in-Ok-new.followers)
           c.in-Ok-new.ensures.progress x entry known
           ∙ c.empty-unknown.ensures ∙ ap unknown_entry end;
     }

@@ -7,8 +7,8 @@ use Rattle.raft_members.specs.membership.Members.{members_of}
 use Rattle.raft_members.specs.quorum.Reached.{EachQuorumKnows}
 use Rattle.raft_progress.specs.declared.entry.ProgressEntryOf.{ProgressEntryOf}
 use Rattle.raft_progress.specs.progress.CountedValue.{has_part}
-use Rattle.raft_progress.specs.progress.Shown.{state}
-use Rattle.raft_progress.specs.tracked.Tracked.{tracked}
+use Rattle.raft_progress.specs.progress.ProgressView.{state}
+use Rattle.raft_progress.specs.tracked.Tracked.{tracked_view}
 use Rattle.raft_state.specs.membership_state.Memberships.{in_effect}
 use Rattle.raft_handlers.proofs.lemmas.KnownLemmas.{changed_configs, quorums_still_know}
 use Rattle.raft_handlers.proofs.leader.Leader.propose_change.Goals as goal
@@ -26,8 +26,8 @@ returns-in-Ok-append_own-clause-still_known g c = λ some same.
     let eq = g.NID.PartialEq.eq in
     let id_cmp = g.NID.Ord.cmp in
     let by = option_cmp (log_id_cmp g.C.Ord.cmp) in
-    let old = tracked c.self.inside.followers in
-    let new = tracked c.in-Ok-followers_over.followers in
+    let old = tracked_view c.self.inside.followers in
+    let new = tracked_view c.in-Ok-followers_over.followers in
     let granted = old.progress.granted in
     let some' : 0 < length old.membership.configs = rw (← c.self.view_is) at some in
     let same' : old.membership.configs ≡ (in_effect c.args.state.now.membership_state).configs =

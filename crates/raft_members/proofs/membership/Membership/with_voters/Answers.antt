@@ -2,7 +2,7 @@ use Rattle.std.proofs.Common.{◌≡◌}
 use Rattle.std.specs.Option.{option_or}
 use Rattle.std.specs.BTreeMap.{get, keys}
 use Rattle.raft_members.specs.membership.Change.{union_of, last_config, next_members}
-use Rattle.raft_members.specs.membership.Members.{members_of, node_at, Says}
+use Rattle.raft_members.specs.membership.Members.{members_of, node_at, HasMembers}
 use Rattle.raft_members.proofs.lemmas.membership.SaysLemmas.{more_says, in_both}
 use Rattle.raft_members.proofs.membership.Membership.with_voters.Goals as goal
 
@@ -10,7 +10,7 @@ pub returns : goal.returns
 returns g c =
     let m = members_of g.NID.Ord.cmp c.args.self.now in
     let next = c.in_ok-next.next in
-    let stands : Says g.N.PartialEq.eq g.NID.Ord.cmp next
+    let stands : HasMembers g.N.PartialEq.eq g.NID.Ord.cmp next
     (next_members g.NID.PartialEq.eq m (union_of g.NID.Ord.cmp (last_config m.configs) (keys c.args.voters)) c.args.retain) =
     rw c.in_ok-ids.ensures at c.in_ok-next.ensures in
     in_both c.with_more.result (λ r. r.configs ≡ next.configs)

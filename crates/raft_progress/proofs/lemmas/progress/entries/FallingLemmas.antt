@@ -7,7 +7,7 @@ use Rattle.std.specs.List.{AllByRecursion, prefix_len}
 use Rattle.std.proofs.Common.{arith, sym, ap, refl, ◌∙◌, true≢false, suc, zero, get_or, set}
 use Rattle.raft_progress.specs.progress.CountedValue.{AtMost}
 use Rattle.raft_progress.specs.Inner.Rises.{LastAtLeast}
-use Rattle.raft_progress.specs.progress.Walk.{IsFalling}
+use Rattle.raft_progress.specs.progress.Entries.{IsFalling}
 use Rattle.raft_progress.proofs.lemmas.OrderLemmas.{AtMost-trans, AtMost-from_lt, lt_le, le_lt}
 use Rattle.raft_progress.proofs.lemmas.ListLemmas.{all_weaker, filter_none, all_get, all_first, all_last, all_both}
 
@@ -26,10 +26,10 @@ module _ {ID V P : Type 0} {cmp : P → P → Ordering} (o : IsTotalOrder cmp) (
         by true h = absurd (true≢false (sym (up (part f.1) (part e.1) h (a.0 (over (part f.1) h))) ∙ n))
 
     -- the voters that pass are a prefix
-    pub filter_is_front : (voters : List (ID × V)) → IsFalling cmp part g voters
+    pub filter_is_prefix : (voters : List (ID × V)) → IsFalling cmp part g voters
         → filter (λ e. t (part e.1)) voters ≡ take (prefix_len (λ e. t (part e.1)) voters) voters
-    filter_is_front [] s = refl
-    filter_is_front (e ∷ es) s = by (t (part e.1)) refl (filter_is_front es s.1)
+    filter_is_prefix [] s = refl
+    filter_is_prefix (e ∷ es) s = by (t (part e.1)) refl (filter_is_prefix es s.1)
       where
         by : (b : Bool) → t (part e.1) ≡ b → filter (λ f. t (part f.1)) es ≡ take (prefix_len (λ f. t (part f.1)) es) es
             → cond b (e ∷ filter (λ f. t (part f.1)) es) (filter (λ f. t (part f.1)) es)
@@ -39,10 +39,10 @@ module _ {ID V P : Type 0} {cmp : P → P → Ordering} (o : IsTotalOrder cmp) (
         by false h i = filter_none (λ f. t (part f.1)) es (none_behind e es h s.0)
 
     -- a voter that passes is in that prefix
-    pub in_front : (voters : List (ID × V)) → IsFalling cmp part g voters → (i : ℕ) (d : ID × V) → i < length voters
+    pub in_prefix : (voters : List (ID × V)) → IsFalling cmp part g voters → (i : ℕ) (d : ID × V) → i < length voters
         → t (part (get_or voters i d).1) ≡ true → i < prefix_len (λ e. t (part e.1)) voters
-    in_front [] s i d l h = absurd (omega arith)
-    in_front (e ∷ es) s i d l h = by (t (part e.1)) refl (λ j k q. in_front es s.1 j d k q) i l h
+    in_prefix [] s i d l h = absurd (omega arith)
+    in_prefix (e ∷ es) s i d l h = by (t (part e.1)) refl (λ j k q. in_prefix es s.1 j d k q) i l h
       where
         by : (b : Bool) → t (part e.1) ≡ b
             → ((j : ℕ) → j < length es → t (part (get_or es j d).1) ≡ true → j < prefix_len (λ f. t (part f.1)) es) → (j : ℕ)
@@ -75,10 +75,10 @@ module _ {ID V P : Type 0} {cmp : P → P → Ordering} (o : IsTotalOrder cmp) (
   below_first e q p f (h ∷ hs) l a = below_first e q p h hs l a.1
 
   -- an entry whose part rose above g, put directly after the last that isn't lesser, keeps the order
-  pub falling_risen : (front passed : List (ID × V)) (e e' : ID × V) (rest : List (ID × V)) → is_lt (cmp g (part e'.1)) ≡ true
+  pub falling_risen : (prefix passed : List (ID × V)) (e e' : ID × V) (rest : List (ID × V)) → is_lt (cmp g (part e'.1)) ≡ true
       → AtMost cmp (part e.1) (part e'.1) → AllByRecursion (λ f. is_lt (cmp (part f.1) (part e'.1)) ≡ true) passed
-      → LastAtLeast cmp part (part e'.1) front → IsFalling cmp part g (front ++ (passed ++ (e ∷ rest)))
-      → IsFalling cmp part g (front ++ (e' ∷ (passed ++ rest)))
+      → LastAtLeast cmp part (part e'.1) prefix → IsFalling cmp part g (prefix ++ (passed ++ (e ∷ rest)))
+      → IsFalling cmp part g (prefix ++ (e' ∷ (passed ++ rest)))
   falling_risen [] passed e e' rest q up lesser l s = (
     all_both _ passed rest
         (all_weaker _ (λ f. is_lt (cmp g (part f.1)) ≡ true → AtMost cmp (part f.1) (part e'.1))

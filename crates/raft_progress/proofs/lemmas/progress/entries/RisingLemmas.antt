@@ -72,37 +72,37 @@ last_split (x ∷ y ∷ ys) (suc n) l =
     record { init = x ∷ r.init; last = r.last; is = ap (λ zs. x ∷ zs) r.is; init_length = ap suc r.init_length }
 
 -- the elements on both sides of a cut have swapped positions
-pub swap_at_cut : {X : Type 0} (front back : List X) (n : ℕ) (d e : X) → 0 < n → length front ≡ n → 0 < length back
-    → set front (n - 1) (get_or back 0 e) ++ set back 0 (get_or front (n - 1) d) ≡ swap (front ++ back) (n - 1) n
-swap_at_cut front [] n d e some l more = absurd (omega arith)
-swap_at_cut front (b ∷ bs) n d e some l more =
-    let s = last_split front (n - 1) (omega arith) in
-    let last_is : get_or front (n - 1) d ≡ s.last =
+pub swap_at_cut : {X : Type 0} (prefix back : List X) (n : ℕ) (d e : X) → 0 < n → length prefix ≡ n → 0 < length back
+    → set prefix (n - 1) (get_or back 0 e) ++ set back 0 (get_or prefix (n - 1) d) ≡ swap (prefix ++ back) (n - 1) n
+swap_at_cut prefix [] n d e some l more = absurd (omega arith)
+swap_at_cut prefix (b ∷ bs) n d e some l more =
+    let s = last_split prefix (n - 1) (omega arith) in
+    let last_is : get_or prefix (n - 1) d ≡ s.last =
     ap (λ xs. get_or xs (n - 1) d) s.is ∙ ap (λ k. get_or (s.init ++ s.last ∷ []) k d) (sym s.init_length)
     ∙ get_or-append_seam s.init s.last [] d in
-    let front_is : set front (n - 1) b ≡ s.init ++ b ∷ [] =
+    let prefix_is : set prefix (n - 1) b ≡ s.init ++ b ∷ [] =
     ap (λ xs. set xs (n - 1) b) s.is ∙ ap (λ k. set (s.init ++ s.last ∷ []) k b) (sym s.init_length) ∙ set-append_seam s.init s.last [] b in
     let next : n ≡ suc (length s.init) = let h = s.init_length in omega arith in
-    let swapped : swap (front ++ b ∷ bs) (n - 1) n ≡ s.init ++ b ∷ s.last ∷ bs =
+    let swapped : swap (prefix ++ b ∷ bs) (n - 1) n ≡ s.init ++ b ∷ s.last ∷ bs =
     ap (λ xs. swap (xs ++ b ∷ bs) (n - 1) n) s.is ∙ ap (λ xs. swap xs (n - 1) n) (append_assoc s.init (s.last ∷ []) (b ∷ bs))
     ∙ ap (λ k. swap (s.init ++ s.last ∷ b ∷ bs) k n) (sym s.init_length)
     ∙ ap (λ k. swap (s.init ++ s.last ∷ b ∷ bs) (length s.init) k) next ∙ swap_neighbours s.init s.last b bs in
-    ap (λ xs. xs ++ get_or front (n - 1) d ∷ bs) front_is ∙ append_assoc s.init (b ∷ []) (get_or front (n - 1) d ∷ bs)
+    ap (λ xs. xs ++ get_or prefix (n - 1) d ∷ bs) prefix_is ∙ append_assoc s.init (b ∷ []) (get_or prefix (n - 1) d ∷ bs)
     ∙ ap (λ x. s.init ++ b ∷ x ∷ bs) last_is ∙ sym swapped
 
 pub record SplitAt {X : Type 0} (xs : List X) (n : ℕ) : Type 0 where
-  pub front : List X
+  pub prefix : List X
   pub entry : X
   pub rest : List X
-  pub is : xs ≡ front ++ entry ∷ rest
-  pub front_length : length front ≡ n
+  pub is : xs ≡ prefix ++ entry ∷ rest
+  pub front_length : length prefix ≡ n
 
 pub split_at : {X : Type 0} (xs : List X) (n : ℕ) → n < length xs → SplitAt xs n
 split_at [] n l = absurd (omega arith)
-split_at (x ∷ xs) zero l = record { front = []; entry = x; rest = xs; is = refl; front_length = refl }
+split_at (x ∷ xs) zero l = record { prefix = []; entry = x; rest = xs; is = refl; front_length = refl }
 split_at (x ∷ xs) (suc n) l =
     let r = split_at xs n (omega arith) in
-    record { front = x ∷ r.front; entry = r.entry; rest = r.rest; is = ap (λ zs. x ∷ zs) r.is; front_length = ap suc r.front_length }
+    record { prefix = x ∷ r.prefix; entry = r.entry; rest = r.rest; is = ap (λ zs. x ∷ zs) r.is; front_length = ap suc r.front_length }
 
 module _ {ID V P : Type 0} (cmp : P → P → Ordering) (part : V → P) where
   last_from_get : (p : P) (xs : List (ID × V)) (n : ℕ) (d : ID × V) → length xs ≡ suc n → AtMost cmp p (part (get_or xs n d).1)
@@ -115,14 +115,14 @@ module _ {ID V P : Type 0} (cmp : P → P → Ordering) (part : V → P) where
 
   -- the position that it has passed down to is in the list
   pub passed_within : (old : List (ID × V)) (from : ℕ) (new : List (ID × V)) (to : ℕ) → Passed cmp part old from new to → to < length new
-  passed_within old from new to r = rw (r.now, ← r.now_at) (length_less r.front r.entry (r.passed ++ r.rest))
+  passed_within old from new to r = rw (r.now, ← r.now_at) (length_less r.prefix r.entry (r.passed ++ r.rest))
 
   -- nothing has been passed yet
   pub passed_none : (xs : List (ID × V)) (n : ℕ) → n < length xs → Passed cmp part xs n xs n
   passed_none xs n l =
       let s = split_at xs n l in
       record {
-        front = s.front;
+        prefix = s.prefix;
         passed = [];
         entry = s.entry;
         rest = s.rest;
@@ -135,18 +135,18 @@ module _ {ID V P : Type 0} (cmp : P → P → Ordering) (part : V → P) where
 
   module _ (old : List (ID × V)) (from : ℕ) (now : List (ID × V)) (at : ℕ) (r : Passed cmp part old from now (at + 1)) where
     here : (d : ID × V) → get_or now (at + 1) d ≡ r.entry
-    here d = ap (λ xs. get_or xs (at + 1) d) r.now ∙ ap (λ n. get_or (r.front ++ (r.entry ∷ (r.passed ++ r.rest))) n d) (sym r.now_at)
-        ∙ get_or-append_seam r.front r.entry (r.passed ++ r.rest) d
+    here d = ap (λ xs. get_or xs (at + 1) d) r.now ∙ ap (λ n. get_or (r.prefix ++ (r.entry ∷ (r.passed ++ r.rest))) n d) (sym r.now_at)
+        ∙ get_or-append_seam r.prefix r.entry (r.passed ++ r.rest) d
 
-    before : (d : ID × V) → get_or now at d ≡ get_or r.front at d
-    before d = let l : at < length r.front = rw r.now_at (omega arith) in
-        ap (λ xs. get_or xs at d) r.now ∙ get_or_append_left r.front (r.entry ∷ (r.passed ++ r.rest)) d at l
+    before : (d : ID × V) → get_or now at d ≡ get_or r.prefix at d
+    before d = let l : at < length r.prefix = rw r.now_at (omega arith) in
+        ap (λ xs. get_or xs at d) r.now ∙ get_or_append_left r.prefix (r.entry ∷ (r.passed ++ r.rest)) d at l
 
     -- one entry more has been passed
     pub passed_more : (next : List (ID × V)) → next ≡ swap now at (at + 1)
         → ((d : ID × V) → is_lt (cmp (part (get_or now at d).1) (part (get_or now (at + 1) d).1)) ≡ true) → Passed cmp part old from next at
     passed_more next is less =
-        let s = last_split r.front at (r.now_at ∙ add-one at) in
+        let s = last_split r.prefix at (r.now_at ∙ add-one at) in
         let now_is : now ≡ s.init ++ s.last ∷ r.entry ∷ (r.passed ++ r.rest) =
         r.now ∙ ap (λ xs. xs ++ (r.entry ∷ (r.passed ++ r.rest))) s.is
         ∙ append_assoc s.init (s.last ∷ []) (r.entry ∷ (r.passed ++ r.rest)) in
@@ -154,7 +154,7 @@ module _ {ID V P : Type 0} (cmp : P → P → Ordering) (part : V → P) where
         ap (λ xs. get_or xs at s.last) now_is ∙ ap (λ n. get_or (s.init ++ s.last ∷ r.entry ∷ (r.passed ++ r.rest)) n s.last)
         (sym s.init_length) ∙ get_or-append_seam s.init s.last (r.entry ∷ (r.passed ++ r.rest)) s.last in
         record {
-          front = s.init;
+          prefix = s.init;
           passed = s.last ∷ r.passed;
           entry = r.entry;
           rest = r.rest;
@@ -177,15 +177,15 @@ module _ {ID V P : Type 0} (cmp : P → P → Ordering) (part : V → P) where
         → RisesTo cmp part old from now (at + 1)
     rises_stop o not_less = record {
       passes = r;
-      stops = last_from_get (part r.entry.1) r.front at r.entry (r.now_at ∙ add-one at)
-          (AtMost-from_not_lt o (part (get_or r.front at r.entry).1) (part r.entry.1)
+      stops = last_from_get (part r.entry.1) r.prefix at r.entry (r.now_at ∙ add-one at)
+          (AtMost-from_not_lt o (part (get_or r.prefix at r.entry).1) (part r.entry.1)
           (ap (λ e. is_lt (cmp (part e.1) (part r.entry.1))) (sym (before r.entry))
           ∙ ap (λ e. is_lt (cmp (part (get_or now at r.entry).1) (part e.1))) (sym (here r.entry)) ∙ not_less r.entry));
     }
 
-  pub rises_front : (old : List (ID × V)) (from : ℕ) (now : List (ID × V)) → Passed cmp part old from now 0
+  pub rises_prefix : (old : List (ID × V)) (from : ℕ) (now : List (ID × V)) → Passed cmp part old from now 0
       → RisesTo cmp part old from now 0
-  rises_front old from now r = record { passes = r; stops = none_last r.front r.now_at }
+  rises_prefix old from now r = record { passes = r; stops = none_last r.prefix r.now_at }
     where
       none_last : (xs : List (ID × V)) → length xs ≡ 0 → LastAtLeast cmp part (part r.entry.1) xs
       none_last [] l = tt

@@ -89,16 +89,16 @@ not_below {ID} {V} eq cmp part p (e ∷ es) h x v l = by (eq x e.0) l (not_below
 module _ {ID V P : Type 0} {eq : ID → ID → Bool} (laws : IsEquivalence eq) (id_cmp : ID → ID → Ordering) (io : IsTotalOrder id_cmp)
     (ties : (x y : ID) → eq x y ≡ eq_by_cmp id_cmp x y) {cmp : P → P → Ordering} (o : IsTotalOrder cmp) (part : V → P)
     (is_voter : ID → Bool) (voters learners : List ID) (known : (x : ID) → is_member eq voters x ≡ is_voter x) (default : V)
-    (walk : List (ID × V)) where
+    (entries : List (ID × V)) where
   abbrev is_inherited : ID → Bool
   is_inherited x = is_voter x || is_member eq learners x
 
   -- whether an id's value is below the default's part
   abbrev pub test : ID → Bool
-  test x = is_value_below cmp part (part default) (lookup (eq x) walk)
+  test x = is_value_below cmp part (part default) (lookup (eq x) entries)
 
   test_alike : (x y : ID) → eq x y ≡ true → test x ≡ test y
-  test_alike x y e = ap (is_value_below cmp part (part default)) (lookup_alike laws x y e walk)
+  test_alike x y e = ap (is_value_below cmp part (part default)) (lookup_alike laws x y e entries)
 
   -- the id of the list that equals one that is inherited
   one_of : {R : ID → Type 0} (ids : List ID) (x : ID) → is_member eq ids x ≡ true → AllByRecursion R ids
@@ -115,13 +115,13 @@ module _ {ID V P : Type 0} {eq : ID → ID → Bool} (laws : IsEquivalence eq) (
   inherited_is x = list_any-append (eq x) voters learners ∙ ap (λ b. b || is_member eq learners x) (known x)
 
   pub none_is_below : IsLeastPassing id_cmp test (voters ++ learners) None
-      → CanUpgrade eq cmp part is_voter learners default (λ x. lookup (eq x) walk)
+      → CanUpgrade eq cmp part is_voter learners default (λ x. lookup (eq x) entries)
   none_is_below a x v h i =
       let k = one_of {R = λ y. test y ≡ false} (voters ++ learners) x (inherited_is x ∙ i) a in
       AtMost-from_not_lt o (part v) (part default) (sym (ap (is_value_below cmp part (part default)) h) ∙ test_alike x k.0 k.1 ∙ k.2)
 
-  value_there : (x : ID) (w : Option V) → lookup (eq x) walk ≡ w → is_inherited x ≡ true → test x ≡ true
-      → InheritsBelow eq cmp part is_voter learners default (λ x. lookup (eq x) walk) x
+  value_there : (x : ID) (w : Option V) → lookup (eq x) entries ≡ w → is_inherited x ≡ true → test x ≡ true
+      → InheritsBelow eq cmp part is_voter learners default (λ x. lookup (eq x) entries) x
   value_there x None e i h = absurd (true≢false (sym h ∙ ap (is_value_below cmp part (part default)) e))
   value_there x (Some v) e i h =
       record { inherited = i; value = v; present = e; below = sym (ap (is_value_below cmp part (part default)) e) ∙ h }
@@ -135,9 +135,9 @@ module _ {ID V P : Type 0} {eq : ID → ID → Bool} (laws : IsEquivalence eq) (
       by Greater t = absurd (true≢false (sym (laws.symm y x ∙ e) ∙ ties y x ∙ ap Rattle.std.specs.Ordering.is_eq t))
 
   pub least_is_below : (id : ID) → IsLeastPassing id_cmp test (voters ++ learners) (Some id)
-      → IsLeastBelow eq id_cmp cmp part is_voter learners default (λ x. lookup (eq x) walk) id
+      → IsLeastBelow eq id_cmp cmp part is_voter learners default (λ x. lookup (eq x) entries) id
   least_is_below id a = record {
-    inherits_below = value_there id (lookup (eq id) walk) refl
+    inherits_below = value_there id (lookup (eq id) entries) refl
         (sym (inherited_is id)
         ∙ All-contains (λ y. is_member eq (voters ++ learners) y ≡ true) (voters ++ learners) id
         (All-is_member laws (voters ++ learners)) a.0)

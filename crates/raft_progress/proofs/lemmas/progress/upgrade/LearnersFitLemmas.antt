@@ -11,7 +11,7 @@ use Rattle.std.proofs.Common.{arith, get_or, refl, subst, sym, true≢false, ◌
 use Rattle.std.proofs.lemmas.Map.Keys.{IsDistinct-from_sorted, sorted_from_all_adjacent}
 use Rattle.raft_progress.specs.progress.NewProgress.{LearnersFit}
 use Rattle.raft_progress.proofs.lemmas.ListLemmas.{all_both, all_last}
-use Rattle.raft_progress.proofs.lemmas.progress.places.MadeLemmas.{less_from}
+use Rattle.raft_progress.proofs.lemmas.progress.positions.MadeLemmas.{less_from}
 
 pub neither : (a b : Bool) → (a || b) ≡ false → (a ≡ false) × (b ≡ false)
 neither true b h = absurd (true≢false h)

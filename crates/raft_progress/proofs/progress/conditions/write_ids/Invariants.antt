@@ -3,8 +3,8 @@ use Rattle.std.specs.Map.{keys_of}
 use Rattle.raft_progress.proofs.progress.conditions.write_ids.Given as goal
 
 -- the ids so far are written
-abbrev pub invariant-loop-place : goal.invariant-loop-place
-invariant-loop-place g l = record {
-  written : take l.place l.room ≡ take l.place (keys_of l.voters);
-  one_length : length l.room ≡ length l.voters;
+abbrev pub invariant-loop-position : goal.invariant-loop-position
+invariant-loop-position g l = record {
+  written : take l.position l.scratch ≡ take l.position (keys_of l.voters);
+  one_length : length l.scratch ≡ length l.voters;
 }

@@ -1,12 +1,12 @@
 use Rattle.std.proofs.Common.{arith, sym, ◌∙◌, ◌≤◌}
-use Rattle.raft_progress.proofs.lemmas.progress.entries.FrontLemmas.{
-  front_tested,
+use Rattle.raft_progress.proofs.lemmas.progress.entries.PrefixLemmas.{
+  prefix_tested,
   halves_failed,
   halves_found,
   halves_missed,
   halves_none,
   halves_passed,
-  single_front,
+  single_prefix,
   tests_fit,
 }
 use Rattle.raft_progress.proofs.progress.entries.find_shortest_quorum.Goals as goal
@@ -30,7 +30,7 @@ loop-failed-preserved-then-is_quorum g c =
     let e = c.min-len.ensures in
     let a = c.saturating_add.ensures in
     let l : c.min-len.result ≤ c.args.high = let w = c.loop-failed.invariant.halves.within in omega arith in
-    let tested = front_tested g.met.ID.Eq.laws (g.QS.QuorumSet.has_quorum c.args.quorum_set.now) c.args.voters.now c.requires.distinct
+    let tested = prefix_tested g.met.ID.Eq.laws (g.QS.QuorumSet.has_quorum c.args.quorum_set.now) c.args.voters.now c.requires.distinct
     c.args.ids.now c.args.high c.min-len.result l c.requires.gathered c.is_quorum.result c.is_quorum.ensures.quorum in
     record {
       halves = halves_passed g.ID.PartialEq.eq (g.QS.QuorumSet.has_quorum c.args.quorum_set.now) c.args.voters.now c.args.low c.args.high
@@ -44,7 +44,7 @@ loop-failed-preserved g c =
     let e = c.min-len.ensures in
     let a = c.saturating_add.ensures in
     let l : c.min-len.result ≤ c.args.high = let w = c.loop-failed.invariant.halves.within in omega arith in
-    let tested = front_tested g.met.ID.Eq.laws (g.QS.QuorumSet.has_quorum c.args.quorum_set.now) c.args.voters.now c.requires.distinct
+    let tested = prefix_tested g.met.ID.Eq.laws (g.QS.QuorumSet.has_quorum c.args.quorum_set.now) c.args.voters.now c.requires.distinct
     c.args.ids.now c.args.high c.min-len.result l c.requires.gathered c.is_quorum.result c.is_quorum.ensures.quorum in
     record {
       halves = halves_failed g.ID.PartialEq.eq (g.QS.QuorumSet.has_quorum c.args.quorum_set.now) c.args.voters.now c.args.low c.args.high
@@ -67,8 +67,8 @@ returns-else-end-high g c = halves_missed g.ID.PartialEq.eq (g.QS.QuorumSet.has_
 pub returns-then-prefixes-eq1 : goal.returns-then-prefixes-eq1
 returns-then-prefixes-eq1 g c =
     let is_quorum = g.QS.QuorumSet.has_quorum c.args.quorum_set.now in
-    let tested = front_tested g.met.ID.Eq.laws is_quorum c.args.voters.now c.requires.distinct c.args.ids.now c.args.high c.args.high
+    let tested = prefix_tested g.met.ID.Eq.laws is_quorum c.args.voters.now c.requires.distinct c.args.ids.now c.args.high c.args.high
     (omega arith) c.requires.gathered c.is_quorum-passed.result c.is_quorum-passed.ensures.quorum in
     rw c.then_some-len.ensures
-    (single_front g.ID.PartialEq.eq is_quorum c.args.voters.now c.args.low c.args.high (omega arith) c.requires.within
+    (single_prefix g.ID.PartialEq.eq is_quorum c.args.voters.now c.args.low c.args.high (omega arith) c.requires.within
     c.is_quorum-passed.result tested)

@@ -1,5 +1,5 @@
 use Rattle.std.proofs.Common.{◌-◌, ◌<◌, ◌^◌, length}
-use Rattle.raft_progress.proofs.lemmas.progress.entries.FrontLemmas.{Halves}
+use Rattle.raft_progress.proofs.lemmas.progress.entries.PrefixLemmas.{Halves}
 use Rattle.raft_progress.proofs.progress.entries.find_shortest_quorum.Given as goal
 
 -- each test halves the remaining prefixes

@@ -2,8 +2,8 @@ use Rattle.std.proofs.Common.{arith, get_or, is_lt, ◌≡◌, ◌+◌, ◌-◌,
 use Rattle.std.specs.List.{swap}
 use Rattle.std.proofs.lemmas.List.Edits.{swapped_from_swap}
 use Rattle.raft_progress.specs.Inner.Rises.{Passed, RisesTo}
-use Rattle.raft_progress.proofs.lemmas.progress.places.PlacesLemmas.{any_default}
-use Rattle.raft_progress.proofs.lemmas.progress.entries.RisingLemmas.{passed_none, passed_more, passed_within, rises_stop, rises_front}
+use Rattle.raft_progress.proofs.lemmas.progress.positions.PositionsLemmas.{any_default}
+use Rattle.raft_progress.proofs.lemmas.progress.entries.RisingLemmas.{passed_none, passed_more, passed_within, rises_stop, rises_prefix}
 use Rattle.raft_progress.proofs.progress.entries.move_up.Goals as goal
 
 -- the position before a position in a list is in it too
@@ -77,7 +77,7 @@ returns g c =
     let e : c.loop-at.at ≡ 0 = omega arith in
     subst (λ (n : ℕ). RisesTo g.P.Ord.cmp g.V.ProgressPart.part_of c.args.entries.now.items c.args.position
     c.loop-at.entries.items n) (sym e)
-    (rises_front g.P.Ord.cmp g.V.ProgressPart.part_of c.args.entries.now.items c.args.position c.loop-at.entries.items
+    (rises_prefix g.P.Ord.cmp g.V.ProgressPart.part_of c.args.entries.now.items c.args.position c.loop-at.entries.items
     (subst (λ (n : ℕ). Passed g.P.Ord.cmp g.V.ProgressPart.part_of c.args.entries.now.items c.args.position c.loop-at.entries.items n) e
     c.loop-at.invariant.passes))
 

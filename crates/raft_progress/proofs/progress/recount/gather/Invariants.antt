@@ -7,5 +7,5 @@ use Rattle.raft_progress.proofs.progress.recount.gather.Given as goal
 abbrev pub invariant-loop-entry : goal.invariant-loop-entry
 invariant-loop-entry g l = record {
   within : l.n ≤ l.entry-index;
-  front : take l.n l.room ≡ keys_of (filter (at_least g.P.Ord.cmp g.V.ProgressPart.part_of l.least) (take l.entry-index l.voters));
+  prefix : take l.n l.scratch ≡ keys_of (filter (at_least g.P.Ord.cmp g.V.ProgressPart.part_of l.least) (take l.entry-index l.voters));
 }

@@ -3,4 +3,4 @@ use Rattle.raft_progress.proofs.progress.recount.reached_or_default.Given as goa
 
 -- the ids of all voters fit the scratch space
 abbrev pub invariant-loop-entry : goal.invariant-loop-entry
-invariant-loop-entry g l = length l.voters ≤ length l.room
+invariant-loop-entry g l = length l.voters ≤ length l.scratch

@@ -3,7 +3,7 @@ use Rattle.std.proofs.lemmas.Result.{MatchResult-at_ok}
 use Rattle.std.specs.Option.{option_copied}
 use Rattle.std.specs.Result.{is_ok}
 use Rattle.raft_progress.specs.progress.Steps.{falls, stays}
-use Rattle.raft_progress.specs.progress.VecProgress.{shown}
+use Rattle.raft_progress.specs.progress.VecProgress.{view}
 use Rattle.raft_progress.proofs.lemmas.progress.StepLemmas.{increase_known}
 use Rattle.raft_progress.proofs.progress.replay_any_steps.increase.Goals as goal
 use Rattle.raft_progress.proofs.progress.replay_any_steps.increase.Goals.{
@@ -22,8 +22,8 @@ returns-in-Ok-clause-step g c =
       | else-not-is_not_greater-via-else-not-is_not_greater b ↦
           λ s. absurd (true≢false (sym b.if-not-is_not_greater.false ∙ c.is_not_greater.ensures ∙ s))
     ] in
-    increase_known g.met.ID.Eq.laws g.P.Ord.cmp g.V.ProgressPart.part_of g.QS.QuorumSet.has_quorum (shown c.args.progress.now)
-    (shown c.increase_to.follows.lender-at-none) c.args.id.now c.args.value c.in-Ok.granted.now
+    increase_known g.met.ID.Eq.laws g.P.Ord.cmp g.V.ProgressPart.part_of g.QS.QuorumSet.has_quorum (view c.args.progress.now)
+    (view c.increase_to.follows.lender-at-none) c.args.id.now c.args.value c.in-Ok.granted.now
     (MatchResult-at_ok _ _ c.in-Ok.granted c.in-Ok.is h.granted) h.ordered g.V.PartialOrd.partial_cmp h.updated
     (h.known.0 (ap is_ok c.in-Ok.is))
     (λ s. ap (λ o. falls g.P.Ord.cmp g.V.ProgressPart.part_of o c.args.value) (sym read)

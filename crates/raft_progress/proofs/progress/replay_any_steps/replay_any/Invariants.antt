@@ -2,8 +2,8 @@ use Rattle.std.proofs.Common.{◌≡◌, ◌≤◌, ◌+◌, ◌++◌, length, v
 use Rattle.std.specs.Vec.{vec_capacity}
 use Rattle.std.specs.Vec.Iter.{into_iter_items}
 use Rattle.raft_progress.specs.progress.InOrder.{IsInOrder}
-use Rattle.raft_progress.specs.progress.ShownSteps.{IsShownRun}
-use Rattle.raft_progress.specs.progress.VecProgress.{shown}
+use Rattle.raft_progress.specs.progress.ViewSteps.{IsViewRun}
+use Rattle.raft_progress.specs.progress.VecProgress.{view}
 use Rattle.raft_progress.proofs.lemmas.progress.Traits.{compared}
 use Rattle.raft_progress.proofs.progress.replay_any_steps.replay_any.Given as goal
 
@@ -12,9 +12,9 @@ abbrev pub invariant-loop-step : goal.invariant-loop-step
 invariant-loop-step g l =
     let by = compared g.ID.PartialEq.eq g.ID.Ord.cmp g.P.Ord.cmp g.V.PartialOrd.partial_cmp g.V.ProgressPart.part_of g.V.Clone.is_clone in
     record {
-      ordered : IsInOrder by.eq by.cmp by.part g.QS.QuorumSet.has_quorum (shown l.progress);
+      ordered : IsInOrder by.eq by.cmp by.part g.QS.QuorumSet.has_quorum (view l.progress);
       left : l.yielded ++ into_iter_items l.step-iterator ≡ l.fn.steps.items;
-      room : vec_len l.replies + length (into_iter_items l.step-iterator) ≤ vec_capacity l.replies;
-      run : IsShownRun by g.QS.QuorumSet.has_quorum g.QS.QuorumSet.is_voter (shown l.fn.progress) l.yielded l.replies.items
-          (shown l.progress);
+      scratch : vec_len l.replies + length (into_iter_items l.step-iterator) ≤ vec_capacity l.replies;
+      run : IsViewRun by g.QS.QuorumSet.has_quorum g.QS.QuorumSet.is_voter (view l.fn.progress) l.yielded l.replies.items
+          (view l.progress);
     }

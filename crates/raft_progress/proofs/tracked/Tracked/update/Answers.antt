@@ -1,36 +1,36 @@
 use Rattle.std.specs.Coded.{Coded-set, coded_list}
 use Rattle.std.proofs.Common.{refl}
-use Rattle.raft_progress.specs.progress.VecProgress.{shown}
-use Rattle.raft_progress.specs.tracked.Tracked.{tracked}
+use Rattle.raft_progress.specs.progress.VecProgress.{view}
+use Rattle.raft_progress.specs.tracked.Tracked.{tracked_view}
 use Rattle.raft_progress.proofs.lemmas.tracked.HeadlineLemmas.{each_quorum_knows}
 use Rattle.raft_progress.proofs.lemmas.tracked.ReadyLemmas.{ready_of, ready_written}
 use Rattle.raft_progress.proofs.tracked.Tracked.update.Goals as goal
 
 pub write-requires : goal.write-requires
 write-requires g c = (ready_of g.met.NID.Eq.laws g.NID.Ord.cmp g.met.P.Ord.total g.V.ProgressPart.part_of
-    (Coded-set (coded_list (coded_list g.row.NID.coded))) (tracked c.args.self.now) c.args.self.now.ready).ordered
+    (Coded-set (coded_list (coded_list g.row.NID.coded))) (tracked_view c.args.self.now) c.args.self.now.ready).ordered
 
 pub returns-clause-ready : goal.returns-clause-ready
 returns-clause-ready g c = ready_written g.met.NID.Eq.laws g.NID.Ord.cmp g.met.P.Ord.total g.V.ProgressPart.part_of
-    (Coded-set (coded_list (coded_list g.row.NID.coded))) (tracked c.args.self.now)
-    (record { membership = c.args.self.now.membership; progress = shown c.write.new.self }) refl c.args.self.now.ready
+    (Coded-set (coded_list (coded_list g.row.NID.coded))) (tracked_view c.args.self.now)
+    (record { membership = c.args.self.now.membership; progress = view c.write.new.self }) refl c.args.self.now.ready
     c.write.ensures.ordered c.args.id.now c.args.value c.write.result c.write.ensures.step.values
 
 pub invariant_of-self : goal.invariant_of-self
 invariant_of-self g c = record {
   ready = ∣
       ready_written g.met.NID.Eq.laws g.NID.Ord.cmp g.met.P.Ord.total g.V.ProgressPart.part_of
-      (Coded-set (coded_list (coded_list g.row.NID.coded))) (tracked c.args.self.now)
-      (record { membership = c.args.self.now.membership; progress = shown c.write.new.self }) refl c.args.self.now.ready
+      (Coded-set (coded_list (coded_list g.row.NID.coded))) (tracked_view c.args.self.now)
+      (record { membership = c.args.self.now.membership; progress = view c.write.new.self }) refl c.args.self.now.ready
       c.write.ensures.ordered c.args.id.now c.args.value c.write.result c.write.ensures.step.values
       ∣₁;
 }
 
 pub returns-clause-quorums : goal.returns-clause-quorums
 returns-clause-quorums g c = λ some. (each_quorum_knows g.met.NID.Eq.laws g.NID.Ord.cmp g.met.P.Ord.total g.V.ProgressPart.part_of
-    (record { membership = c.args.self.now.membership; progress = shown c.write.new.self }) (returns-clause-ready g c) some).0
+    (record { membership = c.args.self.now.membership; progress = view c.write.new.self }) (returns-clause-ready g c) some).0
 
 pub returns-clause-changed_quorums : goal.returns-clause-changed_quorums
 returns-clause-changed_quorums g c = λ some.
     (each_quorum_knows g.met.NID.Eq.laws g.NID.Ord.cmp g.met.P.Ord.total g.V.ProgressPart.part_of
-    (record { membership = c.args.self.now.membership; progress = shown c.write.new.self }) (returns-clause-ready g c) some).1
+    (record { membership = c.args.self.now.membership; progress = view c.write.new.self }) (returns-clause-ready g c) some).1

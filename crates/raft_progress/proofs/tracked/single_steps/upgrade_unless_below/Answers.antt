@@ -2,10 +2,10 @@ use Rattle.std.specs.Coded.{Coded-set, coded_list}
 use Rattle.std.proofs.Common.{List, refl, subst, sym, true≢false}
 use Rattle.raft_members.specs.membership.Members.{members_of}
 use Rattle.raft_progress.specs.progress.CountedValue.{IsCounted}
-use Rattle.raft_progress.specs.progress.Shown.{state}
+use Rattle.raft_progress.specs.progress.ProgressView.{state}
 use Rattle.raft_progress.specs.progress.UpgradeFold.{IsUpgradeFold}
-use Rattle.raft_progress.specs.progress.VecProgress.{shown}
-use Rattle.raft_progress.specs.tracked.Tracked.{tracked}
+use Rattle.raft_progress.specs.progress.VecProgress.{view}
+use Rattle.raft_progress.specs.tracked.Tracked.{tracked_view}
 use Rattle.raft_progress.specs.tracked.TrackedState.{has_quorum, is_voter}
 use Rattle.raft_progress.proofs.lemmas.tracked.ReadyLemmas.{ready_of}
 use Rattle.raft_progress.proofs.lemmas.tracked.TrackedLemmas.{learners_of_fit, ready_upgraded}
@@ -20,7 +20,7 @@ upgrade_quorum_set-requires-clause-learners_fit g c =
 pub upgrade_quorum_set-requires-clause-ordered : goal.upgrade_quorum_set-requires-clause-ordered
 upgrade_quorum_set-requires-clause-ordered g c =
     (ready_of g.met.NID.Eq.laws g.NID.Ord.cmp g.met.P.Ord.total g.V.ProgressPart.part_of
-    (Coded-set (coded_list (coded_list g.row.NID.coded))) (tracked c.args.cluster.now) c.args.cluster.now.ready).ordered
+    (Coded-set (coded_list (coded_list g.row.NID.coded))) (tracked_view c.args.cluster.now) c.args.cluster.now.ready).ordered
 
 pub returns-in-Some-clause-step : goal.returns-in-Some-clause-step
 returns-in-Some-clause-step g c = record {
@@ -35,7 +35,7 @@ returns-in-Some-clause-step g c = record {
         learners_of_fit g.NID.PartialEq.eq (members_of g.NID.Ord.cmp c.args.next) c.args.configs c.args.learners.now c.requires.voters
             c.requires.are_learners,
         c.requires.some c.in-Some.id c.in-Some.is,
-        IsSame-refl (state g.NID.PartialEq.eq (shown c.args.cluster.now.progress)),
+        IsSame-refl (state g.NID.PartialEq.eq (view c.args.cluster.now.progress)),
       ),
     ),
   );
@@ -57,7 +57,7 @@ returns-in_ok-upgraded-in-None-clause-step g c = record {
         c.requires.none c.in-None.is,
         c.in_ok-upgraded-in-None.ensures.made,
         subst (λ (p : g.row.P.Denot). IsCounted g.P.Ord.cmp g.V.ProgressPart.part_of (has_quorum g.NID.PartialEq.eq)
-            (state g.NID.PartialEq.eq (shown c.in_ok-upgraded-in-None.upgraded)) p) (sym c.granted.ensures)
+            (state g.NID.PartialEq.eq (view c.in_ok-upgraded-in-None.upgraded)) p) (sym c.granted.ensures)
             c.in_ok-upgraded-in-None.ensures.ordered.counted,
       ),
     ),
@@ -68,8 +68,8 @@ returns-in_ok-upgraded-in-None-clause-step g c = record {
       configs = c.args.configs;
       has_configs = c.requires.configs;
       fold = subst (λ (ls : List g.row.NID.Denot). IsUpgradeFold g.NID.PartialEq.eq g.NID.Ord.cmp g.P.Ord.cmp g.V.ProgressPart.part_of
-          g.V.Clone.is_clone (has_quorum g.NID.PartialEq.eq) (is_voter g.NID.PartialEq.eq) (shown c.args.cluster.now.progress)
-          c.args.configs ls c.args.default (shown c.in_ok-upgraded-in-None.upgraded)) c.requires.learners
+          g.V.Clone.is_clone (has_quorum g.NID.PartialEq.eq) (is_voter g.NID.PartialEq.eq) (view c.args.cluster.now.progress)
+          c.args.configs ls c.args.default (view c.in_ok-upgraded-in-None.upgraded)) c.requires.learners
           c.in_ok-upgraded-in-None.ensures.fold;
     };
     tells = c.granted.ensures;
@@ -81,7 +81,7 @@ invariant_of-cluster g c = record {
   ready = ∣
       ready_upgraded g.NID.PartialEq.eq g.NID.Ord.cmp g.P.Ord.cmp g.V.ProgressPart.part_of c.args.next c.args.configs c.args.learners.now
       c.requires.voters c.requires.configs c.requires.are_learners g.V.Clone.is_clone c.args.default
-      ((state g.NID.PartialEq.eq (shown c.args.cluster.now.progress)).value) (shown c.in_ok-upgraded-in-None.upgraded)
+      ((state g.NID.PartialEq.eq (view c.args.cluster.now.progress)).value) (view c.in_ok-upgraded-in-None.upgraded)
       c.in_ok-upgraded-in-None.ensures.ordered
       c.in_ok-upgraded-in-None.ensures.made
       ∣₁;

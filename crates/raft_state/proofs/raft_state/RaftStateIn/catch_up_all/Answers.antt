@@ -1,8 +1,8 @@
 use Rattle.std.proofs.Common.{arith, ◌≡◌, ◌+◌, ◌∷◌, ◌∙◌, drop, refl, sym, ap}
 use Rattle.std.proofs.lemmas.List.{drop_more, drop_all}
-use Rattle.raft_progress.specs.progress.VecProgress.{shown}
+use Rattle.raft_progress.specs.progress.VecProgress.{view}
 use Rattle.raft_state.specs.raft_state.CatchUp.{state_can_catch_up}
-use Rattle.raft_state.specs.raft_state.StateView.{view_of}
+use Rattle.raft_state.specs.raft_state.VoteAndLog.{log_view_of}
 use Rattle.raft_state.proofs.lemmas.catch_up.RoundLemmas.{along_over, along_ran, round_end, round_of}
 use Rattle.raft_state.proofs.raft_state.RaftStateIn.catch_up_all.Goals.{then-visit, else-visit}
 use Rattle.raft_state.proofs.raft_state.RaftStateIn.catch_up_all.Goals as goal
@@ -10,10 +10,10 @@ use Rattle.raft_state.proofs.raft_state.RaftStateIn.catch_up_all.Goals as goal
 pub loop-follower-preserved : goal.loop-follower-preserved
 loop-follower-preserved g c =
     let can = state_can_catch_up g.C.PartialEq.eq g.C.Ord.cmp c.args.self.now in
-    let log = view_of c.args.self.now in
-    let old = shown c.args.progress.now in
-    let now = shown c.loop-follower.progress in
-    let next = shown c.visit.new.progress in
+    let log = log_view_of c.args.self.now in
+    let old = view c.args.progress.now in
+    let now = view c.loop-follower.progress in
+    let next = view c.visit.new.progress in
     let pairs = c.args.followers.now in
     let pair = c.follower-item.result in
     let few = c.loop-follower.invariant.small in
@@ -41,9 +41,9 @@ loop-follower-preserved g c =
 pub returns-clause-round : goal.returns-clause-round
 returns-clause-round g c =
     let can = state_can_catch_up g.C.PartialEq.eq g.C.Ord.cmp c.args.self.now in
-    let log = view_of c.args.self.now in
-    let old = shown c.args.progress.now in
-    let now = shown c.loop-follower.progress in
+    let log = log_view_of c.args.self.now in
+    let old = view c.args.progress.now in
+    let now = view c.loop-follower.progress in
     let pairs = c.args.followers.now in
     let end = rw (drop_all c.loop-follower.follower-index pairs c.loop-follower-test.false) at c.loop-follower.invariant.along in
     let round = round_of g.met.NID.Eq.laws g.C.Ord.cmp g.QS.QuorumSet.has_quorum log c.args.max_entries can g.C.PartialEq.eq old pairs

@@ -1,6 +1,6 @@
 use Rattle.std.proofs.Common.{◌≡◌, Some, refl, sym, ◌∙◌}
-use Rattle.raft_progress.specs.progress.Shown.{state}
-use Rattle.raft_progress.specs.progress.VecProgress.{shown}
+use Rattle.raft_progress.specs.progress.ProgressView.{state}
+use Rattle.raft_progress.specs.progress.VecProgress.{view}
 use Rattle.raft_state.proofs.lemmas.catch_up.RoundLemmas.{writes}
 use Rattle.raft_state.proofs.raft_state.RaftStateIn.visit.Goals as goal
 
@@ -26,8 +26,8 @@ returns-else-not-can_catch_up-clause-visited g c =
 
 pub returns-else-not-can_catch_up-clause-caught_up : goal.returns-else-not-can_catch_up-clause-caught_up
 returns-else-not-can_catch_up-clause-caught_up g c = λ _.
-    let known : (state g.NID.PartialEq.eq (shown c.args.progress.now)).value c.args.id.now ≡ Some c.in-Some.found =
+    let known : (state g.NID.PartialEq.eq (view c.args.progress.now)).value c.args.id.now ≡ Some c.in-Some.found =
     sym c.try_get.ensures ∙ sym c.copied.ensures ∙ c.in-Some.is in
-    let written = writes g.NID.PartialEq.eq _ _ (shown c.args.progress.now) (shown c.update.follows.lender-at-none) c.args.id.now
+    let written = writes g.NID.PartialEq.eq _ _ (view c.args.progress.now) (view c.update.follows.lender-at-none) c.args.id.now
     c.in-Some.found c.catch_up.new.entry c.update.follows.holds-at-none.updated known in
     (c.catch_up.new.entry, written.value c.args.id.now ∙ rw (g.met.NID.Eq.laws.refl c.args.id.now) refl, c.catch_up.ensures.caught_up)

@@ -1,6 +1,6 @@
 use Rattle.std.proofs.Common.{◌≡◌, ℕ, Bool, List, Global, Vec, nat_eq}
 use Rattle.raft_members.specs.quorum.Majority.{is_majority}
-use Rattle.raft_progress.specs.progress.VecProgress.{shown}
+use Rattle.raft_progress.specs.progress.VecProgress.{view}
 use Rattle.raft_state.specs.raft_state.Round.{Followers, QuorumRan}
 use Rattle.raft_state_tests.proofs.support.followers.caught_up.Goals as goal
 
@@ -18,5 +18,5 @@ returns g c =
       end.0,
       end.1.counted,
       quorum_still nat_eq (λ (voters : Vec ℕ Global) reached. is_majority nat_eq voters.items reached)
-          (shown c.args.followers.now) (shown c.is_in_order.new.self) end.0 c.is_in_order.ensures.same end.1.last_at_most,
+          (view c.args.followers.now) (view c.is_in_order.new.self) end.0 c.is_in_order.ensures.same end.1.last_at_most,
     )

@@ -14,7 +14,7 @@ use Rattle.raft_progress.proofs.progress.vec_progress.VecProgress.least_of.Goals
 pub loop-id-preserved : goal.loop-id-preserved
 loop-id-preserved g c = λ seen h.
     let test = λ (x : g.row.ID.Denot). is_value_below g.P.Ord.cmp g.V.ProgressPart.part_of c.args.part
-    (lookup (g.ID.PartialEq.eq x) c.args.self.now.walk.items) in
+    (lookup (g.ID.PartialEq.eq x) c.args.self.now.entries.items) in
     let ids = c.args.ids.now in
     let i = c.loop-id.id-index in
     let x = c.id-item.result in
@@ -44,5 +44,5 @@ loop-id-preserved g c = λ seen h.
 pub returns : goal.returns
 returns g c = λ seen h.
     subst (λ (xs : List g.row.ID.Denot). IsLeastPassing g.ID.Ord.cmp (λ x. is_value_below g.P.Ord.cmp g.V.ProgressPart.part_of c.args.part
-    (lookup (g.ID.PartialEq.eq x) c.args.self.now.walk.items)) (seen ++ xs) c.loop-id.least)
+    (lookup (g.ID.PartialEq.eq x) c.args.self.now.entries.items)) (seen ++ xs) c.loop-id.least)
     (take_all c.loop-id.id-index c.args.ids.now (omega arith)) (c.loop-id.invariant seen h)

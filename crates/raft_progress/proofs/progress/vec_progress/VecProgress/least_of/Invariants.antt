@@ -7,6 +7,6 @@ use Rattle.raft_progress.proofs.progress.vec_progress.VecProgress.least_of.Given
 abbrev pub invariant-loop-id : goal.invariant-loop-id
 invariant-loop-id g l =
     let test = λ (x : g.row.ID.Denot). is_value_below g.P.Ord.cmp g.V.ProgressPart.part_of l.part
-    (lookup (g.ID.PartialEq.eq x) l.self.walk.items) in
+    (lookup (g.ID.PartialEq.eq x) l.self.entries.items) in
     (seen : List g.row.ID.Denot) → IsLeastPassing g.ID.Ord.cmp test seen l.fn.so_far
     → IsLeastPassing g.ID.Ord.cmp test (seen ++ take l.id-index l.ids) l.least

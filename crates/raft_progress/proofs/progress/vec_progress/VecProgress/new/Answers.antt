@@ -21,8 +21,8 @@ returns-clause-made g c =
     c.requires.clones_have_the_part _ _ _
     (IsDistinct-from_cmp g.ID.Ord.cmp g.met.ID.Ord.matches_eq _ c.in_ok-scratch.ensures.ascending)
     c.in_ok-scratch.ensures.voters c.requires.learners_fit
-    (keys_placed _ _ _ _ _ c.in_ok-walk.ensures.items voters rest ∙ ap (λ ids. ids ++ c.args.learners.now) c.deref.ensures.value)
-    (all_placed _ _ _ _ _ c.in_ok-walk.ensures.items voters rest)
+    (keys_placed _ _ _ _ _ c.in_ok-entries.ensures.items voters rest ∙ ap (λ ids. ids ++ c.args.learners.now) c.deref.ensures.value)
+    (all_placed _ _ _ _ _ c.in_ok-entries.ensures.items voters rest)
     (c.len-voter_count.ensures ∙ c.in_ok-scratch.scratch.ok.0) c.part-part.ensures
 
 pub returns-clause-ordered : goal.returns-clause-ordered
@@ -34,15 +34,15 @@ returns-clause-ordered g c =
     c.requires.clones_have_the_part _ _ _
     (IsDistinct-from_cmp g.ID.Ord.cmp g.met.ID.Ord.matches_eq _ c.in_ok-scratch.ensures.ascending)
     c.in_ok-scratch.ensures.voters c.requires.learners_fit
-    (keys_placed _ _ _ _ _ c.in_ok-walk.ensures.items voters rest ∙ ap (λ ids. ids ++ c.args.learners.now) c.deref.ensures.value)
-    (all_placed _ _ _ _ _ c.in_ok-walk.ensures.items voters rest)
+    (keys_placed _ _ _ _ _ c.in_ok-entries.ensures.items voters rest ∙ ap (λ ids. ids ++ c.args.learners.now) c.deref.ensures.value)
+    (all_placed _ _ _ _ _ c.in_ok-entries.ensures.items voters rest)
     (c.len-voter_count.ensures ∙ c.in_ok-scratch.scratch.ok.0) c.part-part.ensures
 
-pub returns-clause-walk : goal.returns-clause-walk
-returns-clause-walk g c = record {
+pub returns-clause-entries : goal.returns-clause-entries
+returns-clause-entries g c = record {
   voters = c.in_ok-scratch.scratch.items;
   ascending = c.in_ok-scratch.ensures.ascending;
-  ids = keys_placed _ _ _ _ _ c.in_ok-walk.ensures.items c.in_ok-append_ids.ensures c.in_ok-append_ids-2.ensures
+  ids = keys_placed _ _ _ _ _ c.in_ok-entries.ensures.items c.in_ok-append_ids.ensures c.in_ok-append_ids-2.ensures
       ∙ ap (λ ids. ids ++ c.args.learners.now) c.deref.ensures.value;
   first = c.len-voter_count.ensures ∙ c.in_ok-scratch.scratch.ok.0;
 }
@@ -50,16 +50,16 @@ returns-clause-walk g c = record {
 pub invariant_of-result : goal.invariant_of-result
 invariant_of-result g c = record {
   voters_fit = voters_within _ c.in_ok-scratch.scratch.items c.args.learners.now _
-      (keys_placed _ _ _ _ _ c.in_ok-walk.ensures.items c.in_ok-append_ids.ensures c.in_ok-append_ids-2.ensures
+      (keys_placed _ _ _ _ _ c.in_ok-entries.ensures.items c.in_ok-append_ids.ensures c.in_ok-append_ids-2.ensures
       ∙ ap (λ ids. ids ++ c.args.learners.now) c.deref.ensures.value) (c.len-voter_count.ensures ∙ c.in_ok-scratch.scratch.ok.0);
   scratch_fits = sym (c.len-voter_count.ensures ∙ c.in_ok-scratch.scratch.ok.0);
-  agree = λ fresh. rw c.deref-2.ensures.value at c.in_ok-places.ensures.tells;
+  agree = λ fresh. rw c.deref-2.ensures.value at c.in_ok-positions.ensures.tells;
 }
 
 pub of-requires : goal.of-requires
 of-requires g c =
     subst (IsDistinct g.ID.PartialEq.eq) (sym
-    (ap keys_of c.deref-2.ensures.value ∙ keys_placed _ _ _ _ _ c.in_ok-walk.ensures.items c.in_ok-append_ids.ensures
+    (ap keys_of c.deref-2.ensures.value ∙ keys_placed _ _ _ _ _ c.in_ok-entries.ensures.items c.in_ok-append_ids.ensures
     c.in_ok-append_ids-2.ensures ∙ ap (λ ids. ids ++ c.args.learners.now) c.deref.ensures.value))
     (distinct_with_learners g.met.ID.Eq.laws (g.QS.QuorumSet.is_voter c.args.quorum_set) c.in_ok-scratch.scratch.items c.args.learners.now
     (IsDistinct-from_cmp g.ID.Ord.cmp g.met.ID.Ord.matches_eq _ c.in_ok-scratch.ensures.ascending) c.in_ok-scratch.ensures.voters

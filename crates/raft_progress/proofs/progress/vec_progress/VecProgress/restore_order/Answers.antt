@@ -20,7 +20,7 @@ use Rattle.std.proofs.Common.{
 use Rattle.std.specs.List.{IsDistinct}
 use Rattle.std.specs.Map.{keys_of}
 use Rattle.std.proofs.lemmas.Option.{get_or_from_slice_get}
-use Rattle.raft_progress.specs.progress.VecProgress.{shown}
+use Rattle.raft_progress.specs.progress.VecProgress.{view}
 use Rattle.raft_progress.proofs.lemmas.OrderLemmas.{le_lt}
 use Rattle.raft_progress.proofs.lemmas.ListLemmas.{element_at}
 use Rattle.raft_progress.proofs.lemmas.progress.entries.MovedLemmas.{distinct_moved}
@@ -37,21 +37,21 @@ and_false false c e = refl
 
 pub returns-then-position-self : goal.returns-then-position-self
 returns-then-position-self g c =
-    let e = element_at c.args.self.now.walk.items c.args.position c.requires.within in
+    let e = element_at c.args.self.now.entries.items c.args.position c.requires.within in
     let rises : Bool = is_lt (g.P.Ord.cmp c.args.before (g.V.ProgressPart.part_of e.0.1))
     && is_lt (g.P.Ord.cmp c.args.self.now.granted (g.V.ProgressPart.part_of e.0.1)) in
     let no : (nat_lt c.args.position c.args.self.now.voter_count && rises) ≡ false =
     ap (λ b. b && rises) (le-ltb c.args.position c.args.self.now.voter_count c.if-position-self.true) in
     record {
       entry = e.0;
-      at = sym (get_or_from_slice_get c.args.self.now.walk.items c.args.position e.0 e.0 e.1);
+      at = sym (get_or_from_slice_get c.args.self.now.entries.items c.args.position e.0 e.0 e.1);
       raised = λ h. absurd (true≢false (sym h ∙ no));
       kept = λ h. refl;
     }
 
 pub returns-then-not-is_below : goal.returns-then-not-is_below
 returns-then-not-is_below g c =
-    let e = element_at c.args.self.now.walk.items c.args.position c.requires.within in
+    let e = element_at c.args.self.now.entries.items c.args.position c.requires.within in
     let same : c.args.after ≡ g.V.ProgressPart.part_of e.0.1 = c.requires.at e.0 e.1 in
     let rises : Bool = is_lt (g.P.Ord.cmp c.args.before (g.V.ProgressPart.part_of e.0.1))
     && is_lt (g.P.Ord.cmp c.args.self.now.granted (g.V.ProgressPart.part_of e.0.1)) in
@@ -61,7 +61,7 @@ returns-then-not-is_below g c =
     (and_false (is_lt (g.P.Ord.cmp c.args.before (g.V.ProgressPart.part_of e.0.1))) _ (rw (← same) low)) in
     record {
       entry = e.0;
-      at = sym (get_or_from_slice_get c.args.self.now.walk.items c.args.position e.0 e.0 e.1);
+      at = sym (get_or_from_slice_get c.args.self.now.entries.items c.args.position e.0 e.0 e.1);
       raised = λ h. absurd (true≢false (sym h ∙ no));
       kept = λ h. refl;
     }
@@ -70,12 +70,12 @@ pub find_granted-requires-clause-distinct : goal.find_granted-requires-clause-di
 find_granted-requires-clause-distinct g c =
     let p = c.move_voter_up-to.ensures.risen.rises.passes in
     subst (λ (es : List (g.row.ID.Denot × g.row.V.Denot)). IsDistinct g.ID.PartialEq.eq (keys_of es)) (sym p.now)
-    (distinct_moved g.met.ID.Eq.laws p.front p.passed p.entry p.rest
+    (distinct_moved g.met.ID.Eq.laws p.prefix p.passed p.entry p.rest
     (subst (λ (es : List (g.row.ID.Denot × g.row.V.Denot)). IsDistinct g.ID.PartialEq.eq (keys_of es)) p.was c.requires.distinct))
 
 pub returns-then-not-is_below-2 : goal.returns-then-not-is_below-2
 returns-then-not-is_below-2 g c =
-    let e = element_at c.args.self.now.walk.items c.args.position c.requires.within in
+    let e = element_at c.args.self.now.entries.items c.args.position c.requires.within in
     let same : c.args.after ≡ g.V.ProgressPart.part_of e.0.1 = c.requires.at e.0 e.1 in
     let down : is_lt (g.P.Ord.cmp c.args.before c.args.after) ≡ false = cc in
     let rises : Bool = is_lt (g.P.Ord.cmp c.args.before (g.V.ProgressPart.part_of e.0.1))
@@ -83,14 +83,14 @@ returns-then-not-is_below-2 g c =
     let no : rises ≡ false = rw (← same, down) refl in
     record {
       entry = e.0;
-      at = sym (get_or_from_slice_get c.args.self.now.walk.items c.args.position e.0 e.0 e.1);
+      at = sym (get_or_from_slice_get c.args.self.now.entries.items c.args.position e.0 e.0 e.1);
       raised = λ h. absurd (true≢false (sym h ∙ and_false (nat_lt c.args.position c.args.self.now.voter_count) rises no));
       kept = λ h. refl;
     }
 
 pub returns-then-passes_granted : goal.returns-then-passes_granted
 returns-then-passes_granted g c =
-    let e = element_at c.args.self.now.walk.items c.args.position c.requires.within in
+    let e = element_at c.args.self.now.entries.items c.args.position c.requires.within in
     let same : c.args.after ≡ g.V.ProgressPart.part_of e.0.1 = c.requires.at e.0 e.1 in
     let high : is_lt (g.P.Ord.cmp c.args.self.now.granted c.args.after) ≡ true = cc in
     let low : is_le (g.P.Ord.cmp c.args.before c.args.self.now.granted) ≡ true = cc in
@@ -100,9 +100,9 @@ returns-then-passes_granted g c =
     rw (lt-ltb _ _ c.if-position-self.false, ← same, le_lt g.met.P.Ord.total _ _ _ low high, high) refl in
     record {
       entry = e.0;
-      at = sym (get_or_from_slice_get c.args.self.now.walk.items c.args.position e.0 e.0 e.1);
+      at = sym (get_or_from_slice_get c.args.self.now.entries.items c.args.position e.0 e.0 e.1);
       raised = λ h. record {
-        middle = shown c.move_voter_up-to.new.self;
+        middle = view c.move_voter_up-to.new.self;
         to = c.move_voter_up-to.result;
         risen = c.move_voter_up-to.ensures.risen;
         looked = λ f. c.find_granted.ensures;
@@ -113,7 +113,7 @@ returns-then-passes_granted g c =
 
 pub returns-else-passes_granted : goal.returns-else-passes_granted
 returns-else-passes_granted g c =
-    let e = element_at c.args.self.now.walk.items c.args.position c.requires.within in
+    let e = element_at c.args.self.now.entries.items c.args.position c.requires.within in
     let same : c.args.after ≡ g.V.ProgressPart.part_of e.0.1 = c.requires.at e.0 e.1 in
     let high : is_lt (g.P.Ord.cmp c.args.self.now.granted c.args.after) ≡ true = cc in
     let above : is_le (g.P.Ord.cmp c.args.before c.args.self.now.granted) ≡ false = cc in
@@ -129,9 +129,9 @@ returns-else-passes_granted g c =
     rw (lt-ltb _ _ c.if-position-self.false, ← same, up, high) refl in
     record {
       entry = e.0;
-      at = sym (get_or_from_slice_get c.args.self.now.walk.items c.args.position e.0 e.0 e.1);
+      at = sym (get_or_from_slice_get c.args.self.now.entries.items c.args.position e.0 e.0 e.1);
       raised = λ h. record {
-        middle = shown c.move_voter_up-to.new.self;
+        middle = view c.move_voter_up-to.new.self;
         to = c.move_voter_up-to.result;
         risen = c.move_voter_up-to.ensures.risen;
         looked = λ f. absurd (true≢false (sym f ∙ above));

@@ -3,27 +3,27 @@ use Rattle.std.specs.List.{prefix_len}
 use Rattle.std.proofs.lemmas.List.{length-take, get_or-take}
 use Rattle.std.proofs.lemmas.List.Sums.{prefix_len-le-length}
 use Rattle.raft_progress.specs.Inner.Recount.{exceeds}
-use Rattle.raft_progress.specs.Inner.Rises.{IsLeastFront}
+use Rattle.raft_progress.specs.Inner.Rises.{IsShortestPrefix}
 use Rattle.raft_progress.proofs.lemmas.progress.UpdateLemmas.{IsDistinct-voters}
 use Rattle.raft_progress.proofs.lemmas.ListLemmas.{length_take_le}
 use Rattle.raft_progress.proofs.progress.vec_progress.VecProgress.test_prefixes.Goals as goal
 
 -- the end of a prefix that was found, over the voters, of which the first `high` lead
-module _ {ID V : Type 0} {eq : ID → ID → Bool} {has_quorum : (ID → Bool) → Bool} {place high tests : ℕ} {found : Option ℕ}
+module _ {ID V : Type 0} {eq : ID → ID → Bool} {has_quorum : (ID → Bool) → Bool} {position high tests : ℕ} {found : Option ℕ}
     (leads : ID × V → Bool) (n : ℕ) (lent : List (ID × V)) (count : high ≡ prefix_len leads (take n lent))
-    (least : IsLeastFront eq has_quorum (take n lent) place high found tests) where
-  front_within : (k : ℕ) → found ≡ Some k → (place < k) × (k ≤ length (take n lent))
+    (least : IsShortestPrefix eq has_quorum (take n lent) position high found tests) where
+  front_within : (k : ℕ) → found ≡ Some k → (position < k) × (k ≤ length (take n lent))
   front_within k is =
       let far = least.within k is in
       let top = prefix_len-le-length leads (take n lent) in
       (least.above k is, omega arith)
 
   -- the same over the entries
-  least_of_walk : (walk : List (ID × V)) → lent ≡ walk
-      → IsLeastFront eq has_quorum (take n walk) place (prefix_len leads (take n walk)) found tests
-  least_of_walk walk same =
-      subst (λ ws. IsLeastFront eq has_quorum (take n ws) place (prefix_len leads (take n ws)) found tests) same
-      (subst (λ h. IsLeastFront eq has_quorum (take n lent) place h found tests) count least)
+  least_of_entries : (entries : List (ID × V)) → lent ≡ entries
+      → IsShortestPrefix eq has_quorum (take n entries) position (prefix_len leads (take n entries)) found tests
+  least_of_entries entries same =
+      subst (λ ws. IsShortestPrefix eq has_quorum (take n ws) position (prefix_len leads (take n ws)) found tests) same
+      (subst (λ h. IsShortestPrefix eq has_quorum (take n lent) position h found tests) count least)
 
 pub find_shortest_quorum-found-requires-clause-within : goal.find_shortest_quorum-found-requires-clause-within
 find_shortest_quorum-found-requires-clause-within g c =
@@ -33,7 +33,8 @@ find_shortest_quorum-found-requires-clause-within g c =
 
 pub find_shortest_quorum-found-requires-clause-distinct : goal.find_shortest_quorum-found-requires-clause-distinct
 find_shortest_quorum-found-requires-clause-distinct g c =
-    rw c.deref.ensures.value (IsDistinct-voters g.met.ID.Eq.laws c.args.self.now.voter_count c.args.self.now.walk.items c.requires.distinct)
+    rw c.deref.ensures.value (IsDistinct-voters g.met.ID.Eq.laws c.args.self.now.voter_count c.args.self.now.entries.items
+        c.requires.distinct)
 
 pub index-requires : goal.index-requires
 index-requires g c =
@@ -43,19 +44,19 @@ index-requires g c =
     let far = at.1 in
     let t = length-take c.args.self.now.voter_count c.deref.result.now in
     let f = c.args.self.now.voters_fit in
-    let q = c.args.self.now.walk.ok.0 in
+    let q = c.args.self.now.entries.ok.0 in
     let z = ap (length {A = g.row.ID.Denot × g.row.V.Denot}) c.deref.ensures.value in
     omega arith
 
 pub returns-in-Some : goal.returns-in-Some
 returns-in-Some g c = record {
   group = record { quorum_set = refl; voter_count = refl; default_part = refl; updates = refl };
-  same_walk = refl;
+  same_progress_entries = refl;
   moves = refl;
   found = c.find_shortest_quorum-found.result.len;
   tests = c.find_shortest_quorum-found.result.tests;
-  scanned = least_of_walk (exceeds g.P.Ord.cmp g.V.ProgressPart.part_of c.args.self.now.granted) c.args.self.now.voter_count
-      c.deref.result.now c.gather_leading-high.ensures.count c.find_shortest_quorum-found.ensures c.args.self.now.walk.items
+  scanned = least_of_entries (exceeds g.P.Ord.cmp g.V.ProgressPart.part_of c.args.self.now.granted) c.args.self.now.voter_count
+      c.deref.result.now c.gather_leading-high.ensures.count c.find_shortest_quorum-found.ensures c.args.self.now.entries.items
       c.deref.ensures.value;
   counts = c.saturating_add-self.ensures;
   stays = λ e. cc;
@@ -67,8 +68,8 @@ returns-in-Some g c = record {
       let far = at.1 in
       let t = length_take_le c.deref.result.now c.args.self.now.voter_count in (
         c.index.result.now,
-        c.index.ensures ∙ ap (λ n. get_or c.args.self.now.walk.items (n - 1) c.index.result.now) is
-            ∙ sym (get_or-take c.args.self.now.voter_count c.args.self.now.walk.items (k - 1) c.index.result.now (omega arith)),
+        c.index.ensures ∙ ap (λ n. get_or c.args.self.now.entries.items (n - 1) c.index.result.now) is
+            ∙ sym (get_or-take c.args.self.now.voter_count c.args.self.now.entries.items (k - 1) c.index.result.now (omega arith)),
         c.part-self.ensures,
       );
 }
@@ -76,12 +77,12 @@ returns-in-Some g c = record {
 pub returns-in_default : goal.returns-in_default
 returns-in_default g c = record {
   group = record { quorum_set = refl; voter_count = refl; default_part = refl; updates = refl };
-  same_walk = refl;
+  same_progress_entries = refl;
   moves = refl;
   found = c.find_shortest_quorum-found.result.len;
   tests = c.find_shortest_quorum-found.result.tests;
-  scanned = least_of_walk (exceeds g.P.Ord.cmp g.V.ProgressPart.part_of c.args.self.now.granted) c.args.self.now.voter_count
-      c.deref.result.now c.gather_leading-high.ensures.count c.find_shortest_quorum-found.ensures c.args.self.now.walk.items
+  scanned = least_of_entries (exceeds g.P.Ord.cmp g.V.ProgressPart.part_of c.args.self.now.granted) c.args.self.now.voter_count
+      c.deref.result.now c.gather_leading-high.ensures.count c.find_shortest_quorum-found.ensures c.args.self.now.entries.items
       c.deref.ensures.value;
   counts = c.saturating_add-self.ensures;
   stays = λ e. refl;

@@ -1,7 +1,7 @@
 use Rattle.std.proofs.Common.{◌≡◌, Bool, true, false, not, Option, Some, None, refl}
 use Rattle.std.specs.Option.{is_some}
-use Rattle.raft_progress.specs.progress.Shown.{state}
-use Rattle.raft_progress.specs.progress.VecProgress.{shown}
+use Rattle.raft_progress.specs.progress.ProgressView.{state}
+use Rattle.raft_progress.specs.progress.VecProgress.{view}
 use Rattle.raft_progress.proofs.lemmas.progress.upgrade.BelowLemmas.{below_refuses}
 use Rattle.raft_progress.proofs.progress.vec_progress.VecProgressProgress.can_upgrade.Goals as goal
 
@@ -21,5 +21,5 @@ returns g c = (
   (λ can. test_from_not_some _ _ c.is_none.ensures
       (λ id e. below_refuses g.ID.PartialEq.eq g.ID.Ord.cmp g.met.P.Ord.total g.V.ProgressPart.part_of
       (g.QS.QuorumSet.is_voter c.args.quorum_set.now) c.args.learners.now c.args.default.now
-      ((state g.ID.PartialEq.eq (shown c.args.self.now)).value) id (c.in_ok-least.ensures.some id e) can)),
+      ((state g.ID.PartialEq.eq (view c.args.self.now)).value) id (c.in_ok-least.ensures.some id e) can)),
 )

@@ -1,6 +1,6 @@
 use Rattle.std.proofs.Common.{refl, rules}
 use Rattle.raft_progress.specs.progress.Updated.{IsGreaterOf}
-use Rattle.raft_progress.specs.progress.VecProgress.{shown}
+use Rattle.raft_progress.specs.progress.VecProgress.{view}
 use Rattle.raft_progress.proofs.lemmas.progress.upgrade.FoldLemmas.{updated_weaker}
 use Rattle.raft_progress.proofs.progress.vec_progress.VecProgressProgress.increase_to.Goals as goal
 
@@ -12,8 +12,8 @@ returns g c =
         (λ _. tt),
         record {
           updated = updated_weaker g.ID.PartialEq.eq g.P.Ord.cmp g.V.ProgressPart.part_of _
-              (IsGreaterOf g.V.PartialOrd.partial_cmp c.args.value) (λ v w left. search rules) (shown c.args.self.now) c.args.id.now
-              (shown c.update_with.follows.lender-at-none) h.updated;
+              (IsGreaterOf g.V.PartialOrd.partial_cmp c.args.value) (λ v w left. search rules) (view c.args.self.now) c.args.id.now
+              (view c.update_with.follows.lender-at-none) h.updated;
           ordered = h.ordered;
           granted = h.granted;
           known = h.known;

@@ -1,4 +1,0 @@
-pub mod InverseLemmas
-pub mod LookupLemmas
-pub mod MadeLemmas
-pub mod PlacesLemmas

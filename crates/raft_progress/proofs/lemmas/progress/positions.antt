@@ -1,0 +1,4 @@
+pub mod InverseLemmas
+pub mod LookupLemmas
+pub mod MadeLemmas
+pub mod PositionsLemmas

@@ -1,0 +1,417 @@
+//! Progresses, replays and searches, with each allocation refused in turn or all of them.
+
+use super::{catch_up, entry, inflight, search, vec_progress};
+use crate::support::members::{TrackedNumbers, members};
+use crate::support::quorums::of_five;
+use crate::support::rows::{self, Numbers};
+use crate::support::steps::updated;
+use crate::support::values::purged_log;
+use crate::tracked as worked;
+use raft_base::{EmptyNode, LeaderId};
+use raft_members::quorum::QuorumSet;
+use raft_progress::progress::{AnyStep, Progress, Reply, VecProgress, replay_any};
+use raft_progress::tracked::{Step, Tracked, replay};
+use raft_testing::allocations::{Allocation, is_free, is_free_on, is_swept, is_swept_by, refuse_each};
+use raft_testing::memory::both;
+use raft_testing::plain_log::{PlainLog, log_below};
+use std::alloc::{AllocError, Global};
+use std::io;
+use std::process::Abort;
+use std::test::Fail;
+
+/// A progress of some voters and one learner at 0.
+fn begun(alloc: Global, voters: &[u64], learner: u64) -> Result<Numbers, AllocError> {
+    let voters = voters.to_vec(alloc)?;
+    if !Numbers::learners_fit(alloc, &voters, &[learner])? {
+        return Err(AllocError);
+    }
+    VecProgress::new(alloc, voters, &[learner], 0)
+}
+
+/// Updates a progress of the voters 1 to 3 and a learner 5, so that 3 alone is still at 0.
+fn move_on(alloc: Global, progress: &mut Numbers) -> Result<(), AllocError> {
+    let steps = vec![in alloc;
+        AnyStep::Update(1, 5),
+        AnyStep::Update(2, 6),
+        AnyStep::Update(5, 9),
+    ]?;
+    let _replies = replayed(alloc, progress, steps)?;
+    Ok(())
+}
+
+/// The voters 1 to 3 and a learner 5 after these updates.
+fn moved(alloc: Global) -> Result<Numbers, AllocError> {
+    let mut progress = begun(alloc, &[1, 2, 3], 5)?;
+    move_on(alloc, &mut progress)?;
+    Ok(progress)
+}
+
+/// An equal progress, whose learner was 8 and became 5 through `iter_mut` before the updates.
+fn renamed(alloc: Global) -> Result<Numbers, AllocError> {
+    let mut progress = begun(alloc, &[1, 2, 3], 8)?;
+    for entry in progress.iter_mut() {
+        if entry.0 == 8 {
+            entry.0 = 5;
+        }
+    }
+    move_on(alloc, &mut progress)?;
+    Ok(progress)
+}
+
+/// Clones a progress.
+fn cloned(allocation: Allocation, progress: &Numbers) -> Result<Numbers, AllocError> {
+    allocation.refuse();
+    progress.try_clone()
+}
+
+/// Upgrades any progress to the voters 2 to 4 and the learner 1.
+fn upgraded<P: Progress<u64, u64, u64, Vec<u64>>>(
+    allocation: Allocation,
+    old: &mut P,
+) -> Result<P, AllocError> {
+    let voters = [2, 3, 4].to_vec(allocation.alloc)?;
+    let fits = P::learners_fit(allocation.alloc, &voters, &[1])?;
+    let is_allowed = old.can_upgrade(&voters, &[1], &0)?;
+    if !fits || !is_allowed || !old.is_in_order() {
+        return Err(AllocError);
+    }
+    allocation.refuse();
+    old.upgrade_quorum_set(voters, &[1], 0)
+}
+
+type Replies = Vec<Reply<u64, u64>>;
+
+/// The position of the first reply of out of memory.
+fn refused_place(replies: &[Reply<u64, u64>]) -> Option<usize> {
+    replies
+        .iter()
+        .position(|reply| *reply == Reply::OutOfMemory)
+}
+
+/// Whether replies without the one at a position are others, of which none is out of memory.
+fn are_without(replies: &[Reply<u64, u64>], place: usize, others: &[Reply<u64, u64>]) -> bool {
+    let kept = replies
+        .iter()
+        .enumerate()
+        .filter(|(at, _)| *at != place)
+        .map(|(_, reply)| reply);
+    kept.eq(others.iter()) && refused_place(others).is_none()
+}
+
+/// Steps of a progress that has moved, with two upgrades.
+const ROWS: [rows::Row; 5] = [
+    rows::Row::Update(3, 4),
+    rows::Row::Upgrade(&[2, 3, 4], &[1], 0),
+    rows::Row::Update(3, 8),
+    rows::Row::Upgrade(&[1, 3], &[], 4),
+    rows::Row::IncreaseTo(3, 9),
+];
+
+/// The steps of the rows without the one at a position.
+fn any_steps(
+    alloc: Global,
+    without: Option<usize>,
+) -> Result<Vec<AnyStep<u64, u64, Vec<u64>>>, AllocError> {
+    let mut steps = Vec::new(alloc);
+    for (place, row) in ROWS.iter().enumerate() {
+        if Some(place) != without {
+            steps.push(rows::step(alloc, row)?)?;
+        }
+    }
+    Ok(steps)
+}
+
+/// Replays steps of a progress, which has to be in order.
+fn replayed(
+    alloc: Global,
+    progress: &mut Numbers,
+    steps: Vec<AnyStep<u64, u64, Vec<u64>>>,
+) -> Result<Replies, AllocError> {
+    if !progress.is_in_order() {
+        return Err(AllocError);
+    }
+    replay_any(alloc, progress, steps)
+}
+
+/// Whether an upgrade was out of memory, and the other steps were carried out as without it.
+fn others_are_replayed(
+    alloc: Global,
+    replies: &Replies,
+    left: &Numbers,
+) -> Result<bool, AllocError> {
+    let Some(place) = refused_place(replies) else {
+        return Ok(false);
+    };
+    let mut other = moved(alloc)?;
+    let others = replayed(alloc, &mut other, any_steps(alloc, Some(place))?)?;
+    let is_upgrade = matches!(ROWS.get(place), Some(rows::Row::Upgrade(..)));
+    Ok(is_upgrade && are_without(replies, place, &others) && other == *left)
+}
+
+#[test]
+fn allocations_of_progresses(rt: HostRuntime) -> Result<(), Fail> {
+    let alloc = rt.alloc();
+    let nothing = |_: Global| Ok(());
+    let new = |allocation: Allocation, _: &mut ()| {
+        let voters = [1, 2, 3].to_vec(allocation.alloc)?;
+        if !Numbers::learners_fit(allocation.alloc, &voters, &[5, 6])? {
+            return Err(AllocError);
+        }
+        allocation.refuse();
+        Numbers::new(allocation.alloc, voters, &[5, 6], 7)
+    };
+    let clone = |allocation: Allocation, progress: &mut Numbers| cloned(allocation, progress);
+    let upgrade = |allocation: Allocation, progress: &mut Numbers| upgraded(allocation, progress);
+    let moved = |alloc: Global| moved(alloc);
+    assert!(rt; is_swept(&rt, alloc, "VecProgress::new", nothing, new)?);
+    assert!(rt; is_swept(&rt, alloc, "VecProgress::try_clone", moved, clone)?);
+    assert!(rt; is_swept(&rt, alloc, "Progress::upgrade_quorum_set", moved, upgrade)?);
+    Ok(())
+}
+
+#[test]
+fn allocations_of_steps(rt: HostRuntime) -> Result<(), Fail> {
+    let begun = |alloc: Global| moved(alloc);
+    let call = |allocation: Allocation, progress: &mut Numbers| {
+        let steps = any_steps(allocation.alloc, None)?;
+        allocation.refuse();
+        replayed(allocation.alloc, progress, steps)
+    };
+    let is_right = |alloc: Global, made: (&Replies, &Numbers), _: (&Replies, &Numbers)| {
+        others_are_replayed(alloc, made.0, made.1)
+    };
+    assert!(rt; is_swept_by(&rt, rt.alloc(), "replay_any", begun, call, is_right)?);
+    Ok(())
+}
+
+/// The membership of two voters and a learner, and their progress at 0, as the worked steps begin.
+fn tracked(alloc: Global) -> Result<TrackedNumbers, AllocError> {
+    Tracked::new(members(alloc, &[&[1, 2]])?, 0)
+}
+
+/// The worked steps without the one at a position.
+fn steps(
+    alloc: Global,
+    without: Option<usize>,
+) -> Result<Vec<Step<u64, EmptyNode, u64>>, AllocError> {
+    let mut steps = Vec::new(alloc);
+    for (place, (row, _)) in worked::ROWS.iter().enumerate() {
+        if Some(place) != without {
+            steps.push(worked::step(alloc, row)?)?;
+        }
+    }
+    Ok(steps)
+}
+
+/// Replies, and what they leave.
+type Left<'a> = (&'a Replies, &'a TrackedNumbers);
+
+/// Whether a change was out of memory, and the other steps were carried out as without it.
+fn others_are_tracked(
+    alloc: Global,
+    replies: &Replies,
+    left: &TrackedNumbers,
+) -> Result<bool, AllocError> {
+    let Some(place) = refused_place(replies) else {
+        return Ok(false);
+    };
+    let mut other = tracked(alloc)?;
+    let others = replay(alloc, &mut other, steps(alloc, Some(place))?)?;
+    let is_change = !matches!(
+        worked::ROWS.get(place),
+        None | Some((worked::Row::Update(..) | worked::Row::IncreaseTo(..), _))
+    );
+    Ok(is_change && are_without(replies, place, &others) && other == *left)
+}
+
+#[test]
+fn allocations_of_tracked(rt: HostRuntime) -> Result<(), Fail> {
+    let alloc = rt.alloc();
+    let nothing = |_: Global| Ok(());
+    let new = |allocation: Allocation, _: &mut ()| {
+        let membership = members(allocation.alloc, &[&[1, 2]])?;
+        allocation.refuse();
+        TrackedNumbers::new(membership, 0)
+    };
+    let clone = |allocation: Allocation, cluster: &mut TrackedNumbers| {
+        allocation.refuse();
+        cluster.try_clone()
+    };
+    let change = |allocation: Allocation, cluster: &mut TrackedNumbers| {
+        let to = members(allocation.alloc, &[&[1, 2], &[2, 3]])?;
+        allocation.refuse();
+        match cluster.change_to(to, 0) {
+            Reply::OutOfMemory => Err(AllocError),
+            reply => Ok(reply),
+        }
+    };
+    let begun = |alloc: Global| tracked(alloc);
+    assert!(rt; is_swept(&rt, alloc, "Tracked::new", nothing, new)?);
+    assert!(rt; is_swept(&rt, alloc, "Tracked::try_clone", begun, clone)?);
+    assert!(rt; is_swept(&rt, alloc, "Tracked::change_to", begun, change)?);
+    Ok(())
+}
+
+#[test]
+fn allocations_of_tracked_steps(rt: HostRuntime) -> Result<(), Fail> {
+    let begun = |alloc: Global| tracked(alloc);
+    let call = |allocation: Allocation, cluster: &mut TrackedNumbers| {
+        let steps = steps(allocation.alloc, None)?;
+        allocation.refuse();
+        replay(allocation.alloc, cluster, steps)
+    };
+    let is_right = |alloc: Global, made: Left<'_>, _: Left<'_>| {
+        others_are_tracked(alloc, made.0, made.1)
+    };
+    assert!(rt; is_swept_by(&rt, rt.alloc(), "replay", begun, call, is_right)?);
+    Ok(())
+}
+
+#[test]
+fn no_allocations_of_tracked(rt: HostRuntime) -> Result<(), Fail> {
+    let alloc = rt.alloc();
+    let both = both(tracked(alloc), tracked(alloc));
+    assert!(rt; is_free_on(&rt, alloc, "Tracked::eq", both, |both| both.0 == both.1)?);
+    Ok(())
+}
+
+/// What is granted after a value is increased, where it may be.
+fn increased(progress: &mut Numbers, id: u64, value: u64) -> Option<u64> {
+    if !progress.is_in_order() || progress.would_fall(&id, &value) {
+        return None;
+    }
+    match progress.increase_to(&id, value) {
+        Ok(granted) => Some(*granted),
+        Err(_) => None,
+    }
+}
+
+/// What is granted after a value is written by a closure, where it may be.
+fn written(progress: &mut Numbers, id: u64, value: u64) -> Option<u64> {
+    if !progress.is_in_order() || progress.would_fall(&id, &value) {
+        return None;
+    }
+    match progress.update_with(&id, |current| *current = value) {
+        Ok(granted) => Some(*granted),
+        Err(_) => None,
+    }
+}
+
+/// Whether updates of a progress that has moved grant what they should.
+fn are_granted(rt: &impl Abort, progress: &mut Numbers) -> bool {
+    let are_right = [
+        updated(rt, progress, 1, 7) == Ok(6),
+        updated(rt, progress, 9, 7) == Err(6),
+        increased(progress, 3, 8) == Some(7),
+        written(progress, 2, 9) == Some(8),
+        vec_progress::writes(progress, 5, 10),
+    ];
+    !are_right.contains(&false)
+}
+
+/// Whether it then reads back, and differs from what it was.
+fn reads_back(progress: &Numbers, before: &Numbers) -> bool {
+    let entries = [(2, 9), (3, 8), (1, 7), (5, 10)];
+    let are_right = [
+        progress.iter().copied().eq(entries.iter().copied()),
+        vec_progress::has_value(progress, 2, 9),
+        progress.is_voter(&5) == Some(false),
+        progress.index(&3) == Some(1),
+        *progress.granted() == 8,
+        *progress.default_part() == 0,
+        progress.stat().update_count == 7,
+        progress.quorum_set().is_quorum(&[1, 3]),
+        *progress == *progress,
+        *progress != *before,
+    ];
+    !are_right.contains(&false)
+}
+
+/// Whether it is updated as it should be, and then reads back.
+fn goes_on(rt: &impl Abort, progress: &mut Numbers, before: &Numbers) -> bool {
+    *progress == *before && are_granted(rt, progress) && reads_back(progress, before)
+}
+
+/// Whether a progress that has moved goes on as it should, without an allocation.
+fn goes_on_free(
+    rt: &(impl Abort + Print),
+    alloc: Global,
+    name: &str,
+    progress: Result<Numbers, AllocError>,
+) -> io::Result<bool> {
+    let held = both(progress, moved(alloc));
+    is_free_on(
+        rt,
+        alloc,
+        name,
+        held,
+        |held| goes_on(rt, &mut held.0, &held.1),
+    )
+}
+
+#[test]
+fn no_allocations_of_progresses(rt: HostRuntime) -> Result<(), Fail> {
+    let alloc = rt.alloc();
+    let (name, of_clone) = (
+        "VecProgress, updates and reads",
+        "VecProgress, those of a clone",
+    );
+    assert!(rt; goes_on_free(&rt, alloc, name, moved(alloc))?);
+    assert!(rt; goes_on_free(&rt, alloc, of_clone, moved(alloc)?.clone())?);
+    assert!(rt; goes_on_free(&rt, alloc, of_clone, renamed(alloc)?.clone())?);
+    Ok(())
+}
+
+#[test]
+fn no_allocations_of_quorums(rt: HostRuntime) -> Result<(), Fail> {
+    let alloc = rt.alloc();
+    let (name, three_of_five) = ("is_quorum of an AtLeast", of_five(&rt, alloc, 3));
+    let is_right = is_free_on(&rt, alloc, name, three_of_five, |ids| {
+        let are_quorums = [
+            ids.is_quorum(&[0, 2, 4]),
+            ids.is_quorum(&[4, 3, 2, 1, 0]),
+            ids.is_quorum(&[0, 2, 9]),
+        ];
+        are_quorums == [true, true, false] && ids.need() == 3
+    })?;
+    assert!(rt; is_right);
+    Ok(())
+}
+
+type Leader = LeaderId<u64>;
+
+/// Whether responses, sends and searches of entries are as worked, and entries are validated.
+fn searches_are_as_worked(log: &PlainLog<Leader>, purged: &PlainLog<Leader>) -> bool {
+    let are_right = [
+        entry::searches(log),
+        entry::takes_heartbeats(log),
+        entry::stands_strangers(log),
+        entry::is_validated::<Leader>(),
+        entry::reads_back::<Leader>(),
+        search::halves(log),
+        search::ends_with_a_snapshot(purged, log),
+        catch_up::can_be_caught_up(log, purged),
+    ];
+    !are_right.contains(&false)
+}
+
+#[test]
+fn no_allocations_of_searches(rt: HostRuntime) -> Result<(), Fail> {
+    let alloc = rt.alloc();
+    let name = "ProgressEntry and search_run";
+    let logs = both(log_below(alloc, 100, None), purged_log(alloc));
+    let is_right = is_free_on(&rt, alloc, name, logs, |logs| {
+        searches_are_as_worked(&logs.0, &logs.1)
+    })?;
+    assert!(rt; is_right);
+    refuse_each(alloc);
+    let are_right = [
+        inflight::acks_are_answered::<Leader>(),
+        inflight::conflicts_are_answered::<Leader>(),
+        inflight::logs_read_back(),
+        inflight::others_read_back(),
+    ];
+    let is_right = !are_right.contains(&false);
+    assert!(rt; is_free(&rt, alloc, "Inflight, responses and reads", is_right)?);
+    Ok(())
+}
