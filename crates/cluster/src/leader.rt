@@ -64,8 +64,8 @@ impl<L: LeaderIds> Server<L, L::Committed> {
             self.hear_of(vote);
         }
         if let Role::Leader(leader) = &mut self.role {
-            // A response that is late, comes twice or answers another leader is refused, and changes
-            // nothing.
+            // A response that is late, comes twice or answers another leader is refused, and
+            // changes nothing.
             let taken = leader.handle_response(&from, response);
             if taken == Err(HandlerError::ForeignResponse) {
                 return Ok(());

@@ -120,7 +120,8 @@ impl Trace {
         Ok(())
     }
 
-    /// Checks that each act so far was allowed by those before it. Then the cluster was safe so far.
+    /// Checks that each act so far was allowed by those before it. Then the cluster was safe so
+    /// far.
     ///
     /// # Errors
     ///

@@ -15,14 +15,11 @@ use crate::error::HandlerError;
 use crate::message::{VoteRequest, VoteResponse};
 use crate::state::State;
 use raft_base::{Instant, LeaderIdentity, LogIdOf, LogStateReader, Node, NodeId, VoteIn};
-use raft_members::quorum::Joint;
+use raft_members::membership::Configs;
 use raft_progress::laws::{granted_is_threshold, quorums_know_granted};
 use raft_progress::{Progress, Tracked};
 use raft_state::VoteStateReader;
 use std::marker::Model;
-
-/// The configs of a membership, as a quorum set.
-type Configs<NID> = Joint<NID, Vec<NID>, Vec<Vec<NID>>>;
 
 /// A node that asks the voters of its effective membership for their votes.
 #[derive(Drop)]
@@ -56,8 +53,9 @@ impl<
     L: LeaderIdentity<Id = NID, Committed = C> + Drop,
     C: Ord + Copy + Default + Drop + 'static,
 > Candidate<NID, N, L, C> {
-    /// Begins a campaign of a node in the term after the greatest one that it has heard of, which is
-    /// at least that of its vote: the state promises the new vote, and the candidate votes for itself.
+    /// Begins a campaign of a node in the term after the greatest one that it has heard of, which
+    /// is at least that of its vote: the state promises the new vote, and the candidate votes for
+    /// itself.
     ///
     /// A voter of the effective or of the committed membership may campaign. Write the vote to disk
     /// before you send the requests. After a refusal the state is as it was.

@@ -54,8 +54,9 @@ where
 }
 
 impl<NID: NodeId, N: Node, C: Ord + Copy + Drop> Leader<NID, N, C> {
-    /// Makes an elected candidate the leader: the state's vote, which is the candidate's, is committed
-    /// now. Nothing is known of the members yet, but that no log matches the leader's from its end on.
+    /// Makes an elected candidate the leader: the state's vote, which is the candidate's, is
+    /// committed now. Nothing is known of the members yet, but that no log matches the leader's
+    /// from its end on.
     ///
     /// Write the vote to disk, and propose a blank entry. After a refusal the state is as it was.
     pub fn new<I: Instant, L: LeaderIdentity<Id = NID, Committed = C> + Drop>(

@@ -1,5 +1,5 @@
-//! The steps of a Raft server, under contract: how a follower and a voter handle each request, what a
-//! candidate and a leader do, and how a server starts and restarts.
+//! The steps of a Raft server, under contract: how a follower and a voter handle each request, what
+//! a candidate and a leader do, and how a server starts and restarts.
 //!
 //! Requests and responses are values. There is no clock, no network and no storage: the caller
 //! sends, writes to disk before it answers, and restarts its timer.

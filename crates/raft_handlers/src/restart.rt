@@ -25,15 +25,17 @@ pub struct Stored<L, C, NID: NodeId, N: Node, D> {
     pub vote: VoteIn<L>,
     /// What is known of the last snapshot.
     pub snapshot: SnapshotMetaOf<C, NID, N>,
-    /// The entries of the log, with consecutive indexes. Those that the snapshot has may be missing.
+    /// The entries of the log, with consecutive indexes. Those that the snapshot has may be
+    /// missing.
     pub entries: Vec<EntryOf<C, NID, N, D>>,
     /// The last log id that is known to be committed, as that of the last entry that was applied.
     pub committed: Option<LogIdOf<C>>,
 }
 
 /// Restarts a server: returns the state that its disk tells. Its log is the snapshot and the
-/// entries after it, and their memberships are effective. What is known to be committed is committed,
-/// and so is the membership before the effective one. No leader is known, so nothing is accepted.
+/// entries after it, and their memberships are effective. What is known to be committed is
+/// committed, and so is the membership before the effective one. No leader is known, so nothing is
+/// accepted.
 ///
 /// If the entry at the last index of the snapshot has another log id, the install of the snapshot
 /// was interrupted: then no entry is taken, and you remove all of them from disk.
@@ -73,8 +75,8 @@ pub fn restart_server<NID: NodeId, N: Node, I: Instant, L: LeaderIdentity<Id = N
     Ok(state)
 }
 
-/// Commits up to the log id of the committed membership, if the log has it: a membership is proposed
-/// once the one before it is committed.
+/// Commits up to the log id of the committed membership, if the log has it: a membership is
+/// proposed once the one before it is committed.
 fn commit_known<NID: NodeId, N: Node, I: Instant, L: Drop, C: Ord + Copy + Drop>(
     state: &mut RaftStateIn<NID, N, I, L, C>,
 ) -> Result<(), AllocError>
@@ -122,8 +124,8 @@ fn from_snapshot<NID: NodeId, N: Node, I: Instant, L: LeaderIdentity<Id = NID> +
     Ok(state)
 }
 
-/// Returns the place of the first entry past the last log id of a snapshot, or the number of entries
-/// if there is none, or if another leader's entry has the index of that log id.
+/// Returns the place of the first entry past the last log id of a snapshot, or the number of
+/// entries if there is none, or if another leader's entry has the index of that log id.
 fn first_past<NID: NodeId, N: Node, C: Ord + Copy, D>(
     last: Option<LogIdOf<C>>,
     entries: &[EntryOf<C, NID, N, D>],

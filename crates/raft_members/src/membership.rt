@@ -43,6 +43,9 @@ use std::fmt;
 use std::marker::Model;
 pub use stored::{StoredMembership, StoredMembershipOf};
 
+/// The configs of a membership as one quorum set: a joint of lists of voters.
+pub type Configs<NID> = Joint<NID, Vec<NID>, Vec<Vec<NID>>>;
+
 /// The members of a cluster: its configs, each a set of voters, and the node at each id.
 ///
 /// Decisions need a majority of every config. There is one config, or several while the voters
@@ -216,7 +219,7 @@ impl<NID: NodeId, N: Node> Membership<NID, N> {
 
     /// Returns the configs as one quorum set, or an allocation error. A quorum has a majority of
     /// each config.
-    pub fn to_quorum_set(&self) -> Result<Joint<NID, Vec<NID>, Vec<Vec<NID>>>, AllocError>
+    pub fn to_quorum_set(&self) -> Result<Configs<NID>, AllocError>
         ensures configs { IfOk result (λ joint.
             map (λ c. c.items) joint.items ≡ self.now.configs) }
         ensures quorums { IfOk result (λ joint. (set : NID → Bool) →

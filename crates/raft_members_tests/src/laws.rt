@@ -109,8 +109,8 @@ fn is_enough<ID: Copy + Ord>(quorums: &AtLeast<ID>, ids: &[ID]) -> bool
     quorums.is_quorum(ids)
 }
 
-/// Whether ids decide for an empty config, and where there are no configs: never, and always. So who
-/// asks before a cluster has begun asks first whether it has a config.
+/// Whether ids decide for an empty config, and where there are no configs: never, and always. So
+/// who asks before a cluster has begun asks first whether it has a config.
 fn decide_for_none<ID: Copy + Ord>(alloc: Global, ids: &[ID]) -> (bool, bool)
     ensures empty { IsDistinct ID.eq ids.now → result.0 ≡ false }
     ensures no_configs { IsDistinct ID.eq ids.now → result.1 ≡ true }

@@ -1,9 +1,9 @@
-//! The tests of `raft_members`, through its public calls alone, and in `support` what they share. It
-//! ships nothing.
+//! The tests of `raft_members`, through its public calls alone, and in `support` what they share.
+//! It ships nothing.
 //!
 //! A file has the tests of the module of `raft_members` that has its name. Those that go over all
-//! modules have the name of what they test: `compared` with the original, `allocations` for allocations
-//! that are refused, `laws` by their callers, and `texts`.
+//! modules have the name of what they test: `compared` with the original, `allocations` for
+//! allocations that are refused, `laws` by their callers, and `texts`.
 #![tactic(auto)]
 
 #[cfg(test)]

@@ -129,7 +129,8 @@ fn voters_have_nodes(alloc: Global) -> Result<bool, AllocError> {
     Ok(alone && has_nodes(alloc, "1", ids(alloc, "3")?, "1=0,3=0")?)
 }
 
-/// Whether voters get the default node, or keep theirs, if a set of ids or a map of nodes gives them.
+/// Whether voters get the default node, or keep theirs, if a set of ids or a map of nodes gives
+/// them.
 fn voters_keep_nodes(alloc: Global) -> Result<bool, AllocError> {
     let some = has_nodes(alloc, "1", Some(ids(alloc, "1,3")?), "1=0,3=0")?;
     let with_nodes = has_nodes(alloc, "1,2", nodes(alloc, "1=7")?, "1=7,2=0")?;

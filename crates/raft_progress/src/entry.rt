@@ -162,9 +162,10 @@ impl<C: Ord + Copy> ProgressEntryOf<C> {
     /// Takes the response that the follower does not match at an index. The searching end becomes
     /// that index if it was past it. A refused response leaves the entry as it was.
     ///
-    /// The response to a heartbeat has no request id, and what is in flight stays in flight. A valid
-    /// entry stays valid if the response has a request id. The response to a heartbeat may end the
-    /// search before the logs in flight, and the entry is not valid until their response is taken.
+    /// The response to a heartbeat has no request id, and what is in flight stays in flight. A
+    /// valid entry stays valid if the response has a request id. The response to a heartbeat may
+    /// end the search before the logs in flight, and the entry is not valid until their response is
+    /// taken.
     pub fn update_conflicting(
         &mut self,
         request_id: Option<u64>,

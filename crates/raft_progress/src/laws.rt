@@ -43,7 +43,8 @@ pub fn quorums_know_granted<NID: NodeId, N: Node, V: ProgressPart<P>, P: Copy + 
 )
     ensures ready { IsReady NID.eq NID.cmp P.cmp V.part_of (tracked_view cluster.now) }
     ensures granted { IsCounted P.cmp V.part_of (has_quorum NID.eq)
-        (state NID.eq (tracked_view cluster.now).progress) (tracked_view cluster.now).progress.granted }
+        (state NID.eq (tracked_view cluster.now).progress)
+        (tracked_view cluster.now).progress.granted }
     ensures quorums { QuorumsKnowGranted NID.eq P.cmp V.part_of (tracked_view cluster.now) }
     ensures changed_quorums { ChangedQuorumsKnowGranted NID.eq NID.cmp P.cmp V.part_of
         (tracked_view cluster.now) }
@@ -191,7 +192,8 @@ pub fn granted_meet<
     Q: Copy + Ord,
 >()
     ensures voter { GrantedMeet NID N M V P W Q NID.eq NID.cmp P.cmp V.part_of Q.cmp W.part_of }
-    ensures lacks_nothing { ElectedLacksNothing NID N M V P W Q NID.eq NID.cmp P.cmp V.part_of Q.cmp W.part_of }
+    ensures lacks_nothing { ElectedLacksNothing NID N M V P W Q NID.eq NID.cmp P.cmp V.part_of
+        Q.cmp W.part_of }
 {}
 
 /// If no send of a list has its purge point at or past an index, no send that was not skipped has

@@ -15,7 +15,6 @@ pub use crate::tracked::{MembershipProgress, Step, Tracked, replay};
 pub use crate::{entry, inflight};
 pub use part::ProgressPart;
 use raft_members::quorum::QuorumSet;
-pub(crate) use replay_any_steps::increase;
 pub use replay_any_steps::replay_any;
 pub use stat::Stat;
 use std::alloc::{AllocError, Global};

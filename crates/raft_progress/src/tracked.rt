@@ -5,26 +5,20 @@ ghost use Rattle.raft_members.specs.membership.Members.{members_of};
 ghost use Rattle.raft_progress.specs.tracked.TrackedState.{AreLearners, IsReady};
 ghost use Rattle.raft_progress.specs.progress.VecProgress.{view};
 
+mod change;
 mod membership_progress;
 mod replay_steps;
-mod single_steps;
 mod step;
 
-use crate::progress::{ProgressPart, VecProgress};
+use crate::progress::{ProgressPart, Reply, VecProgress};
 use raft_base::{Node, NodeId};
-use raft_members::membership::Membership;
-use raft_members::quorum::Joint;
+use raft_members::membership::{Configs, Membership};
 pub use replay_steps::replay;
 use std::alloc::{AllocError, Global};
 pub use step::Step;
 
 /// The progress of a membership's voters, by the quorums of its configs, and of its learners.
-pub type MembershipProgress<NID, V, P> = VecProgress<
-    NID,
-    V,
-    P,
-    Joint<NID, Vec<NID>, Vec<Vec<NID>>>,
->;
+pub type MembershipProgress<NID, V, P> = VecProgress<NID, V, P, Configs<NID>>;
 
 /// A membership, and the progress of its voters and learners.
 ///
@@ -41,9 +35,13 @@ pub struct Tracked<NID: NodeId, N: Node, V: ProgressPart<P>, P: Copy + Ord> {
 
 impl<NID: NodeId, N: Node, V: ProgressPart<P>, P: Copy + Ord> Tracked<NID, N, V, P> {
     ghost use Rattle.std.specs.Prelude.{◌≡◌, IfOk};
+    ghost use Rattle.raft_progress.specs.progress.CountedValue.{AtMost, IsCounted};
+    ghost use Rattle.raft_progress.specs.progress.ProgressView.{state};
+    ghost use Rattle.raft_progress.specs.tracked.Headline.{ChangedQuorumsKnowGranted, QuorumsKnowGranted};
+    ghost use Rattle.raft_progress.specs.tracked.SingleSteps.{IsTrackedUpdate};
     ghost use Rattle.raft_progress.specs.tracked.Tracked.{tracked_view};
     ghost use Rattle.raft_progress.specs.tracked.TrackedNew.{BeginsOver};
-    ghost use Rattle.raft_progress.specs.tracked.TrackedState.{IsReady};
+    ghost use Rattle.raft_progress.specs.tracked.TrackedState.{IsReady, has_quorum};
     ghost use Rattle.raft_progress.specs.progress.VecProgress.{view};
 
     /// Returns the membership with a progress in which each voter and each learner has a clone of
@@ -80,6 +78,30 @@ impl<NID: NodeId, N: Node, V: ProgressPart<P>, P: Copy + Ord> Tracked<NID, N, V,
         ensures { view result.now ≡ (tracked_view self.now).progress }
     {
         &self.progress
+    }
+
+    /// Writes the value of an id, as a replay does at `Step::Update`, without a list of steps. It
+    /// never allocates.
+    ///
+    /// The reply is `Unknown` for an unknown id, and `WouldFall` if the part would fall. To change
+    /// what a value contains beside its part, change a copy and write it back: a leader copies an
+    /// entry from `progress`, calls `next_send` on the copy, and updates with it.
+    // Inlined, because a call passes the value over the stack: of an entry these are 120 bytes.
+    #[inline(always)]
+    pub fn update(&mut self, id: &NID, value: V) -> Reply<NID, P>
+        ensures step { IsTrackedUpdate NID.eq P.cmp V.part_of
+            (tracked_view self.old) id.now value result (tracked_view self.new) }
+        ensures ready { IsReady NID.eq NID.cmp P.cmp V.part_of (tracked_view self.new) }
+        ensures granted { IsCounted P.cmp V.part_of (has_quorum NID.eq)
+            (state NID.eq (tracked_view self.new).progress)
+            (tracked_view self.new).progress.granted }
+        ensures monotone { AtMost P.cmp (tracked_view self.old).progress.granted
+            (tracked_view self.new).progress.granted }
+        ensures quorums { QuorumsKnowGranted NID.eq P.cmp V.part_of (tracked_view self.new) }
+        ensures changed_quorums { ChangedQuorumsKnowGranted NID.eq NID.cmp P.cmp V.part_of
+            (tracked_view self.new) }
+    {
+        self.progress.write(id, value)
     }
 }
 

@@ -1,4 +1,5 @@
-//! Callers of the laws over a leader's followers, whose values are progress entries and have no order.
+//! Callers of the laws over a leader's followers, whose values are progress entries and have no
+//! order.
 ghost use Rattle.raft_base.specs.LogId.{log_id_cmp, next_index};
 ghost use Rattle.raft_progress.specs.progress.CountedValue.{AtMost};
 ghost use Rattle.raft_progress.specs.progress.InOrder.{IsInOrder};

@@ -190,8 +190,8 @@ fn gone_over_to<NID: NodeId, N: Node, V: ProgressPart<P> + Clone, P: Copy + Ord>
     Ok(cluster.change_to(next, default))
 }
 
-/// Goes over to what a change makes of the members: where it is made, each quorum of the new members
-/// has a voter that has what was granted before, also where less is granted now.
+/// Goes over to what a change makes of the members: where it is made, each quorum of the new
+/// members has a voter that has what was granted before, also where less is granted now.
 fn gone_over_known<NID: NodeId, N: Node, V: ProgressPart<P> + Clone, P: Copy + Ord>(
     cluster: &mut Tracked<NID, N, V, P>,
     change: ChangeMembers<NID, N>,
@@ -256,8 +256,8 @@ fn copy_of<
     progress.clone()
 }
 
-/// Makes a step, a change of the members say, if a match is granted: then each quorum of the members
-/// that there are now still has a voter that matches it, though less may be granted.
+/// Makes a step, a change of the members say, if a match is granted: then each quorum of the
+/// members that there are now still has a voter that matches it, though less may be granted.
 fn step_once_granted<NID: NodeId, N: Node>(
     alloc: Global,
     cluster: &mut Tracked<NID, N, u64, u64>,
@@ -354,7 +354,8 @@ fn ballot_over<NID: NodeId, N: Node>(
     requires nodes { ClonesAreEqual N.eq N.is_clone }
     ensures one_change { IfOk result (λ votes.
         0 < length (tracked_view matches.now).membership.configs → is_coherent NID.eq
-        (tracked_view matches.now).membership.configs (tracked_view votes).membership.configs ≡ true) }
+        (tracked_view matches.now).membership.configs
+        (tracked_view votes).membership.configs ≡ true) }
     ensures from_false { IfOk result (λ votes.
         (tracked_view votes).progress.default_part ≡ false) }
 {

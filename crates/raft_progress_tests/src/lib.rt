@@ -1,11 +1,11 @@
-//! The tests of `raft_progress`, through its public calls alone, and in `support` what they share. It
-//! ships nothing.
+//! The tests of `raft_progress`, through its public calls alone, and in `support` what they share.
+//! It ships nothing.
 //!
-//! A file has the tests of the module of `raft_progress` that has its name. Those that go over several
-//! modules have the name of what they test: `at_least` quorums of a stated size, `events` of any kind
-//! against a table, `allocations` for allocations that are refused, `laws` by their callers,
-//! `follower_laws` by callers over a leader's followers, ids whose order is `reversed`, `texts`, and
-//! `uses` of the theorem.
+//! A file has the tests of the module of `raft_progress` that has its name. Those that go over
+//! several modules have the name of what they test: `at_least` quorums of a stated size, `events`
+//! of any kind against a table, `allocations` for allocations that are refused, `laws` by their
+//! callers, `follower_laws` by callers over a leader's followers, ids whose order is `reversed`,
+//! `texts`, and `uses` of the theorem.
 #![tactic(auto)]
 
 #[cfg(test)]

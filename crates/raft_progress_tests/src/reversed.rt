@@ -1,5 +1,5 @@
-//! An id type whose order is that of whole numbers reversed, because voters and learners come in the
-//! order of their ids.
+//! An id type whose order is that of whole numbers reversed, because voters and learners come in
+//! the order of their ids.
 ghost use Rattle.std.proofs.Common.{rules};
 ghost use Rattle.std.specs.Cmp.Rules.{comparing};
 ghost use Rattle.std.specs.Cmp.{partial_order_from_own_ties};

@@ -83,8 +83,8 @@ fn compare_updates(rt: &impl Abort, progress: &mut Progress, updates: Updates<'_
     }
 }
 
-/// Makes the updates by replays of one step each, and compares the counts after each. One step makes
-/// at most so many quorum tests.
+/// Makes the updates by replays of one step each, and compares the counts after each. One step
+/// makes at most so many quorum tests.
 fn compare_replays(
     rt: &impl Abort,
     alloc: Global,

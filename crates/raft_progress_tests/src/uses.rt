@@ -17,7 +17,8 @@ type Configs<NID> = Joint<NID, Vec<NID>, Vec<Vec<NID>>>;
 
 /// The commit index: an index is committed exactly where a majority of each config matches it.
 fn commit_index<NID: NodeId, N: Node>(matches: &Tracked<NID, N, u64, u64>) -> u64
-    ensures { (index : ℕ) → (tracked_view matches.now).progress.default_part < index → index ≤ result
+    ensures { (index : ℕ) → (tracked_view matches.now).progress.default_part < index →
+        index ≤ result
         ↔ MajorityOfEach NID.eq (tracked_view matches.now) (λ matched. nat_le index matched) }
 {
     quorums_know_granted(matches);

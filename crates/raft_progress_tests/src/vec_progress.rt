@@ -199,7 +199,8 @@ fn joint(alloc: Global, configs: &[&[u64]]) -> Result<Configs, AllocError> {
     Ok(Joint::new(children))
 }
 
-/// Configs, learners and a default, the reply to the upgrade to them, a value afterwards, and updates.
+/// Configs, learners and a default, the reply to the upgrade to them, a value afterwards, and
+/// updates.
 type UpgradeRow<'a> = (
     &'a [&'a [u64]],
     &'a [u64],

@@ -64,11 +64,12 @@ impl<T: Term, N: Copy + Eq, D: Copy + Eq, C: Configs<N, D> + Drop> Checker<T, N,
     ///
     /// # Errors
     ///
-    /// The rule that the event breaks, or out of memory. The checker is then as if the event had not
-    /// been recorded.
+    /// The rule that the event breaks, or out of memory. The checker is then as if the event had
+    /// not been recorded.
     pub fn record(&mut self, event: &Event<T, N, D>) -> Result<(), Violation>
         ensures configs { configs_of self.new ≡ configs_of self.old }
-        ensures answer { Records (tests_of T.rank T.eq N.eq D.eq (C.holds_config (configs_of self.old))
+        ensures answer { Records (tests_of T.rank T.eq N.eq D.eq (C.holds_config
+            (configs_of self.old))
             (C.has_quorum (configs_of self.old)) (C.intersects (configs_of self.old)))
             (event_of event.now) self.old self.new result }
     {
@@ -176,7 +177,8 @@ impl<T: Term, N: Copy + Eq, D: Copy + Eq, C: Configs<N, D> + Drop> Checker<T, N,
         ensures configs { self.new.configs ≡ self.old.configs }
         ensures answer { Answers (tests_of T.rank T.eq N.eq D.eq (C.holds_config self.old.configs)
             (C.has_quorum self.old.configs) (C.intersects self.old.configs))
-            (Appended server term leader keep entries.now) self.old.servers.items self.old.leaders.items
+            (Appended server term leader keep entries.now) self.old.servers.items
+            self.old.leaders.items
             self.new.servers.items self.new.leaders.items result }
     {
         let j = match leader_at(&self.leaders, term, leader) {
@@ -329,7 +331,8 @@ fn any_knows<T: Term, N: Copy + Eq, D: Copy + Eq>(
     rank: u128,
     prefix: &[Entry<T, D>],
 ) -> bool
-    ensures { result ≡ list_any (knows T.rank (same_entry_by T.eq D.eq) rank prefix.now) leaders.now }
+    ensures { result ≡ list_any (knows T.rank
+        (same_entry_by T.eq D.eq) rank prefix.now) leaders.now }
 {
     for leader in leaders {
         if knows(leader, rank, prefix) {

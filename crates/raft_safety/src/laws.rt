@@ -10,26 +10,27 @@ ghost use Rattle.raft_safety.specs.Ranks.{OrdersHaveRanks};
 ghost use Rattle.raft_safety.specs.Safety.{FixedMembersAreSafe};
 ghost use Rattle.raft_safety.specs.Trace.{TracesAreExecutions};
 
-/// If any two quorums share a server, every history in which each server keeps the rules is safe: it
-/// has election safety, log matching and leader completeness, and committed logs agree.
+/// If any two quorums share a server, every history in which each server keeps the rules is safe:
+/// it has election safety, log matching and leader completeness, and committed logs agree.
 pub fn fixed_members_are_safe<T, ID: Copy + Ord, D>()
     ensures { FixedMembersAreSafe T ID D }
 {}
 
-/// If leaders propose configs by the rule, every history in which each server keeps the rules is safe.
+/// If leaders propose configs by the rule, every history in which each server keeps the rules is
+/// safe.
 ///
 /// The rule: a leader proposes a config only after it has committed an entry of its own term since
-/// which no config was proposed, and only if quorums of the new config intersect each other and those
-/// of the config in effect.
+/// which no config was proposed, and only if quorums of the new config intersect each other and
+/// those of the config in effect.
 pub fn changing_members_are_safe<T, ID: Copy + Ord, D, M>()
     ensures { ChangingMembersAreSafe T ID D M }
 {}
 
-/// If leaders propose memberships that are coherent with the one in effect, by that rule, every history
-/// in which each server keeps the rules is safe.
+/// If leaders propose memberships that are coherent with the one in effect, by that rule, every
+/// history in which each server keeps the rules is safe.
 ///
-/// Memberships, their quorums and their coherence are those of `raft_members`, and each step of a change
-/// is coherent. Ids that are `==` have to be equal.
+/// Memberships, their quorums and their coherence are those of `raft_members`, and each step of a
+/// change is coherent. Ids that are `==` have to be equal.
 pub fn joint_members_are_safe<T, ID: Copy + Ord, D>()
     ensures safe { JointMembersAreSafe T ID D ID.eq }
     ensures steps { StepsAreCoherent ID ID.eq }
@@ -38,21 +39,21 @@ pub fn joint_members_are_safe<T, ID: Copy + Ord, D>()
 /// Every execution is safe at each of its times, over a network that may lose, delay, duplicate and
 /// reorder messages.
 ///
-/// Of what a server may apply at one time of it, and what another may apply at another time, one is a
-/// prefix of the other.
+/// Of what a server may apply at one time of it, and what another may apply at another time, one is
+/// a prefix of the other.
 pub fn executions_are_safe<T, ID: Copy + Ord, D, M>()
     ensures safe { ExecutionsAreSafe T ID D M }
     ensures applied { StateMachinesAgreeAtAllTimes T ID D M }
 {}
 
-/// What was sent, voted, acknowledged, elected or committed at a time of an execution is so at every
-/// later time.
+/// What was sent, voted, acknowledged, elected or committed at a time of an execution is so at
+/// every later time.
 pub fn facts_are_stable<T, ID: Copy + Ord, D, M>()
     ensures { ExecutionsKeepFacts T ID D M }
 {}
 
-/// If a follower compares the terms of a leader's entries with those of its log, and truncates its log
-/// at the first conflict, it keeps the rules, and may acknowledge the entries. So it does if it
+/// If a follower compares the terms of a leader's entries with those of its log, and truncates its
+/// log at the first conflict, it keeps the rules, and may acknowledge the entries. So it does if it
 /// installs a leader's snapshot, unless its log has the snapshot's last entry.
 pub fn consistency_check_suffices<T, ID: Copy + Ord, D>()
     ensures { ConsistencyChecksSuffice T ID D }
@@ -63,8 +64,8 @@ pub fn state_machines_agree<T, ID: Copy + Ord, D>()
     ensures { StateMachinesAgree T ID D }
 {}
 
-/// A recorded trace, each of whose events passes the test after the earlier ones, is an execution. So
-/// it is safe, and no two servers in it have applied different entries at one index.
+/// A recorded trace, each of whose events passes the test after the earlier ones, is an execution.
+/// So it is safe, and no two servers in it have applied different entries at one index.
 pub fn traces_are_executions<T, ID: Copy + Ord, D, M>()
     ensures { TracesAreExecutions T ID D M }
 {}

@@ -1,4 +1,5 @@
-//! The safety of Raft, as theorems: if every server keeps the rules of `specs`, the cluster is safe.
+//! The safety of Raft, as theorems: if every server keeps the rules of `specs`, the cluster is
+//! safe.
 #![tactic(auto)]
 
 pub mod check;

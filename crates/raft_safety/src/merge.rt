@@ -47,7 +47,8 @@ pub fn check_each<T: Term, N: Copy + Eq, D: Copy + Eq, C: Configs<N, D> + Drop>(
     ensures refused { IfErr result (λ u. AreExact (tests_of T.rank T.eq N.eq D.eq
         (C.holds_config configs) (C.has_quorum configs) (C.intersects configs)) →
         IsRefusedMerge (tests_of T.rank T.eq N.eq D.eq (C.holds_config configs)
-        (C.has_quorum configs) (C.intersects configs)) lists.now u.placed.items u.list u.violation) }
+        (C.has_quorum configs) (C.intersects configs)) lists.now u.placed.items u.list u.violation)
+        }
 {
     let Ok(mut placed) = vec![in alloc; 0; lists.len()] else {
         return Err(Unplaced {
@@ -81,8 +82,8 @@ pub fn check_each<T: Term, N: Copy + Eq, D: Copy + Eq, C: Configs<N, D> + Drop>(
     }
 }
 
-/// Records the next event of the first list whose next event is allowed. Returns whether there was a
-/// next event.
+/// Records the next event of the first list whose next event is allowed. Returns whether there was
+/// a next event.
 ///
 /// # Errors
 ///

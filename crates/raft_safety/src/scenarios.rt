@@ -2,14 +2,15 @@
 //! rule is refused. The tables of events are in `specs/Scenarios.antt`.
 ghost use Rattle.raft_safety.specs.Scenarios.{AreDisturbances, AreLeaderIds, AreMemberChanges, AreRefused, IsFigure8};
 
-/// Figure 8 of the Raft paper in its states c, d and e: an entry of an earlier term on a majority is
-/// not committed by that, may be overwritten, and is committed by an entry of the leader's own term.
+/// Figure 8 of the Raft paper in its states c, d and e: an entry of an earlier term on a majority
+/// is not committed by that, may be overwritten, and is committed by an entry of the leader's own
+/// term.
 pub fn figure_8()
     ensures { IsFigure8 }
 {}
 
-/// Members change through a joint configuration with a commit in each step, a leader is removed, and
-/// a learner becomes a voter.
+/// Members change through a joint configuration with a commit in each step, a leader is removed,
+/// and a learner becomes a voter.
 pub fn member_changes()
     ensures { AreMemberChanges }
 {}

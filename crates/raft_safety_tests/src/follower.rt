@@ -29,10 +29,11 @@ fn shared(log: &[LogEntry], from: usize, entries: &[LogEntry]) -> usize
     entries.len()
 }
 
-/// Appends a leader's entries, which follow its first `from`: entries that the log has stay, and at the
-/// first conflict the log is truncated.
+/// Appends a leader's entries, which follow its first `from`: entries that the log has stay, and at
+/// the first conflict the log is truncated.
 ///
-/// If memory is out, the log is as it was or truncated at that conflict, and nothing is acknowledged.
+/// If memory is out, the log is as it was or truncated at that conflict, and nothing is
+/// acknowledged.
 pub fn append(log: &mut Vec<LogEntry>, from: usize, entries: &[LogEntry]) -> Result<(), AllocError>
     requires { from ≤ length log.old.items }
     ensures ok { OnOk result (entries_of log.new.items
@@ -47,8 +48,8 @@ pub fn append(log: &mut Vec<LogEntry>, from: usize, entries: &[LogEntry]) -> Res
     Ok(())
 }
 
-/// Appends a leader's entries and so keeps the rules: if an elected leader has sent them, and the log
-/// has the term of the entry before them, the server may append them and acknowledge them.
+/// Appends a leader's entries and so keeps the rules: if an elected leader has sent them, and the
+/// log has the term of the entry before them, the server may append them and acknowledge them.
 pub fn take_entries(
     log: &mut Vec<LogEntry>,
     from: usize,
@@ -70,8 +71,8 @@ fn last_term_of(log: &[LogEntry]) -> u64
     if len == 0 { 0 } else { log[len - 1].term }
 }
 
-/// Whether a server that has reached a term and has this log may grant its vote in the term `asked`, to
-/// a candidate whose log has `len` entries and ends in the term `last`.
+/// Whether a server that has reached a term and has this log may grant its vote in the term
+/// `asked`, to a candidate whose log has `len` entries and ends in the term `last`.
 pub fn may_vote(term: u64, log: &[LogEntry], asked: u64, last: u64, len: usize) -> bool
     ensures { IsTrue result ↔ MayVote term (entries_of log.now) asked last len }
 {
@@ -111,8 +112,8 @@ mod tests {
         Ok(())
     }
 
-    // the term that is reached and the term that is asked for, the candidate's last term and length,
-    // and whether the vote may be granted by a server whose log is one entry of term 2
+    // the term that is reached and the term that is asked for, the candidate's last term and
+    // length, and whether the vote may be granted by a server whose log is one entry of term 2
     const VOTES: [(u64, u64, u64, usize, bool); 5] = [
         (2, 3, 2, 1, true),
         (2, 3, 3, 0, true),

@@ -6,8 +6,8 @@ ghost use Rattle.std.specs.Prelude.{IsTrue};
 use raft_members::quorum::QuorumSet;
 
 /// Whether a leader may commit the first `n` entries of its log: `acked` are the servers that have
-/// acknowledged them, `from` is the length of the log with which the leader was elected, and `written`
-/// is the length of its log now, in which `voters` are in effect.
+/// acknowledged them, `from` is the length of the log with which the leader was elected, and
+/// `written` is the length of its log now, in which `voters` are in effect.
 pub fn can_commit<ID: Copy + Ord, QS: QuorumSet<ID>>(
     from: usize,
     written: usize,
@@ -24,9 +24,9 @@ pub fn can_commit<ID: Copy + Ord, QS: QuorumSet<ID>>(
     voters.is_quorum(acked)
 }
 
-/// Whether a leader may propose a membership: `committed` first entries of its log are committed, the
-/// last entry that holds a membership is among the first `configs`, and it was elected with a log of
-/// `from` entries.
+/// Whether a leader may propose a membership: `committed` first entries of its log are committed,
+/// the last entry that holds a membership is among the first `configs`, and it was elected with a
+/// log of `from` entries.
 pub fn can_propose(from: usize, committed: usize, configs: usize) -> bool
     ensures { IsTrue result → MayPropose from committed configs }
 {

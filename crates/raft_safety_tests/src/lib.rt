@@ -1,10 +1,10 @@
 //! The tests of `raft_safety`. It ships nothing.
 //!
-//! `laws` has callers of its theorems, each as an engine has the need of one, over both kinds of leader
-//! ids. `follower` and `leader` have steps as code, whose contracts say that they keep the rules.
-//! `refused` has events that the checker of traces refuses, each for its rule, and a trace that it
-//! accepts. `merged` has lists of events, one of each server, that have an allowed order or none.
-//! `recorded` makes the events of both.
+//! `laws` has callers of its theorems, each as an engine has the need of one, over both kinds of
+//! leader ids. `follower` and `leader` have steps as code, whose contracts say that they keep the
+//! rules. `refused` has events that the checker of traces refuses, each for its rule, and a trace
+//! that it accepts. `merged` has lists of events, one of each server, that have an allowed order or
+//! none. `recorded` makes the events of both.
 #![tactic(auto)]
 
 pub mod follower;

@@ -31,8 +31,8 @@ fn follower(alloc: Global) -> Result<Vec<Recorded>, AllocError> {
     ]?)
 }
 
-/// Whether the events of the follower and of the leader are all placed, or so many of each until the
-/// next event of one list breaks a rule.
+/// Whether the events of the follower and of the leader are all placed, or so many of each until
+/// the next event of one list breaks a rule.
 fn are_placed(
     alloc: Global,
     lists: &[Vec<Recorded>],

@@ -82,8 +82,8 @@ pub fn appended(
     })
 }
 
-/// Quorums of servers 0, 1 and 2; content 100 holds the joint membership with 2, 3 and 4, and content
-/// 101 the membership of these alone.
+/// Quorums of servers 0, 1 and 2; content 100 holds the joint membership with 2, 3 and 4, and
+/// content 101 the membership of these alone.
 pub fn three(alloc: Global) -> Result<Memberships<u64, u64>, AllocError> {
     Ok(Memberships {
         initial: vec![in alloc; vec![in alloc; 0, 1, 2]?]?,

@@ -8,7 +8,8 @@ use std::alloc::Global;
 use std::io;
 use std::test::Fail;
 
-/// Whether what was accepted is known of the first one of these leaders alone, by their terms and nodes.
+/// Whether what was accepted is known of the first one of these leaders alone, by their terms and
+/// nodes.
 fn is_of_first<K: LeaderKind<u64>>(
     accepted: &AcceptedOf<u64, K>,
     leaders: &[(u64, u64)],

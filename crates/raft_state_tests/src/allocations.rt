@@ -42,8 +42,8 @@ const SEVERAL: Rows = &[(3, 7), (4, 8), (5, 9), (6, 10)];
 
 const OF_ONE: Rows = &[(3, 7), (3, 8), (3, 9)];
 
-/// Calls by name, each with the keys of a list, the log ids that it is given, and how many keys these
-/// add.
+/// Calls by name, each with the keys of a list, the log ids that it is given, and how many keys
+/// these add.
 const EDITS: [(&str, Rows, Rows, usize); 7] = [
     ("LogIdList::append", KEYS, OF_ONE, 1),
     ("LogIdList::extend", KEYS, SEVERAL, 4),
@@ -96,8 +96,8 @@ fn logged(alloc: Global, keys: Rows, room: usize) -> Result<State, AllocError> {
     Ok(state)
 }
 
-// Each call is made with every capacity that is too small. With some, an earlier key fits and a later
-// one doesn't.
+// Each call is made with every capacity that is too small. With some, an earlier key fits and a
+// later one doesn't.
 #[test]
 fn allocations_of_lists(rt: HostRuntime) -> Result<(), Fail> {
     for (name, keys, rows, need) in EDITS {

@@ -69,7 +69,8 @@ fn rounds_right<K: LeaderKind<u64>>(state: &State<K>, progress: &mut Followers<K
         && progress.try_get(&3) == Some(&ProgressEntryOf::empty(100))
 }
 
-/// Whether followers are caught up as they should be, one alone and in rounds, without an allocation.
+/// Whether followers are caught up as they should be, one alone and in rounds, without an
+/// allocation.
 pub fn is_as_worked<K: LeaderKind<u64>>(
     rt: &(impl Abort + Print),
     alloc: Global,

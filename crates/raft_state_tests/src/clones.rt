@@ -1,5 +1,5 @@
-//! Clones equal what they are made of, which these callers show by the contracts alone: no test has to
-//! run them.
+//! Clones equal what they are made of, which these callers show by the contracts alone: no test has
+//! to run them.
 ghost use Rattle.std.specs.Prelude.{IfOk, IsTrue};
 ghost use Rattle.std.specs.Set.{ClonesAreEqual};
 

@@ -8,9 +8,9 @@ use raft_testing::memory::both;
 use std::alloc::{AllocError, Global};
 use std::test::Fail;
 
-/// The last log id of a snapshot and the log id of its membership. The log is (1,1) to (1,3) and (3,4),
-/// (1,1) is committed and the purge point, and the effective membership is at (1,9), which the log
-/// does not have.
+/// The last log id of a snapshot and the log id of its membership. The log is (1,1) to (1,3) and
+/// (3,4), (1,1) is committed and the purge point, and the effective membership is at (1,9), which
+/// the log does not have.
 const REFUSED: [(&str, Row, Row); 4] = [
     ("an absent snapshot", None, None),
     ("before the purge point", Some((1, 0)), None),

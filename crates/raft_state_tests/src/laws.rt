@@ -19,8 +19,8 @@ use raft_state::log_id_list::laws::{
 use raft_state::{LogIdListOf, RaftStateIn};
 use std::alloc::AllocError;
 
-/// Whether a candidate's log is up to date, as a voter finds by the last log ids alone: where it is,
-/// none of the voter's own log ids is above the candidate's last one, at no index.
+/// Whether a candidate's log is up to date, as a voter finds by the last log ids alone: where it
+/// is, none of the voter's own log ids is above the candidate's last one, at no index.
 pub fn is_up_to_date<C: Ord + Copy>(own: &LogIdListOf<C>, last: Option<LogIdOf<C>>) -> bool
     ensures { IsTrue result → (index : ℕ) →
         IsTrue (id_le C.cmp (id_at (full_log own.now) index) last) }
@@ -42,8 +42,8 @@ pub fn purge_to<NID: NodeId, N: Node, I: Instant, L: Drop, C: Ord + Copy + Drop>
     state.purge_log(upto)
 }
 
-/// Whether two nodes have the same log, as their keys tell: where they have, they read alike at each
-/// index, and both begin and end alike.
+/// Whether two nodes have the same log, as their keys tell: where they have, they read alike at
+/// each index, and both begin and end alike.
 pub fn logs_are_same<C: Ord + Copy>(one: &LogIdListOf<C>, other: &LogIdListOf<C>) -> bool
     ensures at_index { IsTrue result → (index : ℕ) → IsTrue (same_ids C.eq
         (id_at (full_log one.now) index) (id_at (full_log other.now) index)) }

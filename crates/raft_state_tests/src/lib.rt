@@ -3,9 +3,9 @@
 //!
 //! A file has the tests of the module of `raft_state` that has its name; those of the module
 //! `raft_state` are in `whole_state`. Those that go over several modules have the name of what they
-//! test: `clones`, `compared` with the original, `allocations` for allocations that are refused, `imports`
-//! of each public name, `laws` by their callers, short `lives` of one state, a kind of leaders by
-//! their `region`, and `texts`.
+//! test: `clones`, `compared` with the original, `allocations` for allocations that are refused,
+//! `imports` of each public name, `laws` by their callers, short `lives` of one state, a kind of
+//! leaders by their `region`, and `texts`.
 #![tactic(auto)]
 
 #[cfg(test)]

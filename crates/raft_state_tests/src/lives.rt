@@ -1,5 +1,5 @@
-//! Short lives of one state, compared after each call with a plain list of its log ids and a scan of
-//! its memberships.
+//! Short lives of one state, compared after each call with a plain list of its log ids and a scan
+//! of its memberships.
 
 use crate::support::messages::{Entry, Snapshot};
 use crate::support::rows::{Row, id, log_id};

@@ -136,9 +136,9 @@ fn validates<K: LeaderKind<u64>>(
     Ok(state::<K>(alloc, ids)?.validate() == want)
 }
 
-/// The log ids of a valid state, what it has accepted, and whether it is sound, its log has the purge
-/// point, and its log has what is committed. A state is sound exactly if its log has what the state
-/// says of it, so each row breaks one relation.
+/// The log ids of a valid state, what it has accepted, and whether it is sound, its log has the
+/// purge point, and its log has what is committed. A state is sound exactly if its log has what the
+/// state says of it, so each row breaks one relation.
 const SOUND: [(Ids, Row, [bool; 3]); 12] = [
     (
         (2, FIRST, FIRST, None, None, None),
@@ -198,8 +198,8 @@ const SOUND: [(Ids, Row, [bool; 3]); 12] = [
     ),
 ];
 
-/// Whether a valid state is sound, and its log has what it should, as wanted, and may not be truncated
-/// at the committed index.
+/// Whether a valid state is sound, and its log has what it should, as wanted, and may not be
+/// truncated at the committed index.
 fn is_sound_as<K: LeaderKind<u64>>(
     alloc: Global,
     ids: Ids,
@@ -227,8 +227,8 @@ fn is_lent<K: LeaderKind<u64>>(read: Option<&LogIdOf<K::Committed>>, want: Row) 
     read.copied() == id::<K>(want)
 }
 
-/// Whether a valid state reads as it should, and equals itself and no other, and a log whose committed
-/// log id (3,0) it does not have is not truncated where all that stays is below that.
+/// Whether a valid state reads as it should, and equals itself and no other, and a log whose
+/// committed log id (3,0) it does not have is not truncated where all that stays is below that.
 fn reads<K: LeaderKind<u64>>(state: &State<K>, other: &State<K>) -> bool {
     let are_right = [
         is::<K>(state.get_log_id(2), Some((1, 2))),
@@ -265,8 +265,8 @@ fn reads_right<K: LeaderKind<u64>>(rt: &impl Print, alloc: Global) -> io::Result
     )
 }
 
-/// Entries, and how many of them a follower has before the first one that it lacks. It may not be asked
-/// for a committed index under a greater leader.
+/// Entries, and how many of them a follower has before the first one that it lacks. It may not be
+/// asked for a committed index under a greater leader.
 const ASKED: [(&[(u64, u64)], Option<usize>); 10] = [
     (&[(1, 1), (3, 4)], Some(2)),
     (&[(1, 1), (3, 3)], Some(1)),
@@ -351,8 +351,8 @@ fn is_purged<K: LeaderKind<u64>>(state: &State<K>) -> bool {
     !are_right.contains(&false)
 }
 
-/// Whether a state commits without an allocation, and its log grows, by log ids of one leader and then
-/// of two, and is purged.
+/// Whether a state commits without an allocation, and its log grows, by log ids of one leader and
+/// then of two, and is purged.
 fn grows<K: LeaderKind<u64>>(
     rt: &impl Print,
     alloc: Global,

@@ -1,8 +1,8 @@
 //! Calls that are made with their first, second and each later allocation refused.
 //!
-//! `tools/refuse_allocations.c` refuses allocations if it replaces the heap. A test tells it which ones
-//! by requests for more bytes than a machine has. Without it each such request fails, and the calls
-//! are made in ample memory.
+//! `tools/refuse_allocations.c` refuses allocations if it replaces the heap. A test tells it which
+//! ones by requests for more bytes than a machine has. Without it each such request fails, and the
+//! calls are made in ample memory.
 
 use crate::memory::both;
 use std::alloc::{AllocError, Global};
@@ -69,8 +69,8 @@ pub fn is_as_in_ample_memory<B: PartialEq, A: PartialEq>(
     Ok(*made.0 == *ample.0 && *made.1 == *ample.1)
 }
 
-/// Whether what a call has returned and left is right: it fails only if an allocation was refused, and
-/// then leaves the value as it was.
+/// Whether what a call has returned and left is right: it fails only if an allocation was refused,
+/// and then leaves the value as it was.
 fn is_run_right<
     B: PartialEq + Drop,
     A: PartialEq,
@@ -94,7 +94,8 @@ fn is_run_right<
     }
 }
 
-/// Makes a call with an allocation refused. Returns whether one was, or `None` if the run was wrong.
+/// Makes a call with an allocation refused. Returns whether one was, or `None` if the run was
+/// wrong.
 fn run<
     B: PartialEq + Drop,
     A: PartialEq + Drop,
@@ -151,7 +152,8 @@ fn count_allocations<
     Ok(None)
 }
 
-/// Whether a call is right with each allocation refused in turn, and makes one at all. Prints a line.
+/// Whether a call is right with each allocation refused in turn, and makes one at all. Prints a
+/// line.
 ///
 /// `borrowed` makes the value that the call borrows. `call` makes the other arguments, has the
 /// allocation refused, and makes the call. If the call fails, an allocation was refused, and the
@@ -178,8 +180,8 @@ pub fn is_swept_by<
     Ok(allocations.is_some_and(|count| count > 0 || !is_refusing))
 }
 
-/// Whether a call is right with each allocation refused in turn, as `is_swept_by` has it. If the call
-/// returns, it returns and leaves what it does in ample memory.
+/// Whether a call is right with each allocation refused in turn, as `is_swept_by` has it. If the
+/// call returns, it returns and leaves what it does in ample memory.
 pub fn is_swept<
     B: PartialEq + Drop,
     A: PartialEq + Drop,
@@ -204,7 +206,8 @@ pub fn is_free(rt: &impl Print, alloc: Global, name: &str, is_right: bool) -> io
     Ok(is_right)
 }
 
-/// Whether a call of a value is right, and meets no refusal if each allocation is refused. Prints a line.
+/// Whether a call of a value is right, and meets no refusal if each allocation is refused. Prints a
+/// line.
 ///
 /// A test does not own the value, so its exit paths do not drop it.
 pub fn is_free_on<T: Drop, C: FnOnce(&mut T) -> bool>(

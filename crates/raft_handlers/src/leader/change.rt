@@ -131,8 +131,9 @@ impl<NID: NodeId, N: Node, C: Ord + Copy + Default + Debug + Drop + 'static> Lea
         }
     }
 
-    /// Proposes the step from a joint membership to its last config, once the joint one is committed.
-    /// Returns the entry. It is refused as `propose_change` is, and if the membership is not joint.
+    /// Proposes the step from a joint membership to its last config, once the joint one is
+    /// committed. Returns the entry. It is refused as `propose_change` is, and if the membership is
+    /// not joint.
     pub fn leave_joint<I: Instant, L: LeaderIdentity<Id = NID, Committed = C> + Drop, D: Drop>(
         &mut self,
         state: &mut State<NID, N, I, L>,

@@ -17,8 +17,8 @@ use raft_state::RaftStateIn;
 impl<NID: NodeId, N: Node, C: Ord + Copy + Drop> Leader<NID, N, C> {
     /// Returns the last log id that a quorum of the membership has.
     ///
-    /// Each quorum of the membership, and of what one change makes of it, has a voter whose match is
-    /// at least that.
+    /// Each quorum of the membership, and of what one change makes of it, has a voter whose match
+    /// is at least that.
     pub fn granted(&self) -> Option<LogIdOf<C>>
         ensures granted { result ≡ granted_by self.now }
         ensures quorums { 0 < length self.now.followers.membership.configs →

@@ -61,11 +61,12 @@ impl<NID: NodeId, N: Node, C: Ord + Copy + Drop> Leader<NID, N, C> {
     }
 
     /// Takes a member's response to a request. An acknowledgement raises the member's match, and a
-    /// conflict lowers the end of the search for it. A response that is late, doubled or does not fit
-    /// what is in flight is refused and changes nothing, and so is a response to another leader.
+    /// conflict lowers the end of the search for it. A response that is late, doubled or does not
+    /// fit what is in flight is refused and changes nothing, and so is a response to another
+    /// leader.
     ///
-    /// A node that is elected again numbers its requests anew. So the leader id of a response, and not
-    /// its number alone, says which request it answers.
+    /// A node that is elected again numbers its requests anew. So the leader id of a response, and
+    /// not its number alone, says which request it answers.
     pub fn handle_response<L>(
         &mut self,
         from: &NID,

@@ -156,7 +156,8 @@ impl<NID: NodeId, N: Node> Membership<NID, N> {
     /// Returns this membership, with copies of those of these nodes whose ids have none.
     fn with_added(&self, more: BTreeMap<NID, N>) -> Result<Self, AllocError>
         requires clones_are_equal { ClonesAreEqual N.eq N.is_clone }
-        ensures { IfOk result (λ m. HasMembers N.eq NID.cmp m (with_nodes (members_of NID.cmp self.now)
+        ensures { IfOk result (λ m. HasMembers N.eq NID.cmp m (with_nodes
+            (members_of NID.cmp self.now)
             (λ id. option_or (node_at NID.cmp self.now.nodes id) (get NID.cmp more id)))) }
     {
         let copies = nodes::copy(*self.configs.allocator(), &self.nodes)?;
@@ -167,7 +168,8 @@ impl<NID: NodeId, N: Node> Membership<NID, N> {
     /// ids.
     fn with_set(&self, more: BTreeMap<NID, N>) -> Result<Self, AllocError>
         requires clones_are_equal { ClonesAreEqual N.eq N.is_clone }
-        ensures { IfOk result (λ m. HasMembers N.eq NID.cmp m (with_nodes (members_of NID.cmp self.now)
+        ensures { IfOk result (λ m. HasMembers N.eq NID.cmp m (with_nodes
+            (members_of NID.cmp self.now)
             (λ id. option_or (get NID.cmp more id) (node_at NID.cmp self.now.nodes id)))) }
     {
         self.with_only(nodes::added(more, &self.nodes)?)
@@ -176,7 +178,8 @@ impl<NID: NodeId, N: Node> Membership<NID, N> {
     /// Returns this membership without the nodes at these ids.
     fn without_nodes(&self, ids: &BTreeSet<NID>) -> Result<Self, AllocError>
         requires clones_are_equal { ClonesAreEqual N.eq N.is_clone }
-        ensures { IfOk result (λ m. HasMembers N.eq NID.cmp m (with_nodes (members_of NID.cmp self.now)
+        ensures { IfOk result (λ m. HasMembers N.eq NID.cmp m (with_nodes
+            (members_of NID.cmp self.now)
             (λ id. cond (contains NID.cmp ids.now id) None (node_at NID.cmp self.now.nodes id)))) }
     {
         let mut nodes = nodes::copy(*self.configs.allocator(), &self.nodes)?;

@@ -16,8 +16,8 @@ ghost use Rattle.raft_members.specs.membership.Stored.{log_id_of, membership_of}
 
 use super::learner_ids::LearnerIds;
 use super::stored::StoredMembershipOf;
-use super::{Membership, configs, ids};
-use crate::quorum::{Joint, QuorumSet, least_of_each};
+use super::{Configs, Membership, configs, ids};
+use crate::quorum::{QuorumSet, least_of_each};
 use raft_base::{CommittedLeaderId, LogIdOf, MessageSummary, Node, NodeId, RaftLogId};
 use std::alloc::{AllocError, Global};
 use std::collections::{BTreeSet, btree_map, btree_set};
@@ -34,7 +34,7 @@ use std::rc::Rc;
 #[derive(Drop)]
 pub struct EffectiveMembershipOf<C, NID: NodeId, N: Node> {
     stored_membership: Rc<StoredMembershipOf<C, NID, N>>,
-    quorum_set: Joint<NID, Vec<NID>, Vec<Vec<NID>>>,
+    quorum_set: Configs<NID>,
     // `None` for a single config, which is itself the set of all voters.
     voter_ids: Option<BTreeSet<NID>>,
 }

@@ -23,7 +23,8 @@ pub struct AtLeast<ID: Copy + Ord> {
     ids: Vec<ID>,
     need: usize,
     ghost needs_one: { 1 ≤ need },
-    ghost ascending: { IsStrictlySortedBy ID.cmp ids.items } by { IsStrictlySortedBy-prop ID.cmp ids.items },
+    ghost ascending: { IsStrictlySortedBy ID.cmp ids.items } by { IsStrictlySortedBy-prop ID.cmp
+    ids.items },
 }
 
 impl<ID: Copy + Ord> AtLeast<ID> {

@@ -86,7 +86,8 @@ fn share_id<ID: Copy + Ord, V>(voters: &[(ID, V)], learners: &[(ID, V)]) -> bool
 }
 
 /// Whether no id is repeated, for many voters and few learners.
-// The ids of the voters are sorted in the scratch space `scratch`, so that equal ones are neighbours.
+// The ids of the voters are sorted in the scratch space `scratch`, so that equal ones are
+// neighbours.
 fn has_distinct_voters<ID: Copy + Ord, V>(
     voters: &[(ID, V)],
     learners: &[(ID, V)],
@@ -157,8 +158,8 @@ pub(crate) fn is_at_least<ID: Copy, V: ProgressPart<P>, P: Copy + Ord>(
         .all(|entry| least.cmp(&entry.1.part()).is_le())
 }
 
-/// Whether no voter above `granted` comes directly after one with a lesser part, and no voter's part
-/// is below the least allowed one.
+/// Whether no voter above `granted` comes directly after one with a lesser part, and no voter's
+/// part is below the least allowed one.
 pub(crate) fn is_ordered<ID: Copy + Ord, V: ProgressPart<P>, P: Copy + Ord>(
     voters: &[(ID, V)],
     granted: P,

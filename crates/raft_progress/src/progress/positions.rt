@@ -37,7 +37,8 @@ impl<ID: Copy + Ord> Positions<ID> {
         requires { IsDistinct ID.eq (keys_of entries.now) }
         ensures tells { IfOk result (λ positions.
             TellsPositions ID.eq (keys_of entries.now) (position_in ID.eq positions.sorted.items)) }
-        ensures one_length { IfOk result (λ positions. length positions.ranks.items ≡ length entries.now) }
+        ensures one_length { IfOk result (λ positions. length positions.ranks.items ≡ length
+            entries.now) }
     {
         let sorted = sorted_ids(alloc, entries)?;
         let ranks = ranks_of(alloc, &sorted)?;
@@ -196,7 +197,8 @@ fn shift_between<ID: Copy + Ord>(
     requires within { last < length ranks.old }
     requires inverse { AreInverse (values_of sorted.old) ranks.old }
     ensures ids { keys_of sorted.new ≡ keys_of sorted.old }
-    ensures shifted { values_of sorted.new ≡ map (position_after first last) (values_of sorted.old) }
+    ensures shifted { values_of sorted.new ≡ map (position_after first last)
+        (values_of sorted.old) }
     ensures inverse { AreInverse (values_of sorted.new) ranks.new }
 {
     let risen = ranks[last];

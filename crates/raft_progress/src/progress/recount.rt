@@ -50,8 +50,8 @@ fn is_reached<ID: Copy + Ord, V: ProgressPart<P>, P: Copy + Ord, QS: QuorumSet<I
     quorum_set.is_quorum(&scratch[..n])
 }
 
-/// Returns the part of a voter that equals `granted`, if there are many voters, a quorum has reached
-/// that part, and it exceeds the default's part. Otherwise it returns the default's part.
+/// Returns the part of a voter that equals `granted`, if there are many voters, a quorum has
+/// reached that part, and it exceeds the default's part. Otherwise it returns the default's part.
 #[inline(always)]
 fn reached_or_default<ID: Copy + Ord, V: ProgressPart<P>, P: Copy + Ord, QS: QuorumSet<ID>>(
     quorum_set: &QS,

@@ -41,15 +41,16 @@ pub struct VecProgress<ID: Copy + Ord, V, P, QS> {
     ghost voters_fit: { voter_count ≤ length entries.items },
     ghost scratch_fits: { length scratch.items ≡ voter_count },
     ghost agree: { positions.stale ≡ false →
-        TellsPositions ID.eq (keys_of entries.items) (position_in ID.eq positions.sorted.items) } by { Prim.hlevel props },
+        TellsPositions ID.eq (keys_of entries.items)
+        (position_in ID.eq positions.sorted.items) } by { Prim.hlevel props },
 }
 
-impl<
-    ID: Copy + Ord,
-    V: ProgressPart<P>,
-    P: Copy + Ord,
-    QS: QuorumSet<ID>,
-> VecProgress<ID, V, P, QS> {
+impl<ID: Copy + Ord, V: ProgressPart<P>, P: Copy + Ord, QS: QuorumSet<ID>> VecProgress<
+    ID,
+    V,
+    P,
+    QS,
+> {
     ghost use Rattle.std.specs.Prelude.{◌≡◌, ◌<◌, IfOk, IsTrue, length, position};
     ghost use Rattle.std.specs.Borrow.{sem};
     ghost use Rattle.std.specs.List.{IsDistinct};
@@ -177,12 +178,8 @@ impl<
     }
 }
 
-impl<ID: Copy + Ord, V: ProgressPart<P>, P: Copy + Ord, QS: QuorumSet<ID>> Progress<
-    ID,
-    V,
-    P,
-    QS,
-> for VecProgress<ID, V, P, QS> {
+impl<ID: Copy + Ord, V: ProgressPart<P>, P: Copy + Ord, QS: QuorumSet<ID>> Progress<ID, V, P, QS>
+    for VecProgress<ID, V, P, QS> {
     ghost use Rattle.raft_progress.specs.progress.VecProgress.{view};
 
     ghost view_of = { view };

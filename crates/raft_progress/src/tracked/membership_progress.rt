@@ -14,18 +14,12 @@ ghost use Rattle.raft_progress.specs.tracked.TrackedState.{IsReady, has_quorum, 
 use super::learners_of;
 use crate::progress::{Progress, ProgressPart, VecProgress};
 use raft_base::{Node, NodeId};
-use raft_members::membership::Membership;
-use raft_members::quorum::Joint;
+use raft_members::membership::{Configs, Membership};
 use std::alloc::AllocError;
 
 /// The functions of a `MembershipProgress` beside those of any progress. Voters and learners are
 /// those of one membership, so they fit.
-impl<NID: NodeId, V: ProgressPart<P>, P: Copy + Ord> VecProgress<
-    NID,
-    V,
-    P,
-    Joint<NID, Vec<NID>, Vec<Vec<NID>>>,
-> {
+impl<NID: NodeId, V: ProgressPart<P>, P: Copy + Ord> VecProgress<NID, V, P, Configs<NID>> {
     /// Returns a new progress of a membership's voters, with the quorums of its configs, and of its
     /// learners, ascending, or an allocation error. Each id has a clone of the default.
     pub fn of<N: Node>(membership: &Membership<NID, N>, default: V) -> Result<Self, AllocError>

@@ -43,8 +43,8 @@ fn is_up_to_date<T: Term, D: Copy + Eq>(log: &[Entry<T, D>], other: &[Entry<T, D
     other_last < last || other_last == last && other.len() <= log.len()
 }
 
-/// Returns the rule that a server breaks by keeping so many entries and appending these, if there is
-/// one.
+/// Returns the rule that a server breaks by keeping so many entries and appending these, if there
+/// is one.
 pub fn append_rule<T: Term, N: Copy + Eq, D: Copy + Eq>(
     server: &Server<T, N, D>,
     leader: &Leader<T, N, D>,
@@ -52,7 +52,8 @@ pub fn append_rule<T: Term, N: Copy + Eq, D: Copy + Eq>(
     keep: usize,
     entries: &[Entry<T, D>],
 ) -> Option<Rule>
-    ensures { result ≡ append_rule (same_entry_by T.eq D.eq) server.now leader.now rank keep entries.now }
+    ensures { result ≡ append_rule (same_entry_by T.eq D.eq) server.now leader.now rank keep
+        entries.now }
 {
     if !leader.elected {
         return Some(Rule::NotElected);

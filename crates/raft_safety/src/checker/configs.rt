@@ -3,8 +3,8 @@ ghost use Rattle.std.specs.Prelude.{◌≡◌, Bool, Option};
 ghost use Rattle.std.specs.List.{IsDistinct};
 ghost use Rattle.std.specs.Set.{is_member};
 
-/// Configs of a cluster, each named by the content of the entry that holds it. The initial config is
-/// `None`.
+/// Configs of a cluster, each named by the content of the entry that holds it. The initial config
+/// is `None`.
 pub trait Configs<N: Copy + Eq, D: Copy + Eq> {
     /// Whether an entry of this content holds a config.
     ghost holds_config: { Self → D → Bool };

@@ -89,7 +89,8 @@ impl<T: Term, N: Copy + Eq, D: Copy + Eq> Leader<T, N, D> {
     pub fn vote<C: Configs<N, D>>(&mut self, configs: &C, server: N) -> Result<(), AllocError>
         ensures voters { OnOk result ((v : N) → is_member N.eq self.new.voters.items v
             ≡ (is_member N.eq self.old.voters.items v || N.eq v server)) }
-        ensures distinct { IsDistinct N.eq self.old.voters.items → IsDistinct N.eq self.new.voters.items }
+        ensures distinct { IsDistinct N.eq self.old.voters.items →
+            IsDistinct N.eq self.new.voters.items }
         ensures elected { OnOk result (IsDistinct N.eq self.old.voters.items →
             self.new.elected ≡ C.has_quorum configs.now
             (effective_config (config_in (C.holds_config configs.now)) None

@@ -51,7 +51,8 @@ impl<T: Term, N: Copy + Eq, D: Copy + Eq> Server<T, N, D> {
 
     /// Whether the log has begun with these entries since the server's term was at most this rank.
     pub fn has_kept(&self, rank: u128, prefix: &[Entry<T, D>]) -> bool
-        ensures { result ≡ (nat_eq (common_len (same_entry_by T.eq D.eq) prefix.now self.now.log.items)
+        ensures { result ≡ (nat_eq (common_len (same_entry_by T.eq D.eq) prefix.now
+            self.now.log.items)
             (length prefix.now)
             && (nat_le self.now.term rank
             || nat_le (length prefix.now) (kept_from 0 self.now.kept.items rank))) }
@@ -103,11 +104,14 @@ impl<T: Term, N: Copy + Eq, D: Copy + Eq> Server<T, N, D> {
     ) -> Result<(), AllocError>
         requires { keep ≤ length self.old.log.items }
         ensures term { OnOk result (self.new.term ≡ max self.old.term term) }
-        ensures log { OnOk result (self.new.log.items ≡ take keep self.old.log.items ++ entries.now) }
+        ensures log { OnOk result (self.new.log.items ≡ take keep self.old.log.items ++
+            entries.now) }
         ensures durable { OnOk result (self.new.durable ≡ min self.old.durable
-            (keep + common_len (same_entry_by T.eq D.eq) (drop keep self.old.log.items) entries.now)) }
+            (keep + common_len (same_entry_by T.eq D.eq)
+            (drop keep self.old.log.items) entries.now)) }
         ensures kept { OnOk result (self.new.kept.items ≡ map
-            (at_most (keep + common_len (same_entry_by T.eq D.eq) (drop keep self.old.log.items) entries.now))
+            (at_most (keep + common_len (same_entry_by T.eq D.eq)
+            (drop keep self.old.log.items) entries.now))
             (kept_after self.old.kept.items self.old.term (length self.old.log.items) term)) }
         ensures same_id { self.new.id ≡ self.old.id }
         ensures err_term { OnErr result (self.new.term ≡ self.old.term) }

@@ -48,7 +48,8 @@ impl<R: Read> Dialogue<R> {
             (TakesPart (unread R.remaining self.old) (unread R.remaining self.new)) }
         ensures contents { Keeps (contents (W.contents writer.old) self.old)
             (contents (W.contents writer.new) self.new) }
-        ensures nothing_held_back { OnOk result (has_line_feed (reader_buffer self.old.input) ≡ false
+        ensures nothing_held_back { OnOk result (has_line_feed
+            (reader_buffer self.old.input) ≡ false
             → self.new.replies.items ≡ []) }
     {
         // If no whole line has been read ahead, more input is waited for.

@@ -40,7 +40,8 @@ pub fn caught_up<K: LeaderKind<u64>>(
     ensures { let has_quorum = ⟦<Vec<u64> as QuorumSet<u64>>⟧.has_quorum in
         IfSome result (λ count. (ran : List ℕ) × (count ≡ length ran)
         × (QuorumRan nat_eq has_quorum (view followers.old) ran
-        → IsTrue (id_le K.Committed.cmp (log_view_of state.now).last (view followers.new).granted))) }
+        → IsTrue (id_le K.Committed.cmp (log_view_of state.now).last
+        (view followers.new).granted))) }
 {
     if !followers.is_in_order() {
         return None;

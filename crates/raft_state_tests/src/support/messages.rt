@@ -32,7 +32,8 @@ pub fn members(alloc: Global) -> Result<Membership<u64, u64>, AllocError> {
         .try_clone()
 }
 
-/// An entry of each kind, one after the other from a log id on, with a membership at the second one.
+/// An entry of each kind, one after the other from a log id on, with a membership at the second
+/// one.
 pub fn entries<K: LeaderKind<u64>>(
     alloc: Global,
     leader: u64,

@@ -74,7 +74,7 @@ entries_equal {ID} {V} {eq} laws value_eq IsClone c (e ∷ es) (f ∷ fs) a =
 pub clone_is_equal : {ID V P QS : Type 0} {id_eq : ID → ID → Bool} (laws : IsEquivalence id_eq) (value_eq : V → V → Bool)
     {part_eq : P → P → Bool} (part_laws : IsEquivalence part_eq) (set_eq : QS → QS → Bool) (IsClone : V → V → Type 0)
     (IsSetClone : QS → QS → Type 0) → ClonesAreEqual value_eq IsClone → ClonesAreEqual set_eq IsSetClone
-        → (old new : ProgressView ID V P QS)
+    → (old new : ProgressView ID V P QS)
     → IsCloned IsClone IsSetClone old new → equal id_eq value_eq part_eq set_eq old new ≡ true
 clone_is_equal {ID} {V} {P} {QS} {id_eq} laws value_eq {part_eq} part_laws set_eq IsClone IsSetClone values sets old new c =
     both _ _

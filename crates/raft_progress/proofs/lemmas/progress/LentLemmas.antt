@@ -15,7 +15,7 @@ module _ {ID V P QS : Type 0} {o : order_ghosts.Ghosts ID} {e : eq_ghosts.Ghosts
     (p : VecProgress ID V P QS o e q) (entries : List (ID × V)) where
   pub entries_left : (fits : p.voter_count ≤ length (with_items p.entries entries).items) (scratch : length p.scratch.items ≡ p.voter_count)
       (agree : true ≡ false → TellsPositions e.eq (keys_of (with_items p.entries entries).items)
-          (position_in e.eq p.positions.sorted.items))
+      (position_in e.eq p.positions.sorted.items))
       (ascending : IsStrictlySortedBy o.cmp (keys_of p.positions.sorted.items))
       (inverse : AreInverse (values_of p.positions.sorted.items) p.positions.ranks.items)
       → record p {

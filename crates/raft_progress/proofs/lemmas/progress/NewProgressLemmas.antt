@@ -127,7 +127,7 @@ module _ {ID : Type 0} {eq : ID → ID → Bool} (laws : IsEquivalence eq) where
       (IsClone : V → V → Type 0) (is_voter : ID → Bool) (set : QS) (ids learners : List ID) (v : V)
       (same_part : (w : V) → IsClone v w → part w ≡ part v) (entries : List (ID × V)) (n : ℕ) (p : P) (distinct : IsDistinct eq ids)
       (voters : (x : ID) → is_member eq ids x ≡ is_voter x) (fit : LearnersFit eq is_voter learners)
-          (keys : keys_of entries ≡ ids ++ learners)
+      (keys : keys_of entries ≡ ids ++ learners)
       (clones : AllByRecursion (λ e. IsClone v e.1) entries) (counted : n ≡ length ids) (default : p ≡ part v) where
     prefix : take n (keys_of entries) ≡ ids
     prefix = rw (counted, keys) (take_front ids learners)

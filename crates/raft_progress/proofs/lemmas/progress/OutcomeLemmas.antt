@@ -207,11 +207,11 @@ module _ {ID V P QS : Type 0} {eq : ID → ID → Bool} (laws : IsEquivalence eq
           ∙ ap (λ k. is_member eq (take k (keys_of (m.entries))) x) (g.voter_count ∙ raised.risen.group.voter_count)
           ∙ settles.voters_to laws o part has_quorum mid.quorum_set (superset mid.quorum_set) mid.default_part mid.voter_count ws
           mid.granted r id i e0 at is w up mid.entries next_is keys_same value_written was voter high
-              (m.entries) raised.to raised.risen.rises x;
+          (m.entries) raised.to raised.risen.rises x;
       value = λ x. ap (λ es. lookup (eq x) es) s
           ∙ settles.written_to laws o part has_quorum mid.quorum_set (superset mid.quorum_set) mid.default_part mid.voter_count ws
           mid.granted r id i e0 at is w up mid.entries next_is keys_same value_written was voter high
-              (m.entries) raised.to raised.risen.rises x;
+          (m.entries) raised.to raised.risen.rises x;
       default_part = g.default_part ∙ raised.risen.group.default_part;
     }
 
@@ -265,7 +265,7 @@ module _ {ID V P QS : Type 0} {eq : ID → ID → Bool} (laws : IsEquivalence eq
       ordered_new (Some k) some =
           let f = s.rises k some in
           subst (λ (x : P). AreEntriesInOrder eq cmp part has_quorum mid.quorum_set (m.entries) mid.voter_count mid.default_part x)
-              (sym f.2)
+          (sym f.2)
           (settles.order_found laws o part has_quorum mid.quorum_set (superset mid.quorum_set) mid.default_part mid.voter_count ws
           mid.granted r id i e0 at is w up mid.entries next_is keys_same value_written was voter high (m.entries) raised.to
           raised.risen.rises s.found s.tests scan k f.0 some

@@ -107,10 +107,10 @@ module _ {ID V P QS : Type 0} {eq : ID → ID → Bool} (laws : IsEquivalence eq
     (superset : (s t : ID → Bool) → ((x : ID) → s x ≡ true → t x ≡ true) → has_quorum qs s ≡ true → has_quorum qs t ≡ true) (d0 : P) (n : ℕ)
     (entries : List (ID × V)) (g : P) (r : AreEntriesInOrder eq cmp part has_quorum qs entries n d0 g) (id : ID) (i : ℕ) (e0 : ID × V)
     (at : position (λ (f : ID × V). eq id f.0) entries ≡ Some i) (is : e0 ≡ get_or entries i e0) (w : V) (up : AtMost cmp (part e0.1)
-        (part w))
+    (part w))
     (next : List (ID × V)) (next_is : next ≡ set entries i (e0.0, w)) (same_keys : keys_of next ≡ keys_of entries)
     (written : (x : ID) → lookup (eq x) next ≡ cond (eq id x) (Some w) (lookup (eq x) entries))
-        (was : lookup (eq id) entries ≡ Some e0.1) where
+    (was : lookup (eq id) entries ≡ Some e0.1) where
   place : (i < length entries) × (eq id (get_or entries i e0).0 ≡ true) × ((k : ℕ) → k < i → eq id (get_or entries k e0).0 ≡ false)
   place = position-Some (λ (f : ID × V). eq id f.0) entries i e0 at
 
@@ -191,7 +191,7 @@ module _ {ID V P QS : Type 0} {eq : ID → ID → Bool} (laws : IsEquivalence eq
     entries_are =
         let len : length (p.prefix ++ p.passed) ≡ i = length-append p.prefix p.passed ∙ p.was_at in
         sym (set-get_or entries i e0) ∙ ap (set entries i) (sym is) ∙ sym (set-set entries i (e0.0, w) e0)
-            ∙ ap (λ xs. set xs i e0) (sym next_is)
+        ∙ ap (λ xs. set xs i e0) (sym next_is)
         ∙ ap (λ xs. set xs i e0) (p.was ∙ sym (append_assoc p.prefix p.passed (p.entry ∷ p.rest)))
         ∙ ap (λ k. set ((p.prefix ++ p.passed) ++ (p.entry ∷ p.rest)) k e0) (sym len)
         ∙ set-append_seam (p.prefix ++ p.passed) p.entry p.rest e0 ∙ append_assoc p.prefix p.passed (e0 ∷ p.rest)
@@ -246,7 +246,7 @@ module _ {ID V P QS : Type 0} {eq : ID → ID → Bool} (laws : IsEquivalence eq
         subst (IsFalling cmp part g) (sym take_moved)
         (falling_risen o part g p.prefix p.passed e0 p.entry (take after p.rest) (ap (λ x. is_lt (cmp g x)) part_is ∙ high)
         (ap (λ x. is_le (cmp (part e0.1) x)) part_is
-            ∙ up) p.lesser rises.stops (subst (IsFalling cmp part g) take_progress_entries r.falling))
+        ∙ up) p.lesser rises.stops (subst (IsFalling cmp part g) take_progress_entries r.falling))
 
     pub not_below_to : (x : ID) (u : V) → is_member eq (take n (keys_of moved)) x ≡ true → lookup (eq x) moved ≡ Some u
         → AtMost cmp d0 (part u)

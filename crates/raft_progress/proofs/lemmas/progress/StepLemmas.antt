@@ -42,7 +42,7 @@ module _ {ID V P QS : Type 0} where
 
 module _ {ID V P QS : Type 0} {eq : ID → ID → Bool} (laws : IsEquivalence eq) (cmp : P → P → Ordering)
     (partial_cmp : V → V → Option Ordering) (part : V → P) (has_quorum : QS → (ID → Bool)
-        → Bool) (old new : ProgressView ID V P QS) (id : ID)
+    → Bool) (old new : ProgressView ID V P QS) (id : ID)
     (value : V) (granted : P) (is_granted : granted ≡ new.granted)
     (u : IsUpdated eq cmp part (λ v w. w ≡ (if partial_gt partial_cmp value v then value else v)) old id new)
     (r : IsInOrder eq cmp part has_quorum new) where

@@ -74,7 +74,7 @@ IsSame-refl s = record { quorum_set = refl; is_voter = λ x. refl; value = λ x.
 -- an update of an unknown id changes no value
 pub unknown_same : {ID V P QS : Type 0} (eq : ID → ID → Bool) (cmp : P → P → Ordering) (part : V → P) (Left : V → V → Type 0)
     (old : ProgressView ID V P QS) (id : ID) (new : ProgressView ID V P QS) → IsUpdated eq cmp part Left old id new
-        → (state eq old).value id ≡ None
+    → (state eq old).value id ≡ None
     → IsSame (state eq old) (state eq new)
 unknown_same {ID} {V} {P} {QS} eq cmp part Left old id new u none =
     subst (λ (p : ProgressView ID V P QS). IsSame (state eq old) (state eq p)) (sym (u.unknown none)) (IsSame-refl (state eq old))

@@ -86,7 +86,7 @@ module _ {ID V P QS : Type 0} {eq : ID → ID → Bool} (laws : IsEquivalence eq
   in_order_of h =
       let voters = take p.voter_count p.entries in
       let differ : ids_differ eq p.entries ≡ true = ∥∥₁_elim h (Coded-set coded_bool _ _)
-          (λ r. test_from_distinct laws p.entries r.distinct) in
+      (λ r. test_from_distinct laws p.entries r.distinct) in
       let falls : never_rises cmp part p.granted voters ≡ true =
       ∥∥₁_elim h (Coded-set coded_bool _ _) (λ r. test_from_falling o part p.granted voters r.falling) in
       let d = distinct_from_test laws p.entries differ in

@@ -84,7 +84,7 @@ pub ready_upgraded : {K N V P : Type 0} (eq : K → K → Bool) (id_cmp : K → 
     (list : MemberList K N) (configs : Configs K) (learners : List K) → ((id : K) → is_voter eq configs id ≡ is_voter_of eq list.configs id)
     → HasConfigs (members_of id_cmp list) configs → AreLearners eq (members_of id_cmp list) learners
     → (IsClone : V → V → Type 0) (default : V) (old : K → Option V) (p : ProgressView K V P (Configs K))
-        → IsInOrder eq cmp part (has_quorum eq) p
+    → IsInOrder eq cmp part (has_quorum eq) p
     → IsUpgraded eq IsClone part (is_voter eq configs) configs learners default old (state eq p)
     → IsReady eq id_cmp cmp part (record { membership = list; progress = p })
 ready_upgraded eq id_cmp cmp part list configs learners voters h l IsClone default old p r u = record {

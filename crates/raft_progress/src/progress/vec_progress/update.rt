@@ -19,12 +19,12 @@ use crate::progress::part::{ProgressPart, is_at_most, is_below};
 use crate::progress::steps::Reply;
 use raft_members::quorum::QuorumSet;
 
-impl<
-    ID: Copy + Ord,
-    V: ProgressPart<P>,
-    P: Copy + Ord,
-    QS: QuorumSet<ID>,
-> VecProgress<ID, V, P, QS> {
+impl<ID: Copy + Ord, V: ProgressPart<P>, P: Copy + Ord, QS: QuorumSet<ID>> VecProgress<
+    ID,
+    V,
+    P,
+    QS,
+> {
     /// Changes the value of an id by `f`, and recomputes granted. Returns whether the id is known.
     #[inline(always)]
     pub(super) fn apply<F: FnOnce(&mut V)>(&mut self, id: &ID, f: F) -> bool

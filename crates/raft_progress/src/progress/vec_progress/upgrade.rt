@@ -17,12 +17,12 @@ use crate::progress::stat::Stat;
 use raft_members::quorum::QuorumSet;
 use std::alloc::AllocError;
 
-impl<
-    ID: Copy + Ord,
-    V: ProgressPart<P>,
-    P: Copy + Ord,
-    QS: QuorumSet<ID>,
-> VecProgress<ID, V, P, QS> {
+impl<ID: Copy + Ord, V: ProgressPart<P>, P: Copy + Ord, QS: QuorumSet<ID>> VecProgress<
+    ID,
+    V,
+    P,
+    QS,
+> {
     /// Continues the counts of another progress.
     pub(super) fn go_on_from(&mut self, stat: &Stat)
         ensures same { view self.new ≡ record (view self.old) { stat = stat.now } }

@@ -196,7 +196,7 @@ pub prefix_tested : {ID V : Type 0} {eq : ID → ID → Bool} (laws : IsEquivale
     (distinct : IsDistinct eq (keys_of voters)) (scratch : List ID) (high k : ℕ) (l : k ≤ high)
     (gathered : take high scratch ≡ keys_of (take high voters)) (answer : Bool)
     (tells : IsDistinct eq (take k scratch) → answer ≡ is_quorum (is_member eq (take k scratch)))
-        → answer ≡ prefix_test eq is_quorum voters k
+    → answer ≡ prefix_test eq is_quorum voters k
 prefix_tested {eq = eq} laws is_quorum voters distinct scratch high k l gathered answer tells =
     let prefix = prefix_of voters scratch high k l gathered in
     tells (subst (IsDistinct eq) (sym prefix) (IsDistinct-voters laws k voters distinct)) ∙ ap (λ ks. is_quorum (is_member eq ks)) prefix

@@ -35,9 +35,9 @@ lead_ends {X} p (x ∷ xs) (suc n) d fails = by (p x) (lead_ends p xs n d fails)
 
 module _ {ID V P QS : Type 0} {eq : ID → ID → Bool} (laws : IsEquivalence eq) (cmp : P → P → Ordering) (part : V → P)
     (has_quorum : QS → (ID → Bool) → Bool) (old : ProgressView ID V P QS)
-        (distinct : IsDistinct eq (keys_of (take old.voter_count old.entries)))
+    (distinct : IsDistinct eq (keys_of (take old.voter_count old.entries)))
     (size : ℕ) (least : QuorumsHaveAtLeast eq (has_quorum old.quorum_set) size) (position low : ℕ)
-        (is : low ≡ max (size - 1) position) where
+    (is : low ≡ max (size - 1) position) where
   -- a prefix with fewer ids than each quorum is none
   short_fails : (k : ℕ) → k < size → prefix_test eq (has_quorum old.quorum_set) (take old.voter_count old.entries) k ≡ false
   short_fails k l = by (prefix_test eq (has_quorum old.quorum_set) voters k) refl
@@ -76,7 +76,7 @@ module _ {ID V P QS : Type 0} {eq : ID → ID → Bool} (laws : IsEquivalence eq
     where
       by : {Q : Type 0} (k : ℕ) → position < k
           → (low < k → Q → prefix_test eq (has_quorum old.quorum_set) (take old.voter_count old.entries) k ≡ false) → (low < k → Q)
-              → (b : Bool)
+          → (b : Bool)
           → ltb low k ≡ b → prefix_test eq (has_quorum old.quorum_set) (take old.voter_count old.entries) k ≡ false
       by k l h q true t = h (ltb-true low k t) (q (ltb-true low k t))
       by k l h q false t = let m = ltb-false low k t in short_fails k (omega arith)

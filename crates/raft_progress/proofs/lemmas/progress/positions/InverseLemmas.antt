@@ -219,25 +219,25 @@ module _ (P R : List ℕ) (last risen position : ℕ) (P' R' : List ℕ) (m : Li
         let down : position - 1 ≢ position = λ e. omega arith in
         let ne = apart (set P' risen position) (set R' position risen) m.inverse position passed risen second n passed_at risen_at in
         let ps : set (set (set P' risen position) passed position) risen (position - 1) ≡ set (set P' passed position) risen
-            (position - 1) =
+        (position - 1) =
         ap (λ vs. set vs risen (position - 1)) (set_comm P' risen passed position position (λ e. ne (sym e)))
         ∙ set-set (set P' passed position) risen position (position - 1) in
         let rs : set (set (set R' position risen) (position - 1) risen) position passed ≡ set (set R' position passed)
-            (position - 1) risen =
+        (position - 1) risen =
         ap (λ vs. set vs position passed) (set_comm R' position (position - 1) risen risen (λ e. down (sym e)))
         ∙ set-set (set R' (position - 1) risen) position risen passed
         ∙ set_comm R' (position - 1) position risen passed down in
         let inv = inverse_swapped (set P' risen position)
-            (set R' position risen) m.inverse position passed risen second n passed_at risen_at in
+        (set R' position risen) m.inverse position passed risen second n passed_at risen_at in
         record {
           inverse = subst (λ vs. AreInverse vs (set (set R' position passed) (position - 1) risen)) ps
               (subst (AreInverse (set (set (set P' risen position) passed position) risen (position - 1))) rs inv);
           positions =
               sym ps ∙ positions_swapped (set P' risen position)
-                  (set R' position risen) m.inverse position passed risen second n passed_at risen_at
+              (set R' position risen) m.inverse position passed risen second n passed_at risen_at
               ∙ ap (map (exchanged position)) m.positions
               ∙ after_both P (exchanged position) (position_after position last) (position_after (position - 1) last)
-                  (after_step position last second top);
+              (after_step position last second top);
         }
 
 -- a list that is lent as a slice is what was written there

@@ -267,7 +267,7 @@ module _ {ID : Type 0} {eq : ID → ID → Bool} (laws : IsEquivalence eq) where
       subst (λ (es : List (ID × V)). TellsPositionsBefore eq (keys_of es) to from found) (sym p.now)
       (subst (λ (n : ℕ). TellsPositionsBefore eq (keys_of (p.prefix ++ (p.entry ∷ (p.passed ++ p.rest)))) n from found) p.now_at
       (subst (λ (n : ℕ). TellsPositionsBefore eq (keys_of (p.prefix ++ (p.entry ∷ (p.passed ++ p.rest))))
-          (length p.prefix) n found) p.was_at b))
+      (length p.prefix) n found) p.was_at b))
 
   -- the same ids, and a list with the same positions
   pub tells_alike : (ids ids' : List ID) (found found' : ID → Option ℕ) → ids' ≡ ids → ((x : ID) → found' x ≡ found x)

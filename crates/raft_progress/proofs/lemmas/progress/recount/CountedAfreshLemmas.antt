@@ -58,7 +58,7 @@ module _ {ID : Type 0} {eq : ID → ID → Bool} (laws : IsEquivalence eq) where
   -- what holds of each voter's value holds of the value that is looked up at a voter's id
   pub voter_value : {V : Type 0} (R : V → Type 0) (entries : List (ID × V)) (n : ℕ) (x : ID) (v : V)
       → is_member eq (take n (keys_of entries)) x ≡ true → lookup (eq x) entries ≡ Some v → AllByRecursion (λ e. R e.1) (take n entries)
-          → R v
+      → R v
   voter_value R entries zero x v m l a = absurd (true≢false (sym m))
   voter_value R [] (suc n) x v m l a = absurd (true≢false (sym m))
   voter_value {V} R (e ∷ es) (suc n) x v m l a = by (eq x e.0) m l (λ i j. voter_value R es n x v i j a.1)
@@ -88,7 +88,7 @@ module _ {ID : Type 0} {eq : ID → ID → Bool} (laws : IsEquivalence eq) where
           record {
             voter = All-contains (λ (e : ID × V). is_member eq (take n (keys_of entries)) e.0 ≡ true) (take n entries) w.0
                 (All-from_recursion (λ (e : ID × V). is_member eq (take n (keys_of entries)) e.0 ≡ true) (take n entries)
-                    (members entries n)) w.1;
+                (members entries n)) w.1;
             value = All-contains (λ (e : ID × V). lookup (eq e.0) entries ≡ Some e.1) (take n entries) w.0
                 (All-take (λ (e : ID × V). lookup (eq e.0) entries ≡ Some e.1) n entries found) w.1;
             quorum = sym (same_test (part w.0.1)) ∙ w.3;
@@ -99,7 +99,7 @@ module _ {ID : Type 0} {eq : ID → ID → Bool} (laws : IsEquivalence eq) where
       default_at_most = r.default_at_most;
       others_at_most = λ x v k.
           voter_value (λ (u : V). reaches eq cmp part (has_quorum quorum_set) (take n entries) (part u) ≡ true
-              → AtMost cmp (part u) g) entries n
+          → AtMost cmp (part u) g) entries n
           x v k.voter k.value
           (recursion_from_All (λ (e : ID × V). reaches eq cmp part (has_quorum quorum_set) (take n entries) (part e.1) ≡ true
           → AtMost cmp (part e.1) g) (take n entries) r.others_at_most)

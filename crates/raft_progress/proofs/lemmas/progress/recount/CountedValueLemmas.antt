@@ -203,7 +203,7 @@ module _ {ID V P QS : Type 0} {eq : ID → ID → Bool} (laws : IsEquivalence eq
   module _ (entries entries' : List (ID × V)) (id : ID) (v w : V)
       (same_voters : (x : ID) → is_member eq (take n (keys_of entries')) x ≡ is_member eq (take n (keys_of entries)) x)
       (written : (x : ID) → lookup (eq x) entries' ≡ cond (eq id x) (Some w) (lookup (eq x) entries))
-          (was : lookup (eq id) entries ≡ Some v)
+      (was : lookup (eq id) entries ≡ Some v)
       (up : AtMost cmp (part v) (part w)) where
     value_up : (y : ID) (u : V) → lookup (eq y) entries ≡ Some u
         → (u' : V) × (lookup (eq y) entries' ≡ Some u') × AtMost cmp (part u) (part u')
@@ -353,9 +353,9 @@ module _ {ID V P QS : Type 0} {eq : ID → ID → Bool} (laws : IsEquivalence eq
           let far' = in_reach entries' d' g fall' (part f.1) over (k - 1) f within
           (ap (λ (e : ID × V). is_le (cmp (part f.1) (part e.1))) (sym is) ∙ AtMost-refl o (part f.1)) in
           let grown : prefix_test eq (has_quorum qs) (take n entries') (prefix_len (at_least cmp part (part f.1))
-              (take n entries')) ≡ true =
+          (take n entries')) ≡ true =
           superset _ _ (prefix_grows eq (take n entries') k (prefix_len (at_least cmp part (part f.1)) (take n entries'))
-              (omega arith)) q in
+          (omega arith)) q in
           let reach : reaches eq cmp part (has_quorum qs) (take n entries') (part (get_or (take n entries') (k - 1) f).1) ≡ true =
           ap (λ (e : ID × V). reaches eq cmp part (has_quorum qs) (take n entries') (part e.1)) (sym is)
           ∙ reaches_prefix entries' d' g fall' (part f.1) over ∙ grown in (
@@ -380,7 +380,7 @@ module _ {ID V P QS : Type 0} {eq : ID → ID → Bool} (laws : IsEquivalence eq
         where
           below : (j : ℕ) (e : ID × V) → j < length (take n entries')
               → reaches eq cmp part (has_quorum qs) (take n entries') (part (get_or (take n entries') j e).1) ≡ true
-                  → AtMost cmp g (part f.1)
+              → AtMost cmp g (part f.1)
               → AtMost cmp (part (get_or (take n entries') j e).1) (part f.1)
           below j e l h more = by (is_lt (cmp g (part (get_or (take n entries') j e).1))) refl
             where
@@ -397,7 +397,7 @@ module _ {ID V P QS : Type 0} {eq : ID → ID → Bool} (laws : IsEquivalence eq
                 where
                   to : (m : ℕ) → prefix_test eq (has_quorum qs) (take n entries') m ≡ true → 1 ≤ m
                       → ((i : ℕ) → i < m → is_le (cmp (part (get_or (take n entries') j e).1)
-                          (part (get_or (take n entries') i f).1)) ≡ true)
+                      (part (get_or (take n entries') i f).1)) ≡ true)
                       → AtMost cmp (part (get_or (take n entries') j e).1) (part f.1)
                   to m at up' h' = split (ltb m k) refl
                     where

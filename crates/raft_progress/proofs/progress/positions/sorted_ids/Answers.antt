@@ -40,12 +40,12 @@ returns g c =
     let made = c.loop-position.sorted.items in
     let es = c.sort_unstable_by_key.new.self.items in
     let ids = c.loop-position.invariant.ids ∙ take_all c.loop-position.position (keys_of entries)
-        (rw (length-keys_of entries) c.loop-position-test.false) in
+    (rw (length-keys_of entries) c.loop-position-test.false) in
     let same : c.loop-position.position ≡ length (keys_of entries) = omega (arith, length-keys_of entries) in
     let positions = c.loop-position.invariant.positions ∙ ap (range_with_len 0) same in
     let moved = c.sort_unstable_by_key.ensures.permutation in
     let distinct = distinct_moved g.met.ID.Eq.laws g.met.ID.Ord.total g.met.ID.Ord.matches_eq
-        (keys_of entries) made es c.requires ids positions
+    (keys_of entries) made es c.requires ids positions
     moved in
     record {
       ascending = ascending_from_sorted g.met.ID.Eq.laws g.met.ID.Ord.total g.met.ID.Ord.matches_eq es distinct

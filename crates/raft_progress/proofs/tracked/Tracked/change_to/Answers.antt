@@ -9,22 +9,22 @@ pub returns-clause-step : goal.returns-clause-step
 returns-clause-step g c =
     rw c.unwrap_or.ensures
     (change_or_memory g.NID.PartialEq.eq g.NID.Ord.cmp g.P.Ord.cmp g.V.ProgressPart.part_of g.V.Clone.is_clone
-        (tracked_view c.args.self.now)
-    (tracked_view c.upgrade_to.new.cluster) c.args.membership c.args.default c.upgrade_to.result c.upgrade_to.ensures.step
+    (tracked_view c.args.self.now)
+    (tracked_view c.upgrade_to.new.self) c.args.membership c.args.default c.upgrade_to.result c.upgrade_to.ensures.step
     c.upgrade_to.ensures.err)
 
 pub returns-clause-ready : goal.returns-clause-ready
 returns-clause-ready g c = ready_of g.met.NID.Eq.laws g.NID.Ord.cmp g.met.P.Ord.total g.V.ProgressPart.part_of
-    (Coded-set (coded_list (coded_list g.row.NID.coded))) (tracked_view c.upgrade_to.new.cluster) c.upgrade_to.new.cluster.ready
+    (Coded-set (coded_list (coded_list g.row.NID.coded))) (tracked_view c.upgrade_to.new.self) c.upgrade_to.new.self.ready
 
 pub returns-clause-granted : goal.returns-clause-granted
 returns-clause-granted g c = (returns-clause-ready g c).ordered.counted
 
 pub returns-clause-quorums : goal.returns-clause-quorums
 returns-clause-quorums g c = λ some. (each_quorum_knows g.met.NID.Eq.laws g.NID.Ord.cmp g.met.P.Ord.total g.V.ProgressPart.part_of
-    (tracked_view c.upgrade_to.new.cluster) (returns-clause-ready g c) some).0
+    (tracked_view c.upgrade_to.new.self) (returns-clause-ready g c) some).0
 
 pub returns-clause-changed_quorums : goal.returns-clause-changed_quorums
 returns-clause-changed_quorums g c = λ some.
-    (each_quorum_knows g.met.NID.Eq.laws g.NID.Ord.cmp g.met.P.Ord.total g.V.ProgressPart.part_of (tracked_view c.upgrade_to.new.cluster)
+    (each_quorum_knows g.met.NID.Eq.laws g.NID.Ord.cmp g.met.P.Ord.total g.V.ProgressPart.part_of (tracked_view c.upgrade_to.new.self)
     (returns-clause-ready g c) some).1

@@ -76,7 +76,7 @@ returns-clause-run g c =
     run_seen (IsTrackedViewStep by g.N.PartialEq.eq) (IsTrackedStep by g.N.PartialEq.eq) IsSameTracked (tracked_state g.NID.PartialEq.eq)
     (λ old step reply new s. s.values) IsSameTracked-refl
     (tracked_view c.args.cluster.now) c.args.steps.items c.loop-step.replies.items (tracked_view c.loop-step.cluster)
-        (returns-clause-view_run g c)
+    (returns-clause-view_run g c)
 
 pub returns-clause-ready : goal.returns-clause-ready
 returns-clause-ready g c = ready_of g.met.NID.Eq.laws g.NID.Ord.cmp g.met.P.Ord.total g.V.ProgressPart.part_of
@@ -101,7 +101,7 @@ pub returns-clause-monotone : goal.returns-clause-monotone
 returns-clause-monotone g c = λ none.
     let by = compared g.NID.PartialEq.eq g.NID.Ord.cmp g.P.Ord.cmp g.V.PartialOrd.partial_cmp g.V.ProgressPart.part_of g.V.Clone.is_clone in
     tracked_run_not_lower by g.met.P.Ord.total g.N.PartialEq.eq
-        (tracked_view c.args.cluster.now) c.args.steps.items c.loop-step.replies.items
+    (tracked_view c.args.cluster.now) c.args.steps.items c.loop-step.replies.items
     (tracked_view c.loop-step.cluster) (returns-clause-view_run g c) none
 
 pub returns-in_err-replies-clause-monotone : goal.returns-in_err-replies-clause-monotone

@@ -34,7 +34,7 @@ find_shortest_quorum-found-requires-clause-within g c =
 pub find_shortest_quorum-found-requires-clause-distinct : goal.find_shortest_quorum-found-requires-clause-distinct
 find_shortest_quorum-found-requires-clause-distinct g c =
     rw c.deref.ensures.value (IsDistinct-voters g.met.ID.Eq.laws c.args.self.now.voter_count c.args.self.now.entries.items
-        c.requires.distinct)
+    c.requires.distinct)
 
 pub index-requires : goal.index-requires
 index-requires g c =

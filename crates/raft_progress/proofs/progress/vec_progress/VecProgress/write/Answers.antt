@@ -50,7 +50,7 @@ returns-then-is_below-clause-step g c =
     sym (c.is_below.ensures ∙ ap (λ q. is_lt (g.P.Ord.cmp q c.part-before.result)) c.part-after.ensures
     ∙ ap (λ q. is_lt (g.P.Ord.cmp (g.V.ProgressPart.part_of c.args.value) q)) c.part-before.ensures) ∙ c.if-is_below.true in
     let same_progress_entries : set ws position e ≡ ws = ap (λ f. set ws position f) c.index_mut-entry.ensures.value
-        ∙ set-get_or ws position e in
+    ∙ set-get_or ws position e in
     let same = ap (λ es. record (view p) { entries = es }) same_progress_entries in
     record {
       values = (

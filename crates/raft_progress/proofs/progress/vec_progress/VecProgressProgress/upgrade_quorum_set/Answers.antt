@@ -20,7 +20,7 @@ loop-entry-init g c =
           g.V.ProgressPart.part_of g.QS.QuorumSet.has_quorum p) (sym same) c.in_ok-made.ensures.ordered;
       made =
           subst (λ (p : ProgressView g.row.ID.Denot g.row.V.Denot g.row.P.Denot g.row.QS.Denot). IsUpgraded g.ID.PartialEq.eq
-              g.V.Clone.is_clone
+          g.V.Clone.is_clone
           g.V.ProgressPart.part_of (g.QS.QuorumSet.is_voter c.args.quorum_set) c.args.quorum_set c.args.learners.now c.args.default
           (λ x. None) (state g.ID.PartialEq.eq p)) (sym same)
           (upgraded_none g.ID.PartialEq.eq g.V.Clone.is_clone g.V.ProgressPart.part_of (g.QS.QuorumSet.is_voter c.args.quorum_set)
@@ -28,7 +28,7 @@ loop-entry-init g c =
           c.in_ok-made.ensures.made);
       fold =
           subst (λ (p : ProgressView g.row.ID.Denot g.row.V.Denot g.row.P.Denot g.row.QS.Denot). IsFold g.ID.PartialEq.eq g.ID.Ord.cmp
-              g.P.Ord.cmp
+          g.P.Ord.cmp
           g.V.ProgressPart.part_of g.V.Clone.is_clone g.QS.QuorumSet.has_quorum g.QS.QuorumSet.is_voter [] c.args.self.now.stat
           c.args.quorum_set c.args.learners.now c.args.default p) (sym same)
           (fold_none g.ID.PartialEq.eq g.ID.Ord.cmp g.P.Ord.cmp g.V.ProgressPart.part_of g.V.Clone.is_clone g.QS.QuorumSet.has_quorum

@@ -10,7 +10,7 @@ use Rattle.raft_progress.specs.tracked.TrackedState.{has_quorum, is_voter}
 use Rattle.raft_progress.proofs.lemmas.tracked.ReadyLemmas.{ready_of}
 use Rattle.raft_progress.proofs.lemmas.tracked.TrackedLemmas.{learners_of_fit, ready_upgraded}
 use Rattle.raft_progress.proofs.lemmas.progress.UpdateLemmas.{IsSame-refl}
-use Rattle.raft_progress.proofs.tracked.single_steps.upgrade_unless_below.Goals as goal
+use Rattle.raft_progress.proofs.tracked.Tracked.upgrade_unless_below.Goals as goal
 
 pub upgrade_quorum_set-requires-clause-learners_fit : goal.upgrade_quorum_set-requires-clause-learners_fit
 upgrade_quorum_set-requires-clause-learners_fit g c =
@@ -20,7 +20,7 @@ upgrade_quorum_set-requires-clause-learners_fit g c =
 pub upgrade_quorum_set-requires-clause-ordered : goal.upgrade_quorum_set-requires-clause-ordered
 upgrade_quorum_set-requires-clause-ordered g c =
     (ready_of g.met.NID.Eq.laws g.NID.Ord.cmp g.met.P.Ord.total g.V.ProgressPart.part_of
-    (Coded-set (coded_list (coded_list g.row.NID.coded))) (tracked_view c.args.cluster.now) c.args.cluster.now.ready).ordered
+    (Coded-set (coded_list (coded_list g.row.NID.coded))) (tracked_view c.args.self.now) c.args.self.now.ready).ordered
 
 pub returns-in-Some-clause-step : goal.returns-in-Some-clause-step
 returns-in-Some-clause-step g c = record {
@@ -35,7 +35,7 @@ returns-in-Some-clause-step g c = record {
         learners_of_fit g.NID.PartialEq.eq (members_of g.NID.Ord.cmp c.args.next) c.args.configs c.args.learners.now c.requires.voters
             c.requires.are_learners,
         c.requires.some c.in-Some.id c.in-Some.is,
-        IsSame-refl (state g.NID.PartialEq.eq (view c.args.cluster.now.progress)),
+        IsSame-refl (state g.NID.PartialEq.eq (view c.args.self.now.progress)),
       ),
     ),
   );
@@ -68,7 +68,7 @@ returns-in_ok-upgraded-in-None-clause-step g c = record {
       configs = c.args.configs;
       has_configs = c.requires.configs;
       fold = subst (λ (ls : List g.row.NID.Denot). IsUpgradeFold g.NID.PartialEq.eq g.NID.Ord.cmp g.P.Ord.cmp g.V.ProgressPart.part_of
-          g.V.Clone.is_clone (has_quorum g.NID.PartialEq.eq) (is_voter g.NID.PartialEq.eq) (view c.args.cluster.now.progress)
+          g.V.Clone.is_clone (has_quorum g.NID.PartialEq.eq) (is_voter g.NID.PartialEq.eq) (view c.args.self.now.progress)
           c.args.configs ls c.args.default (view c.in_ok-upgraded-in-None.upgraded)) c.requires.learners
           c.in_ok-upgraded-in-None.ensures.fold;
     };
@@ -76,12 +76,12 @@ returns-in_ok-upgraded-in-None-clause-step g c = record {
   };
 }
 
-pub invariant_of-cluster : goal.invariant_of-cluster
-invariant_of-cluster g c = record {
+pub invariant_of-self : goal.invariant_of-self
+invariant_of-self g c = record {
   ready = ∣
       ready_upgraded g.NID.PartialEq.eq g.NID.Ord.cmp g.P.Ord.cmp g.V.ProgressPart.part_of c.args.next c.args.configs c.args.learners.now
       c.requires.voters c.requires.configs c.requires.are_learners g.V.Clone.is_clone c.args.default
-      ((state g.NID.PartialEq.eq (view c.args.cluster.now.progress)).value) (view c.in_ok-upgraded-in-None.upgraded)
+      ((state g.NID.PartialEq.eq (view c.args.self.now.progress)).value) (view c.in_ok-upgraded-in-None.upgraded)
       c.in_ok-upgraded-in-None.ensures.ordered
       c.in_ok-upgraded-in-None.ensures.made
       ∣₁;

@@ -5,8 +5,8 @@ use Rattle.std.specs.Result.{is_ok}
 use Rattle.raft_progress.specs.progress.Steps.{falls, stays}
 use Rattle.raft_progress.specs.progress.VecProgress.{view}
 use Rattle.raft_progress.proofs.lemmas.progress.StepLemmas.{increase_known}
-use Rattle.raft_progress.proofs.progress.replay_any_steps.increase.Goals as goal
-use Rattle.raft_progress.proofs.progress.replay_any_steps.increase.Goals.{
+use Rattle.raft_progress.proofs.progress.vec_progress.VecProgress.increase.Goals as goal
+use Rattle.raft_progress.proofs.progress.vec_progress.VecProgress.increase.Goals.{
   else-not-is_not_greater-via-then-not-is_not_greater+else-would_fall,
   else-not-is_not_greater-via-else-not-is_not_greater,
 }
@@ -22,7 +22,7 @@ returns-in-Ok-clause-step g c =
       | else-not-is_not_greater-via-else-not-is_not_greater b ↦
           λ s. absurd (true≢false (sym b.if-not-is_not_greater.false ∙ c.is_not_greater.ensures ∙ s))
     ] in
-    increase_known g.met.ID.Eq.laws g.P.Ord.cmp g.V.ProgressPart.part_of g.QS.QuorumSet.has_quorum (view c.args.progress.now)
+    increase_known g.met.ID.Eq.laws g.P.Ord.cmp g.V.ProgressPart.part_of g.QS.QuorumSet.has_quorum (view c.args.self.now)
     (view c.increase_to.follows.lender-at-none) c.args.id.now c.args.value c.in-Ok.granted.now
     (MatchResult-at_ok _ _ c.in-Ok.granted c.in-Ok.is h.granted) h.ordered g.V.PartialOrd.partial_cmp h.updated
     (h.known.0 (ap is_ok c.in-Ok.is))

@@ -4,18 +4,18 @@ use Rattle.raft_progress.specs.progress.ViewSteps.{IsIncreasedTo}
 use Rattle.raft_progress.specs.tracked.Tracked.{tracked_view}
 use Rattle.raft_progress.specs.progress.VecProgress.{view}
 use Rattle.raft_progress.proofs.lemmas.tracked.ReadyLemmas.{answered_tracked, ready_increased, ready_of}
-use Rattle.raft_progress.proofs.tracked.replay_steps.answer.Goals as goal
+use Rattle.raft_progress.proofs.tracked.Tracked.answer.Goals as goal
 
 pub increase-requires : goal.increase-requires
 increase-requires g c = (ready_of g.met.NID.Eq.laws g.NID.Ord.cmp g.met.P.Ord.total g.V.ProgressPart.part_of
-    (Coded-set (coded_list (coded_list g.row.NID.coded))) (tracked_view c.args.cluster.now) c.args.cluster.now.ready).ordered
+    (Coded-set (coded_list (coded_list g.row.NID.coded))) (tracked_view c.args.self.now) c.args.self.now.ready).ordered
 
-pub invariant_of-cluster : goal.invariant_of-cluster
-invariant_of-cluster g c = record {
+pub invariant_of-self : goal.invariant_of-self
+invariant_of-self g c = record {
   ready = ∣
       ready_increased g.met.NID.Eq.laws g.NID.Ord.cmp g.met.P.Ord.total g.V.ProgressPart.part_of
-      (Coded-set (coded_list (coded_list g.row.NID.coded))) (tracked_view c.args.cluster.now)
-      (record { membership = c.args.cluster.now.membership; progress = view c.increase.new.progress }) refl c.args.cluster.now.ready
+      (Coded-set (coded_list (coded_list g.row.NID.coded))) (tracked_view c.args.self.now)
+      (record { membership = c.args.self.now.membership; progress = view c.increase.new.progress }) refl c.args.self.now.ready
       c.increase.ensures.ordered c.in-IncreaseTo.id c.in-IncreaseTo.value c.increase.result g.V.PartialOrd.partial_cmp
       c.increase.ensures.step.values
       ∣₁;
@@ -40,12 +40,12 @@ returns-in-IncreaseTo g c =
     record {
       values = (refl, c.increase.ensures.step.values);
       answered = answered_tracked (IsIncreasedTo g.NID.PartialEq.eq g.P.Ord.cmp g.V.ProgressPart.part_of g.V.PartialOrd.partial_cmp
-          (view c.args.cluster.now.progress) c.in-IncreaseTo.id c.in-IncreaseTo.value) (tracked_view c.args.cluster.now) c.increase.result
-          (record { membership = c.args.cluster.now.membership; progress = view c.increase.new.progress }) refl
+          (view c.args.self.now.progress) c.in-IncreaseTo.id c.in-IncreaseTo.value) (tracked_view c.args.self.now) c.increase.result
+          (record { membership = c.args.self.now.membership; progress = view c.increase.new.progress }) refl
           c.increase.ensures.step.answered;
       ready = ready_increased g.met.NID.Eq.laws g.NID.Ord.cmp g.met.P.Ord.total g.V.ProgressPart.part_of
-          (Coded-set (coded_list (coded_list g.row.NID.coded))) (tracked_view c.args.cluster.now)
-          (record { membership = c.args.cluster.now.membership; progress = view c.increase.new.progress }) refl c.args.cluster.now.ready
+          (Coded-set (coded_list (coded_list g.row.NID.coded))) (tracked_view c.args.self.now)
+          (record { membership = c.args.self.now.membership; progress = view c.increase.new.progress }) refl c.args.self.now.ready
           c.increase.ensures.ordered c.in-IncreaseTo.id c.in-IncreaseTo.value c.increase.result g.V.PartialOrd.partial_cmp
           c.increase.ensures.step.values;
     }
@@ -58,5 +58,5 @@ returns-in-Change g c =
       answered = c.change_members.ensures.answered;
       ready = ready_of g.met.NID.Eq.laws g.NID.Ord.cmp g.met.P.Ord.total g.V.ProgressPart.part_of
           (Coded-set (coded_list (coded_list g.row.NID.coded)))
-              (tracked_view c.change_members.new.cluster) c.change_members.new.cluster.ready;
+          (tracked_view c.change_members.new.self) c.change_members.new.self.ready;
     }
