@@ -14,7 +14,7 @@ use Rattle.raft_members.specs.membership.Members.{MemberList, members_of, node_a
 use Rattle.raft_members.specs.membership.Stored.{log_id_of}
 use Rattle.raft_members.specs.membership.Valid.{IsValid}
 use Rattle.raft_state.specs.log_id_list.FullLog.{full_log}
-use Rattle.raft_state.specs.raft_state.Leads.{is_initialized}
+use Rattle.raft_state.specs.raft_state.Role.{is_initialized}
 use Rattle.raft_state.specs.raft_state.VoteAndLog.{vote_of}
 use Rattle.raft_state.specs.declared.raft_state.RaftStateIn.{RaftStateIn}
 

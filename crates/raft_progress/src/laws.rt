@@ -4,19 +4,15 @@ ghost use Rattle.std.specs.declared.cmp.Ordering.{Ordering};
 ghost use Rattle.raft_progress.specs.entry.Sendable.{AckKeepsSendable, BeginsSendable, ConflictKeepsSendable, GiveUpKeepsSendable, GrowthKeepsSendable, SendKeepsSendable, SendableCanSend};
 ghost use Rattle.raft_progress.specs.progress.Calls.{IncreasesAreSteps, RunsAreRunsOfValues, RunsCompose, RunsNeverFall, UpdatesAreSteps, UpgradesAreSteps};
 ghost use Rattle.raft_progress.specs.progress.Comparisons.{comparisons_ordered};
-ghost use Rattle.raft_progress.specs.progress.CountedValue.{IsCounted};
 ghost use Rattle.raft_progress.specs.progress.LoggedMatches.{GrantedIsLogged};
 ghost use Rattle.raft_progress.specs.progress.Kept.{ClonesKeepOrder, KeptPartsKeepOrder, SamePartKeepsParts};
-ghost use Rattle.raft_progress.specs.progress.ProgressView.{state};
 ghost use Rattle.raft_progress.specs.progress.Threshold.{CountedValuesTie, GrantedIsThreshold, MeetingQuorumsKnowGranted};
 ghost use Rattle.raft_progress.specs.search.Purged.{PurgedWithinStays};
 ghost use Rattle.raft_progress.specs.tracked.Elected.{ElectedLacksNothing, GrantedMeet};
-ghost use Rattle.raft_progress.specs.tracked.Headline.{ChangedQuorumsKnowGranted};
-ghost use Rattle.raft_progress.specs.tracked.Headline.{QuorumsKnowGranted};
 ghost use Rattle.raft_progress.specs.tracked.Known.{ChangeKeepsGranted, KnownOverChanges, KnownStays};
-ghost use Rattle.raft_progress.specs.tracked.Tracked.{tracked_view};
+ghost use Rattle.raft_progress.specs.tracked.Tracked.{ChangedQuorumsHaveGranted, GrantedIsCounted, QuorumsHaveGranted, TrackedIsReady};
 ghost use Rattle.raft_progress.specs.tracked.TrackedCalls.{ReplaysAreRunsOfValues, ReplaysCompose, ReplaysNeverFall, TrackedChangesAreSteps, TrackedUpdatesAreSteps};
-ghost use Rattle.raft_progress.specs.tracked.TrackedState.{IsReady, has_quorum};
+ghost use Rattle.raft_progress.specs.tracked.TrackedState.{has_quorum};
 
 use crate::progress::ProgressPart;
 use crate::tracked::Tracked;
@@ -41,13 +37,10 @@ pub fn kept_parts_keep_order<ID: Copy + Ord, V: ProgressPart<P>, P: Copy + Ord, 
 pub fn quorums_know_granted<NID: NodeId, N: Node, V: ProgressPart<P>, P: Copy + Ord>(
     cluster: &Tracked<NID, N, V, P>,
 )
-    ensures ready { IsReady NID.eq NID.cmp P.cmp V.part_of (tracked_view cluster.now) }
-    ensures granted { IsCounted P.cmp V.part_of (has_quorum NID.eq)
-        (state NID.eq (tracked_view cluster.now).progress)
-        (tracked_view cluster.now).progress.granted }
-    ensures quorums { QuorumsKnowGranted NID.eq P.cmp V.part_of (tracked_view cluster.now) }
-    ensures changed_quorums { ChangedQuorumsKnowGranted NID.eq NID.cmp P.cmp V.part_of
-        (tracked_view cluster.now) }
+    ensures ready { TrackedIsReady cluster.now }
+    ensures granted { GrantedIsCounted cluster.now }
+    ensures quorums { QuorumsHaveGranted cluster.now }
+    ensures changed_quorums { ChangedQuorumsHaveGranted cluster.now }
 {}
 
 /// A part is at most granted exactly if it is at most the default's part, or a quorum of the voters

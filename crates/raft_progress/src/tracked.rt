@@ -35,13 +35,10 @@ pub struct Tracked<NID: NodeId, N: Node, V: ProgressPart<P>, P: Copy + Ord> {
 
 impl<NID: NodeId, N: Node, V: ProgressPart<P>, P: Copy + Ord> Tracked<NID, N, V, P> {
     ghost use Rattle.std.specs.Prelude.{◌≡◌, IfOk};
-    ghost use Rattle.raft_progress.specs.progress.CountedValue.{AtMost, IsCounted};
-    ghost use Rattle.raft_progress.specs.progress.ProgressView.{state};
-    ghost use Rattle.raft_progress.specs.tracked.Headline.{ChangedQuorumsKnowGranted, QuorumsKnowGranted};
+    ghost use Rattle.raft_progress.specs.progress.CountedValue.{AtMost};
     ghost use Rattle.raft_progress.specs.tracked.SingleSteps.{IsTrackedUpdate};
-    ghost use Rattle.raft_progress.specs.tracked.Tracked.{tracked_view};
+    ghost use Rattle.raft_progress.specs.tracked.Tracked.{ChangedQuorumsHaveGranted, GrantedIsCounted, QuorumsHaveGranted, TrackedIsReady, tracked_view};
     ghost use Rattle.raft_progress.specs.tracked.TrackedNew.{BeginsOver};
-    ghost use Rattle.raft_progress.specs.tracked.TrackedState.{IsReady, has_quorum};
     ghost use Rattle.raft_progress.specs.progress.VecProgress.{view};
 
     /// Returns the membership with a progress in which each voter and each learner has a clone of
@@ -56,8 +53,7 @@ impl<NID: NodeId, N: Node, V: ProgressPart<P>, P: Copy + Ord> Tracked<NID, N, V,
             BeginsOver NID.eq NID.cmp P.cmp V.part_of V.is_clone default (tracked_view made)) }
         ensures granted { IfOk result (λ made.
             (tracked_view made).progress.granted ≡ V.part_of default) }
-        ensures ready { IfOk result (λ made.
-            IsReady NID.eq NID.cmp P.cmp V.part_of (tracked_view made)) }
+        ensures ready { IfOk result (λ made. TrackedIsReady made) }
     {
         let progress = MembershipProgress::of(&membership, default)?;
         Ok(Tracked {
@@ -91,15 +87,12 @@ impl<NID: NodeId, N: Node, V: ProgressPart<P>, P: Copy + Ord> Tracked<NID, N, V,
     pub fn update(&mut self, id: &NID, value: V) -> Reply<NID, P>
         ensures step { IsTrackedUpdate NID.eq P.cmp V.part_of
             (tracked_view self.old) id.now value result (tracked_view self.new) }
-        ensures ready { IsReady NID.eq NID.cmp P.cmp V.part_of (tracked_view self.new) }
-        ensures granted { IsCounted P.cmp V.part_of (has_quorum NID.eq)
-            (state NID.eq (tracked_view self.new).progress)
-            (tracked_view self.new).progress.granted }
+        ensures ready { TrackedIsReady self.new }
+        ensures granted { GrantedIsCounted self.new }
         ensures monotone { AtMost P.cmp (tracked_view self.old).progress.granted
             (tracked_view self.new).progress.granted }
-        ensures quorums { QuorumsKnowGranted NID.eq P.cmp V.part_of (tracked_view self.new) }
-        ensures changed_quorums { ChangedQuorumsKnowGranted NID.eq NID.cmp P.cmp V.part_of
-            (tracked_view self.new) }
+        ensures quorums { QuorumsHaveGranted self.new }
+        ensures changed_quorums { ChangedQuorumsHaveGranted self.new }
     {
         self.progress.write(id, value)
     }

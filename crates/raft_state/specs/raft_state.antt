@@ -3,7 +3,7 @@ pub mod VoteAndLog
 pub mod NewState
 pub mod Valid
 pub mod Sound
-pub mod Leads
+pub mod Role
 pub mod Appended
 pub mod Truncate
 pub mod Commit

@@ -7,7 +7,7 @@ ghost use Rattle.raft_base.specs.Validate.{first_false};
 ghost use Rattle.raft_base.specs.LogIndex.{index_lt};
 ghost use Rattle.raft_members.specs.quorum.Majority.{is_voter_of};
 ghost use Rattle.raft_members.specs.membership.Members.{node_at};
-ghost use Rattle.raft_state.specs.raft_state.Leads.{ForwardsTo, known_node};
+ghost use Rattle.raft_state.specs.raft_state.Role.{ForwardsTo, known_node};
 ghost use Rattle.raft_state.specs.membership_state.Memberships.{in_effect, index_at, same_memberships, IsNoMembership};
 ghost use Rattle.raft_state.specs.membership_state.MembershipsLawful.{same_memberships-equiv};
 ghost use Rattle.raft_state.specs.membership_state.MembershipMoves.{after_commit, commits, may_commit, after_append, may_append, after_truncate, is_cut, after_update_committed, effect_changes, effective_where, replaces_both};

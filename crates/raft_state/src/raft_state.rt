@@ -9,7 +9,7 @@ ghost use Rattle.raft_base.specs.UTime.{moment_of, utime_of};
 ghost use Rattle.raft_base.specs.Vote.{vote_cmp};
 ghost use Rattle.raft_state.specs.Accepted.{leader_of, accepted_id, after_accept};
 ghost use Rattle.raft_state.specs.log_id_list.FullLog.{full_log};
-ghost use Rattle.raft_state.specs.raft_state.Leads.{is_initialized};
+ghost use Rattle.raft_state.specs.raft_state.Role.{is_initialized};
 ghost use Rattle.raft_state.specs.log_id_list.LogReads.{last_id};
 ghost use Rattle.raft_state.specs.raft_state.NewState.{IsNewState, HasNewVote};
 ghost use Rattle.raft_state.specs.SnapshotMeta.{IsSnapshotCopy};

@@ -8,7 +8,7 @@ use Rattle.raft_progress.specs.progress.ViewSteps.{IsUpdatedTo}
 use Rattle.raft_progress.specs.progress.Steps.{IsWritten}
 use Rattle.raft_progress.specs.tracked.TrackedViewSteps.{IsChangeFold}
 use Rattle.raft_progress.specs.tracked.TrackedState.{TrackedView, TrackedState, has_quorum, tracked_state}
-use Rattle.raft_progress.specs.tracked.TrackedSteps.{GoesOver, IsSameTracked}
+use Rattle.raft_progress.specs.tracked.TrackedSteps.{SwitchesTo, IsSameTracked}
 use Rattle.raft_progress.specs.declared.progress.steps.Reply.{Reply}
 use Rattle.raft_progress.specs.declared.progress.steps.Reply.TheVariants.{Granted, BelowDefault, OutOfMemory}
 
@@ -27,20 +27,20 @@ module _ {K N V P : Type 0} (eq : K → K → Bool) (id_cmp : K → K → Orderi
     (part : V → P) (IsClone : V → V → Type 0) where
   -- both switch to a membership, unless an inherited value is below the default; or an allocation
   -- failed
-  abbrev pub GoBothOver : TrackedState K N V P → MemberList K N → V → Reply K P
+  abbrev pub BothSwitchTo : TrackedState K N V P → MemberList K N → V → Reply K P
       → TrackedState K N V P → Type 0
-  GoBothOver old next default (Granted p) new =
-      (new.membership ≡ next) × GoesOver eq id_cmp cmp part IsClone old.progress
+  BothSwitchTo old next default (Granted p) new =
+      (new.membership ≡ next) × SwitchesTo eq id_cmp cmp part IsClone old.progress
       (members_of id_cmp next) default (Granted p) new.progress
-  GoBothOver old next default (BelowDefault id) new =
-      (new.membership ≡ old.membership) × GoesOver eq id_cmp cmp part IsClone old.progress
+  BothSwitchTo old next default (BelowDefault id) new =
+      (new.membership ≡ old.membership) × SwitchesTo eq id_cmp cmp part IsClone old.progress
       (members_of id_cmp next) default (BelowDefault id) new.progress
-  GoBothOver old next default OutOfMemory new = IsSameTracked old new
-  GoBothOver old next default reply new = ⊥
+  BothSwitchTo old next default OutOfMemory new = IsSameTracked old new
+  BothSwitchTo old next default reply new = ⊥
 
   -- both switch to a membership, over all that contracts see of them
   pub record IsTrackedChangeTo (old : TrackedView K N V P) (next : MemberList K N) (default : V)
       (reply : Reply K P) (new : TrackedView K N V P) : Type 0 where
-    pub values : GoBothOver (tracked_state eq old) next default reply (tracked_state eq new)
+    pub values : BothSwitchTo (tracked_state eq old) next default reply (tracked_state eq new)
     pub answered : IsAnswered (λ t. t.progress.granted)
         (IsChangeFold eq id_cmp cmp part IsClone old default) old reply new

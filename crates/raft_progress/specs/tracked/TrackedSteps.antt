@@ -24,9 +24,9 @@ module _ {K N V P : Type 0} where
 module _ {K N V P : Type 0} (eq : K → K → Bool) (id_cmp : K → K → Ordering) (cmp : P → P → Ordering)
     (part : V → P) (IsClone : V → V → Type 0) where
   -- the progress switches to the configs and the learners of a membership, with this reply
-  abbrev pub GoesOver : ProgressState K V P (Configs K) → Members K N → V → Reply K P
+  abbrev pub SwitchesTo : ProgressState K V P (Configs K) → Members K N → V → Reply K P
       → ProgressState K V P (Configs K) → Type 0
-  GoesOver old m default reply new =
+  SwitchesTo old m default reply new =
       (configs : Configs K) × (learners : List K) × HasConfigs m configs × AreLearners eq m learners
       × IsAnsweredUpgrade eq id_cmp cmp part IsClone (has_quorum eq)
       (is_voter eq) old configs learners default reply new
@@ -39,10 +39,10 @@ module _ {K N V P : Type 0} (eq : K → K → Bool) (id_cmp : K → K → Orderi
       → Type 0
   IsChangedTo old next default (Granted p) new =
       IsValid eq next × HasMembers same id_cmp new.membership next
-      × GoesOver eq id_cmp cmp part IsClone old.progress next default (Granted p) new.progress
+      × SwitchesTo eq id_cmp cmp part IsClone old.progress next default (Granted p) new.progress
   IsChangedTo old next default (BelowDefault id) new =
       IsValid eq next × (new.membership ≡ old.membership)
-      × GoesOver eq id_cmp cmp part IsClone old.progress next default (BelowDefault id) new.progress
+      × SwitchesTo eq id_cmp cmp part IsClone old.progress next default (BelowDefault id) new.progress
   IsChangedTo old next default (Refused None) new =
       (has_empty_config next.configs ≡ true) × IsSameTracked old new
   IsChangedTo old next default (Refused (Some id)) new =

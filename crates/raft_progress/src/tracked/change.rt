@@ -8,14 +8,11 @@ ghost use Rattle.raft_members.specs.quorum.Majority.{is_voter_of};
 ghost use Rattle.raft_members.specs.membership.Members.{members_of};
 ghost use Rattle.raft_progress.specs.Inner.Refusal.{refusal_reply};
 ghost use Rattle.raft_progress.specs.Inner.ViewAnswers.{IsViewChange};
-ghost use Rattle.raft_progress.specs.progress.CountedValue.{IsCounted};
 ghost use Rattle.raft_progress.specs.progress.ProgressView.{state};
 ghost use Rattle.raft_progress.specs.progress.Upgrade.{CanUpgrade, IsLeastBelow};
-ghost use Rattle.raft_progress.specs.tracked.Headline.{ChangedQuorumsKnowGranted, QuorumsKnowGranted};
 ghost use Rattle.raft_progress.specs.tracked.SingleSteps.{IsTrackedChangeTo};
-ghost use Rattle.raft_progress.specs.tracked.Tracked.{tracked_view};
+ghost use Rattle.raft_progress.specs.tracked.Tracked.{ChangedQuorumsHaveGranted, GrantedIsCounted, QuorumsHaveGranted, TrackedIsReady, tracked_view};
 ghost use Rattle.raft_progress.specs.tracked.TrackedState.{AreLearners, HasConfigs, is_voter};
-ghost use Rattle.raft_progress.specs.tracked.TrackedState.{IsReady, has_quorum};
 ghost use Rattle.raft_progress.specs.declared.progress.steps.Reply.TheVariants.{BelowDefault};
 
 use super::{Tracked, learners_of};
@@ -82,13 +79,10 @@ impl<NID: NodeId, N: Node, V: ProgressPart<P> + Clone, P: Copy + Ord> Tracked<NI
         requires clones_have_the_part { (v w : V) → V.is_clone v w → V.part_of w ≡ V.part_of v }
         ensures step { IsTrackedChangeTo NID.eq NID.cmp P.cmp V.part_of V.is_clone
             (tracked_view self.old) membership default result (tracked_view self.new) }
-        ensures ready { IsReady NID.eq NID.cmp P.cmp V.part_of (tracked_view self.new) }
-        ensures granted { IsCounted P.cmp V.part_of (has_quorum NID.eq)
-            (state NID.eq (tracked_view self.new).progress)
-            (tracked_view self.new).progress.granted }
-        ensures quorums { QuorumsKnowGranted NID.eq P.cmp V.part_of (tracked_view self.new) }
-        ensures changed_quorums { ChangedQuorumsKnowGranted NID.eq NID.cmp P.cmp V.part_of
-            (tracked_view self.new) }
+        ensures ready { TrackedIsReady self.new }
+        ensures granted { GrantedIsCounted self.new }
+        ensures quorums { QuorumsHaveGranted self.new }
+        ensures changed_quorums { ChangedQuorumsHaveGranted self.new }
     {
         self.upgrade_to(membership, default)
             .unwrap_or(Reply::OutOfMemory)

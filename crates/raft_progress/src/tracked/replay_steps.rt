@@ -3,12 +3,10 @@ ghost use Rattle.std.specs.Prelude.{◌≡◌, false, IfOk, OnErr};
 ghost use Rattle.std.specs.List.{list_any};
 ghost use Rattle.std.specs.Set.{ClonesAreEqual};
 ghost use Rattle.raft_progress.specs.progress.Comparisons.{comparisons};
-ghost use Rattle.raft_progress.specs.progress.CountedValue.{AtMost, IsCounted};
-ghost use Rattle.raft_progress.specs.tracked.Headline.{ChangedQuorumsKnowGranted, QuorumsKnowGranted};
-ghost use Rattle.raft_progress.specs.progress.ProgressView.{state};
-ghost use Rattle.raft_progress.specs.tracked.Tracked.{tracked_view};
+ghost use Rattle.raft_progress.specs.progress.CountedValue.{AtMost};
+ghost use Rattle.raft_progress.specs.tracked.Tracked.{ChangedQuorumsHaveGranted, GrantedIsCounted, QuorumsHaveGranted, TrackedIsReady, tracked_view};
 ghost use Rattle.raft_progress.specs.tracked.TrackedViewSteps.{IsTrackedViewRun, IsTrackedViewStep, is_change};
-ghost use Rattle.raft_progress.specs.tracked.TrackedState.{IsReady, has_quorum, tracked_state};
+ghost use Rattle.raft_progress.specs.tracked.TrackedState.{tracked_state};
 ghost use Rattle.raft_progress.specs.tracked.TrackedSteps.{IsTrackedRun};
 
 use super::Tracked;
@@ -65,16 +63,13 @@ pub fn replay<NID: NodeId, N: Node, V: ProgressPart<P> + PartialOrd + Clone, P: 
         IfOk result (λ replies.
         IsTrackedViewRun by N.eq (tracked_view cluster.old) steps.items replies.items
         (tracked_view cluster.new)) }
-    ensures ready { IsReady NID.eq NID.cmp P.cmp V.part_of (tracked_view cluster.new) }
-    ensures granted { IsCounted P.cmp V.part_of (has_quorum NID.eq)
-        (state NID.eq (tracked_view cluster.new).progress)
-        (tracked_view cluster.new).progress.granted }
+    ensures ready { TrackedIsReady cluster.new }
+    ensures granted { GrantedIsCounted cluster.new }
     ensures monotone { list_any is_change steps.items ≡ false →
         AtMost P.cmp (tracked_view cluster.old).progress.granted
         (tracked_view cluster.new).progress.granted }
-    ensures quorums { QuorumsKnowGranted NID.eq P.cmp V.part_of (tracked_view cluster.new) }
-    ensures changed_quorums { ChangedQuorumsKnowGranted NID.eq NID.cmp P.cmp V.part_of
-        (tracked_view cluster.new) }
+    ensures quorums { QuorumsHaveGranted cluster.new }
+    ensures changed_quorums { ChangedQuorumsHaveGranted cluster.new }
     ensures err { OnErr result (tracked_view cluster.new ≡ tracked_view cluster.old) }
 {
     let mut replies = Vec::with_capacity(alloc, steps.len())?;

@@ -7,9 +7,9 @@ use Rattle.raft_members.specs.membership.Members.{MemberList, Members, HasMember
 use Rattle.raft_members.specs.membership.Valid.{IsValid}
 use Rattle.raft_members.specs.declared.change_members.ChangeMembers.{ChangeMembers}
 use Rattle.raft_progress.specs.progress.ProgressState.{ProgressState}
-use Rattle.raft_progress.specs.tracked.SingleSteps.{GoBothOver, IsTrackedChangeTo}
+use Rattle.raft_progress.specs.tracked.SingleSteps.{BothSwitchTo, IsTrackedChangeTo}
 use Rattle.raft_progress.specs.tracked.TrackedState.{Configs, TrackedState, TrackedView, tracked_state}
-use Rattle.raft_progress.specs.tracked.TrackedSteps.{GoesOver, IsChanged, IsSameTracked}
+use Rattle.raft_progress.specs.tracked.TrackedSteps.{SwitchesTo, IsChanged, IsSameTracked}
 use Rattle.raft_progress.specs.declared.progress.steps.Reply.{Reply}
 use Rattle.raft_progress.specs.declared.progress.steps.Reply.TheVariants.{Granted, BelowDefault, OutOfMemory, Refused}
 use Rattle.raft_progress.proofs.lemmas.tracked.TrackedLemmas.{says_configs, says_learners}
@@ -36,8 +36,8 @@ module _ {K N V P : Type 0} (eq : K → K → Bool) (id_cmp : K → K → Orderi
     (IsClone : V → V → Type 0) where
   -- going over to what says the same
   goes_over : (old new : ProgressState K V P (Configs K)) (list : MemberList K N) (w : Members K N) → HasMembers same id_cmp list w
-      → (default : V) (reply : Reply K P) → GoesOver eq id_cmp cmp part IsClone old (members_of id_cmp list) default reply new
-      → GoesOver eq id_cmp cmp part IsClone old w default reply new
+      → (default : V) (reply : Reply K P) → SwitchesTo eq id_cmp cmp part IsClone old (members_of id_cmp list) default reply new
+      → SwitchesTo eq id_cmp cmp part IsClone old w default reply new
   goes_over old new list w says default reply g =
       (g.0, g.1, says_configs eq id_cmp same list w says g.0 g.2, says_learners eq id_cmp same list w says g.1 g.3, g.4)
 
@@ -45,7 +45,7 @@ module _ {K N V P : Type 0} (eq : K → K → Bool) (id_cmp : K → K → Orderi
   pub changed_step : (old : TrackedState K N V P) (change : ChangeMembers K N) (retain : Bool) (default : V) (next : MemberList K N)
       (new : TrackedState K N V P) → IsValid eq (changed eq id_cmp (members_of id_cmp old.membership) change retain)
       → HasMembers same id_cmp next (changed eq id_cmp (members_of id_cmp old.membership) change retain) → (reply : Reply K P)
-      → GoBothOver eq id_cmp cmp part IsClone old next default reply new
+      → BothSwitchTo eq id_cmp cmp part IsClone old next default reply new
       → IsChanged eq id_cmp same cmp part IsClone old change retain default reply new
   changed_step old change retain default next new valid says (Granted p) t =
       let w = changed eq id_cmp (members_of id_cmp old.membership) change retain in (

@@ -9,7 +9,7 @@ use Rattle.std.specs.declared.cmp.Ordering.{Ordering}
 use Rattle.std.specs.declared.cmp.Ordering.TheVariants.{Less, Equal, Greater}
 use Rattle.std.proofs.Common.{arith, sym, ap, refl, ◌∙◌, subst, get_or, suc, zero}
 use Rattle.std.proofs.lemmas.List.Sorted.{searchable_from_sorted}
-use Rattle.std.proofs.lemmas.Map.Entries.{lookup_from_position, lookup_at_gap, length-keys_of}
+use Rattle.std.proofs.lemmas.Map.Entries.{lookup_from_place, lookup_at_gap, length-keys_of}
 use Rattle.std.proofs.lemmas.Map.Keys.{IsDistinct-from_sorted, Less-from_sorted}
 use Rattle.std.proofs.lemmas.Option.{slice_get-get_or, get_or_from_slice_get, slice_get_within}
 
@@ -38,7 +38,7 @@ module _ {ID : Type 0} {eq : ID → ID → Bool} {cmp : ID → ID → Ordering} 
         let k = (get_or es r d).0 in
         let e : eq k id ≡ true = ties k id ∙ ap is_eq h in
         lookup_tests (eq id) (eq k) es (λ y. sym (laws.congr k id y e))
-        ∙ lookup_from_position laws es r k (get_or es r d).1 (distinct_ascending (keys_of es) ascending) (slice_get-get_or es r d l)
+        ∙ lookup_from_place laws es r k (get_or es r d).1 (distinct_ascending (keys_of es) ascending) (slice_get-get_or es r d l)
 
     -- the results of a search rise along the entries
     pub searchable : IsNonDecreasingBy (λ e. ordering_index (cmp e.0 id)) es

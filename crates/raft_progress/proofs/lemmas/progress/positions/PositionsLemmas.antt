@@ -29,7 +29,7 @@ use Rattle.std.proofs.lemmas.List.{get_or-append-add, get_or_append_left, length
 use Rattle.std.proofs.lemmas.Bool.Decides.{nat_tests}
 use Rattle.std.proofs.lemmas.List.Quantifiers.{position-Some}
 use Rattle.std.proofs.lemmas.Option.{get_or_from_slice_get, slice_get_within}
-use Rattle.std.proofs.lemmas.Map.Entries.{length-keys_of, position_from_lookup}
+use Rattle.std.proofs.lemmas.Map.Entries.{length-keys_of, place_from_lookup}
 use Rattle.std.proofs.lemmas.Map.Keys.{IsDistinct-from_apart, apart_from_distinct}
 use Rattle.std.proofs.lemmas.Map.Made.{is_some-lookup}
 use Rattle.std.specs.declared.cmp.Ordering.{Ordering}
@@ -282,7 +282,7 @@ module _ {ID : Type 0} {eq : ID → ID → Bool} (laws : IsEquivalence eq) where
   position_ranked es ranks a [] k l t = absurd (omega arith)
   position_ranked es ranks a (i ∷ ids) k l t =
       let x = get_or (i ∷ ids) k i in
-      let f = position_from_lookup (eq x) es k (t.here x k l (ap (eq x) (any_default (i ∷ ids) k x i l) ∙ laws.refl x)) in
+      let f = place_from_lookup (eq x) es k (t.here x k l (ap (eq x) (any_default (i ∷ ids) k x i l) ∙ laws.refl x)) in
       let w = slice_get_within es f.0 (f.1, k) f.2 in
       let b = a.back f.0 (omega (arith, length-map es (λ e. e.1))) in
       let e = sym (position_at es f.0 (f.1, k) 0 w) ∙ ap (λ (e : ID × ℕ). e.1) (get_or_from_slice_get es f.0 (f.1, k) (f.1, k) f.2) in

@@ -9,7 +9,7 @@ use Rattle.std.specs.List.{IsDistinct, AllByRecursion}
 use Rattle.std.proofs.Common.{sym, ap, refl, ◌∙◌, true≢false, get_or, inl, inr, subst, suc, zero}
 use Rattle.std.proofs.lemmas.Cmp.{tied_itself}
 use Rattle.std.proofs.lemmas.Option.{slice_get-get_or}
-use Rattle.std.proofs.lemmas.Map.Entries.{lookup_from_position}
+use Rattle.std.proofs.lemmas.Map.Entries.{lookup_from_place}
 use Rattle.std.proofs.lemmas.List.Elements.{All-contains, All-take, All-from_recursion, recursion_from_All}
 use Rattle.raft_progress.specs.progress.CountedValue.{AtMost, IsCounted, has_part, reached}
 use Rattle.raft_progress.specs.Inner.Recount.{IsGreatest, at_least, reaches}
@@ -75,7 +75,7 @@ module _ {ID : Type 0} {eq : ID → ID → Bool} (laws : IsEquivalence eq) where
     same_test p = ap (has_quorum quorum_set) (λ i x. reached_at cmp part p entries n d x i)
 
     pub found : All (λ e. lookup (eq e.0) entries ≡ Some e.1) entries
-    found k e l = lookup_from_position laws entries k (get_or entries k e).0 (get_or entries k e).1 d (slice_get-get_or entries k e l)
+    found k e l = lookup_from_place laws entries k (get_or entries k e).0 (get_or entries k e).1 d (slice_get-get_or entries k e l)
 
     pub IsCounted-from_greatest : (g : P) → IsGreatest eq cmp part (has_quorum quorum_set) (take n entries) (take n entries) default g
         → IsCounted cmp part has_quorum (state_of eq quorum_set entries n default) g

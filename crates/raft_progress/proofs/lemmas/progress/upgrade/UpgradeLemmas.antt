@@ -10,7 +10,7 @@ use Rattle.raft_progress.specs.progress.ProgressState.{IsSame, ProgressState, Wr
 use Rattle.raft_progress.specs.progress.Upgrade.{Inherits, IsUpgraded}
 use Rattle.raft_progress.proofs.lemmas.progress.entries.EntriesLemmas.{no_value}
 use Rattle.std.proofs.lemmas.Option.{slice_get-get_or}
-use Rattle.std.proofs.lemmas.Map.Entries.{lookup_from_position}
+use Rattle.std.proofs.lemmas.Map.Entries.{lookup_from_place}
 
 key_apart : {ID V : Type 0} (R : ID → Type 0) (es : List (ID × V)) (k : ℕ) (d : ID × V) → k < length es → AllByRecursion R (keys_of es)
     → R (get_or es k d).0
@@ -119,7 +119,7 @@ module _ {ID V P QS : Type 0} {eq : ID → ID → Bool} (laws : IsEquivalence eq
 -- an entry's own value
 pub own_value : {ID V : Type 0} {eq : ID → ID → Bool} (laws : IsEquivalence eq) (es : List (ID × V)) (k : ℕ) (d : ID × V) → k < length es
     → IsDistinct eq (keys_of es) → lookup (eq (get_or es k d).0) es ≡ Some (get_or es k d).1
-own_value laws es k d l h = lookup_from_position laws es k (get_or es k d).0 (get_or es k d).1 h (slice_get-get_or es k d l)
+own_value laws es k d l h = lookup_from_place laws es k (get_or es k d).0 (get_or es k d).1 h (slice_get-get_or es k d l)
 
 -- nothing has been inherited yet
 pub upgraded_none : {ID V P QS : Type 0} (eq : ID → ID → Bool) (IsClone : V → V → Type 0) (part : V → P) (is_voter : ID → Bool) (qs : QS)

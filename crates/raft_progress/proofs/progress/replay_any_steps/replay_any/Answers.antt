@@ -31,10 +31,10 @@ loop-step-preserved g c =
       );
       run =
           subst (λ (rs : List (Reply g.row.ID.Denot g.row.P.Denot)). IsViewRun by g.QS.QuorumSet.has_quorum g.QS.QuorumSet.is_voter
-          (view c.args.progress.now) (c.loop-step.yielded ++ c.in-Some.step ∷ []) rs (view c.answer-reply.new.progress))
+          (view c.args.progress.now) (c.loop-step.yielded ++ c.in-Some.step ∷ []) rs (view c.answer-reply.new.self))
           (sym c.push_reserved.ensures.items)
           (run_more (IsViewStep by g.QS.QuorumSet.has_quorum g.QS.QuorumSet.is_voter) (view c.args.progress.now)
-          (view c.loop-step.progress) (view c.answer-reply.new.progress) c.in-Some.step c.answer-reply.result c.loop-step.yielded
+          (view c.loop-step.progress) (view c.answer-reply.new.self) c.in-Some.step c.answer-reply.result c.loop-step.yielded
           c.loop-step.replies.items c.loop-step.invariant.run c.answer-reply.ensures.step);
     }
 

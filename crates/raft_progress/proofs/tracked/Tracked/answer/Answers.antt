@@ -15,7 +15,7 @@ invariant_of-self g c = record {
   ready = ∣
       ready_increased g.met.NID.Eq.laws g.NID.Ord.cmp g.met.P.Ord.total g.V.ProgressPart.part_of
       (Coded-set (coded_list (coded_list g.row.NID.coded))) (tracked_view c.args.self.now)
-      (record { membership = c.args.self.now.membership; progress = view c.increase.new.progress }) refl c.args.self.now.ready
+      (record { membership = c.args.self.now.membership; progress = view c.increase.new.self }) refl c.args.self.now.ready
       c.increase.ensures.ordered c.in-IncreaseTo.id c.in-IncreaseTo.value c.increase.result g.V.PartialOrd.partial_cmp
       c.increase.ensures.step.values
       ∣₁;
@@ -41,11 +41,11 @@ returns-in-IncreaseTo g c =
       values = (refl, c.increase.ensures.step.values);
       answered = answered_tracked (IsIncreasedTo g.NID.PartialEq.eq g.P.Ord.cmp g.V.ProgressPart.part_of g.V.PartialOrd.partial_cmp
           (view c.args.self.now.progress) c.in-IncreaseTo.id c.in-IncreaseTo.value) (tracked_view c.args.self.now) c.increase.result
-          (record { membership = c.args.self.now.membership; progress = view c.increase.new.progress }) refl
+          (record { membership = c.args.self.now.membership; progress = view c.increase.new.self }) refl
           c.increase.ensures.step.answered;
       ready = ready_increased g.met.NID.Eq.laws g.NID.Ord.cmp g.met.P.Ord.total g.V.ProgressPart.part_of
           (Coded-set (coded_list (coded_list g.row.NID.coded))) (tracked_view c.args.self.now)
-          (record { membership = c.args.self.now.membership; progress = view c.increase.new.progress }) refl c.args.self.now.ready
+          (record { membership = c.args.self.now.membership; progress = view c.increase.new.self }) refl c.args.self.now.ready
           c.increase.ensures.ordered c.in-IncreaseTo.id c.in-IncreaseTo.value c.increase.result g.V.PartialOrd.partial_cmp
           c.increase.ensures.step.values;
     }

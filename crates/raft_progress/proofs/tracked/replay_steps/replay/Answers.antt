@@ -54,9 +54,9 @@ loop-step-preserved g c =
       );
       run =
           subst (λ (rs : List (Reply g.row.NID.Denot g.row.P.Denot)). IsTrackedViewRun by g.N.PartialEq.eq (tracked_view c.args.cluster.now)
-          (c.loop-step.yielded ++ c.in-Some.step ∷ []) rs (tracked_view c.answer-reply.new.cluster)) (sym c.push_reserved.ensures.items)
+          (c.loop-step.yielded ++ c.in-Some.step ∷ []) rs (tracked_view c.answer-reply.new.self)) (sym c.push_reserved.ensures.items)
           (run_more (IsTrackedViewStep by g.N.PartialEq.eq) (tracked_view c.args.cluster.now) (tracked_view c.loop-step.cluster)
-          (tracked_view c.answer-reply.new.cluster) c.in-Some.step c.answer-reply.result c.loop-step.yielded c.loop-step.replies.items
+          (tracked_view c.answer-reply.new.self) c.in-Some.step c.answer-reply.result c.loop-step.yielded c.loop-step.replies.items
           c.loop-step.invariant.run c.answer-reply.ensures);
     }
 

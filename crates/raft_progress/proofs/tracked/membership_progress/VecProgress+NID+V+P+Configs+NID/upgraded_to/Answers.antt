@@ -8,7 +8,7 @@ use Rattle.raft_progress.specs.progress.VecProgress.{view}
 use Rattle.raft_progress.specs.tracked.TrackedState.{AreLearners, is_voter}
 use Rattle.raft_progress.proofs.lemmas.tracked.MembershipProgressLemmas.{fold_over, ready_over, upgraded_over}
 use Rattle.raft_progress.proofs.lemmas.tracked.TrackedLemmas.{learners_of_fit}
-use Rattle.raft_progress.proofs.tracked.membership_progress.VecProgress+NID+V+P+Joint+NID+Vec+NID+Vec+Vec+NID.upgraded_to.Goals as goal
+use Rattle.raft_progress.proofs.tracked.membership_progress.VecProgress+NID+V+P+Configs+NID.upgraded_to.Goals as goal
 
 pub upgrade_quorum_set-requires-clause-learners_fit : goal.upgrade_quorum_set-requires-clause-learners_fit
 upgrade_quorum_set-requires-clause-learners_fit g c =

@@ -4,7 +4,7 @@ use Rattle.raft_progress.specs.progress.ProgressView.{state}
 use Rattle.raft_progress.specs.progress.Upgrade.{CanUpgrade}
 use Rattle.raft_progress.specs.progress.VecProgress.{view}
 use Rattle.raft_progress.specs.tracked.TrackedState.{is_voter}
-use Rattle.raft_progress.proofs.tracked.membership_progress.VecProgress+NID+V+P+Joint+NID+Vec+NID+Vec+Vec+NID.can_upgrade_to.Goals as goal
+use Rattle.raft_progress.proofs.tracked.membership_progress.VecProgress+NID+V+P+Configs+NID.can_upgrade_to.Goals as goal
 
 pub returns : goal.returns
 returns g c =

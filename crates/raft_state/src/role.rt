@@ -2,7 +2,7 @@
 ghost use Rattle.std.specs.Prelude.{◌≡◌, ◌&&◌, IfOk, IsOk, None, Some};
 ghost use Rattle.std.specs.Set.{ClonesAreEqual};
 ghost use Rattle.raft_members.specs.quorum.Majority.{is_voter_of};
-ghost use Rattle.raft_state.specs.raft_state.Leads.{is_leading, server_state_of, known_leader, ForwardsTo};
+ghost use Rattle.raft_state.specs.raft_state.Role.{is_leading, server_state_of, known_leader, ForwardsTo};
 ghost use Rattle.raft_state.specs.membership_state.Memberships.{in_effect};
 ghost use Rattle.raft_state.specs.raft_state.VoteAndLog.{vote_of};
 
