@@ -40,8 +40,8 @@ impl<C: Copy, NID: NodeId, N: Node, D> EntryOf<C, NID, N, D> {
     pub fn try_clone(&self) -> Result<Self, AllocError>
     where
         D: Clone + PartialEq + Drop,
-        requires nodes { ClonesAreEqual N.eq N.is_clone }
-        requires data { ClonesAreEqual D.eq D.is_clone }
+        requires clones_of_nodes_are_equal { ClonesAreEqual N.eq N.is_clone }
+        requires clones_of_data_are_equal { ClonesAreEqual D.eq D.is_clone }
         ensures log_id { IfOk result (λ copy. copy.log_id ≡ self.now.log_id) }
         ensures payload { IfOk result (λ copy.
             IsTrue (same_payload NID.eq N.eq D.eq self.now.payload copy.payload)) }

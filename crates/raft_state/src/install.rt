@@ -94,7 +94,7 @@ impl<
             (index_le (index_at self.old.membership_state.committed) (Some upto.index)) →
             IsTrue (same_ids C.eq (log_id_of self.new.membership_state.committed)
             (log_id_of meta.last_membership)))) }
-        ensures membership_not_lowered { OnOk result (broken_relation C.cmp self.old ≡ None →
+        ensures monotone { OnOk result (broken_relation C.cmp self.old ≡ None →
             IsTrue (id_le C.cmp (log_id_of self.old.membership_state.committed)
             (log_id_of self.new.membership_state.committed))) }
     {

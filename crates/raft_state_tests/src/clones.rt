@@ -11,8 +11,8 @@ use std::alloc::AllocError;
 fn entry_equals_clone<C: Copy + Eq, NID: NodeId, N: Node, D: Clone + PartialEq + Drop>(
     entry: &EntryOf<C, NID, N, D>,
 ) -> Result<bool, AllocError>
-    requires nodes { ClonesAreEqual N.eq N.is_clone }
-    requires data { ClonesAreEqual D.eq D.is_clone }
+    requires clones_of_nodes_are_equal { ClonesAreEqual N.eq N.is_clone }
+    requires clones_of_data_are_equal { ClonesAreEqual D.eq D.is_clone }
     ensures { IfOk result (λ equals. IsTrue equals) }
 {
     let copy = entry.try_clone()?;
@@ -23,7 +23,7 @@ fn entry_equals_clone<C: Copy + Eq, NID: NodeId, N: Node, D: Clone + PartialEq +
 fn snapshot_meta_equals_clone<C: Copy + Eq, NID: NodeId, N: Node>(
     meta: &SnapshotMetaOf<C, NID, N>,
 ) -> Result<bool, AllocError>
-    requires { ClonesAreEqual N.eq N.is_clone }
+    requires clones_are_equal { ClonesAreEqual N.eq N.is_clone }
     ensures { IfOk result (λ equals. IsTrue equals) }
 {
     let copy = meta.try_clone()?;
@@ -38,7 +38,7 @@ fn state_equals_clone<
     C: Ord + Copy + Default + Drop + 'static,
     L: LeaderIdentity<Id = NID, Committed = C> + Drop,
 >(state: &RaftStateIn<NID, N, I, L, C>) -> Result<bool, AllocError>
-    requires { ClonesAreEqual N.eq N.is_clone }
+    requires clones_are_equal { ClonesAreEqual N.eq N.is_clone }
     ensures { IfOk result (λ equals. IsTrue equals) }
 {
     let copy = state.try_clone()?;

@@ -24,8 +24,8 @@ impl<NID: NodeId, N: Node, D: Clone + PartialEq + Drop> EntryPayload<NID, N, D> 
     /// Returns an equal payload with a clone of the data or of the nodes, or an allocation error. A
     /// blank payload needs no allocation.
     pub fn try_clone(&self) -> Result<Self, AllocError>
-        requires nodes { ClonesAreEqual N.eq N.is_clone }
-        requires data { ClonesAreEqual D.eq D.is_clone }
+        requires clones_of_nodes_are_equal { ClonesAreEqual N.eq N.is_clone }
+        requires clones_of_data_are_equal { ClonesAreEqual D.eq D.is_clone }
         ensures equal { IfOk result (λ copy.
             IsTrue (same_payload NID.eq N.eq D.eq self.now copy)) }
         ensures no_memory { IsTrue (is_blank_payload self.now) → IsOk result }

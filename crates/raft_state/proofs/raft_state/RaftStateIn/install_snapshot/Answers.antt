@@ -69,8 +69,8 @@ returns-clause-own_membership g c =
     rw c.in-Some.is (λ low. rw members (installs_own g.C.Ord.cmp g.C.PartialEq.eq g.met.C.Ord.total g.met.C.Ord.matches_eq
     g.met.C.Eq.laws s c.in-Some.upto c.args.meta.last_membership keeps low))
 
-pub returns-clause-membership_not_lowered : goal.returns-clause-membership_not_lowered
-returns-clause-membership_not_lowered g c valid =
+pub returns-clause-monotone : goal.returns-clause-monotone
+returns-clause-monotone g c valid =
     let s = c.args.self.now in
     let may = rw c.in-Some.is at c.requires.may in
     let keeps = (and_parts _ _ (and_parts _ _ may).0).1 in
