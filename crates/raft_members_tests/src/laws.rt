@@ -58,7 +58,7 @@ fn change_elected<NID: NodeId, N: Node>(
     before: &[NID],
     after: &[NID],
 ) -> Result<Option<Membership<NID, N>>, ChangeMembershipError<NID>>
-    requires { ClonesAreEqual N.eq N.is_clone }
+    requires clones_are_equal { ClonesAreEqual N.eq N.is_clone }
     ensures { IsDistinct NID.eq before.now → IsDistinct NID.eq after.now →
         0 < length from.now.configs →
         IfOk result (λ made. IfSome made (λ to. ShareCommonVoter NID.eq from.now.configs
@@ -126,7 +126,7 @@ fn decide_for_none<ID: Copy + Ord>(alloc: Global, ids: &[ID]) -> (bool, bool)
 fn copy_of<C: Copy, NID: NodeId, N: Node>(
     stored: &StoredMembershipOf<C, NID, N>,
 ) -> Result<StoredMembershipOf<C, NID, N>, AllocError>
-    requires { ClonesAreEqual N.eq N.is_clone }
+    requires clones_are_equal { ClonesAreEqual N.eq N.is_clone }
     ensures { IfOk result (λ copy. HaveSameQuorums NID.eq (membership_of stored.now).configs
         (membership_of copy).configs) }
 {
@@ -142,7 +142,7 @@ fn change_once_held<NID: NodeId, N: Node>(
     change: ChangeMembers<NID, N>,
     retain: bool,
 ) -> Result<Option<Membership<NID, N>>, ChangeMembershipError<NID>>
-    requires { ClonesAreEqual N.eq N.is_clone }
+    requires clones_are_equal { ClonesAreEqual N.eq N.is_clone }
     ensures { IsDistinct NID.eq holders.now → 0 < length from.now.configs →
         IfOk result (λ made. IfSome made (λ to.
         EachQuorumKnows NID.eq to.configs (λ id. true) (is_member NID.eq holders.now))) }

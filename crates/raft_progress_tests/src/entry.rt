@@ -38,7 +38,7 @@ pub fn take_ack<ID: Copy + Ord, C: Ord + Copy + Drop + 'static, QS: QuorumSet<ID
     ensures matched { IsTrue result → (entry : ProgressEntryOf C)
         × ((state ID.eq (view followers.new)).value id.now ≡ Some entry)
         × (entry.matching ≡ upto) × (first_false (entry_relations C.cmp entry) ≡ None) }
-    ensures granted { IsTrue (id_le C.cmp (view followers.old).granted
+    ensures monotone { IsTrue (id_le C.cmp (view followers.old).granted
         (view followers.new).granted) }
     ensures refused { result ≡ false → view followers.new ≡ view followers.old }
 {

@@ -106,7 +106,7 @@ fn gone_over<
     default: V,
 ) -> Result<VecProgress<ID, V, P, QS>, AllocError>
     requires ordered { IsInOrder ID.eq P.cmp V.part_of QS.has_quorum (view progress.now) }
-    requires values { (v w : V) → V.is_clone v w → V.part_of w ≡ V.part_of v }
+    requires clones_have_the_part { (v w : V) → V.is_clone v w → V.part_of w ≡ V.part_of v }
     requires learners_fit { LearnersFit ID.eq (QS.is_voter quorum_set) learners.items }
     requires can_upgrade { CanUpgrade ID.eq P.cmp V.part_of (QS.is_voter quorum_set)
         learners.items default (state ID.eq (view progress.now)).value }
@@ -131,7 +131,7 @@ fn two_turns<
     second: Vec<AnyStep<ID, V, QS>>,
 ) -> Result<(Vec<Reply<ID, P>>, Vec<Reply<ID, P>>), AllocError>
     requires ordered { IsInOrder ID.eq P.cmp V.part_of QS.has_quorum (view progress.old) }
-    requires values { (v w : V) → V.is_clone v w → V.part_of w ≡ V.part_of v }
+    requires clones_have_the_part { (v w : V) → V.is_clone v w → V.part_of w ≡ V.part_of v }
     ensures { let by = comparisons ID.Ord P.Ord V.PartialOrd V.ProgressPart V.Clone in
         IfOk result (λ replies. IsViewRun by QS.has_quorum QS.is_voter (view progress.old)
         (first.items ++ second.items) (replies.0.items ++ replies.1.items)
@@ -157,8 +157,8 @@ fn acked_before_turn<
     value: V,
     turn: Vec<Step<NID, N, V>>,
 ) -> Result<(Reply<NID, P>, Vec<Reply<NID, P>>), AllocError>
-    requires nodes { ClonesAreEqual N.eq N.is_clone }
-    requires values { (v w : V) → V.is_clone v w → V.part_of w ≡ V.part_of v }
+    requires clones_are_equal { ClonesAreEqual N.eq N.is_clone }
+    requires clones_have_the_part { (v w : V) → V.is_clone v w → V.part_of w ≡ V.part_of v }
     ensures { let by = comparisons NID.Ord P.Ord V.PartialOrd V.ProgressPart V.Clone in
         IfOk result (λ replies. IsTrackedViewRun by N.eq (tracked_view cluster.old)
         (TrackedUpdate id value ∷ turn.items) (replies.0 ∷ replies.1.items)
@@ -178,8 +178,8 @@ fn gone_over_to<NID: NodeId, N: Node, V: ProgressPart<P> + Clone, P: Copy + Ord>
     retain: bool,
     default: V,
 ) -> Result<Reply<NID, P>, ChangeMembershipError<NID>>
-    requires nodes { ClonesAreEqual N.eq N.is_clone }
-    requires values { (v w : V) → V.is_clone v w → V.part_of w ≡ V.part_of v }
+    requires clones_are_equal { ClonesAreEqual N.eq N.is_clone }
+    requires clones_have_the_part { (v w : V) → V.is_clone v w → V.part_of w ≡ V.part_of v }
     ensures { (order : V → V → Option Ordering) →
         let by = comparisons_ordered NID.Ord P.Ord order V.ProgressPart V.Clone in
         IfOk result (λ reply. IsTrackedViewStep by N.eq (tracked_view cluster.old)
@@ -198,8 +198,8 @@ fn gone_over_known<NID: NodeId, N: Node, V: ProgressPart<P> + Clone, P: Copy + O
     retain: bool,
     default: V,
 ) -> Result<Reply<NID, P>, ChangeMembershipError<NID>>
-    requires nodes { ClonesAreEqual N.eq N.is_clone }
-    requires values { (v w : V) → V.is_clone v w → V.part_of w ≡ V.part_of v }
+    requires clones_are_equal { ClonesAreEqual N.eq N.is_clone }
+    requires clones_have_the_part { (v w : V) → V.is_clone v w → V.part_of w ≡ V.part_of v }
     ensures { IfOk result (λ reply. (granted : P) → reply ≡ Granted granted →
         0 < length (tracked_view cluster.old).membership.configs →
         QuorumsKnow NID.eq P.cmp V.part_of (tracked_view cluster.new)
@@ -246,7 +246,7 @@ fn copy_of<
     QS: QuorumSet<ID> + Clone,
 >(progress: &VecProgress<ID, V, P, QS>) -> Result<VecProgress<ID, V, P, QS>, AllocError>
     requires ordered { IsInOrder ID.eq P.cmp V.part_of QS.has_quorum (view progress.now) }
-    requires values { (v w : V) → V.is_clone v w → V.part_of w ≡ V.part_of v }
+    requires clones_have_the_part { (v w : V) → V.is_clone v w → V.part_of w ≡ V.part_of v }
     requires quorum_sets { (c d : QS) → QS.is_clone c d → (set : ID → Bool) →
         QS.has_quorum d set ≡ QS.has_quorum c set }
     ensures { IfOk result (λ copy.
@@ -264,7 +264,7 @@ fn step_once_granted<NID: NodeId, N: Node>(
     matched: u64,
     step: Vec<Step<NID, N, u64>>,
 ) -> Result<bool, AllocError>
-    requires nodes { ClonesAreEqual N.eq N.is_clone }
+    requires clones_are_equal { ClonesAreEqual N.eq N.is_clone }
     requires one { length step.items ≡ 1 }
     ensures { 0 < length (tracked_view cluster.old).membership.configs →
         QuorumsKnow NID.eq nat_cmp (λ (v : ℕ). v) (tracked_view cluster.old) matched →
@@ -286,7 +286,7 @@ fn take_acks<NID: NodeId, N: Node>(
     cluster: &mut Tracked<NID, N, u64, u64>,
     acks: Vec<Step<NID, N, u64>>,
 ) -> Result<(), AllocError>
-    requires nodes { ClonesAreEqual N.eq N.is_clone }
+    requires clones_are_equal { ClonesAreEqual N.eq N.is_clone }
     requires acks { list_any is_change acks.items ≡ false }
     ensures configs { IfOk result (λ _. (tracked_view cluster.new).membership
         ≡ (tracked_view cluster.old).membership) }
@@ -309,7 +309,7 @@ fn change_twice<NID: NodeId, N: Node>(
     acks: Vec<Step<NID, N, u64>>,
     second: Vec<Step<NID, N, u64>>,
 ) -> Result<bool, AllocError>
-    requires nodes { ClonesAreEqual N.eq N.is_clone }
+    requires clones_are_equal { ClonesAreEqual N.eq N.is_clone }
     requires first { length first.items ≡ 1 }
     requires acks { list_any is_change acks.items ≡ false }
     requires second { length second.items ≡ 1 }
@@ -351,7 +351,7 @@ fn ballot_over<NID: NodeId, N: Node>(
     change: ChangeMembers<NID, N>,
     retain: bool,
 ) -> Result<Tracked<NID, N, bool, bool>, ChangeMembershipError<NID>>
-    requires nodes { ClonesAreEqual N.eq N.is_clone }
+    requires clones_are_equal { ClonesAreEqual N.eq N.is_clone }
     ensures one_change { IfOk result (λ votes.
         0 < length (tracked_view matches.now).membership.configs → is_coherent NID.eq
         (tracked_view matches.now).membership.configs

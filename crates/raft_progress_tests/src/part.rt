@@ -172,7 +172,7 @@ fn granted_over<
     quorum_set: QS,
     default: V,
 ) -> Result<P, AllocError>
-    requires { (v w : V) → V.is_clone v w → V.part_of w ≡ V.part_of v }
+    requires clones_have_the_part { (v w : V) → V.is_clone v w → V.part_of w ≡ V.part_of v }
 {
     let ordered = progress.is_in_order();
     assert!(rt; ordered);

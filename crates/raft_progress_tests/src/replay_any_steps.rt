@@ -27,7 +27,7 @@ pub fn granted_after<
     default: V,
     steps: Vec<AnyStep<ID, V, QS>>,
 ) -> Result<Option<P>, AllocError>
-    requires { (v w : V) → V.is_clone v w → V.part_of w ≡ V.part_of v }
+    requires clones_have_the_part { (v w : V) → V.is_clone v w → V.part_of w ≡ V.part_of v }
     ensures { let by = comparisons ID.Ord P.Ord V.PartialOrd V.ProgressPart V.Clone in
         IfOk result (λ answer. IfSome answer (λ granted.
         (first last : ProgressState ID V P QS) × (replies : List (Reply ID P))

@@ -26,7 +26,7 @@ pub fn granted_of<NID: NodeId, N: Node>(
     membership: Membership<NID, N>,
     steps: Vec<Step<NID, N, u64>>,
 ) -> Result<u64, AllocError>
-    requires { ClonesAreEqual N.eq N.is_clone }
+    requires clones_are_equal { ClonesAreEqual N.eq N.is_clone }
     ensures { let by = comparisons NID.Ord ⟦<u64 as Ord>⟧ ⟦<u64 as PartialOrd>⟧
         ⟦<u64 as ProgressPart<u64>>⟧ ⟦<u64 as Clone>⟧ in
         IfOk result (λ granted.

@@ -53,7 +53,8 @@ fn cluster<V: ProgressPart<V> + Copy + Ord>(
     configs: &[&[u64]],
     default: V,
 ) -> Result<Tracked<u64, EmptyNode, V, V>, AllocError>
-    requires { (w : V) → V.is_clone default w → V.part_of w ≡ V.part_of default }
+    requires clones_have_the_part { (w : V) → V.is_clone default w →
+        V.part_of w ≡ V.part_of default }
 {
     let mut sets: Vec<BTreeSet<u64>> = Vec::new(alloc);
     for config in configs {

@@ -21,7 +21,8 @@ pub fn made<
     learners: &[ID],
     default: V,
 ) -> Result<VecProgress<ID, V, P, QS>, AllocError>
-    requires { (w : V) → V.is_clone default w → V.part_of w ≡ V.part_of default }
+    requires clones_have_the_part { (w : V) → V.is_clone default w →
+        V.part_of w ≡ V.part_of default }
     ensures { IfOk result (λ made. IsInOrder ID.eq P.cmp V.part_of QS.has_quorum (view made)) }
 {
     let fits = VecProgress::<ID, V, P, QS>::learners_fit(alloc, &quorum_set, learners)?;
@@ -63,7 +64,7 @@ pub fn replied<
     progress: &mut VecProgress<ID, V, P, QS>,
     step: AnyStep<ID, V, QS>,
 ) -> Result<Option<Reply<ID, P>>, AllocError>
-    requires { (v w : V) → V.is_clone v w → V.part_of w ≡ V.part_of v }
+    requires clones_have_the_part { (v w : V) → V.is_clone v w → V.part_of w ≡ V.part_of v }
 {
     let ordered = progress.is_in_order();
     assert!(rt; ordered);

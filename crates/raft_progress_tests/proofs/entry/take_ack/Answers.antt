@@ -27,8 +27,8 @@ update-requires-clause-monotone g c = λ old known.
     let same : c.in-Some.found ≡ old = cc in
     rw same at c.update_matching.ensures.monotone
 
-pub returns-then-is_err-clause-granted : goal.returns-then-is_err-clause-granted
-returns-then-is_err-clause-granted g c = AtMost-refl (optional-log_id_cmp-total g.met.C.Ord.total) (view c.args.followers.now).granted
+pub returns-then-is_err-clause-monotone : goal.returns-then-is_err-clause-monotone
+returns-then-is_err-clause-monotone g c = AtMost-refl (optional-log_id_cmp-total g.met.C.Ord.total) (view c.args.followers.now).granted
 
 pub returns-else-is_err-clause-matched : goal.returns-else-is_err-clause-matched
 returns-else-is_err-clause-matched g c = λ _.
