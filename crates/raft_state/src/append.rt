@@ -12,7 +12,7 @@ ghost use Rattle.raft_state.specs.raft_state.Valid.{broken_relation};
 ghost use Rattle.raft_base.specs.LogId.{next_index};
 ghost use Rattle.raft_members.specs.membership.Stored.{log_id_of};
 
-use crate::entry::RaftPayload;
+use crate::entry::{LogEntry, RaftPayload};
 use crate::membership_state::MembershipStateOf;
 use crate::raft_state::RaftStateIn;
 use raft_base::order::{index_below, log_id_below};
@@ -24,10 +24,7 @@ impl<NID: NodeId, N: Node, I: Instant, L: Drop, C: Ord + Copy + Drop> RaftStateI
     /// Whether the preconditions of `append_entries` hold: `log_ids.can_extend` is true of the
     /// entries, their indexes are consecutive from the end of the log on (from 0 for an empty log),
     /// and each entry that stores a membership comes after the effective membership.
-    pub fn can_append_entries<Ent: RaftLogId<C> + RaftPayload<Membership<NID, N>>>(
-        &self,
-        entries: &[Ent],
-    ) -> bool
+    pub fn can_append_entries<Ent: LogEntry<C, Membership<NID, N>>>(&self, entries: &[Ent]) -> bool
         ensures { result
             ≡ may_append_entries C.cmp Ent.id_of Ent.membership entries.now self.now }
     {
@@ -42,7 +39,7 @@ impl<NID: NodeId, N: Node, I: Instant, L: Drop, C: Ord + Copy + Drop> RaftStateI
     /// valid, and a sound one sound.
     ///
     /// After an error nothing has changed.
-    pub fn append_entries<Ent: RaftLogId<C> + RaftPayload<Membership<NID, N>>>(
+    pub fn append_entries<Ent: LogEntry<C, Membership<NID, N>>>(
         &mut self,
         entries: &[Ent],
     ) -> Result<(), AllocError>
@@ -87,7 +84,7 @@ impl<NID: NodeId, N: Node, I: Instant, L: Drop, C: Ord + Copy + Drop> RaftStateI
     }
 
     /// Returns the memberships after those of the entries have become effective.
-    fn memberships_after<Ent: RaftLogId<C> + RaftPayload<Membership<NID, N>>>(
+    fn memberships_after<Ent: LogEntry<C, Membership<NID, N>>>(
         &self,
         entries: &[Ent],
     ) -> Result<MembershipStateOf<C, NID, N>, AllocError>
@@ -147,12 +144,10 @@ fn is_next<C: Copy>(last: Option<LogIdOf<C>>, index: u64) -> bool
 
 /// Whether each entry with a membership comes after the one before it, and the first one after a
 /// log id.
-fn can_follow<
-    C: Ord + Copy,
-    NID: NodeId,
-    N: Node,
-    Ent: RaftLogId<C> + RaftPayload<Membership<NID, N>>,
->(effective: Option<LogIdOf<C>>, entries: &[Ent]) -> bool
+fn can_follow<C: Ord + Copy, NID: NodeId, N: Node, Ent: LogEntry<C, Membership<NID, N>>>(
+    effective: Option<LogIdOf<C>>,
+    entries: &[Ent],
+) -> bool
     ensures { result ≡ memberships_follow C.cmp Ent.id_of (λ e. is_some (Ent.membership e))
         effective entries.now }
 {

@@ -11,7 +11,7 @@ use raft_base::{CommittedLeaderId, LogIdOf, MessageSummary, Node, NodeId, RaftLo
 use raft_members::Membership;
 use std::alloc::{AllocError, Global};
 use std::fmt;
-pub use traits::{FromAppData, RaftEntry, RaftPayload};
+pub use traits::{FromAppData, LogEntry, RaftEntry, RaftPayload};
 
 /// A log entry: what is appended to each node's log with one log id.
 ///

@@ -23,7 +23,7 @@ pub mod vote_state_reader;
 
 pub use accepted::{Accepted, AcceptedIn, AcceptedOf};
 pub use catch_up::FollowersOf;
-pub use entry::{Entry, EntryOf, EntryPayload, FromAppData, RaftEntry, RaftPayload};
+pub use entry::{Entry, EntryOf, EntryPayload, FromAppData, LogEntry, RaftEntry, RaftPayload};
 pub use io_state::{IOState, IOStateIn, IOStateOf, LogIOId, LogIOIdOf};
 pub use log_id_list::{LogIdList, LogIdListOf, is_key_list};
 pub use membership_state::{ChangeHandler, ChangeHandlerOf, MembershipState, MembershipStateOf};

@@ -191,7 +191,7 @@ mod state {
         pub use raft_state::{
             Accepted, AcceptedIn, AcceptedOf, ChangeHandler, ChangeHandlerOf, Entry, EntryOf,
             EntryPayload, FollowersOf, ForwardToLeader, FromAppData, IOState, IOStateIn, IOStateOf,
-            LogIOId, LogIOIdOf, LogIdList, LogIdListOf, LogStateReader, MembershipState,
+            LogEntry, LogIOId, LogIOIdOf, LogIdList, LogIdListOf, LogStateReader, MembershipState,
             MembershipStateOf, RaftEntry, RaftPayload, RaftState, RaftStateIn, RaftStateOf,
             SnapshotMeta, SnapshotMetaOf, VoteStateReader, is_key_list,
         };
@@ -207,7 +207,7 @@ mod state {
 
     mod entry {
         pub use raft_state::entry::{
-            Entry, EntryOf, EntryPayload, FromAppData, RaftEntry, RaftPayload,
+            Entry, EntryOf, EntryPayload, FromAppData, LogEntry, RaftEntry, RaftPayload,
         };
     }
 

@@ -29,6 +29,12 @@ pub trait RaftPayload<M> {
     ghost blank_stores_none: { (a : Self) → blank a ≡ true → membership a ≡ None };
 }
 
+/// A value with a log id that may store a membership: what `append_entries` takes. Every type with
+/// both traits is one.
+pub trait LogEntry<C, M>: RaftLogId<C> + RaftPayload<M> {}
+
+impl<C, M, T: RaftLogId<C> + RaftPayload<M>> LogEntry<C, M> for T {}
+
 /// A log entry. The first parameter is the committed leader id of its log id.
 ///
 /// If an entry is given another log id, its contents stay.
