@@ -98,26 +98,35 @@ impl<
             IsTrue (id_le C.cmp (log_id_of self.old.membership_state.committed)
             (log_id_of self.new.membership_state.committed))) }
     {
-        let last_log_id = meta.last_log_id;
+        let SnapshotMetaOf {
+            last_log_id,
+            last_membership,
+            snapshot_id,
+        } = meta;
         let Some(upto) = last_log_id else {
             return Ok(());
         };
         // This read is for the proof: by its contract the keys are in order.
         let _keys = self.log_ids.key_log_ids();
-        let snapshot_meta = meta.try_clone()?;
-        let log_ids = self.log_ids_from(upto)?;
-        let membership_state = self.memberships_with(upto, membership_of(meta))?;
+        let copy = last_membership.try_clone()?;
+        let (log_ids, membership_state) = self.log_and_memberships_after(upto, last_membership)?;
         self.update_accepted(Some(upto));
         self.committed = Some(upto);
         self.purged_next = upto.index + 1;
         self.log_ids = log_ids;
         self.accepted.keep_upto(self.log_ids.last().copied());
         self.membership_state = membership_state;
-        self.snapshot_meta = snapshot_meta;
+        self.snapshot_meta = SnapshotMetaOf {
+            last_log_id: Some(upto),
+            last_membership: copy,
+            snapshot_id,
+        };
         self.purge_upto = Some(upto);
         Ok(())
     }
+}
 
+impl<NID: NodeId, N: Node, I: Instant, L: Drop, C: Ord + Copy + Drop> RaftStateIn<NID, N, I, L, C> {
     /// Whether a log id is past what is committed, and has an index after it.
     fn is_past_committed(&self, upto: LogIdOf<C>) -> bool
         ensures { result ≡ is_past_committed C.cmp upto self.now }
@@ -148,58 +157,35 @@ impl<
             || log_id_at_most(*stored.log_id(), effective)
     }
 
-    /// Returns the log ids from the last one of a snapshot on.
-    fn log_ids_from(&self, upto: LogIdOf<C>) -> Result<LogIdListOf<C>, AllocError>
-        requires { IsTrue
-            (can_purge C.cmp (last_id (log_to_keep C.eq upto self.now)) upto) }
-        ensures { IfOk result (λ log_ids.
-            full_log log_ids ≡ log_after_install C.eq upto self.now) }
-    {
-        let mut log_ids = self.log_to_keep(upto)?;
-        log_ids.purge(&upto)?;
-        Ok(log_ids)
-    }
-
-    /// Returns the log ids that stay after a snapshot is installed.
-    fn log_to_keep(&self, upto: LogIdOf<C>) -> Result<LogIdListOf<C>, AllocError>
-        ensures { IfOk result (λ log_ids. full_log log_ids ≡ log_to_keep C.eq upto self.now) }
-    {
-        let mut log_ids = self.log_ids.try_clone()?;
-        if self.is_logged(&Some(upto)) {
-            return Ok(log_ids);
-        }
-        log_ids.truncate(0);
-        Ok(log_ids)
-    }
-
-    /// Returns the memberships after a snapshot with this membership is installed.
-    fn memberships_with(
+    /// Returns the log ids and the memberships after a snapshot with this membership is installed.
+    /// If the log has its last log id, the log is purged to it, and what is past it stays.
+    /// Otherwise nothing of the log and of its memberships stays.
+    fn log_and_memberships_after(
         &self,
         upto: LogIdOf<C>,
         stored: StoredMembershipOf<C, NID, N>,
-    ) -> Result<MembershipStateOf<C, NID, N>, AllocError>
-        ensures { IfOk result (λ memberships. memberships
+    ) -> Result<(LogIdListOf<C>, MembershipStateOf<C, NID, N>), AllocError>
+        requires { IsTrue (can_purge C.cmp (last_id (log_to_keep C.eq upto self.now)) upto) }
+        ensures log { IfOk result (λ both.
+            full_log both.0 ≡ log_after_install C.eq upto self.now) }
+        ensures memberships { IfOk result (λ both. both.1
             ≡ memberships_after_install C.cmp C.eq upto stored self.now) }
     {
         let alloc = *stored.membership().get_joint_config().allocator();
         let effective = EffectiveMembershipOf::new_from_stored_membership(stored)?;
         let membership = Rc::new(alloc, effective)?;
         if !self.is_logged(&Some(upto)) {
-            return Ok(MembershipStateOf::new(membership.clone()?, membership));
+            let mut log_ids = LogIdListOf::try_default(alloc)?;
+            log_ids.purge(&upto)?;
+            let memberships = MembershipStateOf::new(membership.clone()?, membership);
+            return Ok((log_ids, memberships));
         }
+        let mut log_ids = self.log_ids.try_clone()?;
+        log_ids.purge(&upto)?;
         let mut memberships = self.membership_state.try_clone()?;
         memberships.take_over(membership, upto.index)?;
-        Ok(memberships)
+        Ok((log_ids, memberships))
     }
-}
-
-/// Returns the membership of a snapshot.
-fn membership_of<C: Copy + Drop, NID: NodeId, N: Node>(
-    meta: SnapshotMetaOf<C, NID, N>,
-) -> StoredMembershipOf<C, NID, N>
-    ensures { result ≡ meta.last_membership }
-{
-    meta.last_membership
 }
 
 /// Whether a membership is not past a log id, by log id and by index.

@@ -60,7 +60,7 @@ use Rattle.raft_state.specs.raft_state.Install.{
   memberships_after_install,
 }
 use Rattle.raft_state.specs.log_id_list.LogConditions.{can_purge}
-use Rattle.raft_state.specs.log_id_list.LogEdits.{front, log_after_purge, rest}
+use Rattle.raft_state.specs.log_id_list.LogEdits.{log_after_purge, rest}
 use Rattle.raft_state.specs.log_id_list.LogReads.{first_id, id_at, last_id}
 use Rattle.raft_state.specs.membership_state.MembershipMoves.{after_update_committed, is_covered}
 use Rattle.raft_state.specs.membership_state.MembershipRelations.{membership_relations}
@@ -84,11 +84,6 @@ not_in_index (Some a) (Some b) i h g = grind (arith, nat_tests)
 
 pub not_below_zero : (i : ℕ) → nat_le 0 i ≡ true
 not_below_zero i = grind (arith, nat_tests)
-
--- below index 0 there is nothing
-pub front_zero : {C : Type 0} (log : List (LogIdOf C)) → front log 0 ≡ []
-front_zero [] = refl
-front_zero (x ∷ xs) = let t : nat_lt x.index 0 ≡ false = grind (arith, nat_tests) in rw t (front_zero xs)
 
 -- a log that begins and ends where a snapshot up to a log id does, or after it
 pub record IsFrom {C : Type 0} (cmp : C → C → Ordering) (id : LogIdOf C) (log : List (LogIdOf C)) : Type 0 where

@@ -1,12 +1,12 @@
-use Rattle.std.proofs.Common.{◌∙◌}
+use Rattle.std.proofs.Common.{Some, ◌∙◌, refl}
 use Rattle.std.proofs.lemmas.Bool.{and_parts}
 use Rattle.raft_state.proofs.lemmas.log_id_list.ExtendLemmas.{is_key_list}
 use Rattle.raft_state.proofs.lemmas.InstallLemmas.{install_stays_valid, purge_fits}
 use Rattle.raft_state.proofs.lemmas.sound.SoundInstall.{install_sound, installed_has, installs_no_lower, installs_own}
 use Rattle.raft_state.proofs.raft_state.RaftStateIn.install_snapshot.Goals as goal
 
-pub log_ids_from-requires-after_bounds : goal.log_ids_from-requires-after_bounds
-log_ids_from-requires-after_bounds g c lifetimes outlive =
+pub log_and_memberships_after-requires-after_bounds : goal.log_and_memberships_after-requires-after_bounds
+log_and_memberships_after-requires-after_bounds g c lifetimes outlive =
     let s = c.args.self.now in
     let canonical = rw c.key_log_ids-keys.ensures.keys at c.key_log_ids-keys.ensures.canonical in
     let are = is_key_list g.C.Ord.cmp s.log_ids canonical in
@@ -30,12 +30,13 @@ returns-clause-valid g c valid =
     let may = rw c.in-Some.is at c.requires.may in
     let first = and_parts _ _ (and_parts _ _ (and_parts _ _ may).0).0 in
     let past = (and_parts _ _ first.0).1 in
-    let copied = c.in_ok-snapshot_meta.ensures.last_log_id ∙ c.in-Some.is in
-    install_stays_valid g.C.Ord.cmp g.C.PartialEq.eq g.met.C.Ord.total g.met.C.Ord.matches_eq g.met.C.Eq.laws s c.in-Some.upto
-    c.args.meta.last_membership
-    c.in_ok-log_ids.log_ids c.in_ok-membership_state.membership_state c.keep_upto.new.self
-    c.in_ok-snapshot_meta.snapshot_meta are c.in_ok-log_ids.ensures (rw c.membership_of.ensures at c.in_ok-membership_state.ensures)
-    copied past (and_parts _ _ may).1 valid
+    let upto = c.in-Some.upto in
+    let members = c.in_ok-log_ids.membership_state in
+    let copy = c.in_ok-copy.copy in
+    install_stays_valid g.C.Ord.cmp g.C.PartialEq.eq g.met.C.Ord.total g.met.C.Ord.matches_eq g.met.C.Eq.laws s upto
+    c.args.meta.last_membership c.in_ok-log_ids.log_ids members c.keep_upto.new.self
+    (record { last_log_id = Some upto; last_membership = copy; snapshot_id = c.args.meta.snapshot_id }) are
+    c.in_ok-log_ids.ensures.log c.in_ok-log_ids.ensures.memberships refl past (and_parts _ _ may).1 valid
 
 pub returns-clause-sound : goal.returns-clause-sound
 returns-clause-sound g c sound =
@@ -45,19 +46,21 @@ returns-clause-sound g c sound =
     let may = rw c.in-Some.is at c.requires.may in
     let first = and_parts _ _ (and_parts _ _ (and_parts _ _ may).0).0 in
     let past = (and_parts _ _ first.0).1 in
-    let copied = c.in_ok-snapshot_meta.ensures.last_log_id ∙ c.in-Some.is in
+    let upto = c.in-Some.upto in
+    let members = c.in_ok-log_ids.membership_state in
+    let copy = c.in_ok-copy.copy in
     install_sound g.C.Ord.cmp g.C.PartialEq.eq g.met.C.Ord.total g.met.C.Ord.matches_eq g.met.C.Eq.laws c.update_accepted.new.self s
-    c.in-Some.upto c.args.meta.last_membership
-    c.in_ok-log_ids.log_ids c.in_ok-membership_state.membership_state c.update_accepted.new.self.accepted c.keep_upto.new.self
-    c.in_ok-snapshot_meta.snapshot_meta are c.in_ok-log_ids.ensures (rw c.membership_of.ensures at c.in_ok-membership_state.ensures)
-    (rw (c.copied.ensures ∙ c.last.ensures) at c.keep_upto.ensures) copied past (and_parts _ _ may).1 sound
+    upto c.args.meta.last_membership c.in_ok-log_ids.log_ids members c.update_accepted.new.self.accepted c.keep_upto.new.self
+    (record { last_log_id = Some upto; last_membership = copy; snapshot_id = c.args.meta.snapshot_id }) are
+    c.in_ok-log_ids.ensures.log c.in_ok-log_ids.ensures.memberships
+    (rw (c.copied.ensures ∙ c.last.ensures) at c.keep_upto.ensures) refl past (and_parts _ _ may).1 sound
 
 pub returns-clause-logged : goal.returns-clause-logged
 returns-clause-logged g c =
     let s = c.args.self.now in
     let canonical = rw c.key_log_ids-keys.ensures.keys at c.key_log_ids-keys.ensures.canonical in
     let are = is_key_list g.C.Ord.cmp s.log_ids canonical in
-    rw (c.in-Some.is, c.in_ok-log_ids.ensures) (installed_has g.C.Ord.cmp g.C.PartialEq.eq g.met.C.Ord.total g.met.C.Ord.matches_eq
+    rw (c.in-Some.is, c.in_ok-log_ids.ensures.log) (installed_has g.C.Ord.cmp g.C.PartialEq.eq g.met.C.Ord.total g.met.C.Ord.matches_eq
     g.met.C.Eq.laws s c.in-Some.upto are)
 
 pub returns-clause-own_membership : goal.returns-clause-own_membership
@@ -65,15 +68,13 @@ returns-clause-own_membership g c =
     let s = c.args.self.now in
     let may = rw c.in-Some.is at c.requires.may in
     let keeps = (and_parts _ _ (and_parts _ _ may).0).1 in
-    let members = rw c.membership_of.ensures at c.in_ok-membership_state.ensures in
-    rw c.in-Some.is (λ low. rw members (installs_own g.C.Ord.cmp g.C.PartialEq.eq g.met.C.Ord.total g.met.C.Ord.matches_eq
-    g.met.C.Eq.laws s c.in-Some.upto c.args.meta.last_membership keeps low))
+    rw c.in-Some.is (λ low. rw c.in_ok-log_ids.ensures.memberships (installs_own g.C.Ord.cmp g.C.PartialEq.eq g.met.C.Ord.total
+    g.met.C.Ord.matches_eq g.met.C.Eq.laws s c.in-Some.upto c.args.meta.last_membership keeps low))
 
 pub returns-clause-monotone : goal.returns-clause-monotone
 returns-clause-monotone g c valid =
     let s = c.args.self.now in
     let may = rw c.in-Some.is at c.requires.may in
     let keeps = (and_parts _ _ (and_parts _ _ may).0).1 in
-    let members = rw c.membership_of.ensures at c.in_ok-membership_state.ensures in
-    rw members (installs_no_lower g.C.Ord.cmp g.C.PartialEq.eq g.met.C.Ord.total g.met.C.Ord.matches_eq
+    rw c.in_ok-log_ids.ensures.memberships (installs_no_lower g.C.Ord.cmp g.C.PartialEq.eq g.met.C.Ord.total g.met.C.Ord.matches_eq
     g.met.C.Eq.laws s c.in-Some.upto c.args.meta.last_membership keeps valid)
