@@ -203,6 +203,9 @@ impl<NID: NodeId> LeaderIdentity for LeaderId<NID> {
 
     ghost default_term = { λ a h. h.0 };
 
-    ghost default_committed = { λ c h. (record { term = c.term; voted_for = None },
-    (h, refl), refl) };
+    ghost default_committed = { λ c h. (
+      record { term = c.term; voted_for = None },
+      (h, refl),
+      refl,
+    ) };
 }

@@ -9,9 +9,9 @@
 #![tactic(auto)]
 
 #[cfg(test)]
-mod first_caller;
-#[cfg(test)]
 mod allocations;
+#[cfg(test)]
+mod first_caller;
 #[cfg(test)]
 mod instant;
 #[cfg(test)]

@@ -112,8 +112,10 @@ fn elect<K: LeaderKind<u64>>(allocation: Allocation) -> Result<bool, AllocError>
 }
 
 /// A leader proposes data, or a change of the voters.
-fn propose<K: LeaderKind<u64>>(allocation: Allocation, is_change: bool) -> Result<bool, AllocError>
-{
+fn propose<K: LeaderKind<u64>>(
+    allocation: Allocation,
+    is_change: bool,
+) -> Result<bool, AllocError> {
     let Ok(mut led) = Led::<K>::committed(allocation.alloc) else {
         return Err(AllocError);
     };

@@ -2,13 +2,13 @@
 #![tactic(auto)]
 
 #[cfg(test)]
+mod allocations;
+#[cfg(test)]
 mod append;
 #[cfg(test)]
 mod candidate;
 #[cfg(test)]
 mod change;
-#[cfg(test)]
-mod allocations;
 #[cfg(test)]
 mod leader;
 #[cfg(test)]

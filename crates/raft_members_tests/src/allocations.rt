@@ -122,8 +122,9 @@ fn allocations_of_summaries(rt: HostRuntime) -> Result<(), Fail> {
             allocation.refuse();
             match name {
                 "Membership::summary" => effective.membership().summary(allocation.alloc),
-                "StoredMembership::summary" =>
-                effective.stored_membership().summary(allocation.alloc),
+                "StoredMembership::summary" => effective
+                    .stored_membership()
+                    .summary(allocation.alloc),
                 _ => effective.summary(allocation.alloc),
             }
         };

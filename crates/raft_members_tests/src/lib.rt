@@ -7,6 +7,8 @@
 #![tactic(auto)]
 
 #[cfg(test)]
+mod allocations;
+#[cfg(test)]
 mod at_least;
 #[cfg(test)]
 mod change;
@@ -22,8 +24,6 @@ mod effective;
 mod error;
 #[cfg(test)]
 mod first_caller;
-#[cfg(test)]
-mod allocations;
 #[cfg(test)]
 mod into_nodes;
 #[cfg(test)]

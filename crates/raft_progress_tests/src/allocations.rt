@@ -11,7 +11,9 @@ use raft_base::{EmptyNode, LeaderId};
 use raft_members::quorum::QuorumSet;
 use raft_progress::progress::{AnyStep, Progress, Reply, VecProgress, replay_any};
 use raft_progress::tracked::{Step, Tracked, replay};
-use raft_testing::allocations::{Allocation, is_free, is_free_on, is_swept, is_swept_by, refuse_each};
+use raft_testing::allocations::{
+    Allocation, is_free, is_free_on, is_swept, is_swept_by, refuse_each,
+};
 use raft_testing::memory::both;
 use raft_testing::plain_log::{PlainLog, log_below};
 use std::alloc::{AllocError, Global};

@@ -36,12 +36,7 @@ fn take_responses<NID: NodeId, N: Node, V: ProgressPart<P> + Clone, P: Copy + Or
 }
 
 /// What is granted of followers whose matches are in the log, which then has it too.
-fn commit_upto<
-    ID: Copy + Ord,
-    C: Ord + Copy + Drop,
-    QS: QuorumSet<ID>,
-    L: LogStateReader<C>,
->(
+fn commit_upto<ID: Copy + Ord, C: Ord + Copy + Drop, QS: QuorumSet<ID>, L: LogStateReader<C>>(
     followers: &VecProgress<ID, ProgressEntryOf<C>, Option<LogIdOf<C>>, QS>,
     log: &L,
 ) -> Option<LogIdOf<C>>

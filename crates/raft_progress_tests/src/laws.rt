@@ -58,12 +58,11 @@ fn is_granted<ID: Copy + Ord, V: ProgressPart<P>, P: Copy + Ord, QS: QuorumSet<I
 }
 
 /// Takes an ack, which is a step of a run: also of a follower, whose values have no order.
-pub fn acked<
-    ID: Copy + Ord,
-    V: ProgressPart<P> + Clone,
-    P: Copy + Ord,
-    QS: QuorumSet<ID>,
->(progress: &mut VecProgress<ID, V, P, QS>, id: &ID, value: V)
+pub fn acked<ID: Copy + Ord, V: ProgressPart<P> + Clone, P: Copy + Ord, QS: QuorumSet<ID>>(
+    progress: &mut VecProgress<ID, V, P, QS>,
+    id: &ID,
+    value: V,
+)
     requires ordered { IsInOrder ID.eq P.cmp V.part_of QS.has_quorum (view progress.old) }
     requires monotone { IsNotLower ID.eq P.cmp V.part_of (view progress.old) id.now value }
     ensures { (order : V → V → Option Ordering) →
@@ -76,12 +75,11 @@ pub fn acked<
 }
 
 /// Takes the value of a response where it is greater than what is there, which is a step of a run.
-fn heard<
-    ID: Copy + Ord,
-    V: ProgressPart<P> + PartialOrd + Clone,
-    P: Copy + Ord,
-    QS: QuorumSet<ID>,
->(progress: &mut VecProgress<ID, V, P, QS>, id: &ID, value: V)
+fn heard<ID: Copy + Ord, V: ProgressPart<P> + PartialOrd + Clone, P: Copy + Ord, QS: QuorumSet<ID>>(
+    progress: &mut VecProgress<ID, V, P, QS>,
+    id: &ID,
+    value: V,
+)
     requires ordered { IsInOrder ID.eq P.cmp V.part_of QS.has_quorum (view progress.old) }
     requires monotone { IsNotLowerIfGreater ID.eq P.cmp V.part_of V.partial_cmp
         (view progress.old) id.now value }
@@ -145,12 +143,7 @@ fn two_turns<
 
 /// Takes an ack by a call of its own, and the steps of a turn after it: together they are one
 /// replay.
-fn acked_before_turn<
-    NID: NodeId,
-    N: Node,
-    V: ProgressPart<P> + PartialOrd + Clone,
-    P: Copy + Ord,
->(
+fn acked_before_turn<NID: NodeId, N: Node, V: ProgressPart<P> + PartialOrd + Clone, P: Copy + Ord>(
     alloc: Global,
     cluster: &mut Tracked<NID, N, V, P>,
     id: NID,
@@ -239,12 +232,9 @@ fn grant_alike<ID: Copy + Ord, V: ProgressPart<P>, P: Copy + Ord, QS: QuorumSet<
 }
 
 /// A clone that may go on with updates, without a test of its order.
-fn copy_of<
-    ID: Copy + Ord,
-    V: ProgressPart<P> + Clone,
-    P: Copy + Ord,
-    QS: QuorumSet<ID> + Clone,
->(progress: &VecProgress<ID, V, P, QS>) -> Result<VecProgress<ID, V, P, QS>, AllocError>
+fn copy_of<ID: Copy + Ord, V: ProgressPart<P> + Clone, P: Copy + Ord, QS: QuorumSet<ID> + Clone>(
+    progress: &VecProgress<ID, V, P, QS>,
+) -> Result<VecProgress<ID, V, P, QS>, AllocError>
     requires ordered { IsInOrder ID.eq P.cmp V.part_of QS.has_quorum (view progress.now) }
     requires clones_have_the_part { (v w : V) → V.is_clone v w → V.part_of w ≡ V.part_of v }
     requires quorum_sets { (c d : QS) → QS.is_clone c d → (set : ID → Bool) →

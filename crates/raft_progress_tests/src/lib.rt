@@ -9,6 +9,8 @@
 #![tactic(auto)]
 
 #[cfg(test)]
+mod allocations;
+#[cfg(test)]
 mod at_least;
 #[cfg(test)]
 mod catch_up;
@@ -20,8 +22,6 @@ mod events;
 mod first_caller;
 #[cfg(test)]
 mod follower_laws;
-#[cfg(test)]
-mod allocations;
 #[cfg(test)]
 mod inflight;
 #[cfg(test)]

@@ -160,12 +160,7 @@ fn log_ids_are_granted_by_term_then_index(rt: HostRuntime) -> Result<(), Fail> {
 type Followers = VecProgress<u64, ProgressEntry<u64>, Option<LogId<u64>>, Vec<u64>>;
 
 /// What is granted once a progress has gone over to another quorum set, without learners.
-fn granted_over<
-    ID: Copy + Ord,
-    V: ProgressPart<P> + Clone,
-    P: Copy + Ord,
-    QS: QuorumSet<ID>,
->(
+fn granted_over<ID: Copy + Ord, V: ProgressPart<P> + Clone, P: Copy + Ord, QS: QuorumSet<ID>>(
     rt: &impl Abort,
     alloc: Global,
     progress: &mut VecProgress<ID, V, P, QS>,

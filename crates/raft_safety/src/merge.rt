@@ -47,8 +47,7 @@ pub fn check_each<T: Term, N: Copy + Eq, D: Copy + Eq, C: Configs<N, D> + Drop>(
     ensures refused { IfErr result (λ u. AreExact (tests_of T.rank T.eq N.eq D.eq
         (C.holds_config configs) (C.has_quorum configs) (C.intersects configs)) →
         IsRefusedMerge (tests_of T.rank T.eq N.eq D.eq (C.holds_config configs)
-        (C.has_quorum configs) (C.intersects configs)) lists.now u.placed.items u.list u.violation)
-        }
+        (C.has_quorum configs) (C.intersects configs)) lists.now u.placed.items u.list u.violation) }
 {
     let Ok(mut placed) = vec![in alloc; 0; lists.len()] else {
         return Err(Unplaced {

@@ -11,6 +11,8 @@
 #[cfg(test)]
 mod accepted;
 #[cfg(test)]
+mod allocations;
+#[cfg(test)]
 mod catch_up;
 #[cfg(test)]
 mod clones;
@@ -20,8 +22,6 @@ mod compared;
 mod entry;
 #[cfg(test)]
 mod first_caller;
-#[cfg(test)]
-mod allocations;
 #[cfg(test)]
 mod imports;
 #[cfg(test)]

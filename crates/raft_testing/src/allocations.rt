@@ -117,7 +117,14 @@ fn run<
     let made = call(allocation, &mut left);
     let was_refused = end_refusal(allocation.alloc);
     let made = (&made, &left);
-    let is_right = is_run_right(allocation.alloc, was_refused, made, ample, borrowed, is_right)?;
+    let is_right = is_run_right(
+        allocation.alloc,
+        was_refused,
+        made,
+        ample,
+        borrowed,
+        is_right,
+    )?;
     Ok(if is_right { Some(was_refused) } else { None })
 }
 

@@ -24,7 +24,7 @@ pub struct AtLeast<ID: Copy + Ord> {
     need: usize,
     ghost needs_one: { 1 ≤ need },
     ghost ascending: { IsStrictlySortedBy ID.cmp ids.items } by { IsStrictlySortedBy-prop ID.cmp
-    ids.items },
+        ids.items },
 }
 
 impl<ID: Copy + Ord> AtLeast<ID> {

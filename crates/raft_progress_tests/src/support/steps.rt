@@ -9,12 +9,7 @@ use std::alloc::{AllocError, Global};
 use std::process::Abort;
 
 /// A progress whose learners fit.
-pub fn made<
-    ID: Copy + Ord,
-    V: ProgressPart<P> + Clone,
-    P: Copy + Ord,
-    QS: QuorumSet<ID>,
->(
+pub fn made<ID: Copy + Ord, V: ProgressPart<P> + Clone, P: Copy + Ord, QS: QuorumSet<ID>>(
     rt: &impl Abort,
     alloc: Global,
     quorum_set: QS,

@@ -38,7 +38,7 @@ pub returns-clause-monotone : goal.returns-clause-monotone
 returns-clause-monotone g c =
     let so_far = c.loop-id.invariant in
     c.tracked_calls_are_runs.ensures.monotone (λ v w. None) (tracked_view c.args.cluster.now)
-        (tracked_view c.loop-id.cluster) so_far.0 so_far.1
+    (tracked_view c.loop-id.cluster) so_far.0 so_far.1
     so_far.3 so_far.2
 
 pub returns-clause-known : goal.returns-clause-known

@@ -5,6 +5,6 @@ pub returns : goal.returns
 returns g c order =
     let is = c.membership.ensures in
     c.tracked_calls_are_runs.ensures.changes order (tracked_view c.args.cluster.now)
-        (tracked_view c.change_to.new.self) c.args.change c.args.retain
+    (tracked_view c.change_to.new.self) c.args.change c.args.retain
     c.in_ok-next.next c.args.default c.change_to.result (rw is at c.in_ok-next.ensures.valid) (rw is at c.in_ok-next.ensures.changed)
     c.change_to.ensures.step c.change_to.ensures.ready

@@ -20,13 +20,13 @@ returns-then-not-has_entry-clause-place g c =
 pub returns-then-not-has_entry-clause-within : goal.returns-then-not-has_entry-clause-within
 returns-then-not-has_entry-clause-within g c =
     place_within (λ e. has_id g.C.PartialEq.eq (log_view_of c.args.self.now)
-        (g.Ent.RaftLogId.id_of e)) c.args.entries.now c.loop-place.place
+    (g.Ent.RaftLogId.id_of e)) c.args.entries.now c.loop-place.place
     (returns-then-not-has_entry-clause-place g c)
 
 pub returns-then-not-has_entry-clause-before : goal.returns-then-not-has_entry-clause-before
 returns-then-not-has_entry-clause-before g c =
     place_passes (λ e. has_id g.C.PartialEq.eq (log_view_of c.args.self.now)
-        (g.Ent.RaftLogId.id_of e)) c.args.entries.now c.loop-place.place
+    (g.Ent.RaftLogId.id_of e)) c.args.entries.now c.loop-place.place
     (returns-then-not-has_entry-clause-place g c)
 
 pub returns-then-not-has_entry-clause-at : goal.returns-then-not-has_entry-clause-at
