@@ -19,3 +19,4 @@ pub mod CheckerCodeLemmas
 pub mod RankLemmas
 pub mod ScenarioLemmas
 pub mod MergeLemmas
+pub mod LoopLemmas

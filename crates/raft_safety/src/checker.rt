@@ -132,9 +132,9 @@ impl<T: Term, N: Copy + Eq, D: Copy + Eq, C: Configs<N, D> + Drop> Checker<T, N,
             return Err(Violation::Rule(Rule::PassedTerm));
         }
         let voter = &mut self.servers[i];
-        let leader = Leader::new(self.alloc, &self.configs, term, server, &voter.log)?;
         self.leaders.reserve(1)?;
         voter.make_room()?;
+        let leader = Leader::new(self.alloc, &self.configs, term, server, &voter.log)?;
         voter.reach(rank);
         self.leaders.insert(0, leader).unwrap();
         Ok(())

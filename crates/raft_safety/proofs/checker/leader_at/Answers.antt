@@ -1,4 +1,4 @@
-use Rattle.std.proofs.Common.{◌≡◌, ◌∙◌, ◌&&◌, sym, arith}
+use Rattle.std.proofs.Common.{◌∙◌, ◌&&◌, sym, arith}
 use Rattle.raft_safety.specs.declared.checker.leader.Leader.{Leader}
 use Rattle.raft_safety.proofs.lemmas.CheckerCodeLemmas.{none_to_end, search_ends, search_more}
 use Rattle.raft_safety.proofs.checker.leader_at.Goals as goal

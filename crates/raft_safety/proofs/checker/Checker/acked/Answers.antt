@@ -2,12 +2,18 @@ use Rattle.std.proofs.Common.{sym}
 use Rattle.std.proofs.lemmas.Result.{err_from_is_err_and}
 use Rattle.raft_safety.proofs.lemmas.CheckerLemmas.{ack_refused, see_place}
 use Rattle.raft_safety.proofs.lemmas.CheckerStepLemmas.{ack_done, ack_unled, same_leader_again}
+use Rattle.raft_safety.proofs.lemmas.LoopLemmas.{within_len}
 use Rattle.raft_safety.proofs.checker.Checker.acked.Goals as goal
 
 pub returns-in-None-clause-answer : goal.returns-in-None-clause-answer
 returns-in-None-clause-answer g c =
     λ exact es seen. ack_unled _ exact es c.args.server c.args.term c.args.leader c.args.len
     c.args.self.now.servers.items c.args.self.now.leaders.items (rw c.deref.ensures.value at (sym c.in-None.ensures.place)) seen
+
+pub returns-in_err-i-clause-answer : goal.returns-in_err-i-clause-answer
+returns-in_err-i-clause-answer g c =
+    let p = err_from_is_err_and c.from_residual.result c.from_residual.ensures.1 in
+    rw (p.1, p.2) (λ exact es seen. (tt, rw c.in_err-i.ensures.err seen))
 
 pub returns-in-Some-ack_rule-clause-answer : goal.returns-in-Some-ack_rule-clause-answer
 returns-in-Some-ack_rule-clause-answer g c =
@@ -59,3 +65,17 @@ returns-clause-answer g c =
       elected = c.in_ok-ack.ensures.same_elected;
       committed = c.in_ok-ack.ensures.same_committed;
     })
+
+pub index-requires : goal.index-requires
+index-requires g c = within_len _ _ _ c.server_at.new.servers.ok.0 c.in_ok-i.ensures.within
+
+pub index-requires-2 : goal.index-requires-2
+index-requires-2 g c =
+    within_len _ _ _ c.args.self.now.leaders.ok.0 (rw c.deref.ensures.value at c.in-Some.ensures.within)
+
+pub index_mut-requires : goal.index_mut-requires
+index_mut-requires g c =
+    within_len _ _ _ c.args.self.now.leaders.ok.0 (rw c.deref.ensures.value at c.in-Some.ensures.within)
+
+pub index_mut-requires-2 : goal.index_mut-requires-2
+index_mut-requires-2 g c = within_len _ _ _ c.server_at.new.servers.ok.0 c.in_ok-i.ensures.within

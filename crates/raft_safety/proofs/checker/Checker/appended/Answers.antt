@@ -2,6 +2,7 @@ use Rattle.std.proofs.Common.{sym}
 use Rattle.std.proofs.lemmas.Result.{err_from_is_err_and}
 use Rattle.raft_safety.proofs.lemmas.CheckerLemmas.{append_refused}
 use Rattle.raft_safety.proofs.lemmas.CheckerStepLemmas.{append_done, append_fits, append_unled, same_server}
+use Rattle.raft_safety.proofs.lemmas.LoopLemmas.{within_len}
 use Rattle.raft_safety.proofs.checker.Checker.appended.Goals as goal
 
 pub returns-in-None-clause-answer : goal.returns-in-None-clause-answer
@@ -9,6 +10,11 @@ returns-in-None-clause-answer g c =
     λ exact es seen. append_unled _ exact es c.args.server c.args.term c.args.leader c.args.keep
     c.args.entries.now c.args.self.now.servers.items c.args.self.now.leaders.items
     (rw c.deref.ensures.value at (sym c.in-None.ensures.place)) seen
+
+pub returns-in_err-i-clause-answer : goal.returns-in_err-i-clause-answer
+returns-in_err-i-clause-answer g c =
+    let p = err_from_is_err_and c.from_residual.result c.from_residual.ensures.1 in
+    rw (p.1, p.2) (λ exact es seen. (tt, rw c.in_err-i.ensures.err seen))
 
 pub returns-in-Some-append_rule-clause-answer : goal.returns-in-Some-append_rule-clause-answer
 returns-in-Some-append_rule-clause-answer g c =
@@ -47,3 +53,13 @@ returns-clause-answer g c =
     c.in_ok-append.ensures.same_id (rw c.rank-rank.ensures at c.in_ok-append.ensures.term)
     c.in_ok-append.ensures.log c.in_ok-append.ensures.durable
     (rw c.rank-rank.ensures at c.in_ok-append.ensures.kept)
+
+pub index-requires : goal.index-requires
+index-requires g c = within_len _ _ _ c.server_at.new.servers.ok.0 c.in_ok-i.ensures.within
+
+pub index-requires-2 : goal.index-requires-2
+index-requires-2 g c =
+    within_len _ _ _ c.args.self.now.leaders.ok.0 (rw c.deref.ensures.value at c.in-Some.ensures.within)
+
+pub index_mut-requires : goal.index_mut-requires
+index_mut-requires g c = within_len _ _ _ c.server_at.new.servers.ok.0 c.in_ok-i.ensures.within

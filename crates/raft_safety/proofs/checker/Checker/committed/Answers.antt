@@ -3,6 +3,7 @@ use Rattle.raft_safety.specs.CheckerState.{config_in}
 use Rattle.raft_safety.specs.Configs.{effective_config}
 use Rattle.std.specs.Set.{is_member}
 use Rattle.raft_safety.proofs.lemmas.CheckerStepLemmas.{commit_unled, commit_refused, commit_uncounted, commit_done}
+use Rattle.raft_safety.proofs.lemmas.LoopLemmas.{within_len}
 use Rattle.raft_safety.proofs.checker.Checker.committed.Goals as goal
 
 pub returns-in-None-clause-answer : goal.returns-in-None-clause-answer
@@ -53,3 +54,19 @@ returns-clause-answer g c =
       elected = c.commit.ensures.same_elected;
       committed = c.commit.ensures.committed;
     })
+
+pub index-requires : goal.index-requires
+index-requires g c =
+    within_len _ _ _ c.args.self.now.leaders.ok.0 (rw c.deref.ensures.value at c.in-Some.ensures.within)
+
+pub index-requires-2 : goal.index-requires-2
+index-requires-2 g c =
+    within_len _ _ _ c.args.self.now.leaders.ok.0 (rw c.deref.ensures.value at c.in-Some.ensures.within)
+
+pub index_mut-requires : goal.index_mut-requires
+index_mut-requires g c =
+    within_len _ _ _ c.args.self.now.leaders.ok.0 (rw c.deref.ensures.value at c.in-Some.ensures.within)
+
+pub index-requires-3 : goal.index-requires-3
+index-requires-3 g c =
+    within_len _ _ _ c.args.self.now.leaders.ok.0 (rw c.deref.ensures.value at c.in-Some.ensures.within)

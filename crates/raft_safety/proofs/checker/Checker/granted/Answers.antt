@@ -3,12 +3,18 @@ use Rattle.std.proofs.lemmas.Result.{err_from_is_err_and}
 use Rattle.raft_safety.specs.CheckerState.{kept_after}
 use Rattle.raft_safety.proofs.lemmas.CheckerLemmas.{grant_refused}
 use Rattle.raft_safety.proofs.lemmas.CheckerStepLemmas.{grant_done, grant_unled, same_leader_again, same_server}
+use Rattle.raft_safety.proofs.lemmas.LoopLemmas.{within_len}
 use Rattle.raft_safety.proofs.checker.Checker.granted.Goals as goal
 
 pub returns-in-None-clause-answer : goal.returns-in-None-clause-answer
 returns-in-None-clause-answer g c =
     λ exact es seen. grant_unled _ exact es c.args.server c.args.term c.args.candidate
     c.args.self.now.servers.items c.args.self.now.leaders.items (rw c.deref.ensures.value at (sym c.in-None.ensures.place)) seen
+
+pub returns-in_err-i-clause-answer : goal.returns-in_err-i-clause-answer
+returns-in_err-i-clause-answer g c =
+    let p = err_from_is_err_and c.from_residual.result c.from_residual.ensures.1 in
+    rw (p.1, p.2) (λ exact es seen. (tt, rw c.in_err-i.ensures.err seen))
 
 pub returns-in-Some-grant_rule-clause-answer : goal.returns-in-Some-grant_rule-clause-answer
 returns-in-Some-grant_rule-clause-answer g c =
@@ -81,3 +87,20 @@ returns-clause-answer g c =
       elected = refl;
       committed = c.in_ok-vote.ensures.same_committed;
     })
+
+pub index-requires : goal.index-requires
+index-requires g c = within_len _ _ _ c.server_at.new.servers.ok.0 c.in_ok-i.ensures.within
+
+pub index-requires-2 : goal.index-requires-2
+index-requires-2 g c =
+    within_len _ _ _ c.args.self.now.leaders.ok.0 (rw c.deref.ensures.value at c.in-Some.ensures.within)
+
+pub index_mut-voter-requires : goal.index_mut-voter-requires
+index_mut-voter-requires g c = within_len _ _ _ c.server_at.new.servers.ok.0 c.in_ok-i.ensures.within
+
+pub index_mut-requires : goal.index_mut-requires
+index_mut-requires g c =
+    within_len _ _ _ c.args.self.now.leaders.ok.0 (rw c.deref.ensures.value at c.in-Some.ensures.within)
+
+pub reach-requires : goal.reach-requires
+reach-requires g c = c.in_ok-make_room.ensures.room

@@ -1,7 +1,13 @@
 use Rattle.std.proofs.Common.{sym}
+use Rattle.std.proofs.lemmas.Result.{err_from_is_err_and}
 use Rattle.raft_safety.proofs.lemmas.CheckerLemmas.{restart_refused}
 use Rattle.raft_safety.proofs.lemmas.CheckerStepLemmas.{restart_done}
 use Rattle.raft_safety.proofs.checker.Checker.restarted.Goals as goal
+
+pub returns-in_err-i-clause-answer : goal.returns-in_err-i-clause-answer
+returns-in_err-i-clause-answer g c =
+    let p = err_from_is_err_and c.from_residual.result c.from_residual.ensures.1 in
+    rw (p.1, p.2) (λ exact es seen. (tt, rw c.in_err-i.ensures.err seen))
 
 pub returns-in-Some-clause-answer : goal.returns-in-Some-clause-answer
 returns-in-Some-clause-answer g c =

@@ -1,6 +1,5 @@
-use Rattle.std.proofs.Common.{◌≡◌, ◌+◌, true, false, length, nat_eq, arith}
-use Rattle.std.proofs.lemmas.Bool.{le-leb, lt-leb}
-use Rattle.std.proofs.lemmas.Bool.Decides.{nat_tests}
+use Rattle.std.proofs.Common.{◌+◌, length, arith}
+use Rattle.std.proofs.lemmas.Bool.{eq-eqb, le-leb, lt-leb, ne_eqb}
 use Rattle.raft_safety.proofs.lemmas.CheckerCodeLemmas.{rest_is}
 use Rattle.raft_safety.proofs.checker.broken.append_rule.Goals as goal
 use Rattle.raft_safety.proofs.checker.broken.append_rule.Goals.{
@@ -40,7 +39,7 @@ pub returns-then-old-entries : goal.returns-then-old-entries
 returns-then-old-entries g c =
     let matching = rw (c.deref.ensures.value, c.deref-2.ensures.value) at c.common_len-matching.ensures.common in
     let old = rw (c.deref-3.ensures.value, rest_is) at c.common_len-old.ensures.common in
-    let all : nat_eq c.common_len-old.result (length c.args.entries.now) ≡ true = grind (arith, nat_tests) in
+    let all = eq-eqb c.common_len-old.result (length c.args.entries.now) (omega arith) in
     rw (
       c.if-not-leader.false,
       le-leb c.args.server.now.term c.args.rank c.if-rank-server.false,
@@ -56,8 +55,8 @@ returns-then-common_len-entries g c =
     let matching = rw (c.deref.ensures.value, c.deref-2.ensures.value) at c.common_len-matching.ensures.common in
     let old = rw (c.deref-3.ensures.value, rest_is) at c.common_len-old.ensures.common in
     let sent = rw (c.deref-then-keep-matching.ensures.value, rest_is) at c.common_len.ensures.common in
-    let not_old : nat_eq c.common_len-old.result (length c.args.entries.now) ≡ false = grind (arith, nat_tests) in
-    let all : nat_eq c.common_len.result (length c.args.entries.now) ≡ true = grind (arith, nat_tests) in
+    let not_old = ne_eqb c.common_len-old.result (length c.args.entries.now) (λ e. omega (arith, e)) in
+    let all = eq-eqb c.common_len.result (length c.args.entries.now) (omega arith) in
     rw (
       c.if-not-leader.false,
       le-leb c.args.server.now.term c.args.rank c.if-rank-server.false,
@@ -75,7 +74,7 @@ pub returns : goal.returns
 returns g c =
     let matching = rw (c.deref.ensures.value, c.deref-2.ensures.value) at c.common_len-matching.ensures.common in
     let old = rw (c.deref-3.ensures.value, rest_is) at c.common_len-old.ensures.common in
-    let not_old : nat_eq c.common_len-old.result (length c.args.entries.now) ≡ false = grind (arith, nat_tests) in
+    let not_old = ne_eqb c.common_len-old.result (length c.args.entries.now) (λ e. omega (arith, e)) in
     rw (
       c.if-not-leader.false,
       le-leb c.args.server.now.term c.args.rank c.if-rank-server.false,
@@ -88,7 +87,7 @@ returns g c =
     (elim c.else-keep-matching.branch [
       | else-keep-matching-via-then-keep-matching+else-common_len-entries w ↦
           let sent = rw (w.deref-then-keep-matching.ensures.value, rest_is) at w.common_len.ensures.common in
-          let not_all : nat_eq w.common_len.result (length c.args.entries.now) ≡ false = grind (arith, nat_tests) in
+          let not_all = ne_eqb w.common_len.result (length c.args.entries.now) (λ e. omega (arith, e)) in
           rw (le-leb c.args.keep c.common_len-matching.result w.if-keep-matching.true, ← sent, not_all)
       | else-keep-matching-via-else-keep-matching w ↦
           rw (lt-leb c.args.keep c.common_len-matching.result w.if-keep-matching.false)

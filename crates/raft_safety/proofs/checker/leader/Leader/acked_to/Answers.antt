@@ -1,4 +1,6 @@
-use Rattle.std.proofs.Common.{◌<◌, length, refl, arith}
+use Rattle.std.proofs.Common.{◌<◌, ◌∙◌, length, ap, refl, arith}
+use Rattle.std.proofs.lemmas.List.{take_all}
+use Rattle.raft_safety.specs.CheckerState.{has_acked_to}
 use Rattle.raft_safety.proofs.lemmas.CheckerCodeLemmas.{counted, not_counted, distinct_none}
 use Rattle.raft_safety.proofs.checker.leader.Leader.acked_to.Goals as goal
 use Rattle.raft_safety.proofs.checker.leader.Leader.acked_to.Goals.{then-len-acked+in_ok-add_once, else-len-acked}
@@ -27,3 +29,9 @@ loop-acked-preserved g c =
             within (rw c.deref-acked-items.ensures.value at c.acked-item.is) w.if-len-acked.false c.loop-acked.invariant.servers v);
       }
     ]
+
+pub returns-clause-servers : goal.returns-clause-servers
+returns-clause-servers g c =
+    λ v. c.loop-acked.invariant.servers v
+    ∙ ap (λ l. has_acked_to g.N.PartialEq.eq l v c.args.len)
+    (take_all c.loop-acked.acked-index c.args.self.now.acked.items (omega arith))

@@ -1,5 +1,6 @@
 use Rattle.std.specs.Result.{IsOk}
-use Rattle.std.proofs.Common.{◌≡◌, length, ap, arith}
+use Rattle.std.proofs.Common.{◌≡◌, ◌∙◌, length, ap, arith}
+use Rattle.std.proofs.lemmas.Result.{err_from_is_err_and}
 use Rattle.raft_safety.proofs.lemmas.CheckerCodeLemmas.{rest_is}
 use Rattle.raft_safety.proofs.checker.server.Server.append.Goals as goal
 
@@ -37,3 +38,33 @@ returns-clause-kept g c =
       len,
       same,
     )
+
+pub returns-in_err-make_room : goal.returns-in_err-make_room
+returns-in_err-make_room g c =
+    let p = err_from_is_err_and c.from_residual.result c.from_residual.ensures.1 in
+    rw p.1 (record {
+      term = tt;
+      log = tt;
+      durable = tt;
+      kept = tt;
+      same_id = c.in_err-make_room.ensures.same_id;
+      err_term = c.in_err-make_room.ensures.same_term;
+      err_log = c.in_err-make_room.ensures.same_log;
+      err_durable = c.in_err-make_room.ensures.same_durable;
+      err_kept = c.in_err-make_room.ensures.same_kept;
+    })
+
+pub returns-in_err-reserve : goal.returns-in_err-reserve
+returns-in_err-reserve g c =
+    let p = err_from_is_err_and c.from_residual-in_err-reserve.result c.from_residual-in_err-reserve.ensures.1 in
+    rw p.1 (record {
+      term = tt;
+      log = tt;
+      durable = tt;
+      kept = tt;
+      same_id = c.in_ok-make_room.ensures.same_id;
+      err_term = c.in_ok-make_room.ensures.same_term;
+      err_log = c.in_err-reserve.ensures.items ∙ c.in_ok-make_room.ensures.same_log;
+      err_durable = c.in_ok-make_room.ensures.same_durable;
+      err_kept = c.in_ok-make_room.ensures.same_kept;
+    })
