@@ -4,17 +4,18 @@ use crate::recorded::{
     Recorded, acked, appended, applied, campaigned, committed, granted, three, wrote,
 };
 use raft_safety::checker::Violation;
-use raft_safety::merge::check_each;
+use raft_safety::merge::{Unplaced, check_each};
 use raft_safety::rule::Rule;
 use std::alloc::{AllocError, Global};
 use std::test::Fail;
 
 /// Server 0 is elected in term 1 by server 1, and commits and applies an entry.
 fn leader(alloc: Global) -> Result<Vec<Recorded>, AllocError> {
+    let taken = appended(alloc, (0, 1, 0), 0, (1, 10))?;
     Ok(vec![in alloc;
         campaigned(0, 1),
         wrote(0, 1, (1, 10)),
-        appended(alloc, (0, 1, 0), 0, Some((1, 10)))?,
+        taken,
         acked(0, 1, 0, 1),
         committed(0, 1, 1, 1),
         applied(0, 1, 0, 1),
@@ -23,22 +24,34 @@ fn leader(alloc: Global) -> Result<Vec<Recorded>, AllocError> {
 
 /// Server 1 votes for server 0 in term 1, takes its entry, and applies it.
 fn follower(alloc: Global) -> Result<Vec<Recorded>, AllocError> {
+    let taken = appended(alloc, (1, 1, 0), 0, (1, 10))?;
     Ok(vec![in alloc;
         granted(1, 1, 0),
-        appended(alloc, (1, 1, 0), 0, Some((1, 10)))?,
+        taken,
         acked(1, 1, 0, 1),
         applied(1, 1, 0, 1),
     ]?)
 }
 
-/// Whether the events of the follower and of the leader are all placed, or so many of each until
-/// the next event of one list breaks a rule.
-fn are_placed(
+/// Returns the first events of the follower and of the leader, so many of each.
+fn first_events(
     alloc: Global,
-    lists: &[Vec<Recorded>],
+    follower_len: usize,
+    leader_len: usize,
+) -> Result<Vec<Vec<Recorded>>, AllocError> {
+    let mut lists = vec![in alloc; follower(alloc)?, leader(alloc)?]?;
+    lists[0].truncate(follower_len);
+    lists[1].truncate(leader_len);
+    Ok(lists)
+}
+
+/// Whether events were all placed, or so many of the follower and of the leader until the next
+/// event of a list broke a rule.
+fn is_expected(
+    outcome: &Result<(), Unplaced>,
     refused: Option<(usize, usize, usize, Rule)>,
-) -> Result<bool, AllocError> {
-    Ok(match (check_each(alloc, three(alloc)?, lists), refused) {
+) -> bool {
+    match (outcome, refused) {
         (Ok(()), None) => true,
         (Err(e), Some((follower, leader, list, rule))) => {
             e.placed.first() == Some(&follower)
@@ -47,30 +60,37 @@ fn are_placed(
                 && e.violation == Violation::Rule(rule)
         }
         _ => false,
-    })
+    }
+}
+
+/// Whether so many first events of the follower and of the leader are placed as expected.
+fn are_placed(
+    alloc: Global,
+    lens: (usize, usize),
+    refused: Option<(usize, usize, usize, Rule)>,
+) -> Result<bool, AllocError> {
+    let lists = first_events(alloc, lens.0, lens.1)?;
+    let outcome = check_each(alloc, three(alloc)?, &lists);
+    Ok(is_expected(&outcome, refused))
 }
 
 /// The follower's list is first, so it waits for the leader's events again and again.
 #[test]
 fn places_events_until_none_is_allowed(rt: HostRuntime) -> Result<(), Fail> {
     let alloc = rt.alloc();
-    for (name, follower_len, leader_len, refused) in [
-        ("all events", 4, 6, None),
-        ("no vote", 0, 6, Some((0, 1, 1, Rule::NotElected))),
-        ("no follower's ack", 2, 6, Some((2, 4, 1, Rule::NoQuorum))),
-        ("no campaign", 4, 0, Some((0, 0, 0, Rule::NoCampaign))),
+    for (name, lens, refused) in [
+        ("all events", (4, 6), None),
+        ("no vote", (0, 6), Some((0, 1, 1, Rule::NotElected))),
+        ("no follower's ack", (2, 6), Some((2, 4, 1, Rule::NoQuorum))),
+        ("no campaign", (4, 0), Some((0, 0, 0, Rule::NoCampaign))),
         (
             "no written entry",
-            4,
-            1,
+            (4, 1),
             Some((1, 1, 0, Rule::ForeignEntries)),
         ),
-        ("no commit", 4, 4, Some((3, 4, 0, Rule::NotCommitted))),
+        ("no commit", (4, 4), Some((3, 4, 0, Rule::NotCommitted))),
     ] {
-        let mut lists = vec![in alloc; follower(alloc)?, leader(alloc)?]?;
-        lists[0].truncate(follower_len);
-        lists[1].truncate(leader_len);
-        assert!(rt; are_placed(alloc, &lists, refused)?, "{name}");
+        assert!(rt; are_placed(alloc, lens, refused)?, "{name}");
     }
     Ok(())
 }

@@ -61,24 +61,38 @@ pub fn applied(server: u64, term: u64, leader: u64, len: usize) -> Recorded {
     }
 }
 
-/// A server keeps so many entries, and appends one or none.
+/// A server keeps so many entries, and appends none.
+pub fn kept(alloc: Global, ids: (u64, u64, u64), keep: usize) -> Recorded {
+    let (server, term, leader) = ids;
+    Event::Appended {
+        server,
+        term,
+        leader,
+        keep,
+        entries: Vec::new(alloc),
+    }
+}
+
+/// A server keeps so many entries, and appends one.
 pub fn appended(
     alloc: Global,
     ids: (u64, u64, u64),
     keep: usize,
-    entry: Option<(u64, u64)>,
+    entry: (u64, u64),
 ) -> Result<Recorded, AllocError> {
-    let mut entries = Vec::new(alloc);
-    if let Some((term, content)) = entry {
-        entries.push(Entry { term, content })?;
-    }
     let (server, term, leader) = ids;
+    let (entry_term, content) = entry;
     Ok(Event::Appended {
         server,
         term,
         leader,
         keep,
-        entries,
+        entries: vec![in alloc;
+            Entry {
+                term: entry_term,
+                content,
+            },
+        ]?,
     })
 }
 

@@ -1,7 +1,8 @@
 //! The checker accepts what servers do, and refuses each of these events for its rule.
 
 use crate::recorded::{
-    Recorded, acked, appended, applied, campaigned, committed, granted, restarted, three, wrote,
+    Recorded, acked, appended, applied, campaigned, committed, granted, kept, restarted, three,
+    wrote,
 };
 use raft_safety::check::{Refused, check};
 use raft_safety::checker::Violation;
@@ -12,33 +13,45 @@ use std::test::Fail;
 /// Server 0 leads in term 1 with a vote of server 1, and has an entry. Server 2, which has no
 /// entry, campaigns in term 2.
 fn led(alloc: Global) -> Result<Vec<Recorded>, AllocError> {
+    let taken = appended(alloc, (0, 1, 0), 0, (1, 10))?;
     Ok(vec![in alloc;
         campaigned(0, 1),
         granted(1, 1, 0),
         wrote(0, 1, (1, 10)),
-        appended(alloc, (0, 1, 0), 0, Some((1, 10)))?,
+        taken,
         acked(0, 1, 0, 1),
         campaigned(2, 2),
     ]?)
+}
+
+/// Whether the checker refuses this event after those of `led`, for this rule.
+fn is_refused(alloc: Global, event: Recorded, rule: Rule) -> Result<bool, AllocError> {
+    let mut events = led(alloc)?;
+    let refused = Refused {
+        event: events.len(),
+        violation: Violation::Rule(rule),
+    };
+    events.push(event)?;
+    Ok(check(alloc, three(alloc)?, &events) == Err(refused))
 }
 
 #[test]
 fn refuses_each_event_for_its_rule(rt: HostRuntime) -> Result<(), Fail> {
     let alloc = rt.alloc();
     for (event, rule) in [
+        (
+            appended(alloc, (1, 1, 0), 0, (1, 11))?,
+            Rule::ForeignEntries,
+        ),
         (campaigned(0, 1), Rule::CampaignedTwice),
         (campaigned(1, 1), Rule::PassedTerm),
         (granted(1, 1, 0), Rule::PassedTerm),
         (granted(0, 2, 2), Rule::CandidateBehind),
         (granted(0, 2, 1), Rule::NoCampaign),
-        (appended(alloc, (2, 1, 0), 0, None)?, Rule::PassedTerm),
-        (appended(alloc, (1, 1, 2), 0, None)?, Rule::NotElected),
-        (appended(alloc, (1, 1, 0), 1, None)?, Rule::MissingEntries),
-        (appended(alloc, (0, 1, 0), 0, None)?, Rule::DropsMatching),
-        (
-            appended(alloc, (1, 1, 0), 0, Some((1, 11)))?,
-            Rule::ForeignEntries,
-        ),
+        (kept(alloc, (2, 1, 0), 0), Rule::PassedTerm),
+        (kept(alloc, (1, 1, 2), 0), Rule::NotElected),
+        (kept(alloc, (1, 1, 0), 1), Rule::MissingEntries),
+        (kept(alloc, (0, 1, 0), 0), Rule::DropsMatching),
         (acked(3, 1, 0, 0), Rule::TermNotReached),
         (acked(1, 1, 0, 2), Rule::NotWritten),
         (acked(1, 1, 0, 1), Rule::NotKept),
@@ -55,14 +68,7 @@ fn refuses_each_event_for_its_rule(rt: HostRuntime) -> Result<(), Fail> {
         (applied(1, 1, 0, 1), Rule::NotAcked),
         (applied(0, 1, 0, 1), Rule::NotCommitted),
     ] {
-        let mut events = led(alloc)?;
-        let before = events.len();
-        events.push(event)?;
-        let refused = Refused {
-            event: before,
-            violation: Violation::Rule(rule),
-        };
-        assert_eq!(rt; check(alloc, three(alloc)?, &events), Err(refused));
+        assert!(rt; is_refused(alloc, event, rule)?, "{rule}");
     }
     Ok(())
 }
@@ -71,17 +77,15 @@ fn refuses_each_event_for_its_rule(rt: HostRuntime) -> Result<(), Fail> {
 fn accepts_a_commit_and_a_proposed_membership(rt: HostRuntime) -> Result<(), Fail> {
     let alloc = rt.alloc();
     let mut events = led(alloc)?;
-    for event in [
-        appended(alloc, (1, 1, 0), 0, Some((1, 10)))?,
+    events.extend([
+        appended(alloc, (1, 1, 0), 0, (1, 10))?,
         acked(1, 1, 0, 1),
         committed(0, 1, 1, 1),
         applied(0, 1, 0, 1),
         wrote(0, 1, (1, 100)),
         restarted(0, 1),
         campaigned(2, 3),
-    ] {
-        events.push(event)?;
-    }
+    ])?;
     check(alloc, three(alloc)?, &events)?;
     Ok(())
 }
