@@ -1,6 +1,6 @@
 //! What a leader knows about a follower: how far their logs match, and what is in flight to it.
 ghost use Rattle.std.specs.Prelude.{◌≡◌, ◌^◌, ◌<◌, ◌≤◌, nat_le, Ok, Err, None, if◌then◌else◌, IsSome, IsTrue, OnOk, ℕ};
-ghost use Rattle.raft_base.specs.LogId.{id_le, next_index};
+ghost use Rattle.raft_base.specs.LogId.{id_le, id_lt, next_index};
 ghost use Rattle.raft_base.specs.Validate.{first_false};
 ghost use Rattle.raft_progress.specs.entry.EntryTable.{entry_after_conflict, entry_after_ack};
 ghost use Rattle.raft_progress.specs.entry.LateResponse.{RefusesResponsesTo};
@@ -13,7 +13,7 @@ ghost use Rattle.raft_progress.specs.declared.entry.ProgressEntryOf.{ProgressEnt
 ghost use Rattle.raft_progress.specs.declared.inflight.InflightOf.TheVariants.{None as Idle};
 
 use crate::inflight::{InflightError, InflightOf};
-use crate::progress::ProgressPart;
+use crate::progress::{ProgressPart, is_below};
 pub use crate::search::{SearchEvent, search_run};
 use raft_base::{
     CommittedLeaderId, DisplayOption, Invalid, LogIdOf, LogIdOptionExt, LogStateReader, Validate,
@@ -147,7 +147,7 @@ impl<C: Ord + Copy> ProgressEntryOf<C> {
     {
         // All tests come first, so that a refusal leaves the entry as it was.
         self.inflight.check_ack(request_id, matching)?;
-        if matching.cmp(&self.matching).is_lt() {
+        if is_before(matching, self.matching) {
             return Err(InflightError::MatchingRegress);
         }
         if !matching.has_next_index() {
@@ -213,8 +213,8 @@ impl<C: Ord + Copy> ProgressEntryOf<C> {
         if !self.inflight.is_none() {
             return true;
         }
-        let last = log.last_log_id().copied();
-        let purge_upto = log.purge_upto().copied();
+        let last = log.last_log_id();
+        let purge_upto = log.purge_upto();
         ends_by(self.matching, self.searching_end)
             && last.has_next_index()
             && self.searching_end <= last.next_index()
@@ -263,8 +263,8 @@ impl<C: Ord + Copy> ProgressEntryOf<C> {
         }
         let matched = self.matching.next_index();
         let end = self.searching_end;
-        let purged = log.purge_upto().copied().next_index();
-        let logged = log.last_log_id().copied().next_index();
+        let purged = log.purge_upto().next_index();
+        let logged = log.last_log_id().next_index();
         let id = self.curr_inflight_id + 1;
         let start = calc_mid(matched, end).max(purged);
         let until = start.saturating_add(max_entries).min(logged);
@@ -321,6 +321,19 @@ fn ends_by<C: Copy>(id: Option<LogIdOf<C>>, end: u64) -> bool
     ensures { result ≡ nat_le (next_index id) end }
 {
     id.index() < Some(end)
+}
+
+/// Whether a log id is below another one.
+// The operator of an option is not inlined, and reads both from memory.
+#[inline(always)]
+fn is_before<C: Ord + Copy>(id: Option<LogIdOf<C>>, other: Option<LogIdOf<C>>) -> bool
+    ensures { result ≡ id_lt C.cmp id other }
+{
+    match (id, other) {
+        (_, None) => false,
+        (None, Some(_)) => true,
+        (Some(id), Some(other)) => is_below(&id, &other),
+    }
 }
 
 impl<C: Ord + Copy> Validate for ProgressEntryOf<C> {

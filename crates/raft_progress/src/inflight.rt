@@ -277,6 +277,7 @@ impl<C: Ord + Copy> InflightOf<C> {
 }
 
 /// Whether a log id is in a range or is the one before it, by order and by index.
+#[inline(always)]
 fn is_within<C: Ord + Copy>(range: &LogIdRangeOf<C>, upto: Option<LogIdOf<C>>) -> bool
     ensures { result ≡ is_within C.cmp range.now upto }
 {
@@ -284,6 +285,7 @@ fn is_within<C: Ord + Copy>(range: &LogIdRangeOf<C>, upto: Option<LogIdOf<C>>) -
 }
 
 /// Whether a log id is at most another one by order, and its index is at most the other's index.
+#[inline(always)]
 fn is_up_to<C: Ord + Copy>(id: Option<LogIdOf<C>>, other: Option<LogIdOf<C>>) -> bool
     ensures { result ≡ (id_le C.cmp id other && index_le (index_of id) (index_of other)) }
 {

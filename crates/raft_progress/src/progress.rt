@@ -14,6 +14,7 @@ mod vec_progress;
 pub use crate::tracked::{MembershipProgress, Step, Tracked, replay};
 pub use crate::{entry, inflight};
 pub use part::ProgressPart;
+pub(crate) use part::is_below;
 use raft_members::quorum::QuorumSet;
 pub use replay_any_steps::replay_any;
 pub use stat::Stat;
