@@ -2,5 +2,6 @@
 pub mod EntryTable
 pub mod EntryValid
 pub mod Send
+pub mod Request
 pub mod Sendable
 pub mod LateResponse

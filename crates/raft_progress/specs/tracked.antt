@@ -6,6 +6,7 @@ pub mod Over
 pub mod TrackedSteps
 pub mod TrackedViewSteps
 pub mod SingleSteps
+pub mod Followers
 pub mod TrackedCalls
 pub mod Headline
 pub mod Known

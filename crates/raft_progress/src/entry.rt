@@ -5,6 +5,7 @@ ghost use Rattle.raft_base.specs.Validate.{first_false};
 ghost use Rattle.raft_progress.specs.entry.EntryTable.{entry_after_conflict, entry_after_ack};
 ghost use Rattle.raft_progress.specs.entry.LateResponse.{RefusesResponsesTo};
 ghost use Rattle.raft_progress.specs.entry.EntryValid.{entry_relations};
+ghost use Rattle.raft_progress.specs.entry.Request.{FollowsRequest, after_request};
 ghost use Rattle.raft_progress.specs.entry.Send.{IsSent, calc_mid, can_send, send_table};
 ghost use Rattle.raft_progress.specs.inflight.Inflight.{is_after_prev, is_idle};
 ghost use Rattle.raft_progress.specs.inflight.InflightTable.{FollowsTable};
@@ -282,6 +283,24 @@ impl<C: Ord + Copy> ProgressEntryOf<C> {
             id,
         );
         true
+    }
+
+    /// Puts in flight what is to be sent next, if `can_send` is true, and returns it. The result is
+    /// `InflightOf::None` if nothing was sent, and the entry is as it was.
+    #[inline(always)]
+    pub(crate) fn send_next<L: LogStateReader<C>>(
+        &mut self,
+        log: &L,
+        max_entries: u64,
+    ) -> InflightOf<C>
+        ensures { FollowsRequest (after_request C.cmp self.old (L.log_view log.now) max_entries)
+            self.old result self.new }
+    {
+        if self.can_send(log) && self.send(log, max_entries) {
+            self.inflight
+        } else {
+            InflightOf::None
+        }
     }
 
     /// Whether the precondition of `sending_start` holds: the index after matching is at most the

@@ -6,6 +6,7 @@ ghost use Rattle.raft_progress.specs.tracked.TrackedState.{AreLearners, IsReady}
 ghost use Rattle.raft_progress.specs.progress.VecProgress.{view};
 
 mod change;
+mod followers;
 mod membership_progress;
 mod replay_steps;
 mod step;

@@ -23,6 +23,8 @@ mod first_caller;
 #[cfg(test)]
 mod follower_laws;
 #[cfg(test)]
+mod followers;
+#[cfg(test)]
 mod inflight;
 #[cfg(test)]
 mod laws;

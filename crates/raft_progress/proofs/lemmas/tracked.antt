@@ -1,5 +1,6 @@
 pub mod ChangeLemmas
 pub mod ElectedLemmas
+pub mod FollowerLemmas
 pub mod HeadlineLemmas
 pub mod KnownLemmas
 pub mod KnownStaysLemmas

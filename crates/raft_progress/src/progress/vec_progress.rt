@@ -7,6 +7,7 @@ ghost use Rattle.raft_progress.specs.Inner.Positions.{TellsPositions, position_i
 mod clone;
 mod compare;
 mod display;
+mod followers;
 mod update;
 mod upgrade;
 

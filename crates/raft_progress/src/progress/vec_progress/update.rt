@@ -87,7 +87,7 @@ impl<ID: Copy + Ord, V: ProgressPart<P>, P: Copy + Ord, QS: QuorumSet<ID>> VecPr
     // Only a voter whose part has risen past granted moves up. Granted can rise only if the part
     // was at most granted before.
     #[inline(always)]
-    fn restore_order(&mut self, position: usize, before: P, after: P)
+    pub(super) fn restore_order(&mut self, position: usize, before: P, after: P)
         requires within { position < length (view self.old).entries }
         requires at { (e : ID × V) → slice_get (view self.old).entries position ≡ Some e →
             after ≡ V.part_of e.1 }
