@@ -1,10 +1,9 @@
 -- What a leader knows of its members, and when it leads, commits and proposes.
-use Rattle.std.specs.Prelude.{◌≡◌, ℕ, Bool, true, false, ◌&&◌, not, Option, Some, None, Result, Ok, Err, if◌then◌else◌}
+use Rattle.std.specs.Prelude.{◌≡◌, ℕ, Bool, true, false, ◌&&◌, not, Option, Some, None}
 use Rattle.std.specs.Map.{update}
 use Rattle.std.specs.Option.{option_cmp, option_eq}
 use Rattle.std.specs.declared.cmp.Ordering.{Ordering}
 use Rattle.raft_base.specs.LogId.{log_id_cmp, next_index}
-use Rattle.raft_base.specs.LogView.{LogView}
 use Rattle.raft_base.specs.declared.log_id.LogIdOf.{LogIdOf}
 use Rattle.raft_members.specs.membership.Change.{changed}
 use Rattle.raft_members.specs.quorum.Majority.{is_voter_of}
@@ -12,9 +11,9 @@ use Rattle.raft_members.specs.membership.Members.{members_of}
 use Rattle.raft_members.specs.quorum.Reached.{EachQuorumKnows}
 use Rattle.raft_members.specs.membership.Stored.{membership_of}
 use Rattle.raft_members.specs.declared.change_members.ChangeMembers.{ChangeMembers}
-use Rattle.raft_progress.specs.entry.Send.{can_send, send_table}
 use Rattle.raft_progress.specs.progress.CountedValue.{has_part}
 use Rattle.raft_progress.specs.progress.ProgressView.{state}
+use Rattle.raft_progress.specs.tracked.Followers.{Followers, member_value}
 use Rattle.raft_progress.specs.tracked.Known.{QuorumsKnow}
 use Rattle.raft_progress.specs.tracked.TrackedState.{TrackedView}
 use Rattle.raft_progress.specs.declared.entry.ProgressEntryOf.{ProgressEntryOf}
@@ -66,6 +65,12 @@ unknown_entry end = record {
   searching_end = end;
 }
 
+-- the value of one member is this one now, and membership and other values are as they were
+pub record WritesMember {K N C : Type 0} (eq : K → K → Bool) (old : Followers K N C) (id : K)
+    (entry : ProgressEntryOf C) (new : Followers K N C) : Type 0 where
+  pub entries : (x : K) → member_value eq new x ≡ update eq (member_value eq old) id (Some entry) x
+  pub members : new.membership ≡ old.membership
+
 module _ {K N C : Type 0} (eq : K → K → Bool) where
   -- what the leader knows of a member
   abbrev pub entry_of : Leadership K N C → K → Option (ProgressEntryOf C)
@@ -102,19 +107,6 @@ module _ {K N C : Type 0} (eq : K → K → Bool) (cmp : C → C → Ordering) w
       (changed eq id_cmp (members_of id_cmp l.followers.membership) change retain).configs
       (state eq l.followers.progress).is_voter
       (λ id. has_part (option_cmp (log_id_cmp cmp)) (λ e. e.matching) upto (entry_of eq l id))
-
--- what a send leaves of what is known of a member, if it sends anything
-abbrev pub sent : {C : Type 0} → Result (ProgressEntryOf C) (ProgressEntryOf C)
-    → Option (ProgressEntryOf C)
-sent (Ok entry) = Some entry
-sent (Err entry) = None
-
--- what is known of a member once the next request is sent to it, if there is one: a send is allowed,
--- nothing is in flight, and there is something to send
-abbrev pub after_request : {C : Type 0} → (C → C → Ordering) → ProgressEntryOf C → LogView C → ℕ
-    → Option (ProgressEntryOf C)
-after_request cmp entry log max_entries =
-    if can_send entry log then sent (send_table cmp entry log max_entries) else None
 
 -- what is known of a node whose log is on disk up to a log id, as the leader's own is
 abbrev pub flushed_entry : {C : Type 0} → Option (LogIdOf C) → ProgressEntryOf C

@@ -1,99 +1,199 @@
--- What a send and a response leave of a member's match.
-use Rattle.std.specs.Prelude.{◌≡◌, ℕ, Bool, true, false, Option, Some, None, Result, Ok, Err, nat_lt, refl, if◌then◌else◌}
-use Rattle.std.specs.Borrow.{Bor}
+-- What a request to a member, and a response of it, make of what a leader knows of it.
+use Rattle.std.specs.Prelude.{◌≡◌, ℕ, Bool, true, Option, Some, None, Result, Ok, Err, IsOk, OnErr, refl, option_map}
+use Rattle.std.specs.Cmp.{IsEquivalence, IsTotalOrder}
 use Rattle.std.specs.declared.cmp.Ordering.{Ordering}
 use Rattle.std.proofs.Common.{ap, sym, subst, ◌∙◌}
-use Rattle.raft_base.specs.LogId.{next_index}
+use Rattle.raft_base.specs.LogId.{id_le}
 use Rattle.raft_base.specs.LogView.{LogView}
-use Rattle.raft_progress.specs.entry.EntryTable.{entry_after_conflict, with_search_end}
-use Rattle.raft_progress.specs.entry.Send.{IsSent, can_send, idle_send_table, send_table}
-use Rattle.raft_progress.specs.inflight.Inflight.{is_idle}
-use Rattle.raft_progress.specs.inflight.InflightTable.{FollowsTable, inflight_after_conflict}
+use Rattle.raft_base.specs.declared.log_id.LogIdOf.{LogIdOf}
+use Rattle.raft_progress.specs.entry.Request.{FollowsRequest, after_request}
+use Rattle.raft_progress.specs.entry.EntryTable.{entry_after_conflict}
+use Rattle.raft_progress.specs.tracked.Followers.{Followers, IsAcknowledged, IsConflict, IsNextSend, IsResponse, member_value, with_member_value}
 use Rattle.raft_progress.specs.declared.entry.ProgressEntryOf.{ProgressEntryOf}
 use Rattle.raft_progress.specs.declared.inflight.InflightError.{InflightError}
 use Rattle.raft_progress.specs.declared.inflight.InflightOf.{InflightOf}
-use Rattle.raft_handlers.specs.Leadership.{after_request, sent}
-use Rattle.raft_handlers.specs.Responses.{refused}
-use Rattle.raft_handlers.specs.declared.error.HandlerError.TheVariants.{ResponseRefused}
+use Rattle.raft_progress.specs.declared.inflight.InflightOf.TheVariants.{None as Idle}
+use Rattle.raft_progress.proofs.lemmas.tracked.FollowerLemmas.{member_writes, same_member}
+use Rattle.raft_handlers.specs.Leadership.{Leadership, WritesEntry, WritesMember}
+use Rattle.raft_handlers.specs.Responses.{after_outcome, refused}
+use Rattle.raft_handlers.specs.declared.error.HandlerError.{HandlerError}
+use Rattle.raft_handlers.specs.declared.error.HandlerError.TheVariants.{HigherVote}
+use Rattle.raft_handlers.specs.declared.message.Outcome.TheVariants.{Conflict, HigherVote as RefusedFor}
+use Rattle.raft_handlers.proofs.lemmas.FollowerLemmas.{id_le-refl}
 
--- of the two that a choice among three gives as Ok, what holds of both
-either : {S E : Type 0} (P : S → Type 0) (a b : Bool) (x y : S) (e : E) (n : S) → P x → P y
-    → (if a then Ok x else if b then Err e else Ok y) ≡ Ok n → P n
-either P true b x y e n px py h = let same : x ≡ n = cc in subst P same px
-either P false true x y e n px py h = cc
-either P false false x y e n px py h = let same : y ≡ n = cc in subst P same py
+-- ---- responses, by their results
 
-if_idle : {S E : Type 0} (P : S → Type 0) (a : Bool) (r : Result S E) (e : E) (n : S)
-    → (r ≡ Ok n → P n) → (if a then r else Err e) ≡ Ok n → P n
-if_idle P true r e n p h = p h
-if_idle P false r e n p h = cc
+module _ {V E U S : Type 0} (value : Option V) (table : V → Result V E) (Writes : V → Type 0) (old new : S) where
+  -- a response of a member is none of an unknown one
+  pub response_known : (r : Result U E) → IsResponse value table Writes old (Some r) new → value ≡ None → ⊥
+  response_known (Ok u) s h = let e : Some s.0 ≡ None = sym s.2 ∙ h in cc
+  response_known (Err f) s h = let e : Some s.0 ≡ None = sym s.1 ∙ h in cc
 
--- a send that is made is what its table says
-pub sent_ok : {C : Type 0} (table : Result (ProgressEntryOf C) (ProgressEntryOf C))
-    (result : Result (Bor (InflightOf C)) (Bor (InflightOf C))) (new : ProgressEntryOf C) (s : Bor (InflightOf C))
-    → result ≡ Ok s → IsSent table result new → table ≡ Ok new
-sent_ok table (Ok t) new s is h = h.0
-sent_ok table (Err t) new s is h = cc
-
-module _ {C : Type 0} (cmp : C → C → Ordering) where
-  -- a send leaves the match
-  pub send_keeps : (entry new : ProgressEntryOf C) (log : LogView C) (max_entries : ℕ)
-      → send_table cmp entry log max_entries ≡ Ok new → new.matching ≡ entry.matching
-  send_keeps entry new log max_entries h =
-      if_idle (λ (n : ProgressEntryOf C). n.matching ≡ entry.matching) (is_idle entry.inflight)
-      (idle_send_table cmp entry log max_entries) entry new
-      (λ k. either (λ (n : ProgressEntryOf C). n.matching ≡ entry.matching) _ _ _ _ entry new refl refl k) h
-
-  -- what is sent where a send may be made is the next request
-  pub request_is : (entry next new : ProgressEntryOf C) (log : LogView C) (max_entries : ℕ)
-      → can_send entry log ≡ true → send_table cmp entry log max_entries ≡ Ok new
-      → after_request cmp entry log max_entries ≡ Some next → new ≡ next
-  request_is entry next new log max_entries can is after =
-      let chosen : (if can_send entry log then sent (send_table cmp entry log max_entries) else None)
-      ≡ (if true then Some new else None) =
-      ap (λ b. if b then sent (send_table cmp entry log max_entries) else None) can ∙ ap sent is in
-      let e : Some new ≡ Some next = sym chosen ∙ after in
+  -- what the table gives is written
+  pub response_written : (r : Result U E) → IsResponse value table Writes old (Some r) new → (entry next : V) → value ≡ Some entry
+      → table entry ≡ Ok next → Writes next
+  response_written (Ok u) s entry next known is =
+      let e : Some s.0 ≡ Some entry = sym s.2 ∙ known in
+      let same : s.0 ≡ entry = cc in
+      let f : Ok s.1 ≡ Ok next = sym s.3 ∙ ap table same ∙ is in
+      let made : s.1 ≡ next = cc in
+      subst Writes made s.4
+  response_written (Err f) s entry next known is =
+      let e : Some s.0 ≡ Some entry = sym s.1 ∙ known in
+      let same : s.0 ≡ entry = cc in
+      let g : Err f ≡ Ok next = sym s.2 ∙ ap table same ∙ is in
       cc
 
--- a value that a table leaves is as it was or the table's
-pub followed : {S E U : Type 0} (P : S → Type 0) (table : Result S E) (old : S) (result : Result U E) (new : S)
-    → P old → ((s : S) → table ≡ Ok s → P s) → FollowsTable table old result new → P new
-followed P (Ok s) old (Ok u) new p q h = subst P (sym h) (q s refl)
-followed P (Err e) old (Err f) new p q h = subst P (sym h.1) p
-followed P (Ok s) old (Err f) new p q h = absurd h
-followed P (Err e) old (Ok u) new p q h = absurd h
+  -- and the response is taken
+  pub response_ok : (r : Result U E) → IsResponse value table Writes old (Some r) new → (entry next : V) → value ≡ Some entry
+      → table entry ≡ Ok next → IsOk r
+  response_ok (Ok u) s entry next known is = refl
+  response_ok (Err f) s entry next known is =
+      let e : Some s.0 ≡ Some entry = sym s.1 ∙ known in
+      let same : s.0 ≡ entry = cc in
+      let g : Err f ≡ Ok next = sym s.2 ∙ ap table same ∙ is in
+      cc
 
--- a call that is no refusal leaves what its table says
-pub table_ok : {S E U : Type 0} (table : Result S E) (old : S) (result : Result U E) (new : S) (u : U) → result ≡ Ok u
-    → FollowsTable table old result new → table ≡ Ok new
-table_ok (Ok s) old (Ok v) new u is h = ap Ok (sym h)
-table_ok (Ok s) old (Err e) new u is h = absurd h
-table_ok (Err e) old (Ok v) new u is h = absurd h
-table_ok (Err e) old (Err f) new u is h = cc
+  -- what the table refuses is refused
+  pub response_refused : (r : Result U E) → IsResponse value table Writes old (Some r) new → (entry : V) (e : E) → value ≡ Some entry
+      → table entry ≡ Err e → r ≡ Err e
+  response_refused (Ok u) s entry e known is =
+      let f : Some s.0 ≡ Some entry = sym s.2 ∙ known in
+      let same : s.0 ≡ entry = cc in
+      let g : Ok s.1 ≡ Err e = sym s.3 ∙ ap table same ∙ is in
+      cc
+  response_refused (Err f) s entry e known is =
+      let g : Some s.0 ≡ Some entry = sym s.1 ∙ known in
+      let same : s.0 ≡ entry = cc in
+      let h : Err f ≡ Err e = sym s.2 ∙ ap table same ∙ is in
+      cc
 
--- a table with its refusals as a leader's
-pub refused_table : {S U : Type 0} (table : Result S InflightError) (old : S) (taken : Result U InflightError) (new : S)
-    → FollowsTable table old taken new → FollowsTable (refused table) old (refused taken) new
-refused_table (Ok s) old (Ok u) new h = h
-refused_table (Err e) old (Err f) new h = (ap ResponseRefused h.0, h.1)
-refused_table (Ok s) old (Err f) new h = absurd h
-refused_table (Err e) old (Ok u) new h = absurd h
+  -- a refused response changes nothing
+  pub response_err : (r : Result U E) → IsResponse value table Writes old (Some r) new → OnErr r (new ≡ old)
+  response_err (Ok u) s = tt
+  response_err (Err f) s = s.3
 
-lower : {S E : Type 0} (P : S → Type 0) (a b : Bool) (x y : S) (e : E) (n : S) → P x → P y
-    → (if a then (if b then Err e else Ok x) else Ok y) ≡ Ok n → P n
-lower P true true x y e n px py h = cc
-lower P true false x y e n px py h = let same : x ≡ n = cc in subst P same px
-lower P false b x y e n px py h = let same : y ≡ n = cc in subst P same py
+-- what follows from a fact on an error
+pub on_err : {U E : Type 0} (r : Result U E) (P Q : Type 0) → (P → Q) → OnErr r P → OnErr r Q
+on_err (Ok u) P Q f p = tt
+on_err (Err e) P Q f p = f p
 
-search_keeps : {C : Type 0} (entry new : ProgressEntryOf C) (index : ℕ) (r : Result (InflightOf C) InflightError)
-    → with_search_end entry index r ≡ Ok new → new.matching ≡ entry.matching
-search_keeps entry new index (Err e) h = cc
-search_keeps entry new index (Ok inflight) h =
-    lower (λ (n : _). n.matching ≡ entry.matching) (nat_lt index entry.searching_end) (nat_lt index (next_index entry.matching))
-    _ _ _ new refl refl h
+-- a conflict, with a request or without one
+pub conflict_table : {C : Type 0} (L : Type 0) (cmp : C → C → Ordering) (entry : ProgressEntryOf C) (request : Option ℕ) (index : ℕ)
+    → after_outcome {L = L} cmp entry request (Conflict index) ≡ refused (entry_after_conflict entry request index)
+conflict_table L cmp entry (Some r) index = refl
+conflict_table L cmp entry None index = refl
 
--- a conflict leaves the match
-pub conflict_keeps : {C : Type 0} (entry new : ProgressEntryOf C) (request : Option ℕ) (index : ℕ)
-    → entry_after_conflict entry request index ≡ Ok new → new.matching ≡ entry.matching
-conflict_keeps entry new None index h = search_keeps entry new index (Ok entry.inflight) h
-conflict_keeps entry new (Some id) index h = search_keeps entry new index (inflight_after_conflict entry.inflight id index) h
+-- a higher vote, with a request or without one
+pub vote_table : {L C : Type 0} (cmp : C → C → Ordering) (entry : ProgressEntryOf C) (request : Option ℕ) (vote : _)
+    → after_outcome {L = L} cmp entry request (RefusedFor vote) ≡ Err HigherVote
+vote_table cmp entry (Some r) vote = refl
+vote_table cmp entry None vote = refl
+
+-- a response whose refusals are taken as a leader's
+pub refused_response : {V U S : Type 0} (value : Option V) (table : V → Result V InflightError) (table' : V → Result V HandlerError)
+    (Writes Writes' : V → Type 0) (old new : S) → ((entry : V) → table' entry ≡ refused (table entry))
+    → ((entry next : V) → value ≡ Some entry → Writes next → Writes' next) → (r : Option (Result U InflightError))
+    → IsResponse value table Writes old r new → IsResponse value table' Writes' old (option_map refused r) new
+refused_response value table table' Writes Writes' old new same w (Some (Ok u)) s =
+    (s.0, s.1, s.2, same s.0 ∙ ap refused s.3, w s.0 s.1 s.2 s.4)
+refused_response value table table' Writes Writes' old new same w (Some (Err e)) s = (s.0, s.1, same s.0 ∙ ap refused s.2, s.3)
+refused_response value table table' Writes Writes' old new same w None s = s
+
+-- an answer to a member that is known
+pub answers_known : {V E U S : Type 0} (value : Option V) (table : V → Result V E) (Writes : V → Type 0) (old : S) (u : U)
+    → ((entry : V) → table entry ≡ Ok entry) → ((entry : V) → value ≡ Some entry → Writes entry)
+    → IsResponse value table Writes old (option_map (λ (e : V). Ok u) value) old
+answers_known (Some entry) table Writes old u same w = (entry, entry, refl, same entry, w entry refl)
+answers_known None table Writes old u same w = (refl, refl)
+
+-- a refusal to a member that is known
+pub refuses_known : {V E S : Type 0} (U : Type 0) (value : Option V) (table : V → Result V E) (Writes : V → Type 0) (old : S) (e : E)
+    → ((entry : V) → table entry ≡ Err e)
+    → IsResponse {U = U} value table Writes old (option_map (λ (v : V). Err e) value) old
+refuses_known U (Some entry) table Writes old e same = (entry, refl, same entry, refl)
+refuses_known U None table Writes old e same = (refl, refl)
+
+-- ---- what is written of a member
+
+module _ {K N C : Type 0} {eq : K → K → Bool} (laws : IsEquivalence eq) (old new : Followers K N C) (id : K) where
+  -- a value in place of that of a member
+  pub member_written : (entry next : ProgressEntryOf C) → member_value eq old id ≡ Some entry → new ≡ with_member_value eq old id next
+      → WritesMember eq old id next new
+  member_written entry next known is =
+      subst (WritesMember eq old id next) (sym is)
+      record { entries = (member_writes eq old id laws entry next known).value; members = refl }
+
+  -- the value of a member in place of itself
+  pub member_stays : (entry : ProgressEntryOf C) → member_value eq old id ≡ Some entry → WritesMember eq old id entry old
+  member_stays entry known =
+      subst (WritesMember eq old id entry) (same_member eq old id entry known)
+      record { entries = (member_writes eq old id laws entry entry known).value; members = refl }
+
+-- what is written of a member is written of what a leader knows of it
+pub leader_writes : {K N C : Type 0} (eq : K → K → Bool) (l : Leadership K N C) (new : Followers K N C) (id : K) (entry : ProgressEntryOf C)
+    → WritesMember eq l.followers id entry new → WritesEntry eq l id entry (record l { followers = new })
+leader_writes eq l new id entry w = record { entries = w.entries; members = w.members; rest = refl }
+
+module _ {K N C : Type 0} (eq : K → K → Bool) {cmp : C → C → Ordering} (total : IsTotalOrder cmp) (old new : Followers K N C) (id : K) where
+  same_granted : old.progress.granted ≡ new.progress.granted → id_le cmp old.progress.granted new.progress.granted ≡ true
+  same_granted e =
+      subst (λ (g : Option (LogIdOf C)). id_le cmp old.progress.granted g ≡ true) e (id_le-refl total old.progress.granted)
+
+  -- an acknowledgement never lowers what is granted
+  pub ack_rises : (request : ℕ) (upto : Option (LogIdOf C)) (r : Option (Result (Unit {0}) InflightError))
+      → IsAcknowledged eq cmp old id request upto r new → id_le cmp old.progress.granted new.progress.granted ≡ true
+  ack_rises request upto (Some (Ok u)) s = (s.4.answered.done refl).monotone
+  ack_rises request upto (Some (Err e)) s = same_granted (λ i. (sym s.3 i).progress.granted)
+  ack_rises request upto None s = same_granted (λ i. (sym s.1 i).progress.granted)
+
+  -- and a conflict leaves it
+  pub conflict_rises : (request : Option ℕ) (index : ℕ) (r : Option (Result (Unit {0}) InflightError))
+      → IsConflict eq cmp old id request index r new → id_le cmp old.progress.granted new.progress.granted ≡ true
+  conflict_rises request index (Some (Ok u)) s = same_granted (λ i. (sym s.4 i).progress.granted)
+  conflict_rises request index (Some (Err e)) s = same_granted (λ i. (sym s.3 i).progress.granted)
+  conflict_rises request index None s = same_granted (λ i. (sym s.1 i).progress.granted)
+
+-- ---- requests, by their results
+
+module _ {K N C : Type 0} (eq : K → K → Bool) (cmp : C → C → Ordering) (old new : Followers K N C) (id : K) (log : LogView C)
+    (max_entries : ℕ) where
+  follows : (x : InflightOf C) (s : IsNextSend eq cmp old id log max_entries (Some x) new) (entry : ProgressEntryOf C)
+      (request : Option (ProgressEntryOf C)) → member_value eq old id ≡ Some entry → after_request cmp entry log max_entries ≡ request
+      → FollowsRequest request s.0 x s.1
+  follows x s entry request known is =
+      let e : Some s.0 ≡ Some entry = sym s.2 ∙ known in
+      let same : s.0 ≡ entry = cc in
+      subst (λ (r : Option (ProgressEntryOf C)). FollowsRequest r s.0 x s.1) (ap (λ n. after_request cmp n log max_entries) same ∙ is) s.3
+
+  pub next_unknown : (r : Option (InflightOf C)) → IsNextSend eq cmp old id log max_entries r new → member_value eq old id ≡ None
+      → r ≡ None
+  next_unknown (Some x) s none = let e : Some s.0 ≡ None = sym s.2 ∙ none in cc
+  next_unknown None s none = refl
+
+  pub next_sent : (r : Option (InflightOf C)) → IsNextSend eq cmp old id log max_entries r new → (entry next : ProgressEntryOf C)
+      → member_value eq old id ≡ Some entry → after_request cmp entry log max_entries ≡ Some next → r ≡ Some next.inflight
+  next_sent (Some x) s entry next known is = ap Some (follows x s entry (Some next) known is).1
+  next_sent None s entry next known is = let e : Some entry ≡ None = sym known ∙ s.0 in cc
+
+  pub next_written : (r : Option (InflightOf C)) → IsNextSend eq cmp old id log max_entries r new → (entry next : ProgressEntryOf C)
+      → member_value eq old id ≡ Some entry → after_request cmp entry log max_entries ≡ Some next
+      → new ≡ with_member_value eq old id next
+  next_written (Some x) s entry next known is =
+      s.4 ∙ ap (λ n. with_member_value eq old id n) (follows x s entry (Some next) known is).0
+  next_written None s entry next known is = let e : Some entry ≡ None = sym known ∙ s.0 in cc
+
+  pub next_idle : (r : Option (InflightOf C)) → IsNextSend eq cmp old id log max_entries r new → (entry : ProgressEntryOf C)
+      → member_value eq old id ≡ Some entry → after_request cmp entry log max_entries ≡ None → r ≡ Some Idle
+  next_idle (Some x) s entry known is = ap Some (follows x s entry None known is).1
+  next_idle None s entry known is = let e : Some entry ≡ None = sym known ∙ s.0 in cc
+
+  pub next_kept : (r : Option (InflightOf C)) → IsNextSend eq cmp old id log max_entries r new → (entry : ProgressEntryOf C)
+      → member_value eq old id ≡ Some entry → after_request cmp entry log max_entries ≡ None → new ≡ old
+  next_kept (Some x) s entry known is =
+      s.4 ∙ ap (λ n. with_member_value eq old id n) (follows x s entry None known is).0 ∙ same_member eq old id s.0 s.2
+  next_kept None s entry known is = let e : Some entry ≡ None = sym known ∙ s.0 in cc
+
+  pub next_none : (r : Option (InflightOf C)) → IsNextSend eq cmp old id log max_entries r new → r ≡ None → new ≡ old
+  next_none (Some x) s none = cc
+  next_none None s none = s.1

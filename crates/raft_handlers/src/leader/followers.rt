@@ -1,13 +1,16 @@
 //! What a leader sends to the members, and what it learns from their responses.
 ghost use Rattle.std.specs.Prelude.{◌≡◌, false, None, Some, Ok, Err, IsOk, IsTrue, OnErr, OnOk};
 ghost use Rattle.raft_base.specs.LogId.{id_le};
-ghost use Rattle.raft_handlers.specs.Leadership.{WritesEntry, after_request, entry_of, flushed_entry, granted_by};
+ghost use Rattle.raft_handlers.specs.Leadership.{WritesEntry, WritesMember, entry_of, flushed_entry, granted_by};
 ghost use Rattle.raft_handlers.specs.Responses.{after_response, answers, refused};
+ghost use Rattle.raft_progress.specs.entry.Request.{after_request};
+ghost use Rattle.raft_progress.specs.tracked.Followers.{IsResponse, member_value};
+ghost use Rattle.raft_progress.specs.tracked.Tracked.{tracked_view};
+ghost use Rattle.std.specs.Option.{option_map};
 ghost use Rattle.raft_handlers.specs.declared.error.HandlerError.{HandlerError};
 ghost use Rattle.raft_handlers.specs.declared.error.HandlerError.TheVariants.{ForeignResponse, UnknownMember};
 ghost use Rattle.raft_progress.specs.declared.entry.ProgressEntryOf.{ProgressEntryOf};
 ghost use Rattle.raft_progress.specs.declared.inflight.InflightOf.TheVariants.{None as Idle};
-ghost use Rattle.raft_progress.specs.inflight.InflightTable.{FollowsTable};
 ghost use Rattle.raft_state.specs.raft_state.VoteAndLog.{log_view_of};
 ghost use Rattle.raft_state.specs.raft_state.Valid.{none_or_logged};
 
@@ -15,7 +18,7 @@ use super::Leader;
 use crate::error::HandlerError;
 use crate::message::{Outcome, Response};
 use raft_base::{Instant, LogIdOf, LogIdOptionExt, Node, NodeId};
-use raft_progress::{InflightError, InflightOf, Progress, ProgressEntryOf};
+use raft_progress::{InflightError, InflightOf, Progress, ProgressEntryOf, Tracked};
 use raft_state::RaftStateIn;
 
 impl<NID: NodeId, N: Node, C: Ord + Copy + Drop> Leader<NID, N, C> {
@@ -48,16 +51,7 @@ impl<NID: NodeId, N: Node, C: Ord + Copy + Drop> Leader<NID, N, C> {
             after_request C.cmp entry (log_view_of state.now) max_entries ≡ None →
             self.new ≡ self.old }
     {
-        let mut entry = *self.followers.progress().try_get(to)?;
-        if !entry.can_send(state) {
-            return Some(InflightOf::None);
-        }
-        let sent = match entry.next_send(state, max_entries) {
-            Ok(sent) => *sent,
-            Err(_) => return Some(InflightOf::None),
-        };
-        let _reply = self.followers.update(to, entry);
-        Some(sent)
+        self.followers.next_send(to, state, max_entries)
     }
 
     /// Takes a member's response to a request. An acknowledgement raises the member's match, and a
@@ -96,15 +90,10 @@ impl<NID: NodeId, N: Node, C: Ord + Copy + Drop> Leader<NID, N, C> {
         if response.leader_id != self.leader_id {
             return Err(HandlerError::ForeignResponse);
         }
-        match self.followers.progress().try_get(from).copied() {
-            None => Err(HandlerError::UnknownMember),
-            Some(found) => {
-                let mut entry = found;
-                take_response(&mut entry, response)?;
-                let _reply = self.followers.update(from, entry);
-                Ok(())
-            }
-        }
+        let Some(taken) = take_response(&mut self.followers, from, response) else {
+            return Err(HandlerError::UnknownMember);
+        };
+        taken
     }
 
     /// Takes what is in flight to a member as lost, so that it is sent again. A late response to it
@@ -149,32 +138,55 @@ impl<NID: NodeId, N: Node, C: Ord + Copy + Drop> Leader<NID, N, C> {
     }
 }
 
-/// Takes a response into what is known of its sender.
-#[inline(never)]
-fn take_response<L, C: Ord + Copy>(
-    entry: &mut ProgressEntryOf<C>,
+/// Takes a response into what is known of its sender. The result is `None` for an unknown sender.
+#[inline(always)]
+fn take_response<NID: NodeId, N: Node, L, C: Ord + Copy>(
+    followers: &mut Tracked<NID, N, ProgressEntryOf<C>, Option<LogIdOf<C>>>,
+    from: &NID,
     response: &Response<L, C>,
-) -> Result<(), HandlerError>
-    ensures table { FollowsTable (after_response C.cmp entry.old response.now)
-        entry.old result entry.new }
-    ensures monotone { IsTrue (id_le C.cmp entry.old.matching entry.new.matching) }
+) -> Option<Result<(), HandlerError>>
+    ensures step { IsResponse (member_value NID.eq (tracked_view followers.old) from.now)
+        (λ entry. after_response C.cmp entry response.now)
+        (λ next. WritesMember NID.eq (tracked_view followers.old) from.now next
+        (tracked_view followers.new))
+        (tracked_view followers.old) result (tracked_view followers.new) }
+    ensures monotone { IsTrue (id_le C.cmp (tracked_view followers.old).progress.granted
+        (tracked_view followers.new).progress.granted) }
 {
     match response.outcome {
-        Outcome::HigherVote(_) => Err(HandlerError::HigherVote),
-        Outcome::Conflict(index) => refuse(entry.update_conflicting(response.request, index)),
         Outcome::Matches(upto) => match response.request {
-            Some(request) => refuse(entry.update_matching(request, upto)),
-            None => Ok(()),
+            Some(request) => refuse(followers.acknowledge(from, request, upto)),
+            None => if_known(followers, from, Ok(())),
         },
+        Outcome::Conflict(index) => refuse(followers.conflict(from, response.request, index)),
+        Outcome::HigherVote(_) => if_known(followers, from, Err(HandlerError::HigherVote)),
+    }
+}
+
+/// Returns an answer to a member, and `None` for an unknown id.
+#[inline(always)]
+fn if_known<NID: NodeId, N: Node, C: Ord + Copy>(
+    followers: &Tracked<NID, N, ProgressEntryOf<C>, Option<LogIdOf<C>>>,
+    id: &NID,
+    answer: Result<(), HandlerError>,
+) -> Option<Result<(), HandlerError>>
+    ensures { result ≡ option_map (λ entry. answer)
+        (member_value NID.eq (tracked_view followers.now) id.now) }
+{
+    match followers.progress().try_get(id) {
+        Some(_) => Some(answer),
+        None => None,
     }
 }
 
 /// The refusal of what is in flight as one of the leader.
-fn refuse(taken: Result<(), InflightError>) -> Result<(), HandlerError>
-    ensures { result ≡ refused taken }
+#[inline(always)]
+fn refuse(taken: Option<Result<(), InflightError>>) -> Option<Result<(), HandlerError>>
+    ensures { result ≡ option_map refused taken }
 {
     match taken {
-        Ok(()) => Ok(()),
-        Err(refused) => Err(HandlerError::ResponseRefused(refused)),
+        Some(Ok(())) => Some(Ok(())),
+        Some(Err(refused)) => Some(Err(HandlerError::ResponseRefused(refused))),
+        None => None,
     }
 }
