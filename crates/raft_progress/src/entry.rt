@@ -296,11 +296,10 @@ impl<C: Ord + Copy> ProgressEntryOf<C> {
         ensures { FollowsRequest (after_request C.cmp self.old (L.log_view log.now) max_entries)
             self.old result self.new }
     {
-        if self.can_send(log) && self.send(log, max_entries) {
-            self.inflight
-        } else {
-            InflightOf::None
+        if !self.can_send(log) || !self.send(log, max_entries) {
+            return InflightOf::None;
         }
+        self.inflight
     }
 
     /// Whether the precondition of `sending_start` holds: the index after matching is at most the

@@ -81,8 +81,8 @@ impl<NID: NodeId, N: Node, V: ProgressPart<P>, P: Copy + Ord> Tracked<NID, N, V,
     /// never allocates.
     ///
     /// The reply is `Unknown` for an unknown id, and `WouldFall` if the part would fall. To change
-    /// what a value contains beside its part, change a copy and write it back: a leader copies an
-    /// entry from `progress`, calls `next_send` on the copy, and updates with it.
+    /// what a value contains beside its part, change a copy from `progress` and update with it. A
+    /// leader's entries are changed in place by `next_send`, `acknowledge` and `conflict`.
     // Inlined, because a call passes the value over the stack: of an entry these are 120 bytes.
     #[inline(always)]
     pub fn update(&mut self, id: &NID, value: V) -> Reply<NID, P>

@@ -8,7 +8,8 @@ use Rattle.raft_base.specs.LogView.{LogView}
 use Rattle.raft_base.specs.declared.log_id.LogIdOf.{LogIdOf}
 use Rattle.raft_progress.specs.entry.Request.{FollowsRequest, after_request}
 use Rattle.raft_progress.specs.entry.EntryTable.{entry_after_conflict}
-use Rattle.raft_progress.specs.tracked.Followers.{Followers, IsAcknowledged, IsConflict, IsNextSend, IsResponse, member_value, with_member_value}
+use Rattle.raft_progress.specs.tracked.Followers.{Followers, IsAcknowledged, IsConflict, IsNextSend, IsResponse}
+use Rattle.raft_progress.specs.tracked.Followers.{member_value, with_member_value}
 use Rattle.raft_progress.specs.declared.entry.ProgressEntryOf.{ProgressEntryOf}
 use Rattle.raft_progress.specs.declared.inflight.InflightError.{InflightError}
 use Rattle.raft_progress.specs.declared.inflight.InflightOf.{InflightOf}

@@ -4,10 +4,10 @@ ghost use Rattle.std.specs.Map.{keys_of};
 ghost use Rattle.std.proofs.Props.{props};
 ghost use Rattle.raft_progress.specs.Inner.Positions.{TellsPositions, position_in};
 
+mod ack;
 mod clone;
 mod compare;
 mod display;
-mod followers;
 mod update;
 mod upgrade;
 

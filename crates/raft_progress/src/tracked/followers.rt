@@ -27,10 +27,10 @@ impl<NID: NodeId, N: Node, C: Ord + Copy> Tracked<NID, N, ProgressEntryOf<C>, Op
         ensures { IsNextSend NID.eq C.cmp (tracked_view self.old) id.now (L.log_view log.now)
             max_entries result (tracked_view self.new) }
     {
-        match self.progress.get_mut(id) {
-            Some(entry) => Some(entry.send_next(log, max_entries)),
-            None => None,
-        }
+        let Some(entry) = self.progress.get_mut(id) else {
+            return None;
+        };
+        Some(entry.send_next(log, max_entries))
     }
 
     /// Takes the response that a member has all logs up to a log id, as

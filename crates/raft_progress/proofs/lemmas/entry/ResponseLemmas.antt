@@ -56,7 +56,8 @@ if_idle : {S E : Type 0} (P : S → Type 0) (a : Bool) (r : Result S E) (e : E) 
 if_idle P true r e n p h = p h
 if_idle P false r e n p h = cc
 
-if_sent : {C : Type 0} (P : ProgressEntryOf C → Type 0) (a : Bool) (r : Result (ProgressEntryOf C) (ProgressEntryOf C)) (n : ProgressEntryOf C)
+if_sent : {C : Type 0} (P : ProgressEntryOf C
+    → Type 0) (a : Bool) (r : Result (ProgressEntryOf C) (ProgressEntryOf C)) (n : ProgressEntryOf C)
     → ((m : ProgressEntryOf C) → r ≡ Ok m → P m) → (if a then sent r else None) ≡ Some n → P n
 if_sent P true (Ok m) n p h = let same : m ≡ n = cc in subst P same (p m refl)
 if_sent P true (Err m) n p h = cc

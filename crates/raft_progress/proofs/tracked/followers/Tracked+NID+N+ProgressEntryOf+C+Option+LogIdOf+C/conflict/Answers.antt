@@ -22,7 +22,8 @@ invariant_of-self g c =
     let next = c.update_conflicting.new.self in
     let request = c.args.request_id in
     let known : member_value eq old id ≡ Some entry = sym c.get_mut.ensures.value ∙ ap option_copied_mut c.in-Some.is in
-    let is : view (c.get_mut.follows.lender next) ≡ with_value eq old.progress id next = rw c.in-Some.is at (c.get_mut.follows.holds next) in
+    let is : view (c.get_mut.follows.lender next) ≡ with_value eq old.progress id next = rw c.in-Some.is at
+    (c.get_mut.follows.holds next) in
     let kept : next.matching ≡ entry.matching =
     followed (λ (n : ProgressEntryOf g.row.C.Denot). n.matching ≡ entry.matching) (entry_after_conflict entry request c.args.conflict) entry
     c.update_conflicting.result next refl (λ s k. conflict_keeps entry s request c.args.conflict k) c.update_conflicting.ensures.table in
@@ -43,7 +44,8 @@ returns-in-Some g c =
     let entry = c.in-Some.entry.now in
     let next = c.update_conflicting.new.self in
     let known : member_value eq old id ≡ Some entry = sym c.get_mut.ensures.value ∙ ap option_copied_mut c.in-Some.is in
-    let is : view (c.get_mut.follows.lender next) ≡ with_value eq old.progress id next = rw c.in-Some.is at (c.get_mut.follows.holds next) in
+    let is : view (c.get_mut.follows.lender next) ≡ with_value eq old.progress id next = rw c.in-Some.is at
+    (c.get_mut.follows.holds next) in
     let new : TrackedView g.row.NID.Denot g.row.N.Denot (ProgressEntryOf g.row.C.Denot) _ = record {
       membership = c.args.self.now.membership;
       progress = view (c.get_mut.follows.lender next);

@@ -12,8 +12,8 @@ use Rattle.raft_progress.proofs.lemmas.entry.ResponseLemmas.{request_keeps, requ
 use Rattle.raft_progress.proofs.lemmas.tracked.FollowerLemmas.{ready_kept}
 use Rattle.raft_progress.proofs.tracked.followers.Tracked+NID+N+ProgressEntryOf+C+Option+LogIdOf+C.next_send.Goals as goal
 
-pub invariant_of-self : goal.invariant_of-self
-invariant_of-self g c =
+pub invariant_of-self-2 : goal.invariant_of-self-2
+invariant_of-self-2 g c =
     let eq = g.NID.PartialEq.eq in
     let old = tracked_view c.args.self.now in
     let id = c.args.id.now in
@@ -21,7 +21,8 @@ invariant_of-self g c =
     let next = c.send_next.new.self in
     let log = g.L.LogStateReader.log_view c.args.log.now in
     let known : member_value eq old id ≡ Some entry = sym c.get_mut.ensures.value ∙ ap option_copied_mut c.in-Some.is in
-    let is : view (c.get_mut.follows.lender next) ≡ with_value eq old.progress id next = rw c.in-Some.is at (c.get_mut.follows.holds next) in
+    let is : view (c.get_mut.follows.lender next) ≡ with_value eq old.progress id next = rw c.in-Some.is at
+    (c.get_mut.follows.holds next) in
     let kept : next.matching ≡ entry.matching =
     requested (λ (n : ProgressEntryOf g.row.C.Denot). n.matching ≡ entry.matching)
     (after_request g.C.Ord.cmp entry log c.args.max_entries) entry c.send_next.result next refl
@@ -35,12 +36,13 @@ invariant_of-self g c =
           ∣₁;
     }
 
-pub returns-in-Some : goal.returns-in-Some
-returns-in-Some g c =
+pub returns : goal.returns
+returns g c =
     let eq = g.NID.PartialEq.eq in
     let old = tracked_view c.args.self.now in
     let id = c.args.id.now in
     let next = c.send_next.new.self in
     let known : member_value eq old id ≡ Some c.in-Some.entry.now = sym c.get_mut.ensures.value ∙ ap option_copied_mut c.in-Some.is in
-    let is : view (c.get_mut.follows.lender next) ≡ with_value eq old.progress id next = rw c.in-Some.is at (c.get_mut.follows.holds next) in
+    let is : view (c.get_mut.follows.lender next) ≡ with_value eq old.progress id next = rw c.in-Some.is at
+    (c.get_mut.follows.holds next) in
     (c.in-Some.entry.now, next, known, c.send_next.ensures, λ i. record { membership = c.args.self.now.membership; progress = is i })

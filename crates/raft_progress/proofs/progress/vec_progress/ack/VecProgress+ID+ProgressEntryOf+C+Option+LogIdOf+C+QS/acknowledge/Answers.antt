@@ -21,7 +21,7 @@ use Rattle.raft_progress.proofs.lemmas.progress.OutcomeLemmas.{outcome}
 use Rattle.raft_progress.proofs.lemmas.progress.UpdateLemmas.{was, wrote}
 use Rattle.raft_progress.proofs.lemmas.progress.entries.EntriesLemmas.{lookup_absent, no_value}
 use Rattle.raft_progress.proofs.lemmas.progress.positions.PositionsLemmas.{keys_written}
-use Rattle.raft_progress.proofs.progress.vec_progress.followers.VecProgress+ID+ProgressEntryOf+C+Option+LogIdOf+C+QS.acknowledge.Goals as goal
+use Rattle.raft_progress.proofs.progress.vec_progress.ack.VecProgress+ID+ProgressEntryOf+C+Option+LogIdOf+C+QS.acknowledge.Goals as goal
 
 pub returns-in_default-clause-step : goal.returns-in_default-clause-step
 returns-in_default-clause-step g c = (
