@@ -15,3 +15,16 @@ pub fn both<A: Drop, B: Drop>(
 ) -> Result<(A, B), AllocError> {
     Ok((first?, second?))
 }
+
+/// Returns what a call of a value returns, if there was memory for the value.
+///
+/// A test does not own the value, so its exit paths do not drop it.
+pub fn on<T: Drop, A, E: From<AllocError>, C: FnOnce(&mut T) -> Result<A, E>>(
+    value: Result<T, AllocError>,
+    call: C,
+) -> Result<A, E>
+    requires may_call { C.IsAlwaysCallable call }
+{
+    let mut value = value?;
+    call(&mut value)
+}

@@ -6,20 +6,26 @@ use raft_base::leader_id_std::CommittedLeaderId;
 use raft_base::{LeaderId, LogIdOf, LogStateReader};
 use std::alloc::{AllocError, Global};
 
-/// A committed leader that is made of one number, its term.
+/// A committed leader that is made of numbers: its term and, unless it is of standard Raft, its
+/// node.
 pub trait Numbered: Ord + Copy {
-    /// The leader of a term.
-    fn numbered(term: u64) -> Self;
+    /// Returns the leader of a term at a node.
+    fn of_node(term: u64, node: u64) -> Self;
+
+    /// Returns the leader of a term at node 0.
+    final fn numbered(term: u64) -> Self {
+        Self::of_node(term, 0)
+    }
 }
 
 impl Numbered for LeaderId<u64> {
-    fn numbered(term: u64) -> Self {
-        LeaderId::new(term, 0)
+    fn of_node(term: u64, node: u64) -> Self {
+        LeaderId::new(term, node)
     }
 }
 
 impl Numbered for CommittedLeaderId {
-    fn numbered(term: u64) -> Self {
+    fn of_node(term: u64, _node: u64) -> Self {
         CommittedLeaderId { term }
     }
 }

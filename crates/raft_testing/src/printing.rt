@@ -1,24 +1,28 @@
-//! The texts that values print.
+//! The texts that values print. A text for which there is no memory is wrong.
 
 use raft_base::MessageSummary;
 use std::alloc::{AllocError, Global};
 use std::fmt::{Debug, Display};
 
+/// Whether a text that was made is the wanted one.
+fn is(made: Result<String, AllocError>, text: &str) -> bool {
+    match made {
+        Ok(made) => made.as_str() == text,
+        Err(_) => false,
+    }
+}
+
 /// Whether a value displays as the text.
-pub fn displays<T: Display>(alloc: Global, value: &T, text: &str) -> Result<bool, AllocError> {
-    Ok(format!(in alloc; "{value}")?.as_str() == text)
+pub fn displays<T: Display>(alloc: Global, value: &T, text: &str) -> bool {
+    is(format!(in alloc; "{value}"), text)
 }
 
 /// Whether a value's debug form is the text.
-pub fn debugs<T: Debug>(alloc: Global, value: &T, text: &str) -> Result<bool, AllocError> {
-    Ok(format!(in alloc; "{value:?}")?.as_str() == text)
+pub fn debugs<T: Debug>(alloc: Global, value: &T, text: &str) -> bool {
+    is(format!(in alloc; "{value:?}"), text)
 }
 
 /// Whether a value's summary is the text.
-pub fn sums_up<T: MessageSummary<T>>(
-    alloc: Global,
-    value: &T,
-    text: &str,
-) -> Result<bool, AllocError> {
-    Ok(value.summary(alloc)?.as_str() == text)
+pub fn sums_up<T: MessageSummary<T>>(alloc: Global, value: &T, text: &str) -> bool {
+    is(value.summary(alloc), text)
 }

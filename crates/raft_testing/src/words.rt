@@ -1,16 +1,62 @@
-//! Ids and memberships as words. Configs are lists of ids joined by `/`, nodes are `id=node`; an
-//! empty list is `-`, and no configs are `none`.
+//! Rows of tests as lines of words, and what their words mean.
+//!
+//! A row is a line of words between spaces. A word is a name, a number or one of these values:
+//!
+//! | value | its word | example |
+//! |---|---|---|
+//! | ids | numbers, joined by `,` | `1,2` |
+//! | nodes | `id=node`, joined by `,` | `1=10,2=20` |
+//! | configs | ids, joined by `/` | `1,2/2,3` |
+//! | a log id | `TERM.INDEX` or `TERM.NODE.INDEX` | `2.9` or `2.1.9` |
+//! | log ids | each of them, joined by `,` | `1.1,2.3` |
+//!
+//! An empty list and an absent log id are `-`. No configs are `none`.
 
+use crate::plain_log::Numbered;
+use raft_base::LogIdOf;
 use raft_members::Membership;
 use std::alloc::{AllocError, Global};
 use std::collections::{BTreeMap, BTreeSet};
+use std::str::SplitWhitespace;
 
-/// The number that a word stands for.
+/// Returns the next word, and an empty one after the last.
+fn next<'a>(rest: &mut SplitWhitespace<'a>) -> &'a str {
+    rest.next().unwrap_or("")
+}
+
+/// Returns the first nine words of a row. The words after the last one are empty.
+pub fn words(row: &str) -> [&str; 9] {
+    let rest = &mut row.split_whitespace();
+    [
+        next(rest),
+        next(rest),
+        next(rest),
+        next(rest),
+        next(rest),
+        next(rest),
+        next(rest),
+        next(rest),
+        next(rest),
+    ]
+}
+
+/// Returns the number of a word.
 pub fn number(word: &str) -> u64 {
     word.parse::<u64>().unwrap_or(0)
 }
 
-/// The ids of a word.
+/// Returns the ids of a word, in their order in the word.
+pub fn list(alloc: Global, word: &str) -> Result<Vec<u64>, AllocError> {
+    let mut list = Vec::new(alloc);
+    if word != "-" {
+        for id in word.split(',') {
+            list.push(number(id))?;
+        }
+    }
+    Ok(list)
+}
+
+/// Returns the set of the ids of a word.
 pub fn ids(alloc: Global, word: &str) -> Result<BTreeSet<u64>, AllocError> {
     let mut ids = BTreeSet::new(alloc);
     if word != "-" {
@@ -21,7 +67,7 @@ pub fn ids(alloc: Global, word: &str) -> Result<BTreeSet<u64>, AllocError> {
     Ok(ids)
 }
 
-/// The nodes of a word.
+/// Returns the nodes of a word.
 pub fn nodes(alloc: Global, word: &str) -> Result<BTreeMap<u64, u64>, AllocError> {
     let mut nodes = BTreeMap::new(alloc);
     for entry in word.split(',') {
@@ -32,7 +78,7 @@ pub fn nodes(alloc: Global, word: &str) -> Result<BTreeMap<u64, u64>, AllocError
     Ok(nodes)
 }
 
-/// The configs of a word.
+/// Returns the configs of a word.
 pub fn configs(alloc: Global, word: &str) -> Result<Vec<BTreeSet<u64>>, AllocError> {
     let mut configs = Vec::new(alloc);
     if word != "none" {
@@ -43,7 +89,18 @@ pub fn configs(alloc: Global, word: &str) -> Result<Vec<BTreeSet<u64>>, AllocErr
     Ok(configs)
 }
 
-/// The membership of the two words.
+/// Returns the configs of a word, each as a list in its order in the word.
+pub fn lists(alloc: Global, word: &str) -> Result<Vec<Vec<u64>>, AllocError> {
+    let mut lists = Vec::new(alloc);
+    if word != "none" {
+        for config in word.split('/') {
+            lists.push(list(alloc, config)?)?;
+        }
+    }
+    Ok(lists)
+}
+
+/// Returns the membership of the word of its configs and the word of its nodes.
 pub fn members(
     alloc: Global,
     config_word: &str,
@@ -51,4 +108,22 @@ pub fn members(
 ) -> Result<Membership<u64, u64>, AllocError> {
     let configs = configs(alloc, config_word)?;
     Membership::new_unchecked(configs, nodes(alloc, node_word)?)
+}
+
+/// Returns the log id of a word. Without a node in the word it is the one of node 0.
+pub fn log_id<C: Numbered>(word: &str) -> Option<LogIdOf<C>> {
+    let (term, rest) = word.split_once('.')?;
+    let (node, index) = rest.split_once('.').unwrap_or(("0", rest));
+    Some(LogIdOf::new(C::of_node(number(term), number(node)), number(index)))
+}
+
+/// Returns the log ids of a word.
+pub fn log_ids<C: Numbered>(alloc: Global, word: &str) -> Result<Vec<LogIdOf<C>>, AllocError> {
+    let mut ids = Vec::new(alloc);
+    for id in word.split(',') {
+        if let Some(id) = log_id(id) {
+            ids.push(id)?;
+        }
+    }
+    Ok(ids)
 }
