@@ -7,10 +7,14 @@ use std::test::Fail;
 /// and in any term by a committed vote.
 fn is_committed_in(term: u64, is_given: bool) -> bool {
     let leader = LeaderId::new(term, 4u64);
-    let want = if is_given { Some(leader) } else { None };
-    Vote::new(term, 4u64).committed_leader_id() == want
-        && Vote::new_committed(term, 4u64).committed_leader_id() == Some(leader)
-        && leader.to_committed() == CommittedLeaderId::new(term, 4)
+    let committed = [
+        Vote::new(term, 4u64).committed_leader_id(),
+        Vote::new_committed(term, 4u64).committed_leader_id(),
+        Some(leader.to_committed()),
+    ];
+    let first = if is_given { Some(leader) } else { None };
+    let by_numbers = CommittedLeaderId::new(term, 4);
+    committed == [first, Some(leader), Some(by_numbers)]
 }
 
 // Nobody has to grant the leader of term 0.

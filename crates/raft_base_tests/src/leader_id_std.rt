@@ -1,11 +1,13 @@
 //! Leader ids of standard Raft, with the votes and log ids that have them.
 
+use crate::asserts::assert_right;
 use raft_base::LogIdOf;
 use raft_base::leader_id_std::{CommittedLeaderId, LeaderId, Vote};
 use raft_base::order::{
     compare_standard_leader_ids, compare_standard_log_ids, compare_standard_votes,
 };
 use raft_testing::allocations::{is_free, refuse_each};
+use raft_testing::facts::first_wrong;
 use std::cmp::Ordering;
 use std::test::Fail;
 
@@ -22,13 +24,25 @@ fn vote(voted: Voted) -> Vote<u64> {
     }
 }
 
-/// Whether two votes compare as wanted, from both sides.
-fn compare_as(a: Voted, b: Voted, want: Option<Ordering>) -> bool {
+/// Returns what is wrong if two votes should compare so, from both sides.
+fn wrong_order(a: Voted, b: Voted, want: Option<Ordering>) -> Option<&'static str> {
     let (a, b) = (vote(a), vote(b));
-    compare_standard_votes(&a, &b) == want
-        && b.partial_cmp(&a) == want.map(|order| order.reverse())
-        && (a == b) == (want == Some(Ordering::Equal))
-        && (a.committed || b.committed || leaders_compare_as(&a, &b, want))
+    let has_committed = a.committed || b.committed;
+    first_wrong(&[
+        ("the votes", compare_standard_votes(&a, &b) == want),
+        (
+            "the other side",
+            b.partial_cmp(&a) == want.map(|order| order.reverse()),
+        ),
+        (
+            "their equality",
+            (a == b) == (want == Some(Ordering::Equal)),
+        ),
+        (
+            "the leaders",
+            has_committed || leaders_compare_as(&a, &b, want),
+        ),
+    ])
 }
 
 /// Whether the leaders of two votes compare as wanted.
@@ -59,7 +73,7 @@ fn votes_of_one_term_need_not_compare(rt: HostRuntime) -> Result<(), Fail> {
     ];
     refuse_each(rt.alloc());
     for (a, b, want) in rows {
-        assert!(rt; compare_as(a, b, want), "at {a:?} and {b:?}");
+        assert!(rt; wrong_order(a, b, want) == None, "at {a:?} and {b:?}");
     }
     assert!(rt; is_free(&rt, rt.alloc(), "comparison of standard votes", true)?);
     Ok(())
@@ -86,17 +100,28 @@ fn log_ids_compare_by_term_then_index(rt: HostRuntime) -> Result<(), Fail> {
     Ok(())
 }
 
-/// Whether a elected leader is known by its term alone.
-fn is_known_by_its_term(leader: &LeaderId<u64>) -> bool {
-    leader.to_committed() == CommittedLeaderId { term: 2 }
-        && leader.is_same_as_committed(&CommittedLeaderId::new(2, 7u64))
-        && !leader.is_same_as_committed(&CommittedLeaderId::new(3, 1u64))
-        && leader.get_term() == 2
-        && leader.voted_for() == Some(1)
+/// Returns what is wrong of an elected leader, which is known by its term alone.
+fn wrong_read(leader: &LeaderId<u64>) -> Option<&'static str> {
+    let of_term = CommittedLeaderId::new(2, 7u64);
+    let of_another = CommittedLeaderId::new(3, 1u64);
+    first_wrong(&[
+        (
+            "its committed leader",
+            leader.to_committed() == CommittedLeaderId { term: 2 },
+        ),
+        ("the same term", leader.is_same_as_committed(&of_term)),
+        ("another term", !leader.is_same_as_committed(&of_another)),
+        ("its term", leader.get_term() == 2),
+        ("its node", leader.voted_for() == Some(1)),
+    ])
 }
 
 #[test]
 fn an_elected_leader_is_its_term(rt: HostRuntime) -> Result<(), Fail> {
-    assert!(rt; is_known_by_its_term(&LeaderId::new(2, 1u64)));
+    assert_right(
+        &rt,
+        "an elected leader",
+        wrong_read(&LeaderId::new(2, 1u64)),
+    );
     Ok(())
 }

@@ -11,6 +11,8 @@
 #[cfg(test)]
 mod allocations;
 #[cfg(test)]
+mod asserts;
+#[cfg(test)]
 mod first_caller;
 #[cfg(test)]
 mod instant;

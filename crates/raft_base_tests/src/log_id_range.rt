@@ -1,21 +1,36 @@
 //! Ranges of logs.
 
-use raft_base::{Invalid, LeaderId, LogId, LogIdOf, LogIdRange, Validate};
+use crate::asserts::assert_right;
+use raft_base::{Invalid, LeaderId, LogId, LogIdRange, Validate};
 use raft_testing::allocations::{is_free, refuse_each};
+use raft_testing::facts::first_wrong;
 use raft_testing::plain_log::id;
 use raft_testing::printing::{debugs, displays};
 use std::alloc::{AllocError, Global};
 use std::test::Fail;
 
-/// Whether a range from index 5 on is valid exactly where it does not end before it begins.
-fn ranges_are_tested() -> bool {
-    let after = |last: Option<LogIdOf<LeaderId<u64>>>| LogIdRange::new(id(1, 5), last).validate();
-    after(None) == Err(Invalid::RangeOrder)
-        && after(id(1, 4)) == Err(Invalid::RangeOrder)
-        && after(id(0, 9)) == Err(Invalid::RangeOrder)
-        && after(id(1, 5)) == Ok(())
-        && after(id(2, 4)) == Ok(())
-        && LogIdRange::<u64>::new(None, None).validate() == Ok(())
+/// Returns whether a range is valid.
+fn is_valid(prev: Option<LogId<u64>>, last: Option<LogId<u64>>) -> Result<(), Invalid> {
+    LogIdRange::new(prev, last).validate()
+}
+
+/// Returns what is wrong of ranges, which are valid if they do not end before they begin.
+fn wrong_validity() -> Option<&'static str> {
+    let broken = Err(Invalid::RangeOrder);
+    first_wrong(&[
+        ("from 5 to none", is_valid(id(1, 5), None) == broken),
+        ("from 5 to 4", is_valid(id(1, 5), id(1, 4)) == broken),
+        (
+            "from leader 1 to leader 0",
+            is_valid(id(1, 5), id(0, 9)) == broken,
+        ),
+        ("from 5 to itself", is_valid(id(1, 5), id(1, 5)) == Ok(())),
+        (
+            "from leader 1 to leader 2",
+            is_valid(id(1, 5), id(2, 4)) == Ok(()),
+        ),
+        ("from none to none", is_valid(None, None) == Ok(())),
+    ])
 }
 
 /// How many logs a range has, where its indexes say so.
@@ -28,25 +43,35 @@ fn len(prev: Option<LogId<u64>>, last: Option<LogId<u64>>) -> Option<u64> {
     }
 }
 
-/// Whether ranges have as many logs as indexes.
-fn ranges_are_measured() -> bool {
-    len(id(1, 5), id(3, 10)) == Some(5)
-        && len(None, id(1, 0)) == Some(1)
-        && len(None, None) == Some(0)
-        && len(id(1, 5), id(2, 4)) == None
-        && len(None, id(1, u64::MAX)) == None
+/// Returns what is wrong of ranges, which have as many logs as indexes.
+fn wrong_len() -> Option<&'static str> {
+    first_wrong(&[
+        ("after 5 to 10", len(id(1, 5), id(3, 10)) == Some(5)),
+        ("to 0", len(None, id(1, 0)) == Some(1)),
+        ("to none", len(None, None) == Some(0)),
+        ("after 5 to 4", len(id(1, 5), id(2, 4)) == None),
+        ("to the greatest index", len(None, id(1, u64::MAX)) == None),
+    ])
 }
 
-/// Whether ranges display as they should.
-fn display(alloc: Global) -> Result<bool, AllocError> {
+/// Returns which text of a range is wrong.
+fn wrong_text(alloc: Global) -> Option<&'static str> {
     let from = Some(LogId::new(LeaderId::new(1, 2u64), 3));
     let to = Some(LogId::new(LeaderId::new(1, 2u64), 9));
+    let none = LogIdRange::<u64>::new(None, None);
     let debug = "LogIdRange { prev: None, last: None }";
-    Ok(
-        displays(alloc, &LogIdRange::new(from, to), "(T1-N2-3, T1-N2-9]")?
-            && displays(alloc, &LogIdRange::new(None, from), "(None, T1-N2-3]")?
-            && debugs(alloc, &LogIdRange::<u64>::new(None, None), debug)?,
-    )
+    let facts = [
+        (
+            "two",
+            displays(alloc, &LogIdRange::new(from, to), "(T1-N2-3, T1-N2-9]"),
+        ),
+        (
+            "one",
+            displays(alloc, &LogIdRange::new(None, from), "(None, T1-N2-3]"),
+        ),
+        ("none", debugs(alloc, &none, debug)),
+    ];
+    first_wrong(&facts)
 }
 
 /// Example base 4. A range from index 5 to no index or to 4 breaks `RangeOrder`.
@@ -54,8 +79,10 @@ fn display(alloc: Global) -> Result<bool, AllocError> {
 #[test]
 fn ranges(rt: HostRuntime) -> Result<(), Fail> {
     refuse_each(rt.alloc());
-    let is_right = ranges_are_tested() && ranges_are_measured();
-    assert!(rt; is_free(&rt, rt.alloc(), "LogIdRange::{validate, len}", is_right)?);
-    assert!(rt; display(rt.alloc())?);
+    let (validity, len) = (wrong_validity(), wrong_len());
+    assert!(rt; is_free(&rt, rt.alloc(), "LogIdRange::{validate, len}", true)?);
+    assert_right(&rt, "validate", validity);
+    assert_right(&rt, "len", len);
+    assert_right(&rt, "text", wrong_text(rt.alloc()));
     Ok(())
 }

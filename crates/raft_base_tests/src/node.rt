@@ -1,9 +1,11 @@
 //! Node ids of a caller's own, and nodes with their defaults.
 ghost use Rattle.std.specs.Prelude.{◌≡◌, IfOk};
 
+use crate::asserts::assert_right;
 use raft_base::{BasicNode, EmptyNode, LeaderId, Node, NodeDefault, Vote};
 use raft_testing::address::Address;
 use raft_testing::allocations::is_compared;
+use raft_testing::facts::first_wrong;
 use raft_testing::printing::displays;
 use std::alloc::{AllocError, Global};
 use std::fmt;
@@ -23,12 +25,23 @@ impl fmt::Display for Rack {
     }
 }
 
-/// Whether votes and leaders over racks compare and read back.
-fn racks_compare(vote: &Vote<Rack>, near: Rack, far: Rack) -> bool {
-    LeaderId::new(1, near) < LeaderId::new(1, far)
-        && LeaderId::new(2, near) > LeaderId::new(1, far)
-        && Vote::new_committed(1, near) < *vote
-        && vote.leader_id().voted_for() == Some(far)
+/// Returns what is wrong of votes and leaders over racks.
+fn wrong_rack(vote: &Vote<Rack>, near: Rack, far: Rack) -> Option<&'static str> {
+    first_wrong(&[
+        (
+            "leaders of a term",
+            LeaderId::new(1, near) < LeaderId::new(1, far),
+        ),
+        (
+            "leaders of two terms",
+            LeaderId::new(2, near) > LeaderId::new(1, far),
+        ),
+        ("votes", Vote::new_committed(1, near) < *vote),
+        (
+            "who is voted for",
+            vote.leader_id().voted_for() == Some(far),
+        ),
+    ])
 }
 
 #[test]
@@ -36,8 +49,8 @@ fn any_node_id_will_do(rt: HostRuntime) -> Result<(), Fail> {
     let near = Rack { row: 1, place: 9 };
     let far = Rack { row: 2, place: 0 };
     let vote = Vote::new(1, far);
-    assert!(rt; racks_compare(&vote, near, far));
-    assert!(rt; displays(rt.alloc(), &vote, "T1-N2/0:uncommitted")?);
+    assert_right(&rt, "racks", wrong_rack(&vote, near, far));
+    assert!(rt; displays(rt.alloc(), &vote, "T1-N2/0:uncommitted"));
     Ok(())
 }
 
@@ -53,32 +66,46 @@ fn any_default<N: Node>(alloc: Global) -> Result<N, AllocError>
     N::default_node(alloc)
 }
 
-/// Whether nodes of each kind have their defaults, by their own calls.
-fn have_own_defaults(alloc: Global) -> Result<bool, AllocError> {
-    Ok(
-        u64::default_node(alloc)? == 0
-            && <()>::default_node(alloc)? == ()
-            && EmptyNode::default_node(alloc)? == EmptyNode::new()
-            && EmptyNode::default() == EmptyNode {}
-            && BasicNode::default_node(alloc)? == BasicNode::new(alloc, "")?,
-    )
+/// Returns the kind of nodes whose default is wrong, by their own calls.
+fn wrong_own_default(alloc: Global) -> Result<Option<&'static str>, AllocError> {
+    let facts = [
+        ("numbers", u64::default_node(alloc)? == 0),
+        ("nothing", <()>::default_node(alloc)? == ()),
+        (
+            "empty nodes",
+            EmptyNode::default_node(alloc)? == EmptyNode::new(),
+        ),
+        (
+            "empty nodes by Default",
+            EmptyNode::default() == EmptyNode {},
+        ),
+        (
+            "addresses",
+            BasicNode::default_node(alloc)? == BasicNode::new(alloc, "")?,
+        ),
+    ];
+    Ok(first_wrong(&facts))
 }
 
-/// Whether nodes of each kind have their defaults, by a bound.
-fn have_defaults(alloc: Global) -> Result<bool, AllocError> {
-    let address = any_default::<Address>(alloc)?;
-    Ok(
-        address.text.is_empty()
-            && zero(alloc)? == 0
-            && any_default::<u64>(alloc)? == 0
-            && any_default::<()>(alloc)? == ()
-            && any_default::<EmptyNode>(alloc)? == EmptyNode {},
-    )
+/// Returns the kind of nodes whose default is wrong, by a bound.
+fn wrong_default(alloc: Global) -> Result<Option<&'static str>, AllocError> {
+    let facts = [
+        ("texts", any_default::<Address>(alloc)?.text.is_empty()),
+        ("zero", zero(alloc)? == 0),
+        ("numbers", any_default::<u64>(alloc)? == 0),
+        ("nothing", any_default::<()>(alloc)? == ()),
+        (
+            "empty nodes",
+            any_default::<EmptyNode>(alloc)? == EmptyNode {},
+        ),
+    ];
+    Ok(first_wrong(&facts))
 }
 
 #[test]
 fn nodes_have_defaults(rt: HostRuntime) -> Result<(), Fail> {
-    assert!(rt; have_own_defaults(rt.alloc())? && have_defaults(rt.alloc())?);
+    assert_right(&rt, "own calls", wrong_own_default(rt.alloc())?);
+    assert_right(&rt, "a bound", wrong_default(rt.alloc())?);
     Ok(())
 }
 

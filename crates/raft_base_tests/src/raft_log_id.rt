@@ -1,7 +1,9 @@
 //! What has a log id, and callers that read and set it.
 ghost use Rattle.std.specs.Prelude.{◌≡◌};
 
+use crate::asserts::assert_right;
 use raft_base::{CommittedLeaderId, LeaderId, LogId, RaftLogId};
+use raft_testing::facts::first_wrong;
 use std::test::Fail;
 
 /// A log entry.
@@ -55,8 +57,8 @@ fn payload_stays(entry: &mut Entry, id: LogId<u64>)
     renumber(entry, &id);
 }
 
-/// Whether an entry that has been given a log id has it, and the payload that it had.
-fn is_renumbered() -> bool {
+/// Returns what is wrong of an entry that has been given a log id, and has the payload that it had.
+fn wrong_of_renumbered() -> Option<&'static str> {
     let id = LogId::new(LeaderId::new(1, 2u64), 3);
     let mut entry = Entry {
         log_id: LogId::default(),
@@ -64,12 +66,19 @@ fn is_renumbered() -> bool {
     };
     renumber(&mut entry, &id);
     payload_stays(&mut entry, id);
-    *entry.get_log_id() == id && entry.payload == 5 && index_and_term(id) == (3, 1)
+    first_wrong(&[
+        ("its log id", *entry.get_log_id() == id),
+        ("its payload", entry.payload == 5),
+        (
+            "its index and term",
+            index_and_term(*entry.get_log_id()) == (3, 1),
+        ),
+    ])
 }
 
 #[test]
 fn an_entry_is_renumbered(rt: HostRuntime) -> Result<(), Fail> {
-    assert!(rt; is_renumbered());
+    assert_right(&rt, "an entry", wrong_of_renumbered());
     Ok(())
 }
 

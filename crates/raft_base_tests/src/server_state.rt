@@ -13,17 +13,16 @@ fn is_exactly(state: ServerState, want: [bool; 4]) -> bool {
     ] == want
 }
 
-/// Whether each state is told from the others.
-fn states_differ() -> bool {
-    is_exactly(ServerState::default(), [true, false, false, false])
-        && is_exactly(ServerState::Follower, [false, true, false, false])
-        && is_exactly(ServerState::Candidate, [false, false, true, false])
-        && is_exactly(ServerState::Leader, [false, false, false, true])
-        && is_exactly(ServerState::Shutdown, [false, false, false, false])
-}
-
 #[test]
 fn states_are_told_apart(rt: HostRuntime) -> Result<(), Fail> {
-    assert!(rt; states_differ());
+    for (state, want) in [
+        (ServerState::default(), [true, false, false, false]),
+        (ServerState::Follower, [false, true, false, false]),
+        (ServerState::Candidate, [false, false, true, false]),
+        (ServerState::Leader, [false, false, false, true]),
+        (ServerState::Shutdown, [false, false, false, false]),
+    ] {
+        assert!(rt; is_exactly(state, want), "{state:?}");
+    }
     Ok(())
 }

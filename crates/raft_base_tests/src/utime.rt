@@ -4,8 +4,10 @@ ghost use Rattle.std.specs.Option.{option_cmp};
 ghost use Rattle.std.specs.Ordering.{is_ge};
 ghost use Rattle.std.specs.Prelude.{if◌then◌else◌, ◌≡◌, Some};
 
+use crate::asserts::assert_right;
 use raft_base::{Instant, UTime};
 use raft_testing::allocations::{is_free, refuse_each};
+use raft_testing::facts::first_wrong;
 use std::alloc::{AllocError, Global};
 use std::test::Fail;
 
@@ -33,26 +35,33 @@ fn never_updated<I: Instant>() -> UTime<u8, I> {
     UTime::default()
 }
 
-/// Whether a count is updated, touched and written, each time with its moment.
-fn is_stamped() -> bool {
+/// Returns what is wrong of a count that is updated, touched and written, each time with its
+/// moment.
+fn wrong_of_stamped() -> Option<&'static str> {
     let mut count = UTime::new(3u64, 5u8);
-    let is_new = count.utime() == Some(3) && *count.get() == 5;
+    let (moment, value) = (count.utime(), *count.get());
     count.update(4, 7);
     touch_in_turn(&mut count, 9);
     touch_in_turn(&mut count, 6);
     let is_touched = count == UTime::new(9, 7);
     count_up(&mut count);
-    let are_right = [
-        is_new,
-        is_touched,
-        count == UTime::new(9, 8),
-        count != UTime::new(8, 8),
-        count != UTime::without_utime(8),
-        never_updated::<u64>() == UTime::without_utime(0),
-        UTime::<u8, u64>::without_utime(2).utime() == None,
-        count.into_inner() == 8,
-    ];
-    !are_right.contains(&false)
+    first_wrong(&[
+        ("the first moment", moment == Some(3)),
+        ("the first count", value == 5),
+        ("an update, and a touch", is_touched),
+        ("a write", count == UTime::new(9, 8)),
+        ("another moment", count != UTime::new(8, 8)),
+        ("no moment", count != UTime::without_utime(8)),
+        (
+            "the default",
+            never_updated::<u64>() == UTime::without_utime(0),
+        ),
+        (
+            "the moment of none",
+            UTime::<u8, u64>::without_utime(2).utime() == None,
+        ),
+        ("what is inside", count.into_inner() == 8),
+    ])
 }
 
 /// Whether a list of texts is cloned with its moment.
@@ -65,7 +74,8 @@ fn is_cloned(alloc: Global) -> Result<bool, AllocError> {
 fn values_are_stamped(rt: HostRuntime) -> Result<(), Fail> {
     assert!(rt; is_cloned(rt.alloc())?);
     refuse_each(rt.alloc());
-    let is_right = is_stamped();
-    assert!(rt; is_free(&rt, rt.alloc(), "UTime", is_right)?);
+    let wrong = wrong_of_stamped();
+    assert!(rt; is_free(&rt, rt.alloc(), "UTime", wrong == None)?);
+    assert_right(&rt, "a count", wrong);
     Ok(())
 }

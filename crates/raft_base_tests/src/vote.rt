@@ -5,10 +5,12 @@ ghost use Rattle.std.specs.Option.{option_cmp};
 ghost use Rattle.std.specs.Ordering.{is_ge, partial_ge};
 ghost use Rattle.std.specs.Prelude.{◌&&◌, ◌≡◌, IsTrue, Some, false, true};
 
+use crate::asserts::assert_right;
 use raft_base::{
     CommittedLeaderId, LeaderAdv, LeaderId, LeaderKind, LogId, LogIdOf, NodeId, Vote, VoteOf,
 };
 use raft_testing::allocations::{is_free, refuse_each};
+use raft_testing::facts::first_wrong;
 use std::cmp::Ordering;
 use std::test::Fail;
 
@@ -51,9 +53,9 @@ fn first_id<NID: NodeId>(vote: &Vote<NID>) -> Option<LogId<NID>>
     })
 }
 
-/// Whether a vote is granted once, to a log that reaches as far,
-/// and gives an id once it is committed.
-fn is_granted_once() -> bool {
+/// Returns what is wrong of a vote that is granted once, to a log that reaches as far, and gives an
+/// id once it is committed.
+fn wrong_of_granted() -> Option<&'static str> {
     let log = Some(LogId::new(CommittedLeaderId::new(1, 1u64), 4));
     let mut promise = Promise::<u64, LeaderAdv> {
         vote: Vote::new(2, 1),
@@ -67,21 +69,31 @@ fn is_granted_once() -> bool {
     let is_kept = promise.vote == Vote::new(2, 2);
     promise.vote.commit();
     let after = first_id(&promise.vote);
-    let want = Some(LogId::new(LeaderId::new(2, 2), 0));
-    !early && !short && granted && !late && is_kept && before == None && after == want
+    first_wrong(&[
+        ("a lesser term", !early),
+        ("a shorter log", !short),
+        ("a greater vote", granted),
+        ("a lesser vote", !late),
+        ("the promise", is_kept),
+        ("no first id yet", before == None),
+        (
+            "the first id",
+            after == Some(LogId::new(LeaderId::new(2, 2), 0)),
+        ),
+    ])
 }
 
 #[test]
 fn a_vote_is_granted_once(rt: HostRuntime) -> Result<(), Fail> {
-    assert!(rt; is_granted_once());
+    assert_right(&rt, "a promise", wrong_of_granted());
     Ok(())
 }
 
 /// A leader as its term and node, and whether its vote is committed.
 type Voted = (u64, u64, bool);
 
-/// Whether two leaders and their votes compare as wanted.
-fn votes_compare(a: Voted, b: Voted, want: Ordering) -> bool {
+/// Returns what is wrong if two leaders and their votes should compare so.
+fn wrong_order(a: Voted, b: Voted, want: Ordering) -> Option<&'static str> {
     let (leader, other) = (LeaderId::new(a.0, a.1), LeaderId::new(b.0, b.1));
     let vote = Vote {
         leader_id: leader,
@@ -92,10 +104,16 @@ fn votes_compare(a: Voted, b: Voted, want: Ordering) -> bool {
         committed: b.2,
     };
     let is_same = want == Ordering::Equal;
-    let leaders_agree = leader.cmp(&other) == want && (leader == other) == is_same;
-    vote.partial_cmp(&other_vote) == Some(want)
-        && (vote == other_vote) == is_same
-        && (a.2 != b.2 || leaders_agree)
+    let decides_later = a.2 != b.2;
+    first_wrong(&[
+        ("the votes", vote.partial_cmp(&other_vote) == Some(want)),
+        ("equality of the votes", (vote == other_vote) == is_same),
+        ("the leaders", decides_later || leader.cmp(&other) == want),
+        (
+            "equality of the leaders",
+            decides_later || (leader == other) == is_same,
+        ),
+    ])
 }
 
 /// Example base 1. Leader and vote (2, 2) are above (1, 2) and (2, 1), and equal themselves.
@@ -114,39 +132,47 @@ fn a_term_decides_then_the_node_then_being_committed(rt: HostRuntime) -> Result<
     ];
     refuse_each(rt.alloc());
     for (a, b, want) in rows {
-        assert!(rt; votes_compare(a, b, want), "at {a:?} and {b:?}");
+        assert!(rt; wrong_order(a, b, want) == None, "at {a:?} and {b:?}");
     }
     assert!(rt; is_free(&rt, rt.alloc(), "comparison of votes", true)?);
     Ok(())
 }
 
-/// Whether a vote for node 7 in term 3 reads back, before it is committed.
-fn reads_back(vote: &Vote<u64>) -> bool {
-    !vote.is_committed()
-        && *vote.leader_id() == LeaderId::new(3, 7)
-        && vote.leader_id().get_term() == 3
-        && vote.leader_id().voted_for() == Some(7)
-        && vote.is_same_leader(&CommittedLeaderId::new(3, 7))
-        && !vote.is_same_leader(&CommittedLeaderId::new(3, 8))
-        && !vote.is_same_leader(&CommittedLeaderId::new(2, 7))
+/// Returns which read of a vote for node 7 in term 3 is wrong, before it is committed.
+fn wrong_read(vote: &Vote<u64>) -> Option<&'static str> {
+    first_wrong(&[
+        ("whether it is committed", !vote.is_committed()),
+        ("its leader", *vote.leader_id() == LeaderId::new(3, 7)),
+        ("its term", vote.leader_id().get_term() == 3),
+        ("its node", vote.leader_id().voted_for() == Some(7)),
+        (
+            "the same leader",
+            vote.is_same_leader(&CommittedLeaderId::new(3, 7)),
+        ),
+        (
+            "another node",
+            !vote.is_same_leader(&CommittedLeaderId::new(3, 8)),
+        ),
+        (
+            "another term",
+            !vote.is_same_leader(&CommittedLeaderId::new(2, 7)),
+        ),
+    ])
 }
 
 #[test]
 fn votes_read_back(rt: HostRuntime) -> Result<(), Fail> {
     let mut vote = Vote::new(3, 7u64);
-    assert!(rt; reads_back(&vote));
+    assert_right(&rt, "a vote", wrong_read(&vote));
     vote.commit();
-    assert!(rt; vote.is_committed() && vote == Vote::new_committed(3, 7));
+    assert!(rt; vote.is_committed());
+    assert!(rt; vote == Vote::new_committed(3, 7));
     Ok(())
-}
-
-/// Whether the default leader and vote are the zero values, and the vote is not committed.
-fn defaults_are_zero() -> bool {
-    LeaderId::<u64>::default() == LeaderId::new(0, 0) && Vote::<u64>::default() == Vote::new(0, 0)
 }
 
 #[test]
 fn defaults_are_zero_and_not_committed(rt: HostRuntime) -> Result<(), Fail> {
-    assert!(rt; defaults_are_zero());
+    assert!(rt; LeaderId::<u64>::default() == LeaderId::new(0, 0));
+    assert!(rt; Vote::<u64>::default() == Vote::new(0, 0));
     Ok(())
 }
