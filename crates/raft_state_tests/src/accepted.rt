@@ -1,8 +1,8 @@
 //! What a node has accepted of a leader.
 
-use crate::support::states::State;
-use raft_base::{LeaderAdv, LeaderKind, LeaderStd, LogIdOf, UTime, VoteOf};
-use raft_state::{AcceptedOf, VoteStateReader};
+use crate::support::states::{StandardLeader, State};
+use raft_base::{LeaderId, LeaderIdentity, LogIdOf, UTime, VoteIn};
+use raft_state::{AcceptedIn, VoteStateReader};
 use raft_testing::allocations::is_free_on;
 use std::alloc::Global;
 use std::io;
@@ -10,14 +10,14 @@ use std::test::Fail;
 
 /// Whether what was accepted is known of the first one of these leaders alone, by their terms and
 /// nodes.
-fn is_of_first<K: LeaderKind<u64>>(
-    accepted: &AcceptedOf<u64, K>,
+fn is_of_first<L: LeaderIdentity<Id = u64>, C: Eq + Copy>(
+    accepted: &AcceptedIn<L, C>,
     leaders: &[(u64, u64)],
-    want: Option<LogIdOf<K::Committed>>,
+    want: Option<LogIdOf<C>>,
 ) -> bool {
     let mut want = want;
     for (term, node) in leaders {
-        let leader = K::new_leader(*term, *node);
+        let leader = L::new_leader(*term, *node);
         if accepted.last_accepted_log_id(&leader).copied() != want {
             return false;
         }
@@ -27,51 +27,55 @@ fn is_of_first<K: LeaderKind<u64>>(
 }
 
 /// Takes what is accepted of the vote's leader, if that may be.
-fn accept<K: LeaderKind<u64>>(state: &mut State<K>, log_id: Option<LogIdOf<K::Committed>>) {
+fn accept<
+    L: LeaderIdentity<Id = u64, Committed = C> + Drop,
+    C: Ord + Copy + Default + Drop + 'static,
+>(state: &mut State<L, C>, log_id: Option<LogIdOf<C>>) {
     if state.can_accept() {
         state.update_accepted(log_id);
     }
 }
 
 /// Whether a new node's vote, and what it has accepted of the leader, read as they should.
-fn accepts<K: LeaderKind<u64>>(state: &mut State<K>) -> bool {
-    let log_id = Some(LogIdOf::new(K::new_committed(6, 2), 3));
-    let leader = K::new_leader(5, 10);
+fn accepts<
+    L: LeaderIdentity<Id = u64, Committed = C> + Drop,
+    C: Ord + Copy + Default + Drop + 'static,
+>(state: &mut State<L, C>) -> bool {
+    let log_id = Some(LogIdOf::new(L::new_committed(6, 2), 3));
+    let leader = L::new_leader(5, 10);
     let leaders = [(5, 10), (6, 10), (4, 10), (5, 9)];
     let unset = state.accepted().is_none() && !state.is_initialized();
-    state.vote = UTime::new(7, VoteOf::<u64, K>::new_committed(5, 10));
-    accept::<K>(state, log_id);
+    state.vote = UTime::new(7, VoteIn::new_committed(5, 10));
+    accept(state, log_id);
     let are_right = [
         unset,
-        state.accepted == AcceptedOf::<u64, K>::new(leader, log_id),
-        is_of_first::<K>(&state.accepted, &leaders, log_id),
+        state.accepted == AcceptedIn::new(leader, log_id),
+        is_of_first(&state.accepted, &leaders, log_id),
         state.accepted().copied() == log_id,
         state.is_initialized(),
         state.vote_last_modified() == Some(7),
         VoteStateReader::vote_ref(state).leader_id == leader,
     ];
     // A lesser leader's vote, as a node never has it: nothing is accepted of that leader.
-    *state.vote.get_mut() = VoteOf::<u64, K>::new_committed(4, 10);
+    *state.vote.get_mut() = VoteIn::new_committed(4, 10);
     !are_right.contains(&false) && !state.can_accept()
 }
 
 /// Whether a new state takes what is accepted, without an allocation.
-fn takes_accepted<K: LeaderKind<u64>>(rt: &impl Print, alloc: Global) -> io::Result<bool> {
+fn takes_accepted<
+    L: LeaderIdentity<Id = u64, Committed = C> + Drop,
+    C: Ord + Copy + Default + Drop + 'static,
+>(rt: &impl Print, alloc: Global) -> io::Result<bool> {
     let name = "Accepted, RaftState::{can_accept, update_accepted}";
-    is_free_on(
-        rt,
-        alloc,
-        name,
-        State::<K>::try_default(alloc),
-        |state| accepts::<K>(state),
-    )
+    let state = State::<L, C>::try_default(alloc);
+    is_free_on(rt, alloc, name, state, |state| accepts(state))
 }
 
 /// Example state 5. Leader (5, 10) has sent the log id of leader (6, 2) at index 3: accepted is
 /// this log id for leader (5, 10), and none for (6, 10) and (4, 10).
 #[test]
 fn what_is_accepted_is_of_its_leader(rt: HostRuntime) -> Result<(), Fail> {
-    assert!(rt; takes_accepted::<LeaderAdv>(&rt, rt.alloc())?);
-    assert!(rt; takes_accepted::<LeaderStd>(&rt, rt.alloc())?);
+    assert!(rt; takes_accepted::<LeaderId<u64>, _>(&rt, rt.alloc())?);
+    assert!(rt; takes_accepted::<StandardLeader, _>(&rt, rt.alloc())?);
     Ok(())
 }

@@ -3,16 +3,16 @@
 
 use crate::membership_state;
 use crate::support::messages::{entries, snapshot};
-use crate::support::rows::{ids, log_id};
-use crate::support::states::{follower, valid_state};
-use raft_base::{LeaderAdv, LogId, LogStateReader, MessageSummary};
+use crate::support::rows::log_id;
+use crate::support::states::{VALID, follower, state};
+use raft_base::{LogId, LogStateReader, MessageSummary};
 use raft_members::{Membership, StoredMembership};
 use raft_state::{
     Entry, EntryPayload, FromAppData, LogIdList, MembershipState, RaftState, SnapshotMeta,
     is_key_list,
 };
 use raft_testing::allocations::{Allocation, is_compared, is_free_on, is_swept};
-use raft_testing::words::members;
+use raft_testing::words::{log_ids, members};
 use std::alloc::{AllocError, Global};
 use std::test::Fail;
 
@@ -20,14 +20,11 @@ type List = LogIdList<u64>;
 
 type State = RaftState<u64, u64, u64>;
 
-type Rows = &'static [(u64, u64)];
-
-/// A list with these keys, that has room for so many more.
-fn list(alloc: Global, keys: Rows, room: usize) -> Result<List, AllocError> {
+/// A list with the keys of a word, that has room for so many more.
+fn list(alloc: Global, keys: &str, room: usize) -> Result<List, AllocError> {
+    let keys = log_ids(alloc, keys)?;
     let mut all = Vec::with_capacity(alloc, keys.len().saturating_add(room))?;
-    for (leader, index) in keys {
-        all.push(log_id::<LeaderAdv>(*leader, *index))?;
-    }
+    all.extend_from_slice(&keys)?;
     if is_key_list(&all) {
         Ok(List::new(all))
     } else {
@@ -36,19 +33,19 @@ fn list(alloc: Global, keys: Rows, room: usize) -> Result<List, AllocError> {
 }
 
 /// Keys, log ids of a leader each, and log ids of one.
-const KEYS: Rows = &[(1, 1), (2, 3)];
+const KEYS: &str = "1.1,2.3";
 
-const SEVERAL: Rows = &[(3, 7), (4, 8), (5, 9), (6, 10)];
+const SEVERAL: &str = "3.7,4.8,5.9,6.10";
 
-const OF_ONE: Rows = &[(3, 7), (3, 8), (3, 9)];
+const OF_ONE: &str = "3.7,3.8,3.9";
 
 /// Calls by name, each with the keys of a list, the log ids that it is given, and how many keys
 /// these add.
-const EDITS: [(&str, Rows, Rows, usize); 7] = [
+const EDITS: [(&str, &str, &str, usize); 7] = [
     ("LogIdList::append", KEYS, OF_ONE, 1),
     ("LogIdList::extend", KEYS, SEVERAL, 4),
     ("LogIdList::extend_from_same_leader", KEYS, OF_ONE, 2),
-    ("LogIdList::purge of an empty list", &[], OF_ONE, 1),
+    ("LogIdList::purge of an empty list", "-", OF_ONE, 1),
     ("RaftState::extend_log_ids", KEYS, SEVERAL, 4),
     (
         "RaftState::extend_log_ids_from_same_leader",
@@ -56,7 +53,7 @@ const EDITS: [(&str, Rows, Rows, usize); 7] = [
         OF_ONE,
         2,
     ),
-    ("RaftState::purge_log of an empty log", &[], OF_ONE, 1),
+    ("RaftState::purge_log of an empty log", "-", OF_ONE, 1),
 ];
 
 /// Makes a call of a list by its name, if that may be.
@@ -90,7 +87,7 @@ fn edit(state: &mut State, name: &str, ids: &[LogId<u64>]) -> Result<(), AllocEr
 }
 
 /// A state with such a list.
-fn logged(alloc: Global, keys: Rows, room: usize) -> Result<State, AllocError> {
+fn logged(alloc: Global, keys: &str, room: usize) -> Result<State, AllocError> {
     let mut state = State::try_default(alloc)?;
     state.log_ids = list(alloc, keys, room)?;
     Ok(state)
@@ -100,11 +97,11 @@ fn logged(alloc: Global, keys: Rows, room: usize) -> Result<State, AllocError> {
 // later one doesn't.
 #[test]
 fn allocations_of_lists(rt: HostRuntime) -> Result<(), Fail> {
-    for (name, keys, rows, need) in EDITS {
+    for (name, keys, ids, need) in EDITS {
         for room in 0..need {
             let state = |alloc: Global| logged(alloc, keys, room);
             let call = |allocation: Allocation, state: &mut State| {
-                let ids = ids::<LeaderAdv>(allocation.alloc, rows)?;
+                let ids = log_ids(allocation.alloc, ids)?;
                 allocation.refuse();
                 edit(state, name, &ids)
             };
@@ -122,7 +119,7 @@ fn two_configs(alloc: Global) -> Result<Membership<u64, u64>, AllocError> {
 
 /// A state with a snapshot.
 fn with_snapshot(alloc: Global) -> Result<State, AllocError> {
-    let mut state = valid_state::<LeaderAdv>(alloc)?;
+    let mut state: State = state(alloc, VALID)?;
     state.snapshot_meta = SnapshotMeta {
         last_log_id: None,
         last_membership: StoredMembership::new(None, two_configs(alloc)?),
@@ -131,9 +128,14 @@ fn with_snapshot(alloc: Global) -> Result<State, AllocError> {
     Ok(state)
 }
 
-/// A follower with a membership at a log id.
-fn follower_at(alloc: Global, in_effect: (u64, u64)) -> Result<State, AllocError> {
-    follower::<LeaderAdv>(alloc, Some((1, 1)), None, Some(in_effect))
+/// A follower with a membership at a log id that its log has.
+fn follower_at_two(alloc: Global) -> Result<State, AllocError> {
+    follower(alloc, "2 1.1 1.1 - - 1.2")
+}
+
+/// A follower with a membership at its last log id.
+fn follower_at_last(alloc: Global) -> Result<State, AllocError> {
+    follower(alloc, "2 1.1 1.1 - - 3.4")
 }
 
 /// Clones a state.
@@ -144,7 +146,7 @@ fn cloned(allocation: Allocation, state: &State) -> Result<State, AllocError> {
 
 /// Appends entries of a leader to a follower's log, with a membership among them.
 fn append(allocation: Allocation, state: &mut State) -> Result<(), AllocError> {
-    let entries = entries::<LeaderAdv>(allocation.alloc, 4, 5)?;
+    let entries = entries(allocation.alloc, 4, 5)?;
     allocation.refuse();
     if !state.can_append_entries(&entries) {
         return Ok(());
@@ -154,7 +156,7 @@ fn append(allocation: Allocation, state: &mut State) -> Result<(), AllocError> {
 
 /// Installs a snapshot up to a log id.
 fn install(allocation: Allocation, state: &mut State, upto: (u64, u64)) -> Result<(), AllocError> {
-    let meta = snapshot::<LeaderAdv>(allocation.alloc, Some(upto), Some((1, 2)))?;
+    let meta = snapshot(allocation.alloc, Some(upto), Some((1, 2)))?;
     allocation.refuse();
     if !state.can_install_snapshot(&meta) {
         return Ok(());
@@ -166,7 +168,7 @@ fn install(allocation: Allocation, state: &mut State, upto: (u64, u64)) -> Resul
 fn allocations_of_states(rt: HostRuntime) -> Result<(), Fail> {
     let state = |alloc: Global| with_snapshot(alloc);
     let clone = |allocation: Allocation, state: &mut State| cloned(allocation, state);
-    let follower = |alloc: Global| follower_at(alloc, (1, 2));
+    let follower = |alloc: Global| follower_at_two(alloc);
     let append = |allocation: Allocation, state: &mut State| append(allocation, state);
     assert!(rt; is_swept(&rt, rt.alloc(), "RaftState::try_clone", state, clone)?);
     assert!(rt;
@@ -187,7 +189,7 @@ fn allocations_of_snapshots(rt: HostRuntime) -> Result<(), Fail> {
         ("RaftState::install_snapshot, logged", (1, 3)),
         ("RaftState::install_snapshot, not logged", (2, 4)),
     ] {
-        let state = |alloc: Global| follower_at(alloc, (3, 4));
+        let state = |alloc: Global| follower_at_last(alloc);
         let install = |allocation: Allocation, state: &mut State| install(allocation, state, upto);
         assert!(rt; is_swept(&rt, rt.alloc(), name, state, install)?);
     }
@@ -199,14 +201,14 @@ type Data = Entry<u64, u64, u64>;
 /// An entry with a membership.
 fn entry(alloc: Global) -> Result<Data, AllocError> {
     Ok(Data {
-        log_id: log_id::<LeaderAdv>(1, 2),
+        log_id: log_id(1, 2),
         payload: EntryPayload::Membership(two_configs(alloc)?),
     })
 }
 
 #[test]
 fn allocations_of_summaries(rt: HostRuntime) -> Result<(), Fail> {
-    let memberships = |alloc: Global| membership_state::state::<LeaderAdv>(alloc);
+    let memberships = |alloc: Global| membership_state::state(alloc);
     let sum_up = |allocation: Allocation, memberships: &mut MembershipState<u64, u64>| {
         allocation.refuse();
         memberships.summary(allocation.alloc)
@@ -229,27 +231,27 @@ fn allocations_of_summaries(rt: HostRuntime) -> Result<(), Fail> {
 
 /// Whether the list of the keys (1,1), (2,3) and (2,9) is read as it should be.
 fn is_read(list: &List) -> bool {
-    let of_log = [log_id::<LeaderAdv>(2, 10), log_id::<LeaderAdv>(2, 11)];
+    let of_log = [log_id(2, 10), log_id(2, 11)];
     let are_right = [
-        list.get(2) == Some(log_id::<LeaderAdv>(1, 2)),
+        list.get(2) == Some(log_id(1, 2)),
         list.get(10) == None,
-        list.first() == Some(&log_id::<LeaderAdv>(1, 1)),
-        list.last() == Some(&log_id::<LeaderAdv>(2, 9)),
+        list.first() == Some(&log_id(1, 1)),
+        list.last() == Some(&log_id(2, 9)),
         list.key_log_ids().len() == 3,
         list.by_last_leader().len() == 2,
         is_key_list(list.key_log_ids()),
-        list.can_append(log_id::<LeaderAdv>(2, 10)),
+        list.can_append(log_id(2, 10)),
         list.can_extend(&of_log),
         list.can_extend_from_same_leader(&of_log),
-        !list.can_purge(&log_id::<LeaderAdv>(1, 12)),
+        !list.can_purge(&log_id(1, 12)),
     ];
     !are_right.contains(&false)
 }
 
 /// Whether that list is truncated and then purged as it should be.
 fn is_cut(list: &mut List) -> bool {
-    let (first, second) = (log_id::<LeaderAdv>(1, 1), log_id::<LeaderAdv>(2, 3));
-    let last = log_id::<LeaderAdv>(2, 4);
+    let (first, second) = (log_id(1, 1), log_id(2, 3));
+    let last = log_id(2, 4);
     list.truncate(5);
     let is_truncated = list.key_log_ids() == [first, second, last].as_slice();
     let is_purged = list.can_purge(&second) && list.purge(&second) == Ok(());
@@ -259,7 +261,7 @@ fn is_cut(list: &mut List) -> bool {
 #[test]
 fn no_allocations_of_lists(rt: HostRuntime) -> Result<(), Fail> {
     let alloc = rt.alloc();
-    let new = || list(alloc, &[(1, 1), (2, 3), (2, 9)], 0);
+    let new = || list(alloc, "1.1,2.3,2.9", 0);
     let (name, cuts) = (
         "LogIdList, get, can_append and other reads",
         "LogIdList, its cuts",
@@ -273,7 +275,7 @@ fn no_allocations_of_lists(rt: HostRuntime) -> Result<(), Fail> {
 /// Whether a log is truncated as it should be, with its effective membership.
 fn is_truncated(state: &mut State) -> bool {
     let is_reverted = state.can_truncate_log(2) && state.truncate_log(2) == Ok(true);
-    is_reverted && state.last_log_id() == Some(&log_id::<LeaderAdv>(1, 1))
+    is_reverted && state.last_log_id() == Some(&log_id(1, 1))
 }
 
 #[test]
@@ -281,7 +283,10 @@ fn no_allocations_of_entries(rt: HostRuntime) -> Result<(), Fail> {
     let alloc = rt.alloc();
     let data = Ok(Data::from_app_data(7));
     assert!(rt; is_compared(&rt, alloc, "comparison of entries", entry(alloc), data)?);
-    let (name, state) = ("RaftState::truncate_log", follower_at(alloc, (1, 3)));
+    let (name, state) = (
+        "RaftState::truncate_log",
+        follower(alloc, "2 1.1 1.1 - - 1.3"),
+    );
     assert!(rt; is_free_on(&rt, alloc, name, state, |state| is_truncated(state))?);
     Ok(())
 }

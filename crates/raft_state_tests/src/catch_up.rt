@@ -2,11 +2,12 @@
 
 use crate::support::followers::{Followers, caught_up, followers};
 use crate::support::rows::{Row, id};
-use crate::support::states::{State, hundred, valid_state};
-use raft_base::{LeaderAdv, LeaderKind, LeaderStd, LogStateReader};
+use crate::support::states::{StandardLeader, State, VALID, hundred, state};
+use raft_base::{LeaderId, LeaderIdentity, LogStateReader};
 use raft_progress::{Progress, ProgressEntryOf};
 use raft_testing::allocations::is_free_on;
 use raft_testing::memory::both;
+use raft_testing::plain_log::Numbered;
 use std::alloc::Global;
 use std::io;
 use std::process::Abort;
@@ -14,8 +15,8 @@ use std::test::Fail;
 
 /// Whether a follower of which only the length of the log is known is caught up by so many
 /// conflicts and acks, or cannot be.
-fn catches_up<K: LeaderKind<u64>>(
-    state: &State<K>,
+fn catches_up<L: Drop, C: Ord + Copy + Drop>(
+    state: &State<L, C>,
     length: u64,
     agree: u64,
     want: Option<(u64, u64)>,
@@ -32,55 +33,58 @@ fn catches_up<K: LeaderKind<u64>>(
 }
 
 /// Whether a round catches up so many followers, after which this is granted.
-fn rounds<K: LeaderKind<u64>>(
-    state: &State<K>,
-    progress: &mut Followers<K>,
+fn rounds<L: Drop, C: Numbered + Drop + 'static>(
+    state: &State<L, C>,
+    progress: &mut Followers<C>,
     followers: &[(u64, u64)],
     want: u64,
     granted: Row,
 ) -> bool {
-    caught_up::<K>(state, progress, followers) == Some(want)
-        && *progress.granted() == id::<K>(granted)
+    caught_up(state, progress, followers) == Some(want) && *progress.granted() == id(granted)
 }
 
 /// Whether a follower alone is caught up as it should be, over a log of a hundred and over a purged
 /// one.
-fn catches_up_right<K: LeaderKind<u64>>(state: &State<K>, purged: &State<K>) -> bool {
+fn catches_up_right<L: Drop, C: Ord + Copy + Drop>(
+    state: &State<L, C>,
+    purged: &State<L, C>,
+) -> bool {
     let are_right = [
-        catches_up::<K>(state, 100, 70, Some((1, 6))),
-        catches_up::<K>(state, 100, 0, Some((2, 10))),
-        catches_up::<K>(state, 100, 101, None),
-        catches_up::<K>(purged, 5, 3, Some((0, 1))),
-        catches_up::<K>(purged, 5, 1, None),
+        catches_up(state, 100, 70, Some((1, 6))),
+        catches_up(state, 100, 0, Some((2, 10))),
+        catches_up(state, 100, 101, None),
+        catches_up(purged, 5, 3, Some((0, 1))),
+        catches_up(purged, 5, 1, None),
     ];
     !are_right.contains(&false)
 }
 
 /// Whether rounds over the voters 1, 2 and 3 and the learner 4 lead where they should.
-fn rounds_right<K: LeaderKind<u64>>(state: &State<K>, progress: &mut Followers<K>) -> bool {
-    rounds::<K>(state, progress, &[(1, 70), (4, 0), (9, 3)], 2, None)
-        && rounds::<K>(
-            state,
-            progress,
-            &[(2, 101), (2, 0), (1, 100)],
-            2,
-            Some((1, 99)),
-        )
-        && progress.try_get(&3) == Some(&ProgressEntryOf::empty(100))
+fn rounds_right<L: Drop, C: Numbered + Drop + 'static>(
+    state: &State<L, C>,
+    progress: &mut Followers<C>,
+) -> bool {
+    let last = Some((1, 99));
+    let are_right = [
+        rounds(state, progress, &[(1, 70), (4, 0), (9, 3)], 2, None),
+        rounds(state, progress, &[(2, 101), (2, 0), (1, 100)], 2, last),
+        progress.try_get(&3) == Some(&ProgressEntryOf::empty(100)),
+    ];
+    !are_right.contains(&false)
 }
 
 /// Whether followers are caught up as they should be, one alone and in rounds, without an
 /// allocation.
-pub fn is_as_worked<K: LeaderKind<u64>>(
-    rt: &(impl Abort + Print),
-    alloc: Global,
-) -> io::Result<bool> {
-    let states = both(hundred::<K>(alloc), valid_state::<K>(alloc));
-    let held = both(states, followers::<K>(rt, alloc, &[4], 100));
+pub fn is_as_worked<
+    L: LeaderIdentity<Id = u64, Committed = C> + Drop,
+    C: Numbered + Default + Drop + 'static,
+>(rt: &(impl Abort + Print), alloc: Global) -> io::Result<bool> {
+    let states = both(hundred::<L, C>(alloc), state::<L, C>(alloc, VALID));
+    let held = both(states, followers::<C>(rt, alloc, &[4], 100));
     let name = "RaftState::{can_catch_up, catch_up, catch_up_all}";
     is_free_on(rt, alloc, name, held, |held| {
         let (state, purged) = (&held.0.0, &held.0.1);
-        rounds_right::<K>(state, &mut held.1) && catches_up_right::<K>(state, purged)
+        rounds_right(state, &mut held.1) && catches_up_right(state, purged)
     })
 }
 
@@ -89,7 +93,7 @@ pub fn is_as_worked<K: LeaderKind<u64>>(
 /// granted is none, then (1, 99).
 #[test]
 fn followers_are_caught_up(rt: HostRuntime) -> Result<(), Fail> {
-    assert!(rt; is_as_worked::<LeaderAdv>(&rt, rt.alloc())?);
-    assert!(rt; is_as_worked::<LeaderStd>(&rt, rt.alloc())?);
+    assert!(rt; is_as_worked::<LeaderId<u64>, _>(&rt, rt.alloc())?);
+    assert!(rt; is_as_worked::<StandardLeader, _>(&rt, rt.alloc())?);
     Ok(())
 }

@@ -4,9 +4,10 @@
 //! missing and at the greatest u64, some over leader ids of standard Raft; those outside of a
 //! call's condition were left out. Each answer is what the original's own code gave to that call.
 
+use crate::support::asserts::assert_row;
 use crate::support::words::call_is_right;
 use raft_base::LeaderId;
-use raft_base::leader_id_std::LeaderId as StdLeaderId;
+use raft_base::leader_id_std::CommittedLeaderId;
 use std::test::Fail;
 
 /// The call, the keys, its argument; the keys afterwards, or what was read.
@@ -417,15 +418,13 @@ by_last_leader 1.0,2.85 - 2.85
 #[test]
 fn calls_are_those_of_the_original(rt: HostRuntime) -> Result<(), Fail> {
     for line in CALLS.trim().lines() {
-        assert!(rt;
-            call_is_right::<LeaderId<u64>>(rt.alloc(), line)?,
-            "at {line}"
-        );
+        assert_row(&rt, line, call_is_right::<LeaderId<u64>>(rt.alloc(), line)?);
     }
     for line in STD_CALLS.trim().lines() {
-        assert!(rt;
-            call_is_right::<StdLeaderId<u64>>(rt.alloc(), line)?,
-            "at {line}, by terms"
+        assert_row(
+            &rt,
+            line,
+            call_is_right::<CommittedLeaderId>(rt.alloc(), line)?,
         );
     }
     Ok(())

@@ -1,237 +1,152 @@
 //! Short lives of one state, compared after each call with a plain list of its log ids and a scan
 //! of its memberships.
 
+use crate::support::asserts::assert_right;
 use crate::support::messages::{Entry, Snapshot};
-use crate::support::rows::{Row, id, log_id};
-use crate::support::states::{State, StateIn};
-use raft_base::{LeaderAdv, LeaderKind, LeaderStd, LogIdOf, LogStateReader, VoteOf};
+use crate::support::rows::{Row, id, row};
+use crate::support::states::{DefaultState, StandardState, State};
+use raft_base::{LeaderIdentity, LogIdOf, LogStateReader, VoteIn};
 use raft_members::{Membership, StoredMembershipOf};
 use raft_state::{EntryOf, EntryPayload, SnapshotMetaOf, is_key_list};
+use raft_testing::memory::on;
+use raft_testing::plain_log::Numbered;
+use raft_testing::words::{number, words};
 use std::alloc::{AllocError, Global};
 use std::collections::{BTreeMap, BTreeSet};
 use std::test::Fail;
 
-/// A call. Log ids are rows, and a membership has one voter, by whom it is known.
-enum Call<'a> {
-    /// Promises the vote of a leader, which is committed or not.
-    Promise(u64, bool),
-    /// Appends entries: for each its row, and the voter of its membership, or 0 if it is blank.
-    Append(&'a [(u64, u64, u64)]),
-    Truncate(u64),
-    Commit(u64, u64),
-    Accept(u64, u64),
-    /// Installs a snapshot up to a row, with a membership at a row and its voter.
-    Install((u64, u64), Row, u64),
-    /// Builds a snapshot up to a row, with a membership at a row and its voter.
-    Build((u64, u64), Row, u64),
-    Schedule(u64, u64),
-    Purge(u64, u64),
+/// The lives: a name, and the calls in turn. Each begins with a new state and the committed vote of
+/// leader 9.
+///
+/// A call has whether it may be made, its name, and words: log ids by leader and index, and for
+/// each membership its log id and its one voter behind a `:`, by whom it is known. An entry without
+/// a voter is blank.
+const LIVES: &str = "
+entries with several memberships are committed in turn
+ok append 1.0:7,1.1,1.2:8,1.3
+ok accept 1.3
+ok commit 1.1
+no commit 1.1
+ok commit 1.2
+ok append 2.4,2.5:9
+no truncate 2
+ok truncate 5
+ok append 3.5
+
+indexes that are missing are refused
+no append 1.2
+ok append 1.0:7,1.1
+no append 1.3
+no append 1.1
+no append 1.2,1.4
+no commit 2.1
+ok append 1.2
+
+entries of many leaders are truncated and purged
+ok append 1.0,1.1,2.2,2.3
+ok append 3.4,4.5,5.6,6.7,7.8,7.9,8.10
+ok append 9.11
+ok truncate 10
+ok truncate 9
+ok truncate 3
+ok append 4.3,5.4
+ok commit 5.4
+ok build 5.4 -
+ok schedule 4.3
+ok purge 2.2
+ok purge 4.3
+
+what was accepted goes back with a conflict
+ok append 3.0:7,3.1,3.2
+ok append 5.3,5.4:8,5.5
+ok accept 5.5
+ok accept 5.4
+no accept 5.6
+ok truncate 2
+ok append 6.2
+no commit 5.5
+ok accept 6.2
+ok commit 6.2
+
+what was accepted is of one leader
+ok append 1.0:7,1.1:8,1.2
+no truncate 0
+ok accept 1.2
+no promise 8 committed
+ok promise 10 uncommitted
+no accept 1.1
+no install 2.6 1.1:8
+ok promise 10 committed
+ok accept 1.1
+
+a snapshot that the log has leaves what is past it
+ok append 1.0:7,1.1,1.2:8,1.3,1.4:9,1.5
+ok install 1.3 1.2:8
+ok truncate 4
+ok append 2.4:6
+ok commit 2.4
+
+a snapshot with the effective membership commits it
+ok append 1.0:7,1.1,1.2:8,1.3
+ok install 1.2 1.2:8
+
+a snapshot before the effective membership commits its own
+ok append 1.0:7,1.1,1.2,1.3:8
+ok install 1.2 1.1:5
+
+a snapshot before a committed membership leaves both memberships
+ok append 1.0:7,1.1,1.2:8,1.3,1.4:9
+ok install 1.1 1.0:7
+ok commit 1.4
+
+a snapshot that the log does not have takes the place of all
+ok append 1.0:7,1.1:8,1.2
+ok accept 1.2
+no install 2.6 -:5
+no install 2.6 0.5:5
+no install 2.6 2.7:5
+no install 2.18446744073709551615 1.1:8
+ok install 2.6 1.1:8
+no install 2.6 1.1:8
+ok append 2.7
+
+a snapshot takes the place of a log that conflicts with it
+ok append 3.0:7,3.1,3.2,3.3:8
+ok accept 3.3
+no install 2.1 2.1:5
+ok install 4.1 3.0:7
+ok append 4.2
+
+what was accepted is not past a snapshot of a lesser leader
+ok append 5.0,5.1,5.2
+ok accept 5.2
+ok install 4.1 4.0:5
+
+a purge leaves what is past its own snapshot
+ok append 1.0:7,1.1,1.2,1.3
+no build 1.0 1.0:7
+ok commit 1.2
+no schedule 1.1
+no build 1.2 1.3:7
+ok build 1.2 1.0:7
+no build 1.2 1.0:7
+no schedule 1.3
+no schedule 2.1
+no schedule 0.1
+ok schedule 1.2
+no schedule 1.1
+ok purge 1.1
+no purge 1.0
+ok append 1.4:8
+";
+
+/// The log id of an entry or of a membership, and its voter, or 0 if there is none.
+fn member(word: &str) -> (Row, u64) {
+    match word.split_once(':') {
+        Some((at, voter)) => (row(at), number(voter)),
+        None => (row(word), 0),
+    }
 }
-
-/// A life: its name, and each call with whether it may be made.
-type Life<'a> = (&'a str, &'a [(Call<'a>, bool)]);
-
-/// The lives. Each begins with a new state and the committed vote of leader 9.
-const LIVES: &[Life] = &[
-    (
-        "entries with several memberships are committed in turn",
-        &[
-            (
-                Call::Append(&[(1, 0, 7), (1, 1, 0), (1, 2, 8), (1, 3, 0)]),
-                true,
-            ),
-            (Call::Accept(1, 3), true),
-            (Call::Commit(1, 1), true),
-            (Call::Commit(1, 1), false),
-            (Call::Commit(1, 2), true),
-            (Call::Append(&[(2, 4, 0), (2, 5, 9)]), true),
-            (Call::Truncate(2), false),
-            (Call::Truncate(5), true),
-            (Call::Append(&[(3, 5, 0)]), true),
-        ],
-    ),
-    (
-        "indexes that are missing are refused",
-        &[
-            (Call::Append(&[(1, 2, 0)]), false),
-            (Call::Append(&[(1, 0, 7), (1, 1, 0)]), true),
-            (Call::Append(&[(1, 3, 0)]), false),
-            (Call::Append(&[(1, 1, 0)]), false),
-            (Call::Append(&[(1, 2, 0), (1, 4, 0)]), false),
-            (Call::Commit(2, 1), false),
-            (Call::Append(&[(1, 2, 0)]), true),
-        ],
-    ),
-    (
-        "entries of many leaders are truncated and purged",
-        &[
-            (
-                Call::Append(&[(1, 0, 0), (1, 1, 0), (2, 2, 0), (2, 3, 0)]),
-                true,
-            ),
-            (
-                Call::Append(&[
-                    (3, 4, 0),
-                    (4, 5, 0),
-                    (5, 6, 0),
-                    (6, 7, 0),
-                    (7, 8, 0),
-                    (7, 9, 0),
-                    (8, 10, 0),
-                ]),
-                true,
-            ),
-            (Call::Append(&[(9, 11, 0)]), true),
-            (Call::Truncate(10), true),
-            (Call::Truncate(9), true),
-            (Call::Truncate(3), true),
-            (Call::Append(&[(4, 3, 0), (5, 4, 0)]), true),
-            (Call::Commit(5, 4), true),
-            (Call::Build((5, 4), None, 0), true),
-            (Call::Schedule(4, 3), true),
-            (Call::Purge(2, 2), true),
-            (Call::Purge(4, 3), true),
-        ],
-    ),
-    (
-        "what was accepted goes back with a conflict",
-        &[
-            (Call::Append(&[(3, 0, 7), (3, 1, 0), (3, 2, 0)]), true),
-            (Call::Append(&[(5, 3, 0), (5, 4, 8), (5, 5, 0)]), true),
-            (Call::Accept(5, 5), true),
-            (Call::Accept(5, 4), true),
-            (Call::Accept(5, 6), false),
-            (Call::Truncate(2), true),
-            (Call::Append(&[(6, 2, 0)]), true),
-            (Call::Commit(5, 5), false),
-            (Call::Accept(6, 2), true),
-            (Call::Commit(6, 2), true),
-        ],
-    ),
-    (
-        "what was accepted is of one leader",
-        &[
-            (Call::Append(&[(1, 0, 7), (1, 1, 8), (1, 2, 0)]), true),
-            (Call::Truncate(0), false),
-            (Call::Accept(1, 2), true),
-            (Call::Promise(8, true), false),
-            (Call::Promise(10, false), true),
-            (Call::Accept(1, 1), false),
-            (Call::Install((2, 6), Some((1, 1)), 8), false),
-            (Call::Promise(10, true), true),
-            (Call::Accept(1, 1), true),
-        ],
-    ),
-    (
-        "a snapshot that the log has leaves what is past it",
-        &[
-            (
-                Call::Append(&[
-                    (1, 0, 7),
-                    (1, 1, 0),
-                    (1, 2, 8),
-                    (1, 3, 0),
-                    (1, 4, 9),
-                    (1, 5, 0),
-                ]),
-                true,
-            ),
-            (Call::Install((1, 3), Some((1, 2)), 8), true),
-            (Call::Truncate(4), true),
-            (Call::Append(&[(2, 4, 6)]), true),
-            (Call::Commit(2, 4), true),
-        ],
-    ),
-    (
-        "a snapshot with the effective membership commits it",
-        &[
-            (
-                Call::Append(&[(1, 0, 7), (1, 1, 0), (1, 2, 8), (1, 3, 0)]),
-                true,
-            ),
-            (Call::Install((1, 2), Some((1, 2)), 8), true),
-        ],
-    ),
-    (
-        "a snapshot before the effective membership commits its own",
-        &[
-            (
-                Call::Append(&[(1, 0, 7), (1, 1, 0), (1, 2, 0), (1, 3, 8)]),
-                true,
-            ),
-            (Call::Install((1, 2), Some((1, 1)), 5), true),
-        ],
-    ),
-    (
-        "a snapshot before a committed membership leaves both memberships",
-        &[
-            (
-                Call::Append(&[(1, 0, 7), (1, 1, 0), (1, 2, 8), (1, 3, 0), (1, 4, 9)]),
-                true,
-            ),
-            (Call::Install((1, 1), Some((1, 0)), 7), true),
-            (Call::Commit(1, 4), true),
-        ],
-    ),
-    (
-        "a snapshot that the log does not have takes the place of all",
-        &[
-            (Call::Append(&[(1, 0, 7), (1, 1, 8), (1, 2, 0)]), true),
-            (Call::Accept(1, 2), true),
-            (Call::Install((2, 6), None, 5), false),
-            (Call::Install((2, 6), Some((0, 5)), 5), false),
-            (Call::Install((2, 6), Some((2, 7)), 5), false),
-            (Call::Install((2, u64::MAX), Some((1, 1)), 8), false),
-            (Call::Install((2, 6), Some((1, 1)), 8), true),
-            (Call::Install((2, 6), Some((1, 1)), 8), false),
-            (Call::Append(&[(2, 7, 0)]), true),
-        ],
-    ),
-    (
-        "a snapshot takes the place of a log that conflicts with it",
-        &[
-            (
-                Call::Append(&[(3, 0, 7), (3, 1, 0), (3, 2, 0), (3, 3, 8)]),
-                true,
-            ),
-            (Call::Accept(3, 3), true),
-            (Call::Install((2, 1), Some((2, 1)), 5), false),
-            (Call::Install((4, 1), Some((3, 0)), 7), true),
-            (Call::Append(&[(4, 2, 0)]), true),
-        ],
-    ),
-    (
-        "what was accepted is not past a snapshot of a lesser leader",
-        &[
-            (Call::Append(&[(5, 0, 0), (5, 1, 0), (5, 2, 0)]), true),
-            (Call::Accept(5, 2), true),
-            (Call::Install((4, 1), Some((4, 0)), 5), true),
-        ],
-    ),
-    (
-        "a purge leaves what is past its own snapshot",
-        &[
-            (
-                Call::Append(&[(1, 0, 7), (1, 1, 0), (1, 2, 0), (1, 3, 0)]),
-                true,
-            ),
-            (Call::Build((1, 0), Some((1, 0)), 7), false),
-            (Call::Commit(1, 2), true),
-            (Call::Schedule(1, 1), false),
-            (Call::Build((1, 2), Some((1, 3)), 7), false),
-            (Call::Build((1, 2), Some((1, 0)), 7), true),
-            (Call::Build((1, 2), Some((1, 0)), 7), false),
-            (Call::Schedule(1, 3), false),
-            (Call::Schedule(2, 1), false),
-            (Call::Schedule(0, 1), false),
-            (Call::Schedule(1, 2), true),
-            (Call::Schedule(1, 1), false),
-            (Call::Purge(1, 1), true),
-            (Call::Purge(1, 0), false),
-            (Call::Append(&[(1, 4, 8)]), true),
-        ],
-    ),
-];
 
 /// What a state has to hold.
 #[derive(Drop)]
@@ -262,12 +177,12 @@ impl Plain {
         })
     }
 
-    fn append(&mut self, entries: &[(u64, u64, u64)]) -> Result<(), AllocError> {
-        for (leader, index, voter) in entries {
-            let row = (*leader, *index);
-            self.log.push(row)?;
-            if *voter != 0 {
-                self.members.push((Some(row), *voter))?;
+    fn append(&mut self, entries: &str) -> Result<(), AllocError> {
+        for entry in entries.split(',') {
+            let (at, voter) = member(entry);
+            self.log.push(at.unwrap_or((0, 0)))?;
+            if voter != 0 {
+                self.members.push((at, voter))?;
                 self.pending = 1;
             }
         }
@@ -284,20 +199,21 @@ impl Plain {
         self.accepted = self.accepted.min(self.log.last().copied());
     }
 
-    fn commit(&mut self, row: (u64, u64)) {
-        self.committed = Some(row);
+    fn commit(&mut self, upto: Row) {
+        self.committed = upto;
         if self.member(0).0 <= self.committed {
             self.pending = 0;
         }
     }
 
-    fn purge(&mut self, upto: u64) {
-        self.log.retain(|row| row.1 >= upto);
+    fn purge(&mut self, upto: (u64, u64)) {
+        self.log.retain(|row| row.1 >= upto.1);
     }
 
-    fn install(&mut self, upto: (u64, u64), at: Row, voter: u64) -> Result<(), AllocError> {
+    /// Installs a snapshot up to a log id, with a membership at a log id and its voter.
+    fn install(&mut self, upto: (u64, u64), members: (Row, u64)) -> Result<(), AllocError> {
         if self.log.contains(&upto) {
-            self.purge(upto.1);
+            self.purge(upto);
             let next = upto.1.saturating_add(1);
             self.members.retain(|member| !starts_before(member.0, next));
         } else {
@@ -306,7 +222,7 @@ impl Plain {
             self.members.clear();
         }
         self.pending = self.pending.min(self.members.len());
-        self.members.insert(0, (at, voter))?;
+        self.members.insert(0, members)?;
         self.committed = Some(upto);
         self.snapshot = Some(upto);
         self.purge_upto = Some(upto);
@@ -330,37 +246,35 @@ impl Plain {
         self.members.get(place).copied().unwrap_or((None, 0))
     }
 
-    /// Makes a call.
-    fn make(&mut self, call: &Call) -> Result<(), AllocError> {
-        match call {
-            Call::Promise(leader, _) if *leader > 9 => self.accepted = None,
-            Call::Append(entries) => self.append(entries)?,
-            Call::Truncate(since) => self.truncate(*since),
-            Call::Commit(leader, index) => self.commit((*leader, *index)),
-            Call::Accept(leader, index) => self.accepted = self
-                .accepted
-                .max(Some((*leader, *index))),
-            Call::Install(upto, at, voter) => self.install(*upto, *at, *voter)?,
-            Call::Build(upto, _, _) => self.snapshot = Some(*upto),
-            Call::Schedule(leader, index) => self.purge_upto = Some((*leader, *index)),
-            Call::Purge(_, index) => self.purge(*index),
-            Call::Promise(_, _) => {}
+    /// Makes a call of a name with its words.
+    fn make(&mut self, name: &str, first: &str, second: &str) -> Result<(), AllocError> {
+        let upto = row(first);
+        match name {
+            "promise" if number(first) > 9 => self.accepted = None,
+            "append" => self.append(first)?,
+            "truncate" => self.truncate(number(first)),
+            "commit" => self.commit(upto),
+            "accept" => self.accepted = self.accepted.max(upto),
+            "install" => self.install(upto.unwrap_or((0, 0)), member(second))?,
+            "build" => self.snapshot = upto,
+            "schedule" => self.purge_upto = upto,
+            "purge" => self.purge(upto.unwrap_or((0, 0))),
+            _ => {}
         }
         Ok(())
     }
 
     /// Whether a state has this log, these memberships and these log ids, and is sound.
-    fn is_of<K: LeaderKind<u64>>(&self, state: &State<K>) -> bool {
+    fn is_of<L: Drop, C: Numbered + Drop>(&self, state: &State<L, C>) -> bool {
         let memberships = &state.membership_state;
         let (last, known) = (self.member(0), self.member(self.pending));
         let are_right = [
-            self.has_log_of::<K>(state),
-            state.committed == id::<K>(self.committed),
-            state.accepted().copied() == id::<K>(self.accepted),
-            state.snapshot_meta.last_log_id == id::<K>(self.snapshot),
-            state.purge_upto == id::<K>(self.purge_upto),
-            *memberships.effective().log_id() == id::<K>(last.0),
-            *memberships.committed().log_id() == id::<K>(known.0),
+            self.has_log_of(state),
+            state.committed == id(self.committed),
+            state.snapshot_meta.last_log_id == id(self.snapshot),
+            state.purge_upto == id(self.purge_upto),
+            *memberships.effective().log_id() == id(last.0),
+            *memberships.committed().log_id() == id(known.0),
             memberships.effective().is_voter(&last.1) == (last.1 != 0),
             memberships.committed().is_voter(&known.1) == (known.1 != 0),
             is_key_list(state.log_ids.key_log_ids()),
@@ -370,13 +284,13 @@ impl Plain {
     }
 
     /// Whether a state reads this log at each index.
-    fn has_log_of<K: LeaderKind<u64>>(&self, state: &State<K>) -> bool {
+    fn has_log_of<L: Drop, C: Numbered + Drop>(&self, state: &State<L, C>) -> bool {
         for index in 0..13 {
-            if state.get_log_id(index) != id::<K>(self.at(index)) {
+            if state.get_log_id(index) != id(self.at(index)) {
                 return false;
             }
         }
-        state.last_log_id().copied() == id::<K>(self.log.last().copied())
+        state.last_log_id().copied() == id(self.log.last().copied())
     }
 }
 
@@ -402,38 +316,37 @@ fn payload(alloc: Global, voter: u64) -> Result<EntryPayload<u64, u64, u64>, All
     Ok(EntryPayload::Membership(of_voter(alloc, voter)?))
 }
 
-/// Entries by their rows.
-fn entries<K: LeaderKind<u64>>(
-    alloc: Global,
-    rows: &[(u64, u64, u64)],
-) -> Result<Vec<Entry<K>>, AllocError> {
+/// The entries of a word.
+fn entries<C: Numbered + Drop>(alloc: Global, word: &str) -> Result<Vec<Entry<C>>, AllocError> {
     let mut entries = Vec::new(alloc);
-    for (leader, index, voter) in rows {
-        let payload = payload(alloc, *voter)?;
-        let log_id = log_id::<K>(*leader, *index);
-        entries.push(EntryOf { log_id, payload })?;
+    for entry in word.split(',') {
+        let (at, voter) = member(entry);
+        let payload = payload(alloc, voter)?;
+        if let Some(log_id) = id(at) {
+            entries.push(EntryOf { log_id, payload })?;
+        }
     }
     Ok(entries)
 }
 
-/// A snapshot up to a row, with a membership at a row and its voter.
-fn snapshot<K: LeaderKind<u64>>(
+/// The snapshot up to a log id, with a membership by its word.
+fn snapshot<C: Numbered + Drop>(
     alloc: Global,
-    upto: (u64, u64),
-    at: Row,
-    voter: u64,
-) -> Result<Snapshot<K>, AllocError> {
+    upto: Row,
+    member_word: &str,
+) -> Result<Snapshot<C>, AllocError> {
+    let (at, voter) = member(member_word);
     let members = of_voter(alloc, voter)?;
     Ok(SnapshotMetaOf {
-        last_log_id: id::<K>(Some(upto)),
-        last_membership: StoredMembershipOf::new(id::<K>(at), members),
+        last_log_id: id(upto),
+        last_membership: StoredMembershipOf::new(id(at), members),
         snapshot_id: String::new(alloc),
     })
 }
 
 /// Appends entries, if that may be.
 fn append<L: Drop, C: Ord + Copy + Drop>(
-    state: &mut StateIn<L, C>,
+    state: &mut State<L, C>,
     entries: &[EntryOf<C, u64, u64, u64>],
 ) -> Result<bool, AllocError> {
     if !state.can_append_entries(entries) {
@@ -444,10 +357,10 @@ fn append<L: Drop, C: Ord + Copy + Drop>(
 }
 
 /// Installs a snapshot, if that may be.
-fn install<K: LeaderKind<u64>>(
-    state: &mut State<K>,
-    snapshot: Snapshot<K>,
-) -> Result<bool, AllocError> {
+fn install<
+    L: LeaderIdentity<Id = u64, Committed = C> + Drop,
+    C: Ord + Copy + Default + Drop + 'static,
+>(state: &mut State<L, C>, snapshot: Snapshot<C>) -> Result<bool, AllocError> {
     if !state.can_install_snapshot(&snapshot) {
         return Ok(false);
     }
@@ -457,7 +370,7 @@ fn install<K: LeaderKind<u64>>(
 
 /// Records a snapshot that was built, if that may be.
 fn build<L: Drop, C: Ord + Copy + Drop>(
-    state: &mut StateIn<L, C>,
+    state: &mut State<L, C>,
     snapshot: SnapshotMetaOf<C, u64, u64>,
 ) -> bool {
     let may = state.can_build_snapshot(&snapshot);
@@ -469,7 +382,7 @@ fn build<L: Drop, C: Ord + Copy + Drop>(
 
 /// Truncates the log, if that may be, and answers whether that is told of the effective membership.
 fn truncate<L: Drop, C: Ord + Copy + Drop>(
-    state: &mut StateIn<L, C>,
+    state: &mut State<L, C>,
     since: u64,
 ) -> Result<bool, AllocError> {
     if !state.can_truncate_log(since) {
@@ -482,10 +395,10 @@ fn truncate<L: Drop, C: Ord + Copy + Drop>(
 
 /// Commits a log id that the log has, if that may be, and answers whether that is more than before.
 fn commit<L: Drop, C: Ord + Copy + Drop>(
-    state: &mut StateIn<L, C>,
-    upto: LogIdOf<C>,
+    state: &mut State<L, C>,
+    upto: Option<LogIdOf<C>>,
 ) -> Result<bool, AllocError> {
-    let (committed, upto) = (state.committed, Some(upto));
+    let committed = state.committed;
     if !state.is_logged(&upto) || !state.can_commit(&upto) {
         return Ok(false);
     }
@@ -493,105 +406,133 @@ fn commit<L: Drop, C: Ord + Copy + Drop>(
 }
 
 /// Accepts a log id of the leader, if that may be.
-fn accept<K: LeaderKind<u64>>(state: &mut State<K>, log_id: LogIdOf<K::Committed>) -> bool {
-    let may = state.can_accept() && state.is_logged(&Some(log_id));
+fn accept<
+    L: LeaderIdentity<Id = u64, Committed = C> + Drop,
+    C: Ord + Copy + Default + Drop + 'static,
+>(state: &mut State<L, C>, log_id: Option<LogIdOf<C>>) -> bool {
+    let may = state.can_accept() && state.is_logged(&log_id);
     if may {
-        state.update_accepted(Some(log_id));
+        state.update_accepted(log_id);
     }
     may
 }
 
 /// Schedules a purge, if that may be.
-fn schedule<L: Drop, C: Ord + Copy + Drop>(state: &mut StateIn<L, C>, upto: LogIdOf<C>) -> bool {
-    let may = state.can_schedule_purge(&upto);
+fn schedule<L: Drop, C: Ord + Copy + Drop>(state: &mut State<L, C>, upto: &LogIdOf<C>) -> bool {
+    let may = state.can_schedule_purge(upto);
     if may {
-        state.schedule_purge(&upto);
+        state.schedule_purge(upto);
     }
     may
 }
 
 /// Purges, if that may be.
 fn purge<L: Drop, C: Ord + Copy + Drop>(
-    state: &mut StateIn<L, C>,
-    upto: LogIdOf<C>,
+    state: &mut State<L, C>,
+    upto: &LogIdOf<C>,
 ) -> Result<bool, AllocError> {
-    if !state.can_purge_log(&upto) {
+    if !state.can_purge_log(upto) {
         return Ok(false);
     }
-    state.purge_log(&upto)?;
+    state.purge_log(upto)?;
     Ok(true)
 }
 
 /// Promises the vote of a leader, which is committed or not.
-fn promise<K: LeaderKind<u64>>(state: &mut State<K>, leader: u64, is_committed: bool) -> bool {
-    let vote = if is_committed {
-        VoteOf::<u64, K>::new_committed(leader, 1)
-    } else {
-        VoteOf::<u64, K>::new(leader, 1)
-    };
+fn promise<
+    L: LeaderIdentity<Id = u64, Committed = C> + Drop,
+    C: Ord + Copy + Default + Drop + 'static,
+>(state: &mut State<L, C>, leader: u64, is_committed: bool) -> bool {
+    let mut vote = VoteIn::new(leader, 1);
+    vote.committed = is_committed;
     state.promise(vote)
 }
 
+/// Makes a call of a state's log, if that may be.
+fn make<L: Drop, C: Numbered + Drop>(
+    alloc: Global,
+    state: &mut State<L, C>,
+    [name, first, second]: [&str; 3],
+) -> Result<bool, AllocError> {
+    let upto = row(first);
+    match (name, id(upto)) {
+        ("append", _) => append(state, &entries(alloc, first)?),
+        ("truncate", _) => truncate(state, number(first)),
+        ("commit", upto) => commit(state, upto),
+        ("build", _) => Ok(build(state, snapshot(alloc, upto, second)?)),
+        ("schedule", Some(upto)) => Ok(schedule(state, &upto)),
+        ("purge", Some(upto)) => purge(state, &upto),
+        _ => Ok(false),
+    }
+}
+
 /// Makes a call of a state, if that may be.
-fn make<K: LeaderKind<u64>>(
+fn make_any<
+    L: LeaderIdentity<Id = u64, Committed = C> + Drop,
+    C: Numbered + Default + Drop + 'static,
+>(
     alloc: Global,
-    state: &mut State<K>,
-    call: &Call,
+    state: &mut State<L, C>,
+    [name, first, second]: [&str; 3],
 ) -> Result<bool, AllocError> {
-    match call {
-        Call::Promise(leader, is_committed) => { Ok(promise::<K>(state, *leader, *is_committed)) }
-        Call::Append(rows) => append(state, &entries::<K>(alloc, rows)?),
-        Call::Truncate(since) => truncate(state, *since),
-        Call::Commit(leader, index) => commit(state, log_id::<K>(*leader, *index)),
-        Call::Accept(leader, index) => Ok(accept::<K>(state, log_id::<K>(*leader, *index))),
-        Call::Install(upto, at, voter) => {
-            install::<K>(state, snapshot::<K>(alloc, *upto, *at, *voter)?)
-        }
-        Call::Build(upto, at, voter) => {
-            Ok(build(state, snapshot::<K>(alloc, *upto, *at, *voter)?))
-        }
-        Call::Schedule(leader, index) => Ok(schedule(state, log_id::<K>(*leader, *index))),
-        Call::Purge(leader, index) => purge(state, log_id::<K>(*leader, *index)),
+    match name {
+        "promise" => Ok(promise(state, number(first), second == "committed")),
+        "accept" => Ok(accept(state, id(row(first)))),
+        "install" => install(state, snapshot(alloc, row(first), second)?),
+        _ => make(alloc, state, [name, first, second]),
     }
 }
 
-/// Whether each call may be made as wanted, and a state is then what it has to be.
-fn live<K: LeaderKind<u64>>(
+/// Whether a call may be made as wanted, and a state is then what it has to be.
+fn is_right<
+    L: LeaderIdentity<Id = u64, Committed = C> + Drop,
+    C: Numbered + Default + Drop + 'static,
+>(
     alloc: Global,
-    state: &mut State<K>,
+    state: &mut State<L, C>,
     plain: &mut Plain,
-    calls: &[(Call, bool)],
+    call: &str,
 ) -> Result<bool, AllocError> {
-    for (call, may) in calls {
-        if make::<K>(alloc, state, call)? != *may {
-            return Ok(false);
-        }
-        if *may {
-            plain.make(call)?;
-        }
-        if !plain.is_of::<K>(state) {
-            return Ok(false);
-        }
+    let [may, name, first, second, ..] = words(call);
+    let is_made = make_any(alloc, state, [name, first, second])?;
+    if is_made {
+        plain.make(name, first, second)?;
     }
-    Ok(true)
+    let is_accepted = state.accepted().copied() == id(plain.accepted);
+    Ok(is_made == (may == "ok") && is_accepted && plain.is_of(state))
 }
 
-/// Whether a new state lives so.
-fn is_lived<K: LeaderKind<u64>>(alloc: Global, calls: &[(Call, bool)]) -> Result<bool, AllocError> {
+/// Makes the calls of a life, and answers the first one that is wrong.
+fn wrong_call<
+    'a,
+    L: LeaderIdentity<Id = u64, Committed = C> + Drop,
+    C: Numbered + Default + Drop + 'static,
+>(alloc: Global, state: &mut State<L, C>, calls: &'a str) -> Result<Option<&'a str>, AllocError> {
     let mut plain = Plain::new(alloc)?;
-    let mut state = State::<K>::try_default(alloc)?;
-    let _is_promised = promise::<K>(&mut state, 9, true);
-    live::<K>(alloc, &mut state, &mut plain, calls)
+    let _is_promised = promise(state, 9, true);
+    for call in calls.lines() {
+        if !is_right(alloc, state, &mut plain, call)? {
+            return Ok(Some(call));
+        }
+    }
+    Ok(None)
 }
 
 #[test]
 fn states_live_as_plain_lists_do(rt: HostRuntime) -> Result<(), Fail> {
-    for (name, calls) in LIVES {
-        assert!(rt; is_lived::<LeaderAdv>(rt.alloc(), calls)?, "{name}");
-        assert!(rt;
-            is_lived::<LeaderStd>(rt.alloc(), calls)?,
-            "{name}, by terms"
+    let alloc = rt.alloc();
+    for life in LIVES.trim().split("\n\n") {
+        let (name, calls) = life.split_once('\n').unwrap_or((life, ""));
+        let wrong = on(
+            DefaultState::try_default(alloc),
+            |state| wrong_call(alloc, state, calls),
         );
+        assert_right(&rt, name, wrong?);
+        let wrong = on(
+            StandardState::try_default(alloc),
+            |state| wrong_call(alloc, state, calls),
+        );
+        assert_right(&rt, name, wrong?);
     }
     Ok(())
 }

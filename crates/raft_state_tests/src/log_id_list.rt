@@ -4,12 +4,14 @@ ghost use Rattle.raft_state.specs.log_id_list.LogEdits.{front, log_after_append}
 ghost use Rattle.std.specs.Prelude.{◌≡◌, IfOk, IsTrue, OnErr, false};
 
 use crate::laws::{is_up_to_date, logs_are_same, take_both};
-use crate::support::words::{call_is_right, log_ids};
-use raft_base::leader_id_std::LeaderId as StdLeaderId;
+use crate::support::asserts::assert_row;
+use crate::support::words::call_is_right;
+use raft_base::leader_id_std::CommittedLeaderId;
 use raft_base::{LeaderId, LogIdOf};
 use raft_state::log_id_list::laws::{have_equal_keys, truncate_twice};
 use raft_state::{LogIdList, LogIdListOf, is_key_list};
 use raft_testing::printing::debugs;
+use raft_testing::words::log_ids;
 use std::alloc::{AllocError, Global};
 use std::test::Fail;
 
@@ -92,13 +94,11 @@ is_key_list 1.1,3.2,2.3 - false
 #[test]
 fn calls_are_right(rt: HostRuntime) -> Result<(), Fail> {
     for line in ROWS.trim().lines() {
-        assert!(rt;
-            call_is_right::<LeaderId<u64>>(rt.alloc(), line)?,
-            "at {line}"
-        );
-        assert!(rt;
-            call_is_right::<StdLeaderId<u64>>(rt.alloc(), line)?,
-            "at {line}, by terms"
+        assert_row(&rt, line, call_is_right::<LeaderId<u64>>(rt.alloc(), line)?);
+        assert_row(
+            &rt,
+            line,
+            call_is_right::<CommittedLeaderId>(rt.alloc(), line)?,
         );
     }
     Ok(())
@@ -175,6 +175,6 @@ fn lists_are_their_logs(rt: HostRuntime) -> Result<(), Fail> {
     let text = "LogIdList { key_log_ids: [LogId { leader_id: LeaderId { term: 1, node_id: 2 }, \
         index: 3 }] }";
     assert!(rt; lists_compare(alloc, &list_of(alloc, "1.1,2.3,2.9")?.clone()?)?);
-    assert!(rt; debugs(alloc, &list_of(alloc, "1.2.3")?, text)?);
+    assert!(rt; debugs(alloc, &list_of(alloc, "1.2.3")?, text));
     Ok(())
 }

@@ -7,10 +7,12 @@ ghost use Rattle.std.specs.Ordering.{nat_cmp};
 ghost use Rattle.std.specs.Prelude.{◌/◌, Some, refl};
 
 use crate::catch_up::is_as_worked;
-use crate::support::states::{State, hundred};
+use crate::support::states::hundred;
 use raft_base::{LeaderIdentity, LeaderKind};
 use raft_progress::ProgressEntryOf;
 use raft_progress::search::{SearchEvent, search_run};
+use raft_state::RaftStateOf;
+use raft_testing::plain_log::Numbered;
 use std::cmp::Ordering;
 use std::fmt;
 use std::test::Fail;
@@ -32,6 +34,12 @@ impl fmt::Display for RegionLeader {
     fn fmt<W: fmt::Write>(&self, f: &mut fmt::Formatter<W>) -> fmt::Result {
         let RegionLeader { term, region, node } = self;
         write!(f, "T{term}-R{region}-N{node}")
+    }
+}
+
+impl Numbered for RegionLeader {
+    fn of_node(term: u64, node: u64) -> Self {
+        Self::new_leader(term, node)
     }
 }
 
@@ -115,7 +123,7 @@ impl LeaderKind<u64> for Regions {
 
 /// Whether a search over a log from 0 to 99 accepts two conflicts of two, and then sends from the
 /// first.
-fn searches(state: &State<Regions>) -> bool {
+fn searches(state: &RaftStateOf<u64, u64, u64, Regions>) -> bool {
     let mut entry = ProgressEntryOf::empty(100);
     let send = || SearchEvent::Send {
         log: state,
@@ -131,7 +139,7 @@ fn searches(state: &State<Regions>) -> bool {
 
 #[test]
 fn leaders_of_ones_own_will_do(rt: HostRuntime) -> Result<(), Fail> {
-    assert!(rt; searches(&hundred::<Regions>(rt.alloc())?));
-    assert!(rt; is_as_worked::<Regions>(&rt, rt.alloc())?);
+    assert!(rt; searches(&hundred(rt.alloc())?));
+    assert!(rt; is_as_worked::<RegionLeader, _>(&rt, rt.alloc())?);
     Ok(())
 }

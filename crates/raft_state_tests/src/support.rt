@@ -1,5 +1,7 @@
-//! What tests share: examples as rows of words, states, what a follower is sent, and followers.
+//! What tests share: assertions, examples as rows of words, states, what a follower is sent, and
+//! followers.
 
+pub mod asserts;
 pub mod followers;
 pub mod messages;
 pub mod rows;

@@ -19,16 +19,16 @@ fn entry_prints(
     payload: EntryPayload<u64, u64, u64>,
     texts: (&str, &str),
 ) -> Result<bool, AllocError> {
-    let has_summary = sums_up(alloc, &payload, texts.0)? && debugs(alloc, &payload, texts.1)?;
+    let has_summary = sums_up(alloc, &payload, texts.0) && debugs(alloc, &payload, texts.1);
     let log_id = LogId::new(CommittedLeaderId::new(1, 2u64), 3);
     let entry: Entry<u64, u64, u64> = Entry { log_id, payload };
     let text = format!(in alloc; "T1-N2-3:{}", texts.0)?;
     let debug = format!(in alloc; "Entry {{ log_id: {log_id:?}, payload: {} }}", texts.1)?;
     let are_right = [
         has_summary,
-        displays(alloc, &entry, text.as_str())?,
-        sums_up(alloc, &entry, text.as_str())?,
-        debugs(alloc, &entry, debug.as_str())?,
+        displays(alloc, &entry, text.as_str()),
+        sums_up(alloc, &entry, text.as_str()),
+        debugs(alloc, &entry, debug.as_str()),
     ];
     Ok(!are_right.contains(&false))
 }
@@ -61,21 +61,19 @@ const IN_EFFECT: &str = "MembershipState{\
 /// Whether the memberships of a node sum up each with its log id, where there is one.
 fn memberships_sum_up(alloc: Global) -> Result<bool, AllocError> {
     Ok(
-        sums_up(alloc, &new_memberships(alloc)?, NEW)?
-            && sums_up(alloc, &memberships(alloc)?, IN_EFFECT)?,
+        sums_up(alloc, &new_memberships(alloc)?, NEW)
+            && sums_up(alloc, &memberships(alloc)?, IN_EFFECT),
     )
 }
 
 /// Whether a written log prints its leader and its last log id, where there is one.
-fn written_log_prints(alloc: Global) -> Result<bool, AllocError> {
+fn written_log_prints(alloc: Global) -> bool {
     let leader = CommittedLeaderId::new(1, 2u64);
     let written = LogIOId::new(leader, Some(LogId::new(leader, 3)));
     let standard = LogIOIdOf::new(leader_id_std::CommittedLeaderId { term: 1 }, None);
-    Ok(
-        displays(alloc, &written, "by_leader(T1-N2):T1-N2-3")?
-            && displays(alloc, &LogIOId::new(leader, None), "by_leader(T1-N2):None")?
-            && displays(alloc, &standard, "by_leader(1):None")?,
-    )
+    displays(alloc, &written, "by_leader(T1-N2):T1-N2-3")
+        && displays(alloc, &LogIOId::new(leader, None), "by_leader(T1-N2):None")
+        && displays(alloc, &standard, "by_leader(1):None")
 }
 
 /// Example state 8. The texts of entries, of the memberships of a node, of a written log, and
@@ -89,7 +87,7 @@ fn texts(rt: HostRuntime) -> Result<(), Fail> {
     let text = "membership: {voters:[{1:4,2:5}], learners:[3:6]}";
     let debug = "membership:Membership { configs: [{1, 2}], nodes: {1: 4, 2: 5, 3: 6} }";
     assert!(rt; entry_prints(alloc, membership, (text, debug))?);
-    assert!(rt; memberships_sum_up(alloc)? && written_log_prints(alloc)?);
+    assert!(rt; memberships_sum_up(alloc)? && written_log_prints(alloc));
     Ok(())
 }
 
@@ -117,7 +115,7 @@ const NEW_STATE: &str =
 /// Whether the state of a new node prints so, and is valid.
 fn print(alloc: Global) -> Result<bool, AllocError> {
     let state = RaftState::<u64, u64, u64>::try_default(alloc)?;
-    Ok(debugs(alloc, &state, NEW_STATE)? && is_new(alloc, &state)?)
+    Ok(debugs(alloc, &state, NEW_STATE) && is_new(alloc, &state)?)
 }
 
 /// Whether a state is valid, and its snapshot is none.
@@ -131,8 +129,8 @@ fn forwards(alloc: Global) -> Result<bool, AllocError> {
     let to: ForwardToLeader<u64, u64> = ForwardToLeader::new(3, 6);
     let to_none: ForwardToLeader<u64, u64> = ForwardToLeader::empty();
     let are_right = [
-        displays(alloc, &to, "has to forward request to: Some(3), Some(6)")?,
-        displays(alloc, &to_none, "has to forward request to: None, None")?,
+        displays(alloc, &to, "has to forward request to: Some(3), Some(6)"),
+        displays(alloc, &to_none, "has to forward request to: None, None"),
         to.try_clone()? == to,
         to_none.try_clone()? == to_none,
         to.try_clone()? != to_none,

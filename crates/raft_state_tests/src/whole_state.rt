@@ -12,20 +12,25 @@ ghost use Rattle.std.specs.List.{list_all};
 ghost use Rattle.std.specs.Prelude.{◌≡◌, IfOk, IfSome, IsTrue, None, OnErr, false, slice_get};
 
 use crate::laws::{purge_to, send};
+use crate::support::asserts::assert_row;
 use crate::support::followers::{Followers, caught_up, followers};
-use crate::support::rows::{Row, id, ids as ids_of, log_id};
-use crate::support::states::{Ids, State, StateIn, state, unlogged, valid_state};
+use crate::support::rows::{Row, id, log_id, row};
+use crate::support::states::{
+    DefaultState, StandardLeader, StandardState, State, UNLOGGED, VALID, state,
+};
 use raft_base::order::log_id_at_most;
 use raft_base::{
-    Instant, Invalid, LeaderAdv, LeaderKind, LeaderStd, LogIdOf, LogIdOptionExt, LogIdRangeOf,
-    LogStateReader, Node, NodeId, RaftLogId, ServerState, UTime, Validate, VoteIn, VoteOf,
-    leader_id_std,
+    Instant, LeaderId, LeaderIdentity, LogIdOf, LogIdOptionExt, LogIdRangeOf, LogStateReader, Node,
+    NodeId, RaftLogId, ServerState, UTime, Validate, VoteIn, leader_id_std,
 };
 use raft_members::quorum::QuorumSet;
 use raft_progress::{InflightOf, Progress, ProgressEntryOf};
-use raft_state::{AcceptedOf, FollowersOf, RaftStateIn};
+use raft_state::{Accepted, FollowersOf, RaftStateIn};
 use raft_testing::allocations::{is_free, is_free_on, refuse_each};
-use raft_testing::memory::{both, holds};
+use raft_testing::memory::{both, holds, on};
+use raft_testing::plain_log::Numbered;
+use raft_testing::printing::debugs;
+use raft_testing::words::{log_ids, number, words};
 use std::alloc::{AllocError, Global};
 use std::io;
 use std::process::Abort;
@@ -81,168 +86,113 @@ fn lacking<'a, NID: NodeId, N: Node, I: Instant, L: Drop, C: Ord + Copy + Drop, 
     &entries[place..]
 }
 
-/// The log ids of a state whose log is (1,1) to (1,3) and (3,4), and what its validation says: each
+/// Rows of states, whose log is (1,1) to (1,3) and (3,4), and what their validation says: each
 /// relation where it alone is broken, and the first one where two are.
-const RELATIONS: [(Ids, Result<(), Invalid>); 12] = [
-    ((2, FIRST, FIRST, None, None, None), Ok(())),
-    ((2, Some((3, 0)), LAST, None, None, None), Ok(())),
-    ((2, FIRST, LAST, LAST, FIRST, LAST), Ok(())),
-    (
-        (3, FIRST, FIRST, None, None, None),
-        Err(Invalid::PurgedNext),
-    ),
-    (
-        (2, None, FIRST, None, None, None),
-        Err(Invalid::LastPurgedPastUpto),
-    ),
-    (
-        (2, LAST, FIRST, None, None, None),
-        Err(Invalid::UptoPastCommitted),
-    ),
-    (
-        (2, LAST, LAST, FIRST, None, None),
-        Err(Invalid::UptoPastSnapshot),
-    ),
-    (
-        (2, FIRST, FIRST, LAST, None, None),
-        Err(Invalid::SnapshotPastCommitted),
-    ),
-    (
-        (2, FIRST, Some((3, 5)), None, None, None),
-        Err(Invalid::CommittedPastLast),
-    ),
-    (
-        (2, FIRST, FIRST, None, LAST, Some((1, 4))),
-        Err(Invalid::MembershipLogId),
-    ),
-    (
-        (2, FIRST, FIRST, None, Some((1, 5)), LAST),
-        Err(Invalid::MembershipIndex),
-    ),
-    ((3, None, FIRST, None, None, None), Err(Invalid::PurgedNext)),
-];
+const RELATIONS: &str = "
+2 1.1 1.1 - - - ok
+2 3.0 3.4 - - - ok
+2 1.1 3.4 3.4 1.1 3.4 ok
+3 1.1 1.1 - - - PurgedNext
+2 - 1.1 - - - LastPurgedPastUpto
+2 3.4 1.1 - - - UptoPastCommitted
+2 3.4 3.4 1.1 - - UptoPastSnapshot
+2 1.1 1.1 3.4 - - SnapshotPastCommitted
+2 1.1 3.5 - - - CommittedPastLast
+2 1.1 1.1 - 3.4 1.4 MembershipLogId
+2 1.1 1.1 - 1.5 3.4 MembershipIndex
+3 - 1.1 - - - PurgedNext
+";
 
 /// The first log id of that log, and its last one.
 const FIRST: Row = Some((1, 1));
 
 const LAST: Row = Some((3, 4));
 
-/// Whether a state with these log ids is found valid or not as wanted.
-fn validates<K: LeaderKind<u64>>(
+/// Whether a state is found valid, or its first broken relation has the name.
+fn is_found<L: Drop, C: Numbered + Drop>(
     alloc: Global,
-    ids: Ids,
-    want: Result<(), Invalid>,
+    state: Result<State<L, C>, AllocError>,
+    name: &str,
 ) -> Result<bool, AllocError> {
-    Ok(state::<K>(alloc, ids)?.validate() == want)
+    match state?.validate() {
+        Ok(()) => Ok(name == "ok"),
+        Err(broken) => Ok(debugs(alloc, &broken, name)),
+    }
 }
 
-/// The log ids of a valid state, what it has accepted, and whether it is sound, its log has the
-/// purge point, and its log has what is committed. A state is sound exactly if its log has what the
-/// state says of it, so each row breaks one relation.
-const SOUND: [(Ids, Row, [bool; 3]); 12] = [
-    (
-        (2, FIRST, FIRST, None, None, None),
-        None,
-        [true, true, true],
-    ),
-    ((2, FIRST, LAST, None, LAST, LAST), LAST, [true, true, true]),
-    (
-        (2, Some((3, 0)), LAST, None, None, None),
-        None,
-        [false, false, true],
-    ),
-    (
-        (2, Some((3, 0)), Some((3, 0)), None, None, None),
-        None,
-        [false, false, false],
-    ),
-    (
-        (2, Some((2, 3)), LAST, None, None, None),
-        None,
-        [false, false, true],
-    ),
-    (
-        (2, FIRST, Some((2, 3)), None, None, None),
-        None,
-        [false, true, false],
-    ),
-    (
-        (2, FIRST, FIRST, None, None, None),
-        Some((3, 5)),
-        [false, true, true],
-    ),
-    (
-        (2, FIRST, FIRST, None, None, Some((2, 3))),
-        None,
-        [false, true, true],
-    ),
-    (
-        (2, FIRST, FIRST, None, Some((2, 3)), LAST),
-        None,
-        [false, true, true],
-    ),
-    (
-        (2, FIRST, LAST, None, FIRST, LAST),
-        None,
-        [false, true, true],
-    ),
-    (
-        (2, FIRST, Some((3, 0)), None, None, None),
-        None,
-        [false, true, false],
-    ),
-    (
-        (2, FIRST, Some((2, 5)), None, None, None),
-        None,
-        [false, true, false],
-    ),
-];
+/// Rows of valid states with what they have accepted, and what is wrong of them: nothing if a state
+/// is sound; what its log does not have, if that is the purge point, what is committed or both; or
+/// else something else. A state is sound exactly if its log has what the state says of it, so each
+/// row breaks one relation.
+const SOUND: &str = "
+2 1.1 1.1 - - - - nothing
+2 1.1 3.4 - 3.4 3.4 3.4 nothing
+2 3.0 3.4 - - - - purge-point
+2 3.0 3.0 - - - - both
+2 2.3 3.4 - - - - purge-point
+2 1.1 2.3 - - - - committed
+2 1.1 1.1 - - - 3.5 else
+2 1.1 1.1 - - 2.3 - else
+2 1.1 1.1 - 2.3 3.4 - else
+2 1.1 3.4 - 1.1 3.4 - else
+2 1.1 3.0 - - - - committed
+2 1.1 2.5 - - - - committed
+";
 
-/// Whether a valid state is sound, and its log has what it should, as wanted, and may not be
-/// truncated at the committed index.
-fn is_sound_as<K: LeaderKind<u64>>(
-    alloc: Global,
-    ids: Ids,
-    accepted: Row,
-    want: [bool; 3],
-) -> Result<bool, AllocError> {
-    let mut state = state::<K>(alloc, ids)?;
-    state.accepted = AcceptedOf::<u64, K>::new(K::new_leader(2, 1), id::<K>(accepted));
-    let are = [
+/// What is wrong of a state that is sound, whose log has the purge point, and whose log has what is
+/// committed, or not.
+fn wrong_of(is_sound: bool, has_purge_point: bool, has_committed: bool) -> &'static str {
+    match (is_sound, has_purge_point, has_committed) {
+        (true, true, true) => "nothing",
+        (false, true, true) => "else",
+        (false, false, true) => "purge-point",
+        (false, true, false) => "committed",
+        (false, false, false) => "both",
+        (true, _, _) => "sound without what is logged",
+    }
+}
+
+/// Whether the state of a row is valid, has what is wrong of it, and may not be truncated at the
+/// committed index.
+fn is_sound_as(alloc: Global, of: &str) -> Result<bool, AllocError> {
+    let [_, _, _, _, _, _, accepted, wrong, _] = words(of);
+    let mut state: DefaultState = state(alloc, of)?;
+    state.accepted = Accepted::new(LeaderId::new(2, 1), id(row(accepted)));
+    let is_wrong = wrong_of(
         state.is_sound(),
         state.purge_upto_is_logged(),
         state.committed_is_logged(),
-    ];
+    );
     let committed = state.committed.index().unwrap_or(0);
-    Ok(are == want && state.validate() == Ok(()) && !state.can_truncate_log(committed))
+    Ok(is_wrong == wrong && state.validate() == Ok(()) && !state.can_truncate_log(committed))
 }
 
 /// Whether a log id is that of the row.
-fn is<K: LeaderKind<u64>>(read: Option<LogIdOf<K::Committed>>, want: Row) -> bool {
-    read == id::<K>(want)
+fn is<C: Numbered>(read: Option<LogIdOf<C>>, want: Row) -> bool {
+    read == id(want)
 }
 
 /// Whether a lent log id is that of the row.
-fn is_lent<K: LeaderKind<u64>>(read: Option<&LogIdOf<K::Committed>>, want: Row) -> bool {
-    read.copied() == id::<K>(want)
+fn is_lent<C: Numbered>(read: Option<&LogIdOf<C>>, want: Row) -> bool {
+    read.copied() == id(want)
 }
 
 /// Whether a valid state reads as it should, and equals itself and no other, and a log whose
 /// committed log id (3,0) it does not have is not truncated where all that stays is below that.
-fn reads<K: LeaderKind<u64>>(state: &State<K>, other: &State<K>) -> bool {
+fn reads<L: Eq + Drop, C: Numbered + Drop>(state: &State<L, C>, other: &State<L, C>) -> bool {
     let are_right = [
-        is::<K>(state.get_log_id(2), Some((1, 2))),
-        is::<K>(state.prev_log_id(5), LAST),
-        is::<K>(state.get_log_id(0), None),
-        is::<K>(state.get_log_id(5), None),
-        is_lent::<K>(state.last_log_id(), LAST),
-        is_lent::<K>(state.last_purged_log_id(), FIRST),
-        is_lent::<K>(LogStateReader::committed(state), FIRST),
-        is_lent::<K>(LogStateReader::purge_upto(state), FIRST),
-        is_lent::<K>(state.snapshot_last_log_id(), None),
-        is_lent::<K>(state.io_applied(), None),
-        is_lent::<K>(state.io_snapshot_last_log_id(), None),
-        is_lent::<K>(state.io_purged(), None),
+        is(state.get_log_id(2), Some((1, 2))),
+        is(state.prev_log_id(5), LAST),
+        is(state.get_log_id(0), None),
+        is(state.get_log_id(5), None),
+        is_lent(state.last_log_id(), LAST),
+        is_lent(state.last_purged_log_id(), FIRST),
+        is_lent(LogStateReader::committed(state), FIRST),
+        is_lent(LogStateReader::purge_upto(state), FIRST),
+        is_lent(state.snapshot_last_log_id(), None),
+        is_lent(state.io_applied(), None),
+        is_lent(state.io_snapshot_last_log_id(), None),
+        is_lent(state.io_purged(), None),
         !other.can_truncate_log(3),
         other.can_truncate_log(5),
         state.validate() == Ok(()),
@@ -252,53 +202,58 @@ fn reads<K: LeaderKind<u64>>(state: &State<K>, other: &State<K>) -> bool {
     !are_right.contains(&false)
 }
 
-/// Whether the first valid state reads so, and no read allocates.
-fn reads_right<K: LeaderKind<u64>>(rt: &impl Print, alloc: Global) -> io::Result<bool> {
-    let states = both(valid_state::<K>(alloc), unlogged::<K>(alloc));
+/// Whether the first of two states reads so, and no read allocates.
+fn reads_right<
+    L: LeaderIdentity<Id = u64, Committed = C> + Drop,
+    C: Numbered + Default + Drop + 'static,
+>(rt: &impl Print, alloc: Global) -> io::Result<bool> {
+    let states = both(state::<L, C>(alloc, VALID), state::<L, C>(alloc, UNLOGGED));
     let name = "RaftState::{validate, eq}, get_log_id and other reads";
     is_free_on(
         rt,
         alloc,
         name,
         states,
-        |states| reads::<K>(&states.0, &states.1),
+        |states| reads(&states.0, &states.1),
     )
 }
 
 /// Entries, and how many of them a follower has before the first one that it lacks. It may not be
 /// asked for a committed index under a greater leader.
-const ASKED: [(&[(u64, u64)], Option<usize>); 10] = [
-    (&[(1, 1), (3, 4)], Some(2)),
-    (&[(1, 1), (3, 3)], Some(1)),
-    (&[(1, 5), (1, 1)], Some(0)),
-    (&[(1, 0), (1, 2)], Some(2)),
-    (&[(0, 1), (1, 2)], Some(2)),
-    (&[(1, 3), (3, 4), (3, 5)], Some(2)),
-    (&[(1, 3), (2, 4), (3, 5)], Some(1)),
-    (&[(1, 3), (3, 4)], Some(2)),
-    (&[(2, 1)], None),
-    (&[(1, 2), (2, 1)], None),
-];
+const ASKED: &str = "
+1.1,3.4 2
+1.1,3.3 1
+1.5,1.1 0
+1.0,1.2 2
+0.1,1.2 2
+1.3,3.4,3.5 2
+1.3,2.4,3.5 1
+1.3,3.4 2
+2.1 no
+1.2,2.1 no
+";
 
-/// Whether a valid state has as many of these entries.
-fn has<K: LeaderKind<u64>>(
+/// Whether a state has as many entries as a row says.
+fn has<L: Drop, C: Numbered + Drop>(
     alloc: Global,
-    rows: &[(u64, u64)],
-    want: Option<usize>,
+    state: Result<State<L, C>, AllocError>,
+    row: &str,
 ) -> Result<bool, AllocError> {
-    let (state, entries) = both(valid_state::<K>(alloc), ids_of::<K>(alloc, rows))?;
+    let [entries, count, ..] = words(row);
+    let (state, entries) = both(state, log_ids(alloc, entries))?;
     if !state.can_ask_all(&entries) {
-        return Ok(want == None);
+        return Ok(count == "no");
     }
-    Ok(want == entries.len().checked_sub(lacking(&state, &entries).len()))
+    let lacking = lacking(&state, &entries).len() as u64;
+    Ok(count != "no" && entries.len() as u64 == lacking.saturating_add(number(count)))
 }
 
 /// Commits up to a row, if that may be, and answers what was committed before.
-fn committed_before<K: LeaderKind<u64>>(
-    state: &mut State<K>,
+fn committed_before<L: Drop, C: Numbered + Drop>(
+    state: &mut State<L, C>,
     upto: Row,
-) -> Result<Option<Option<LogIdOf<K::Committed>>>, AllocError> {
-    let upto = id::<K>(upto);
+) -> Result<Option<Option<LogIdOf<C>>>, AllocError> {
+    let upto = id(upto);
     if state.can_commit(&upto) {
         state.update_committed(&upto)
     } else {
@@ -307,15 +262,15 @@ fn committed_before<K: LeaderKind<u64>>(
 }
 
 /// Whether a log id is committed once, with the answer of before.
-fn commits<K: LeaderKind<u64>>(state: &mut State<K>) -> Result<bool, AllocError> {
-    let before = committed_before::<K>(state, LAST)?;
-    let again = committed_before::<K>(state, LAST)?;
-    Ok(before == Some(id::<K>(FIRST)) && again == None && is::<K>(state.committed, LAST))
+fn commits<L: Drop, C: Numbered + Drop>(state: &mut State<L, C>) -> Result<bool, AllocError> {
+    let before = committed_before(state, LAST)?;
+    let again = committed_before(state, LAST)?;
+    Ok(before == Some(id(FIRST)) && again == None && is(state.committed, LAST))
 }
 
 /// Appends log ids, of one leader or of several, if that may be.
 fn extend<L: Drop, C: Ord + Copy + Drop>(
-    state: &mut StateIn<L, C>,
+    state: &mut State<L, C>,
     ids: &[LogIdOf<C>],
 ) -> Result<(), AllocError> {
     if state.log_ids.can_extend_from_same_leader(ids) {
@@ -329,7 +284,7 @@ fn extend<L: Drop, C: Ord + Copy + Drop>(
 
 /// Purges up to a log id, if that may be.
 fn purge<L: Drop, C: Ord + Copy + Drop>(
-    state: &mut StateIn<L, C>,
+    state: &mut State<L, C>,
     upto: &LogIdOf<C>,
 ) -> Result<(), AllocError> {
     if state.can_purge_log(upto) {
@@ -339,42 +294,40 @@ fn purge<L: Drop, C: Ord + Copy + Drop>(
 }
 
 /// Whether a log is purged up to (3,5), and may not be to (3,4), nor to the greatest index.
-fn is_purged<K: LeaderKind<u64>>(state: &State<K>) -> bool {
+fn is_purged<L: Drop, C: Numbered + Drop>(state: &State<L, C>) -> bool {
     let are_right = [
         state.purged_next == 6,
-        is_lent::<K>(state.last_purged_log_id(), Some((3, 5))),
-        is::<K>(state.get_log_id(7), Some((4, 7))),
-        is_lent::<K>(state.last_log_id(), Some((6, 10))),
-        !state.can_purge_log(&log_id::<K>(3, 4)),
-        !state.can_purge_log(&log_id::<K>(9, u64::MAX)),
+        is_lent(state.last_purged_log_id(), Some((3, 5))),
+        is(state.get_log_id(7), Some((4, 7))),
+        is_lent(state.last_log_id(), Some((6, 10))),
+        !state.can_purge_log(&log_id(3, 4)),
+        !state.can_purge_log(&log_id(9, u64::MAX)),
     ];
     !are_right.contains(&false)
 }
 
 /// Whether a state commits without an allocation, and its log grows, by log ids of one leader and
 /// then of two, and is purged.
-fn grows<K: LeaderKind<u64>>(
+fn grows<L: Drop, C: Numbered + Drop>(
     rt: &impl Print,
     alloc: Global,
-    state: &mut State<K>,
+    state: &mut State<L, C>,
 ) -> io::Result<bool> {
     refuse_each(alloc);
-    let commits = holds(commits::<K>(state));
+    let commits = holds(commits(state));
     let is_committed = is_free(rt, alloc, "RaftState::update_committed", commits)?;
-    extend(state, &ids_of::<K>(alloc, &[(4, 6), (4, 8)])?)?;
-    extend(state, &ids_of::<K>(alloc, &[(5, 9), (6, 10)])?)?;
-    purge(state, &log_id::<K>(3, 5))?;
-    Ok(is_committed && is_purged::<K>(state))
-}
-
-/// Whether a valid state does so.
-fn valid_state_grows<K: LeaderKind<u64>>(rt: &impl Print, alloc: Global) -> io::Result<bool> {
-    grows::<K>(rt, alloc, &mut valid_state::<K>(alloc)?)
+    extend(state, &log_ids(alloc, "4.6,4.8")?)?;
+    extend(state, &log_ids(alloc, "5.9,6.10")?)?;
+    purge(state, &log_id(3, 5))?;
+    Ok(is_committed && is_purged(state))
 }
 
 /// Whether requests are forwarded as wanted, and the nodes 1, 3 and 9 are what they should be.
-fn leads<K: LeaderKind<u64>>(
-    state: &State<K>,
+fn leads<
+    L: LeaderIdentity<Id = u64, Committed = C> + Drop,
+    C: Ord + Copy + Default + Drop + 'static,
+>(
+    state: &State<L, C>,
     to: (Option<u64>, Option<u64>),
     want: [ServerState; 3],
 ) -> Result<bool, AllocError> {
@@ -396,40 +349,45 @@ fn leads<K: LeaderKind<u64>>(
     Ok(!are_right.contains(&false))
 }
 
-/// Whether a valid state leads so with a vote.
-fn leads_with<K: LeaderKind<u64>>(
-    alloc: Global,
-    vote: VoteOf<u64, K>,
+/// Whether a state leads so with a vote.
+fn leads_with<
+    L: LeaderIdentity<Id = u64, Committed = C> + Drop,
+    C: Ord + Copy + Default + Drop + 'static,
+>(
+    state: &mut State<L, C>,
+    vote: VoteIn<L>,
     to: (Option<u64>, Option<u64>),
     second: ServerState,
 ) -> Result<bool, AllocError> {
-    let mut state = valid_state::<K>(alloc)?;
     state.vote = UTime::without_utime(vote);
-    leads::<K>(
-        &state,
+    leads(
+        state,
         to,
         [ServerState::Follower, second, ServerState::Learner],
     )
 }
 
 /// Whether requests go to the node that a committed vote is for.
-fn leads_right<K: LeaderKind<u64>>(alloc: Global) -> Result<bool, AllocError> {
-    let (granted, asking) = (
-        VoteOf::<u64, K>::new_committed(1, 3),
-        VoteOf::<u64, K>::new(1, 3),
-    );
-    let unknown = VoteOf::<u64, K>::new_committed(1, 9);
-    let to = (Some(3), Some(6));
+fn leads_right<
+    L: LeaderIdentity<Id = u64, Committed = C> + Drop,
+    C: Ord + Copy + Default + Drop + 'static,
+>(state: &mut State<L, C>) -> Result<bool, AllocError> {
+    let (none, to) = ((None, None), (Some(3), Some(6)));
     let are_right = [
-        leads_with::<K>(alloc, granted, to, ServerState::Leader)?,
-        leads_with::<K>(alloc, asking, (None, None), ServerState::Candidate)?,
-        leads_with::<K>(alloc, unknown, (None, None), ServerState::Learner)?,
+        leads_with(state, VoteIn::new_committed(1, 3), to, ServerState::Leader)?,
+        leads_with(state, VoteIn::new(1, 3), none, ServerState::Candidate)?,
+        leads_with(
+            state,
+            VoteIn::new_committed(1, 9),
+            none,
+            ServerState::Learner,
+        )?,
     ];
     Ok(!are_right.contains(&false))
 }
 
 /// Whether a committed vote of term 1 for nobody leads no one.
-fn nobody_leads(alloc: Global) -> Result<bool, AllocError> {
+fn nobody_leads(state: &mut StandardState) -> Result<bool, AllocError> {
     let leader_id = leader_id_std::LeaderId {
         term: 1,
         voted_for: None,
@@ -438,25 +396,23 @@ fn nobody_leads(alloc: Global) -> Result<bool, AllocError> {
         leader_id,
         committed: true,
     };
-    leads_with::<LeaderStd>(alloc, vote, (None, None), ServerState::Learner)
+    leads_with(state, vote, (None, None), ServerState::Learner)
 }
 
 /// Example state 3. Keys (1, 1), (3, 4), the valid state; `purged_next` 3; purge point (3, 0),
 /// and (3, 0) committed too, which is valid and not in the log.
 #[test]
 fn a_state_validates_and_is_sound(rt: HostRuntime) -> Result<(), Fail> {
-    for (ids, want) in RELATIONS {
-        assert!(rt; validates::<LeaderAdv>(rt.alloc(), ids, want)?, "{want:?}");
-        assert!(rt;
-            validates::<LeaderStd>(rt.alloc(), ids, want)?,
-            "{want:?}, by terms"
-        );
+    let alloc = rt.alloc();
+    for row in RELATIONS.trim().lines() {
+        let [_, _, _, _, _, _, name, ..] = words(row);
+        let made: Result<DefaultState, AllocError> = state(alloc, row);
+        assert_row(&rt, row, is_found(alloc, made, name)?);
+        let made: Result<StandardState, AllocError> = state(alloc, row);
+        assert_row(&rt, row, is_found(alloc, made, name)?);
     }
-    for (ids, accepted, want) in SOUND {
-        assert!(rt;
-            is_sound_as::<LeaderAdv>(rt.alloc(), ids, accepted, want)?,
-            "{ids:?}"
-        );
+    for row in SOUND.trim().lines() {
+        assert_row(&rt, row, is_sound_as(alloc, row)?);
     }
     Ok(())
 }
@@ -466,36 +422,38 @@ fn a_state_validates_and_is_sound(rt: HostRuntime) -> Result<(), Fail> {
 #[test]
 fn a_state_reads_and_moves(rt: HostRuntime) -> Result<(), Fail> {
     let alloc = rt.alloc();
+    let default = || state::<LeaderId<u64>, _>(alloc, VALID);
+    let standard = || state::<StandardLeader, _>(alloc, VALID);
     let are_right = [
-        reads_right::<LeaderAdv>(&rt, alloc)?,
-        reads_right::<LeaderStd>(&rt, alloc)?,
-        valid_state_grows::<LeaderAdv>(&rt, alloc)?,
-        valid_state_grows::<LeaderStd>(&rt, alloc)?,
-        leads_right::<LeaderAdv>(alloc)?,
-        leads_right::<LeaderStd>(alloc)?,
-        nobody_leads(alloc)?,
+        reads_right::<LeaderId<u64>, _>(&rt, alloc)?,
+        reads_right::<StandardLeader, _>(&rt, alloc)?,
+        on(default(), |state| grows(&rt, alloc, state))?,
+        on(standard(), |state| grows(&rt, alloc, state))?,
+        on(default(), |state| leads_right(state))?,
+        on(standard(), |state| leads_right(state))?,
+        on(standard(), |state| nobody_leads(state))?,
     ];
-    assert_eq!(rt; are_right, [true; 7]);
+    assert!(rt; are_right == [true; 7]);
     Ok(())
 }
 
 #[test]
 fn a_follower_lacks_what_conflicts(rt: HostRuntime) -> Result<(), Fail> {
-    for (entries, want) in ASKED {
-        assert!(rt; has::<LeaderAdv>(rt.alloc(), entries, want)?, "{entries:?}");
-        assert!(rt;
-            has::<LeaderStd>(rt.alloc(), entries, want)?,
-            "{entries:?}, by terms"
-        );
+    let alloc = rt.alloc();
+    for row in ASKED.trim().lines() {
+        let made: Result<DefaultState, AllocError> = state(alloc, VALID);
+        assert_row(&rt, row, has(alloc, made, row)?);
+        let made: Result<StandardState, AllocError> = state(alloc, VALID);
+        assert_row(&rt, row, has(alloc, made, row)?);
     }
     Ok(())
 }
 
 /// Whether a send, the conflict that answers it and the next send lead where they should.
-fn sends_right<K: LeaderKind<u64>>(state: &State<K>) -> bool {
+fn sends_right<L: Drop, C: Numbered + Drop + 'static>(state: &State<L, C>) -> bool {
     let mut follower = ProgressEntryOf::empty(5);
     let is_sent = send(state, &mut follower, 10);
-    let log_id_range = LogIdRangeOf::new(id::<K>(Some((1, 1))), id::<K>(Some((3, 4))));
+    let log_id_range = LogIdRangeOf::new(id(Some((1, 1))), id(Some((3, 4))));
     let are_logs = follower.inflight
         == InflightOf::Logs {
             id: 1,
@@ -509,34 +467,26 @@ fn sends_right<K: LeaderKind<u64>>(state: &State<K>) -> bool {
 }
 
 /// Whether a leader commits once what two followers of three match, that it has caught up.
-fn commits_once<K: LeaderKind<u64>>(
-    state: &mut State<K>,
-    followers: &mut Followers<K>,
+fn commits_once<L: Drop, C: Numbered + Drop + 'static>(
+    state: &mut State<L, C>,
+    followers: &mut Followers<C>,
 ) -> Result<bool, AllocError> {
-    let caught_up = caught_up::<K>(state, followers, &[(1, 3), (2, 3)]);
+    let caught_up = caught_up(state, followers, &[(1, 3), (2, 3)]);
     let first = commit_granted(state, followers)?;
     let second = commit_granted(state, followers)?;
-    Ok(caught_up == Some(2) && first && !second && state.committed == id::<K>(Some((3, 4))))
+    Ok(caught_up == Some(2) && first && !second && state.committed == id(Some((3, 4))))
 }
 
 /// Whether a leader sends as it should, and commits what two followers match up to.
-fn sends_and_commits<K: LeaderKind<u64>>(
+fn sends_and_commits<L: Drop, C: Numbered + Drop + 'static>(
     rt: &impl Abort,
     alloc: Global,
-    state: &mut State<K>,
+    state: &mut State<L, C>,
 ) -> Result<bool, AllocError> {
-    if !sends_right::<K>(state) {
+    if !sends_right(state) {
         return Ok(false);
     }
-    commits_once::<K>(state, &mut followers::<K>(rt, alloc, &[], 5)?)
-}
-
-/// Whether a leader with a valid state does so.
-fn sends_and_commits_right<K: LeaderKind<u64>>(
-    rt: &impl Abort,
-    alloc: Global,
-) -> Result<bool, AllocError> {
-    sends_and_commits::<K>(rt, alloc, &mut valid_state::<K>(alloc)?)
+    commits_once(state, &mut followers(rt, alloc, &[], 5)?)
 }
 
 /// Example state 6. The valid state sends logs from (1, 1) to (3, 4), takes the conflict at 1,
@@ -544,7 +494,12 @@ fn sends_and_commits_right<K: LeaderKind<u64>>(
 #[test]
 fn a_leader_sends_and_commits(rt: HostRuntime) -> Result<(), Fail> {
     let alloc = rt.alloc();
-    assert!(rt; sends_and_commits_right::<LeaderAdv>(&rt, alloc)?);
-    assert!(rt; sends_and_commits_right::<LeaderStd>(&rt, alloc)?);
+    let default = state::<LeaderId<u64>, _>(alloc, VALID);
+    assert!(rt; on(default, |state| sends_and_commits(&rt, alloc, state))?);
+    let standard = state::<StandardLeader, _>(alloc, VALID);
+    assert!(rt;
+        on(standard, |state| sends_and_commits(&rt, alloc, state))?,
+        "by terms"
+    );
     Ok(())
 }

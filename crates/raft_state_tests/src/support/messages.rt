@@ -1,44 +1,44 @@
 //! What a follower is sent: entries and snapshots.
 
 use crate::support::rows::{Row, effective, id, log_id};
-use raft_base::{LeaderAdv, LeaderKind};
 use raft_members::Membership;
 use raft_state::{EntryOf, EntryPayload, SnapshotMetaOf};
+use raft_testing::plain_log::Numbered;
+use raft_testing::words;
 use std::alloc::{AllocError, Global};
 
 /// An entry.
-pub type Entry<K> = EntryOf<<K as LeaderKind<u64>>::Committed, u64, u64, u64>;
+pub type Entry<C> = EntryOf<C, u64, u64, u64>;
 
 /// What is known of a snapshot.
-pub type Snapshot<K> = SnapshotMetaOf<<K as LeaderKind<u64>>::Committed, u64, u64>;
+pub type Snapshot<C> = SnapshotMetaOf<C, u64, u64>;
 
 /// A snapshot up to a row, with its membership at a row.
-pub fn snapshot<K: LeaderKind<u64>>(
+pub fn snapshot<C: Numbered + Drop>(
     alloc: Global,
     upto: Row,
     members: Row,
-) -> Result<Snapshot<K>, AllocError> {
-    let effective = effective::<K>(alloc, members, &[1, 2])?;
-    let mut snapshot = Snapshot::<K>::try_default(alloc)?;
-    snapshot.last_log_id = id::<K>(upto);
-    snapshot.last_membership = effective.stored_membership().try_clone()?;
-    Ok(snapshot)
+) -> Result<Snapshot<C>, AllocError> {
+    let effective = effective::<C>(alloc, members, "1,2")?;
+    Ok(Snapshot::<C> {
+        last_log_id: id(upto),
+        last_membership: effective.stored_membership().try_clone()?,
+        snapshot_id: String::new(alloc),
+    })
 }
 
 /// The membership of the voters 1 and 2.
 pub fn members(alloc: Global) -> Result<Membership<u64, u64>, AllocError> {
-    effective::<LeaderAdv>(alloc, None, &[1, 2])?
-        .membership()
-        .try_clone()
+    words::members(alloc, "1,2", "1=4,2=5,3=6")
 }
 
 /// An entry of each kind, one after the other from a log id on, with a membership at the second
 /// one.
-pub fn entries<K: LeaderKind<u64>>(
+pub fn entries<C: Numbered + Drop>(
     alloc: Global,
     leader: u64,
     index: u64,
-) -> Result<Vec<Entry<K>>, AllocError> {
+) -> Result<Vec<Entry<C>>, AllocError> {
     let mut entries = Vec::new(alloc);
     let payloads = [
         EntryPayload::Blank,
@@ -48,7 +48,7 @@ pub fn entries<K: LeaderKind<u64>>(
     let mut next = index;
     for payload in payloads {
         entries.push(EntryOf {
-            log_id: log_id::<K>(leader, next),
+            log_id: log_id(leader, next),
             payload,
         })?;
         next = next.saturating_add(1);

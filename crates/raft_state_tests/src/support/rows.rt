@@ -1,56 +1,45 @@
-//! Worked rows over any kind of leader ids: the leader of a number, and what is made of it.
+//! Log ids by their numbers, and memberships at them, over any committed leader.
 ghost use Rattle.std.specs.Prelude.{◌≡◌};
 
-use raft_base::{LeaderKind, LogIdOf};
-use raft_members::{EffectiveMembershipOf, Membership};
+use raft_base::LogIdOf;
+use raft_members::EffectiveMembershipOf;
+use raft_testing::plain_log::Numbered;
+use raft_testing::words::{members, number};
 use std::alloc::{AllocError, Global};
-use std::collections::{BTreeMap, BTreeSet};
 use std::rc::Rc;
 
 /// A leader by its number, and an index.
 pub type Row = Option<(u64, u64)>;
 
-/// A log id: the leader of a number is that of node 1 in the term of the number.
-pub fn log_id<K: LeaderKind<u64>>(leader: u64, index: u64) -> LogIdOf<K::Committed>
+/// The row of a word, as of `2.9`, and none of `-`.
+pub fn row(word: &str) -> Row {
+    let (leader, index) = word.split_once('.')?;
+    Some((number(leader), number(index)))
+}
+
+/// A log id of the leader of a number.
+pub fn log_id<C: Numbered>(leader: u64, index: u64) -> LogIdOf<C>
     ensures { result.index ≡ index }
 {
-    LogIdOf::new(K::new_committed(leader, 1), index)
+    LogIdOf::new(C::numbered(leader), index)
 }
 
 /// The log id of a row.
-pub fn id<K: LeaderKind<u64>>(row: Row) -> Option<LogIdOf<K::Committed>> {
+pub fn id<C: Numbered>(row: Row) -> Option<LogIdOf<C>> {
     match row {
-        Some((leader, index)) => Some(log_id::<K>(leader, index)),
+        Some((leader, index)) => Some(log_id(leader, index)),
         None => None,
     }
 }
 
-/// The log ids of some leaders by their numbers, and indexes.
-pub fn ids<K: LeaderKind<u64>>(
-    alloc: Global,
-    rows: &[(u64, u64)],
-) -> Result<Vec<LogIdOf<K::Committed>>, AllocError> {
-    let mut ids = Vec::new(alloc);
-    for (leader, index) in rows {
-        ids.push(log_id::<K>(*leader, *index))?;
-    }
-    Ok(ids)
-}
+/// An effective membership with `u64` ids and nodes.
+pub type Effective<C> = EffectiveMembershipOf<C, u64, u64>;
 
-/// The effective membership over kind `K`, with `u64` ids and nodes.
-pub type Effective<K> = EffectiveMembershipOf<<K as LeaderKind<u64>>::Committed, u64, u64>;
-
-/// A membership of these voters at a log id, with the nodes 1=>4, 2=>5 and 3=>6.
-pub fn effective<K: LeaderKind<u64>>(
+/// A membership of the voters of a word at a log id, with the nodes 1=>4, 2=>5 and 3=>6.
+pub fn effective<C: Numbered + Drop>(
     alloc: Global,
     log_id: Row,
-    voters: &[u64],
-) -> Result<Rc<Effective<K>>, AllocError> {
-    let voters: BTreeSet<u64> = voters.iter().copied().collect(alloc)?;
-    let mut nodes = BTreeMap::new(alloc);
-    for (id, node) in [(1, 4), (2, 5), (3, 6)] {
-        nodes.insert(id, node)?;
-    }
-    let membership = Membership::new_unchecked(vec![in alloc; voters]?, nodes)?;
-    EffectiveMembershipOf::new_arc(id::<K>(log_id), membership)
+    voters: &str,
+) -> Result<Rc<Effective<C>>, AllocError> {
+    EffectiveMembershipOf::new_arc(id(log_id), members(alloc, voters, "1=4,2=5,3=6")?)
 }

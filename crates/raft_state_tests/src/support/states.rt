@@ -1,101 +1,107 @@
-//! Whole states over any kind of leader ids.
+//! Whole states over any type of leader ids, by rows of words.
+//!
+//! The row of a state has `purged_next`, the purge point, what is committed, the snapshot's last
+//! log id, and the log ids of the committed and of the effective membership.
 
-use crate::support::rows::{Row, effective, id, ids as ids_of};
-use raft_base::{LeaderKind, UTime, VoteOf};
-use raft_state::{LogIdListOf, MembershipStateOf, RaftStateIn, RaftStateOf, is_key_list};
+use crate::support::rows::{Row, effective, id, row};
+use raft_base::{LeaderIdentity, UTime, VoteIn, leader_id_std};
+use raft_state::{LogIdListOf, MembershipStateOf, RaftState, RaftStateIn, is_key_list};
 use raft_testing::memory::both;
+use raft_testing::plain_log::Numbered;
+use raft_testing::words::{log_ids, number, words};
 use std::alloc::{AllocError, Global};
 
-/// A state whose ids, nodes and moments are numbers.
-pub type State<K> = RaftStateOf<u64, u64, u64, K>;
+/// A state whose ids, nodes and moments are numbers, of a leader type in votes and of one in log
+/// ids.
+pub type State<L, C> = RaftStateIn<u64, u64, u64, L, C>;
 
-/// Such a state of a leader type in votes and of one in log ids.
-pub type StateIn<L, C> = RaftStateIn<u64, u64, u64, L, C>;
+/// A leader of standard Raft.
+pub type StandardLeader = leader_id_std::LeaderId<u64>;
 
-/// `purged_next`, the purge point, what is committed, the snapshot's last log id, and the log ids
-/// of the committed and of the effective membership.
-pub type Ids = (u64, Row, Row, Row, Row, Row);
+/// Such a state with the default leader ids.
+pub type DefaultState = RaftState<u64, u64, u64>;
 
-/// No membership yet.
-const NO_MEMBERSHIP: Row = None;
+/// Such a state with the leader ids of standard Raft.
+pub type StandardState = State<StandardLeader, leader_id_std::CommittedLeaderId>;
+
+/// The row of a valid state. Its log has the keys (1,1) and (3,4).
+pub const VALID: &str = "2 1.1 1.1 - - -";
+
+/// The row of a valid state of whose log neither the purge point nor what is committed is one.
+pub const UNLOGGED: &str = "2 3.0 3.0 - - -";
 
 /// Memberships of the voters 1 and 2 and a node 3, at these log ids.
-fn memberships<K: LeaderKind<u64>>(
+fn memberships<C: Numbered + Drop>(
     alloc: Global,
     committed: Row,
     in_effect: Row,
-) -> Result<MembershipStateOf<K::Committed, u64, u64>, AllocError> {
-    let committed = effective::<K>(alloc, committed, &[1, 2])?;
-    Ok(MembershipStateOf::new(committed, effective::<K>(alloc, in_effect, &[1, 2])?))
+) -> Result<MembershipStateOf<C, u64, u64>, AllocError> {
+    let committed = effective(alloc, committed, "1,2")?;
+    Ok(MembershipStateOf::new(committed, effective(alloc, in_effect, "1,2")?))
 }
 
-/// The log of the keys (1,1) and (3,4).
-fn log_ids<K: LeaderKind<u64>>(alloc: Global) -> Result<LogIdListOf<K::Committed>, AllocError> {
-    let keys = ids_of::<K>(alloc, &[(1, 1), (3, 4)])?;
+/// The list of the keys of a word, or an empty list if they are no keys.
+pub fn log_of<C: Numbered>(alloc: Global, keys: &str) -> Result<LogIdListOf<C>, AllocError> {
+    let keys = log_ids(alloc, keys)?;
     if is_key_list(&keys) {
         Ok(LogIdListOf::new(keys))
     } else {
-        Ok(LogIdListOf::new(Vec::new(alloc)))
+        LogIdListOf::try_default(alloc)
     }
 }
 
-/// A state with that log and such memberships.
-pub fn state<K: LeaderKind<u64>>(alloc: Global, ids: Ids) -> Result<State<K>, AllocError> {
-    let parts = both(log_ids::<K>(alloc), memberships::<K>(alloc, ids.4, ids.5));
-    let (mut state, (log_ids, membership_state)) = both(State::<K>::try_default(alloc), parts)?;
+/// Gives a state the log of the keys (1,1) and (3,4), and the log ids and memberships of a row.
+fn fill<L: Drop, C: Numbered + Drop>(
+    alloc: Global,
+    state: &mut State<L, C>,
+    of: &str,
+) -> Result<(), AllocError> {
+    let [
+        purged_next,
+        purge_upto,
+        committed,
+        snapshot,
+        members,
+        in_effect,
+        ..
+    ] = words(of);
+    let memberships = memberships(alloc, row(members), row(in_effect));
+    let (log_ids, membership_state) = both(log_of(alloc, "1.1,3.4"), memberships)?;
     state.log_ids = log_ids;
     state.membership_state = membership_state;
-    state.purged_next = ids.0;
-    state.purge_upto = id::<K>(ids.1);
-    state.committed = id::<K>(ids.2);
-    state.snapshot_meta.last_log_id = id::<K>(ids.3);
+    state.purged_next = number(purged_next);
+    state.purge_upto = id(row(purge_upto));
+    state.committed = id(row(committed));
+    state.snapshot_meta.last_log_id = id(row(snapshot));
+    Ok(())
+}
+
+/// The state of a row, with the log of the keys (1,1) and (3,4).
+pub fn state<
+    L: LeaderIdentity<Id = u64, Committed = C> + Drop,
+    C: Numbered + Default + Drop + 'static,
+>(alloc: Global, row: &str) -> Result<State<L, C>, AllocError> {
+    let mut state = State::<L, C>::try_default(alloc)?;
+    fill(alloc, &mut state, row)?;
     Ok(state)
-}
-
-/// The valid state that the rows start from.
-pub fn valid_state<K: LeaderKind<u64>>(alloc: Global) -> Result<State<K>, AllocError> {
-    let first = Some((1, 1));
-    state::<K>(alloc, (2, first, first, None, NO_MEMBERSHIP, NO_MEMBERSHIP))
-}
-
-/// A valid state of whose log neither the purge point nor what is committed is one.
-pub fn unlogged<K: LeaderKind<u64>>(alloc: Global) -> Result<State<K>, AllocError> {
-    let not_in_log = Some((3, 0));
-    state::<K>(
-        alloc,
-        (
-            2,
-            not_in_log,
-            not_in_log,
-            None,
-            NO_MEMBERSHIP,
-            NO_MEMBERSHIP,
-        ),
-    )
 }
 
 /// A valid state with a log of leader 1 from 0 to 99, of which nothing was purged.
-pub fn hundred<K: LeaderKind<u64>>(alloc: Global) -> Result<State<K>, AllocError> {
-    let mut state = State::<K>::try_default(alloc)?;
-    let keys = ids_of::<K>(alloc, &[(1, 0), (1, 99)])?;
-    if is_key_list(&keys) {
-        state.log_ids = LogIdListOf::new(keys);
-    }
+pub fn hundred<
+    L: LeaderIdentity<Id = u64, Committed = C> + Drop,
+    C: Numbered + Default + Drop + 'static,
+>(alloc: Global) -> Result<State<L, C>, AllocError> {
+    let mut state = State::<L, C>::try_default(alloc)?;
+    state.log_ids = log_of(alloc, "1.0,1.99")?;
     Ok(state)
 }
 
-/// A state that has accepted nothing, of the leader 1 of term 9: with the log (1,1) to (1,3) and
-/// (3,4), committed up to a row, and memberships at two rows.
-pub fn follower<K: LeaderKind<u64>>(
-    alloc: Global,
-    committed: Row,
-    members: Row,
-    in_effect: Row,
-) -> Result<State<K>, AllocError> {
-    let mut state = state::<K>(
-        alloc,
-        (2, Some((1, 1)), committed, None, members, in_effect),
-    )?;
-    state.vote = UTime::without_utime(VoteOf::<u64, K>::new_committed(9, 1));
+/// A state of a row that has accepted nothing, with the committed vote of node 1 in term 9.
+pub fn follower<
+    L: LeaderIdentity<Id = u64, Committed = C> + Drop,
+    C: Numbered + Default + Drop + 'static,
+>(alloc: Global, row: &str) -> Result<State<L, C>, AllocError> {
+    let mut state = state::<L, C>(alloc, row)?;
+    state.vote = UTime::without_utime(VoteIn::new_committed(9, 1));
     Ok(state)
 }

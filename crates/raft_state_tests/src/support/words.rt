@@ -1,38 +1,11 @@
-//! Calls of a list of log ids as lines of four words: the call, the keys, its argument, the answer.
-//!
-//! A log id is `TERM.INDEX`, over the default leader ids also `TERM.NODE.INDEX`. Log
-//! ids are joined by `,`; none is `-`.
+//! Calls of a list of log ids as rows of words: the call, the keys, its argument, the answer.
 
-use raft_base::{LeaderIdentity, LogIdOf};
+use raft_base::LogIdOf;
 use raft_state::{LogIdListOf, is_key_list};
 use raft_testing::memory::both;
-use raft_testing::words::number;
+use raft_testing::plain_log::Numbered;
+use raft_testing::words::{log_ids, number, words};
 use std::alloc::{AllocError, Global};
-
-/// The log id of a word.
-fn log_id<L: LeaderIdentity<Id = u64>>(word: &str) -> LogIdOf<L::Committed> {
-    let mut parts = word.split('.');
-    let term = number(parts.next().unwrap_or(""));
-    let second = number(parts.next().unwrap_or(""));
-    match parts.next() {
-        Some(third) => LogIdOf::new(L::new_committed(term, second), number(third)),
-        None => LogIdOf::new(L::new_committed(term, 0), second),
-    }
-}
-
-/// The log ids of a word.
-pub fn log_ids<L: LeaderIdentity<Id = u64>>(
-    alloc: Global,
-    word: &str,
-) -> Result<Vec<LogIdOf<L::Committed>>, AllocError> {
-    let mut ids = Vec::new(alloc);
-    if word != "-" {
-        for id in word.split(',') {
-            ids.push(log_id::<L>(id))?;
-        }
-    }
-    Ok(ids)
-}
 
 /// Makes a call that changes the list, if it may be made: with the first of these log ids, or all.
 fn edit<C: Ord + Copy>(
@@ -89,18 +62,11 @@ fn leads_to<C: Ord + Copy>(
     }
 }
 
-/// Whether the call of a line has the line's answer.
-pub fn call_is_right<L: LeaderIdentity<Id = u64>>(
-    alloc: Global,
-    line: &str,
-) -> Result<bool, AllocError> {
-    let mut words = line.split_whitespace();
-    let call = words.next().unwrap_or("");
-    let keys = log_ids::<L>(alloc, words.next().unwrap_or(""));
-    let argument = words.next().unwrap_or("");
-    let answer = words.next().unwrap_or("");
-    let ids = both(log_ids::<L>(alloc, argument), log_ids::<L>(alloc, answer));
-    let (keys, (ids, wanted)) = both(keys, ids)?;
+/// Whether the call of a row has the row's answer.
+pub fn call_is_right<C: Numbered + Drop>(alloc: Global, row: &str) -> Result<bool, AllocError> {
+    let [call, keys, argument, answer, ..] = words(row);
+    let ids = both(log_ids::<C>(alloc, argument), log_ids::<C>(alloc, answer));
+    let (keys, (ids, wanted)) = both(log_ids::<C>(alloc, keys), ids)?;
     if !is_key_list(&keys) {
         return Ok(call == "is_key_list" && answer == "false");
     }
