@@ -1,5 +1,6 @@
 //! Changes of a membership.
 
+use crate::support::asserts::assert_row;
 use crate::support::lines::{KINDS, change_is_right};
 use raft_members::{ChangeMembers, Membership};
 use raft_testing::address::Address;
@@ -40,7 +41,7 @@ const ROWS: &str = "
 #[test]
 fn changes_have_their_worked_answers(rt: HostRuntime) -> Result<(), Fail> {
     for line in ROWS.trim().lines() {
-        assert!(rt; change_is_right(rt.alloc(), line)?, "at {line}");
+        assert_row(&rt, line, change_is_right(rt.alloc(), line)?);
     }
     Ok(())
 }
@@ -61,7 +62,7 @@ fn is_accepted(alloc: Global, kind: &str) -> Result<bool, AllocError> {
 #[test]
 fn each_kind_is_accepted(rt: HostRuntime) -> Result<(), Fail> {
     for kind in KINDS {
-        assert!(rt; is_accepted(rt.alloc(), kind)?, "of {kind}");
+        assert_row(&rt, kind, is_accepted(rt.alloc(), kind)?);
     }
     Ok(())
 }
@@ -86,6 +87,8 @@ fn has_address(members: &Membership<u64, Address>, id: u64, text: &str) -> bool 
 #[test]
 fn a_node_may_hold_a_text(rt: HostRuntime) -> Result<(), Fail> {
     let made = with_address(rt.alloc(), "there")?;
-    assert!(rt; has_address(&made, 1, "") && has_address(&made, 2, "there"));
+    for (id, text) in [(1, ""), (2, "there")] {
+        assert!(rt; has_address(&made, id, text), "of {id}");
+    }
     Ok(())
 }

@@ -21,7 +21,11 @@ fn all_voters_are_replaced_by_a_list(rt: HostRuntime) -> Result<(), Fail> {
 
 /// Whether clones of a change equal it.
 fn has_equal_clones(alloc: Global, change: &ChangeMembers<u64, u64>) -> Result<bool, AllocError> {
-    Ok(change.try_clone(alloc)? == *change && change.clone()? == *change)
+    let are_equal = [
+        change.try_clone(alloc)? == *change,
+        change.clone()? == *change,
+    ];
+    Ok(are_equal == [true, true])
 }
 
 #[test]

@@ -3,6 +3,7 @@
 //! The calls were drawn at random, many of them over several configs, a quarter of the changes
 //! refused; each answer is what the original's own code gave to that call.
 
+use crate::support::asserts::assert_row;
 use crate::support::lines::{change_is_right, read_is_right, step_is_right, test_is_right};
 use std::test::Fail;
 
@@ -431,7 +432,7 @@ none 0=35,1=48,4=22 0 - 0,1,4 true false 35 false
 #[test]
 fn changes_are_those_of_the_original(rt: HostRuntime) -> Result<(), Fail> {
     for line in CHANGES.trim().lines() {
-        assert!(rt; change_is_right(rt.alloc(), line)?, "at {line}");
+        assert_row(&rt, line, change_is_right(rt.alloc(), line)?);
     }
     Ok(())
 }
@@ -439,7 +440,7 @@ fn changes_are_those_of_the_original(rt: HostRuntime) -> Result<(), Fail> {
 #[test]
 fn steps_are_those_of_the_original(rt: HostRuntime) -> Result<(), Fail> {
     for line in STEPS.trim().lines() {
-        assert!(rt; step_is_right(rt.alloc(), line)?, "at {line}");
+        assert_row(&rt, line, step_is_right(rt.alloc(), line)?);
     }
     Ok(())
 }
@@ -447,7 +448,7 @@ fn steps_are_those_of_the_original(rt: HostRuntime) -> Result<(), Fail> {
 #[test]
 fn refusals_are_those_of_the_original(rt: HostRuntime) -> Result<(), Fail> {
     for line in TESTS.trim().lines() {
-        assert!(rt; test_is_right(rt.alloc(), line)?, "at {line}");
+        assert_row(&rt, line, test_is_right(rt.alloc(), line)?);
     }
     Ok(())
 }
@@ -455,7 +456,7 @@ fn refusals_are_those_of_the_original(rt: HostRuntime) -> Result<(), Fail> {
 #[test]
 fn reads_are_those_of_the_original(rt: HostRuntime) -> Result<(), Fail> {
     for line in READS.trim().lines() {
-        assert!(rt; read_is_right(rt.alloc(), line)?, "at {line}");
+        assert_row(&rt, line, read_is_right(rt.alloc(), line)?);
     }
     Ok(())
 }

@@ -1,9 +1,13 @@
 //! Effective memberships.
 
+use crate::support::asserts::assert_right;
 use crate::support::memberships::{Effective, Stored, effective, id, membership, stored};
+use crate::support::quorums::has_ids;
 use raft_base::LogId;
 use raft_members::quorum::QuorumSet;
 use raft_members::{EffectiveMembership, Membership};
+use raft_testing::facts::first_wrong;
+use raft_testing::memory::both;
 use raft_testing::words::members;
 use std::alloc::{AllocError, Global};
 use std::rc::Rc;
@@ -12,12 +16,12 @@ use std::test::Fail;
 /// Whether a shared effective membership, itself, and the quorum set of its configs answer a set of
 /// ids as wanted.
 fn answers(shared: &Rc<Effective>, ids: &[u64], want: bool) -> Result<bool, AllocError> {
-    let quorums = shared.membership().to_quorum_set()?;
-    Ok(
-        shared.is_quorum(ids) == want
-            && (**shared).is_quorum(ids) == want
-            && quorums.is_quorum(ids) == want,
-    )
+    let answers = [
+        shared.is_quorum(ids),
+        (**shared).is_quorum(ids),
+        shared.membership().to_quorum_set()?.is_quorum(ids),
+    ];
+    Ok(answers == [want; 3])
 }
 
 // Configs, ids, whether they are a quorum; a repeated id counts as often as it comes.
@@ -43,49 +47,55 @@ fn configs_are_a_quorum_set(rt: HostRuntime) -> Result<(), Fail> {
     Ok(())
 }
 
-/// Whether an effective membership reads as its stored one.
-fn effective_reads(effective: &Effective, stored: &Stored) -> bool {
-    *effective.log_id() == Some(id())
-        && **effective.stored_membership() == *stored
-        && effective.membership().is_in_joint_consensus()
-        && effective.nodes().count() == 4
-        && effective.get_joint_config().len() == 2
+/// Returns which read of an effective membership differs from its stored one.
+fn wrong_read(effective: &Effective, stored: &Stored) -> Option<&'static str> {
+    first_wrong(&[
+        ("log id", *effective.log_id() == Some(id())),
+        (
+            "stored membership",
+            **effective.stored_membership() == *stored,
+        ),
+        ("joint", effective.membership().is_in_joint_consensus()),
+        ("nodes", effective.nodes().count() == 4),
+        ("configs", effective.get_joint_config().len() == 2),
+    ])
 }
 
-/// Whether its voters and learners are 1, 2, 4 and 3, 5, with the nodes of the last.
-fn ids_read(alloc: Global, effective: &Effective) -> Result<bool, AllocError> {
-    Ok(
-        effective.voter_ids().eq([1, 2, 4].iter())
-            && effective.learner_ids().eq([3, 5].iter().copied())
-            && effective.is_voter(&4)
-            && !effective.is_voter(&3)
-            && effective.get_node(&5) == Some(&50)
-            && effective.get_node(&4).is_none()
-            && effective.ids(alloc)?.as_slice() == [1, 2, 4].as_slice(),
-    )
-}
-
-/// Whether an effective membership reads back.
-fn reads_back(alloc: Global) -> Result<bool, AllocError> {
-    let stored = stored(alloc)?;
-    let effective = effective(alloc)?;
-    Ok(effective_reads(&effective, &stored) && ids_read(alloc, &effective)?)
+/// Returns which read of the voters 1, 2 and 4 and the learners 3 and 5 is wrong.
+fn wrong_member(alloc: Global, effective: &Effective) -> Result<Option<&'static str>, AllocError> {
+    Ok(first_wrong(&[
+        ("voters", effective.voter_ids().eq([1, 2, 4].iter())),
+        (
+            "learners",
+            effective.learner_ids().eq([3, 5].iter().copied()),
+        ),
+        ("voter 4", effective.is_voter(&4)),
+        ("learner 3", !effective.is_voter(&3)),
+        ("the node of 5", effective.get_node(&5) == Some(&50)),
+        ("the node of 4", effective.get_node(&4).is_none()),
+        ("ids", has_ids(alloc, effective, &[1, 2, 4])?),
+    ]))
 }
 
 #[test]
 fn an_effective_membership_reads_back(rt: HostRuntime) -> Result<(), Fail> {
-    assert!(rt; reads_back(rt.alloc())?);
+    let (effective, stored) = both(effective(rt.alloc()), stored(rt.alloc()))?;
+    assert_right(&rt, "reads", wrong_read(&effective, &stored));
+    assert_right(&rt, "members", wrong_member(rt.alloc(), &effective)?);
     Ok(())
 }
 
 /// Whether clones of an effective membership equal it.
-fn effective_clones(effective: &Effective) -> Result<bool, AllocError> {
-    Ok(effective.try_clone()? == *effective && effective.clone()? == *effective)
+fn clones_equal(effective: &Effective) -> Result<[bool; 2], AllocError> {
+    Ok([
+        effective.try_clone()? == *effective,
+        effective.clone()? == *effective,
+    ])
 }
 
 #[test]
 fn clones_are_equal(rt: HostRuntime) -> Result<(), Fail> {
-    assert!(rt; effective_clones(&effective(rt.alloc())?)?);
+    assert!(rt; clones_equal(&effective(rt.alloc())?)? == [true, true]);
     Ok(())
 }
 
@@ -95,35 +105,25 @@ fn equals(alloc: Global, made: &Effective, log_id: Option<LogId<u64>>) -> Result
     Ok(*made == Effective::new(log_id, membership(alloc)?)?)
 }
 
-/// Whether an effective membership equals one under the log id, and none under another.
-fn is_under_the_id(alloc: Global, made: &Effective) -> Result<bool, AllocError> {
-    Ok(equals(alloc, made, Some(id()))? && !equals(alloc, made, None)?)
-}
-
-/// Whether one from the log equals one under its log id, and none under another.
-fn is_of_its_log_id(alloc: Global) -> Result<bool, AllocError> {
-    let made = Effective::from_log(&id(), membership(alloc)?)?;
-    is_under_the_id(alloc, &made)
-}
-
-/// Whether an effective membership equals the default.
-fn equals_default(alloc: Global, made: &Effective) -> Result<bool, AllocError> {
-    Ok(*made == Effective::try_default(alloc)?)
-}
-
-/// Whether an effective membership equals the default, and none with nodes.
-fn is_without_nodes(alloc: Global, made: &Effective) -> Result<bool, AllocError> {
-    Ok(equals_default(alloc, made)? && !equals(alloc, made, None)?)
-}
-
-/// Whether one without configs, nodes and log id equals the default, and none with nodes.
-fn is_default(alloc: Global) -> Result<bool, AllocError> {
-    let made = Effective::new(None, Membership::try_default(alloc)?)?;
-    is_without_nodes(alloc, &made)
+/// Whether an effective membership equals the default, one under the log id, and one under none.
+fn equal_ones(alloc: Global, made: &Effective) -> Result<[bool; 3], AllocError> {
+    Ok([
+        *made == Effective::try_default(alloc)?,
+        equals(alloc, made, Some(id()))?,
+        equals(alloc, made, None)?,
+    ])
 }
 
 #[test]
 fn log_ids_make_a_difference(rt: HostRuntime) -> Result<(), Fail> {
-    assert!(rt; is_of_its_log_id(rt.alloc())? && is_default(rt.alloc())?);
+    let from_log = Effective::from_log(&id(), membership(rt.alloc())?)?;
+    assert!(rt; equal_ones(rt.alloc(), &from_log)? == [false, true, false]);
+    Ok(())
+}
+
+#[test]
+fn nodes_make_a_difference(rt: HostRuntime) -> Result<(), Fail> {
+    let empty = Effective::new(None, Membership::try_default(rt.alloc())?)?;
+    assert!(rt; equal_ones(rt.alloc(), &empty)? == [true, false, false]);
     Ok(())
 }

@@ -3,24 +3,23 @@
 use raft_members::IntoNodes;
 use raft_testing::words::{ids, nodes};
 use std::alloc::{AllocError, Global};
-use std::collections::BTreeMap;
 use std::test::Fail;
 
-/// Whether each source of nodes gives those that it should.
-fn gives_nodes(alloc: Global) -> Result<bool, AllocError> {
-    let of_set: BTreeMap<u64, u64> = ids(alloc, "3,1")?.into_nodes(alloc)?;
-    let of_some: BTreeMap<u64, u64> = Some(ids(alloc, "2")?).into_nodes(alloc)?;
-    let none: BTreeMap<u64, u64> = ().into_nodes(alloc)?;
-    Ok(
-        of_set == nodes(alloc, "1=0,3=0")?
-            && of_some == nodes(alloc, "2=0")?
-            && none.is_empty()
-            && nodes(alloc, "4=40")?.into_nodes(alloc)? == nodes(alloc, "4=40")?,
-    )
+/// Whether a source of nodes gives those of a word.
+fn gives<T: IntoNodes<u64, u64> + Drop>(
+    alloc: Global,
+    source: T,
+    word: &str,
+) -> Result<bool, AllocError> {
+    Ok(source.into_nodes(alloc)? == nodes(alloc, word)?)
 }
 
 #[test]
 fn sources_give_nodes(rt: HostRuntime) -> Result<(), Fail> {
-    assert!(rt; gives_nodes(rt.alloc())?);
+    let alloc = rt.alloc();
+    assert!(rt; gives(alloc, ids(alloc, "3,1")?, "1=0,3=0")?);
+    assert!(rt; gives(alloc, Some(ids(alloc, "2")?), "2=0")?);
+    assert!(rt; gives(alloc, (), "-")?);
+    assert!(rt; gives(alloc, nodes(alloc, "4=40")?, "4=40")?);
     Ok(())
 }

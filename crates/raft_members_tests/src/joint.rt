@@ -1,9 +1,11 @@
 //! Joints of quorum sets, also shared and borrowed ones.
 ghost use Rattle.std.specs.Prelude.{IfOk, IsTrue};
 
+use crate::support::asserts::assert_right;
 use crate::support::quorums::{Configs, has_ids, joint};
 use raft_members::quorum::{AsJoint, AtLeast, Joint, QuorumSet};
 use raft_testing::allocations::is_free_on;
+use raft_testing::facts::first_wrong;
 use raft_testing::words::configs;
 use std::alloc::{AllocError, Global};
 use std::collections::BTreeSet;
@@ -19,9 +21,12 @@ type BorrowedSets<'a> = Joint<u64, BTreeSet<u64>, &'a [BTreeSet<u64>]>;
 /// Whether a joint, shared, itself and borrowed, answers a set of ids as wanted.
 fn joint_answers(shared: &Rc<Sets>, ids: &[u64], want: bool) -> bool {
     let borrowed: BorrowedSets<'_> = shared.children().as_joint();
-    borrowed.is_quorum(ids) == want
-        && (**shared).is_quorum(ids) == want
-        && shared.is_quorum(ids) == want
+    let answers = [
+        borrowed.is_quorum(ids),
+        (**shared).is_quorum(ids),
+        shared.is_quorum(ids),
+    ];
+    answers == [want; 3]
 }
 
 /// The joint of two sets.
@@ -55,33 +60,50 @@ fn a_joint_asks_each_child(rt: HostRuntime) -> Result<(), Fail> {
     Ok(())
 }
 
-/// Whether a joint, borrowed and shared, has these ids.
-fn joint_has_ids(alloc: Global, shared: &Rc<Configs>, want: &[u64]) -> Result<bool, AllocError> {
+/// Returns what is wrong of a joint, borrowed and shared, if it should have these ids.
+fn wrong_ids(
+    alloc: Global,
+    shared: &Rc<Configs>,
+    want: &[u64],
+) -> Result<Option<&'static str>, AllocError> {
     let borrowed: Joint<u64, Vec<u64>, &[Vec<u64>]> = shared.children().as_joint();
-    let again = borrowed.try_clone()?;
-    let is_cloned = again == borrowed && borrowed.clone()? == borrowed;
-    Ok(is_cloned && has_ids(alloc, &again, want)? && has_ids(alloc, shared, want)?)
+    let facts = [
+        ("try_clone", borrowed.try_clone()? == borrowed),
+        ("clone", borrowed.clone()? == borrowed),
+        ("borrowed", has_ids(alloc, &borrowed, want)?),
+        ("shared", has_ids(alloc, shared, want)?),
+    ];
+    Ok(first_wrong(&facts))
 }
 
 #[test]
 fn the_ids_of_a_joint_are_a_sorted_union(rt: HostRuntime) -> Result<(), Fail> {
-    let joint = joint(rt.alloc(), &[&[9, 2, 1], &[3, 2, 3, 4]])?;
-    let shared = Rc::new(rt.alloc(), joint)?;
-    assert!(rt; joint_has_ids(rt.alloc(), &shared, &[1, 2, 3, 4, 9])?);
+    let shared = Rc::new(rt.alloc(), joint(rt.alloc(), "9,2,1/3,2,3,4")?)?;
+    assert_right(
+        &rt,
+        "ids",
+        wrong_ids(rt.alloc(), &shared, &[1, 2, 3, 4, 9])?,
+    );
     Ok(())
 }
 
-/// Whether every set is a quorum of a joint.
-fn takes_every_set(joint: &Configs) -> bool {
+/// Returns what is wrong of a joint that has no ids, and of which every set is a quorum.
+fn wrong_quorum(alloc: Global, joint: &Configs) -> Result<Option<&'static str>, AllocError> {
     let borrowed: Joint<u64, Vec<u64>, &[Vec<u64>]> = joint.children().as_joint();
-    joint.is_quorum(&[]) && joint.is_quorum(&[1]) && borrowed.is_quorum(&[])
+    let facts = [
+        ("the empty set", joint.is_quorum(&[])),
+        ("the set of 1", joint.is_quorum(&[1])),
+        ("the empty set, borrowed", borrowed.is_quorum(&[])),
+        ("its ids", has_ids(alloc, joint, &[])?),
+    ];
+    Ok(first_wrong(&facts))
 }
 
 /// Example members 4. Without children each list of ids is a quorum.
 #[test]
 fn without_children_every_set_is_a_quorum(rt: HostRuntime) -> Result<(), Fail> {
     let joint: Configs = Joint::try_default(rt.alloc())?;
-    assert!(rt; takes_every_set(&joint) && joint.ids(rt.alloc())?.is_empty());
+    assert_right(&rt, "no children", wrong_quorum(rt.alloc(), &joint)?);
     Ok(())
 }
 

@@ -1,5 +1,6 @@
 //! Memberships: reads, tests, steps, and what they are made of.
 
+use crate::support::asserts::assert_row;
 use crate::support::lines::{read_is_right, step_is_right, test_is_right};
 use raft_members::{EmptyMembership, IntoNodes, Membership};
 use raft_testing::allocations::is_free_on;
@@ -38,7 +39,7 @@ none 1=1 1 drop 1 1=1
 #[test]
 fn memberships_read_back(rt: HostRuntime) -> Result<(), Fail> {
     for line in READS.trim().lines() {
-        assert!(rt; read_is_right(rt.alloc(), line)?, "at {line}");
+        assert_row(&rt, line, read_is_right(rt.alloc(), line)?);
     }
     Ok(())
 }
@@ -46,7 +47,7 @@ fn memberships_read_back(rt: HostRuntime) -> Result<(), Fail> {
 #[test]
 fn an_invalid_membership_is_refused(rt: HostRuntime) -> Result<(), Fail> {
     for line in TESTS.trim().lines() {
-        assert!(rt; test_is_right(rt.alloc(), line)?, "at {line}");
+        assert_row(&rt, line, test_is_right(rt.alloc(), line)?);
     }
     Ok(())
 }
@@ -54,7 +55,7 @@ fn an_invalid_membership_is_refused(rt: HostRuntime) -> Result<(), Fail> {
 #[test]
 fn a_step_leads_towards_the_goal(rt: HostRuntime) -> Result<(), Fail> {
     for line in STEPS.trim().lines() {
-        assert!(rt; step_is_right(rt.alloc(), line)?, "at {line}");
+        assert_row(&rt, line, step_is_right(rt.alloc(), line)?);
     }
     Ok(())
 }
@@ -95,15 +96,21 @@ fn each_test_answers_by_itself(rt: HostRuntime) -> Result<(), Fail> {
 /// Whether the learners are 3 and 5, and no more come after them.
 fn learners_end(members: &Members) -> bool {
     let mut learners = members.learner_ids();
-    let first = learners.next() == Some(3) && learners.next() == Some(5);
-    first && learners.next().is_none() && learners.next().is_none()
+    let read = [
+        learners.next(),
+        learners.next(),
+        learners.next(),
+        learners.next(),
+    ];
+    read == [Some(3), Some(5), None, None]
 }
 
 #[test]
 fn configs_nodes_and_learners_are_lent(rt: HostRuntime) -> Result<(), Fail> {
     let members = members(rt.alloc(), "1,2/2,4", "1=10,2=20,3=30,5=50")?;
     assert!(rt; learners_end(&members));
-    assert!(rt; members.get_joint_config().len() == 2 && members.nodes().count() == 4);
+    assert!(rt; members.get_joint_config().len() == 2);
+    assert!(rt; members.nodes().count() == 4);
     Ok(())
 }
 
@@ -123,26 +130,22 @@ fn has_nodes<T: IntoNodes<u64, u64> + Drop>(
     is(&made, alloc, config_word, node_word)
 }
 
-/// Whether voters without a node get the default one, whatever gives the others.
-fn voters_have_nodes(alloc: Global) -> Result<bool, AllocError> {
-    let alone = has_nodes(alloc, "1,2", (), "1=0,2=0")?;
-    Ok(alone && has_nodes(alloc, "1", ids(alloc, "3")?, "1=0,3=0")?)
-}
-
-/// Whether voters get the default node, or keep theirs, if a set of ids or a map of nodes gives
-/// them.
-fn voters_keep_nodes(alloc: Global) -> Result<bool, AllocError> {
-    let some = has_nodes(alloc, "1", Some(ids(alloc, "1,3")?), "1=0,3=0")?;
-    let with_nodes = has_nodes(alloc, "1,2", nodes(alloc, "1=7")?, "1=7,2=0")?;
+/// Whether voters get the default node, or keep theirs, whatever gives the nodes: nothing, a set of
+/// ids that is there or absent, or a map.
+fn voters_have_nodes(alloc: Global) -> Result<[bool; 5], AllocError> {
     let absent: Option<BTreeSet<u64>> = None;
-    let none = has_nodes(alloc, "1", absent, "1=0")?;
-    Ok(some && with_nodes && none)
+    Ok([
+        has_nodes(alloc, "1,2", (), "1=0,2=0")?,
+        has_nodes(alloc, "1", ids(alloc, "3")?, "1=0,3=0")?,
+        has_nodes(alloc, "1", Some(ids(alloc, "1,3")?), "1=0,3=0")?,
+        has_nodes(alloc, "1", absent, "1=0")?,
+        has_nodes(alloc, "1,2", nodes(alloc, "1=7")?, "1=7,2=0")?,
+    ])
 }
 
 #[test]
 fn voters_get_default_nodes(rt: HostRuntime) -> Result<(), Fail> {
-    assert!(rt; voters_have_nodes(rt.alloc())?);
-    assert!(rt; voters_keep_nodes(rt.alloc())?);
+    assert!(rt; voters_have_nodes(rt.alloc())? == [true; 5]);
     Ok(())
 }
 
@@ -164,33 +167,31 @@ fn default_is_empty(alloc: Global) -> Result<bool, AllocError> {
     is(&made, alloc, "none", "-")
 }
 
-/// Whether memberships are made of what is given.
-fn made_as_given(alloc: Global) -> Result<bool, AllocError> {
-    Ok(
-        configs_alone(alloc, "1,2")?
-            && nodes_vote(alloc, "1=7,2=8", "1,2")?
-            && nodes_vote(alloc, "-", "-")?
-            && default_is_empty(alloc)?,
-    )
-}
-
 #[test]
 fn memberships_are_made_of_what_is_given(rt: HostRuntime) -> Result<(), Fail> {
-    assert!(rt; made_as_given(rt.alloc())?);
+    let alloc = rt.alloc();
+    assert!(rt; configs_alone(alloc, "1,2")?);
+    assert!(rt; nodes_vote(alloc, "1=7,2=8", "1,2")?);
+    assert!(rt; nodes_vote(alloc, "-", "-")?);
+    assert!(rt; default_is_empty(alloc)?);
     Ok(())
 }
 
-/// Whether clones of a membership equal it, and it differs from another.
-fn clones(members: &Members, other: &Members) -> Result<bool, AllocError> {
-    Ok(members.try_clone()? == *members && members.clone()? == *members && *members != *other)
+/// Whether clones of a membership equal it, and it is the one of some words.
+fn compare(members: &Members, alloc: Global, words: [&str; 2]) -> Result<[bool; 3], AllocError> {
+    Ok([
+        members.try_clone()? == *members,
+        members.clone()? == *members,
+        is(members, alloc, words[0], words[1])?,
+    ])
 }
 
 #[test]
 fn clones_are_equal(rt: HostRuntime) -> Result<(), Fail> {
     let first = members(rt.alloc(), "1,2/2,4", "1=10,2=20")?;
-    for (configs, nodes) in [("1,2/2,4", "1=10,2=21"), ("1,2", "1=10,2=20")] {
-        let other = members(rt.alloc(), configs, nodes)?;
-        assert!(rt; clones(&first, &other)?, "and {configs} {nodes}");
+    for words in [["1,2/2,4", "1=10,2=21"], ["1,2", "1=10,2=20"]] {
+        let compared = compare(&first, rt.alloc(), words)?;
+        assert_row(&rt, words[1], compared == [true, true, false]);
     }
     Ok(())
 }

@@ -1,33 +1,38 @@
 //! Stored memberships.
 
+use crate::support::asserts::assert_right;
 use crate::support::memberships::{Stored, id, stored};
+use raft_testing::facts::first_wrong;
 use std::alloc::AllocError;
 use std::test::Fail;
 
-/// Whether a stored membership reads back.
-fn stored_reads(stored: &Stored) -> Result<bool, AllocError> {
-    Ok(
-        *stored.log_id() == Some(id())
-            && stored.nodes().count() == 4
-            && stored.membership().is_in_joint_consensus()
-            && stored.voter_ids()?.as_slice() == [1, 2, 4].as_slice(),
-    )
+/// Returns which read of a stored membership is wrong.
+fn wrong_read(stored: &Stored) -> Result<Option<&'static str>, AllocError> {
+    Ok(first_wrong(&[
+        ("log id", *stored.log_id() == Some(id())),
+        ("nodes", stored.nodes().count() == 4),
+        ("joint", stored.membership().is_in_joint_consensus()),
+        (
+            "voters",
+            stored.voter_ids()?.as_slice() == [1, 2, 4].as_slice(),
+        ),
+    ]))
 }
 
 #[test]
 fn a_stored_membership_reads_back(rt: HostRuntime) -> Result<(), Fail> {
-    assert!(rt; stored_reads(&stored(rt.alloc())?)?);
+    assert_right(&rt, "reads", wrong_read(&stored(rt.alloc())?)?);
     Ok(())
 }
 
 /// Whether clones of a stored membership equal it.
-fn stored_clones(stored: &Stored) -> Result<bool, AllocError> {
-    Ok(stored.try_clone()? == *stored && stored.clone()? == *stored)
+fn clones_equal(stored: &Stored) -> Result<[bool; 2], AllocError> {
+    Ok([stored.try_clone()? == *stored, stored.clone()? == *stored])
 }
 
 #[test]
 fn clones_are_equal(rt: HostRuntime) -> Result<(), Fail> {
-    assert!(rt; stored_clones(&stored(rt.alloc())?)?);
-    assert!(rt; stored_clones(&Stored::try_default(rt.alloc())?)?);
+    assert!(rt; clones_equal(&stored(rt.alloc())?)? == [true, true]);
+    assert!(rt; clones_equal(&Stored::try_default(rt.alloc())?)? == [true, true]);
     Ok(())
 }

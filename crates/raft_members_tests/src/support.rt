@@ -1,5 +1,6 @@
-//! What tests share: worked rows as lines of words, values, and quorums.
+//! What tests share: assertions, examples as rows of words, values, and quorums.
 
+pub mod asserts;
 pub mod lines;
 pub mod memberships;
 pub mod quorums;

@@ -1,12 +1,14 @@
 //! What memberships and errors print.
 
+use crate::support::asserts::assert_right;
 use crate::support::memberships::{Effective, Stored};
 use raft_base::{BasicNode, CommittedLeaderId, LeaderStd, LogId, LogIdOf, Vote, leader_id_std};
 use raft_members::{
     ChangeMembershipError, EffectiveMembership, EmptyMembership, InProgress, InitializeError,
     LackEntry, LearnerNotFound, Membership, NotAllowed, NotAllowedOf, NotInMembers,
-    QuorumNotEnough, StoredMembership,
+    QuorumNotEnough,
 };
+use raft_testing::facts::first_wrong;
 use raft_testing::printing::{debugs, displays, sums_up};
 use raft_testing::words::members;
 use std::alloc::{AllocError, Global};
@@ -21,25 +23,32 @@ fn id() -> Option<LogId<u64>> {
 /// Its debug form.
 const ID: &str = "Some(LogId { leader_id: LeaderId { term: 1, node_id: 2 }, index: 3 })";
 
-/// Whether a stored membership prints itself so, under a log id and under none.
-fn stored_prints(
+/// Whether a stored membership displays as the text under no log id.
+fn stored_displays(
     alloc: Global,
     membership: &Membership<u64, u64>,
     text: &str,
 ) -> Result<bool, AllocError> {
-    let without = format!(in alloc; "{{log_id:None, {text}}}")?;
-    let with = format!(in alloc; "{{log_id:T1-N2-3, {text}}}")?;
-    Ok(
-        displays(
-            alloc,
-            &StoredMembership::new(None, membership.try_clone()?),
-            without.as_str(),
-        )? && sums_up(
-            alloc,
-            &StoredMembership::new(id(), membership.try_clone()?),
-            with.as_str(),
-        )?,
-    )
+    let text = format!(in alloc; "{{log_id:None, {text}}}")?;
+    Ok(displays(
+        alloc,
+        &Stored::new(None, membership.try_clone()?),
+        text.as_str(),
+    ))
+}
+
+/// Whether a stored membership sums up as the text under a log id.
+fn stored_sums_up(
+    alloc: Global,
+    membership: &Membership<u64, u64>,
+    text: &str,
+) -> Result<bool, AllocError> {
+    let text = format!(in alloc; "{{log_id:T1-N2-3, {text}}}")?;
+    Ok(sums_up(
+        alloc,
+        &Stored::new(id(), membership.try_clone()?),
+        text.as_str(),
+    ))
 }
 
 /// Whether an effective membership prints itself so, under a log id.
@@ -50,23 +59,25 @@ fn effective_prints(
 ) -> Result<bool, AllocError> {
     let text = format!(in alloc; "{{log_id:{ID} membership:{text}}}")?;
     let effective = EffectiveMembership::new(id(), membership.try_clone()?)?;
-    sums_up(alloc, &effective, text.as_str())
+    Ok(sums_up(alloc, &effective, text.as_str()))
 }
 
-/// Whether a membership prints itself so, alone, as a stored one and as the effective one.
-fn membership_prints(
+/// Returns which text of a membership is wrong, alone, as a stored one and as the effective one.
+fn wrong_membership(
     alloc: Global,
-    configs: &str,
-    nodes: &str,
+    membership: &Membership<u64, u64>,
     text: &str,
-) -> Result<bool, AllocError> {
-    let membership = members(alloc, configs, nodes)?;
-    Ok(
-        displays(alloc, &membership, text)?
-            && sums_up(alloc, &membership, text)?
-            && stored_prints(alloc, &membership, text)?
-            && effective_prints(alloc, &membership, text)?,
-    )
+) -> Result<Option<&'static str>, AllocError> {
+    Ok(first_wrong(&[
+        ("display", displays(alloc, membership, text)),
+        ("summary", sums_up(alloc, membership, text)),
+        ("display, stored", stored_displays(alloc, membership, text)?),
+        ("summary, stored", stored_sums_up(alloc, membership, text)?),
+        (
+            "summary, effective",
+            effective_prints(alloc, membership, text)?,
+        ),
+    ]))
 }
 
 /// Whether a membership with nodes of addresses prints them.
@@ -75,7 +86,7 @@ fn addresses_print(alloc: Global) -> Result<bool, AllocError> {
     nodes.insert(1u64, BasicNode::new(alloc, "here")?)?;
     let membership = Membership::from_nodes(alloc, nodes)?;
     let text = "{voters:[{1:BasicNode { addr: \"here\" }}], learners:[]}";
-    displays(alloc, &membership, text)
+    Ok(displays(alloc, &membership, text))
 }
 
 /// Example members 10. The texts of memberships.
@@ -92,10 +103,8 @@ fn memberships_print(rt: HostRuntime) -> Result<(), Fail> {
         ("none", "1=4", "{voters:[], learners:[1:4]}"),
     ];
     for (configs, nodes, text) in rows {
-        assert!(rt;
-            membership_prints(rt.alloc(), configs, nodes, text)?,
-            "{text}"
-        );
+        let membership = members(rt.alloc(), configs, nodes)?;
+        assert_right(&rt, text, wrong_membership(rt.alloc(), &membership, text)?);
     }
     assert!(rt; addresses_print(rt.alloc())?);
     Ok(())
@@ -107,7 +116,7 @@ const WITHOUT_CONFIGS: &str = "membership: Membership { configs: [], nodes: {} }
 /// Whether a stored membership without configs has its debug form, under a log id of that form.
 fn stored_debugs(alloc: Global, stored: &Stored, id: &str) -> Result<bool, AllocError> {
     let text = format!(in alloc; "StoredMembership {{ log_id: {id}, {WITHOUT_CONFIGS} }}")?;
-    debugs(alloc, stored, text.as_str())
+    Ok(debugs(alloc, stored, text.as_str()))
 }
 
 /// Whether an effective membership without configs has its debug form, under a log id of that form.
@@ -115,7 +124,7 @@ fn effective_debugs(alloc: Global, effective: &Effective, id: &str) -> Result<bo
     let text = format!(in alloc;
         "EffectiveMembership {{ log_id: {id}, {WITHOUT_CONFIGS}, voter_ids: {{}} }}"
     )?;
-    debugs(alloc, effective, text.as_str())
+    Ok(debugs(alloc, effective, text.as_str()))
 }
 
 /// Whether the effective membership of such a stored one has its debug form.
@@ -124,55 +133,59 @@ fn effective_of_stored_debugs(alloc: Global, stored: Stored, id: &str) -> Result
     effective_debugs(alloc, &effective, id)
 }
 
-/// Whether the stored and the effective membership without configs print so, with a log id or none.
-fn both_print(alloc: Global, log_id: Option<LogId<u64>>, id: &str) -> Result<bool, AllocError> {
-    let stored = Stored::new(log_id, Membership::try_default(alloc)?);
-    let is_stored = stored_debugs(alloc, &stored, id)?;
-    let is_effective = effective_of_stored_debugs(alloc, stored, id)?;
-    Ok(is_stored && is_effective)
-}
-
 #[test]
 fn stored_and_effective_memberships_print(rt: HostRuntime) -> Result<(), Fail> {
-    assert!(rt; both_print(rt.alloc(), None, "None")?);
-    assert!(rt; both_print(rt.alloc(), id(), ID)?);
+    let alloc = rt.alloc();
+    for (log_id, text) in [(None, "None"), (id(), ID)] {
+        let stored = Stored::new(log_id, Membership::try_default(alloc)?);
+        assert!(rt; stored_debugs(alloc, &stored, text)?, "{text}");
+        assert!(rt;
+            effective_of_stored_debugs(alloc, stored, text)?,
+            "{text}, effective"
+        );
+    }
     Ok(())
 }
 
-/// Whether an error prints itself so, and has the debug form.
+/// Which of the two texts of an error are right: how it displays, and its debug form.
 fn prints<T: std::fmt::Debug + std::fmt::Display>(
     alloc: Global,
     error: &T,
     texts: (&str, &str),
-) -> Result<bool, AllocError> {
-    Ok(displays(alloc, error, texts.0)? && debugs(alloc, error, texts.1)?)
+) -> [bool; 2] {
+    [
+        displays(alloc, error, texts.0),
+        debugs(alloc, error, texts.1),
+    ]
 }
 
 /// Whether the errors of a change have their debug forms.
-fn change_errors_print(alloc: Global) -> Result<bool, AllocError> {
-    let progress: ChangeMembershipError<u64> = InProgress {
+fn change_errors_print(alloc: Global) -> Result<[bool; 3], AllocError> {
+    let progress = InProgress {
         committed: None,
         membership_log_id: id(),
-    }
-    .into();
-    let empty: ChangeMembershipError<u64> = EmptyMembership {}.into();
-    let missing: ChangeMembershipError<u64> = LearnerNotFound { node_id: 4 }.into();
+    };
     let text = format!(in alloc;
         "InProgress(InProgress {{ committed: None, membership_log_id: {ID} }})"
     )?;
-    Ok(
-        debugs(alloc, &progress, text.as_str())?
-            && debugs(alloc, &empty, "EmptyMembership(EmptyMembership)")?
-            && debugs(
-                alloc,
-                &missing,
-                "LearnerNotFound(LearnerNotFound { node_id: 4 })",
-            )?,
-    )
+    let missing = "LearnerNotFound(LearnerNotFound { node_id: 4 })";
+    Ok([
+        debugs(alloc, &Refusal::from(progress), text.as_str()),
+        debugs(
+            alloc,
+            &Refusal::from(EmptyMembership {}),
+            "EmptyMembership(EmptyMembership)",
+        ),
+        debugs(
+            alloc,
+            &Refusal::from(LearnerNotFound { node_id: 4 }),
+            missing,
+        ),
+    ])
 }
 
-/// Whether the error of a log that lacks an entry prints itself.
-fn lack_entry_prints(alloc: Global) -> Result<bool, AllocError> {
+/// Which texts of the error of a log that lacks an entry are right.
+fn lack_entry_prints(alloc: Global) -> [bool; 2] {
     let lack = LackEntry::<u64> {
         index: Some(7),
         last_purged_log_id: None,
@@ -181,12 +194,17 @@ fn lack_entry_prints(alloc: Global) -> Result<bool, AllocError> {
         "store has no log at: Some(7), last purged: None",
         "LackEntry { index: Some(7), last_purged_log_id: None }",
     );
+    prints(alloc, &lack, lacks)
+}
+
+/// Whether the error of a log that lacks an entry displays what was purged.
+fn lack_of_purged_displays(alloc: Global) -> Result<bool, AllocError> {
     let unknown = LackEntry {
         index: None,
         last_purged_log_id: id(),
     };
     let purged = format!(in alloc; "store has no log at: None, last purged: {ID}")?;
-    Ok(prints(alloc, &lack, lacks)? && displays(alloc, &unknown, purged.as_str())?)
+    Ok(displays(alloc, &unknown, purged.as_str()))
 }
 
 /// The error that a node alone is no quorum of the voters 1 and 2.
@@ -197,14 +215,19 @@ pub fn quorum_not_enough(alloc: Global, node: u64) -> Result<QuorumNotEnough<u64
     Ok(QuorumNotEnough { cluster, got })
 }
 
-/// Whether the error of too few nodes for a quorum prints itself, and equals its clone.
-fn quorum_not_enough_prints(alloc: Global) -> Result<bool, AllocError> {
-    let error = quorum_not_enough(alloc, 1)?;
+/// Which texts of the error of too few nodes for a quorum are right.
+fn quorum_not_enough_prints(alloc: Global) -> Result<[bool; 2], AllocError> {
     let texts = (
         "not enough for a quorum, cluster: {voters:[{1:4,2:5}], learners:[]}, got: {1}",
         "QuorumNotEnough { cluster: \"{voters:[{1:4,2:5}], learners:[]}\", got: {1} }",
     );
-    Ok(error.clone()? == error && prints(alloc, &error, texts)?)
+    Ok(prints(alloc, &quorum_not_enough(alloc, 1)?, texts))
+}
+
+/// Whether the error of too few nodes for a quorum equals its clone.
+fn quorum_not_enough_is_cloned(alloc: Global) -> Result<bool, AllocError> {
+    let error = quorum_not_enough(alloc, 1)?;
+    Ok(error.clone()? == error)
 }
 
 /// The error of a node that belongs to a cluster already.
@@ -225,14 +248,19 @@ pub fn not_in_members(alloc: Global) -> Result<InitializeError<u64, u64>, AllocE
     .into())
 }
 
-/// Whether the first of them prints itself, over both kinds of leaders.
-fn not_allowed_prints(alloc: Global) -> Result<bool, AllocError> {
+/// Which texts of the first of them are right.
+fn not_allowed_prints(alloc: Global) -> [bool; 2] {
     let texts = (
         "not allowed to initialize due to current raft state: last_log_id: None vote: \
         T1-N2:uncommitted",
         "NotAllowed(NotAllowed { last_log_id: None, vote: Vote { leader_id: LeaderId { term: 1, \
         node_id: 2 }, committed: false } })",
     );
+    prints(alloc, &not_allowed(), texts)
+}
+
+/// Whether the first of them displays over standard leaders.
+fn standard_not_allowed_displays(alloc: Global) -> bool {
     let standard = NotAllowedOf::<u64, LeaderStd> {
         last_log_id: Some(LogIdOf::new(leader_id_std::CommittedLeaderId { term: 1 }, 3)),
         vote: Default::default(),
@@ -240,58 +268,68 @@ fn not_allowed_prints(alloc: Global) -> Result<bool, AllocError> {
     let text =
         "not allowed to initialize due to current raft state: last_log_id: Some(LogId { leader_id: \
         CommittedLeaderId { term: 1 }, index: 3 }) vote: T0-NNone:uncommitted";
-    Ok(prints(alloc, &not_allowed(), texts)? && displays(alloc, &standard, text)?)
+    displays(alloc, &standard, text)
 }
 
-/// Whether the second prints itself.
-fn not_in_members_prints(alloc: Global) -> Result<bool, AllocError> {
+/// Which texts of the second are right.
+fn not_in_members_prints(alloc: Global) -> Result<[bool; 2], AllocError> {
     let texts = (
         "node 9 has to be a member. membership:Membership { configs: [{1, 2}], nodes: {1: 4, 3: 6} \
         }",
         "NotInMembers(NotInMembers { node_id: 9, membership: Membership { configs: [{1, 2}], \
         nodes: {1: 4, 3: 6} } })",
     );
-    prints(alloc, &not_in_members(alloc)?, texts)
+    Ok(prints(alloc, &not_in_members(alloc)?, texts))
 }
 
-/// Whether an error of the start of a cluster equals its clones, and another one doesn't.
-fn equals_its_clones(
+/// Whether clones of two errors of the start of a cluster equal them, and differ from the other
+/// one.
+fn clones_compare(
     error: &InitializeError<u64, u64>,
     other: &InitializeError<u64, u64>,
-) -> Result<bool, AllocError> {
-    Ok(error.try_clone()? == *error && error.clone()? != *other)
-}
-
-/// Whether the two are cloned.
-fn initialize_errors_are_cloned(alloc: Global) -> Result<bool, AllocError> {
-    let (refused, outside) = (not_allowed(), not_in_members(alloc)?);
-    Ok(equals_its_clones(&refused, &outside)? && equals_its_clones(&outside, &refused)?)
+) -> Result<[bool; 4], AllocError> {
+    Ok([
+        error.try_clone()? == *error,
+        error.clone()? != *other,
+        other.try_clone()? == *other,
+        other.clone()? != *error,
+    ])
 }
 
 /// Example members 10. The texts of errors.
 #[test]
 fn errors_print(rt: HostRuntime) -> Result<(), Fail> {
-    assert!(rt; change_errors_print(rt.alloc())?);
-    assert!(rt; lack_entry_prints(rt.alloc())?);
-    assert!(rt; quorum_not_enough_prints(rt.alloc())?);
-    assert!(rt; not_allowed_prints(rt.alloc())?);
-    assert!(rt; not_in_members_prints(rt.alloc())?);
-    assert!(rt; initialize_errors_are_cloned(rt.alloc())?);
+    let alloc = rt.alloc();
+    assert!(rt; change_errors_print(alloc)? == [true; 3]);
+    assert!(rt; lack_entry_prints(alloc) == [true; 2]);
+    assert!(rt; lack_of_purged_displays(alloc)?);
+    assert!(rt; quorum_not_enough_prints(alloc)? == [true; 2]);
+    assert!(rt; not_allowed_prints(alloc) == [true; 2]);
+    assert!(rt; standard_not_allowed_displays(alloc));
+    assert!(rt; not_in_members_prints(alloc)? == [true; 2]);
+    Ok(())
+}
+
+#[test]
+fn errors_are_cloned(rt: HostRuntime) -> Result<(), Fail> {
+    let alloc = rt.alloc();
+    assert!(rt; quorum_not_enough_is_cloned(alloc)?);
+    assert!(rt; clones_compare(&not_allowed(), &not_in_members(alloc)?)? == [true; 4]);
     Ok(())
 }
 
 type Refusal = ChangeMembershipError<u64>;
 
-/// Whether the refusals for want of a node, of a voter and of memory print as they should.
-fn refusals_display(alloc: Global) -> Result<bool, AllocError> {
-    let missing: Refusal = Refusal::LearnerNotFound(LearnerNotFound { node_id: 4 });
-    let empty: Refusal = Refusal::EmptyMembership(EmptyMembership {});
+/// Whether the refusals of a missing learner, of an empty membership and of an allocation display.
+fn refusals_display(alloc: Global) -> [bool; 3] {
+    let missing = Refusal::from(LearnerNotFound { node_id: 4 });
     let learner = "Learner 4 not found: add it as learner before adding it as a voter";
-    Ok(
-        displays(alloc, &missing, learner)?
-            && displays(alloc, &empty, "new membership can not be empty")?
-            && displays(alloc, &Refusal::OutOfMemory, "out of memory")?,
-    )
+    let empty = Refusal::from(EmptyMembership {});
+    [
+        displays(alloc, &missing, learner),
+        displays(alloc, &empty, "new membership can not be empty"),
+        displays(alloc, &Refusal::OutOfMemory, "out of memory"),
+    ]
 }
 
 /// Whether a change in progress prints its log ids.
@@ -310,13 +348,13 @@ fn progress_displays(
         committed,
         membership_log_id,
     });
-    displays(alloc, &progress, text.as_str())
+    Ok(displays(alloc, &progress, text.as_str()))
 }
 
 /// Example members 10. The texts of refusals.
 #[test]
 fn refusals_print(rt: HostRuntime) -> Result<(), Fail> {
-    assert!(rt; refusals_display(rt.alloc())?);
+    assert!(rt; refusals_display(rt.alloc()) == [true; 3]);
     assert!(rt; progress_displays(rt.alloc(), None, id(), ("None", ID))?);
     assert!(rt; progress_displays(rt.alloc(), id(), None, (ID, "None"))?);
     Ok(())

@@ -1,12 +1,11 @@
-//! Worked rows and answers as lines of words.
+//! Rows of changes, steps, tests and reads, with the answers of a membership.
 
 use raft_members::{
     ChangeMembers, ChangeMembershipError, EmptyMembership, LearnerNotFound, Membership,
 };
-use raft_testing::words::{ids, members, nodes, number};
+use raft_testing::words::{ids, members, nodes, number, words};
 use std::alloc::{AllocError, Global};
 use std::collections::{BTreeMap, BTreeSet};
-use std::str::SplitWhitespace;
 
 /// The kinds of changes, as words.
 pub const KINDS: [&str; 8] = [
@@ -19,21 +18,6 @@ pub const KINDS: [&str; 8] = [
     "remove-nodes",
     "replace-nodes",
 ];
-
-/// The next word, and an empty one after the last.
-fn next<'a>(words: &mut SplitWhitespace<'a>) -> &'a str {
-    words.next().unwrap_or("")
-}
-
-/// The membership of the next two words.
-fn membership(
-    alloc: Global,
-    words: &mut SplitWhitespace<'_>,
-) -> Result<Membership<u64, u64>, AllocError> {
-    let config_word = next(words);
-    let node_word = next(words);
-    members(alloc, config_word, node_word)
-}
 
 /// A change of the nodes that a word has.
 fn change_of_nodes(kind: &str, nodes: BTreeMap<u64, u64>) -> ChangeMembers<u64, u64> {
@@ -69,101 +53,94 @@ pub fn change(
     }
 }
 
-/// The change of the next two words.
-fn next_change(
-    alloc: Global,
-    words: &mut SplitWhitespace<'_>,
-) -> Result<ChangeMembers<u64, u64>, AllocError> {
-    let kind = next(words);
-    let list = next(words);
-    change(alloc, kind, list)
-}
-
-/// Whether a refusal is that of the next words.
-fn is_refusal(refused: &ChangeMembershipError<u64>, words: &mut SplitWhitespace<'_>) -> bool {
-    let name = next(words);
+/// Whether a refusal has the name, and the missing id if there is one.
+fn is_refusal(refused: &ChangeMembershipError<u64>, name: &str, id: &str) -> bool {
     match refused {
         ChangeMembershipError::EmptyMembership(_) => name == "EmptyMembership",
         ChangeMembershipError::LearnerNotFound(missing) => {
-            name == "LearnerNotFound" && missing.node_id == number(next(words))
+            name == "LearnerNotFound" && missing.node_id == number(id)
         }
         _ => false,
     }
 }
 
-/// Whether an answer is that of the next words: a membership, or why there is none.
+/// Whether a membership is the one of its words, or a refusal the one of its words.
 fn is_answer(
     alloc: Global,
     made: &Result<Membership<u64, u64>, ChangeMembershipError<u64>>,
-    words: &mut SplitWhitespace<'_>,
+    [verdict, first, second]: [&str; 3],
 ) -> Result<bool, AllocError> {
-    let accepted = next(words) == "ok";
     match made {
-        Ok(made) => Ok(accepted && *made == membership(alloc, words)?),
-        Err(refused) => Ok(!accepted && is_refusal(refused, words)),
+        Ok(made) => Ok(verdict == "ok" && *made == members(alloc, first, second)?),
+        Err(refused) => Ok(verdict == "err" && is_refusal(refused, first, second)),
     }
 }
 
-/// Whether the change of a line has the line's answer: configs, nodes, the change, its ids or
-/// nodes, whether nodes are retained; the answer.
-pub fn change_is_right(alloc: Global, line: &str) -> Result<bool, AllocError> {
-    let mut words = line.split_whitespace();
-    let from = membership(alloc, &mut words)?;
-    let change = next_change(alloc, &mut words)?;
-    let retain = next(&mut words) == "retain";
-    let made = from.change(change, retain);
-    is_answer(alloc, &made, &mut words)
+/// Whether the change of a row has the row's answer. The row has configs, nodes, the change, its
+/// ids or nodes, whether nodes are retained, and the answer.
+pub fn change_is_right(alloc: Global, row: &str) -> Result<bool, AllocError> {
+    let [
+        configs,
+        nodes,
+        kind,
+        list,
+        retain,
+        verdict,
+        first,
+        second,
+        ..
+    ] = words(row);
+    let from = members(alloc, configs, nodes)?;
+    let made = from.change(change(alloc, kind, list)?, retain == "retain");
+    is_answer(alloc, &made, [verdict, first, second])
 }
 
-/// Whether the step of a line leads to the line's answer: configs, nodes, the goal, whether nodes
-/// are retained; the next configs and nodes.
-pub fn step_is_right(alloc: Global, line: &str) -> Result<bool, AllocError> {
-    let mut words = line.split_whitespace();
-    let from = membership(alloc, &mut words)?;
-    let goal = ids(alloc, next(&mut words))?;
-    let retain = next(&mut words) == "retain";
-    let made = from.next_coherent(goal, retain)?;
-    Ok(made == membership(alloc, &mut words)?)
+/// Whether the step of a row leads to the row's answer. The row has configs, nodes, the goal,
+/// whether nodes are retained, and the next configs and nodes.
+pub fn step_is_right(alloc: Global, row: &str) -> Result<bool, AllocError> {
+    let [configs, nodes, goal, retain, next_configs, next_nodes, ..] = words(row);
+    let from = members(alloc, configs, nodes)?;
+    let made = from.next_coherent(ids(alloc, goal)?, retain == "retain")?;
+    Ok(made == members(alloc, next_configs, next_nodes)?)
 }
 
-/// Whether the test of a line has the line's answer: configs, nodes; the answer.
-pub fn test_is_right(alloc: Global, line: &str) -> Result<bool, AllocError> {
-    let mut words = line.split_whitespace();
-    let tested = membership(alloc, &mut words)?;
-    let accepted = next(&mut words) == "ok";
-    Ok(match tested.ensure_valid() {
-        Ok(()) => accepted,
-        Err(refused) => !accepted && is_refusal(&refused, &mut words),
+/// Whether the test of a row has the row's answer. The row has configs, nodes, and the answer.
+pub fn test_is_right(alloc: Global, row: &str) -> Result<bool, AllocError> {
+    let [configs, nodes, verdict, name, id, ..] = words(row);
+    Ok(match members(alloc, configs, nodes)?.ensure_valid() {
+        Ok(()) => verdict == "ok",
+        Err(refused) => verdict == "err" && is_refusal(&refused, name, id),
     })
 }
 
-/// Whether the reads of a line give the line's answers: configs, nodes, an id; the
-/// voters, the learners, whether the id has a node, whether it is a voter, its node,
+/// Whether the reads of a row give the row's answers. The row has configs, nodes and an id, then
+/// the voters, the learners, whether the id has a node, whether it is a voter, its node, and
 /// whether there are several configs.
-pub fn read_is_right(alloc: Global, line: &str) -> Result<bool, AllocError> {
-    let mut words = line.split_whitespace();
-    let read = membership(alloc, &mut words)?;
-    let id = number(next(&mut words));
-    let voters = ids(alloc, next(&mut words))?;
-    let learners = ids(alloc, next(&mut words))?;
-    let voter_ids = read.voter_ids()?;
-    Ok(
-        voter_ids.iter().eq(voters.iter())
-            && read.learner_ids().eq(learners.iter().copied())
-            && reads_as(&read, id, &mut words),
-    )
+pub fn read_is_right(alloc: Global, row: &str) -> Result<bool, AllocError> {
+    let [configs, nodes, id, voters, learners, answers @ ..] = words(row);
+    let read = members(alloc, configs, nodes)?;
+    let (voters, learners) = (ids(alloc, voters)?, ids(alloc, learners)?);
+    let are_right = [
+        read.voter_ids()?.iter().eq(voters.iter()),
+        read.learner_ids().eq(learners.iter().copied()),
+        reads_as(&read, number(id), answers),
+    ];
+    Ok(!are_right.contains(&false))
 }
 
-/// Whether what a membership says of an id, and whether it is joint, are the next words.
-fn reads_as(read: &Membership<u64, u64>, id: u64, words: &mut SplitWhitespace<'_>) -> bool {
-    let contains = next(words) == "true";
-    let is_voter = next(words) == "true";
-    let node = next(words);
-    let is_joint = next(words) == "true";
-    read.contains(&id) == contains
-        && read.is_voter(&id) == is_voter
-        && node_is(read.get_node(&id), node)
-        && read.is_in_joint_consensus() == is_joint
+/// Whether what a membership says of an id, and whether it is joint, are these words.
+fn reads_as(
+    read: &Membership<u64, u64>,
+    id: u64,
+    [contains, is_voter, node, is_joint]: [&str; 4],
+) -> bool {
+    let are_right = [
+        read.contains(&id) == (contains == "true"),
+        read.is_voter(&id) == (is_voter == "true"),
+        node_is(read.get_node(&id), node),
+        read.is_in_joint_consensus() == (is_joint == "true"),
+    ];
+    !are_right.contains(&false)
 }
 
 /// Whether a node is that of the word.
