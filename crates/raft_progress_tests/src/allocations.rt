@@ -188,7 +188,7 @@ fn allocations_of_steps(rt: HostRuntime) -> Result<(), Fail> {
 
 /// The membership of two voters and a learner, and their progress at 0, as the worked steps begin.
 fn tracked(alloc: Global) -> Result<TrackedNumbers, AllocError> {
-    Tracked::new(members(alloc, &[&[1, 2]])?, 0)
+    Tracked::new(members(alloc, "1,2")?, 0)
 }
 
 /// The worked steps without the one at a position.
@@ -231,7 +231,7 @@ fn allocations_of_tracked(rt: HostRuntime) -> Result<(), Fail> {
     let alloc = rt.alloc();
     let nothing = |_: Global| Ok(());
     let new = |allocation: Allocation, _: &mut ()| {
-        let membership = members(allocation.alloc, &[&[1, 2]])?;
+        let membership = members(allocation.alloc, "1,2")?;
         allocation.refuse();
         TrackedNumbers::new(membership, 0)
     };
@@ -240,7 +240,7 @@ fn allocations_of_tracked(rt: HostRuntime) -> Result<(), Fail> {
         cluster.try_clone()
     };
     let change = |allocation: Allocation, cluster: &mut TrackedNumbers| {
-        let to = members(allocation.alloc, &[&[1, 2], &[2, 3]])?;
+        let to = members(allocation.alloc, "1,2/2,3")?;
         allocation.refuse();
         match cluster.change_to(to, 0) {
             Reply::OutOfMemory => Err(AllocError),

@@ -1,5 +1,6 @@
 //! A progress by quorums of a stated size: worked updates and upgrades.
 
+use crate::support::asserts::assert_row;
 use crate::support::quorums::{Enough, of_five};
 use crate::support::steps::{made, replied};
 use raft_members::quorum::{AtLeast, Joint, QuorumSet};
@@ -58,10 +59,14 @@ fn an_upgrade_may_need_more(rt: HostRuntime) -> Result<(), Fail> {
         learners: Vec::new(alloc),
         default: 0,
     };
-    assert!(rt; replied(&rt, alloc, &mut progress, upgrade)? == Some(Reply::Granted(5)));
-    for (id, value) in [(0, 5), (1, 3), (2, 10), (3, 6), (4, 0)] {
-        assert!(rt; progress.try_get(&id) == Some(&value));
-    }
+    assert_row(
+        &rt,
+        "the upgrade",
+        replied(&rt, alloc, &mut progress, upgrade)? == Some(Reply::Granted(5)),
+    );
+    let values = [(0, 5), (1, 3), (2, 10), (3, 6), (4, 0)];
+    let is_left = |row: &(u64, u64)| progress.try_get(&row.0) == Some(&row.1);
+    assert_row(&rt, "the values", values.iter().all(is_left));
     Ok(())
 }
 

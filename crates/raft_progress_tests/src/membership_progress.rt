@@ -9,8 +9,8 @@ use std::test::Fail;
 #[test]
 fn a_progress_tells_where_it_may_go_over(rt: HostRuntime) -> Result<(), Fail> {
     let alloc = rt.alloc();
-    let progress = MembershipProgress::of(&members(alloc, &[&[1, 2]])?, 3u64)?;
-    let to = members(alloc, &[&[1, 3]])?;
+    let progress = MembershipProgress::of(&members(alloc, "1,2")?, 3u64)?;
+    let to = members(alloc, "1,3")?;
     let is_below = !progress.can_upgrade_to(&to, &4)?;
     assert!(rt; is_below);
     let is_allowed = progress.can_upgrade_to(&to, &3)?;
@@ -29,12 +29,12 @@ fn has_gone_over(progress: &MembershipProgress<u64, u64, u64>) -> bool {
 #[test]
 fn a_progress_goes_over_to_a_membership(rt: HostRuntime) -> Result<(), Fail> {
     let alloc = rt.alloc();
-    let mut progress = MembershipProgress::of(&members(alloc, &[&[1, 2]])?, 0u64)?;
+    let mut progress = MembershipProgress::of(&members(alloc, "1,2")?, 0u64)?;
     for (id, value) in [(1, 5), (2, 3)] {
         let granted = updated(&rt, &mut progress, id, value);
         assert!(rt; granted.is_ok());
     }
-    let to = members(alloc, &[&[1, 2], &[2, 3]])?;
+    let to = members(alloc, "1,2/2,3")?;
     let can = progress.can_upgrade_to(&to, &0)?;
     let ordered = progress.is_in_order();
     assert!(rt; can && ordered);

@@ -10,6 +10,7 @@ ghost use Rattle.raft_progress.specs.tracked.Tracked.{tracked_view};
 ghost use Rattle.std.specs.Option.{option_cmp};
 ghost use Rattle.std.specs.Prelude.{◌≡◌, nat_eq};
 
+use crate::support::asserts::assert_row;
 use crate::support::members::members;
 use crate::support::steps::{first_ids, made, updated};
 use crate::support::values::at;
@@ -66,15 +67,15 @@ fn values_hold_a_text(rt: HostRuntime) -> Result<(), Fail> {
         (1, 2, "d", 2),
     ] {
         let value = make_noted(&rt, part, text)?;
-        assert_eq!(rt;
-            updated(&rt, &mut progress, id, value),
-            Ok(granted),
-            "at ({id}, {part})"
+        assert_row(
+            &rt,
+            text,
+            updated(&rt, &mut progress, id, value) == Ok(granted),
         );
     }
     for (id, part, text) in [(0, 0, "foo"), (1, 2, "d"), (2, 3, "c"), (3, 9, "a")] {
         let want = make_noted(&rt, part, text)?;
-        assert_eq!(rt; progress.try_get(&id), Some(&want));
+        assert_row(&rt, text, progress.try_get(&id) == Some(&want));
     }
     Ok(())
 }
@@ -138,7 +139,7 @@ fn grants(rt: &impl Abort, alloc: Global) -> Result<bool, AllocError> {
 
 /// Whether of the last log ids of three voters of a membership the middle one is granted.
 fn tracked_grants(alloc: Global) -> Result<bool, AllocError> {
-    let mut cluster = Tracked::new(members(alloc, &[&[1, 2, 3]])?, None)?;
+    let mut cluster = Tracked::new(members(alloc, "1,2,3")?, None)?;
     let steps = vec![in alloc;
         Step::Update(1, id(1, 5)),
         Step::Update(2, id(2, 3)),
@@ -186,10 +187,14 @@ fn followers_grant_what_a_quorum_matches(rt: HostRuntime) -> Result<(), Fail> {
     let mut progress: Followers = made(&rt, alloc, voters, &[], ProgressEntry::empty(10))?;
     for (follower, index, granted) in [(1, 5, None), (2, 3, id(1, 3)), (3, 4, id(1, 4))] {
         let entry = at(id(1, index), 10, 1, InflightOf::None);
-        assert!(rt; updated(&rt, &mut progress, follower, entry) == Ok(granted));
+        assert_row(
+            &rt,
+            "a match",
+            updated(&rt, &mut progress, follower, entry) == Ok(granted),
+        );
     }
     let kept = [1, 2].to_vec(alloc)?;
     let granted = granted_over(&rt, alloc, &mut progress, kept, ProgressEntry::empty(10))?;
-    assert!(rt; granted == id(1, 3));
+    assert_row(&rt, "an upgrade", granted == id(1, 3));
     Ok(())
 }

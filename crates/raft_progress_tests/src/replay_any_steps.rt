@@ -6,6 +6,7 @@ ghost use Rattle.raft_progress.specs.progress.ProgressState.{ProgressState};
 ghost use Rattle.raft_progress.specs.progress.Steps.{IsRun};
 ghost use Rattle.std.specs.Prelude.{◌≡◌, IfOk, IfSome, List, None, Ok, Some};
 
+use crate::support::asserts::assert_row;
 use crate::support::rows::{Numbers, Row, step};
 use crate::support::steps::{first_ids, made};
 use raft_members::quorum::QuorumSet;
@@ -179,9 +180,21 @@ fn may_upgrade(alloc: Global, progress: &Numbers) -> Result<bool, AllocError> {
 fn upgrades_are_refused(rt: HostRuntime) -> Result<(), Fail> {
     let alloc = rt.alloc();
     let mut progress: Numbers = made(&rt, alloc, first_ids(alloc, 3)?, &[5], 0)?;
-    assert!(rt; is_replayed(alloc, &mut progress, &BEFORE_UPGRADES)?);
-    assert!(rt; stays(alloc, &mut progress, REFUSED_UPGRADES)?);
-    assert!(rt; may_upgrade(alloc, &progress)?);
+    assert_row(
+        &rt,
+        "updates",
+        is_replayed(alloc, &mut progress, &BEFORE_UPGRADES)?,
+    );
+    assert_row(
+        &rt,
+        "refused upgrades",
+        stays(alloc, &mut progress, REFUSED_UPGRADES)?,
+    );
+    assert_row(
+        &rt,
+        "whether an upgrade may be",
+        may_upgrade(alloc, &progress)?,
+    );
     Ok(())
 }
 
@@ -236,10 +249,12 @@ fn a_caller_grants(rt: HostRuntime) -> Result<(), Fail> {
         AnyStep::Update(7, 1),
     ]?;
     let voters = vec![in alloc; 1, 2, 3]?;
-    assert_eq!(rt; granted_after(alloc, voters, &[], 0u64, steps)?, Some(4));
-    assert_eq!(rt;
-        granted_after(alloc, first_ids(alloc, 3)?, &[2], 0u64, Vec::new(alloc))?,
-        None
+    assert_row(
+        &rt,
+        "granted",
+        granted_after(alloc, voters, &[], 0u64, steps)? == Some(4),
     );
+    let unfit = granted_after(alloc, first_ids(alloc, 3)?, &[2], 0u64, Vec::new(alloc))?;
+    assert_row(&rt, "learners that do not fit", unfit == None);
     Ok(())
 }

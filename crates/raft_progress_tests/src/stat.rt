@@ -8,6 +8,7 @@ ghost use Rattle.std.specs.Ordering.{nat_cmp};
 ghost use Rattle.std.specs.Prelude.{nat_eq};
 ghost use Rattle.std.specs.Set.{is_member};
 
+use crate::support::asserts::assert_row;
 use crate::support::rows::{FIRST_RUN, Updates};
 use crate::support::steps::{first_ids, made, replied};
 use raft_members::quorum::QuorumSet;
@@ -209,10 +210,11 @@ fn compare(rt: &impl Abort, alloc: Global, row: &Row<'_>) -> Result<(), AllocErr
     let (voters, digits, learners, updates, entries, counts) = row;
     let mut updated = made(rt, alloc, make_asked(alloc, *voters)?, learners, 0)?;
     compare_updates(rt, &mut updated, updates, *digits);
-    assert!(rt; shows_entries(&updated, entries) && has_counts(&updated, counts));
+    assert_row(rt, "entries", shows_entries(&updated, entries));
+    assert_row(rt, "counts", has_counts(&updated, counts));
     let mut replayed = made(rt, alloc, make_asked(alloc, *voters)?, learners, 0)?;
     compare_replays(rt, alloc, &mut replayed, updates, *digits)?;
-    assert!(rt; *updated.stat() == *replayed.stat());
+    assert_row(rt, "replays", *updated.stat() == *replayed.stat());
     Ok(())
 }
 
@@ -270,10 +272,11 @@ fn an_upgrade_counts_its_calls(rt: HostRuntime) -> Result<(), Fail> {
             default: 0,
         };
         let reply = replied(&rt, alloc, &mut progress, upgrade)?;
-        assert!(rt; reply == Some(Reply::Granted(granted)));
+        assert_row(&rt, "the reply", reply == Some(Reply::Granted(granted)));
         let calls = progress.quorum_set().calls.get();
-        assert!(rt; counts_are(progress.stat(), moves, before.saturating_add(calls)));
-        assert!(rt; shows_entries(&progress, entries));
+        let tests = before.saturating_add(calls);
+        assert_row(&rt, "counts", counts_are(progress.stat(), moves, tests));
+        assert_row(&rt, "entries", shows_entries(&progress, entries));
     }
     Ok(())
 }

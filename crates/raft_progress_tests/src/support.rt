@@ -1,6 +1,7 @@
-//! What tests share: steps of a progress, calls of an entry with a table of their answers,
+//! What tests share: assertions, steps of a progress, calls of an entry with a table of their answers,
 //! memberships, quorums of a stated size, values and worked rows.
 
+pub mod asserts;
 pub mod entry_calls;
 pub mod members;
 pub mod quorums;

@@ -8,13 +8,15 @@ ghost use Rattle.std.specs.Ordering.{nat_cmp};
 ghost use Rattle.std.specs.Prelude.{◌≡◌, IfOk, List, Ok, ℕ};
 ghost use Rattle.std.specs.Set.{ClonesAreEqual};
 
-use crate::support::members::{TrackedNumbers, ids, members};
+use crate::support::asserts::{assert_right, assert_row};
+use crate::support::members::{TrackedNumbers, members};
 use raft_base::{EmptyNode, Node, NodeId};
 use raft_members::change_members::ChangeMembers;
 use raft_members::membership::Membership;
 use raft_progress::progress::{Progress, ProgressPart, Reply};
 use raft_progress::tracked::{Step, Tracked, replay};
 use raft_testing::allocations::is_free_on;
+use raft_testing::words::{configs, ids};
 use std::alloc::{AllocError, Global};
 use std::collections::BTreeMap;
 use std::test::Fail;
@@ -45,9 +47,9 @@ pub fn granted_of<NID: NodeId, N: Node>(
 pub enum Row {
     Update(u64, u64),
     IncreaseTo(u64, u64),
-    Add(&'static [u64]),
-    Remove(&'static [u64]),
-    Replace(&'static [u64], u64),
+    Add(&'static str),
+    Remove(&'static str),
+    Replace(&'static str, u64),
 }
 
 /// The step of a row.
@@ -73,13 +75,13 @@ pub fn step(alloc: Global, row: &Row) -> Result<Step<u64, EmptyNode, u64>, Alloc
 pub const ROWS: [(Row, Reply<u64, u64>); 10] = [
     (Row::Update(1, 5), Reply::Granted(0)),
     (Row::Update(2, 3), Reply::Granted(3)),
-    (Row::Add(&[3]), Reply::Granted(3)),
+    (Row::Add("3"), Reply::Granted(3)),
     (Row::Update(3, 4), Reply::Granted(3)),
-    (Row::Add(&[4]), Reply::Refused(Some(4))),
+    (Row::Add("4"), Reply::Refused(Some(4))),
     (Row::Update(9, 1), Reply::Unknown(3)),
     (Row::Update(3, 2), Reply::WouldFall),
-    (Row::Remove(&[1, 2, 3]), Reply::Refused(None)),
-    (Row::Replace(&[2, 3], 4), Reply::BelowDefault(2)),
+    (Row::Remove("1,2,3"), Reply::Refused(None)),
+    (Row::Replace("2,3", 4), Reply::BelowDefault(2)),
     (Row::IncreaseTo(2, 7), Reply::Granted(5)),
 ];
 
@@ -98,11 +100,14 @@ fn are_replied(alloc: Global, cluster: &mut TrackedNumbers) -> Result<bool, Allo
 fn is_ended(alloc: Global, cluster: &TrackedNumbers) -> Result<bool, AllocError> {
     let progress = cluster.progress();
     let entries = [(2, 7), (1, 5), (3, 4)];
-    let is_right = progress.iter().copied().eq(entries.iter().copied())
-        && *progress.granted() == 5
-        && progress.stat().update_count == 8
-        && progress.stat().move_count == 6;
-    Ok(is_right && *cluster.membership() == members(alloc, &[&[1, 2], &[1, 2, 3]])?)
+    let are_right = [
+        progress.iter().copied().eq(entries.iter().copied()),
+        *progress.granted() == 5,
+        progress.stat().update_count == 8,
+        progress.stat().move_count == 6,
+        *cluster.membership() == members(alloc, "1,2/1,2,3")?,
+    ];
+    Ok(!are_right.contains(&false))
 }
 
 /// Whether a clone of a membership with its progress equals it.
@@ -115,12 +120,10 @@ fn has_equal_clone(cluster: &TrackedNumbers) -> Result<bool, AllocError> {
 #[test]
 fn a_replay_goes_on_after_each_refusal(rt: HostRuntime) -> Result<(), Fail> {
     let alloc = rt.alloc();
-    let mut cluster = Tracked::new(members(alloc, &[&[1, 2]])?, 0)?;
-    assert!(rt;
-        are_replied(alloc, &mut cluster)?
-            && is_ended(alloc, &cluster)?
-            && has_equal_clone(&cluster)?
-    );
+    let mut cluster = Tracked::new(members(alloc, "1,2")?, 0)?;
+    assert_row(&rt, "replies", are_replied(alloc, &mut cluster)?);
+    assert_row(&rt, "the end", is_ended(alloc, &cluster)?);
+    assert_row(&rt, "a clone", has_equal_clone(&cluster)?);
     Ok(())
 }
 
@@ -137,7 +140,7 @@ fn a_caller_of_a_membership_grants(rt: HostRuntime) -> Result<(), Fail> {
         Step::Update(2, 6),
         Step::IncreaseTo(7, 1),
     ]?;
-    assert_eq!(rt; granted_of(alloc, membership, steps)?, 4);
+    assert_row(&rt, "granted", granted_of(alloc, membership, steps)? == 4);
     Ok(())
 }
 
@@ -156,11 +159,7 @@ const VOTES: [(u64, bool, Reply<u64, bool>); 6] = [
 
 /// A joint of {1,2,3} and {3,4,5} of whom none has voted.
 fn ballot(alloc: Global) -> Result<Ballot, AllocError> {
-    let configs = vec![in alloc; ids(alloc, &[1, 2, 3])?, ids(alloc, &[3, 4, 5])?]?;
-    Tracked::new(
-        Membership::new(configs, ids(alloc, &[1, 2, 3, 4, 5])?)?,
-        false,
-    )
+    Tracked::new(Membership::new(configs(alloc, "1,2,3/3,4,5")?, ())?, false)
 }
 
 /// Whether each vote is answered so.
@@ -190,14 +189,14 @@ fn a_quorum_of_each_config_elects(rt: HostRuntime) -> Result<(), Fail> {
 
 /// Memberships that a leader goes over to, each with the default, the reply and what a write of 7
 /// at 3 then grants.
-const CHANGES: [(&[&[u64]], u64, Reply<u64, u64>, u64); 5] = [
-    (&[&[1, 2], &[2, 3]], 0, Reply::Granted(0), 3),
-    (&[&[2, 3]], 4, Reply::BelowDefault(2), 3),
-    (&[&[3]], 0, Reply::Granted(7), 7),
+const CHANGES: [(&str, u64, Reply<u64, u64>, u64); 5] = [
+    ("1,2/2,3", 0, Reply::Granted(0), 3),
+    ("2,3", 4, Reply::BelowDefault(2), 3),
+    ("3", 0, Reply::Granted(7), 7),
     // Both learners are below the default, and the lesser id is answered.
-    (&[&[3]], 6, Reply::BelowDefault(1), 7),
+    ("3", 6, Reply::BelowDefault(1), 7),
     // They have kept their values, and are voters again.
-    (&[&[1, 2]], 0, Reply::Granted(3), 3),
+    ("1,2", 0, Reply::Granted(3), 3),
 ];
 
 /// Whether a change is answered so, and grants so afterwards.
@@ -211,16 +210,28 @@ fn is_changed(
     cluster.change_to(to, default) == *reply && cluster.update(&3, 7) == Reply::Granted(granted)
 }
 
+/// Makes two updates and the changes, and returns which of them is answered wrong.
+fn wrong_change(
+    alloc: Global,
+    cluster: &mut TrackedNumbers,
+) -> Result<Option<&'static str>, AllocError> {
+    let granted = [cluster.update(&1, 5), cluster.update(&2, 3)];
+    if granted != [Reply::Granted(0), Reply::Granted(3)] {
+        return Ok(Some("the updates"));
+    }
+    for (configs, default, reply, granted) in &CHANGES {
+        let to = members(alloc, configs)?;
+        if !is_changed(cluster, to, *default, reply, *granted) {
+            return Ok(Some(*configs));
+        }
+    }
+    Ok(None)
+}
+
 #[test]
 fn a_leader_changes_its_members(rt: HostRuntime) -> Result<(), Fail> {
     let alloc = rt.alloc();
-    let mut cluster = Tracked::new(members(alloc, &[&[1, 2]])?, 0)?;
-    assert!(rt;
-        cluster.update(&1, 5) == Reply::Granted(0) && cluster.update(&2, 3) == Reply::Granted(3)
-    );
-    for (configs, default, reply, granted) in &CHANGES {
-        let to = members(alloc, configs)?;
-        assert!(rt; is_changed(&mut cluster, to, *default, reply, *granted));
-    }
+    let mut cluster = Tracked::new(members(alloc, "1,2")?, 0)?;
+    assert_right(&rt, "changes", wrong_change(alloc, &mut cluster)?);
     Ok(())
 }

@@ -3,13 +3,14 @@ ghost use Rattle.raft_progress.specs.tracked.Tracked.{tracked_view};
 ghost use Rattle.raft_progress_tests.specs.Uses.{MajorityOfEach};
 ghost use Rattle.std.specs.Prelude.{◌<◌, ◌↔◌, ◌≡◌, ◌≤◌, IsTrue, false, nat_le, ℕ};
 
+use crate::support::asserts::assert_row;
 use raft_base::{EmptyNode, Node, NodeId};
 use raft_members::Membership;
 use raft_members::quorum::Joint;
 use raft_progress::laws::{granted_is_threshold, quorums_know_granted};
 use raft_progress::{Progress, ProgressPart, Tracked};
+use raft_testing::words::configs;
 use std::alloc::{AllocError, Global};
-use std::collections::BTreeSet;
 use std::test::Fail;
 
 /// The configs of a membership, as a quorum set.
@@ -50,42 +51,38 @@ fn holds_lease<NID: NodeId, N: Node>(replies: &Tracked<NID, N, u64, u64>, since:
 /// A membership of these configs, with a progress from a default on.
 fn cluster<V: ProgressPart<V> + Copy + Ord>(
     alloc: Global,
-    configs: &[&[u64]],
+    config_word: &str,
     default: V,
 ) -> Result<Tracked<u64, EmptyNode, V, V>, AllocError>
     requires clones_have_the_part { (w : V) → V.is_clone default w →
         V.part_of w ≡ V.part_of default }
 {
-    let mut sets: Vec<BTreeSet<u64>> = Vec::new(alloc);
-    for config in configs {
-        sets.push(config.iter().copied().collect(alloc)?)?;
-    }
-    Tracked::new(Membership::new(sets, ())?, default)
+    Tracked::new(Membership::new(configs(alloc, config_word)?, ())?, default)
 }
 
 #[test]
 fn a_match(rt: HostRuntime) -> Result<(), Fail> {
-    let mut matches = cluster(rt.alloc(), &[&[1, 2, 3]], 0u64)?;
+    let mut matches = cluster(rt.alloc(), "1,2,3", 0u64)?;
     for (id, matched, committed) in [(1, 4, 0), (2, 6, 4)] {
         let _ = matches.update(&id, matched);
-        assert_eq!(rt; commit_index(&matches), committed);
+        assert_row(&rt, "a match", commit_index(&matches) == committed);
     }
     Ok(())
 }
 
 #[test]
 fn a_vote(rt: HostRuntime) -> Result<(), Fail> {
-    let mut votes = cluster(rt.alloc(), &[&[1, 2, 3], &[3, 4, 5]], false)?;
+    let mut votes = cluster(rt.alloc(), "1,2,3/3,4,5", false)?;
     for (id, has_won) in [(1, false), (2, false), (4, false), (3, true)] {
         let _ = votes.update(&id, true);
-        assert_eq!(rt; is_elected(&votes), has_won);
+        assert_row(&rt, "a vote", is_elected(&votes) == has_won);
     }
     Ok(())
 }
 
 #[test]
 fn a_moment(rt: HostRuntime) -> Result<(), Fail> {
-    let mut replies = cluster(rt.alloc(), &[&[1, 2, 3]], 0u64)?;
+    let mut replies = cluster(rt.alloc(), "1,2,3", 0u64)?;
     let rows = [
         (1, 100, 0, 1),
         (2, 70, 70, 71),
@@ -94,7 +91,8 @@ fn a_moment(rt: HostRuntime) -> Result<(), Fail> {
     ];
     for (id, moment, heard, past) in rows {
         let _ = replies.update(&id, moment);
-        assert!(rt; holds_lease(&replies, heard) && !holds_lease(&replies, past));
+        assert_row(&rt, "a moment", holds_lease(&replies, heard));
+        assert_row(&rt, "a later moment", !holds_lease(&replies, past));
     }
     Ok(())
 }

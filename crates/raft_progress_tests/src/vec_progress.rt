@@ -2,11 +2,15 @@
 ghost use Rattle.raft_progress.specs.progress.VecProgress.{view};
 ghost use Rattle.std.specs.Prelude.{◌≡◌, length};
 
+use crate::support::asserts::{assert_right, assert_row};
 use crate::support::rows::Numbers;
 use crate::support::steps::{first_ids, made, replied, updated};
 use raft_members::quorum::Joint;
 use raft_progress::progress::{AnyStep, Progress, Reply, VecProgress};
+use raft_testing::facts::first_wrong;
+use raft_testing::words::{list, lists};
 use std::alloc::{AllocError, Global};
+use std::process::Abort;
 use std::test::Fail;
 
 /// Whether an id that is there has the value, by both calls.
@@ -17,20 +21,19 @@ pub fn has_value(progress: &Numbers, id: u64, want: u64) -> bool {
     }
 }
 
-/// Whether five voters and the learners 6 and 7, all at 0, read back.
-fn reads_back(progress: &Numbers) -> bool {
-    let are_right = [
-        progress.is_voter(&1) == Some(true),
-        progress.is_voter(&3) == Some(true),
-        progress.is_voter(&7) == Some(false),
-        progress.is_voter(&8) == None,
-        progress.index(&6) == Some(5),
-        progress.quorum_set().len() == 5,
-        *progress.granted() == 0,
-        *progress.default_part() == 0,
-        progress.try_get(&9).is_none(),
-    ];
-    !are_right.contains(&false)
+/// Returns which read of five voters and the learners 6 and 7, all at 0, is wrong.
+fn wrong_read(progress: &Numbers) -> Option<&'static str> {
+    first_wrong(&[
+        ("voter 1", progress.is_voter(&1) == Some(true)),
+        ("voter 3", progress.is_voter(&3) == Some(true)),
+        ("learner 7", progress.is_voter(&7) == Some(false)),
+        ("unknown 8", progress.is_voter(&8) == None),
+        ("position of 6", progress.index(&6) == Some(5)),
+        ("quorum set", progress.quorum_set().len() == 5),
+        ("granted", *progress.granted() == 0),
+        ("default", *progress.default_part() == 0),
+        ("value of 9", progress.try_get(&9).is_none()),
+    ])
 }
 
 /// Whether a value can be written for a known id alone.
@@ -44,16 +47,29 @@ pub fn writes(progress: &mut Numbers, id: u64, value: u64) -> bool {
     }
 }
 
+/// Returns which of an update and of writes in place, of the learner 6 and of an unknown id, is
+/// wrong.
+fn wrong_write(rt: &impl Abort, progress: &mut Numbers) -> Option<&'static str> {
+    let granted = updated(rt, progress, 6, 5);
+    let is_updated = has_value(progress, 6, 5);
+    let is_known = writes(progress, 6, 10);
+    first_wrong(&[
+        ("the update", granted == Ok(0)),
+        ("the value after it", is_updated),
+        ("the write", is_known),
+        ("the value after the write", has_value(progress, 6, 10)),
+        ("a write of an unknown id", !writes(progress, 9, 1)),
+    ])
+}
+
 /// Example progress 12. Voters 0 to 4, learners 6 and 7: who is a voter; the value of 6 is 5,
 /// and 10 after `get_mut`; 9 is unknown.
 #[test]
 fn reads(rt: HostRuntime) -> Result<(), Fail> {
     let alloc = rt.alloc();
     let mut progress: Numbers = made(&rt, alloc, first_ids(alloc, 5)?, &[6, 7], 0)?;
-    assert!(rt; reads_back(&progress));
-    assert!(rt; updated(&rt, &mut progress, 6, 5) == Ok(0) && has_value(&progress, 6, 5));
-    assert!(rt; writes(&mut progress, 6, 10) && has_value(&progress, 6, 10));
-    assert!(rt; !writes(&mut progress, 9, 1));
+    assert_right(&rt, "reads", wrong_read(&progress));
+    assert_right(&rt, "writes", wrong_write(&rt, &mut progress));
     Ok(())
 }
 
@@ -75,20 +91,22 @@ fn order_is_lost_by_a_write_and_found_again(rt: HostRuntime) -> Result<(), Fail>
         for (entry, value) in progress.iter_mut().zip(values.iter()) {
             entry.1 = *value;
         }
-        assert_eq!(rt; progress.is_in_order(), want, "at {values:?}");
+        let is_in_order = progress.is_in_order();
+        assert!(rt; is_in_order == want, "at {values:?}");
     }
     Ok(())
 }
 
-/// Whether the learner 8 stands behind three voters, in a clone too, and 5 is unknown.
-fn has_learner_eight(progress: &Numbers) -> Result<bool, AllocError> {
+/// Returns what is wrong of a progress, and of its clone, if the learner 8 is behind three voters
+/// and 5 is unknown.
+fn wrong_learner(progress: &Numbers) -> Result<Option<&'static str>, AllocError> {
     let copy = progress.clone()?;
-    Ok(
-        progress.index(&8) == Some(3)
-            && progress.index(&5) == None
-            && copy.index(&8) == Some(3)
-            && copy == *progress,
-    )
+    Ok(first_wrong(&[
+        ("8", progress.index(&8) == Some(3)),
+        ("5", progress.index(&5) == None),
+        ("8 of the clone", copy.index(&8) == Some(3)),
+        ("the clone", copy == *progress),
+    ]))
 }
 
 /// Example progress 10. Voters 0 to 2, learner 5: `iter_mut` makes the learner 8, at position
@@ -102,9 +120,9 @@ fn an_id_is_changed_through_iter_mut(rt: HostRuntime) -> Result<(), Fail> {
             entry.0 = 8;
         }
     }
-    assert!(rt; has_learner_eight(&progress)?);
+    assert_right(&rt, "a learner", wrong_learner(&progress)?);
     // The progress is in order, or `updated` would stop.
-    assert!(rt; updated(&rt, &mut progress, 8, 4) == Ok(0));
+    assert_row(&rt, "an update", updated(&rt, &mut progress, 8, 4) == Ok(0));
     Ok(())
 }
 
@@ -117,8 +135,9 @@ fn has_equal_clone(progress: &Numbers) -> Result<bool, AllocError> {
 fn clones_are_equal(rt: HostRuntime) -> Result<(), Fail> {
     let alloc = rt.alloc();
     let mut progress: Numbers = made(&rt, alloc, first_ids(alloc, 3)?, &[5], 0)?;
-    assert!(rt; has_equal_clone(&progress)?);
-    assert!(rt; updated(&rt, &mut progress, 1, 4) == Ok(0) && has_equal_clone(&progress)?);
+    assert_row(&rt, "a clone", has_equal_clone(&progress)?);
+    assert_row(&rt, "an update", updated(&rt, &mut progress, 1, 4) == Ok(0));
+    assert_row(&rt, "a later clone", has_equal_clone(&progress)?);
     Ok(())
 }
 
@@ -159,7 +178,12 @@ fn any_progress_grants(rt: HostRuntime) -> Result<(), Fail> {
     let alloc = rt.alloc();
     let mut progress: Numbers = made(&rt, alloc, first_ids(alloc, 3)?, &[], 7)?;
     let voters = first_ids(alloc, 5)?;
-    assert!(rt; granted_by(&progress) == 7 && may_go_over(alloc, &mut progress, &voters)?);
+    assert_row(&rt, "granted", granted_by(&progress) == 7);
+    assert_row(
+        &rt,
+        "an upgrade",
+        may_go_over(alloc, &mut progress, &voters)?,
+    );
     Ok(())
 }
 
@@ -174,41 +198,89 @@ fn fill(progress: &mut VecProgress<u64, u64, u64, Vec<u64>>, value: u64)
     }
 }
 
+/// Returns what is wrong of a progress whose values are all 3 and whose granted value is 0.
+fn wrong_of_filled(progress: &mut Numbers) -> Option<&'static str> {
+    first_wrong(&[
+        ("voter 0", has_value(progress, 0, 3)),
+        ("voter 1", has_value(progress, 1, 3)),
+        ("learner 5", has_value(progress, 5, 3)),
+        ("granted", *progress.granted() == 0),
+        ("the order", !progress.is_in_order()),
+    ])
+}
+
 #[test]
 fn a_caller_fills(rt: HostRuntime) -> Result<(), Fail> {
     let alloc = rt.alloc();
     let mut progress = made(&rt, alloc, first_ids(alloc, 2)?, &[5], 0)?;
     fill(&mut progress, 3);
-    for id in [0, 1, 5] {
-        assert_eq!(rt; progress.try_get(&id), Some(&3));
-    }
-    assert_eq!(rt; *progress.granted(), 0);
-    assert!(rt; !progress.is_in_order());
+    assert_right(&rt, "a filled progress", wrong_of_filled(&mut progress));
     Ok(())
 }
 
 /// Configs of a cluster as one.
 type Configs = Joint<u64, Vec<u64>, Vec<Vec<u64>>>;
 
-/// The joint of some configs.
-fn joint(alloc: Global, configs: &[&[u64]]) -> Result<Configs, AllocError> {
-    let mut children = Vec::new(alloc);
-    for config in configs {
-        children.push(config.to_vec(alloc)?)?;
-    }
-    Ok(Joint::new(children))
-}
+/// Updates of a progress, each with what it grants.
+type Updates<'a> = &'a [(u64, u64, u64)];
 
 /// Configs, learners and a default, the reply to the upgrade to them, a value afterwards, and
 /// updates.
 type UpgradeRow<'a> = (
-    &'a [&'a [u64]],
-    &'a [u64],
+    &'a str,
+    &'a str,
     u64,
     Reply<u64, u64>,
     (u64, u64),
-    &'a [(u64, u64, u64)],
+    Updates<'a>,
 );
+
+const UPGRADES: [UpgradeRow<'static>; 4] = [
+    ("0,1,2", "5", 1, Reply::BelowDefault(2), (5, 9), &[]),
+    ("0,1,2", "5,5", 1, Reply::BadLearners, (5, 9), &[]),
+    (
+        "0,1,2/3,4,5",
+        "6",
+        0,
+        Reply::Granted(0),
+        (5, 9),
+        &[(3, 7, 5), (4, 8, 5)],
+    ),
+    ("3,4,5", "1", 0, Reply::Granted(8), (1, 6), &[]),
+];
+
+/// Whether each update of a progress grants what it should.
+fn grants(
+    rt: &impl Abort,
+    progress: &mut VecProgress<u64, u64, u64, Configs>,
+    updates: Updates<'_>,
+) -> bool {
+    for (id, value, granted) in updates {
+        if updated(rt, progress, *id, *value) != Ok(*granted) {
+            return false;
+        }
+    }
+    true
+}
+
+/// Whether an upgrade of a progress, and what follows it, is answered as its row says.
+fn is_upgraded(
+    rt: &impl Abort,
+    alloc: Global,
+    progress: &mut VecProgress<u64, u64, u64, Configs>,
+    row: &UpgradeRow<'_>,
+) -> Result<bool, AllocError> {
+    let (configs, learners, default, want, (id, value), updates) = row;
+    let upgrade = AnyStep::Upgrade {
+        quorum_set: Joint::new(lists(alloc, configs)?),
+        learners: list(alloc, learners)?,
+        default: *default,
+    };
+    let reply = replied(rt, alloc, progress, upgrade)?;
+    let is_left = progress.try_get(id) == Some(value);
+    let is_wanted = reply.as_ref() == Some(want);
+    Ok(is_wanted && is_left && grants(rt, progress, updates))
+}
 
 /// Example progress 4. {0, 1, 2} with learner 5, then {0, 1, 2} and {3, 4, 5} with learner 6,
 /// then {3, 4, 5} with learner 1: granted is 0, 5, 5, 0, 5, 5, 8. Id 5 keeps 9 and id 1 keeps
@@ -218,35 +290,15 @@ type UpgradeRow<'a> = (
 #[test]
 fn upgrades_through_a_joint(rt: HostRuntime) -> Result<(), Fail> {
     let alloc = rt.alloc();
-    let first = joint(alloc, &[&[0, 1, 2]])?;
+    let first = Joint::new(lists(alloc, "0,1,2")?);
     let mut progress: VecProgress<u64, u64, u64, Configs> = made(&rt, alloc, first, &[5], 0)?;
-    for (id, value, granted) in [(0, 5, 0), (1, 6, 5), (5, 9, 5)] {
-        assert!(rt; updated(&rt, &mut progress, id, value) == Ok(granted));
-    }
-    let rows: [UpgradeRow<'_>; 4] = [
-        (&[&[0, 1, 2]], &[5], 1, Reply::BelowDefault(2), (5, 9), &[]),
-        (&[&[0, 1, 2]], &[5, 5], 1, Reply::BadLearners, (5, 9), &[]),
-        (
-            &[&[0, 1, 2], &[3, 4, 5]],
-            &[6],
-            0,
-            Reply::Granted(0),
-            (5, 9),
-            &[(3, 7, 5), (4, 8, 5)],
-        ),
-        (&[&[3, 4, 5]], &[1], 0, Reply::Granted(8), (1, 6), &[]),
-    ];
-    for (configs, learners, default, want, (id, value), updates) in rows {
-        let upgrade = AnyStep::Upgrade {
-            quorum_set: joint(alloc, configs)?,
-            learners: learners.to_vec(alloc)?,
-            default,
-        };
-        let reply = replied(&rt, alloc, &mut progress, upgrade)?;
-        assert!(rt; reply == Some(want) && progress.try_get(&id) == Some(&value));
-        for (id, value, granted) in updates {
-            assert!(rt; updated(&rt, &mut progress, *id, *value) == Ok(*granted));
-        }
+    assert_row(
+        &rt,
+        "updates",
+        grants(&rt, &mut progress, &[(0, 5, 0), (1, 6, 5), (5, 9, 5)]),
+    );
+    for row in &UPGRADES {
+        assert_row(&rt, row.0, is_upgraded(&rt, alloc, &mut progress, row)?);
     }
     Ok(())
 }
