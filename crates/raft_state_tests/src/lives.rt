@@ -13,6 +13,7 @@ use raft_testing::plain_log::Numbered;
 use raft_testing::words::{number, words};
 use std::alloc::{AllocError, Global};
 use std::collections::{BTreeMap, BTreeSet};
+use std::process::Abort;
 use std::test::Fail;
 
 /// The lives: a name, and the calls in turn. Each begins with a new state and the committed vote of
@@ -502,37 +503,36 @@ fn is_right<
     Ok(is_made == (may == "ok") && is_accepted && plain.is_of(state))
 }
 
-/// Makes the calls of a life, and answers the first one that is wrong.
-fn wrong_call<
-    'a,
-    L: LeaderIdentity<Id = u64, Committed = C> + Drop,
-    C: Numbered + Default + Drop + 'static,
->(alloc: Global, state: &mut State<L, C>, calls: &'a str) -> Result<Option<&'a str>, AllocError> {
+/// Makes the calls of a life, and stops the test at the first one that is wrong.
+fn live<L: LeaderIdentity<Id = u64, Committed = C> + Drop, C: Numbered + Default + Drop + 'static>(
+    rt: &impl Abort,
+    alloc: Global,
+    state: &mut State<L, C>,
+    life: (&str, &str),
+) -> Result<(), AllocError> {
     let mut plain = Plain::new(alloc)?;
     let _is_promised = promise(state, 9, true);
+    let (name, calls) = life;
     for call in calls.lines() {
-        if !is_right(alloc, state, &mut plain, call)? {
-            return Ok(Some(call));
-        }
+        let is_right = is_right(alloc, state, &mut plain, call)?;
+        assert_right(rt, name, if is_right { None } else { Some(call) });
     }
-    Ok(None)
+    Ok(())
 }
 
 #[test]
 fn states_live_as_plain_lists_do(rt: HostRuntime) -> Result<(), Fail> {
     let alloc = rt.alloc();
     for life in LIVES.trim().split("\n\n") {
-        let (name, calls) = life.split_once('\n').unwrap_or((life, ""));
-        let wrong = on(
+        let life = life.split_once('\n').unwrap_or((life, ""));
+        on(
             DefaultState::try_default(alloc),
-            |state| wrong_call(alloc, state, calls),
-        );
-        assert_right(&rt, name, wrong?);
-        let wrong = on(
+            |state| live(&rt, alloc, state, life),
+        )?;
+        on(
             StandardState::try_default(alloc),
-            |state| wrong_call(alloc, state, calls),
-        );
-        assert_right(&rt, name, wrong?);
+            |state| live(&rt, alloc, state, life),
+        )?;
     }
     Ok(())
 }
