@@ -108,7 +108,7 @@ fn are_answered<C: Numbered + Drop>(followers: &mut Followers<C>, log: &PlainLog
 
 /// Voters 1 to 3, of which a leader knows nothing.
 fn followers<C: Numbered + Drop>(alloc: Global) -> Result<Followers<C>, AllocError> {
-    Tracked::new(members(alloc, &[&[1, 2, 3]])?, ProgressEntryOf::empty(10))
+    Tracked::new(members(alloc, "1,2,3")?, ProgressEntryOf::empty(10))
 }
 
 /// Whether a leader's calls have their answers, without an allocation.
