@@ -3,7 +3,7 @@
 use crate::support::asserts::assert_row;
 use crate::support::quorums::{Configs, joint};
 use raft_members::quorum::{AsJoint, Coherent, FindCoherent, Joint};
-use raft_testing::words::list;
+use raft_testing::words::{list, words};
 use std::alloc::{AllocError, Global};
 use std::test::Fail;
 
@@ -13,8 +13,10 @@ fn equals_clones(joint: &Configs) -> Result<bool, AllocError> {
     Ok(clones_are_equal == [true, true])
 }
 
-/// Whether what stands next on the way from a joint to a goal is the wanted joint.
-fn leads_to(alloc: Global, from: &str, goal: &str, want: &str) -> Result<bool, AllocError> {
+/// Whether the step from the joint of a row's first word to the goal of its second one leads to the
+/// joint of its third one.
+fn leads_to(alloc: Global, row: &str) -> Result<bool, AllocError> {
+    let [from, goal, want, ..] = words(row);
     let from = joint(alloc, from)?;
     let next = from.find_coherent(alloc, list(alloc, goal)?)?;
     Ok(equals_clones(&from)? && next == joint(alloc, want)?)
@@ -24,11 +26,8 @@ fn leads_to(alloc: Global, from: &str, goal: &str, want: &str) -> Result<bool, A
 /// and the step to the first gives the first alone. From no config it gives the goal.
 #[test]
 fn the_next_joint_shares_a_child(rt: HostRuntime) -> Result<(), Fail> {
-    for (from, goal, want) in [("none", "1", "1"), ("1/2", "1", "1"), ("1/2", "3", "2/3")] {
-        assert!(rt;
-            leads_to(rt.alloc(), from, goal, want)?,
-            "from {from} to {goal}"
-        );
+    for row in ["none 1 1", "1/2 1 1", "1/2 3 2/3"] {
+        assert_row(&rt, row, leads_to(rt.alloc(), row)?);
     }
     Ok(())
 }

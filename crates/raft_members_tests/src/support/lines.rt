@@ -117,13 +117,23 @@ pub fn test_is_right(alloc: Global, row: &str) -> Result<bool, AllocError> {
 /// the voters, the learners, whether the id has a node, whether it is a voter, its node, and
 /// whether there are several configs.
 pub fn read_is_right(alloc: Global, row: &str) -> Result<bool, AllocError> {
-    let [configs, nodes, id, voters, learners, answers @ ..] = words(row);
+    let [
+        configs,
+        nodes,
+        id,
+        voters,
+        learners,
+        contains,
+        is_voter,
+        node,
+        is_joint,
+    ] = words(row);
     let read = members(alloc, configs, nodes)?;
     let (voters, learners) = (ids(alloc, voters)?, ids(alloc, learners)?);
     let are_right = [
         read.voter_ids()?.iter().eq(voters.iter()),
         read.learner_ids().eq(learners.iter().copied()),
-        reads_as(&read, number(id), answers),
+        reads_as(&read, number(id), [contains, is_voter, node, is_joint]),
     ];
     Ok(!are_right.contains(&false))
 }
