@@ -1,7 +1,7 @@
 use Rattle.std.proofs.Common.{◌≡◌, nat_eq}
 use Rattle.raft_members.proofs.CallerLemmas.{list_clones}
 use Rattle.raft_members_tests.proofs.lemmas.NumberLemmas.{same}
-use Rattle.raft_members_tests.proofs.coherent.the_next_joint_shares_a_child.Goals as goal
+use Rattle.raft_members_tests.proofs.coherent.equals_clones.Goals as goal
 
 pub try_clone-requires : goal.try_clone-requires
 try_clone-requires g c = record {
