@@ -17,4 +17,4 @@ returns-clause-ok c =
 pub returns-in_err-replies-clause-err : goal.returns-in_err-replies-clause-err
 returns-in_err-replies-clause-err c =
     MatchResult-from_err c.from_residual-in_err-replies.result (λ _. ⊤) _ c.from_residual-in_err-replies.ensures.0
-    (λ _. ap Some c.in_err-replies.ensures.err ∙ sym (ap (option_map tracked) c.in-Some.is))
+    (λ _. ap Some c.in_err-replies.ensures.err ∙ sym (ap (option_map tracked_view) c.in-Some.is))
