@@ -45,7 +45,7 @@ pub fn granted_after<
     Ok(Some(*progress.granted()))
 }
 
-/// Steps with their replies, the walk that they leave, and how many updates and moves they count.
+/// Steps with their replies, the entries that they leave, and how many updates and moves they count.
 struct Script {
     rows: &'static [(Row, Reply<u64, u64>)],
     entries: &'static [(u64, u64)],

@@ -85,7 +85,7 @@ fn the_first_voter_without_a_node_is_the_greatest_number(rt: HostRuntime) -> Res
 /// A progress over such ids.
 type Progress = VecProgress<Reversed, u64, u64, Vec<Reversed>>;
 
-/// Whether a progress walks the ids of these numbers, in turn.
+/// Whether a progress has the ids of these numbers, in this order.
 fn has_ids(progress: &Progress, want: &[u64]) -> bool {
     progress
         .iter()

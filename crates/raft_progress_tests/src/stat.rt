@@ -1,5 +1,5 @@
 //! What a progress counts: quorum tests that are those made, updates and moves, over worked
-//! updates with what is granted and the walk.
+//! updates with what is granted and the order of the entries.
 ghost use Rattle.raft_members.specs.quorum.Majority.{is_majority};
 ghost use Rattle.raft_members.specs.quorum.MajorityLawful.{is_majority-superset};
 ghost use Rattle.raft_progress.specs.progress.InOrder.{IsInOrder};
@@ -111,8 +111,8 @@ fn compare_replays(
     Ok(())
 }
 
-/// Whether the walk is the wanted one, where one is wanted, and each id of it is at its place.
-fn shows_entries(progress: &Progress, want: &[(u64, u64)]) -> bool {
+/// Whether the entries are the wanted ones, if some are wanted, and each id is at its position.
+fn has_entries(progress: &Progress, want: &[(u64, u64)]) -> bool {
     let is_placed = |(place, entry): (usize, &(u64, u64))| progress.index(&entry.0) == Some(place);
     want.is_empty()
         || progress.iter().copied().eq(want.iter().copied())
@@ -129,7 +129,7 @@ fn has_counts(progress: &Progress, want: &Option<(u64, u64)>) -> bool {
     }
 }
 
-/// A number of voters and its binary digits, learners and updates; the walk that they leave, and
+/// A number of voters and its binary digits, learners and updates; the entries that they leave, and
 /// how many updates and moves are counted, where known.
 type Row<'a> = (
     u64,
@@ -210,7 +210,7 @@ fn compare(rt: &impl Abort, alloc: Global, row: &Row<'_>) -> Result<(), AllocErr
     let (voters, digits, learners, updates, entries, counts) = row;
     let mut updated = made(rt, alloc, make_asked(alloc, *voters)?, learners, 0)?;
     compare_updates(rt, &mut updated, updates, *digits);
-    assert_row(rt, "entries", shows_entries(&updated, entries));
+    assert_row(rt, "entries", has_entries(&updated, entries));
     assert_row(rt, "counts", has_counts(&updated, counts));
     let mut replayed = made(rt, alloc, make_asked(alloc, *voters)?, learners, 0)?;
     compare_replays(rt, alloc, &mut replayed, updates, *digits)?;
@@ -250,7 +250,7 @@ fn counts_are(stat: &Stat, moves: u64, tests: u64) -> bool {
 }
 
 /// Voters and learners, and what the upgrade to them grants, the moves that are counted with it,
-/// and the walk that it leaves.
+/// and the entries that it leaves.
 type UpgradeRow<'a> = (&'a [u64], &'a [u64], u64, u64, &'a [(u64, u64)]);
 
 /// Example progress 6. The upgrade from voters 0 to 2 to voters 2 to 4, over a quorum set that
@@ -276,7 +276,7 @@ fn an_upgrade_counts_its_calls(rt: HostRuntime) -> Result<(), Fail> {
         let calls = progress.quorum_set().calls.get();
         let tests = before.saturating_add(calls);
         assert_row(&rt, "counts", counts_are(progress.stat(), moves, tests));
-        assert_row(&rt, "entries", shows_entries(&progress, entries));
+        assert_row(&rt, "entries", has_entries(&progress, entries));
     }
     Ok(())
 }

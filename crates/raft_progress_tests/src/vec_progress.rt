@@ -187,7 +187,7 @@ fn any_progress_grants(rt: HostRuntime) -> Result<(), Fail> {
     Ok(())
 }
 
-/// Writes a value at each id. Only the walk changes, and it stays as long as it was.
+/// Writes a value at each id. Only the entries change, and there are as many as before.
 fn fill(progress: &mut VecProgress<u64, u64, u64, Vec<u64>>, value: u64)
     ensures all_else { view progress.new ≡
         record (view progress.old) { entries = (view progress.new).entries } }

@@ -5,7 +5,7 @@ use Rattle.raft_progress.specs.progress.ProgressState.{ProgressState}
 use Rattle.raft_progress.specs.progress.Entries.{state_of}
 use Rattle.raft_progress.specs.declared.progress.stat.Stat.{Stat}
 
--- a quorum set, the entries (the ids with their values, the voters first; the field is `entries`), the
+-- a quorum set, the entries (the ids with their values, the voters first), the number of voters, the
 -- part of the default, the granted value, and the counts
 pub record ProgressView (ID V P QS : Type 0) : Type 0 where
   pub quorum_set : QS

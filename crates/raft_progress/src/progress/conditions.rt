@@ -68,7 +68,7 @@ fn has_distinct_ids<ID: Copy + Ord, V>(entries: &[(ID, V)]) -> bool
     true
 }
 
-/// Writes the ids of the voters to the scratch space `scratch`.
+/// Writes the ids of the voters to the scratch space.
 fn write_ids<ID: Copy, V>(voters: &[(ID, V)], scratch: &mut [ID])
     requires { length scratch.old ≡ length voters.now }
     ensures { scratch.new ≡ keys_of voters.now }
@@ -86,7 +86,7 @@ fn share_id<ID: Copy + Ord, V>(voters: &[(ID, V)], learners: &[(ID, V)]) -> bool
 }
 
 /// Whether no id is repeated, for many voters and few learners.
-// The ids of the voters are sorted in the scratch space `scratch`, so that equal ones are
+// The ids of the voters are sorted in the scratch space, so that equal ones are
 // neighbours.
 fn has_distinct_voters<ID: Copy + Ord, V>(
     voters: &[(ID, V)],
