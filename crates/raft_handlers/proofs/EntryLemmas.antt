@@ -48,8 +48,16 @@ use Rattle.std.specs.declared.cmp.Ordering.{Ordering}
 use Rattle.raft_base.specs.LogId.{id_lt, index_of, next_index, same_ids}
 use Rattle.raft_base.specs.LogIndex.{index_lt}
 use Rattle.raft_base.specs.declared.log_id.LogIdOf.{LogIdOf}
-use Rattle.raft_handlers.specs.Append.{follow_on, has_entry, memberships_before, replaced_since, KeepsBelow}
-use Rattle.raft_handlers.specs.Entries.{allows_commit, entry_ids, has_with, may_commit_with, memberships_below}
+use Rattle.raft_handlers.specs.Append.{accepted_before, follow_on, has_entry, log_before, memberships_before, replaced_since, KeepsBelow}
+use Rattle.raft_handlers.specs.Entries.{
+  accepted_below,
+  allows_commit,
+  entry_ids,
+  has_with,
+  log_with_new,
+  may_commit_with,
+  memberships_below,
+}
 use Rattle.raft_members.specs.membership.Stored.{log_id_of}
 use Rattle.raft_members.specs.quorum.MajorityLawful.{list_all-weaker}
 use Rattle.raft_state.proofs.lemmas.log.ConflictLemmas.{place_passes}
@@ -197,6 +205,23 @@ pub memberships_first : {K N I L C D : Type 0} (s : RaftStateIn K N I L C) (es :
     → slice_get es 0 ≡ Some first → memberships_before es s ≡ memberships_below first.log_id.index s
 memberships_first s [] first h = cc
 memberships_first s (e ∷ es) first h = let is : e ≡ first = cc in rw is refl
+
+-- what is accepted before new entries
+pub accepted_first : {K N I L C D : Type 0} (cmp : C → C → Ordering) (s : RaftStateIn K N I L C) (es : List (EntryOf C K N D))
+    (first : EntryOf C K N D) → slice_get es 0 ≡ Some first → accepted_before cmp es s ≡ accepted_below cmp first.log_id.index s
+accepted_first cmp s [] first h = cc
+accepted_first cmp s (e ∷ es) first h = let is : e ≡ first = cc in rw is refl
+
+-- the log before new entries, and with them
+pub log_first : {K N I L C D : Type 0} (s : RaftStateIn K N I L C) (es : List (EntryOf C K N D)) (first : EntryOf C K N D)
+    → slice_get es 0 ≡ Some first → log_before es s ≡ front (full_log s.log_ids) first.log_id.index
+log_first s [] first h = cc
+log_first s (e ∷ es) first h = let is : e ≡ first = cc in rw is refl
+
+pub with_new_first : {C K N D : Type 0} (log : List (LogIdOf C)) (es : List (EntryOf C K N D)) (first : EntryOf C K N D)
+    → slice_get es 0 ≡ Some first → log_with_new log es ≡ front log first.log_id.index ++ entry_ids es
+with_new_first log [] first h = cc
+with_new_first log (e ∷ es) first h = let is : e ≡ first = cc in rw is refl
 
 -- what a look-up among new log ids says
 pub has_with_some : {C K N D : Type 0} (eq : C → C → Bool) (log : List (LogIdOf C)) (es : List (EntryOf C K N D))

@@ -3,7 +3,6 @@ pub mod ChangeLemmas
 pub mod FollowerLemmas
 pub mod HonestLemmas
 pub mod KnownLemmas
-pub mod MajorityLemmas
 pub mod RefusalLemmas
 pub mod RestartLemmas
 pub mod RunLemmas

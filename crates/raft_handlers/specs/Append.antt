@@ -7,6 +7,7 @@ use Rattle.std.specs.Prelude.{
   true,
   false,
   ◌&&◌,
+  ◌⊎◌,
   List,
   [],
   ◌∷◌,
@@ -24,10 +25,12 @@ use Rattle.raft_base.specs.LogId.{id_lt, index_of, same_ids}
 use Rattle.raft_base.specs.declared.log_id.LogIdOf.{LogIdOf}
 use Rattle.raft_base.specs.declared.vote.VoteIn.{VoteIn}
 use Rattle.raft_handlers.specs.Entries.{
+  accepted_below,
   are_in_order,
   entry_ids,
   keeps_committed,
   last_before,
+  log_with_new,
   may_cut,
   has_committed_with,
   has_members_in_order,
@@ -40,11 +43,13 @@ use Rattle.raft_handlers.specs.declared.message.Outcome.{Outcome}
 use Rattle.raft_handlers.specs.declared.message.Outcome.TheVariants.{Matches, Conflict, HigherVote}
 use Rattle.raft_state.specs.raft_state.Appended.{are_consecutive, AppendsMemberships}
 use Rattle.raft_state.specs.entry.Entry.{payload_membership}
-use Rattle.raft_state.specs.log_id_list.FullLog.{end_index, full_log}
+use Rattle.raft_state.specs.log_id_list.FullLog.{end_index, full_log, same_log}
+use Rattle.raft_state.specs.log_id_list.LogEdits.{front}
 use Rattle.raft_state.specs.log_id_list.LogReads.{id_at, last_id}
 use Rattle.raft_state.specs.membership_state.MembershipMoves.{after_commit}
 use Rattle.raft_state.specs.membership_state.Memberships.{Memberships}
 use Rattle.raft_state.specs.raft_state.Sound.{purged_or_logged}
+use Rattle.raft_state.specs.declared.accepted.AcceptedIn.{AcceptedIn}
 use Rattle.raft_state.specs.declared.entry.EntryOf.{EntryOf}
 use Rattle.raft_state.specs.declared.raft_state.RaftStateIn.{RaftStateIn}
 
@@ -59,6 +64,12 @@ abbrev pub IfConflict : {L C : Type 0} → Outcome L C → (ℕ → Type 0) → 
 IfConflict (Matches upto) p = Unit {0}
 IfConflict (Conflict at) p = p at
 IfConflict (HigherVote vote) p = Unit {0}
+
+-- an answer that the leader is not followed, because of a vote of which this holds
+abbrev pub IfHigherVote : {L C : Type 0} → Outcome L C → (VoteIn L → Type 0) → Type 0
+IfHigherVote (Matches upto) p = Unit {0}
+IfHigherVote (Conflict at) p = Unit {0}
+IfHigherVote (HigherVote vote) p = p vote
 
 -- the vote that an elected leader's requests stand for
 abbrev pub elected : {L : Type 0} → L → VoteIn L
@@ -110,11 +121,23 @@ abbrev pub greatest : {C : Type 0} → (C → C → Ordering) → Option (LogIdO
     → Option (LogIdOf C) → Option (LogIdOf C)
 greatest cmp a b = if id_lt cmp a b then b else a
 
+-- the log of a state before these new entries are appended
+abbrev pub log_before : {K N I L C D : Type 0} → List (EntryOf C K N D) → RaftStateIn K N I L C
+    → List (LogIdOf C)
+log_before [] s = full_log s.log_ids
+log_before (e ∷ es) s = front (full_log s.log_ids) e.log_id.index
+
 -- the memberships of a state before these new entries are appended
 abbrev pub memberships_before : {K N I L C D : Type 0} → List (EntryOf C K N D)
     → RaftStateIn K N I L C → Memberships C K N
 memberships_before [] s = s.membership_state
 memberships_before (e ∷ es) s = memberships_below e.log_id.index s
+
+-- what is accepted in a state before these new entries are appended
+abbrev pub accepted_before : {K N I L C D : Type 0} → (C → C → Ordering) → List (EntryOf C K N D)
+    → RaftStateIn K N I L C → AcceptedIn L C
+accepted_before cmp [] s = s.accepted
+accepted_before cmp (e ∷ es) s = accepted_below cmp e.log_id.index s
 
 -- each membership of these new entries was made effective, one after the other, in place of those
 -- of the log that they replace, and then what is committed up to a log id
@@ -125,6 +148,23 @@ TakesMemberships {K} {N} {I} {L} {C} cmp eq same new upto s m =
     (appended : Memberships C K N) × AppendsMemberships eq same (λ e. e.log_id)
     (λ e. payload_membership e.payload) new (memberships_before new s) appended
     × (m ≡ (if id_lt cmp s.committed upto then after_commit cmp upto appended else appended))
+
+-- what a failed allocation leaves of the log, the memberships and what is accepted, in a state that
+-- takes these new entries: all is as it was; or all is cut off at the first new entry; or log and
+-- memberships have the new entries too
+abbrev pub IsLeftBy : {K N I L C D : Type 0} → (C → C → Bool) → (C → C → Ordering)
+    → (K → K → Bool) → (N → N → Bool) → List (EntryOf C K N D) → (old new : RaftStateIn K N I L C)
+    → Type 0
+IsLeftBy eq cmp id_eq same es old new =
+    ((new.log_ids ≡ old.log_ids) × (new.membership_state ≡ old.membership_state)
+    × (new.accepted ≡ old.accepted))
+    ⊎ ((full_log new.log_ids ≡ log_before es old)
+    × (new.membership_state ≡ memberships_before es old)
+    × (new.accepted ≡ accepted_before cmp es old))
+    ⊎ (IsTrue (same_log eq (full_log new.log_ids) (log_with_new (full_log old.log_ids) es))
+    × (new.accepted ≡ accepted_before cmp es old)
+    × AppendsMemberships id_eq same (λ e. e.log_id) (λ e. payload_membership e.payload) es
+    (memberships_before es old) new.membership_state)
 
 -- a log id has this index, and the log does not have it, nor is its index purged
 abbrev pub IsConflict : {K N I L C : Type 0} → (C → C → Bool) → ℕ → Option (LogIdOf C)

@@ -1,14 +1,21 @@
 -- What a candidate knows, and what elects it.
-use Rattle.std.specs.Prelude.{◌≡◌, ◌<◌, Bool, true, false, ◌&&◌, ◌||◌, Option, is_some, length}
+use Rattle.std.specs.Prelude.{◌≡◌, ◌≤◌, ◌+◌, ◌^◌, ◌⊎◌, ℕ, Bool, false, ◌&&◌, ◌||◌, Option, is_some}
 use Rattle.std.specs.Option.{option_map_or}
 use mathlib.Core.Bool.{beq}
 use Rattle.raft_base.specs.declared.log_id.LogIdOf.{LogIdOf}
 use Rattle.raft_base.specs.declared.vote.VoteIn.{VoteIn}
-use Rattle.raft_members.specs.quorum.Majority.{is_joint_majority, is_voter_of}
+use Rattle.raft_members.specs.quorum.Majority.{is_voter_of}
 use Rattle.raft_members.specs.membership.Stored.{membership_of}
 use Rattle.raft_progress.specs.progress.ProgressView.{state}
+use Rattle.raft_progress.specs.tracked.EachConfig.{MajorityOfEach}
 use Rattle.raft_progress.specs.tracked.TrackedState.{TrackedView}
+use Rattle.raft_state.specs.log_id_list.FullLog.{end_index, full_log}
 use Rattle.raft_state.specs.membership_state.Memberships.{Memberships}
+use Rattle.raft_state.specs.raft_state.VoteAndLog.{vote_of}
+use Rattle.raft_state.specs.declared.raft_state.RaftStateIn.{RaftStateIn}
+use Rattle.raft_handlers.specs.Leadership.{IsFullLogRefusal}
+use Rattle.raft_handlers.specs.declared.error.HandlerError.{HandlerError}
+use Rattle.raft_handlers.specs.declared.error.HandlerError.TheVariants.{NoNextTerm, NotElected, NotLeader, NotVoter, OutOfMemory}
 use Rattle.raft_handlers.specs.declared.message.VoteResponse.{VoteResponse}
 
 -- the node that campaigns, its vote, its last log id, and who of the members has voted for it
@@ -28,9 +35,8 @@ module _ {K N L C : Type 0} (eq : K → K → Bool) where
   has_vote_of c id = option_map_or (λ v. v) ((state eq c.votes.progress).value id) false
 
   -- a majority of each config has voted for the candidate, and there is a config
-  pub record HasMajorities (c : Campaign K N L C) : Type 0 where
-    pub config : 0 < length c.votes.membership.configs
-    pub majority : is_joint_majority eq c.votes.membership.configs (has_vote_of c) ≡ true
+  abbrev pub HasMajorities : Campaign K N L C → Type 0
+  HasMajorities c = MajorityOfEach eq c.votes (λ v. v)
 
   -- the vote of a member is counted, and all else is as it was
   pub record CountsVoteOf (from : K) (old new : Campaign K N L C) : Type 0 where
@@ -52,3 +58,20 @@ abbrev pub may_campaign : {K N C : Type 0} → (K → K → Bool) → K → Memb
 may_campaign eq id m =
     is_voter_of eq (membership_of m.effective).configs id
     || is_voter_of eq (membership_of m.committed).configs id
+
+-- why a node does not campaign: it may not, there is no greater term, or an allocation failed
+abbrev pub IsCampaignRefusal : {K N C : Type 0} → (K → K → Bool) → K → ℕ → Memberships C K N
+    → HandlerError → Type 0
+IsCampaignRefusal eq id greatest m NotVoter = may_campaign eq id m ≡ false
+IsCampaignRefusal eq id greatest m NoNextTerm = 2 ^ 64 ≤ greatest + 1
+IsCampaignRefusal eq id greatest m OutOfMemory = Unit {0}
+IsCampaignRefusal eq id greatest m refusal = ⊥
+
+-- why a candidate does not lead: no quorum has elected it, the state has another vote, or nothing can
+-- follow its log
+abbrev pub IsElectionRefusal : {K N I L C : Type 0} → (K → K → Bool) → (L → L → Bool)
+    → Campaign K N L C → RaftStateIn K N I L C → HandlerError → Type 0
+IsElectionRefusal eq same c s e =
+    ((e ≡ NotElected) × (HasMajorities eq c → ⊥))
+    ⊎ ((e ≡ NotLeader) × (same_vote same (vote_of s) c.vote ≡ false))
+    ⊎ IsFullLogRefusal (end_index (full_log s.log_ids)) e

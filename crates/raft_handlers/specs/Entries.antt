@@ -35,6 +35,7 @@ use Rattle.raft_handlers.specs.declared.error.HandlerError.TheVariants.{
   TruncatesCommitted,
 }
 use Rattle.raft_members.specs.membership.Stored.{log_id_of}
+use Rattle.raft_state.specs.Accepted.{accepted_upto}
 use Rattle.raft_state.specs.raft_state.Appended.{are_consecutive, last_stored, memberships_follow}
 use Rattle.raft_state.specs.entry.Entry.{payload_membership}
 use Rattle.raft_state.specs.log_id_list.FullLog.{full_log}
@@ -44,6 +45,7 @@ use Rattle.raft_state.specs.log_id_list.LogReads.{id_at, last_id}
 use Rattle.raft_state.specs.membership_state.MembershipMoves.{after_truncate}
 use Rattle.raft_state.specs.membership_state.Memberships.{Memberships}
 use Rattle.raft_state.specs.raft_state.Truncate.{can_truncate_log}
+use Rattle.raft_state.specs.declared.accepted.AcceptedIn.{AcceptedIn}
 use Rattle.raft_state.specs.declared.entry.EntryOf.{EntryOf}
 use Rattle.raft_state.specs.declared.raft_state.RaftStateIn.{RaftStateIn}
 
@@ -75,6 +77,12 @@ last_below since s = last_id (front (full_log s.log_ids) since)
 abbrev pub memberships_below : {K N I L C : Type 0} → ℕ → RaftStateIn K N I L C → Memberships C K N
 memberships_below since s =
     if ends_before since s then s.membership_state else after_truncate since s.membership_state
+
+-- what is accepted then: no more than the log that is left
+abbrev pub accepted_below : {K N I L C : Type 0} → (C → C → Ordering) → ℕ → RaftStateIn K N I L C
+    → AcceptedIn L C
+accepted_below cmp since s =
+    if ends_before since s then s.accepted else accepted_upto cmp s.accepted (last_below since s)
 
 -- the log id of the effective membership then
 abbrev pub effective_below : {K N I L C : Type 0} → ℕ → RaftStateIn K N I L C → Option (LogIdOf C)

@@ -1,5 +1,5 @@
 -- What a leader knows of its members, and when it leads, commits and proposes.
-use Rattle.std.specs.Prelude.{◌≡◌, ℕ, Bool, true, false, ◌&&◌, not, Option, Some, None}
+use Rattle.std.specs.Prelude.{◌≡◌, ℕ, Bool, true, false, ◌&&◌, ◌⊎◌, ◌^◌, not, nat_lt, Option, Some, None, IsTrue}
 use Rattle.std.specs.Map.{update}
 use Rattle.std.specs.Option.{option_cmp, option_eq}
 use Rattle.std.specs.declared.cmp.Ordering.{Ordering}
@@ -7,7 +7,7 @@ use Rattle.raft_base.specs.LogId.{log_id_cmp, next_index}
 use Rattle.raft_base.specs.declared.log_id.LogIdOf.{LogIdOf}
 use Rattle.raft_members.specs.membership.Change.{changed}
 use Rattle.raft_members.specs.quorum.Majority.{is_voter_of}
-use Rattle.raft_members.specs.membership.Members.{members_of}
+use Rattle.raft_members.specs.membership.Members.{members_of, same_members}
 use Rattle.raft_members.specs.quorum.Reached.{EachQuorumKnows}
 use Rattle.raft_members.specs.membership.Stored.{membership_of}
 use Rattle.raft_members.specs.declared.change_members.ChangeMembers.{ChangeMembers}
@@ -19,7 +19,13 @@ use Rattle.raft_progress.specs.tracked.TrackedState.{TrackedView}
 use Rattle.raft_progress.specs.declared.entry.ProgressEntryOf.{ProgressEntryOf}
 use Rattle.raft_progress.specs.declared.inflight.InflightOf.TheVariants.{None as Idle}
 use Rattle.raft_handlers.specs.declared.error.HandlerError.{HandlerError}
-use Rattle.raft_handlers.specs.declared.error.HandlerError.TheVariants.{MembershipNotInOrder, NotLogged, OutOfMemory}
+use Rattle.raft_handlers.specs.declared.error.HandlerError.TheVariants.{
+  MembershipNotInOrder,
+  NoNextIndex,
+  NotLeader,
+  NotLogged,
+  OutOfMemory,
+}
 use Rattle.raft_state.specs.raft_state.Commit.{state_commits, state_may_commit}
 use Rattle.raft_state.specs.log_id_list.FullLog.{end_index, full_log}
 use Rattle.raft_state.specs.membership_state.Memberships.{Memberships}
@@ -79,18 +85,19 @@ module _ {K N C : Type 0} (eq : K → K → Bool) where
   -- what is known of one member is this entry now, and all else is as it was
   pub record WritesEntry (old : Leadership K N C) (id : K) (entry : ProgressEntryOf C)
       (new : Leadership K N C) : Type 0 where
-    pub entries : (x : K) → entry_of new x ≡ update eq (entry_of old) id (Some entry) x
-    pub members : new.followers.membership ≡ old.followers.membership
+    pub member : WritesMember eq old.followers id entry new.followers
     pub rest : new ≡ record old { followers = new.followers }
 
-  -- the leader counts by the effective membership of a state, and nothing is known of its members but
-  -- that no log matches the leader's from its end on
-  pub record KnowsNothing {I L : Type 0} (s : RaftStateIn K N I L C) (l : Leadership K N C) : Type 0
-    where
-      pub configs : l.followers.membership.configs
-          ≡ (membership_of s.membership_state.effective).configs
-      pub entries : (x : K) (entry : ProgressEntryOf C) → entry_of l x ≡ Some entry
-          → entry ≡ unknown_entry (end_index (full_log s.log_ids))
+  -- the leader counts by a copy of the effective membership of a state, and nothing is known of its
+  -- members but that no log matches the leader's from its end on
+  pub record KnowsNothing {I L : Type 0} (same : N → N → Bool) (s : RaftStateIn K N I L C)
+      (l : Leadership K N C) : Type 0 where
+    pub members : IsTrue (same_members eq same (membership_of s.membership_state.effective)
+        l.followers.membership)
+    pub configs : l.followers.membership.configs
+        ≡ (membership_of s.membership_state.effective).configs
+    pub entries : (x : K) (entry : ProgressEntryOf C) → entry_of l x ≡ Some entry
+        → entry ≡ unknown_entry (end_index (full_log s.log_ids))
 
 module _ {K N C : Type 0} (eq : K → K → Bool) (cmp : C → C → Ordering) where
   -- each quorum of the membership has a voter whose match is at least a log id
@@ -117,6 +124,14 @@ flushed_entry upto = record {
   searching_end = next_index upto;
 }
 
+-- why a leader does not count what is on its disk up to a log id: no index is after it, or the log
+-- does not have it
+abbrev pub IsFlushRefusal : {K N I L C : Type 0} → (C → C → Bool) → Option (LogIdOf C)
+    → RaftStateIn K N I L C → HandlerError → Type 0
+IsFlushRefusal eq upto s NoNextIndex = nat_lt (next_index upto) (2 ^ 64) ≡ false
+IsFlushRefusal eq upto s NotLogged = none_or_logged eq (log_view_of s) upto ≡ false
+IsFlushRefusal eq upto s refusal = ⊥
+
 -- why the commit of what is granted is refused: the log does not have it, the memberships are not in
 -- the order of the log, or an allocation failed, which only the commit of a membership makes
 abbrev pub IsCommitRefusal : {K N I L C : Type 0} → (C → C → Bool) → (C → C → Ordering)
@@ -125,3 +140,15 @@ IsCommitRefusal eq cmp granted s NotLogged = none_or_logged eq (log_view_of s) g
 IsCommitRefusal eq cmp granted s MembershipNotInOrder = state_may_commit cmp granted s ≡ false
 IsCommitRefusal eq cmp granted s OutOfMemory = state_commits cmp granted s ≡ true
 IsCommitRefusal eq cmp granted s refusal = ⊥
+
+-- why nothing can follow a log that ends at this index: the index is no `u64`, or an allocation failed
+abbrev pub IsFullLogRefusal : ℕ → HandlerError → Type 0
+IsFullLogRefusal end e = ((e ≡ NoNextIndex) × (nat_lt end (2 ^ 64) ≡ false)) ⊎ (e ≡ OutOfMemory)
+
+-- why a node does not lead on: the vote is not committed or not for it, or nothing can follow its log
+abbrev pub IsResumeRefusal : {K N I L C : Type 0} → (K → K → Bool) → (L → Option K) → K
+    → RaftStateIn K N I L C → HandlerError → Type 0
+IsResumeRefusal eq voted id s e =
+    ((e ≡ NotLeader) × (((vote_of s).committed
+    && option_eq eq (voted (vote_of s).leader_id) (Some id)) ≡ false))
+    ⊎ IsFullLogRefusal (end_index (full_log s.log_ids)) e

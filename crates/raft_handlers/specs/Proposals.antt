@@ -1,12 +1,17 @@
 -- What a leader proposes.
-use Rattle.std.specs.Prelude.{◌≡◌, Bool, ◌++◌, [], ◌∷◌, List, Option, Some, None}
+use Rattle.std.specs.Prelude.{◌≡◌, ◌^◌, Bool, false, nat_lt, ◌++◌, [], ◌∷◌, List, Option, Some, None}
+use Rattle.std.specs.declared.cmp.Ordering.{Ordering}
 use Rattle.raft_base.specs.declared.log_id.LogIdOf.{LogIdOf}
+use Rattle.raft_handlers.specs.declared.error.HandlerError.{HandlerError}
+use Rattle.raft_handlers.specs.declared.error.HandlerError.TheVariants.{NoNextIndex, NotInOrder, NotLeader, OutOfMemory}
 use Rattle.raft_state.specs.log_id_list.FullLog.{end_index, full_log}
 use Rattle.raft_members.specs.membership.Members.{MemberList}
 use Rattle.raft_members.specs.declared.membership.stored.StoredMembershipOf.{StoredMembershipOf}
-use Rattle.raft_state.specs.raft_state.Appended.{IsStoredBy}
+use Rattle.raft_state.specs.raft_state.Appended.{IsStoredBy, may_append_entries}
 use Rattle.raft_state.specs.membership_state.MembershipMoves.{after_append}
 use Rattle.raft_state.specs.membership_state.Memberships.{Memberships}
+use Rattle.raft_state.specs.entry.Entry.{payload_membership}
+use Rattle.raft_state.specs.declared.entry.EntryOf.{EntryOf}
 use Rattle.raft_state.specs.declared.raft_state.RaftStateIn.{RaftStateIn}
 
 -- the log id of a leader's next entry: the index after the last log id
@@ -25,3 +30,15 @@ AppendsPayload eq same id None old new = new ≡ old
 AppendsPayload {K} {N} {C} eq same id (Some m) old new =
     (stored : StoredMembershipOf C K N) × IsStoredBy eq same id m stored
     × (new ≡ after_append stored old)
+
+-- why an entry of a leader's own is refused: the leader does not lead, which is given; no index is
+-- after the log's end; the entry may not be appended; or an allocation failed
+abbrev pub IsProposalRefusal : {K N I L C D : Type 0} → (C → C → Ordering) → (leads : Bool)
+    → EntryOf C K N D → RaftStateIn K N I L C → HandlerError → Type 0
+IsProposalRefusal cmp leads entry s NotLeader = leads ≡ false
+IsProposalRefusal cmp leads entry s NoNextIndex =
+    nat_lt (end_index (full_log s.log_ids)) (2 ^ 64) ≡ false
+IsProposalRefusal cmp leads entry s NotInOrder =
+    may_append_entries cmp (λ e. e.log_id) (λ e. payload_membership e.payload) (entry ∷ []) s ≡ false
+IsProposalRefusal cmp leads entry s OutOfMemory = Unit {0}
+IsProposalRefusal cmp leads entry s refusal = ⊥

@@ -1,9 +1,11 @@
 -- What a restart makes of the disk: the snapshot, and the entries past it.
-use Rattle.std.specs.Prelude.{◌≡◌, Bool, not, ◌&&◌, nat_eq, List, [], ◌∷◌, Option, Some, None, IsTrue}
+use Rattle.std.specs.Prelude.{◌≡◌, Bool, false, not, ◌&&◌, nat_eq, List, [], ◌∷◌, Option, Some, None, IsTrue}
 use Rattle.std.specs.Prelude.{◌+◌, ◌^◌, nat_lt, true, if◌then◌else◌}
 use Rattle.std.specs.declared.cmp.Ordering.{Ordering}
 use Rattle.raft_base.specs.LogId.{id_lt, next_index}
+use Rattle.raft_base.specs.UTime.{moment_of}
 use Rattle.raft_base.specs.declared.log_id.LogIdOf.{LogIdOf}
+use Rattle.raft_base.specs.declared.server_state.ServerState.TheVariants.{Learner}
 use Rattle.raft_handlers.specs.Append.{greatest}
 use Rattle.raft_handlers.specs.Entries.{
   allows_commit_past,
@@ -18,6 +20,7 @@ use Rattle.raft_handlers.specs.declared.error.HandlerError.{HandlerError}
 use Rattle.raft_members.specs.membership.Members.{same_members}
 use Rattle.raft_members.specs.membership.Stored.{log_id_of, membership_of}
 use Rattle.raft_members.specs.declared.membership.stored.StoredMembershipOf.{StoredMembershipOf}
+use Rattle.raft_state.specs.IOState.{io_state}
 use Rattle.raft_state.specs.SnapshotMeta.{IsNoSnapshot, IsSnapshotCopy}
 use Rattle.raft_state.specs.entry.Entry.{payload_membership}
 use Rattle.raft_state.specs.log_id_list.FullLog.{full_log}
@@ -86,6 +89,15 @@ pub record HasSnapshotAlone {K N I L C : Type 0} (eq : K → K → Bool) (same :
   pub purge_point : s.purge_upto ≡ meta.last_log_id
   pub memberships : AreSnapshotMemberships eq same meta s.membership_state
   pub snapshot : IsSnapshotAt eq same meta.last_log_id meta s.snapshot_meta
+
+-- a server has not run: it is a learner, its vote has no moment, and its storage has done nothing
+pub record HasNotRun {K N I L C : Type 0} (IsDefaultLeader : L → Type 0)
+    (IsDefaultElected : C → Type 0) (s : RaftStateIn K N I L C) : Type 0 where
+  pub role : s.server_state ≡ Learner
+  pub moment : moment_of s.vote ≡ None
+  pub storage : (leader : L) × (elected : C) × IsDefaultLeader leader × IsDefaultElected elected
+      × (s.io_state ≡ io_state false (record { leader_id = leader; committed = false })
+      (record { committed_leader_id = elected; log_id = None }) None None None)
 
 -- the memberships of the snapshot and then of each entry past it were made effective, one after the
 -- other, and then what is stored as committed was committed

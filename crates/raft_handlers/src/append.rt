@@ -6,8 +6,8 @@ ghost use Rattle.std.specs.Ordering.{partial_ge};
 ghost use Rattle.std.specs.Set.{ClonesAreEqual};
 ghost use Rattle.raft_base.specs.UTime.{moment_of, utime_of};
 ghost use Rattle.raft_base.specs.Vote.{vote_cmp};
-ghost use Rattle.raft_handlers.specs.Append.{elected, greatest, has_all, has_entry, last_of, least, may_take, new_of, replaced_since, IfConflict, IfMatches, IsAppendRefusal, IsConflict, IsTakeRefusal, KeepsBelow, TakesMemberships};
-ghost use Rattle.raft_handlers.specs.Entries.{entry_ids, may_take_new};
+ghost use Rattle.raft_handlers.specs.Append.{accepted_before, elected, greatest, has_all, has_entry, last_of, least, may_take, new_of, replaced_since, IfConflict, IfHigherVote, IfMatches, IsAppendRefusal, IsConflict, IsLeftBy, IsTakeRefusal, KeepsBelow, TakesMemberships};
+ghost use Rattle.raft_handlers.specs.Entries.{accepted_below, entry_ids, may_take_new, memberships_below};
 ghost use Rattle.raft_handlers.specs.Honest.{IsHonest};
 ghost use Rattle.raft_handlers.specs.declared.error.HandlerError.TheVariants.{OutOfMemory};
 ghost use Rattle.raft_handlers.specs.declared.message.Outcome.TheVariants.{HigherVote};
@@ -49,11 +49,15 @@ pub fn handle_append_entries<
           request = request.now.request;
           outcome = HigherVote (vote_of state.old);
         }) }
+    ensures followed { IfOk result (λ response. IfHigherVote response.outcome (λ _.
+        partial_ge (vote_cmp L.order) (elected request.now.leader_id) (vote_of state.old)
+        ≡ false)) }
     ensures not_followed { partial_ge (vote_cmp L.order) (elected request.now.leader_id)
         (vote_of state.old) ≡ false → state.new ≡ state.old }
     ensures vote { OnOk result (IsTrue (partial_ge (vote_cmp L.order)
         (elected request.now.leader_id) (vote_of state.old)) → state.new.vote
         ≡ utime_of (elected request.now.leader_id) (moment_of state.old.vote)) }
+    ensures err_vote { OnErr result (state.new.vote ≡ state.old.vote) }
     ensures upto { IfOk result (λ response. IfMatches response.outcome (λ upto. upto
         ≡ last_of request.now.prev request.now.entries.items)) }
     ensures has_prev { IfOk result (λ response. IfMatches response.outcome (λ _. IsTrue
@@ -81,10 +85,19 @@ pub fn handle_append_entries<
     ensures committed { IfOk result (λ response. IfMatches response.outcome (λ upto.
         state.new.committed ≡ greatest L.Committed.cmp state.old.committed
         (least L.Committed.cmp request.now.committed upto))) }
+    ensures accepted { IfOk result (λ response. IfMatches response.outcome (λ _.
+        state.new.accepted ≡ accepted_before L.Committed.cmp
+        (new_of L.Committed.eq state.old request.now.entries.items) state.old)) }
     ensures conflict { IfOk result (λ response. IfConflict response.outcome (λ at.
         IsConflict L.Committed.eq at request.now.prev state.old)) }
     ensures truncated { IfOk result (λ response. IfConflict response.outcome (λ at.
         full_log state.new.log_ids ≡ front (full_log state.old.log_ids) at)) }
+    ensures conflict_memberships { IfOk result (λ response. IfConflict response.outcome
+        (λ at. state.new.membership_state ≡ memberships_below at state.old)) }
+    ensures conflict_accepted { IfOk result (λ response. IfConflict response.outcome
+        (λ at. state.new.accepted ≡ accepted_below L.Committed.cmp at state.old)) }
+    ensures conflict_committed { IfOk result (λ response. IfConflict response.outcome
+        (λ _. state.new.committed ≡ state.old.committed)) }
     ensures rest { state.new ≡ record state.old {
       vote = state.new.vote;
       log_ids = state.new.log_ids;
@@ -106,6 +119,8 @@ pub fn handle_append_entries<
         (replaced_since (full_log state.old.log_ids)
         (new_of L.Committed.eq state.old request.now.entries.items))
         (full_log state.old.log_ids) (full_log state.new.log_ids)) }
+    ensures left { OnErr result (IsLeftBy L.Committed.eq L.Committed.cmp NID.eq N.eq
+        (new_of L.Committed.eq state.old request.now.entries.items) state.old state.new) }
     ensures not_committed { OnErr result (state.new.committed ≡ state.old.committed) }
     ensures sound { IsSound L.Committed.eq L.Committed.cmp state.old →
         IsSound L.Committed.eq L.Committed.cmp state.new }
@@ -141,6 +156,7 @@ fn match_log<NID: NodeId, N: Node, I: Instant, L: Drop, C: Ord + Copy + Drop, M,
     request: &AppendEntries<M, C, NID, N, D>,
 ) -> Result<Outcome<M, C>, HandlerError>
     requires clones_are_equal { ClonesAreEqual N.eq N.is_clone }
+    ensures followed { IfOk result (λ outcome. IfHigherVote outcome (λ _. ⊥)) }
     ensures upto { IfOk result (λ outcome. IfMatches outcome (λ upto. upto
         ≡ last_of request.now.prev request.now.entries.items)) }
     ensures has_prev { IfOk result (λ outcome. IfMatches outcome (λ _. IsTrue
@@ -165,10 +181,18 @@ fn match_log<NID: NodeId, N: Node, I: Instant, L: Drop, C: Ord + Copy + Drop, M,
         (least C.cmp request.now.committed upto) state.old state.new.membership_state)) }
     ensures committed { IfOk result (λ outcome. IfMatches outcome (λ upto. state.new.committed
         ≡ greatest C.cmp state.old.committed (least C.cmp request.now.committed upto))) }
+    ensures accepted { IfOk result (λ outcome. IfMatches outcome (λ _. state.new.accepted
+        ≡ accepted_before C.cmp (new_of C.eq state.old request.now.entries.items) state.old)) }
     ensures conflict { IfOk result (λ outcome. IfConflict outcome (λ at.
         IsConflict C.eq at request.now.prev state.old)) }
     ensures truncated { IfOk result (λ outcome. IfConflict outcome (λ at.
         full_log state.new.log_ids ≡ front (full_log state.old.log_ids) at)) }
+    ensures conflict_memberships { IfOk result (λ outcome. IfConflict outcome (λ at.
+        state.new.membership_state ≡ memberships_below at state.old)) }
+    ensures conflict_accepted { IfOk result (λ outcome. IfConflict outcome (λ at.
+        state.new.accepted ≡ accepted_below C.cmp at state.old)) }
+    ensures conflict_committed { IfOk result (λ outcome. IfConflict outcome (λ _.
+        state.new.committed ≡ state.old.committed)) }
     ensures rest { state.new ≡ record state.old {
       log_ids = state.new.log_ids;
       membership_state = state.new.membership_state;
@@ -184,6 +208,8 @@ fn match_log<NID: NodeId, N: Node, I: Instant, L: Drop, C: Ord + Copy + Drop, M,
         (replaced_since (full_log state.old.log_ids)
         (new_of C.eq state.old request.now.entries.items))
         (full_log state.old.log_ids) (full_log state.new.log_ids)) }
+    ensures left { OnErr result (IsLeftBy C.eq C.cmp NID.eq N.eq
+        (new_of C.eq state.old request.now.entries.items) state.old state.new) }
     ensures not_committed { OnErr result (state.new.committed ≡ state.old.committed) }
     ensures sound { IsSound C.eq C.cmp state.old → IsSound C.eq C.cmp state.new }
 {
@@ -239,6 +265,8 @@ fn take_entries<NID: NodeId, N: Node, I: Instant, L: Drop, C: Ord + Copy + Drop,
         (new_of C.eq state.old entries.now) committed state.old state.new.membership_state) }
     ensures committed { OnOk result
         (state.new.committed ≡ greatest C.cmp state.old.committed committed) }
+    ensures accepted { OnOk result (state.new.accepted
+        ≡ accepted_before C.cmp (new_of C.eq state.old entries.now) state.old) }
     ensures rest { state.new ≡ record state.old {
       log_ids = state.new.log_ids;
       membership_state = state.new.membership_state;
@@ -250,6 +278,8 @@ fn take_entries<NID: NodeId, N: Node, I: Instant, L: Drop, C: Ord + Copy + Drop,
     ensures reason { IfErr result (IsTakeRefusal C.eq C.cmp prev entries.now
         committed state.old) }
     ensures refused { IfErr result (λ e. e ≢ OutOfMemory → state.new ≡ state.old) }
+    ensures left { OnErr result (IsLeftBy C.eq C.cmp NID.eq N.eq
+        (new_of C.eq state.old entries.now) state.old state.new) }
     ensures not_committed { OnErr result (state.new.committed ≡ state.old.committed) }
     ensures sound { IsSound C.eq C.cmp state.old → IsSound C.eq C.cmp state.new }
 {

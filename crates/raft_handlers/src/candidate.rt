@@ -1,10 +1,10 @@
 //! A candidate: it votes for itself, asks the others for their votes, and counts them.
-ghost use Rattle.std.specs.Prelude.{◌≡◌, ◌↔◌, ◌+◌, ◌&&◌, ◌||◌, max, false, true, None, Some, IfOk, IsOk, IsTrue, OnErr};
+ghost use Rattle.std.specs.Prelude.{◌≡◌, ◌↔◌, ◌+◌, ◌&&◌, ◌||◌, max, false, true, None, Some, IfErr, IfOk, IsOk, IsTrue, OnErr};
 ghost use Rattle.std.specs.declared.cmp.Ordering.TheVariants.{Greater};
 ghost use Rattle.std.specs.Set.{ClonesAreEqual};
 ghost use Rattle.raft_base.specs.UTime.{moment_of, utime_of};
 ghost use Rattle.raft_base.specs.Vote.{vote_cmp};
-ghost use Rattle.raft_handlers.specs.Campaign.{CountsVoteOf, HasMajorities, grants_vote, has_vote_of, is_counted, may_campaign};
+ghost use Rattle.raft_handlers.specs.Campaign.{CountsVoteOf, HasMajorities, IsCampaignRefusal, grants_vote, has_vote_of, is_counted, may_campaign};
 ghost use Rattle.raft_state.specs.log_id_list.FullLog.{full_log};
 ghost use Rattle.raft_state.specs.log_id_list.LogReads.{last_id};
 ghost use Rattle.raft_state.specs.membership_state.Memberships.{in_effect};
@@ -82,6 +82,9 @@ impl<
         ensures promised { IfOk result (λ made. state.new
             ≡ record state.old { vote = utime_of made.vote (moment_of state.old.vote) }) }
         ensures may { IsOk result → IsTrue (may_campaign NID.eq id state.old.membership_state) }
+        ensures refused { IfErr result (IsCampaignRefusal NID.eq id
+            (max greatest_term (L.term_of (vote_of state.old).leader_id))
+            state.old.membership_state) }
         ensures err { OnErr result (state.new ≡ state.old) }
         ensures sound { IsSound C.eq C.cmp state.old → IsSound C.eq C.cmp state.new }
     {

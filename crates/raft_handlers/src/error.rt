@@ -5,7 +5,10 @@ use raft_progress::InflightError;
 use std::alloc::AllocError;
 use thiserror::Error;
 
-/// Why a handler refuses what it is asked for. After each refusal the state is as it was.
+/// Why a handler refuses what it is asked for.
+///
+/// After a refusal the state is as it was. The exception is `OutOfMemory` of
+/// `handle_append_entries`: then the log may be truncated already, or have the new entries already.
 #[derive(Debug, Clone, Copy, PartialEq, Eq, Error)]
 pub enum HandlerError {
     /// An allocation failed. The call may be made again.

@@ -1,9 +1,10 @@
 //! A leader: what it knows of the members, and what it sends, commits and proposes.
-ghost use Rattle.std.specs.Prelude.{◌≡◌, true, IfOk, IsOk, IsTrue, OnErr, OnOk};
+ghost use Rattle.std.specs.Prelude.{◌≡◌, true, IfErr, IfOk, IsOk, IsTrue, OnErr, OnOk};
 ghost use Rattle.std.specs.Set.{ClonesAreEqual};
 ghost use Rattle.raft_base.specs.UTime.{moment_of, utime_of};
-ghost use Rattle.raft_handlers.specs.Campaign.{HasMajorities, same_vote};
-ghost use Rattle.raft_handlers.specs.Leadership.{KnowsNothing, leads};
+ghost use Rattle.raft_handlers.specs.Campaign.{HasMajorities, IsElectionRefusal, same_vote};
+ghost use Rattle.raft_handlers.specs.Leadership.{IsFullLogRefusal, IsResumeRefusal, KnowsNothing, leads};
+ghost use Rattle.raft_state.specs.log_id_list.FullLog.{end_index, full_log};
 ghost use Rattle.raft_state.specs.raft_state.Sound.{IsSound};
 ghost use Rattle.raft_state.specs.raft_state.VoteAndLog.{vote_of};
 
@@ -72,11 +73,13 @@ impl<NID: NodeId, N: Node, C: Ord + Copy + Drop> Leader<NID, N, C> {
         ensures node { IfOk result (λ made. made.id ≡ candidate.now.id) }
         ensures leader { IfOk result (λ made.
             made.leader_id ≡ L.committed (vote_of state.old).leader_id) }
-        ensures followers { IfOk result (λ made. KnowsNothing NID.eq state.old made) }
+        ensures followers { IfOk result (λ made. KnowsNothing NID.eq N.eq state.old made) }
         ensures committed { OnOk result (state.new ≡ record state.old {
           vote = utime_of (record (vote_of state.old) { committed = true })
               (moment_of state.old.vote);
         }) }
+        ensures refused { IfErr result
+            (IsElectionRefusal NID.eq L.eq candidate.now state.old) }
         ensures err { OnErr result (state.new ≡ state.old) }
         ensures sound { IsSound C.eq C.cmp state.old → IsSound C.eq C.cmp state.new }
     {
@@ -93,6 +96,10 @@ impl<NID: NodeId, N: Node, C: Ord + Copy + Drop> Leader<NID, N, C> {
     }
 
     /// Makes the node of a committed vote the leader anew, as after a restart.
+    ///
+    /// Call it only if the log has every entry that the node has sent in this term. Otherwise the
+    /// leader could write another entry under a log id that a follower has already. The state does
+    /// not show what was sent, so this is not tested.
     pub fn resume<I: Instant, L: LeaderIdentity<Id = NID, Committed = C> + Drop>(
         id: NID,
         state: &State<NID, N, I, L>,
@@ -103,7 +110,8 @@ impl<NID: NodeId, N: Node, C: Ord + Copy + Drop> Leader<NID, N, C> {
         ensures leads { IfOk result (λ made.
             IsTrue (leads NID.eq C.eq L.committed L.voted made state.now)) }
         ensures node { IfOk result (λ made. made.id ≡ id) }
-        ensures followers { IfOk result (λ made. KnowsNothing NID.eq state.now made) }
+        ensures followers { IfOk result (λ made. KnowsNothing NID.eq N.eq state.now made) }
+        ensures refused { IfErr result (IsResumeRefusal NID.eq L.voted id state.now) }
     {
         let vote = state.vote_ref();
         if !vote.is_committed() || L::voted_for(vote.leader_id()) != Some(id) {
@@ -121,7 +129,9 @@ impl<NID: NodeId, N: Node, C: Ord + Copy + Drop> Leader<NID, N, C> {
         requires clones_are_equal { ClonesAreEqual N.eq N.is_clone }
         ensures node { IfOk result (λ made. made.id ≡ id) }
         ensures leader { IfOk result (λ made. made.leader_id ≡ leader_id) }
-        ensures followers { IfOk result (λ made. KnowsNothing NID.eq state.now made) }
+        ensures followers { IfOk result (λ made. KnowsNothing NID.eq N.eq state.now made) }
+        ensures refused { IfErr result
+            (IsFullLogRefusal (end_index (full_log state.now.log_ids))) }
     {
         let last = state.last_log_id().copied();
         if !last.has_next_index() {

@@ -4,8 +4,8 @@ ghost use Rattle.std.specs.Option.{option_or};
 ghost use Rattle.std.specs.Set.{ClonesAreEqual};
 ghost use Rattle.raft_base.specs.LogId.{id_lt, index_of, next_index};
 ghost use Rattle.raft_base.specs.LogIndex.{index_lt};
-ghost use Rattle.raft_handlers.specs.Append.{follow_on, greatest, replaced_since, KeepsBelow, TakesMemberships};
-ghost use Rattle.raft_handlers.specs.Entries.{allows_commit, allows_commit_past, are_in_order, effective_below, effective_with, ends_before, entry_ids, has_committed_with, has_memberships_in_order, has_with, last_below, log_with_new, may_append_after, may_commit_with, may_cut, may_take_new, memberships_below, IsNewRefusal, RefusedUnless};
+ghost use Rattle.raft_handlers.specs.Append.{accepted_before, follow_on, greatest, replaced_since, IsLeftBy, KeepsBelow, TakesMemberships};
+ghost use Rattle.raft_handlers.specs.Entries.{accepted_below, allows_commit, allows_commit_past, are_in_order, effective_below, effective_with, ends_before, entry_ids, has_committed_with, has_memberships_in_order, has_with, last_below, log_with_new, may_append_after, may_commit_with, may_cut, may_take_new, memberships_below, IsNewRefusal, RefusedUnless};
 ghost use Rattle.raft_handlers.specs.declared.error.HandlerError.TheVariants.{OutOfMemory};
 ghost use Rattle.raft_state.specs.log_id_list.FullLog.{full_log, same_log};
 ghost use Rattle.raft_state.specs.log_id_list.LogConditions.{follows};
@@ -48,6 +48,7 @@ pub(crate) fn cut<NID: NodeId, N: Node, I: Instant, L: Drop, C: Ord + Copy + Dro
         (full_log state.new.log_ids ≡ front (full_log state.old.log_ids) since) }
     ensures memberships { OnOk result
         (state.new.membership_state ≡ memberships_below since state.old) }
+    ensures accepted { OnOk result (state.new.accepted ≡ accepted_below C.cmp since state.old) }
     ensures rest { OnOk result (state.new ≡ record state.old {
       log_ids = state.new.log_ids;
       membership_state = state.new.membership_state;
@@ -134,6 +135,8 @@ pub(crate) fn append_new<NID: NodeId, N: Node, I: Instant, L: Drop, C: Ord + Cop
         state.old state.new.membership_state) }
     ensures committed { OnOk result
         (state.new.committed ≡ greatest C.cmp state.old.committed committed) }
+    ensures accepted { OnOk result
+        (state.new.accepted ≡ accepted_before C.cmp new.now state.old) }
     ensures rest { state.new ≡ record state.old {
       log_ids = state.new.log_ids;
       membership_state = state.new.membership_state;
@@ -145,6 +148,7 @@ pub(crate) fn append_new<NID: NodeId, N: Node, I: Instant, L: Drop, C: Ord + Cop
     ensures may { OnOk result (IsTrue (may_take_new C.eq C.cmp new.now committed state.old)) }
     ensures reason { IfErr result (IsNewRefusal C.eq C.cmp new.now committed state.old) }
     ensures refused { IfErr result (λ e. e ≢ OutOfMemory → state.new ≡ state.old) }
+    ensures left { OnErr result (IsLeftBy C.eq C.cmp NID.eq N.eq new.now state.old state.new) }
     ensures not_committed { OnErr result (state.new.committed ≡ state.old.committed) }
     ensures sound { IsSound C.eq C.cmp state.old → IsSound C.eq C.cmp state.new }
 {
@@ -342,6 +346,7 @@ fn commit<NID: NodeId, N: Node, I: Instant, L: Drop, C: Ord + Copy + Drop>(
     ensures ok { OnOk result (state.new ≡ state_after_commit C.cmp committed state.old) }
     ensures err { OnErr result (state.new ≡ state.old) }
     ensures log { state.new.log_ids ≡ state.old.log_ids }
+    ensures accepted { state.new.accepted ≡ state.old.accepted }
     ensures memberships { OnOk result (state.new.membership_state
         ≡ (if id_lt C.cmp state.old.committed committed
         then after_commit C.cmp committed state.old.membership_state

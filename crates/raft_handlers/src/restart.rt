@@ -4,8 +4,8 @@ ghost use Rattle.std.specs.Set.{ClonesAreEqual};
 ghost use Rattle.raft_base.specs.LogId.{next_index};
 ghost use Rattle.raft_handlers.specs.Append.{greatest};
 ghost use Rattle.raft_handlers.specs.Entries.{entry_ids, RefusedUnless};
-ghost use Rattle.raft_handlers.specs.Restart.{entries_past, snapshot_fits, snapshot_ids, AppendsStored, CommitsKnown, HasSnapshotAlone, IsRestartRefusal, IsSnapshotAt};
-ghost use Rattle.raft_state.specs.Accepted.{last_accepted};
+ghost use Rattle.raft_handlers.specs.Restart.{entries_past, snapshot_fits, snapshot_ids, AppendsStored, CommitsKnown, HasNotRun, HasSnapshotAlone, IsRestartRefusal, IsSnapshotAt};
+ghost use Rattle.raft_state.specs.Accepted.{accepted_from};
 ghost use Rattle.raft_state.specs.log_id_list.FullLog.{full_log, same_log};
 ghost use Rattle.raft_state.specs.membership_state.Memberships.{Memberships};
 ghost use Rattle.raft_state.specs.raft_state.Sound.{IsSound};
@@ -37,6 +37,9 @@ pub struct Stored<L, C, NID: NodeId, N: Node, D> {
 /// committed, and so is the membership before the effective one. No leader is known, so nothing is
 /// accepted.
 ///
+/// The server has not run yet: it is a learner, its vote has no moment, and its storage has done
+/// nothing.
+///
 /// If the entry at the last index of the snapshot has another log id, the install of the snapshot
 /// was interrupted: then no entry is taken, and you remove all of them from disk.
 pub fn restart_server<NID: NodeId, N: Node, I: Instant, L: LeaderIdentity<Id = NID> + Drop, D>(
@@ -45,7 +48,10 @@ pub fn restart_server<NID: NodeId, N: Node, I: Instant, L: LeaderIdentity<Id = N
 ) -> Result<State<NID, N, I, L>, HandlerError>
     requires clones_are_equal { ClonesAreEqual N.eq N.is_clone }
     ensures vote { IfOk result (λ state. vote_of state ≡ stored.now.vote) }
-    ensures accepted { IfOk result (λ state. last_accepted state.accepted ≡ None) }
+    ensures accepted { IfOk result (λ state. (leader : L) × L.Default.is_default leader
+        × (state.accepted ≡ accepted_from leader None)) }
+    ensures not_run { IfOk result
+        (HasNotRun L.Default.is_default L.Committed.Default.is_default) }
     ensures log { IfOk result (λ state. IsTrue (same_log L.Committed.eq (full_log state.log_ids)
         (snapshot_ids stored.now.snapshot.last_log_id ++ entry_ids (entries_past
         L.Committed.eq stored.now.snapshot.last_log_id stored.now.entries.items)))) }
@@ -103,6 +109,8 @@ fn from_snapshot<NID: NodeId, N: Node, I: Instant, L: LeaderIdentity<Id = NID> +
 ) -> Result<State<NID, N, I, L>, HandlerError>
     requires clones_are_equal { ClonesAreEqual N.eq N.is_clone }
     ensures snapshot { IfOk result (HasSnapshotAlone NID.eq N.eq snapshot.now) }
+    ensures not_run { IfOk result
+        (HasNotRun L.Default.is_default L.Committed.Default.is_default) }
     ensures fits { OnOk result (IsTrue (snapshot_fits L.Committed.cmp
         snapshot.now.last_log_id snapshot.now.last_membership)) }
     ensures refused { IfErr result (RefusedUnless (snapshot_fits L.Committed.cmp

@@ -7,7 +7,7 @@ ghost use Rattle.raft_base.specs.Vote.{vote_cmp};
 ghost use Rattle.raft_handlers.specs.Append.{elected, greatest, IfMatches};
 ghost use Rattle.raft_base.specs.UTime.{moment_of, utime_of};
 ghost use Rattle.raft_handlers.specs.Snapshot.{following, install_refusal, snapshot_refusal, InstallsSnapshot, RefusedFor};
-ghost use Rattle.raft_handlers.specs.declared.message.Outcome.TheVariants.{HigherVote};
+ghost use Rattle.raft_handlers.specs.declared.message.Outcome.TheVariants.{HigherVote, Matches};
 ghost use Rattle.raft_state.specs.raft_state.Sound.{IsSound};
 ghost use Rattle.raft_state.specs.raft_state.VoteAndLog.{vote_of};
 
@@ -45,6 +45,9 @@ pub fn handle_install_snapshot<
         }) }
     ensures not_followed { partial_ge (vote_cmp L.order) (elected request.now.leader_id)
         (vote_of state.old) ≡ false → state.new ≡ state.old }
+    ensures matches { IsTrue (partial_ge (vote_cmp L.order)
+        (elected request.now.leader_id) (vote_of state.old)) → IfOk result (λ response.
+        response.outcome ≡ Matches request.now.meta.last_log_id) }
     ensures upto { IfOk result (λ response. IfMatches response.outcome (λ upto. upto
         ≡ request.now.meta.last_log_id)) }
     ensures committed { IfOk result (λ response. IfMatches response.outcome (λ upto.

@@ -1,4 +1,5 @@
--- What callers may need of a progress that they have written into.
+-- What callers may need of a progress that they have written into, and of one that counts by a
+-- membership.
 use Rattle.std.specs.Prelude.{◌≡◌, Bool, true, Some}
 use Rattle.std.specs.declared.cmp.Ordering.{Ordering}
 use Rattle.std.proofs.Common.{ap, refl}
@@ -7,6 +8,7 @@ use Rattle.raft_progress.specs.progress.InOrder.{IsInOrder}
 use Rattle.raft_progress.specs.progress.Kept.{KeepsParts, with_value}
 use Rattle.raft_progress.specs.progress.ProgressView.{ProgressView, state}
 use Rattle.raft_progress.proofs.lemmas.progress.KeptLemmas.{order_alike, written_parts}
+pub use Rattle.raft_progress.proofs.lemmas.tracked.EachConfigLemmas.{number_granted, vote_granted}
 
 module _ {ID V P QS : Type 0} (eq : ID → ID → Bool) (part : V → P) where
   -- if ids and voters' parts are as they were, a progress in order is in order

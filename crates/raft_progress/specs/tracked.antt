@@ -10,4 +10,5 @@ pub mod Followers
 pub mod TrackedCalls
 pub mod Headline
 pub mod Known
+pub mod EachConfig
 pub mod Elected

@@ -1,6 +1,6 @@
 //! One theorem, three uses: what is granted where a value is a match, a vote, or a moment.
+ghost use Rattle.raft_progress.specs.tracked.EachConfig.{MajorityOfEach};
 ghost use Rattle.raft_progress.specs.tracked.Tracked.{tracked_view};
-ghost use Rattle.raft_progress_tests.specs.Uses.{MajorityOfEach};
 ghost use Rattle.std.specs.Prelude.{◌<◌, ◌↔◌, ◌≡◌, ◌≤◌, IsTrue, false, nat_le, ℕ};
 
 use crate::support::asserts::assert_row;

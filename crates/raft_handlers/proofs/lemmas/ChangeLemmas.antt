@@ -10,7 +10,7 @@ use Rattle.std.proofs.Common.{ap, arith, sym, subst, ◌∙◌, true≢false}
 use Rattle.std.proofs.lemmas.Bool.Decides.{nat_tests}
 use Rattle.raft_members.specs.membership.Change.{last_config, union_of}
 use Rattle.raft_members.specs.quorum.Coherence.{has_config, next_configs}
-use Rattle.raft_members.specs.membership.Members.{MemberList}
+use Rattle.raft_members.specs.membership.Members.{MemberList, Members}
 use Rattle.raft_members.proofs.lemmas.membership.ReplaceLemmas.{last_passes}
 use Rattle.raft_progress.specs.progress.Equal.{IsCloned}
 use Rattle.raft_progress.specs.progress.NewProgress.{HasClone}
@@ -19,6 +19,12 @@ use Rattle.raft_progress.specs.progress.Upgrade.{Inherits}
 use Rattle.raft_progress.specs.tracked.SingleSteps.{IsTrackedChangeTo}
 use Rattle.raft_progress.specs.tracked.TrackedState.{HasSameConfigs, TrackedView}
 use Rattle.raft_progress.specs.declared.progress.steps.Reply.TheVariants.{Granted}
+use Rattle.raft_state.specs.membership_state.Apply.{IsApplyRefusal}
+use Rattle.raft_state.specs.declared.raft_state.RaftStateIn.{RaftStateIn}
+use Rattle.raft_handlers.specs.Changes.{IsChangeRefusal}
+use Rattle.raft_handlers.specs.Leadership.{Leadership}
+use Rattle.raft_handlers.specs.declared.leader.change.ChangeError.{ChangeError}
+use Rattle.raft_handlers.specs.declared.leader.change.ChangeError.TheVariants.{Change, Entry, NoOwnGranted, NotJoint}
 
 same_progress_entries : {K V : Type 0} (IsClone : V → V → Type 0) → ((v w : V) → IsClone v w → w ≡ v) → (es fs : List (K × V))
     → AllZip (λ d e. (e.0 ≡ d.0) × IsClone d.1 e.1) es fs → fs ≡ es
@@ -92,7 +98,7 @@ pub longer : (n : ℕ) → nat_lt 1 n ≡ true → 0 < n
 longer n h = grind (arith, nat_tests)
 
 -- to add no voter keeps the last config as the goal
-no_more : {K : Type 0} (cmp : K → K → Ordering) (xs : List K) → union_of cmp xs [] ≡ xs
+pub no_more : {K : Type 0} (cmp : K → K → Ordering) (xs : List K) → union_of cmp xs [] ≡ xs
 no_more cmp [] = refl
 no_more cmp (x ∷ xs) = refl
 
@@ -112,3 +118,17 @@ module _ {K : Type 0} {eq : K → K → Bool} (laws : IsEquivalence eq) where
       ∙ ap (λ b. cond b (last_config (c ∷ cs) ∷ [])
       (option_map_or (λ last. last ∷ last_config (c ∷ cs) ∷ []) (slice_get (c ∷ cs) (length (c ∷ cs) - 1))
       (last_config (c ∷ cs) ∷ []))) (has_last c cs)
+
+-- ---- refusals
+
+module _ {K N I L C : Type 0} (id_eq : K → K → Bool) (id_cmp : K → K → Ordering) (eq : C → C → Bool) (cmp : C → C → Ordering) where
+  -- a change that no joint membership has to be left for is refused for what any other is
+  pub refused_joint : (D : Type 0) (fits leads : Bool) (l : Leadership K N C) (s : RaftStateIn K N I L C)
+      (members next : Members K N) → members ≡ next
+      → (e : ChangeError C K) → IsChangeRefusal D id_eq id_cmp eq cmp true leads l s members e
+      → IsChangeRefusal D id_eq id_cmp eq cmp fits leads l s next e
+  refused_joint D fits leads l s members next is NoOwnGranted h = h
+  refused_joint D fits leads l s members next is NotJoint h = absurd (true≢false h)
+  refused_joint D fits leads l s members next is (Change e) h =
+      subst (λ (m : Members K N). IsApplyRefusal eq id_eq id_cmp s.membership_state m e) is h
+  refused_joint D fits leads l s members next is (Entry e) h = h

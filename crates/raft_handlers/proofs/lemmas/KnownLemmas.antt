@@ -18,10 +18,10 @@ use Rattle.raft_members.specs.declared.change_members.ChangeMembers.TheVariants.
   RemoveNodes,
   ReplaceAllNodes,
 }
+use Rattle.raft_members.proofs.CallerLemmas.{joint_majority_of_voters}
 use Rattle.raft_progress.specs.progress.CountedValue.{has_part}
 use Rattle.raft_progress.specs.progress.ProgressView.{state}
 use Rattle.raft_progress.specs.tracked.TrackedState.{IsReady, TrackedView}
-use Rattle.raft_handlers.proofs.lemmas.MajorityLemmas.{joint_within}
 
 module _ {K N : Type 0} (eq : K → K → Bool) (cmp : K → K → Ordering) where
   -- the configs that a change leads to follow from the configs alone
@@ -54,7 +54,7 @@ module _ {K N V P : Type 0} {eq : K → K → Bool} (laws : IsEquivalence eq) (i
       → EachQuorumKnows eq new.membership.configs (state eq new.progress).is_voter (λ id. has_part cmp part p (value new id))
   quorums_still_know ready knows keeps set majority =
       let voter = (state eq new.progress).is_voter in
-      let within = joint_within laws voter set new.membership.configs (λ x v. ready.counts_by.voters x ∙ v) majority in
+      let within = joint_majority_of_voters laws voter set new.membership.configs (λ x v. ready.counts_by.voters x ∙ v) majority in
       let k = knows (λ x. voter x && set x) within in
       let votes = first_so (voter k.0) (set k.0) k.1 in
       let some : is_some (value new k.0) ≡ true =

@@ -29,6 +29,7 @@ use Rattle.std.proofs.Common.{
   true≢false,
   ◌∙◌,
 }
+use Rattle.std.proofs.Math.Bool.{and-true}
 use Rattle.std.proofs.lemmas.Bool.Decides.{nat_tests}
 use Rattle.std.proofs.lemmas.List.{append-nil}
 use Rattle.std.specs.Cmp.{IsEquivalence, IsPartialOrder, IsTotalOrder}
@@ -105,10 +106,6 @@ no_index_at_most : (o : Option ℕ) → index_le None o ≡ true
 no_index_at_most None = refl
 no_index_at_most (Some i) = refl
 
-and_true : (b : Bool) → (b && true) ≡ b
-and_true true = refl
-and_true false = refl
-
 pub some_there : {X : Type 0} (o : Option X) → is_some o ≡ true → (x : X) × (o ≡ Some x)
 some_there None h = absurd (true≢false (sym h))
 some_there (Some x) h = (x, refl)
@@ -179,9 +176,9 @@ module _ {K N I L C : Type 0} (id_eq : K → K → Bool) (same : N → N → Boo
       rw none (both_true (none_at_most cmp (log_id_of meta.last_membership)) (no_index_at_most (index_at meta.last_membership))) in
       let kept : is_logged eq last s ≡ false = rw empty refl in
       rw (is, committed, low, accept, kept)
-      (and_true ((nat_lt (last.index + 1) (2 ^ 64) && is_not_past cmp last meta.last_membership && true) && true)
-      ∙ and_true (nat_lt (last.index + 1) (2 ^ 64) && is_not_past cmp last meta.last_membership && true)
-      ∙ and_true (nat_lt (last.index + 1) (2 ^ 64) && is_not_past cmp last meta.last_membership))
+      (and-true ((nat_lt (last.index + 1) (2 ^ 64) && is_not_past cmp last meta.last_membership && true) && true)
+      ∙ and-true (nat_lt (last.index + 1) (2 ^ 64) && is_not_past cmp last meta.last_membership && true)
+      ∙ and-true (nat_lt (last.index + 1) (2 ^ 64) && is_not_past cmp last meta.last_membership))
 
 -- a new state that has promised the committed vote for its own leader
 module _ {K N I L C : Type 0} (id_eq : K → K → Bool) (same : N → N → Bool) (same_leader : L → L → Bool)

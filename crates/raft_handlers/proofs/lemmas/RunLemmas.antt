@@ -23,6 +23,7 @@ use Rattle.std.proofs.Common.{
   arith,
   ◌∙◌,
 }
+use Rattle.std.proofs.Math.Bool.{and-false}
 use Rattle.std.specs.Prelude.{nat_lt, not}
 use Rattle.std.proofs.lemmas.Bool.{and_parts}
 use Rattle.std.proofs.lemmas.Bool.Decides.{nat_tests}
@@ -117,10 +118,6 @@ module _ {C K N D : Type 0} (eq : C → C → Bool) (leader : C) where
       (members_stay cmp (prev.index + 1) members es h)
 
 -- what a log has past its last index, and at it
-and_false : (b : Bool) → (b && false) ≡ false
-and_false true = refl
-and_false false = refl
-
 found_alone : {C : Type 0} (eq : C → C → Bool) (x id : LogIdOf C)
     → same_ids eq (id_at (x ∷ []) id.index) (Some id) ≡ same_id eq x id
 found_alone eq x id = by (nat_eq x.index id.index) refl
@@ -128,7 +125,7 @@ found_alone eq x id = by (nat_eq x.index id.index) refl
     by : (t : Bool) → t ≡ nat_eq x.index id.index
         → same_ids eq (if t then Some x else None) (Some id) ≡ (eq x.leader_id id.leader_id && t)
     by true h = rw (← h) refl
-    by false h = sym (and_false (eq x.leader_id id.leader_id))
+    by false h = sym (and-false (eq x.leader_id id.leader_id))
 
 found_at_end : {C : Type 0} (eq : C → C → Bool) (b : ℕ) (x : LogIdOf C) (xs : List (LogIdOf C)) (last id : LogIdOf C)
     → From b (x ∷ xs) → last_id (x ∷ xs) ≡ Some last → last.index ≤ id.index

@@ -134,7 +134,7 @@ module _ {K N C : Type 0} {eq : K → K → Bool} (laws : IsEquivalence eq) (old
 -- what is written of a member is written of what a leader knows of it
 pub leader_writes : {K N C : Type 0} (eq : K → K → Bool) (l : Leadership K N C) (new : Followers K N C) (id : K) (entry : ProgressEntryOf C)
     → WritesMember eq l.followers id entry new → WritesEntry eq l id entry (record l { followers = new })
-leader_writes eq l new id entry w = record { entries = w.entries; members = w.members; rest = refl }
+leader_writes eq l new id entry w = record { member = w; rest = refl }
 
 module _ {K N C : Type 0} (eq : K → K → Bool) {cmp : C → C → Ordering} (total : IsTotalOrder cmp) (old new : Followers K N C) (id : K) where
   same_granted : old.progress.granted ≡ new.progress.granted → id_le cmp old.progress.granted new.progress.granted ≡ true

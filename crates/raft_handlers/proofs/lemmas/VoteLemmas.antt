@@ -4,6 +4,7 @@ use Rattle.std.specs.Cmp.{IsEquivalence}
 use Rattle.std.specs.Option.{option_map_or}
 use Rattle.std.specs.Ordering.{bool_cmp, is_lt}
 use Rattle.std.proofs.Common.{ap, sym, ◌∙◌, true≢false}
+use Rattle.std.proofs.Math.Bool.{and-false, and-true, or-false, or-true}
 use Rattle.raft_progress.specs.progress.ProgressView.{state}
 use Rattle.raft_progress.specs.tracked.SingleSteps.{IsTrackedUpdate}
 use Rattle.raft_progress.specs.tracked.TrackedState.{TrackedView}
@@ -19,14 +20,6 @@ use Rattle.raft_progress.specs.declared.progress.steps.Reply.TheVariants.{
 }
 use Rattle.raft_handlers.proofs.lemmas.TrackedLemmas.{IsWrite}
 
-or_true : (b : Bool) → (b || true) ≡ true
-or_true true = refl
-or_true false = refl
-
-or_false : (b : Bool) → (b || false) ≡ b
-or_false true = refl
-or_false false = refl
-
 -- `true` is below no vote
 no_fall : (b : Bool) → is_lt (bool_cmp true b) ≡ false
 no_fall true = refl
@@ -35,16 +28,8 @@ no_fall false = refl
 -- the value of one id after a write of another
 one : (same : Bool) (value : Option Bool) → option_map_or (λ v. v) (cond same (Some true) value) false
     ≡ (option_map_or (λ v. v) value false || same)
-one true value = sym (or_true (option_map_or (λ v. v) value false))
-one false value = sym (or_false (option_map_or (λ v. v) value false))
-
-and_true : (b : Bool) → (b && true) ≡ b
-and_true true = refl
-and_true false = refl
-
-and_false : (b : Bool) → (b && false) ≡ false
-and_false true = refl
-and_false false = refl
+one true value = sym (or-true (option_map_or (λ v. v) value false))
+one false value = sym (or-false (option_map_or (λ v. v) value false))
 
 none_voted : (value : Option Bool) → ((v : Bool) → value ≡ Some v → v ≡ false) → option_map_or (λ v. v) value false ≡ false
 none_voted None h = refl
@@ -62,10 +47,10 @@ module _ {K N : Type 0} (eq : K → K → Bool) where
       → voted new id ≡ (voted old id || (eq from id && known old from))
   counts_by old new from (Granted p) w id =
       ap (λ o. option_map_or (λ v. v) o false) (w.3.value id) ∙ one (eq from id) ((state eq old.progress).value id)
-      ∙ ap (λ b. voted old id || b) (sym (and_true (eq from id)) ∙ ap (λ o. eq from id && is_some o) (sym w.1))
+      ∙ ap (λ b. voted old id || b) (sym (and-true (eq from id)) ∙ ap (λ o. eq from id && is_some o) (sym w.1))
   counts_by old new from (Unknown p) w id =
-      ap (λ o. option_map_or (λ v. v) o false) (w.2.value id) ∙ sym (or_false (voted old id))
-      ∙ ap (λ b. voted old id || b) (sym (and_false (eq from id)) ∙ ap (λ o. eq from id && is_some o) (sym w.0))
+      ap (λ o. option_map_or (λ v. v) o false) (w.2.value id) ∙ sym (or-false (voted old id))
+      ∙ ap (λ b. voted old id || b) (sym (and-false (eq from id)) ∙ ap (λ o. eq from id && is_some o) (sym w.0))
   counts_by old new from WouldFall w id = absurd (true≢false (sym w.2 ∙ no_fall w.0))
   counts_by old new from (Refused r) w id = absurd w
   counts_by old new from (BelowDefault r) w id = absurd w

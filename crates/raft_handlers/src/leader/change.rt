@@ -1,18 +1,21 @@
 //! How a leader changes the membership.
-ghost use Rattle.std.specs.Prelude.{◌≡◌, ◌<◌, ◌∷◌, [], true, None, Some, IfOk, IfSome, IsOk, IsSome, IsTrue, OnErr, OnOk, is_some, length};
+ghost use Rattle.std.specs.Prelude.{◌≡◌, ◌<◌, ◌∷◌, ◌&&◌, [], true, nat_lt, None, Some, IfErr, IfOk, IfSome, IsOk, IsSome, IsTrue, OnErr, OnOk, is_some, length};
 ghost use Rattle.std.specs.Set.{ClonesAreEqual};
 ghost use Rattle.raft_base.specs.LogId.{next_index};
-ghost use Rattle.raft_handlers.specs.Changes.{KeepsEntries, StoresMembership};
-ghost use Rattle.raft_handlers.specs.Leadership.{QuorumsHave, granted_by, is_of_leader, leads};
+ghost use Rattle.raft_handlers.specs.Changes.{IsChangeRefusal, KeepsEntries, StoresMembership};
+ghost use Rattle.raft_handlers.specs.Leadership.{IsFullLogRefusal, QuorumsHave, granted_by, is_of_leader, leads};
 ghost use Rattle.raft_handlers.specs.Proposals.{AppendsPayload, log_with_own, next_own_id};
-ghost use Rattle.raft_members.specs.membership.Change.{last_config};
+ghost use Rattle.raft_members.specs.membership.Change.{last_config, next_members};
 ghost use Rattle.raft_members.specs.quorum.Coherence.{is_coherent};
-ghost use Rattle.raft_members.specs.membership.Members.{HasMembers};
+ghost use Rattle.raft_members.specs.membership.Members.{HasMembers, members_of};
 ghost use Rattle.raft_state.specs.membership_state.Apply.{in_progress, members_after_change};
 ghost use Rattle.raft_state.specs.entry.Entry.{payload_membership};
 ghost use Rattle.raft_state.specs.log_id_list.FullLog.{end_index, full_log, same_log};
+ghost use Rattle.raft_state.specs.Accepted.{after_accept};
 ghost use Rattle.raft_state.specs.membership_state.Memberships.{in_effect};
+ghost use Rattle.raft_state.specs.raft_state.Install.{may_accept};
 ghost use Rattle.raft_state.specs.raft_state.Sound.{IsSound};
+ghost use Rattle.raft_state.specs.raft_state.VoteAndLog.{vote_of};
 
 use super::Leader;
 use crate::error::HandlerError;
@@ -95,11 +98,19 @@ impl<NID: NodeId, N: Node, C: Ord + Copy + Default + Debug + Drop + 'static> Lea
             state.new.membership_state) }
         ensures log { OnOk result (IsTrue (same_log C.eq (full_log state.new.log_ids)
             (log_with_own self.old.leader_id state.old))) }
+        ensures accepted { OnOk result (state.new.accepted ≡ after_accept L.eq C.cmp
+            state.old.accepted (vote_of state.old).leader_id
+            (Some (next_own_id self.old.leader_id state.old))) }
         ensures rest { OnOk result (state.new ≡ record state.old {
           log_ids = state.new.log_ids;
           membership_state = state.new.membership_state;
           accepted = state.new.accepted;
         }) }
+        ensures refused { IfErr result (IsChangeRefusal D NID.eq NID.cmp C.eq C.cmp true
+            (leads NID.eq C.eq L.committed L.voted self.old state.old
+            && may_accept L.order state.old)
+            self.old state.old
+            (members_after_change NID.eq NID.cmp state.old.membership_state change retain)) }
         ensures err { OnErr result (self.new ≡ self.old) }
         ensures err_state { OnErr result (state.new ≡ state.old) }
         ensures sound { IsSound C.eq C.cmp state.old → IsSound C.eq C.cmp state.new }
@@ -143,10 +154,22 @@ impl<NID: NodeId, N: Node, C: Ord + Copy + Default + Debug + Drop + 'static> Lea
         ensures own_granted { IsOk result →
             IsTrue (is_of_leader C.eq self.old.leader_id (granted_by self.old)) }
         ensures committed { IsOk result → in_progress C.eq state.old.membership_state ≡ None }
+        ensures leads { IsOk result →
+            IsTrue (leads NID.eq C.eq L.committed L.voted self.old state.old) }
         ensures goal { OnOk result (self.new.followers.membership.configs
             ≡ last_config (in_effect state.old.membership_state).configs ∷ []) }
+        ensures changed { OnOk result (HasMembers N.eq NID.cmp self.new.followers.membership
+            (next_members NID.eq (members_of NID.cmp (in_effect state.old.membership_state))
+            (last_config (in_effect state.old.membership_state).configs) retain)) }
+        ensures coherent { OnOk result
+            (is_coherent NID.eq (in_effect state.old.membership_state).configs
+            self.new.followers.membership.configs ≡ true) }
         ensures kept { OnOk result (KeepsEntries NID.eq
             (end_index (full_log state.old.log_ids)) self.old self.new) }
+        ensures still_known { OnOk result (self.old.followers.membership.configs
+            ≡ (in_effect state.old.membership_state).configs →
+            QuorumsHave NID.eq C.cmp self.new (granted_by self.old)) }
+        ensures node { self.new ≡ record self.old { followers = self.new.followers } }
         ensures log_id { IfOk result (λ entry.
             entry.log_id ≡ next_own_id self.old.leader_id state.old) }
         ensures stores { IfOk result (λ entry.
@@ -156,6 +179,21 @@ impl<NID: NodeId, N: Node, C: Ord + Copy + Default + Debug + Drop + 'static> Lea
             state.new.membership_state) }
         ensures log { OnOk result (IsTrue (same_log C.eq (full_log state.new.log_ids)
             (log_with_own self.old.leader_id state.old))) }
+        ensures accepted { OnOk result (state.new.accepted ≡ after_accept L.eq C.cmp
+            state.old.accepted (vote_of state.old).leader_id
+            (Some (next_own_id self.old.leader_id state.old))) }
+        ensures rest { OnOk result (state.new ≡ record state.old {
+          log_ids = state.new.log_ids;
+          membership_state = state.new.membership_state;
+          accepted = state.new.accepted;
+        }) }
+        ensures refused { IfErr result (IsChangeRefusal D NID.eq NID.cmp C.eq C.cmp
+            (nat_lt 1 (length (in_effect state.old.membership_state).configs))
+            (leads NID.eq C.eq L.committed L.voted self.old state.old
+            && may_accept L.order state.old)
+            self.old state.old (next_members NID.eq
+            (members_of NID.cmp (in_effect state.old.membership_state))
+            (last_config (in_effect state.old.membership_state).configs) retain)) }
         ensures err { OnErr result (self.new ≡ self.old) }
         ensures err_state { OnErr result (state.new ≡ state.old) }
         ensures sound { IsSound C.eq C.cmp state.old → IsSound C.eq C.cmp state.new }
@@ -187,6 +225,7 @@ impl<NID: NodeId, N: Node, C: Ord + Copy + Drop> Leader<NID, N, C> {
         ensures members { IfOk result (λ made. (tracked_view made).membership ≡ members) }
         ensures kept { IfOk result (λ made. KeepsValues NID.eq (next_index last)
             self.now.followers (tracked_view made)) }
+        ensures refused { IfErr result (IsFullLogRefusal (next_index last)) }
         ensures ready { IfOk result (λ made. IsReady NID.eq NID.cmp (option_cmp (log_id_cmp C.cmp))
             (λ entry. entry.matching) (tracked_view made)) }
     {

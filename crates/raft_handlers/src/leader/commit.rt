@@ -62,6 +62,9 @@ impl<NID: NodeId, N: Node, C: Ord + Copy + Drop> Leader<NID, N, C> {
         ensures monotone { IsTrue (id_le C.cmp state.old.committed state.new.committed) }
         ensures refused { IfErr result
             (IsCommitRefusal C.eq C.cmp (granted_by self.now) state.old) }
+        ensures due { OnErr result (IsTrue
+            (is_of_leader C.eq self.now.leader_id (granted_by self.now)
+            && id_lt C.cmp state.old.committed (granted_by self.now))) }
         ensures err { OnErr result (state.new ≡ state.old) }
         ensures sound { IsSound C.eq C.cmp state.old → IsSound C.eq C.cmp state.new }
     {

@@ -1,7 +1,7 @@
 //! What a leader sends to the members, and what it learns from their responses.
-ghost use Rattle.std.specs.Prelude.{◌≡◌, false, None, Some, Ok, Err, IsOk, IsTrue, OnErr, OnOk};
+ghost use Rattle.std.specs.Prelude.{◌≡◌, false, None, Some, Ok, Err, IfErr, IsOk, IsTrue, OnErr, OnOk};
 ghost use Rattle.raft_base.specs.LogId.{id_le};
-ghost use Rattle.raft_handlers.specs.Leadership.{WritesEntry, WritesMember, entry_of, flushed_entry, granted_by};
+ghost use Rattle.raft_handlers.specs.Leadership.{IsFlushRefusal, WritesEntry, WritesMember, entry_of, flushed_entry, granted_by};
 ghost use Rattle.raft_handlers.specs.Responses.{after_response, answers, refused};
 ghost use Rattle.raft_progress.specs.entry.Request.{after_request};
 ghost use Rattle.raft_progress.specs.tracked.Followers.{IsResponse, member_value};
@@ -121,7 +121,15 @@ impl<NID: NodeId, N: Node, C: Ord + Copy + Drop> Leader<NID, N, C> {
             entry_of NID.eq self.old self.old.id ≡ Some entry →
             IsTrue (id_le C.cmp entry.matching upto) →
             WritesEntry NID.eq self.old self.old.id (flushed_entry upto) self.new) }
+        ensures stale { (entry : ProgressEntryOf C) →
+            entry_of NID.eq self.old self.old.id ≡ Some entry →
+            id_le C.cmp entry.matching upto ≡ false → self.new ≡ self.old }
+        ensures not_counted { entry_of NID.eq self.old self.old.id ≡ None → (x : NID) →
+            entry_of NID.eq self.new x ≡ entry_of NID.eq self.old x }
+        ensures members { self.new.followers.membership ≡ self.old.followers.membership }
+        ensures node { self.new ≡ record self.old { followers = self.new.followers } }
         ensures logged { OnOk result (IsTrue (none_or_logged C.eq (log_view_of state.now) upto)) }
+        ensures refused { IfErr result (IsFlushRefusal C.eq upto state.now) }
         ensures err { OnErr result (self.new ≡ self.old) }
         ensures monotone { IsTrue
             (id_le C.cmp (granted_by self.old) (granted_by self.new)) }

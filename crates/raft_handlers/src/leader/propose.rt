@@ -1,11 +1,14 @@
 //! How a leader appends entries of its own.
-ghost use Rattle.std.specs.Prelude.{◌≡◌, None, Some, IfOk, IsOk, IsTrue, OnErr, OnOk};
+ghost use Rattle.std.specs.Prelude.{◌≡◌, ◌&&◌, None, Some, IfErr, IfOk, IsOk, IsTrue, OnErr, OnOk};
 ghost use Rattle.std.specs.Set.{ClonesAreEqual};
 ghost use Rattle.raft_handlers.specs.Leadership.{leads};
-ghost use Rattle.raft_handlers.specs.Proposals.{AppendsPayload, log_with_own, next_own_id};
+ghost use Rattle.raft_handlers.specs.Proposals.{AppendsPayload, IsProposalRefusal, log_with_own, next_own_id};
+ghost use Rattle.raft_state.specs.Accepted.{after_accept};
 ghost use Rattle.raft_state.specs.entry.Entry.{payload_membership};
 ghost use Rattle.raft_state.specs.log_id_list.FullLog.{full_log, same_log};
+ghost use Rattle.raft_state.specs.raft_state.Install.{may_accept};
 ghost use Rattle.raft_state.specs.raft_state.Sound.{IsSound};
+ghost use Rattle.raft_state.specs.raft_state.VoteAndLog.{vote_of};
 ghost use Rattle.raft_state.specs.declared.entry.payload.EntryPayload.TheVariants.{Blank, Normal};
 
 use super::Leader;
@@ -46,10 +49,18 @@ impl<NID: NodeId, N: Node, C: Ord + Copy + Default + Drop + 'static> Leader<NID,
             IsTrue (leads NID.eq C.eq L.committed L.voted self.now state.old) }
         ensures log { OnOk result (IsTrue (same_log C.eq (full_log state.new.log_ids)
             (log_with_own self.now.leader_id state.old))) }
+        ensures accepted { OnOk result (state.new.accepted ≡ after_accept L.eq C.cmp
+            state.old.accepted (vote_of state.old).leader_id
+            (Some (next_own_id self.now.leader_id state.old))) }
         ensures rest { OnOk result (state.new ≡ record state.old {
           log_ids = state.new.log_ids;
           accepted = state.new.accepted;
         }) }
+        ensures refused { IfErr result (IsProposalRefusal {D = D} C.cmp
+            (leads NID.eq C.eq L.committed L.voted self.now state.old
+            && may_accept L.order state.old)
+            (record { log_id = next_own_id self.now.leader_id state.old; payload = Blank })
+            state.old) }
         ensures err { OnErr result (state.new ≡ state.old) }
         ensures sound { IsSound C.eq C.cmp state.old → IsSound C.eq C.cmp state.new }
     {
@@ -74,10 +85,18 @@ impl<NID: NodeId, N: Node, C: Ord + Copy + Default + Drop + 'static> Leader<NID,
             IsTrue (leads NID.eq C.eq L.committed L.voted self.now state.old) }
         ensures log { OnOk result (IsTrue (same_log C.eq (full_log state.new.log_ids)
             (log_with_own self.now.leader_id state.old))) }
+        ensures accepted { OnOk result (state.new.accepted ≡ after_accept L.eq C.cmp
+            state.old.accepted (vote_of state.old).leader_id
+            (Some (next_own_id self.now.leader_id state.old))) }
         ensures rest { OnOk result (state.new ≡ record state.old {
           log_ids = state.new.log_ids;
           accepted = state.new.accepted;
         }) }
+        ensures refused { IfErr result (IsProposalRefusal C.cmp
+            (leads NID.eq C.eq L.committed L.voted self.now state.old
+            && may_accept L.order state.old)
+            (record { log_id = next_own_id self.now.leader_id state.old; payload = Normal «data» })
+            state.old) }
         ensures err { OnErr result (state.new ≡ state.old) }
         ensures sound { IsSound C.eq C.cmp state.old → IsSound C.eq C.cmp state.new }
     {
@@ -107,11 +126,19 @@ impl<NID: NodeId, N: Node, C: Ord + Copy + Default + Drop + 'static> Leader<NID,
         ensures memberships { OnOk result (AppendsPayload NID.eq N.eq
             (next_own_id self.now.leader_id state.old) (payload_membership payload)
             state.old.membership_state state.new.membership_state) }
+        ensures accepted { OnOk result (state.new.accepted ≡ after_accept L.eq C.cmp
+            state.old.accepted (vote_of state.old).leader_id
+            (Some (next_own_id self.now.leader_id state.old))) }
         ensures rest { OnOk result (state.new ≡ record state.old {
           log_ids = state.new.log_ids;
           membership_state = state.new.membership_state;
           accepted = state.new.accepted;
         }) }
+        ensures refused { IfErr result (IsProposalRefusal C.cmp
+            (leads NID.eq C.eq L.committed L.voted self.now state.old
+            && may_accept L.order state.old)
+            (record { log_id = next_own_id self.now.leader_id state.old; payload = payload })
+            state.old) }
         ensures err { OnErr result (state.new ≡ state.old) }
         ensures sound { IsSound C.eq C.cmp state.old → IsSound C.eq C.cmp state.new }
     {

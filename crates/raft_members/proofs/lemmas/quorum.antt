@@ -4,3 +4,4 @@ pub mod LeastLemmas
 pub mod MajorityLemmas
 pub mod MeetingLemmas
 pub mod NextLemmas
+pub mod VoterLemmas

@@ -32,10 +32,6 @@ pub of_both : (a b : Bool) → (a && b) ≡ true → (a ≡ true) × (b ≡ true
 of_both true b e = (refl, e)
 of_both false b e = absurd (true≢false (sym e))
 
-pub or_right : (a b : Bool) → b ≡ true → (a || b) ≡ true
-or_right true b e = refl
-or_right false b e = e
-
 -- a position within a list has an element
 pub element_at : {X : Type 0} (xs : List X) (i : ℕ) → i < length xs → (x : X) × (slice_get xs i ≡ Some x)
 element_at [] i l = absurd (omega arith)

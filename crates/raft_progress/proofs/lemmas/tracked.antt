@@ -1,4 +1,5 @@
 pub mod ChangeLemmas
+pub mod EachConfigLemmas
 pub mod ElectedLemmas
 pub mod FollowerLemmas
 pub mod HeadlineLemmas

@@ -7,3 +7,7 @@ returns-in_err-take_entries-clause-out_of_memory g c =
 
 pub returns-in_default-clause-kept : goal.returns-in_default-clause-kept
 returns-in_default-clause-kept g c = rw c.deref.ensures.value at c.in_ok-take_entries.ensures.kept
+
+pub returns-in_err-take_entries-clause-left : goal.returns-in_err-take_entries-clause-left
+returns-in_err-take_entries-clause-left g c =
+    on_err_of c.from_residual.result (rw c.deref.ensures.value at c.in_err-take_entries.ensures.left)

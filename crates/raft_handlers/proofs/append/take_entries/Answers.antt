@@ -43,6 +43,18 @@ returns-clause-memberships g c =
     let rest = slice_rest c.in-Some.place c.args.entries.now in
     rw (← place) (rw rest at c.append_new.ensures.memberships)
 
+pub returns-clause-accepted : goal.returns-clause-accepted
+returns-clause-accepted g c =
+    let place = c.in-Some.ensures.place in
+    let rest = slice_rest c.in-Some.place c.args.entries.now in
+    rw (← place) (rw rest at c.append_new.ensures.accepted)
+
+pub returns-clause-left : goal.returns-clause-left
+returns-clause-left g c =
+    let place = c.in-Some.ensures.place in
+    let rest = slice_rest c.in-Some.place c.args.entries.now in
+    rw (← place) (rw rest at c.append_new.ensures.left)
+
 pub returns-clause-may : goal.returns-clause-may
 returns-clause-may g c =
     let place = c.in-Some.ensures.place in

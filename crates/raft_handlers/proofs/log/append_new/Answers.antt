@@ -1,8 +1,9 @@
-use Rattle.std.proofs.Common.{◌≡◌, ◌∙◌, Some, refl, sym, ap}
+use Rattle.std.proofs.Common.{◌≡◌, ◌∙◌, Some, inl, inr, refl, sym, ap}
 use Rattle.std.proofs.lemmas.Bool.{and_parts}
-use Rattle.std.proofs.lemmas.Result.{on_ok_weaker}
+use Rattle.std.proofs.lemmas.Result.{on_err_weaker, on_ok_weaker}
 use Rattle.std.specs.Prelude.{slice_get}
 use Rattle.raft_handlers.proofs.EntryLemmas.{
+  accepted_first,
   commit_allowed,
   commit_logged,
   ends_alike,
@@ -10,11 +11,14 @@ use Rattle.raft_handlers.proofs.EntryLemmas.{
   has_after_entries,
   has_with_alone,
   kept_through,
+  log_first,
   memberships_first,
   no_first,
   replaced_first,
   same_log_itself,
+  with_new_first,
 }
+use Rattle.raft_handlers.proofs.RequestLemmas.{on_err_of}
 use Rattle.raft_members.specs.membership.Stored.{log_id_of}
 use Rattle.raft_state.proofs.lemmas.log_id_list.KeptLemmas.{front_reads}
 use Rattle.raft_state.proofs.lemmas.sound.LoggedIds.{is_logged, same_itself}
@@ -110,6 +114,21 @@ returns-clause-memberships g c =
     let appends = rw c.in_ok-cut.ensures.memberships at c.in_ok-append_entries.ensures.memberships in
     on_ok_weaker c.commit-2.result (λ m. (t.membership_state, rw before appends, rw kept at m)) c.commit-2.ensures.memberships
 
+pub returns-in_default-clause-accepted : goal.returns-in_default-clause-accepted
+returns-in_default-clause-accepted g c =
+    let none = no_first c.args.new.now (rw c.in_default.is at c.first.ensures.value) in
+    on_ok_weaker c.commit.result (λ _. rw none c.commit.ensures.accepted) c.commit.ensures.ok
+
+pub returns-clause-accepted : goal.returns-clause-accepted
+returns-clause-accepted g c =
+    let s = c.args.state.now in
+    let t = c.append_entries.new.self in
+    let first = c.in-Some.first.now in
+    let begins : slice_get c.args.new.now 0 ≡ Some first = sym (rw c.in-Some.is at c.first.ensures.value) in
+    let kept : t.accepted ≡ c.cut.new.state.accepted = ap (λ u. u.accepted) c.append_entries.ensures.rest in
+    on_ok_weaker c.commit-2.result (λ _. c.commit-2.ensures.accepted ∙ kept ∙ c.in_ok-cut.ensures.accepted
+    ∙ sym (accepted_first g.C.Ord.cmp s c.args.new.now first begins)) c.commit-2.ensures.ok
+
 pub returns-clause-committed : goal.returns-clause-committed
 returns-clause-committed g c =
     let s = c.args.state.now in
@@ -154,3 +173,33 @@ returns-in_default-clause-log g c =
     let none = no_first c.args.new.now (rw c.in_default.is at c.first.ensures.value) in
     on_ok_weaker c.commit.result (λ _. rw (none, c.commit.ensures.log)
     (same_log_itself g.C.PartialEq.eq g.met.C.Eq.laws (full_log c.args.state.now.log_ids))) c.commit.ensures.ok
+
+pub returns-in_default-clause-left : goal.returns-in_default-clause-left
+returns-in_default-clause-left g c =
+    on_err_weaker c.commit.result
+    (λ is. inl (ap (λ s. s.log_ids) is, ap (λ s. s.membership_state) is, ap (λ s. s.accepted) is)) c.commit.ensures.err
+
+pub returns-in_err-append_entries-clause-left : goal.returns-in_err-append_entries-clause-left
+returns-in_err-append_entries-clause-left g c =
+    let s = c.args.state.now in
+    let first = c.in-Some.first.now in
+    let begins : slice_get c.args.new.now 0 ≡ Some first = sym (rw c.in-Some.is at c.first.ensures.value) in
+    let is = c.in_err-append_entries.ensures.err in
+    on_err_of c.from_residual-in_err-append_entries.result (inr (inl (
+      ap (λ t. full_log t.log_ids) is ∙ c.in_ok-cut.ensures.log ∙ sym (log_first s c.args.new.now first begins),
+      ap (λ t. t.membership_state) is ∙ c.in_ok-cut.ensures.memberships ∙ sym (memberships_first s c.args.new.now first begins),
+      ap (λ t. t.accepted) is ∙ c.in_ok-cut.ensures.accepted ∙ sym (accepted_first g.C.Ord.cmp s c.args.new.now first begins),
+    )))
+
+pub returns-clause-left : goal.returns-clause-left
+returns-clause-left g c =
+    let s = c.args.state.now in
+    let first = c.in-Some.first.now in
+    let begins : slice_get c.args.new.now 0 ≡ Some first = sym (rw c.in-Some.is at c.first.ensures.value) in
+    let log = rw (c.in_ok-cut.ensures.log, sym (with_new_first (full_log s.log_ids) c.args.new.now first begins))
+    at c.in_ok-append_entries.ensures.log in
+    let appends = rw (c.in_ok-cut.ensures.memberships, sym (memberships_first s c.args.new.now first begins))
+    at c.in_ok-append_entries.ensures.memberships in
+    let kept : c.append_entries.new.self.accepted ≡ c.cut.new.state.accepted = ap (λ u. u.accepted) c.append_entries.ensures.rest in
+    let accepted = kept ∙ c.in_ok-cut.ensures.accepted ∙ sym (accepted_first g.C.Ord.cmp s c.args.new.now first begins) in
+    on_err_weaker c.commit-2.result (λ is. inr (inr (rw is (log, accepted, appends)))) c.commit-2.ensures.err

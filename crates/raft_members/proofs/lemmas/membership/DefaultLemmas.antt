@@ -1,6 +1,7 @@
 -- Default nodes that are put in one by one.
 use Rattle.std.specs.Prelude.{◌≡◌, ℕ, ◌+◌, ◌<◌, Bool, true, false, cond, ◌||◌, Option, Some, None, List, length, take, is_some, refl}
 use Rattle.std.proofs.Common.{sym, ◌∙◌, ap, subst, get_or}
+use Rattle.std.proofs.Math.Bool.{or-false}
 use Rattle.std.specs.declared.cmp.Ordering.{Ordering}
 use Rattle.std.specs.Cmp.{IsTotalOrder}
 use Rattle.std.specs.Set.{is_member}
@@ -29,10 +30,6 @@ module _ {N : Type 0} (is_default : N → Type 0) where
   made_asked None o true d h p w = p
   made_asked None o false d h p w = p
 
-  or_false : (v : Bool) → v ≡ (v || false)
-  or_false true = refl
-  or_false false = refl
-
   module _ {K : Type 0} {eq : K → K → Bool} {cmp : K → K → Ordering} (o : IsTotalOrder cmp) (ties : (x y : K) → eq x y ≡ eq_by_cmp cmp x y)
       (es : List (K × N)) (a : Option N) (ids : List K) (i : ℕ) (x : K) (h : i < length ids) (is : x ≡ get_or ids i x) (q : K) where
     -- the first i + 1 ids have what the first i ids have, and the next one
@@ -42,7 +39,7 @@ module _ {N : Type 0} (is_default : N → Type 0) where
     there_by : (v b : Bool) → is_at (cmp q) x ≡ b → is_some (lookup (is_at (cmp x)) es) ≡ true
         → WithDefault is_default a v (lookup (is_at (cmp q)) es) → WithDefault is_default a (v || b) (lookup (is_at (cmp q)) es)
     there_by v true e t w = kept_asked a (lookup (is_at (cmp q)) es) v (ap is_some (alike_at o es q x e) ∙ t) w
-    there_by v false e t w = subst (λ (b : Bool). WithDefault is_default a b (lookup (is_at (cmp q)) es)) (or_false v) w
+    there_by v false e t w = subst (λ (b : Bool). WithDefault is_default a b (lookup (is_at (cmp q)) es)) (sym (or-false v)) w
 
     -- an id that has a node keeps it
     pub default_there : is_some (lookup (is_at (cmp x)) es) ≡ true
@@ -58,7 +55,7 @@ module _ {N : Type 0} (is_default : N → Type 0) where
     made_by v true d n e t p u w = subst (λ (m : Option N). WithDefault is_default a (v || true) m) (sym u)
         (made_asked a (lookup (is_at (cmp q)) es) v d (ap is_some (alike_at o es q x e) ∙ t) p w)
     made_by v false d n e t p u w = subst (λ (m : Option N). WithDefault is_default a (v || false) m) (sym u)
-        (subst (λ (b : Bool). WithDefault is_default a b (lookup (is_at (cmp q)) es)) (or_false v) w)
+        (subst (λ (b : Bool). WithDefault is_default a b (lookup (is_at (cmp q)) es)) (sym (or-false v)) w)
 
     -- an id that has none gets a default one
     pub default_made : (fs : List (K × N)) (d : N) → is_some (lookup (is_at (cmp x)) es) ≡ false → is_default d

@@ -1,6 +1,7 @@
 -- Configs as the lists of their keys.
 use Rattle.std.specs.Prelude.{◌≡◌, ℕ, Bool, true, false, ◌||◌, List, [], ◌∷◌, map, length, ◌-◌, Some, None, refl}
 use Rattle.std.proofs.Common.{sym, ◌∙◌, ap}
+use Rattle.std.proofs.Math.Bool.{or-false}
 use Rattle.std.specs.Prelude.{◌+◌, ◌<◌, ◌++◌, take}
 use Rattle.std.proofs.Common.{get_or}
 use Rattle.std.proofs.lemmas.List.{map-append, map_more, take_more}
@@ -44,11 +45,7 @@ pub any_more : {X : Type 0} (p : X → Bool) (xs : List X) (i : ℕ) (d : X) →
     → list_any p (take (i + 1) xs) ≡ (list_any p (take i xs) || p d)
 any_more p xs i d h e =
     ap (list_any p) (take_more xs i d h) ∙ list_any-append p (take i xs) (get_or xs i d ∷ [])
-    ∙ ap (λ x. list_any p (take i xs) || (p x || false)) e ∙ ap (λ b. list_any p (take i xs) || b) (or_false (p d))
-  where
-    or_false : (b : Bool) → (b || false) ≡ b
-    or_false true = refl
-    or_false false = refl
+    ∙ ap (λ x. list_any p (take i xs) || (p x || false)) e ∙ ap (λ b. list_any p (take i xs) || b) (or-false (p d))
 
 -- one more item is pushed
 pub map_pushed : {X Y B : Type 0} (f : X → B) (g : Y → B) (xs : List X) (ys : List Y) (i : ℕ) (x : X) (y : Y) → i < length xs

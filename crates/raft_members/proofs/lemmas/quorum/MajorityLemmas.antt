@@ -8,6 +8,7 @@ use Rattle.std.specs.BTreeMap.{is_at}
 use Rattle.std.specs.BTreeSet.{BTreeSet, IsFromIterResult}
 use Rattle.std.specs.List.{IsDistinct, AllByRecursion, list_any, dedup, dedup_from}
 use Rattle.std.proofs.Common.{arith, sym, ap, refl, ◌∙◌, true≢false, ltb, ltb-true, lt-ltb, ◌/◌}
+use Rattle.std.proofs.Math.Bool.{and_comm}
 use Rattle.std.proofs.lemmas.Bool.{ltb_from_iff}
 use Rattle.raft_members.specs.quorum.Majority.{is_majority}
 use Rattle.std.proofs.lemmas.List.Sums.{length-filter}
@@ -62,12 +63,6 @@ module _ {K : Type 0} {eq : K → K → Bool} (laws : IsEquivalence eq) where
   IsDistinct-filter p (x ∷ xs) d =
       elim (p x) as (λ b. IsDistinct eq (cond b (x ∷ filter p xs) (filter p xs)))
       [ true ↦ (all_filter x p xs d.0, IsDistinct-filter p xs d.1) | false ↦ IsDistinct-filter p xs d.1 ]
-
-  and_comm : (a b : Bool) → (a && b) ≡ (b && a)
-  and_comm true true = refl
-  and_comm true false = refl
-  and_comm false true = refl
-  and_comm false false = refl
 
   -- the number of distinct ids that are voters is the number of voters, each counted once, that are
   -- among the ids

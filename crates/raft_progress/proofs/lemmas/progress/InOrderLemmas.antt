@@ -28,6 +28,7 @@ use Rattle.std.specs.Map.{keys_of, lookup}
 use Rattle.std.specs.Set.{is_member}
 use Rattle.std.specs.List.{IsDistinct, AllByRecursion, list_any, list_all}
 use Rattle.std.proofs.Common.{arith, sym, ap, refl, ◌∙◌, true≢false, inl, inr, subst, suc, zero}
+use Rattle.std.proofs.lemmas.Bool.{or_right}
 use Rattle.std.proofs.Math.Seq.{take-append_seam}
 use Rattle.std.proofs.lemmas.List.{map-append}
 use Rattle.std.proofs.lemmas.List.Elements.{All-take, recursion_from_All}
@@ -37,7 +38,6 @@ use Rattle.raft_progress.specs.progress.Entries.{IsFalling}
 use Rattle.raft_progress.specs.Inner.Recount.{at_least}
 use Rattle.raft_progress.specs.Inner.Conditions.{ids_differ, never_rises}
 use Rattle.raft_members.proofs.CallerLemmas.{is_member-alike}
-use Rattle.raft_progress.proofs.lemmas.ListLemmas.{or_right}
 use Rattle.raft_progress.proofs.lemmas.progress.UpdateLemmas.{IsDistinct-voters}
 use Rattle.raft_progress.proofs.lemmas.progress.upgrade.LearnersFitLemmas.{distinct_fits, fits_distinct, neither}
 use Rattle.raft_progress.proofs.lemmas.OrderLemmas.{AtMost-trans, AtMost-from_not_lt, lt_le}

@@ -8,6 +8,7 @@ use Rattle.std.specs.Set.{is_member}
 use Rattle.std.specs.List.{IsDistinct, AllByRecursion}
 use Rattle.std.specs.List.Sorted.{IsStrictlySortedBy}
 use Rattle.std.proofs.Common.{arith, sym, ap, refl, ◌∙◌, true≢false, inl, subst, suc, zero, length-append}
+use Rattle.std.proofs.lemmas.Bool.{or_right}
 use Rattle.std.proofs.lemmas.Cmp.{tied_itself}
 use Rattle.std.proofs.lemmas.Map.Keys.{IsDistinct-from_sorted}
 use Rattle.raft_progress.specs.progress.CountedValue.{AtMost}
@@ -17,7 +18,6 @@ use Rattle.raft_progress.specs.progress.NewProgress.{IsNew, LearnersFit}
 use Rattle.raft_progress.specs.progress.Entries.{IsFalling, state_of}
 use Rattle.raft_progress.proofs.lemmas.OrderLemmas.{AtMost-refl}
 use Rattle.raft_progress.proofs.lemmas.progress.entries.EntriesLemmas.{no_value}
-use Rattle.raft_progress.proofs.lemmas.ListLemmas.{or_right}
 
 -- distinct by the type's own `==`
 pub IsDistinct-from_cmp : {K : Type 0} {eq : K → K → Bool} (cmp : K → K → Ordering) → ((x y : K) → eq x y ≡ eq_by_cmp cmp x y)

@@ -1,6 +1,6 @@
 use Rattle.std.proofs.Common.{ap, ◌∙◌}
 use Rattle.raft_progress.specs.tracked.Tracked.{tracked_view}
-use Rattle.raft_progress_tests.proofs.lemmas.EachConfigLemmas.{number_granted}
+use Rattle.raft_progress.proofs.CallerLemmas.{number_granted}
 use Rattle.raft_progress_tests.proofs.uses.commit_index.Goals as goal
 
 pub returns : goal.returns

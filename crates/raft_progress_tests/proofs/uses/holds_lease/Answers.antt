@@ -1,7 +1,7 @@
 use Rattle.std.proofs.Common.{ap, ◌∙◌}
 use Rattle.std.proofs.lemmas.Bool.{le-leb, leb-true}
 use Rattle.raft_progress.specs.tracked.Tracked.{tracked_view}
-use Rattle.raft_progress_tests.proofs.lemmas.EachConfigLemmas.{number_granted}
+use Rattle.raft_progress.proofs.CallerLemmas.{number_granted}
 use Rattle.raft_progress_tests.proofs.uses.holds_lease.Goals as goal
 
 pub returns : goal.returns

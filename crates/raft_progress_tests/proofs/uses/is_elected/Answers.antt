@@ -1,6 +1,6 @@
 use Rattle.std.proofs.Common.{ap, true, ◌∙◌}
 use Rattle.raft_progress.specs.tracked.Tracked.{tracked_view}
-use Rattle.raft_progress_tests.proofs.lemmas.EachConfigLemmas.{vote_granted}
+use Rattle.raft_progress.proofs.CallerLemmas.{vote_granted}
 use Rattle.raft_progress_tests.proofs.uses.is_elected.Goals as goal
 
 pub returns : goal.returns

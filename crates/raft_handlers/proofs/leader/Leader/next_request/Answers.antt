@@ -1,7 +1,5 @@
-use Rattle.std.proofs.Common.{ap}
 use Rattle.raft_progress.specs.tracked.Tracked.{tracked_view}
 use Rattle.raft_state.specs.raft_state.VoteAndLog.{log_view_of}
-use Rattle.raft_handlers.specs.Leadership.{Leadership}
 use Rattle.raft_handlers.proofs.lemmas.SendLemmas.{
   leader_writes,
   member_written,

@@ -11,6 +11,7 @@ returns-in-Ok-new-clause-followers g c =
     let end : c.next_index.result ≡ end_index (full_log c.args.state.now.log_ids) =
     c.next_index.ensures ∙ ap next_index (c.copied-last.ensures ∙ c.last_log_id.ensures) in
     record {
+      members = search rules;
       configs = search rules;
       entries = λ x entry known.
           begins_with_default g.NID.PartialEq.eq _ _ _ _ c.empty-unknown.result (tracked_view c.in-Ok-new.followers)

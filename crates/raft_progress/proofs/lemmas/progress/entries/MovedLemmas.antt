@@ -7,10 +7,10 @@ use Rattle.std.specs.List.{AllByRecursion, IsDistinct, list_any}
 use Rattle.std.specs.Map.{keys_of, lookup}
 use Rattle.std.specs.Set.{is_member}
 use Rattle.std.proofs.Common.{arith, sym, ap, refl, ◌∙◌, true≢false, suc, zero, get_or, append_assoc, length-append}
+use Rattle.std.proofs.lemmas.Bool.{or_right}
 use Rattle.std.proofs.lemmas.List.{append-nil}
 use Rattle.raft_progress.specs.Inner.Rises.{LastAtLeast, RisesTo}
 use Rattle.raft_progress.specs.progress.Entries.{put_after_last, entries_after_rise}
-use Rattle.raft_progress.proofs.lemmas.ListLemmas.{or_right}
 use Rattle.raft_progress.proofs.lemmas.OrderLemmas.{lt_reversed}
 use Rattle.std.proofs.Math.Seq.{get_or-append_seam}
 

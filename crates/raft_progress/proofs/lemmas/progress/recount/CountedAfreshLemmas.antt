@@ -7,6 +7,7 @@ use Rattle.std.specs.Map.{keys_of, lookup}
 use Rattle.std.specs.Set.{is_member}
 use Rattle.std.specs.List.{IsDistinct, AllByRecursion}
 use Rattle.std.proofs.Common.{sym, ap, refl, ◌∙◌, true≢false, get_or, inl, inr, subst, suc, zero}
+use Rattle.std.proofs.lemmas.Bool.{or_right}
 use Rattle.std.proofs.lemmas.Cmp.{tied_itself}
 use Rattle.std.proofs.lemmas.Option.{slice_get-get_or}
 use Rattle.std.proofs.lemmas.Map.Entries.{lookup_from_place}
@@ -14,7 +15,7 @@ use Rattle.std.proofs.lemmas.List.Elements.{All-contains, All-take, All-from_rec
 use Rattle.raft_progress.specs.progress.CountedValue.{AtMost, IsCounted, has_part, reached}
 use Rattle.raft_progress.specs.Inner.Recount.{IsGreatest, at_least, reaches}
 use Rattle.raft_progress.specs.progress.Entries.{state_of}
-use Rattle.raft_progress.proofs.lemmas.ListLemmas.{all_weaker, or_right}
+use Rattle.raft_progress.proofs.lemmas.ListLemmas.{all_weaker}
 
 module _ {ID : Type 0} {eq : ID → ID → Bool} (laws : IsEquivalence eq) where
   -- a key that is apart from all keys is not among the first of them

@@ -1,11 +1,11 @@
--- What a majority of each config has: the words of whoever counts matches, votes or replies.
+-- What a majority of each config has: a match, a vote, or whatever else a progress counts.
 use Rattle.std.specs.Prelude.{◌≡◌, ◌<◌, Bool, true, false, length}
 use Rattle.std.specs.Option.{option_map_or}
 use Rattle.raft_members.specs.quorum.Majority.{is_joint_majority}
 use Rattle.raft_progress.specs.progress.ProgressView.{state}
 use Rattle.raft_progress.specs.tracked.TrackedState.{TrackedView}
 
--- the membership has a config, and a majority of each has a value that passes the test
+-- the membership has a config, and a majority of each config has a value that passes the test
 pub record MajorityOfEach {K N V P : Type 0} (eq : K → K → Bool) (t : TrackedView K N V P)
     (passes : V → Bool) : Type 0 where
   pub config : 0 < length t.membership.configs
