@@ -18,5 +18,6 @@ pub mod CheckerStepLemmas
 pub mod CheckerCodeLemmas
 pub mod RankLemmas
 pub mod ScenarioLemmas
+pub mod MembershipsLemmas
 pub mod MergeLemmas
 pub mod LoopLemmas

@@ -112,6 +112,7 @@ use Rattle.raft_safety.specs.declared.rule.Rule.TheVariants.{
   NoQuorum,
   NotAcked,
   NotCommitted,
+  InitialConfig,
 }
 
 module _ {T ID D M : Type 0} (k : Tests T ID D M) where
@@ -282,7 +283,7 @@ module _ {T ID D : Type 0} (k : Tests T ID D (Option D)) where
   abbrev pub Begins : {C : Type 0} → Result (Checker T ID D C) Violation → Type 0
   Begins result =
       MatchResult result (λ c. HasSeen k [] c.servers.items c.leaders.items)
-      (λ v. k.intersect k.initial k.initial ≡ false)
+      (λ v. (k.intersect k.initial k.initial ≡ false) × (v ≡ BreaksRule InitialConfig))
 
 -- a trace after which recorded events come, in their order
 abbrev pub trace_after : {T ID D : Type 0} → List (TraceEvent T ID D) → List (RecordedEvent T ID D)
@@ -295,11 +296,11 @@ abbrev pub trace_of : {T ID D : Type 0} → List (RecordedEvent T ID D) → List
 trace_of events = trace_after [] events
 
 module _ {T ID D : Type 0} (k : Tests T ID D (Option D)) where
-  -- quorums of the initial config do not intersect, or all events before this one are allowed, and it
-  -- is refused
+  -- quorums of the initial config do not intersect, which is refused as if it were the first event; or
+  -- all events before this one are allowed, and it is refused
   abbrev pub IsFirstRefused : List (RecordedEvent T ID D) → ℕ → Violation → Type 0
   IsFirstRefused events i v =
-      (k.intersect k.initial k.initial ≡ false)
+      ((k.intersect k.initial k.initial ≡ false) × (i ≡ 0) × (v ≡ BreaksRule InitialConfig))
       ⊎ ((e : RecordedEvent T ID D) × (i < length events) × (e ≡ get_or events i e)
       × (are_allowed k (trace_of (take i events)) ≡ true)
       × IsRefusal (broken_rule k (event_of e) (trace_of (take i events))) v)

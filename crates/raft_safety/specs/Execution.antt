@@ -65,12 +65,15 @@ module _ {T ID D M : Type 0} (rank : T → ℕ) (config_of : D → Option M) (in
   IsExecution h [] = Init h
   IsExecution h (old ∷ earlier) = Next old h × IsExecution old earlier
 
-  -- what was sent, voted, acknowledged, elected or committed in an older history is so in a newer one.
-  -- So a message may be received at any later time, more than once, in any order, or never
+  -- what was asked, sent, voted, acknowledged, elected or committed in an older history is so in a newer
+  -- one. So a message may be received at any later time, more than once, in any order, or never. A
+  -- candidate that somebody has voted for has asked with its log
   pub record FactsAreStable (old new : History T ID D) : Type 0 where
     pub sent : (t : T) (c : ID) (i : ℕ) (es : List (Entry T D))
         → IsAppendEntries rank (is_quorum rank config_of initial quorum_of) old t c i es
         → IsAppendEntries rank (is_quorum rank config_of initial quorum_of) new t c i es
+    pub asked : (s : ID) (t : T) (c : ID) → HasVoted t c (old.events s)
+        → new.candidate_log t c ≡ old.candidate_log t c
     pub voted : (s : ID) (t : T) (c : ID) → HasVoted t c (old.events s) → HasVoted t c (new.events s)
     pub acked : (s : ID) (t : T) (c : ID) (n : ℕ) → HasAcked t c n (old.events s)
         → HasAcked t c n (new.events s)

@@ -5,6 +5,7 @@ use Rattle.std.specs.Prelude.{
   ◌≢◌,
   ◌⊎◌,
   ◌+◌,
+  ◌<◌,
   ◌≤◌,
   ℕ,
   true,
@@ -31,6 +32,7 @@ use Rattle.raft_safety.specs.declared.checker.Checker.{Checker}
 use Rattle.raft_safety.specs.declared.checker.violation.Violation.{Violation}
 use Rattle.raft_safety.specs.declared.checker.violation.Violation.TheVariants.{OutOfMemory, Rule as BreaksRule}
 use Rattle.raft_safety.specs.declared.rule.Rule.{Rule}
+use Rattle.raft_safety.specs.declared.rule.Rule.TheVariants.{InitialConfig}
 use Rattle.raft_safety.specs.declared.event.Event.{Event as RecordedEvent}
 
 module _ {T ID D : Type 0} (lists : List (Vec (RecordedEvent T ID D))) where
@@ -57,6 +59,12 @@ module _ {T ID D : Type 0} (lists : List (Vec (RecordedEvent T ID D))) where
       (before : List ℕ) × (next : IsPlaced before placed) × (e ≡ event_of next.event)
       × Interleaves before es
 
+  -- all events of the lists before this one are placed
+  abbrev pub AreEnded : List ℕ → ℕ → Type 0
+  AreEnded placed list =
+      (i n : ℕ) (l : Vec (RecordedEvent T ID D)) → i < list → slice_get lists i ≡ Some l
+      → slice_get placed i ≡ Some n → length l.items ≤ n
+
   -- all events of each list are placed
   abbrev pub AreAllPlaced : List ℕ → Type 0
   AreAllPlaced placed =
@@ -80,8 +88,8 @@ module _ {T ID D : Type 0} (k : Tests T ID D (Option D))
     pub is_next : IsNext lists placed list count event
     pub breaks : broken_rule k (event_of event) es ≡ Some rule
 
-  -- after a trace no list has a next event that is allowed. The next event of this list is refused for
-  -- this violation
+  -- after a trace no list has a next event that is allowed. This list is the first one with a next
+  -- event, which is refused for this violation
   pub record AreRefused (placed : List ℕ) (es : List (TraceEvent T ID D)) (list : ℕ) (v : Violation)
       : Type 0 where
     pub none_allowed : (i n : ℕ) (e : RecordedEvent T ID D) → IsNext lists placed i n e
@@ -89,19 +97,35 @@ module _ {T ID D : Type 0} (k : Tests T ID D (Option D))
     pub rule : Rule
     pub is_rule : v ≡ BreaksRule rule
     pub refused : IsRefused placed es list rule
+    pub first : AreEnded lists placed list
 
   -- there is an allowed trace that interleaves the placed events, and after it the next event of every
-  -- list is refused. The next event of this list is refused for this violation
+  -- list is refused. The next event of this list, the first one that has one, is refused for this
+  -- violation
   pub record IsStuck (placed : List ℕ) (list : ℕ) (v : Violation) : Type 0 where
     pub trace : List (TraceEvent T ID D)
     pub interleaves : Interleaves lists placed trace
     pub allowed : are_allowed k trace ≡ true
     pub refused : AreRefused placed trace list v
 
-  -- memory ran out, quorums of the initial config do not intersect, or no next event is allowed
+  -- memory ran out when the next event of this list was recorded, after an allowed trace that
+  -- interleaves the placed events
+  pub record IsInterrupted (placed : List ℕ) (list : ℕ) : Type 0 where
+    pub trace : List (TraceEvent T ID D)
+    pub interleaves : Interleaves lists placed trace
+    pub allowed : are_allowed k trace ≡ true
+    pub count : ℕ
+    pub event : RecordedEvent T ID D
+    pub is_next : IsNext lists placed list count event
+
+  -- memory ran out, at first or later; quorums of the initial config do not intersect; or no next event
+  -- is allowed
   abbrev pub IsRefusedMerge : List ℕ → ℕ → Violation → Type 0
   IsRefusedMerge placed list v =
-      (v ≡ OutOfMemory) ⊎ (k.intersect k.initial k.initial ≡ false) ⊎ IsStuck placed list v
+      ((v ≡ OutOfMemory) × (((placed ≡ []) × (list ≡ 0)) ⊎ IsInterrupted placed list))
+      ⊎ ((k.intersect k.initial k.initial ≡ false) × (v ≡ BreaksRule InitialConfig)
+      × (placed ≡ replicate (length lists) 0) × (list ≡ 0))
+      ⊎ IsStuck placed list v
 
   -- the checker has recorded the next event of a list, or no list has a next event. It fails if memory
   -- runs out, or if the next event of every list is refused
@@ -113,4 +137,6 @@ module _ {T ID D : Type 0} (k : Tests T ID D (Option D))
       (λ more. (more ≡ true → (next : IsPlaced lists placed new_placed)
       × HasSeen k (event_of next.event ∷ es) new.servers.items new.leaders.items)
       × (more ≡ false → HasSeen k es new.servers.items new.leaders.items))
-      (λ r. (r.1 ≡ OutOfMemory) ⊎ AreRefused new_placed es r.0 r.1)
+      (λ r. ((r.1 ≡ OutOfMemory)
+      × (n : ℕ) × (e : RecordedEvent T ID D) × IsNext lists new_placed r.0 n e)
+      ⊎ AreRefused new_placed es r.0 r.1)

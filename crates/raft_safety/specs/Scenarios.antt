@@ -15,6 +15,25 @@ use Rattle.raft_safety.specs.Facts.{IsCommitted, IsElected}
 use Rattle.raft_safety.specs.Rules.{MayRestart}
 use Rattle.raft_safety.specs.Configs.{is_quorum}
 use Rattle.raft_safety.specs.Ranks.{rank_in}
+use Rattle.raft_safety.specs.Checker.{broken_rule}
+use Rattle.raft_safety.specs.declared.rule.Rule.{Rule}
+use Rattle.raft_safety.specs.declared.rule.Rule.TheVariants.{
+  ApartConfigs,
+  CandidateBehind,
+  CountedEarly,
+  DropsMatching,
+  EarlierTerm,
+  EarlyConfig,
+  ForeignEntries,
+  LostAcked,
+  NoCampaign,
+  NoQuorum,
+  NotCommitted,
+  NotElected,
+  NotKept,
+  OtherTerm,
+  PassedTerm,
+}
 use Rattle.raft_safety.specs.Trace.{
   TraceEvent,
   Campaigned,
@@ -27,9 +46,9 @@ use Rattle.raft_safety.specs.Trace.{
   Applied,
   Tests,
   IsSafeTrace,
+  are_allowed,
   campaign_terms,
   history,
-  is_allowed,
   is_elected,
   log_in,
 }
@@ -73,9 +92,13 @@ three = starting_from ((0 ∷ 1 ∷ 2 ∷ []) ∷ [])
 abbrev pub five : Tests ℕ ℕ ℕ (List (List ℕ))
 five = starting_from ((0 ∷ 1 ∷ 2 ∷ 3 ∷ 4 ∷ []) ∷ [])
 
--- whether an event is allowed after these
-abbrev pub then_allowed : Tests ℕ ℕ ℕ (List (List ℕ)) → List Row → Row → Bool
-then_allowed k rows row = is_allowed k row (reverse rows)
+-- a trace is allowed, and so it is safe
+abbrev pub IsAllowedTrace : {T ID D M : Type 0} → Tests T ID D M → List (TraceEvent T ID D) → Type 0
+IsAllowedTrace k rows = (are_allowed k (reverse rows) ≡ true) × IsSafeTrace k (reverse rows)
+
+-- the first rule that an event breaks after these, if it breaks one
+abbrev pub then_breaks : Tests ℕ ℕ ℕ (List (List ℕ)) → List Row → Row → Option Rule
+then_breaks k rows row = broken_rule k row (reverse rows)
 
 -- the log of a server after these events
 abbrev pub log_then : Tests ℕ ℕ ℕ (List (List ℕ)) → List Row → ℕ → List (Entry ℕ ℕ)
@@ -169,21 +192,24 @@ figure_8_e =
 -- an earlier term's entry on a majority is committed only by an entry of the leader's own term
 pub record IsFigure8 : Type 0 where
   -- in c the entry of term 2 is on a majority, and is not committed
-  pub c_safe : IsSafeTrace five (reverse figure_8_c)
+  pub c_allowed : IsAllowedTrace five figure_8_c
   pub c_on_majority : (log_then five figure_8_c 0 ≡ entry 1 10 ∷ entry 2 20 ∷ [])
       × (log_then five figure_8_c 1 ≡ entry 1 10 ∷ entry 2 20 ∷ [])
       × (log_then five figure_8_c 2 ≡ entry 1 10 ∷ entry 2 20 ∷ [])
-  pub c_not_committed : (m : ℕ) → then_allowed five figure_8_c (Committed 0 4 2 m) ≡ false
+  pub c_not_committed : (m : ℕ) → then_breaks five figure_8_c (Committed 0 4 2 m) ≡ Some EarlierTerm
   -- in d it is overwritten, and was never committed
-  pub d_safe : IsSafeTrace five (reverse figure_8_d)
+  pub d_allowed : IsAllowedTrace five figure_8_d
   pub d_overwritten : log_then five figure_8_d 0 ≡ entry 1 10 ∷ entry 3 30 ∷ entry 5 50 ∷ []
   pub d_never_committed : (m : ℕ) → IsCommitted (λ t. t)
       (is_quorum (λ t. t) configs_of five.initial (is_joint_majority nat_eq))
       (history five (reverse figure_8_d)) 2 0 2 m → ⊥
   -- in e it is committed, and server 4 cannot be elected
-  pub e_safe : IsSafeTrace five (reverse figure_8_e)
-  pub e_no_votes : (then_allowed five figure_8_e (Granted 1 5 4) ≡ false)
-      × (then_allowed five figure_8_e (Granted 2 5 4) ≡ false)
+  pub e_allowed : IsAllowedTrace five figure_8_e
+  pub e_committed : IsCommitted (λ t. t)
+      (is_quorum (λ t. t) configs_of five.initial (is_joint_majority nat_eq))
+      (history five (reverse figure_8_e)) 4 0 3 3
+  pub e_no_votes : (then_breaks five figure_8_e (Granted 1 5 4) ≡ Some CandidateBehind)
+      × (then_breaks five figure_8_e (Granted 2 5 4) ≡ Some CandidateBehind)
   pub e_not_elected : IsElected (λ t. t)
       (is_quorum (λ t. t) configs_of five.initial (is_joint_majority nat_eq))
       (history five (reverse figure_8_e)) 5 4 → ⊥
@@ -283,10 +309,10 @@ learner_promoted =
 
 -- the two changes of the members are safe, and the acknowledgement of a learner does not count
 pub record AreMemberChanges : Type 0 where
-  pub removed_leader : IsSafeTrace three (reverse members_changed)
-  pub learner : IsSafeTrace three (reverse learner_promoted)
+  pub removed_leader : IsAllowedTrace three members_changed
+  pub learner : IsAllowedTrace three learner_promoted
   -- as a learner, server 3 does not count
-  pub learner_does_not_count : then_allowed three learner_has_entry (Committed 0 1 1 1) ≡ false
+  pub learner_does_not_count : then_breaks three learner_has_entry (Committed 0 1 1 1) ≡ Some NoQuorum
 
 -- ---- crashes, snapshots, and a network that delays, duplicates and reorders
 
@@ -375,17 +401,17 @@ truncated = Append 2 1 (entry 2 20 ∷ []) ∷ Append 1 0 (entry 1 10 ∷ []) �
 
 -- traces with crashes, snapshots and late messages are safe, and what breaks a rule is refused
 pub record AreDisturbances : Type 0 where
-  pub loss : IsSafeTrace three (reverse loss_and_return)
-  pub no_loss_of_acked : then_allowed three loss_and_return (Restarted 1 1) ≡ false
-  pub snapshot : IsSafeTrace three (reverse snapshot_on_empty_log)
-  pub messages : IsSafeTrace three (reverse noise)
+  pub loss : IsAllowedTrace three loss_and_return
+  pub no_loss_of_acked : then_breaks three loss_and_return (Restarted 1 1) ≡ Some LostAcked
+  pub snapshot : IsAllowedTrace three snapshot_on_empty_log
+  pub messages : IsAllowedTrace three noise
   pub message_of_passed_term :
-      then_allowed three noise (Appended 0 1 0 3 (entry 1 12 ∷ [])) ≡ false
-  pub late : IsSafeTrace three (reverse late_flush)
-  pub lost : IsSafeTrace three (reverse lost_flush)
+      then_breaks three noise (Appended 0 1 0 3 (entry 1 12 ∷ [])) ≡ Some PassedTerm
+  pub late : IsAllowedTrace three late_flush
+  pub lost : IsAllowedTrace three lost_flush
   -- what was lost in between may be acknowledged in term 2, and no more to the leader of term 1
-  pub ack_of_lost : then_allowed three lost_flush (Acked 1 1 0 1) ≡ false
-  pub ack_of_regained : then_allowed three lost_flush (Acked 1 2 0 1) ≡ true
+  pub ack_of_lost : then_breaks three lost_flush (Acked 1 1 0 1) ≡ Some NotKept
+  pub ack_of_regained : then_breaks three lost_flush (Acked 1 2 0 1) ≡ None
   -- a crash may undo the truncation, but not once the new entry is acknowledged
   pub truncation_undone : MayRestart truncated (entry 1 10 ∷ [])
   pub acked_truncation_stays : MayRestart (Ack 2 1 1 ∷ truncated) (entry 1 10 ∷ []) → ⊥
@@ -430,12 +456,12 @@ by_leader_id = record {
 
 -- two leaders are elected in one term, which is safe, because their leader ids differ
 pub record AreLeaderIds : Type 0 where
-  pub safe : IsSafeTrace by_leader_id (reverse two_of_one_term)
+  pub safe : IsAllowedTrace by_leader_id two_of_one_term
   pub both_elected : (is_elected by_leader_id (reverse two_of_one_term) (leader 1 0) 0 ≡ true)
       × (is_elected by_leader_id (reverse two_of_one_term) (leader 1 1) 1 ≡ true)
   -- a lower leader id of that term gets no vote any more
   pub lower_gets_no_vote :
-      is_allowed by_leader_id (Granted 0 (leader 1 0) 1) (reverse two_of_one_term) ≡ false
+      broken_rule by_leader_id (Granted 1 (leader 1 0) 0) (reverse two_of_one_term) ≡ Some PassedTerm
 
 -- ---- what is refused, each for a rule
 
@@ -480,41 +506,40 @@ joint_on_old =
     ∷ Acked 1 1 0 2
     ∷ []
 
--- an event that breaks a rule is refused, after a trace that is safe
-pub record AreRefused : Type 0 where
-  -- the events before are allowed
-  pub led_safe : IsSafeTrace three (reverse led)
-  pub behind_safe : IsSafeTrace three (reverse behind)
-  pub heard_safe : IsSafeTrace five (reverse heard)
-  pub foreign_ack_safe : IsSafeTrace three (reverse foreign_ack)
-  pub joint_on_old_safe : IsSafeTrace three (reverse joint_on_old)
+-- an event is refused by the first rule that it breaks, after a trace that is allowed
+pub record AreRefusedByRule : Type 0 where
+  pub led_allowed : IsAllowedTrace three led
+  pub behind_allowed : IsAllowedTrace three behind
+  pub heard_allowed : IsAllowedTrace five heard
+  pub foreign_ack_allowed : IsAllowedTrace three foreign_ack
+  pub joint_on_old_allowed : IsAllowedTrace three joint_on_old
   -- votes
-  pub second_vote : then_allowed three led (Granted 1 1 2) ≡ false
-  pub vote_after_leader : then_allowed five heard (Granted 3 1 1) ≡ false
-  pub candidate_behind : then_allowed three behind (Granted 1 2 2) ≡ false
-  pub older_last_term : then_allowed five figure_8_c (Granted 4 4 0) ≡ false
+  pub second_vote : then_breaks three led (Granted 1 1 2) ≡ Some PassedTerm
+  pub vote_after_leader : then_breaks five heard (Granted 3 1 1) ≡ Some PassedTerm
+  pub candidate_behind : then_breaks three behind (Granted 1 2 2) ≡ Some CandidateBehind
+  pub older_last_term : then_breaks five figure_8_c (Granted 4 4 0) ≡ Some CandidateBehind
   -- entries
-  pub not_elected : then_allowed three led (Appended 1 1 2 0 []) ≡ false
-  pub passed_term : then_allowed three behind (Appended 2 1 0 0 (entry 1 10 ∷ [])) ≡ false
-  pub shared_entry_dropped : then_allowed three led (Appended 0 1 0 0 []) ≡ false
-  pub entry_of_no_one : then_allowed three led (Appended 1 1 0 0 (entry 1 11 ∷ [])) ≡ false
-  pub written_unelected : then_allowed three led (Wrote 2 1 (entry 1 12)) ≡ false
-  pub written_in_other_term : then_allowed three led (Wrote 0 1 (entry 2 12)) ≡ false
+  pub not_elected : then_breaks three led (Appended 1 1 2 0 []) ≡ Some NotElected
+  pub passed_term : then_breaks three behind (Appended 2 1 0 0 (entry 1 10 ∷ [])) ≡ Some PassedTerm
+  pub shared_entry_dropped : then_breaks three led (Appended 0 1 0 0 []) ≡ Some DropsMatching
+  pub entry_of_no_one : then_breaks three led (Appended 1 1 0 0 (entry 1 11 ∷ [])) ≡ Some ForeignEntries
+  pub written_unelected : then_breaks three led (Wrote 2 1 (entry 1 12)) ≡ Some NotElected
+  pub written_in_other_term : then_breaks three led (Wrote 0 1 (entry 2 12)) ≡ Some OtherTerm
   -- acknowledgements
-  pub ack_without_entry : then_allowed three led (Acked 1 1 0 1) ≡ false
-  pub acked_lost : then_allowed three led (Restarted 0 0) ≡ false
+  pub ack_without_entry : then_breaks three led (Acked 1 1 0 1) ≡ Some NotKept
+  pub acked_lost : then_breaks three led (Restarted 0 0) ≡ Some LostAcked
   -- what comes from another cluster: server 8, which has never campaigned here, leads it in term 7
-  pub foreign_vote_request : then_allowed three led (Granted 1 7 8) ≡ false
-  pub foreign_entries : then_allowed three led (Appended 1 7 8 0 (entry 7 70 ∷ [])) ≡ false
-  pub foreign_heartbeat : then_allowed three led (Appended 1 7 8 0 []) ≡ false
+  pub foreign_vote_request : then_breaks three led (Granted 1 7 8) ≡ Some NoCampaign
+  pub foreign_entries : then_breaks three led (Appended 1 7 8 0 (entry 7 70 ∷ [])) ≡ Some NotElected
+  pub foreign_heartbeat : then_breaks three led (Appended 1 7 8 0 []) ≡ Some NotElected
   -- commits
-  pub no_quorum : then_allowed three led (Committed 0 1 1 1) ≡ false
-  pub foreign_ack_does_not_count : then_allowed three foreign_ack (Committed 0 1 1 1) ≡ false
-  pub earlier_term_by_count : then_allowed five figure_8_c (Committed 0 4 2 2) ≡ false
-  pub applied_uncommitted : then_allowed three led (Applied 0 1 0 1) ≡ false
+  pub no_quorum : then_breaks three led (Committed 0 1 1 1) ≡ Some NoQuorum
+  pub foreign_ack_does_not_count : then_breaks three foreign_ack (Committed 0 1 1 1) ≡ Some NoQuorum
+  pub earlier_term_by_count : then_breaks five figure_8_c (Committed 0 4 2 2) ≡ Some EarlierTerm
+  pub applied_uncommitted : then_breaks three led (Applied 0 1 0 1) ≡ Some NotCommitted
   -- configs
-  pub change_before_own_commit : then_allowed three led (Wrote 0 1 (entry 1 100)) ≡ false
-  pub joint_step_skipped : then_allowed three old_committed (Wrote 0 1 (entry 1 101)) ≡ false
-  pub change_while_uncommitted : then_allowed three joint_on_old (Wrote 0 1 (entry 1 101)) ≡ false
-  pub joint_by_old_config : (then_allowed three joint_on_old (Committed 0 1 2 2) ≡ false)
-      × (then_allowed three joint_on_old (Committed 0 1 2 1) ≡ false)
+  pub change_before_own_commit : then_breaks three led (Wrote 0 1 (entry 1 100)) ≡ Some EarlyConfig
+  pub joint_step_skipped : then_breaks three old_committed (Wrote 0 1 (entry 1 101)) ≡ Some ApartConfigs
+  pub change_while_uncommitted : then_breaks three joint_on_old (Wrote 0 1 (entry 1 101)) ≡ Some EarlyConfig
+  pub joint_by_old_config : (then_breaks three joint_on_old (Committed 0 1 2 2) ≡ Some NoQuorum)
+      × (then_breaks three joint_on_old (Committed 0 1 2 1) ≡ Some CountedEarly)

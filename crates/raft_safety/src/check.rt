@@ -22,11 +22,13 @@ pub struct Refused {
 /// Checks that each event of a trace was allowed by what came before.
 ///
 /// If it returns `Ok`, the trace is an execution in which every server keeps the rules, so the
-/// trace is safe.
+/// trace is safe. This holds if terms, ids and contents that are `==` are equal, terms of one rank
+/// are equal, and quorums of configs intersect where `Configs` says so.
 ///
 /// # Errors
 ///
-/// The first event that was not allowed, with the rule that it breaks, or out of memory.
+/// The first event that was not allowed, with the rule that it breaks, or out of memory. If quorums
+/// of the initial config do not intersect, it is the rule `InitialConfig` with the event 0.
 pub fn check<T: Term, N: Copy + Eq, D: Copy + Eq, C: Configs<N, D> + Drop>(
     alloc: Global,
     configs: C,

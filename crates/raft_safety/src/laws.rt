@@ -30,14 +30,14 @@ pub fn changing_members_are_safe<T, ID: Copy + Ord, D, M>()
 /// history in which each server keeps the rules is safe.
 ///
 /// Memberships, their quorums and their coherence are those of `raft_members`, and each step of a
-/// change is coherent. Ids that are `==` have to be equal.
+/// change is coherent. Ids that are `==` have to be equal, and the initial membership has a config.
 pub fn joint_members_are_safe<T, ID: Copy + Ord, D>()
     ensures safe { JointMembersAreSafe T ID D ID.eq }
     ensures steps { StepsAreCoherent ID ID.eq }
 {}
 
 /// Every execution is safe at each of its times, over a network that may lose, delay, duplicate and
-/// reorder messages.
+/// reorder messages, if quorums of its initial membership intersect.
 ///
 /// Of what a server may apply at one time of it, and what another may apply at another time, one is
 /// a prefix of the other.
@@ -46,8 +46,8 @@ pub fn executions_are_safe<T, ID: Copy + Ord, D, M>()
     ensures applied { StateMachinesAgreeAtAllTimes T ID D M }
 {}
 
-/// What was sent, voted, acknowledged, elected or committed at a time of an execution is so at
-/// every later time.
+/// What was asked, sent, voted, acknowledged, elected or committed at a time of an execution is so
+/// at every later time, if quorums of its initial membership intersect.
 pub fn facts_are_stable<T, ID: Copy + Ord, D, M>()
     ensures { ExecutionsKeepFacts T ID D M }
 {}
@@ -59,7 +59,8 @@ pub fn consistency_check_suffices<T, ID: Copy + Ord, D>()
     ensures { ConsistencyChecksSuffice T ID D }
 {}
 
-/// State machine safety: no two servers ever apply different entries at one index.
+/// State machine safety: in a history that is safe, in which each server keeps the rules, no two
+/// servers ever apply different entries at one index, if each applies what it may apply.
 pub fn state_machines_agree<T, ID: Copy + Ord, D>()
     ensures { StateMachinesAgree T ID D }
 {}

@@ -1,12 +1,15 @@
 //! Memberships of the layer as configs of the checker.
-ghost use Rattle.std.specs.Prelude.{◌≡◌, map};
+ghost use Rattle.std.specs.Prelude.{◌≡◌, map, true};
 ghost use Rattle.std.specs.List.{IsDistinct, list_any, list_all};
 ghost use Rattle.std.specs.Set.{is_member};
 ghost use Rattle.raft_members.specs.quorum.Coherence.{share_child};
 ghost use Rattle.raft_members.specs.quorum.Majority.{is_majority};
+ghost use Rattle.raft_safety.specs.Checker.{tests_of};
 ghost use Rattle.raft_safety.specs.Memberships.{configs_of};
+ghost use Rattle.raft_safety.specs.Trace.{AreExact};
 
 use crate::checker::Configs;
+use crate::term::Term;
 use raft_members::quorum::{Coherent, Joint, QuorumSet};
 
 /// Memberships, each a list of configs, and a config is a list of voters.
@@ -79,3 +82,14 @@ impl<N: Copy + Ord, D: Copy + Eq> Memberships<N, D> {
         &self.initial[..0]
     }
 }
+
+/// The premise of the contract of a checker, for memberships of the layer: if terms, ids and contents
+/// that are `==` are equal, the tests by which a checker compares them are exact, and quorums
+/// intersect where `do_intersect` says so.
+pub fn memberships_are_exact<T: Term, N: Copy + Ord, D: Copy + Eq>(memberships: &Memberships<N, D>)
+    ensures { ((x y : T) → T.eq x y ≡ true → x ≡ y) → ((x y : N) → N.eq x y ≡ true → x ≡ y)
+        → ((x y : D) → D.eq x y ≡ true → x ≡ y) → AreExact (tests_of T.rank T.eq N.eq D.eq
+        (⟦<Memberships<N, D> as Configs<N, D>>⟧.holds_config memberships.now)
+        (⟦<Memberships<N, D> as Configs<N, D>>⟧.has_quorum memberships.now)
+        (⟦<Memberships<N, D> as Configs<N, D>>⟧.intersects memberships.now)) }
+{}

@@ -14,11 +14,13 @@ use thiserror::Error;
 #[derive(Debug, Drop, Error)]
 #[error("list {list}: {violation}")]
 pub struct Unplaced {
-    /// How many first events of each list were placed.
+    /// How many first events of each list were placed. It is empty if there was no memory for these
+    /// numbers.
     pub placed: Vec<usize>,
-    /// The first list whose events were not all placed.
+    /// The first list whose events were not all placed. If there was no memory for an event, the
+    /// list of this event.
     pub list: usize,
-    /// What the next event of this list is refused for.
+    /// What the next event of this list is refused for. The rule `InitialConfig` is of no event.
     pub violation: Violation,
 }
 
@@ -29,7 +31,7 @@ pub struct Unplaced {
 /// event of each list.
 ///
 /// If it returns `Ok`, the events in the order in which they were placed are an execution in which
-/// every server keeps the rules, so they are safe.
+/// every server keeps the rules, so they are safe. This holds as it does for `check`.
 ///
 /// # Errors
 ///

@@ -1,6 +1,6 @@
 //! Traces of clusters as examples: what clusters do is allowed, and so is safe, and what breaks a
 //! rule is refused. The tables of events are in `specs/Scenarios.antt`.
-ghost use Rattle.raft_safety.specs.Scenarios.{AreDisturbances, AreLeaderIds, AreMemberChanges, AreRefused, IsFigure8};
+ghost use Rattle.raft_safety.specs.Scenarios.{AreDisturbances, AreLeaderIds, AreMemberChanges, AreRefusedByRule, IsFigure8};
 
 /// Figure 8 of the Raft paper in its states c, d and e: an entry of an earlier term on a majority
 /// is not committed by that, may be overwritten, and is committed by an entry of the leader's own
@@ -26,7 +26,7 @@ pub fn leader_ids()
     ensures { AreLeaderIds }
 {}
 
-/// What breaks a rule is refused.
+/// An event that breaks a rule is refused, by the first rule that it breaks.
 pub fn refused()
-    ensures { AreRefused }
+    ensures { AreRefusedByRule }
 {}

@@ -4,16 +4,24 @@ ghost use Rattle.raft_base.specs.declared.leader_id.LeaderId.{LeaderId as Leader
 ghost use Rattle.raft_safety.specs.Apply.{StateMachinesAgree};
 ghost use Rattle.raft_safety.specs.Configs.{JointMembersAreSafe, StepsAreCoherent};
 ghost use Rattle.raft_safety.specs.Execution.{ExecutionsKeepFacts, StateMachinesAgreeAtAllTimes};
+ghost use Rattle.raft_safety.specs.Checker.{tests_of, trace_of};
+ghost use Rattle.raft_safety.specs.Trace.{IsSafeTrace};
 ghost use Rattle.raft_safety_tests.specs.Callers.{AllowedTracesAgree, OneMembershipIsSafe, QuorumSizesElectOne};
 ghost use Rattle.std.specs.Ordering.{nat_cmp};
-ghost use Rattle.std.specs.Prelude.{ℕ};
+ghost use Rattle.std.specs.Prelude.{IsTrue, nat_eq, ℕ};
 
 use raft_base::{LeaderAdv, LeaderKind, LeaderStd, NodeId};
 use raft_members::quorum::laws::quorums_meet;
+use raft_safety::check::check;
+use raft_safety::checker::Configs;
+use raft_safety::event::Event;
 use raft_safety::laws::{
     changing_members_are_safe, executions_are_safe, facts_are_stable, fixed_members_are_safe,
     joint_members_are_safe, orders_have_ranks, state_machines_agree, traces_are_executions,
 };
+use raft_safety::memberships::{Memberships, memberships_are_exact};
+use raft_safety::term::Term;
+use std::alloc::Global;
 
 /// A cluster whose membership never changes is safe.
 pub fn one_membership_is_safe<T, ID: Copy + Ord, D>()
@@ -58,4 +66,24 @@ pub fn default_ids_are_safe()
 /// Leader ids of standard Raft.
 pub fn standard_ids_are_safe() {
     kind_is_safe::<u64, LeaderStd, u64, u64>();
+}
+
+/// Whether a trace keeps the rules, checked by memberships of the layer. If it does, it is safe: over
+/// numbers nothing more has to be shown.
+pub fn is_checked(
+    alloc: Global,
+    memberships: Memberships<u64, u64>,
+    events: &[Event<u64, u64, u64>],
+) -> bool
+    ensures { IsTrue result → IsSafeTrace (tests_of ⟦<u64 as Term>⟧.rank nat_eq nat_eq nat_eq
+        (⟦<Memberships<u64, u64> as Configs<u64, u64>>⟧.holds_config memberships)
+        (⟦<Memberships<u64, u64> as Configs<u64, u64>>⟧.has_quorum memberships)
+        (⟦<Memberships<u64, u64> as Configs<u64, u64>>⟧.intersects memberships))
+        (trace_of events.now) }
+{
+    memberships_are_exact::<u64, u64, u64>(&memberships);
+    match check(alloc, memberships, events) {
+        Ok(()) => true,
+        Err(_) => false,
+    }
 }

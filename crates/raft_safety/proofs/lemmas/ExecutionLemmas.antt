@@ -127,6 +127,7 @@ module _ {T ID D M : Type 0} (rank : T → ℕ) (config_of : D → Option M) (in
         facts_stay : FactsAreStable rank config_of initial quorum_of old new
         facts_stay = record {
           sent = sent_stays;
+          asked = λ s t c v. (writes s t c v).candidate_log;
           voted = voted_stays;
           acked = acked_stays;
           elected = λ t c el. (
@@ -375,6 +376,7 @@ module _ {T ID D M : Type 0} (rank : T → ℕ) (config_of : D → Option M) (in
     facts_same : (h : History T ID D) → FactsAreStable rank config_of initial quorum_of h h
     facts_same h = record {
       sent = λ t c i es x. x;
+      asked = λ s t c x. refl;
       voted = λ s t c x. x;
       acked = λ s t c n x. x;
       elected = λ t c x. (x, refl, prefix_itself (h.leader_log t c));
@@ -386,6 +388,7 @@ module _ {T ID D M : Type 0} (rank : T → ℕ) (config_of : D → Option M) (in
         → FactsAreStable rank config_of initial quorum_of a c
     facts_trans a b c f g = record {
       sent = λ t d i es x. g.sent t d i es (f.sent t d i es x);
+      asked = λ s t d x. g.asked s t d (f.voted s t d x) ∙ f.asked s t d x;
       voted = λ s t d x. g.voted s t d (f.voted s t d x);
       acked = λ s t d n x. g.acked s t d n (f.acked s t d n x);
       elected = λ t d x.

@@ -32,6 +32,7 @@ use Rattle.raft_safety.specs.Trace.{TraceEvent, Tests}
 use Rattle.raft_safety.specs.Checker.{broken_rule, event_of}
 use Rattle.raft_safety.specs.Merge.{
   AreAllPlaced,
+  AreEnded,
   AreRefused,
   Interleaves,
   IsNext,
@@ -123,12 +124,7 @@ module _ {T ID D : Type 0} where
     is = slice_get_read l.items (length l.items) (get_or placed i 0) e refl within is;
   }
 
-  -- all events of the first lists are placed
-  abbrev pub AreEnded : List (Vec (RecordedEvent T ID D)) → List ℕ → ℕ → Type 0
-  AreEnded lists placed i =
-      (j n : ℕ) (l : Vec (RecordedEvent T ID D)) → j < i → slice_get lists j ≡ Some l
-      → slice_get placed j ≡ Some n → length l.items ≤ n
-
+  -- one more list has no event left
   pub ended_more : (lists : List (Vec (RecordedEvent T ID D))) (placed : List ℕ) (i m : ℕ)
       (l : Vec (RecordedEvent T ID D)) → AreEnded lists placed i → slice_get lists i ≡ Some l
       → slice_get placed i ≡ Some m → length l.items ≤ m → AreEnded lists placed (i + 1)
@@ -158,11 +154,12 @@ module _ {T ID D : Type 0} where
 
 module _ {T ID D : Type 0} (k : Tests T ID D (Option D)) (lists : List (Vec (RecordedEvent T ID D)))
     (placed : List ℕ) (es : List (TraceEvent T ID D)) where
-  -- the next events of the first lists were tried, and each was refused, the first for this rule
+  -- the next events of the first lists were tried, and each was refused, the first for this rule; the
+  -- lists before that one have none
   pub record AreTried (lists_tried : ℕ) (first : Option (ℕ × Rule)) : Type 0 where
     pub none_allowed : (j n : ℕ) (e : RecordedEvent T ID D) → j < lists_tried → IsNext lists placed j n e
         → broken_rule k (event_of e) es ≢ None
-    pub refused : IfSome first (λ r. IsRefused k lists placed es r.0 r.1)
+    pub refused : IfSome first (λ r. IsRefused k lists placed es r.0 r.1 × AreEnded lists placed r.0)
 
   pub none_tried : AreTried 0 None
   none_tried = record { none_allowed = λ j n e h x. absurd (omega arith); refused = tt }
@@ -195,9 +192,9 @@ module _ {T ID D : Type 0} (k : Tests T ID D (Option D)) (lists : List (Vec (Rec
 
   -- the next event of a list breaks a rule
   pub tried_refused : (i m : ℕ) (x : RecordedEvent T ID D) (rule : Rule) (first new : Option (ℕ × Rule))
-      → AreTried i first → IsNext lists placed i m x → broken_rule k (event_of x) es ≡ Some rule
-      → new ≡ option_or first (Some (i, rule)) → AreTried (i + 1) new
-  tried_refused i m x rule first new t is_next breaks new_is = record {
+      → AreTried i first → (first ≡ None → AreEnded lists placed i) → IsNext lists placed i m x
+      → broken_rule k (event_of x) es ≡ Some rule → new ≡ option_or first (Some (i, rule)) → AreTried (i + 1) new
+  tried_refused i m x rule first new t ended is_next breaks new_is = record {
     none_allowed = λ j n e h next. elim (cases_eq j i) [
       | inl same ↦
           let e_is : slice_get is_next.events.items m ≡ Some e =
@@ -209,18 +206,14 @@ module _ {T ID D : Type 0} (k : Tests T ID D (Option D)) (lists : List (Vec (Rec
           absurd (cc)
       | inr other ↦ t.none_allowed j n e (omega arith) next
     ];
-    refused = rw new_is (go first t.refused);
+    refused = rw new_is (go first ended t.refused);
   }
     where
-      go : (o : Option (ℕ × Rule)) → IfSome o (λ r. IsRefused k lists placed es r.0 r.1)
-          → IfSome (option_or o (Some (i, rule))) (λ r. IsRefused k lists placed es r.0 r.1)
-      go (Some r) h = h
-      go None h = record {
-        count = m;
-        event = x;
-        is_next = is_next;
-        breaks = breaks;
-      }
+      go : (o : Option (ℕ × Rule)) → (o ≡ None → AreEnded lists placed i)
+          → IfSome o (λ r. IsRefused k lists placed es r.0 r.1 × AreEnded lists placed r.0)
+          → IfSome (option_or o (Some (i, rule))) (λ r. IsRefused k lists placed es r.0 r.1 × AreEnded lists placed r.0)
+      go (Some r) ended h = h
+      go None ended h = (record { count = m; event = x; is_next = is_next; breaks = breaks }, ended refl)
 
   -- the next event of each list was tried
   pub all_tried : (n i : ℕ) (rule : Rule) → length lists ≤ n → AreTried n (Some (i, rule))
@@ -231,7 +224,8 @@ module _ {T ID D : Type 0} (k : Tests T ID D (Option D)) (lists : List (Vec (Rec
         t.none_allowed j m e (omega arith) next;
     rule = rule;
     is_rule = refl;
-    refused = t.refused;
+    refused = t.refused.0;
+    first = t.refused.1;
   }
 
 -- an option is not empty if there is a further one

@@ -4,18 +4,23 @@ use Rattle.std.specs.Cmp.{first_so, second_so, nat_eq_equiv}
 use Rattle.std.proofs.Common.{refl, ap, arith, inl, inr}
 use Rattle.std.proofs.lemmas.Bool.{and_from, eqb-true, eq-eqb, false≢true}
 use Rattle.raft_base.specs.declared.leader_id.LeaderId.{LeaderId}
+use Rattle.raft_members.specs.quorum.Majority.{is_joint_majority}
+use Rattle.raft_safety.specs.Configs.{is_quorum}
+use Rattle.raft_safety.specs.Facts.{IsCommitted}
 use Rattle.raft_safety.specs.Log.{Entry, IsPrefix}
-use Rattle.raft_safety.specs.Trace.{AreExact, IsSafeTrace, TermsHaveRanks, are_allowed}
+use Rattle.raft_safety.specs.Trace.{AreExact, TermsHaveRanks, are_allowed, history}
 use Rattle.raft_safety.specs.Scenarios.{
   AreDisturbances,
   AreLeaderIds,
   AreMemberChanges,
-  AreRefused,
+  AreRefusedByRule,
+  IsAllowedTrace,
   IsFigure8,
   Row,
   behind,
   foreign_ack,
   by_leader_id,
+  configs_of,
   entry,
   figure_8_c,
   figure_8_d,
@@ -50,16 +55,22 @@ exact configs = record {
   intersect = λ a b e. coherent_intersect nat_eq_equiv (λ x y f. eqb-true x y f) a b e;
 }
 
-safe : (configs : List (List ℕ)) (es : List Row) → are_allowed (starting_from configs) es ≡ true
-    → IsSafeTrace (starting_from configs) es
-safe configs es ok =
-    trace_is_safe (starting_from configs) (exact configs) es (λ t u x y e. e) ok
+allowed : (configs : List (List ℕ)) (es : List Row) → are_allowed (starting_from configs) (reverse es) ≡ true
+    → IsAllowedTrace (starting_from configs) es
+allowed configs es ok = (
+  ok,
+  trace_is_safe (starting_from configs) (exact configs) (reverse es) (λ t u x y e. e) ok,
+)
 
-d_safe : IsSafeTrace five (reverse figure_8_d)
-d_safe = safe five.initial (reverse figure_8_d) refl
+d_allowed : IsAllowedTrace five figure_8_d
+d_allowed = allowed five.initial figure_8_d refl
 
-e_safe : IsSafeTrace five (reverse figure_8_e)
-e_safe = safe five.initial (reverse figure_8_e) refl
+e_allowed : IsAllowedTrace five figure_8_e
+e_allowed = allowed five.initial figure_8_e refl
+
+e_committed : IsCommitted (λ t. t) (is_quorum (λ t. t) configs_of five.initial (is_joint_majority nat_eq))
+    (history five (reverse figure_8_e)) 4 0 3 3
+e_committed = committed_right five (exact five.initial) (reverse figure_8_e) 4 0 3 3 refl
 
 term_2_differs : (p : IsPrefix (entry 1 10 ∷ entry 2 20 ∷ []) (entry 1 10 ∷ entry 3 30 ∷ [])) → ⊥
 term_2_differs p =
@@ -71,27 +82,28 @@ three_are_longer p = absurd (omega (arith, prefix_length p))
 
 pub figure_8 : IsFigure8
 figure_8 = record {
-  c_safe = safe five.initial (reverse figure_8_c) refl;
+  c_allowed = allowed five.initial figure_8_c refl;
   c_on_majority = (refl, refl, refl);
   c_not_committed = λ m. refl;
-  d_safe = d_safe;
+  d_allowed = d_allowed;
   d_overwritten = refl;
   d_never_committed = λ m x.
       term_2_differs
-      (d_safe.safe.leader_completeness 2 5 0 4 2 m x (omega arith)
+      (d_allowed.1.safe.leader_completeness 2 5 0 4 2 m x (omega arith)
       (elected_right five (exact five.initial) (reverse figure_8_d) 5 4 refl));
-  e_safe = e_safe;
+  e_allowed = e_allowed;
+  e_committed = e_committed;
   e_no_votes = (refl, refl);
   e_not_elected = λ x.
       three_are_longer
-      (e_safe.safe.leader_completeness 4 5 0 4 3 3
-      (committed_right five (exact five.initial) (reverse figure_8_e) 4 0 3 3 refl) (omega arith) x);
+      (e_allowed.1.safe.leader_completeness 4 5 0 4 3 3
+      e_committed (omega arith) x);
 }
 
 pub member_changes : AreMemberChanges
 member_changes = record {
-  removed_leader = safe three.initial (reverse members_changed) refl;
-  learner = safe three.initial (reverse learner_promoted) refl;
+  removed_leader = allowed three.initial members_changed refl;
+  learner = allowed three.initial learner_promoted refl;
   learner_does_not_count = refl;
 }
 
@@ -101,13 +113,13 @@ other_entry p =
 
 pub disturbances : AreDisturbances
 disturbances = record {
-  loss = safe three.initial (reverse loss_and_return) refl;
+  loss = allowed three.initial loss_and_return refl;
   no_loss_of_acked = refl;
-  snapshot = safe three.initial (reverse snapshot_on_empty_log) refl;
-  messages = safe three.initial (reverse noise) refl;
+  snapshot = allowed three.initial snapshot_on_empty_log refl;
+  messages = allowed three.initial noise refl;
   message_of_passed_term = refl;
-  late = safe three.initial (reverse late_flush) refl;
-  lost = safe three.initial (reverse lost_flush) refl;
+  late = allowed three.initial late_flush refl;
+  lost = allowed three.initial lost_flush refl;
   ack_of_lost = refl;
   ack_of_regained = refl;
   truncation_undone = record {
@@ -152,18 +164,18 @@ ids_have_ranks t u (inr (inr x)) y e = absurd x
 
 pub leader_ids : AreLeaderIds
 leader_ids = record {
-  safe = trace_is_safe by_leader_id exact_ids (reverse two_of_one_term) ids_have_ranks refl;
+  safe = (refl, trace_is_safe by_leader_id exact_ids (reverse two_of_one_term) ids_have_ranks refl);
   both_elected = (refl, refl);
   lower_gets_no_vote = refl;
 }
 
-pub refused : AreRefused
+pub refused : AreRefusedByRule
 refused = record {
-  led_safe = safe three.initial (reverse led) refl;
-  behind_safe = safe three.initial (reverse behind) refl;
-  heard_safe = safe five.initial (reverse heard) refl;
-  foreign_ack_safe = safe three.initial (reverse foreign_ack) refl;
-  joint_on_old_safe = safe three.initial (reverse joint_on_old) refl;
+  led_allowed = allowed three.initial led refl;
+  behind_allowed = allowed three.initial behind refl;
+  heard_allowed = allowed five.initial heard refl;
+  foreign_ack_allowed = allowed three.initial foreign_ack refl;
+  joint_on_old_allowed = allowed three.initial joint_on_old refl;
   second_vote = refl;
   vote_after_leader = refl;
   candidate_behind = refl;

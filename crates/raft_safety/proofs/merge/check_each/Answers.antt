@@ -61,7 +61,18 @@ returns-in-Err-record_next-clause-refused g c = λ exact.
     c.in-Err-record_next.ensures.same ∙ c.deref_mut.ensures.value in
     let refused = (rw (c.loop-checker.invariant.configs, same) at c.in-Err-record_next.ensures.records) exact before.0 before.1 in
     rw (items, same) (elim refused [
-      | inl memory ↦ inl memory
+      | inl memory ↦
+          inl (
+            memory.0,
+            inr (record {
+              trace = before.0;
+              interleaves = before.2;
+              allowed = before.1.allowed;
+              count = memory.1;
+              event = memory.2;
+              is_next = memory.3;
+            }),
+          )
       | inr each ↦
           inr (inr (record {
             trace = before.0;

@@ -55,7 +55,7 @@ loop-i-preserved g c =
             let answer = (rw (c.loop-i.invariant.configs, w.in-Err-Rule.field-0-is) at w.in-Err-Rule.ensures.answer) exact es before.0 in (
               rw w.checker-is answer.1,
               tried_refused _ _ _ es c.loop-i.i _ w.index.result.now w.in-Err-Rule.rule c.loop-i.refused c.if-placed-i.refused
-                  before.1 next answer.0 (w.refused-is ∙ w.or-refused.ensures),
+                  before.1 c.loop-i.invariant.ended next answer.0 (w.refused-is ∙ w.or-refused.ensures),
             );
       }
       | else-placed-i w ↦
@@ -107,7 +107,13 @@ pub returns-in-Err-OutOfMemory-clause-same : goal.returns-in-Err-OutOfMemory-cla
 returns-in-Err-OutOfMemory-clause-same g c = c.loop-i.invariant.placed
 
 pub returns-in-Err-OutOfMemory-clause-records : goal.returns-in-Err-OutOfMemory-clause-records
-returns-in-Err-OutOfMemory-clause-records g c = λ exact es seen. inl refl
+returns-in-Err-OutOfMemory-clause-records g c = λ exact es seen. inl (
+  refl,
+  get_or c.loop-i.placed c.loop-i.i 0,
+  c.index.result.now,
+  next_read c.args.lists.now c.loop-i.placed c.loop-i.placed c.loop-i.i c.index-lists-i.result c.index.result.now (omega arith)
+      (ap length c.loop-i.invariant.placed ∙ c.requires) refl c.index-lists-i.is (omega arith) c.index.ensures,
+)
 
 pub returns-in-Some-clause-configs : goal.returns-in-Some-clause-configs
 returns-in-Some-clause-configs g c = c.loop-i.invariant.configs

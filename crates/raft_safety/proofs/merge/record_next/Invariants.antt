@@ -1,7 +1,8 @@
 use Rattle.std.proofs.Common.{◌≡◌, List, None}
 use Rattle.raft_safety.specs.Trace.{AreExact, TraceEvent}
 use Rattle.raft_safety.specs.Checker.{HasSeen, tests_of}
-use Rattle.raft_safety.proofs.lemmas.MergeLemmas.{AreEnded, AreTried}
+use Rattle.raft_safety.specs.Merge.{AreEnded}
+use Rattle.raft_safety.proofs.lemmas.MergeLemmas.{AreTried}
 use Rattle.raft_safety.proofs.merge.record_next.Given as goal
 
 abbrev pub invariant-loop-i : goal.invariant-loop-i
