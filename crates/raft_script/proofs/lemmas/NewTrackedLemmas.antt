@@ -3,6 +3,7 @@ use Rattle.std.specs.Prelude.{◌≡◌, ◌||◌, ℕ, Bool, true, false, List,
 use Rattle.std.specs.Ordering.{nat_cmp}
 use Rattle.std.specs.Set.{is_member}
 use Rattle.std.proofs.Common.{sym, ap, ◌∙◌, refl, true≢false}
+use Rattle.std.proofs.Math.Bool.{or-true}
 use Rattle.raft_base.specs.declared.node.EmptyNode.{EmptyNode}
 use Rattle.raft_members.specs.membership.Defaults.{WithDefault}
 use Rattle.raft_members.specs.quorum.Majority.{is_voter_of}
@@ -13,10 +14,6 @@ use Rattle.raft_progress.specs.progress.ProgressView.{state}
 use Rattle.raft_progress.specs.tracked.TrackedState.{Configs, IsReady, TrackedView, is_voter, tracked_state}
 use Rattle.raft_script.specs.Engine.{IsStart, part}
 
-or_true : (a : Bool) → (a || true) ≡ true
-or_true true = refl
-or_true false = refl
-
 or_or : (a b : Bool) → (a || (a || b)) ≡ (a || b)
 or_or true b = refl
 or_or false b = refl
@@ -24,7 +21,7 @@ or_or false b = refl
 -- there is a node exactly if one was needed or given
 node_there : {N : Type 0} (IsDefault : N → Type 0) (learner voter : Bool) (given made : Option N) → WithDefault IsDefault None learner given
     → WithDefault IsDefault given voter made → is_some made ≡ (voter || learner)
-node_there IsDefault true voter (Some g) made one two = ap is_some two ∙ sym (or_true voter)
+node_there IsDefault true voter (Some g) made one two = ap is_some two ∙ sym (or-true voter)
 node_there IsDefault true voter None made one two = absurd one
 node_there IsDefault false voter (Some g) made one two = absurd (true≢false (ap is_some one))
 node_there IsDefault false true None (Some n) one two = refl

@@ -1,5 +1,5 @@
 //! The input and the output of a program that may be used interactively.
-ghost use Rattle.std.specs.Prelude.{◌≡◌, [], false, IfOk, OnErr, OnOk};
+ghost use Rattle.std.specs.Prelude.{◌≡◌, ◌⊎◌, [], false, IfOk, OnErr, OnOk};
 ghost use Rattle.std.specs.Io.Buffered.{reader_buffer};
 ghost use Rattle.std.specs.Io.KnownBytes.{Consumes, Keeps, append_known};
 ghost use Rattle.raft_script.specs.Input.{TakesLine, TakesPart, contents, has_line_feed, unread};
@@ -51,6 +51,9 @@ impl<R: Read> Dialogue<R> {
         ensures nothing_held_back { OnOk result (has_line_feed
             (reader_buffer self.old.input) ≡ false
             → self.new.replies.items ≡ []) }
+        ensures written_first { OnErr result (has_line_feed
+            (reader_buffer self.old.input) ≡ false
+            → (self.new.replies.items ≡ []) ⊎ (self.new.input ≡ self.old.input)) }
     {
         // If no whole line has been read ahead, more input is waited for.
         if self.replies.len() >= MOST_HELD_BACK || !self.input.buffer().contains(&b'\n') {
