@@ -40,6 +40,23 @@ fn answer_of<C: Ord + Copy>(list: &LogIdListOf<C>, test: &str, ids: &[LogIdOf<C>
     }
 }
 
+/// The log id that a call reads.
+fn read<C: Ord + Copy>(list: &LogIdListOf<C>, call: &str, index: &str) -> Option<LogIdOf<C>> {
+    match call {
+        "get" => list.get(number(index)),
+        "first" => list.first().copied(),
+        _ => list.last().copied(),
+    }
+}
+
+/// The keys that a call reads.
+fn keys<'a, C: Ord + Copy>(list: &'a LogIdListOf<C>, call: &str) -> &'a [LogIdOf<C>] {
+    match call {
+        "by_last_leader" => list.by_last_leader(),
+        _ => list.key_log_ids(),
+    }
+}
+
 /// Whether a call with these log ids leads to the answer, or the list to these keys.
 fn leads_to<C: Ord + Copy>(
     list: &mut LogIdListOf<C>,
@@ -50,11 +67,8 @@ fn leads_to<C: Ord + Copy>(
     let (word, ids) = argument;
     let (said, wanted) = answer;
     match call {
-        "get" => list.get(number(word)) == wanted.first().copied(),
-        "first" => list.first() == wanted.first(),
-        "last" => list.last() == wanted.first(),
-        "key_log_ids" => list.key_log_ids() == wanted,
-        "by_last_leader" => list.by_last_leader() == wanted,
+        "get" | "first" | "last" => read(list, call, word) == wanted.first().copied(),
+        "key_log_ids" | "by_last_leader" => keys(list, call) == wanted,
         "append" | "extend" | "extend_same" | "purge" | "truncate" => {
             edit(list, call, word, ids).is_ok() && list.key_log_ids() == wanted
         }
