@@ -13,7 +13,7 @@ use Rattle.raft_state.specs.log_id_list.FullLog.{end_index, full_log}
 use Rattle.raft_state.specs.membership_state.Memberships.{Memberships}
 use Rattle.raft_state.specs.raft_state.VoteAndLog.{vote_of}
 use Rattle.raft_state.specs.declared.raft_state.RaftStateIn.{RaftStateIn}
-use Rattle.raft_handlers.specs.Leadership.{IsFullLogRefusal}
+use Rattle.raft_handlers.specs.Entries.{IsFullLogRefusal}
 use Rattle.raft_handlers.specs.declared.error.HandlerError.{HandlerError}
 use Rattle.raft_handlers.specs.declared.error.HandlerError.TheVariants.{NoNextTerm, NotElected, NotLeader, NotVoter, OutOfMemory}
 use Rattle.raft_handlers.specs.declared.message.VoteResponse.{VoteResponse}

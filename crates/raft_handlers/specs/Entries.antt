@@ -8,7 +8,10 @@ use Rattle.std.specs.Prelude.{
   ◌-◌,
   ◌&&◌,
   ◌||◌,
+  ◌⊎◌,
+  ◌^◌,
   nat_le,
+  nat_lt,
   List,
   [],
   ◌∷◌,
@@ -29,6 +32,7 @@ use Rattle.raft_handlers.specs.declared.error.HandlerError.{HandlerError}
 use Rattle.raft_handlers.specs.declared.error.HandlerError.TheVariants.{
   CommittedNotLogged,
   MembershipNotInOrder,
+  NoNextIndex,
   NotInOrder,
   OutOfMemory,
   SnapshotDoesNotFit,
@@ -48,10 +52,6 @@ use Rattle.raft_state.specs.raft_state.Truncate.{can_truncate_log}
 use Rattle.raft_state.specs.declared.accepted.AcceptedIn.{AcceptedIn}
 use Rattle.raft_state.specs.declared.entry.EntryOf.{EntryOf}
 use Rattle.raft_state.specs.declared.raft_state.RaftStateIn.{RaftStateIn}
-
--- the log id of an entry
-abbrev pub id_of_entry : {C K N D : Type 0} → EntryOf C K N D → LogIdOf C
-id_of_entry e = e.log_id
 
 -- the log ids of entries
 abbrev pub entry_ids : {C K N D : Type 0} → List (EntryOf C K N D) → List (LogIdOf C)
@@ -88,14 +88,24 @@ accepted_below cmp since s =
 abbrev pub effective_below : {K N I L C : Type 0} → ℕ → RaftStateIn K N I L C → Option (LogIdOf C)
 effective_below since s = log_id_of (memberships_below since s).effective
 
--- entries may be appended after a last log id and an effective membership: their indexes are
--- consecutive, their leaders do not fall, and each membership comes after the one before it
+-- entries are in order after a last log id: their indexes are consecutive, and their leaders do not
+-- fall
+abbrev pub are_in_order : {C K N D : Type 0} → (C → C → Ordering) → Option (LogIdOf C)
+    → List (EntryOf C K N D) → Bool
+are_in_order cmp last es = all_follow cmp last (entry_ids es) && are_consecutive last (entry_ids es)
+
+-- each membership of entries comes after the one before it, and the first one after an effective one
+abbrev pub has_memberships_in_order : {C K N D : Type 0} → (C → C → Ordering) → Option (LogIdOf C)
+    → List (EntryOf C K N D) → Bool
+has_memberships_in_order cmp effective es =
+    memberships_follow cmp (λ e. e.log_id) (λ e. is_some (payload_membership e.payload)) effective es
+
+-- entries may be appended after a last log id and an effective membership: they are in order, and
+-- so are their memberships
 abbrev pub may_append_after : {C K N D : Type 0} → (C → C → Ordering) → Option (LogIdOf C)
     → Option (LogIdOf C) → List (EntryOf C K N D) → Bool
 may_append_after cmp last effective es =
-    all_follow cmp last (entry_ids es) && are_consecutive last (entry_ids es)
-    && memberships_follow cmp (λ e. e.log_id) (λ e. is_some (payload_membership e.payload))
-    effective es
+    are_in_order cmp last es && has_memberships_in_order cmp effective es
 
 -- the log id of the effective membership once entries are appended
 abbrev pub effective_with : {C K N D : Type 0} → Option (LogIdOf C) → List (EntryOf C K N D)
@@ -133,18 +143,6 @@ may_commit_with eq cmp log effective new before id =
     if id_lt cmp before id
     then has_with eq log (entry_ids new) id && allows_commit cmp effective id else true
 
--- entries are in order after a last log id: their indexes are consecutive, and their leaders do not
--- fall
-abbrev pub are_in_order : {C K N D : Type 0} → (C → C → Ordering) → Option (LogIdOf C)
-    → List (EntryOf C K N D) → Bool
-are_in_order cmp last es = all_follow cmp last (entry_ids es) && are_consecutive last (entry_ids es)
-
--- each membership of entries comes after the one before it, and the first one after an effective one
-abbrev pub has_memberships_in_order : {C K N D : Type 0} → (C → C → Ordering) → Option (LogIdOf C)
-    → List (EntryOf C K N D) → Bool
-has_memberships_in_order cmp effective es =
-    memberships_follow cmp (λ e. e.log_id) (λ e. is_some (payload_membership e.payload)) effective es
-
 -- the log has, with new entries, what is to be committed past the committed log id
 abbrev pub has_committed_with : {C K N D : Type 0} → (C → C → Bool) → (C → C → Ordering)
     → List (LogIdOf C) → Option (LogIdOf C) → List (EntryOf C K N D) → Option (LogIdOf C) → Bool
@@ -156,6 +154,10 @@ abbrev pub allows_commit_past : {C : Type 0} → (C → C → Ordering) → Opti
     → Option (LogIdOf C) → Option (LogIdOf C) → Bool
 allows_commit_past cmp effective before id =
     if id_lt cmp before id then allows_commit cmp effective id else true
+
+-- why nothing can follow a log that ends at this index: the index is no `u64`, or an allocation failed
+abbrev pub IsFullLogRefusal : ℕ → HandlerError → Type 0
+IsFullLogRefusal end e = ((e ≡ NoNextIndex) × (nat_lt end (2 ^ 64) ≡ false)) ⊎ (e ≡ OutOfMemory)
 
 -- an error comes only if its condition does not hold: a snapshot fits, nothing that is committed is
 -- truncated, entries are in order, their memberships are, and the log has what is to be committed;

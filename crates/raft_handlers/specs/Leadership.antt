@@ -6,7 +6,6 @@ use Rattle.std.specs.declared.cmp.Ordering.{Ordering}
 use Rattle.raft_base.specs.LogId.{log_id_cmp, next_index}
 use Rattle.raft_base.specs.declared.log_id.LogIdOf.{LogIdOf}
 use Rattle.raft_members.specs.membership.Change.{changed}
-use Rattle.raft_members.specs.quorum.Majority.{is_voter_of}
 use Rattle.raft_members.specs.membership.Members.{members_of, same_members}
 use Rattle.raft_members.specs.quorum.Reached.{EachQuorumKnows}
 use Rattle.raft_members.specs.membership.Stored.{membership_of}
@@ -18,6 +17,8 @@ use Rattle.raft_progress.specs.tracked.Known.{QuorumsKnow}
 use Rattle.raft_progress.specs.tracked.TrackedState.{TrackedView}
 use Rattle.raft_progress.specs.declared.entry.ProgressEntryOf.{ProgressEntryOf}
 use Rattle.raft_progress.specs.declared.inflight.InflightOf.TheVariants.{None as Idle}
+use Rattle.raft_handlers.specs.Campaign.{may_campaign}
+use Rattle.raft_handlers.specs.Entries.{IsFullLogRefusal}
 use Rattle.raft_handlers.specs.declared.error.HandlerError.{HandlerError}
 use Rattle.raft_handlers.specs.declared.error.HandlerError.TheVariants.{
   MembershipNotInOrder,
@@ -55,12 +56,10 @@ leads eq same committed voted l s =
     (vote_of s).committed && same (committed (vote_of s).leader_id) l.leader_id
     && option_eq eq (voted (vote_of s).leader_id) (Some l.id)
 
--- the leader is a voter neither of the effective nor of the committed membership
+-- a leader that may not campaign any more is removed
 abbrev pub is_removed : {K N M C : Type 0} → (K → K → Bool) → Leadership K N C → Memberships C K M
     → Bool
-is_removed eq l m =
-    not (is_voter_of eq (membership_of m.effective).configs l.id)
-    && not (is_voter_of eq (membership_of m.committed).configs l.id)
+is_removed eq l m = not (may_campaign eq l.id m)
 
 -- what is known of a member whose log does not match from an index on, and no more
 abbrev pub unknown_entry : {C : Type 0} → ℕ → ProgressEntryOf C
@@ -140,10 +139,6 @@ IsCommitRefusal eq cmp granted s NotLogged = none_or_logged eq (log_view_of s) g
 IsCommitRefusal eq cmp granted s MembershipNotInOrder = state_may_commit cmp granted s ≡ false
 IsCommitRefusal eq cmp granted s OutOfMemory = state_commits cmp granted s ≡ true
 IsCommitRefusal eq cmp granted s refusal = ⊥
-
--- why nothing can follow a log that ends at this index: the index is no `u64`, or an allocation failed
-abbrev pub IsFullLogRefusal : ℕ → HandlerError → Type 0
-IsFullLogRefusal end e = ((e ≡ NoNextIndex) × (nat_lt end (2 ^ 64) ≡ false)) ⊎ (e ≡ OutOfMemory)
 
 -- why a node does not lead on: the vote is not committed or not for it, or nothing can follow its log
 abbrev pub IsResumeRefusal : {K N I L C : Type 0} → (K → K → Bool) → (L → Option K) → K

@@ -27,8 +27,12 @@ use raft_base::order::log_id_below;
 use raft_base::{Instant, LeaderIdentity, LogIdOf, LogIdOptionExt, Node, NodeId, VoteIn};
 use raft_state::{EntryOf, RaftStateIn, VoteStateReader};
 
-/// Handles a leader's request to append entries. What conflicts with them is truncated, what is
-/// new is appended, and what the leader has committed of them is committed.
+/// Handles a leader's request to append entries. It truncates what conflicts with them, appends
+/// what is new, commits the lesser one of the leader's committed log id and the last log id of the
+/// request, and takes the leader's vote.
+///
+/// Write all of it to disk before you answer. After an error the state is as it was, except after
+/// `OutOfMemory` (`left`).
 pub fn handle_append_entries<
     NID: NodeId,
     N: Node,
@@ -240,7 +244,8 @@ fn conflict_of<NID: NodeId, N: Node, I: Instant, L: Drop, C: Ord + Copy + Drop>(
     }
 }
 
-/// Takes entries after a log id that the log has, and commits up to a log id, but not past them.
+/// Takes entries after a log id that the log has, and commits up to a log id if that is past what
+/// is committed.
 fn take_entries<NID: NodeId, N: Node, I: Instant, L: Drop, C: Ord + Copy + Drop, D>(
     state: &mut RaftStateIn<NID, N, I, L, C>,
     prev: Option<LogIdOf<C>>,

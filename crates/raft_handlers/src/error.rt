@@ -20,7 +20,9 @@ pub enum HandlerError {
     /// The log would lose an entry that is committed.
     #[error("a committed entry would be truncated")]
     TruncatesCommitted,
-    /// A membership among the entries does not come after the effective one.
+    /// The memberships are not in the order of the log: one among the entries does not come after
+    /// the effective one, the effective one comes after what is to be committed, or, when a cluster
+    /// is started, a membership is effective already.
     #[error("a membership is not in order")]
     MembershipNotInOrder,
     /// What is to be committed is not in the log.
@@ -35,7 +37,8 @@ pub enum HandlerError {
     /// No quorum has elected the candidate.
     #[error("the candidate is not elected")]
     NotElected,
-    /// The vote is not, or not any more, the one of this candidate or leader.
+    /// The vote is not, or not any more, the one of this candidate or leader, or the state has
+    /// accepted entries of a leader that the vote's leader is not at least.
     #[error("the vote is another one")]
     NotLeader,
     /// There is no index after the last one.

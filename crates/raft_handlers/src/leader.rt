@@ -3,7 +3,8 @@ ghost use Rattle.std.specs.Prelude.{◌≡◌, true, IfErr, IfOk, IsOk, IsTrue, 
 ghost use Rattle.std.specs.Set.{ClonesAreEqual};
 ghost use Rattle.raft_base.specs.UTime.{moment_of, utime_of};
 ghost use Rattle.raft_handlers.specs.Campaign.{HasMajorities, IsElectionRefusal, same_vote};
-ghost use Rattle.raft_handlers.specs.Leadership.{IsFullLogRefusal, IsResumeRefusal, KnowsNothing, leads};
+ghost use Rattle.raft_handlers.specs.Entries.{IsFullLogRefusal};
+ghost use Rattle.raft_handlers.specs.Leadership.{IsResumeRefusal, KnowsNothing, leads};
 ghost use Rattle.raft_state.specs.log_id_list.FullLog.{end_index, full_log};
 ghost use Rattle.raft_state.specs.raft_state.Sound.{IsSound};
 ghost use Rattle.raft_state.specs.raft_state.VoteAndLog.{vote_of};
@@ -110,6 +111,8 @@ impl<NID: NodeId, N: Node, C: Ord + Copy + Drop> Leader<NID, N, C> {
         ensures leads { IfOk result (λ made.
             IsTrue (leads NID.eq C.eq L.committed L.voted made state.now)) }
         ensures node { IfOk result (λ made. made.id ≡ id) }
+        ensures leader { IfOk result (λ made.
+            made.leader_id ≡ L.committed (vote_of state.now).leader_id) }
         ensures followers { IfOk result (λ made. KnowsNothing NID.eq N.eq state.now made) }
         ensures refused { IfErr result (IsResumeRefusal NID.eq L.voted id state.now) }
     {

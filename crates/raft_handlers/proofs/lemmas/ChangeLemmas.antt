@@ -8,6 +8,7 @@ use Rattle.std.specs.Option.{option_map_or}
 use Rattle.std.specs.declared.cmp.Ordering.{Ordering}
 use Rattle.std.proofs.Common.{ap, arith, sym, subst, ◌∙◌, true≢false}
 use Rattle.std.proofs.lemmas.Bool.Decides.{nat_tests}
+use Rattle.raft_base.specs.declared.log_id.LogIdOf.{LogIdOf}
 use Rattle.raft_members.specs.membership.Change.{last_config, union_of}
 use Rattle.raft_members.specs.quorum.Coherence.{has_config, next_configs}
 use Rattle.raft_members.specs.membership.Members.{MemberList, Members}
@@ -20,9 +21,11 @@ use Rattle.raft_progress.specs.tracked.SingleSteps.{IsTrackedChangeTo}
 use Rattle.raft_progress.specs.tracked.TrackedState.{HasSameConfigs, TrackedView}
 use Rattle.raft_progress.specs.declared.progress.steps.Reply.TheVariants.{Granted}
 use Rattle.raft_state.specs.membership_state.Apply.{IsApplyRefusal}
+use Rattle.raft_state.specs.membership_state.Memberships.{Memberships, in_effect}
 use Rattle.raft_state.specs.declared.raft_state.RaftStateIn.{RaftStateIn}
 use Rattle.raft_handlers.specs.Changes.{IsChangeRefusal}
 use Rattle.raft_handlers.specs.Leadership.{Leadership}
+use Rattle.raft_handlers.specs.Proposals.{AppendsPayload}
 use Rattle.raft_handlers.specs.declared.leader.change.ChangeError.{ChangeError}
 use Rattle.raft_handlers.specs.declared.leader.change.ChangeError.TheVariants.{Change, Entry, NoOwnGranted, NotJoint}
 
@@ -132,3 +135,10 @@ module _ {K N I L C : Type 0} (id_eq : K → K → Bool) (id_cmp : K → K → O
   refused_joint D fits leads l s members next is (Change e) h =
       subst (λ (m : Members K N). IsApplyRefusal eq id_eq id_cmp s.membership_state m e) is h
   refused_joint D fits leads l s members next is (Entry e) h = h
+
+-- ---- what the leader counts by
+
+-- a membership that becomes effective has the configs of the one that was proposed
+pub effective_configs : {K N C : Type 0} (eq : K → K → Bool) (same : N → N → Bool) (id : LogIdOf C) (m : MemberList K N)
+    (old new : Memberships C K N) → AppendsPayload eq same id (Some m) old new → (in_effect new).configs ≡ m.configs
+effective_configs eq same id m old new (stored, (at, alike, configs), is) = ap (λ w. (in_effect w).configs) is ∙ configs

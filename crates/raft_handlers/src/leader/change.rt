@@ -3,11 +3,13 @@ ghost use Rattle.std.specs.Prelude.{◌≡◌, ◌<◌, ◌∷◌, ◌&&◌, [],
 ghost use Rattle.std.specs.Set.{ClonesAreEqual};
 ghost use Rattle.raft_base.specs.LogId.{next_index};
 ghost use Rattle.raft_handlers.specs.Changes.{IsChangeRefusal, KeepsEntries, StoresMembership};
-ghost use Rattle.raft_handlers.specs.Leadership.{IsFullLogRefusal, QuorumsHave, granted_by, is_of_leader, leads};
+ghost use Rattle.raft_handlers.specs.Entries.{IsFullLogRefusal};
+ghost use Rattle.raft_handlers.specs.Leadership.{QuorumsHave, granted_by, is_of_leader, leads};
 ghost use Rattle.raft_handlers.specs.Proposals.{AppendsPayload, log_with_own, next_own_id};
 ghost use Rattle.raft_members.specs.membership.Change.{last_config, next_members};
 ghost use Rattle.raft_members.specs.quorum.Coherence.{is_coherent};
 ghost use Rattle.raft_members.specs.membership.Members.{HasMembers, members_of};
+ghost use Rattle.raft_members.specs.membership.Valid.{IsValid};
 ghost use Rattle.raft_state.specs.membership_state.Apply.{in_progress, members_after_change};
 ghost use Rattle.raft_state.specs.entry.Entry.{payload_membership};
 ghost use Rattle.raft_state.specs.log_id_list.FullLog.{end_index, full_log, same_log};
@@ -38,7 +40,8 @@ pub enum ChangeError<C: Ord + Copy + Default + Debug, NID: NodeId> {
     /// The membership is not a joint one.
     #[error("the membership is not joint")]
     NotJoint,
-    /// The change is refused: an earlier one is in progress, or the members could not decide.
+    /// The change is refused: an earlier one is in progress, the members could not decide, or an
+    /// allocation failed.
     #[error(transparent)]
     Change(ChangeMembershipErrorOf<C, NID>),
     /// The entry is refused.
@@ -74,6 +77,8 @@ impl<NID: NodeId, N: Node, C: Ord + Copy + Default + Debug + Drop + 'static> Lea
             IsTrue (leads NID.eq C.eq L.committed L.voted self.old state.old) }
 
         // The new membership, by which the leader counts.
+        ensures valid { OnOk result (IsValid NID.eq
+            (members_of NID.cmp self.new.followers.membership)) }
         ensures changed { OnOk result (HasMembers N.eq NID.cmp self.new.followers.membership
             (members_after_change NID.eq NID.cmp state.old.membership_state change retain)) }
         ensures coherent { OnOk result
@@ -86,6 +91,8 @@ impl<NID: NodeId, N: Node, C: Ord + Copy + Default + Debug + Drop + 'static> Lea
             self.old.followers.membership.configs
             ≡ (in_effect state.old.membership_state).configs →
             QuorumsHave NID.eq C.cmp self.new (granted_by self.old)) }
+        ensures counted { OnOk result (self.new.followers.membership.configs
+            ≡ (in_effect state.new.membership_state).configs) }
         ensures node { self.new ≡ record self.old { followers = self.new.followers } }
 
         // The entry, and the state with it.
@@ -151,13 +158,21 @@ impl<NID: NodeId, N: Node, C: Ord + Copy + Default + Debug + Drop + 'static> Lea
         retain: bool,
     ) -> Result<EntryOf<C, NID, N, D>, ChangeError<C, NID>>
         requires clones_are_equal { ClonesAreEqual N.eq N.is_clone }
+
+        // What has to be so before the step.
+        ensures joint { IsOk result →
+            1 < length (in_effect state.old.membership_state).configs }
         ensures own_granted { IsOk result →
             IsTrue (is_of_leader C.eq self.old.leader_id (granted_by self.old)) }
         ensures committed { IsOk result → in_progress C.eq state.old.membership_state ≡ None }
         ensures leads { IsOk result →
             IsTrue (leads NID.eq C.eq L.committed L.voted self.old state.old) }
+
+        // The last config alone, by which the leader counts.
         ensures goal { OnOk result (self.new.followers.membership.configs
             ≡ last_config (in_effect state.old.membership_state).configs ∷ []) }
+        ensures valid { OnOk result (IsValid NID.eq
+            (members_of NID.cmp self.new.followers.membership)) }
         ensures changed { OnOk result (HasMembers N.eq NID.cmp self.new.followers.membership
             (next_members NID.eq (members_of NID.cmp (in_effect state.old.membership_state))
             (last_config (in_effect state.old.membership_state).configs) retain)) }
@@ -169,7 +184,11 @@ impl<NID: NodeId, N: Node, C: Ord + Copy + Default + Debug + Drop + 'static> Lea
         ensures still_known { OnOk result (self.old.followers.membership.configs
             ≡ (in_effect state.old.membership_state).configs →
             QuorumsHave NID.eq C.cmp self.new (granted_by self.old)) }
+        ensures counted { OnOk result (self.new.followers.membership.configs
+            ≡ (in_effect state.new.membership_state).configs) }
         ensures node { self.new ≡ record self.old { followers = self.new.followers } }
+
+        // The entry, and the state with it.
         ensures log_id { IfOk result (λ entry.
             entry.log_id ≡ next_own_id self.old.leader_id state.old) }
         ensures stores { IfOk result (λ entry.

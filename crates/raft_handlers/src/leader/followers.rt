@@ -24,8 +24,9 @@ use raft_state::RaftStateIn;
 impl<NID: NodeId, N: Node, C: Ord + Copy + Drop> Leader<NID, N, C> {
     /// Returns what to send to a member next, and puts it in flight: entries, or the snapshot.
     ///
-    /// `InflightOf::None` means that there is nothing to send, or that something is in flight
-    /// already: send a heartbeat. The result is `None` if the id is no member's.
+    /// `InflightOf::None` means that there is nothing to send, that something is in flight already,
+    /// or that a send is not allowed (`can_send`): send a heartbeat. The result is `None` if the id
+    /// is no member's.
     pub fn next_request<I: Instant, L: Drop>(
         &mut self,
         state: &RaftStateIn<NID, N, I, L, C>,

@@ -53,11 +53,12 @@ may_append_entries cmp id_of membership es s =
     && memberships_follow cmp id_of (λ e. is_some (membership e))
     (log_id_of s.membership_state.effective) es
 
--- a stored membership is the one of an entry, with its log id
+-- a stored membership is a copy of the one of an entry, with its configs, under its log id
 abbrev pub IsStoredBy : {C K N : Type 0} → (K → K → Bool) → (N → N → Bool) → LogIdOf C
     → MemberList K N → StoredMembershipOf C K N → Type 0
 IsStoredBy eq same id w stored = (log_id_of stored ≡ Some id)
     × IsTrue (same_members eq same w (membership_of stored))
+    × ((membership_of stored).configs ≡ w.configs)
 
 -- if an entry stores a membership, that one was made effective, and then what follows holds
 abbrev AppendsOne : {K N C : Type 0} → (K → K → Bool) → (N → N → Bool)

@@ -10,12 +10,22 @@ use Rattle.raft_progress.specs.progress.CountedValue.{has_part}
 use Rattle.raft_progress.specs.progress.ProgressView.{state}
 use Rattle.raft_progress.specs.tracked.Tracked.{tracked_view}
 use Rattle.raft_state.specs.membership_state.Memberships.{in_effect}
+use Rattle.raft_handlers.proofs.lemmas.ChangeLemmas.{effective_configs}
 use Rattle.raft_handlers.proofs.lemmas.KnownLemmas.{changed_configs, quorums_still_know}
 use Rattle.raft_handlers.proofs.leader.Leader.propose_change.Goals as goal
 
 pub returns-in-Ok-append_own-clause-changed : goal.returns-in-Ok-append_own-clause-changed
 returns-in-Ok-append_own-clause-changed g c =
     rw (c.in-Ok-followers_over.ensures.members, ← c.change_handler-handler.ensures) c.in-Ok.ensures.changed
+
+pub returns-in-Ok-append_own-clause-valid : goal.returns-in-Ok-append_own-clause-valid
+returns-in-Ok-append_own-clause-valid g c = rw c.in-Ok-followers_over.ensures.members c.in-Ok.ensures.valid_itself
+
+pub returns-in-Ok-append_own-clause-counted : goal.returns-in-Ok-append_own-clause-counted
+returns-in-Ok-append_own-clause-counted g c =
+    rw c.in-Ok-followers_over.ensures.members (sym (c.in-Ok-try_clone.ensures.configs)
+    ∙ sym (effective_configs g.NID.PartialEq.eq g.N.PartialEq.eq _ c.in-Ok-try_clone.stored
+    c.args.state.now.membership_state c.append_own.new.state.membership_state c.in-Ok-append_own.ensures.memberships))
 
 pub returns-in-Ok-append_own-clause-coherent : goal.returns-in-Ok-append_own-clause-coherent
 returns-in-Ok-append_own-clause-coherent g c =

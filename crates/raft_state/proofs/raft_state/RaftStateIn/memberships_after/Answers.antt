@@ -40,11 +40,13 @@ loop-entry-preserved g c =
           let equal : IsTrue (same_members g.NID.PartialEq.eq g.N.PartialEq.eq w.in-Some.membership.now
           (membership_of w.in_ok-effective.effective.value)) =
           rw w.in_ok-effective.ensures.membership w.in_ok-try_clone.ensures.equal in
+          let configs : (membership_of w.in_ok-effective.effective.value).configs ≡ w.in-Some.membership.now.configs =
+          rw w.in_ok-effective.ensures.membership w.in_ok-try_clone.ensures.configs in
           record {
             follow = rw (w.memberships-is, w.append.ensures, id) follow.1;
             appended = λ new rest. c.loop-entry.invariant.appended new
                 (rw more (one_appended g.NID.PartialEq.eq g.N.PartialEq.eq g.Ent.RaftLogId.id_of g.Ent.RaftPayload.membership entry left
-                w.in-Some.membership.now w.in_ok-effective.effective.value c.loop-entry.memberships new stores (id, equal)
+                w.in-Some.membership.now w.in_ok-effective.effective.value c.loop-entry.memberships new stores (id, equal, configs)
                 (rw (w.memberships-is, w.append.ensures) at rest)));
           })
       | in_default w ↦ (
