@@ -229,8 +229,8 @@ impl<L: LeaderIds> Cluster<L, L::Committed> {
         if let Some(server) = self.servers.get(place) {
             server.record(said, &mut self.trace)?;
         }
-        if self.tally.events % CHECKED_EVERY == 0 && self.trace.check().is_err() {
-            return Err(Violation::BrokenRule);
+        if self.tally.events % CHECKED_EVERY == 0 {
+            self.trace.check()?;
         }
         Ok(())
     }

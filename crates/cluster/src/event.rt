@@ -20,7 +20,7 @@ pub enum Event {
     Propose,
     /// An operator asks a server for a membership change.
     Change,
-    /// A server takes a snapshot, and purges what is in it.
+    /// A server takes a snapshot, and purges all but the last entries in it.
     Compact,
     /// A server crashes and restarts.
     Restart,

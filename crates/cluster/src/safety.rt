@@ -4,6 +4,8 @@ use crate::server::{Role, Server};
 use crate::types::end;
 use raft_base::{LogIdOf, LogStateReader};
 use raft_handlers::HandlerError;
+use raft_safety::check::Refused;
+use raft_safety::checker;
 use std::alloc::{AllocError, Global};
 use std::collections::BTreeMap;
 use thiserror::Error;
@@ -38,7 +40,8 @@ pub enum Violation {
     /// A recorded act was not allowed by those before it. The end of the run says which.
     #[error("a rule of the laws of safety is broken")]
     BrokenRule,
-    /// The cluster was left alone, and not all servers have all entries.
+    /// The cluster was left alone, and no server leads, a member of the last leader has not
+    /// committed the leader's whole log, or a membership change is half done.
     #[error("it does not converge")]
     Convergence,
     /// An allocation failed.
@@ -49,6 +52,15 @@ pub enum Violation {
 impl From<AllocError> for Violation {
     fn from(_refused: AllocError) -> Self {
         Violation::OutOfMemory
+    }
+}
+
+impl From<Refused> for Violation {
+    fn from(refused: Refused) -> Self {
+        match refused.violation {
+            checker::Violation::OutOfMemory => Violation::OutOfMemory,
+            checker::Violation::Rule(_) => Violation::BrokenRule,
+        }
     }
 }
 

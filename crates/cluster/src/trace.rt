@@ -125,7 +125,7 @@ impl Trace {
     ///
     /// # Errors
     ///
-    /// The first act that was not allowed, and the rule that it breaks.
+    /// The first act that was not allowed, and the rule that it breaks, or out of memory.
     pub fn check(&self) -> Result<(), Refused> {
         match self.memberships() {
             Ok(memberships) => check(*self.acts.allocator(), memberships, &self.acts),
