@@ -52,7 +52,7 @@ pub enum Event<T, N, D> {
     Restarted {
         /// The server.
         server: N,
-        /// How many first entries of its log it still has.
+        /// How many first entries of the recorded log it still has.
         len: usize,
     },
     /// A leader writes an entry to its log.

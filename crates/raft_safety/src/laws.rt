@@ -16,8 +16,8 @@ pub fn fixed_members_are_safe<T, ID: Copy + Ord, D>()
     ensures { FixedMembersAreSafe T ID D }
 {}
 
-/// If leaders propose configs by the rule, every history in which each server keeps the rules is
-/// safe.
+/// If leaders propose configs by the rule, and quorums of the initial config intersect, every
+/// history in which each server keeps the rules is safe.
 ///
 /// The rule: a leader proposes a config only after it has committed an entry of its own term since
 /// which no config was proposed, and only if quorums of the new config intersect each other and

@@ -83,9 +83,9 @@ impl<N: Copy + Ord, D: Copy + Eq> Memberships<N, D> {
     }
 }
 
-/// The premise of the contract of a checker, for memberships of the layer: if terms, ids and contents
-/// that are `==` are equal, the tests by which a checker compares them are exact, and quorums
-/// intersect where `do_intersect` says so.
+/// The premise of the contract of a checker, for memberships of the layer: if terms, ids and
+/// contents that are `==` are equal, the tests by which a checker compares them are exact, and
+/// quorums intersect where `do_intersect` says so.
 pub fn memberships_are_exact<T: Term, N: Copy + Ord, D: Copy + Eq>(memberships: &Memberships<N, D>)
     ensures { ((x y : T) → T.eq x y ≡ true → x ≡ y) → ((x y : N) → N.eq x y ≡ true → x ≡ y)
         → ((x y : D) → D.eq x y ≡ true → x ≡ y) → AreExact (tests_of T.rank T.eq N.eq D.eq

@@ -58,8 +58,8 @@ impl Rule {
     /// Returns the error message of an event that breaks the rule.
     fn text(self) -> &'static str {
         match self {
-            Rule::InitialConfig => "quorums of the initial config do not intersect",
-            Rule::PassedTerm => "the server has passed the term",
+            Rule::InitialConfig => "quorums of the initial config are not known to intersect",
+            Rule::PassedTerm => "the server has reached or passed the term already",
             Rule::CampaignedTwice => "the server has already campaigned in the term",
             Rule::NoCampaign => "the candidate has not campaigned in the term",
             Rule::OwnCandidate => "the server is the candidate",
@@ -76,9 +76,9 @@ impl Rule {
             Rule::LostAcked => "the server has lost durable entries",
             Rule::OtherTerm => "the entry is of another term",
             Rule::ApartConfigs => {
-                "quorums of the new config and of the config in effect do not intersect"
+                "quorums of the new config and the config in effect are not known to intersect"
             }
-            Rule::ApartQuorums => "quorums of the new config do not intersect",
+            Rule::ApartQuorums => "quorums of the new config are not known to intersect",
             Rule::EarlyConfig => {
                 "the leader has not committed an own entry and the config in effect"
             }

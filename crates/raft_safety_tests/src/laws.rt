@@ -68,8 +68,8 @@ pub fn standard_ids_are_safe() {
     kind_is_safe::<u64, LeaderStd, u64, u64>();
 }
 
-/// Whether a trace keeps the rules, checked by memberships of the layer. If it does, it is safe: over
-/// numbers nothing more has to be shown.
+/// Whether a trace keeps the rules, checked by memberships of the layer. If it does, it is safe:
+/// over numbers nothing more has to be shown.
 pub fn is_checked(
     alloc: Global,
     memberships: Memberships<u64, u64>,
