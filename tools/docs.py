@@ -475,7 +475,7 @@ class Reference:
 # ---- The definitions: the page of the main theorem, and the index of words.
 
 CRATE, CALL = "raft_progress", "replay"
-CLAUSES = ("granted", "quorums", "changed_quorums")
+CLAUSES = ("granted", "quorums", "changed_quorums", "ready")
 IMPORT = re.compile(r"^(?:pub |ghost )*use ([\w.]+)\.\{(.*?)\}", re.M | re.S)
 RENAMED = re.compile(r"^(?:pub |ghost )*use ([\w.]+) as (\w+)", re.M)
 DEFINED = re.compile(r"( *)(?:abbrev pub|pub record|pub) (?!mod |use )(\S+)")
@@ -483,8 +483,9 @@ CLAIMED = re.compile(r"(\d+) definitions\W[^.;|]{0,30}?(\d+)\s+lines\W+(?:in\s+)
 THEOREM = """# The main theorem, word by word: {count} definitions, {lines} lines in {files} files
 
 After reading this page you can say what the main theorem claims, without a look at code or proofs.
-The page has three clauses of `{crate}::{call}`. Below each clause it has the definitions of this
-repository that the clause uses, verbatim and in reading order.
+The page has four clauses of `{crate}::{call}`. The last one says that the progress counts by the
+membership: the quorums of the first clause are those of the membership. Below each clause the page
+has the definitions of this repository that the clause uses, verbatim and in reading order.
 [DEFINITIONS.md](../DEFINITIONS.md#how-a-clause-reads) explains how a clause is read, and the
 [glossary](../GLOSSARY.md) explains the words.
 
