@@ -67,8 +67,7 @@ module _ {N : Type 0} {same : N → N → Bool} (e : IsEquivalence same) where
   term_then_voted-partial term voted =
       then_po (on_po term (po nat_cmp_total unsigned_ties)) (on_po voted voted_cmp-partial)
 
--- if two nodes of one term do not compare, and nobody is below the first, nobody is below the
--- second
+-- if two leaders of one term do not compare, what is below the first one is below the second one
 below_both : {N : Type 0} (same : N → N → Bool) (a b c : Option N) → voted_cmp same a b ≡ None
     → voted_cmp same c a ≡ Some Less → voted_cmp same c b ≡ Some Less
 below_both same None None c h k = cc

@@ -19,7 +19,8 @@ by_leader_then_committed None false true = Some Less
 by_leader_then_committed None false false = None
 by_leader_then_committed None true true = None
 
--- by the order of their leaders, then an uncommitted vote below a committed one
+-- by the order of their leaders, then an uncommitted vote below a committed one, also if the leaders
+-- do not compare
 abbrev pub vote_cmp : {L : Type 0} → (L → L → Option Ordering) → VoteIn L → VoteIn L
     → Option Ordering
 vote_cmp leader_order a b =

@@ -1,5 +1,5 @@
 //! What a Raft cluster uses as names: node ids, leader ids, votes and log ids. It also has the role
-//! of a node in its cluster, and the moment since which a value holds.
+//! of a node in its cluster, and a value with the moment of its last update.
 #![tactic(auto)]
 
 pub mod display_ext;

@@ -84,7 +84,8 @@ pub fn index_below(a: Option<u64>, b: Option<u64>) -> bool
 }
 
 /// Returns how two votes compare, for each kind of leader ids: by leader, then by whether they are
-/// committed. It is `None` if they do not compare.
+/// committed. If the leaders do not compare, a committed vote is above an uncommitted one, and the
+/// result is `None` for two votes that are alike in this.
 pub fn compare_votes<L: LeaderIdentity>(a: &VoteIn<L>, b: &VoteIn<L>) -> Option<Ordering>
     ensures { result ≡ vote_cmp L.order a.now b.now }
 {

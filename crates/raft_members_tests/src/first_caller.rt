@@ -5,7 +5,8 @@ use raft_members::{ChangeMembers, ChangeMembershipError, Membership};
 use std::alloc::Global;
 use std::collections::BTreeMap;
 
-/// Voters 1 and 2 become voters 2 and 3, in two changes; between them a quorum needs both configs.
+/// Adds learner 3, and then replaces voters 1 and 2 by 2 and 3 in two changes. Between these two a
+/// quorum needs both configs.
 fn replace_voters(alloc: Global) -> Result<bool, ChangeMembershipError<u64>> {
     let nodes: BTreeMap<u64, u64> = [(1, 10), (2, 20)].iter().copied().collect(alloc)?;
     let voters = Membership::from_nodes(alloc, nodes)?;

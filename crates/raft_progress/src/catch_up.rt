@@ -18,8 +18,9 @@ use raft_base::{LogIdOf, LogIdOptionExt, LogIdRangeOf, LogStateReader};
 ///
 /// They are: nothing is in flight and `can_send` holds; `agree` is at least the indexes after
 /// matching and after the purge point, and at most the searching end; a send takes at least one
-/// entry; indexes and request ids are left for the whole run; and matching is the last log id, or
-/// is at most the log id before the index from which the run goes on.
+/// entry; and indexes and request ids are left for the whole run. Also, matching is the last log
+/// id, or the log has entries past matching and past the purge point, and matching is at most the
+/// log id before the index from which the run goes on.
 pub fn can_catch_up_entry<C: Ord + Copy, L: LogStateReader<C>>(
     log: &L,
     entry: &ProgressEntryOf<C>,

@@ -230,11 +230,11 @@ impl<C: Ord + Copy> ProgressEntryOf<C> {
     /// `matched + (end - matched) / 16 * 8`, so that each response cuts off about half of the
     /// stretch between the two. If the stretch has fewer than 16 indexes, logs start at `matched`.
     /// They never start at an index that is to be purged. If the logs that a probe needs are
-    /// purged, a snapshot is sent.
+    /// purged, or if `max_entries` is 0 in a probe, a snapshot is sent.
     ///
     /// `Err` contains what is in flight already, or `Inflight::None` if there is no log to send.
     /// `Ok` contains `Inflight::None` if the log ids of the log do not rise, because then there is
-    /// nothing to send. It requires `can_send`.
+    /// nothing to send; a request number is used all the same. It requires `can_send`.
     #[inline(always)]
     pub fn next_send<L: LogStateReader<C>>(
         &mut self,
@@ -286,7 +286,8 @@ impl<C: Ord + Copy> ProgressEntryOf<C> {
     }
 
     /// Puts in flight what is to be sent next, if `can_send` is true, and returns it. The result is
-    /// `InflightOf::None` if nothing was sent, and the entry is as it was.
+    /// `InflightOf::None` if nothing was sent. Then the entry is as it was, unless the log ids of
+    /// the log do not rise: then a request number is used.
     #[inline(always)]
     pub(crate) fn send_next<L: LogStateReader<C>>(
         &mut self,

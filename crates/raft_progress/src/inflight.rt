@@ -249,8 +249,9 @@ impl<C: Ord + Copy> InflightOf<C> {
         *self = InflightOf::None;
     }
 
-    /// Takes the response that the follower does not have the log before those in flight, whose
-    /// index is `conflict`. Then nothing is in flight. A refused response changes nothing.
+    /// Takes the response that the follower does not have the log at index `conflict`, which has to
+    /// be the one before those in flight. Then nothing is in flight. A refused response changes
+    /// nothing.
     pub fn conflict(&mut self, request_id: u64, conflict: u64) -> Result<(), InflightError>
         ensures { FollowsTable (inflight_after_conflict self.old request_id conflict) self.old
             result self.new }

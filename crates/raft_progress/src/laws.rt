@@ -43,8 +43,8 @@ pub fn quorums_know_granted<NID: NodeId, N: Node, V: ProgressPart<P>, P: Copy + 
     ensures changed_quorums { ChangedQuorumsHaveGranted cluster.now }
 {}
 
-/// A part is at most granted exactly if it is at most the default's part, or a quorum of the voters
-/// has reached it.
+/// In a progress that is in order, a part is at most granted exactly if it is at most the default's
+/// part, or a quorum with a voter has reached it.
 ///
 /// So an index is committed exactly if a quorum matches up to it, a vote is won exactly if a quorum
 /// has voted, and granted is at least a moment exactly if a quorum has responded since that moment.
@@ -52,8 +52,9 @@ pub fn granted_is_threshold<ID: Copy + Ord, V: ProgressPart<P>, P: Copy + Ord, Q
     ensures { GrantedIsThreshold ID V P QS ID.eq P.cmp V.part_of QS.has_quorum }
 {}
 
-/// If any two quorums of a quorum set share a voter, each quorum has a voter whose part is at least
-/// granted. This also holds for quorums of a stated size, and for your own quorum sets.
+/// In a progress that is in order, if any two quorums of its quorum set share a voter, each quorum
+/// has a voter whose part is at least granted. This also holds for quorums of a stated size, and
+/// for your own quorum sets.
 pub fn meeting_quorums_know_granted<
     ID: Copy + Ord,
     V: ProgressPart<P>,
@@ -63,7 +64,8 @@ pub fn meeting_quorums_know_granted<
     ensures { MeetingQuorumsKnowGranted ID V P QS ID.eq P.cmp V.part_of QS.has_quorum }
 {}
 
-/// If each matching log id is in the leader's log, or purged from it, granted is too.
+/// In a progress that is in order, if each matching log id and the default's are in the leader's
+/// log or purged from it, granted is too.
 ///
 /// So a leader need not look up what it commits, if each matching log id that it has taken is in
 /// its log.
@@ -148,9 +150,9 @@ pub fn tracked_calls_are_runs<NID: NodeId, N: Node, V: ProgressPart<P> + Clone, 
         TrackedChangesAreSteps NID N V P by N.eq }
 {}
 
-/// After a change, each quorum of the new membership has a voter whose present part is at least
-/// what was granted before. So what was committed stays known after the change, even if less is
-/// granted then.
+/// After a change of a membership that has a config, each quorum of the new membership has a voter
+/// whose present part is at least what was granted before. So what was committed stays known after
+/// the change, even if less is granted then.
 pub fn change_keeps_granted<NID: NodeId, N: Node, V: ProgressPart<P> + Clone, P: Copy + Ord>()
     ensures { ChangeKeepsGranted NID N V P NID.eq NID.cmp N.eq P.cmp V.part_of V.is_clone }
 {}

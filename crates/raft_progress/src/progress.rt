@@ -157,7 +157,7 @@ pub trait Progress<ID: Copy + Ord, V: ProgressPart<P>, P: Copy + Ord, QS: Quorum
 
     /// Whether the learners fit a quorum set: no learner is repeated, and none is a voter.
     ///
-    /// This is the precondition of `VecProgress::new` and of `upgrade_quorum_set`. The test returns
+    /// This is a precondition of `VecProgress::new` and of `upgrade_quorum_set`. The test returns
     /// an error if an allocation fails.
     fn learners_fit(alloc: Global, quorum_set: &QS, learners: &[ID]) -> Result<bool, AllocError>
         ensures { IfOk result (λ fits.
@@ -165,7 +165,7 @@ pub trait Progress<ID: Copy + Ord, V: ProgressPart<P>, P: Copy + Ord, QS: Quorum
 
     /// Whether no value that an upgrade would inherit is below the new default.
     ///
-    /// This is the precondition of `upgrade_quorum_set`, because values never fall, and no value is
+    /// This is a precondition of `upgrade_quorum_set`, because values never fall, and no value is
     /// below the default. The test returns an error if an allocation fails.
     fn can_upgrade(&self, quorum_set: &QS, learners: &[ID], default: &V) -> Result<bool, AllocError>
         ensures { IfOk result (λ can. IsTrue can ↔ CanUpgrade ID.eq P.cmp V.part_of

@@ -37,10 +37,11 @@ pub enum SearchEvent<'a, L> {
 /// matching. A send is skipped if `can_send` is false, or if its purge point is before the purge
 /// point of an earlier send that was not skipped. A refused response changes nothing.
 ///
-/// Each probe halves the remaining stretch, so there are few accepted conflicts: at most k if the
-/// stretch from matching to the searching end is less than 2^k. There are also at most k if a
-/// sixteenth of the stretch is less than 2^k, and one more if a send that was not skipped had its
-/// purge point past matching.
+/// If nothing is in flight at first, and matching is below the searching end, there are few
+/// accepted conflicts, because each probe halves the remaining stretch: at most k if the stretch
+/// from matching to the searching end is less than 2^k. There are also at most k if a sixteenth of
+/// the stretch is less than 2^k, and one more if a send that was not skipped had its purge point
+/// past matching.
 pub fn search_run<C: Ord + Copy, L: LogStateReader<C>>(
     entry: &mut ProgressEntryOf<C>,
     events: &[SearchEvent<'_, L>],

@@ -1,4 +1,4 @@
-//! A membership and the progress that counts by it. Both change only together.
+//! A membership and the progress that counts by it.
 ghost use Rattle.std.specs.Prelude.{◌≡◌, IfOk};
 ghost use Rattle.raft_members.specs.membership.Learners.{learners_of};
 ghost use Rattle.raft_members.specs.membership.Members.{members_of};
@@ -24,8 +24,10 @@ pub type MembershipProgress<NID, V, P> = VecProgress<NID, V, P, Configs<NID>>;
 /// A membership, and the progress of its voters and learners.
 ///
 /// A quorum of the progress is a quorum of the membership, and the learners of the progress are
-/// those of the membership. Both change only together, by `replay`, `update` and `change_to`. So
-/// the progress is always in order, and counts by the membership.
+/// those of the membership. The membership changes only by `replay` and `change_to`, which upgrade
+/// the progress with it. Values also change by `update`, and for a leader's followers by
+/// `next_send`, `acknowledge` and `conflict`. So the progress is always in order, and counts by the
+/// membership.
 #[derive(Debug, PartialEq, Eq, Drop)]
 pub struct Tracked<NID: NodeId, N: Node, V: ProgressPart<P>, P: Copy + Ord> {
     membership: Membership<NID, N>,

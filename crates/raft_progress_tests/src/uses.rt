@@ -37,8 +37,8 @@ fn is_elected<NID: NodeId, N: Node>(votes: &Tracked<NID, N, bool, bool>) -> bool
     *votes.progress().granted()
 }
 
-/// Whether a lease from a moment on is held: exactly where a majority of each config has replied
-/// then or later.
+/// Whether a lease from a moment on is held: exactly if a majority of each config has answered a
+/// request that was sent then or later.
 fn holds_lease<NID: NodeId, N: Node>(replies: &Tracked<NID, N, u64, u64>, since: u64) -> bool
     ensures { (tracked_view replies.now).progress.default_part < since → IsTrue result
         ↔ MajorityOfEach NID.eq (tracked_view replies.now) (λ last. nat_le since last) }

@@ -67,7 +67,7 @@ speaks_of (SetNodes nodes) id = is_some (get nat_cmp nodes id)
 speaks_of (RemoveNodes ids) id = contains nat_cmp ids id
 speaks_of (ReplaceAllNodes nodes) id = is_some (get nat_cmp nodes id)
 
--- what happens to removed voters: they stay as learners, or they go
+-- the word that says whether removed voters stay as learners
 abbrev pub retain_word : Bool → List ℕ
 retain_word retain = if retain then codes "retain" else codes "drop"
 

@@ -22,7 +22,8 @@ use std::io::{self, Read, Write};
 /// Runs the script of `reader`, and writes a line to `writer` for each reply.
 ///
 /// Returns the exit status: 0 at the end of input; 2 after a line that cannot be run, which is
-/// named and ends the script; and 1 after an input or output error, or if an allocation fails.
+/// named and ends the script; and 1 after an input or output error, or if an allocation fails that
+/// has no reply `no-memory`.
 /// Replies are written together, but each before more input is waited for.
 pub fn run<R: Read + Drop, W: Write>(alloc: Global, reader: R, writer: &mut W) -> u8
     ensures status { result ≢ 1 → HasStatus (R.remaining reader) result }

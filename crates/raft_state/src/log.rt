@@ -113,9 +113,9 @@ impl<NID: NodeId, N: Node, I: Instant, L: Drop, C: Ord + Copy + Drop> RaftStateI
 
     /// Takes a greater committed log id, commits the effective membership if it is not past the log
     /// id, and returns the log id that was committed before. Another log id changes nothing, and
-    /// `None` is returned. It requires `can_commit`. It allocates only if a membership is
-    /// committed. If the log id is not past the log, a valid state stays valid. If `is_logged` is
-    /// true of the log id, a sound state stays sound.
+    /// `None` is returned. It requires `can_commit`. It returns an allocation error only
+    /// if a membership is committed. If the log id is not past the log, a valid state stays valid.
+    /// If `is_logged` is true of the log id, a sound state stays sound.
     ///
     /// After an error nothing has changed.
     pub fn update_committed(

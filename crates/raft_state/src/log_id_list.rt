@@ -212,8 +212,8 @@ impl<C: Ord + Copy> LogIdListOf<C> {
         Ok(())
     }
 
-    /// Whether the log may be purged up to a log id: its index is not past the last one, or its
-    /// leader is not less than the last one's.
+    /// Whether the log may be purged up to a log id: the log is empty, the index is not past the
+    /// last one, or the leader of the log id is not less than the last one's.
     pub fn can_purge(&self, upto: &LogIdOf<C>) -> bool
         ensures { result ≡ can_purge C.cmp (last_id (full_log self.now)) upto.now }
     {

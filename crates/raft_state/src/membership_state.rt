@@ -174,7 +174,8 @@ impl<C: Ord + Copy + Drop, NID: NodeId, N: Node> MembershipStateOf<C, NID, N> {
     }
 
     /// Takes a committed membership that comes with a snapshot of the log up to an index. Returns
-    /// the effective membership if it is not the one from before.
+    /// the effective membership if its configs or its nodes differ from those before. If only its
+    /// log id differs, the result is `None`.
     ///
     /// If the snapshot includes the effective membership, only the new one is left. Otherwise the
     /// effective membership may be from a log that conflicts with the leader's, so their indexes
@@ -205,7 +206,7 @@ impl<C: Ord + Copy + Drop, NID: NodeId, N: Node> MembershipStateOf<C, NID, N> {
     }
 
     /// Takes the membership of a snapshot up to an index, as `update_committed` does. Returns
-    /// whether another membership is effective than before.
+    /// whether the configs or the nodes of the effective membership differ from those before.
     pub(crate) fn take_over(
         &mut self,
         membership: Rc<EffectiveMembershipOf<C, NID, N>>,

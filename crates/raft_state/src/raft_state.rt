@@ -1,5 +1,5 @@
 //! The whole state of a node: how it is made and read. Its other functions are in `append`,
-//! `catch_up`, `install`, `leads`, `log`, `snapshot`, `sound`, `truncate` and `validate`.
+//! `catch_up`, `install`, `log`, `role`, `snapshot`, `sound`, `truncate` and `validate`.
 ghost use Rattle.std.specs.Prelude.{◌≡◌, ◌&&◌, true, false, IsTrue, IfOk, None, Some, if◌then◌else◌};
 ghost use Rattle.std.specs.Option.{option_copied};
 ghost use Rattle.std.specs.Ordering.{partial_ge};
@@ -53,8 +53,8 @@ pub struct RaftStateIn<NID: NodeId, N: Node, I: Instant, L, C: Ord + Copy> {
     pub membership_state: MembershipStateOf<C, NID, N>,
     /// The last snapshot.
     pub snapshot_meta: SnapshotMetaOf<C, NID, N>,
-    /// The role of the node, as it was last calculated. Only the caller writes it, by
-    /// `calc_server_state`, when the vote or a membership has changed.
+    /// The role of the node, as it was last calculated. Only the caller writes it: when the vote or
+    /// a membership has changed, it stores the result of `calc_server_state` here.
     pub server_state: ServerState,
     /// What the node has accepted of the leader's log.
     pub accepted: AcceptedIn<L, C>,
@@ -227,8 +227,9 @@ impl<
         vote.is_committed() && is_no_lesser(vote.leader_id(), self.accepted.leader_id())
     }
 
-    /// Takes a log id that was accepted from the vote's leader, if it is greater than the last one.
-    /// It requires `can_accept`. If the log id is not past the log, a sound state stays sound.
+    /// Takes a log id that was accepted from the vote's leader, if it is greater than the last one
+    /// that was accepted from this leader. What was accepted from another leader is replaced. It
+    /// requires `can_accept`. If the log id is not past the log, a sound state stays sound.
     ///
     /// A follower calls this after it has appended a leader's entries, or has found that it has
     /// them. Up to that log id, and no further, its log is the leader's, so it may commit what is

@@ -1,4 +1,5 @@
-//! The leader of a node, according to its vote and its effective membership.
+//! The role of a node, and the leader to which it forwards requests, according to its vote and its
+//! effective membership.
 ghost use Rattle.std.specs.Prelude.{◌≡◌, ◌&&◌, IfOk, IsOk, None, Some};
 ghost use Rattle.std.specs.Set.{ClonesAreEqual};
 ghost use Rattle.raft_members.specs.quorum.Majority.{is_voter_of};

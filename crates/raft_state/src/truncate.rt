@@ -34,8 +34,8 @@ impl<NID: NodeId, N: Node, I: Instant, L: Drop, C: Ord + Copy + Drop> RaftStateI
     /// Truncates the log from an index on, as a follower does with log ids that conflict with the
     /// leader's. It requires `can_truncate_log`. What was accepted past the log's new end is then
     /// accepted only up to that end. Returns whether the effective membership was truncated too, in
-    /// which case the committed one is effective again. It allocates only then. A valid state stays
-    /// valid, and a sound one sound.
+    /// which case the committed one is effective again. It returns an allocation error only in that
+    /// case. A valid state stays valid, and a sound one sound.
     ///
     /// After an error nothing has changed.
     pub fn truncate_log(&mut self, since: u64) -> Result<bool, AllocError>

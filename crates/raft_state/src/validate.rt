@@ -57,8 +57,8 @@ impl<NID: NodeId, N: Node, I: Instant, L: Drop, C: Ord + Copy + Drop> RaftStateI
         self.is_logged(&self.purge_upto)
     }
 
-    /// Whether the committed log id is absent or the log id at its index, as the last purged one
-    /// is. Then the log may be truncated anywhere past it.
+    /// Whether the committed log id is absent, or the log has it. If so, `can_truncate_log` is true
+    /// of each index that is past the committed log id and past the committed membership.
     ///
     /// A valid state may have committed a log id that is not in its log, because its relations
     /// compare log ids by their leaders first.
@@ -74,7 +74,7 @@ impl<NID: NodeId, N: Node, I: Instant, L: Drop, C: Ord + Copy + Drop> RaftStateI
     }
 }
 
-/// Whether the log begins at the last purged index.
+/// Whether the log begins at the last purged index, or at index 0 if nothing was purged.
 fn fits_purged_next<C: Copy>(next: u64, first: Option<LogIdOf<C>>) -> bool
     ensures { result ≡ fits_purged_next next first }
 {

@@ -23,7 +23,8 @@ pub enum Invalid {
     /// A snapshot is in flight that does not go past the matching log id.
     #[error("invalid: SnapshotNotPastMatching")]
     SnapshotNotPastMatching,
-    /// The first log id is not the last one that was purged.
+    /// Nothing was purged and the log does not begin at index 0, or something was purged and the
+    /// log does not begin at the last purged index.
     #[error("invalid: PurgedNext")]
     PurgedNext,
     /// The last purged log id is past the purge point.

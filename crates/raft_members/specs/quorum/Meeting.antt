@@ -40,7 +40,7 @@ module _ {K : Type 0} (eq : K → K → Bool) where
       → ShareVoter configs s t
 
   -- if two lists of configs are coherent, a quorum of one and a quorum of the other share a voter
-  -- that is in both lists
+  -- that is in both lists, if the first quorum has both or none of two equal ids
   abbrev pub CoherentQuorumsMeet : Type 0
   CoherentQuorumsMeet =
       (these others : List (List K)) (s t : K → Bool) → RespectsEquality s

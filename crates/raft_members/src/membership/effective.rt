@@ -27,9 +27,9 @@ use std::rc::Rc;
 
 /// The effective membership: the last one in a node's log, committed or not.
 ///
-/// It stores its configs as a quorum set beside the stored membership and, if there are several
-/// configs, all voters as one set, so that a test of a quorum does not allocate. In contracts it is
-/// its stored membership. Two are equal if their stored memberships are equal, because the other
+/// It stores its configs as a quorum set beside the stored membership and, unless there is exactly
+/// one config, all voters as one set, so that a test of a quorum does not allocate. In contracts it
+/// is its stored membership. Two are equal if their stored memberships are equal, because the other
 /// fields follow from them.
 #[derive(Drop)]
 pub struct EffectiveMembershipOf<C, NID: NodeId, N: Node> {

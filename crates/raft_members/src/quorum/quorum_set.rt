@@ -7,7 +7,7 @@ ghost use Rattle.raft_members.specs.quorum.QuorumSize.{QuorumsHaveAtLeast};
 
 use std::alloc::{AllocError, Global};
 
-/// A family of sets of ids, its quorums, and the finite set of its voters.
+/// A finite set of voters, and which sets of ids are its quorums.
 ///
 /// The only law is that a set that contains a quorum is a quorum: a further id never reverses a
 /// decision. In contracts a set of ids is a test, `ID → Bool`, so neither an order of ids nor

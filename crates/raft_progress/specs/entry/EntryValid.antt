@@ -14,8 +14,8 @@ use Rattle.raft_progress.specs.declared.entry.ProgressEntryOf.{ProgressEntryOf}
 use Rattle.raft_progress.specs.declared.inflight.InflightOf.{InflightOf}
 use Rattle.raft_progress.specs.declared.inflight.InflightOf.TheVariants.{None as Idle, Logs, Snapshot}
 
--- logs in flight begin at or after matching, and before the searching end; a snapshot goes past
--- matching
+-- logs in flight are a range in order, begin at or after matching, and before the searching end; a
+-- snapshot goes past matching
 abbrev pub sending_relations : {C : Type 0} → (C → C → Ordering) → ProgressEntryOf C → InflightOf C
     → List (Bool × Invalid)
 sending_relations cmp entry Idle = []

@@ -7,14 +7,14 @@ use Rattle.raft_progress.specs.declared.entry.ProgressEntryOf.{ProgressEntryOf}
 use Rattle.raft_progress.specs.declared.inflight.InflightOf.{InflightOf}
 use Rattle.raft_progress.specs.declared.inflight.InflightOf.TheVariants.{None as Idle}
 
--- what a send leaves of what is known of a member, if it sends anything
+-- what a send leaves of what is known of a member, if it uses a request number
 abbrev pub sent : {C : Type 0} → Result (ProgressEntryOf C) (ProgressEntryOf C)
     → Option (ProgressEntryOf C)
 sent (Ok entry) = Some entry
 sent (Err entry) = None
 
--- what is known of a member once the next request is sent to it, if there is one: a send is allowed,
--- nothing is in flight, and there is something to send
+-- what is known of a member once a request number is used for it, if one is: a send is allowed,
+-- nothing is in flight, and there are logs or a snapshot to send
 abbrev pub after_request : {C : Type 0} → (C → C → Ordering) → ProgressEntryOf C → LogView C → ℕ
     → Option (ProgressEntryOf C)
 after_request cmp entry log max_entries =

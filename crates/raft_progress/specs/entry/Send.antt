@@ -31,8 +31,8 @@ use Rattle.raft_progress.specs.declared.entry.ProgressEntryOf.{ProgressEntryOf}
 use Rattle.raft_progress.specs.declared.inflight.InflightOf.{InflightOf}
 use Rattle.raft_progress.specs.declared.inflight.InflightOf.TheVariants.{Snapshot}
 
--- the index at which the next probe between matching and the searching end starts: half of the
--- sixteenths of the stretch further on
+-- the index at which the next probe between matching and the searching end starts: 8 indexes after
+-- matching's next one for each whole 16 of the stretch
 abbrev pub calc_mid : ℕ → ℕ → ℕ
 calc_mid matched end = matched + (end - matched) / 16 * 8
 
@@ -46,9 +46,9 @@ start_of entry log =
 abbrev pub end_of : {C : Type 0} → ProgressEntryOf C → LogView C → ℕ → ℕ
 end_of entry log max_entries = min (start_of entry log + max_entries) (next_index log.last)
 
--- A send if nothing is in flight: a snapshot if each index that may still match is purged, or if
--- there is no log to probe with; nothing if there is no log to send; otherwise logs. What is sent
--- has the next request id.
+-- A send if nothing is in flight: a snapshot if the searching end is before the first index that is
+-- not to be purged, or if there is no log to probe with; nothing if there is no log to send;
+-- otherwise logs. What is sent has the next request id.
 abbrev pub idle_send_table : {C : Type 0} → (C → C → Ordering) → ProgressEntryOf C → LogView C → ℕ
     → Result (ProgressEntryOf C) (ProgressEntryOf C)
 idle_send_table cmp entry log max_entries =

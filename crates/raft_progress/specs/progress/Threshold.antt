@@ -32,8 +32,8 @@ module _ {ID V P QS : Type 0} (cmp : P → P → Ordering) (part : V → P)
 
 module _ (ID V P QS : Type 0) (eq : ID → ID → Bool) (cmp : P → P → Ordering) (part : V → P)
     (has_quorum : QS → (ID → Bool) → Bool) where
-  -- any part, a voter's or not, is at most granted exactly if it is at most the default's part or a
-  -- quorum has reached it
+  -- in a progress that is in order, any part, a voter's or not, is at most granted exactly if it is at
+  -- most the default's part or a quorum with a voter has reached it
   abbrev pub GrantedIsThreshold : Type 0
   GrantedIsThreshold =
       (p : ProgressView ID V P QS) → IsInOrder eq cmp part has_quorum p → (q : P)

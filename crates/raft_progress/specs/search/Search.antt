@@ -77,6 +77,6 @@ abbrev pub CanSearch : {C : Type 0} → ProgressEntryOf C → Type 0
 CanSearch entry =
     (is_idle entry.inflight ≡ true) × (next_index entry.matching ≤ entry.searching_end)
 
--- the number of indexes, from matching to the searching end, at which the last shared log may be
+-- the number of indexes after matching and below the searching end
 abbrev pub stretch : {C : Type 0} → ProgressEntryOf C → ℕ
 stretch entry = entry.searching_end - next_index entry.matching

@@ -34,7 +34,8 @@ module _ {K N V P : Type 0} (eq : K → K → Bool) (id_cmp : K → K → Orderi
 module _ {K N V P : Type 0} (eq : K → K → Bool) (id_cmp : K → K → Ordering) (same : N → N → Bool)
     (cmp : P → P → Ordering) (part : V → P) (IsClone : V → V → Type 0) where
   -- the reply to a switch to a membership: it is refused for an empty config, otherwise for the
-  -- first voter without a node, and otherwise both switch to it; or an allocation failed
+  -- first voter without a node, otherwise for the least id whose inherited value is below the
+  -- default, and otherwise both switch to it; or an allocation failed
   abbrev pub IsChangedTo : TrackedState K N V P → Members K N → V → Reply K P → TrackedState K N V P
       → Type 0
   IsChangedTo old next default (Granted p) new =

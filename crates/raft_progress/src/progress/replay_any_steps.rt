@@ -165,9 +165,11 @@ impl<
     }
 }
 
-/// Makes the steps in order. Returns a reply for each step, or an allocation error.
+/// Makes the steps in order. Returns a reply for each step, or an allocation error, which leaves
+/// the progress as it was. A refused step changes nothing, and the next one is made.
 ///
-/// Granted never falls if no step is an upgrade.
+/// It requires that the progress is in order (`is_in_order`), and that a clone of a value has the
+/// same part. Granted never falls if no step is an upgrade.
 pub fn replay_any<
     ID: Copy + Ord,
     V: ProgressPart<P> + PartialOrd + Clone,

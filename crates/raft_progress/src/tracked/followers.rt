@@ -8,15 +8,16 @@ use crate::inflight::{InflightError, InflightOf};
 use crate::progress::Progress;
 use raft_base::{LogIdOf, LogStateReader, Node, NodeId};
 
-/// What a leader does with the entry of a member. Each call looks the member up once and changes its
-/// entry in place, and never allocates.
+/// What a leader does with the entry of a member. Each call looks the member up once and changes
+/// its entry in place, and never allocates.
 impl<NID: NodeId, N: Node, C: Ord + Copy> Tracked<NID, N, ProgressEntryOf<C>, Option<LogIdOf<C>>> {
-    /// Puts in flight what is to be sent to a member next, as `ProgressEntryOf::next_send` does, and
-    /// returns it. The result is `None` for an unknown id.
+    /// Puts in flight what is to be sent to a member next, as `ProgressEntryOf::next_send` does,
+    /// and returns it. The result is `None` for an unknown id.
     ///
-    /// `InflightOf::None` means that there is nothing to send, that something is in flight already,
-    /// or that `can_send` is false. Then nothing changes. Granted stays in each case, and no update
-    /// is counted.
+    /// `InflightOf::None` means that nothing was put in flight. If there is nothing to send, if
+    /// something is in flight already, or if `can_send` is false, nothing changes. If the log ids
+    /// of the log do not rise, a request number is used, and nothing else changes. Granted stays in
+    /// each case, and no update is counted.
     #[inline(always)]
     pub fn next_send<L: LogStateReader<C>>(
         &mut self,
@@ -34,8 +35,8 @@ impl<NID: NodeId, N: Node, C: Ord + Copy> Tracked<NID, N, ProgressEntryOf<C>, Op
     }
 
     /// Takes the response that a member has all logs up to a log id, as
-    /// `ProgressEntryOf::update_matching` does, and recomputes granted, as `update` does. The result
-    /// is `None` for an unknown id. A refused response changes nothing.
+    /// `ProgressEntryOf::update_matching` does, and recomputes granted, as `update` does. The
+    /// result is `None` for an unknown id. A refused response changes nothing.
     #[inline(always)]
     pub fn acknowledge(
         &mut self,
@@ -50,8 +51,8 @@ impl<NID: NodeId, N: Node, C: Ord + Copy> Tracked<NID, N, ProgressEntryOf<C>, Op
     }
 
     /// Takes the response that a member does not match at an index, as
-    /// `ProgressEntryOf::update_conflicting` does. The result is `None` for an unknown id. A refused
-    /// response changes nothing. Granted stays in each case, and no update is counted.
+    /// `ProgressEntryOf::update_conflicting` does. The result is `None` for an unknown id. A
+    /// refused response changes nothing. Granted stays in each case, and no update is counted.
     pub fn conflict(
         &mut self,
         id: &NID,

@@ -41,7 +41,7 @@ impl<NID: NodeId, V: ProgressPart<P>, P: Copy + Ord> VecProgress<NID, V, P, Conf
 
     /// Whether no value that `upgraded_to` would inherit is below the new default.
     ///
-    /// This is the precondition of `upgraded_to`. The test returns an error if an allocation fails.
+    /// This is a precondition of `upgraded_to`. The test returns an error if an allocation fails.
     pub fn can_upgrade_to<N: Node>(
         &self,
         membership: &Membership<NID, N>,

@@ -72,7 +72,7 @@ replaces_both cmp new upto m =
     || (index_le (index_at m.effective) (index_at new)
     && id_lt cmp (log_id_of m.committed) (log_id_of new))
 
--- another membership is effective than before
+-- the effective membership has other configs or nodes than before; its log id does not count
 abbrev pub effect_changes : {C K N : Type 0} → (K → K → Bool) → (N → N → Bool)
     → Memberships C K N → Memberships C K N → Bool
 effect_changes eq same old new = not (same_members eq same (in_effect new) (in_effect old))

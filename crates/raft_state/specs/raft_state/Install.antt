@@ -95,8 +95,8 @@ abbrev pub log_after_install : {K N I L C : Type 0} → (C → C → Bool) → L
 log_after_install eq id s = log_after_purge (log_to_keep eq id s) id
 
 -- the state then, except for its log and its snapshot: the log id is committed and the purge point,
--- the snapshot's membership is committed, and what was accepted from the vote's leader is at least
--- the log id and not past the log
+-- everything up to its index is purged, the memberships are those after the install, and what was
+-- accepted from the vote's leader is at least the log id and not past the log
 abbrev pub state_after_install : {K N I L C : Type 0} → (L → L → Bool) → (C → C → Ordering)
     → (C → C → Bool) → LogIdOf C → StoredMembershipOf C K N → RaftStateIn K N I L C
     → RaftStateIn K N I L C
