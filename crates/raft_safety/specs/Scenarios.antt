@@ -3,7 +3,7 @@
 --
 -- A trace is written here with its earliest event first, and `reverse` turns it. Server ids and
 -- contents are numbers. Each trace that is allowed is an execution, so it is safe.
-use Rattle.std.specs.Prelude.{◌≡◌, ℕ, Bool, true, false, ◌&&◌, nat_eq, if◌then◌else◌, Option, Some, None, List, [], ◌∷◌, ◌++◌, reverse}
+use Rattle.std.specs.Prelude.{◌≡◌, ℕ, true, ◌&&◌, nat_eq, if◌then◌else◌, Option, Some, None, List, [], ◌∷◌, ◌++◌, reverse}
 use Rattle.std.specs.Ordering.{nat_cmp}
 use Rattle.raft_base.specs.LeaderId.{leader_id_cmp}
 use Rattle.raft_base.specs.declared.leader_id.LeaderId.{LeaderId}

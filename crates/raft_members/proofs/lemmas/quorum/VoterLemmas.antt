@@ -1,5 +1,5 @@
 -- A majority of each config is one of the voters alone, and there is a voter in it.
-use Rattle.std.specs.Prelude.{◌≡◌, ◌<◌, ◌*◌, ◌+◌, Bool, true, false, ◌&&◌, cond, List, [], ◌∷◌, length, nat_lt, count_by, refl}
+use Rattle.std.specs.Prelude.{◌≡◌, ◌<◌, ◌*◌, ◌+◌, Bool, true, ◌&&◌, cond, List, [], ◌∷◌, length, nat_lt, count_by, refl}
 use Rattle.std.specs.Cmp.{IsEquivalence, first_so, second_so}
 use Rattle.std.specs.Cmp.Derive.{both_true}
 use Rattle.std.specs.Set.{is_member, unique_keys}

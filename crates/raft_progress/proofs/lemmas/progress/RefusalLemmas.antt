@@ -1,5 +1,5 @@
 -- A step that was refused has changed nothing.
-use Rattle.std.specs.Prelude.{Bool, true, List, refl}
+use Rattle.std.specs.Prelude.{Bool, List, refl}
 use Rattle.std.specs.declared.cmp.Ordering.{Ordering}
 use Rattle.std.proofs.Common.{true≢false}
 use Rattle.raft_progress.specs.Inner.Refusal.{RefusesUpgrade}

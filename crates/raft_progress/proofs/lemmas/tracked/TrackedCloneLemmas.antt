@@ -6,7 +6,7 @@ use Rattle.std.specs.declared.cmp.Ordering.{Ordering}
 use Rattle.std.specs.BTreeMap.{is_at}
 use Rattle.std.specs.List.{AllZip, list_all}
 use Rattle.std.specs.Map.{lookup}
-use Rattle.std.proofs.Common.{ap, refl, suc, sym, zero, ◌∙◌, true≢false}
+use Rattle.std.proofs.Common.{ap, refl, sym, ◌∙◌, true≢false}
 use Rattle.raft_members.specs.quorum.Majority.{is_majority, is_voter_of}
 use Rattle.raft_members.specs.membership.Members.{node_at, same_members, same_nodes}
 use Rattle.raft_progress.specs.progress.Equal.{IsCloned}

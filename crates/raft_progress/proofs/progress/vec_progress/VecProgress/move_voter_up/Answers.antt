@@ -1,9 +1,7 @@
-use Rattle.std.proofs.Common.{ap, arith, sym, ◌∙◌, ◌≡◌, ◌≤◌, length, subst, List}
+use Rattle.std.proofs.Common.{ap, arith, sym, ◌∙◌, ◌≤◌, length, subst}
 use Rattle.std.specs.Map.{keys_of}
 use Rattle.std.proofs.lemmas.Map.Entries.{length-keys_of}
 use Rattle.raft_progress.specs.Inner.Positions.{position_in}
-use Rattle.raft_progress.specs.Inner.Rises.{RisesTo}
-use Rattle.raft_progress.specs.progress.VecProgress.{view}
 use Rattle.raft_progress.proofs.lemmas.progress.positions.PositionsLemmas.{
   before_passed,
   passed_length,

@@ -1,22 +1,4 @@
-use Rattle.std.proofs.Common.{
-  arith,
-  refl,
-  sym,
-  ap,
-  ◌∙◌,
-  true≢false,
-  nat_lt,
-  lt-ltb,
-  is_le,
-  is_lt,
-  ◌&&◌,
-  ◌≡◌,
-  Bool,
-  true,
-  false,
-  subst,
-  List,
-}
+use Rattle.std.proofs.Common.{refl, sym, ap, ◌∙◌, true≢false, nat_lt, lt-ltb, is_le, is_lt, ◌&&◌, ◌≡◌, Bool, true, false, subst, List}
 use Rattle.std.specs.List.{IsDistinct}
 use Rattle.std.specs.Map.{keys_of}
 use Rattle.std.proofs.lemmas.Option.{get_or_from_slice_get}
