@@ -2,14 +2,14 @@
 
 use crate::candidate::candidate;
 use crate::leader::Led;
-use crate::states::{Entry, StateOf, entries, follower, id, members, voter};
-use raft_base::{EmptyNode, LeaderAdv, LeaderId, LeaderKind, LogIdOf, VoteIn};
+use crate::states::{StateOf, entries, entry_of_members, follower, id, members, voter};
+use raft_base::{EmptyNode, LeaderAdv, LeaderId, LeaderKind, VoteIn};
 use raft_handlers::{
-    AppendEntries, HandlerError, InstallSnapshot, Stored, handle_append_entries,
+    AppendEntries, HandlerError, InstallSnapshot, Leader, Stored, handle_append_entries,
     handle_install_snapshot, restart_server,
 };
 use raft_members::StoredMembershipOf;
-use raft_state::{EntryPayload, SnapshotMetaOf};
+use raft_state::SnapshotMetaOf;
 use raft_testing::allocations::{Allocation, is_swept};
 use std::alloc::{AllocError, Global};
 use std::io;
@@ -32,16 +32,11 @@ fn is_done<T: Drop>(made: Result<T, HandlerError>) -> Result<bool, AllocError> {
 fn appends_membership(
     alloc: Global,
 ) -> Result<AppendEntries<Id, Id, u64, EmptyNode, u64>, AllocError> {
-    let mut entries = Vec::new(alloc);
-    entries.extend(Some(Entry::<LeaderAdv> {
-        log_id: LogIdOf::new(Id::new(3, 1), 4),
-        payload: EntryPayload::Membership(members(alloc)?),
-    }))?;
     Ok(AppendEntries {
         leader_id: Id::new(3, 1),
         request: Some(1),
         prev: id::<LeaderAdv>(Some((2, 3))),
-        entries,
+        entries: entry_of_members::<LeaderAdv>(alloc, Some((3, 4)))?,
         committed: None,
     })
 }
@@ -105,7 +100,7 @@ fn elect<K: LeaderKind<u64>>(allocation: Allocation) -> Result<bool, AllocError>
     match candidate::<K>(&mut state) {
         Ok(candidate) => {
             allocation.refuse();
-            is_done(Led::<K>::elected(state, &candidate))
+            is_done(Leader::new(&mut state, &candidate))
         }
         Err(_) => Err(AllocError),
     }

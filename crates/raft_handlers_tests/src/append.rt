@@ -1,50 +1,136 @@
 //! Requests to append entries.
 
-use crate::states::{Answer, Entry, Row, StateOf, entries, follower, id, members};
-use raft_base::{LeaderAdv, LeaderKind, LeaderStd, LogIdOf, LogStateReader, VoteOf};
-use raft_handlers::{AppendEntries, HandlerError, Outcome, Response, handle_append_entries};
+use crate::asserts::assert_right;
+use crate::states::{
+    Answer, Row, StateOf, due, entries, entry_of_members, follower, id, is_at, members,
+};
+use raft_base::{LeaderAdv, LeaderKind, LeaderStd, VoteOf};
+use raft_handlers::{AppendEntries, HandlerError, Response, handle_append_entries};
 use raft_members::EffectiveMembershipOf;
-use raft_state::{EntryPayload, MembershipStateOf};
+use raft_state::MembershipStateOf;
+use raft_testing::memory::on;
 use std::alloc::{AllocError, Global};
 use std::test::Fail;
 
 /// What the leader 1 of a term sends: `prev`, blank entries, and what it has committed.
-type Sent<'a> = (u64, Row, &'a [(u64, u64)], Row);
+type Sent = (u64, Row, &'static [(u64, u64)], Row);
 
-/// What is right: the answer, and then the last log id and the committed one.
-type Right = (Answer, Row, Row);
+/// The last log id of the follower.
+const END: Row = Some((2, 3));
 
-/// Whether a server answers a leader as it should.
-fn answer<K: LeaderKind<u64>>(
-    response: Result<Response<K::Leader, K::Committed>, HandlerError>,
-    leader_id: K::Committed,
-    right: Answer,
-) -> bool {
-    match (response, right) {
-        (Err(refused), Answer::Refused(right)) => refused == right,
-        (Ok(response), right) => {
-            response.leader_id == leader_id
-                && response.request == Some(7)
-                && match (response.outcome, right) {
-                    (Outcome::Matches(upto), Answer::Matches(right)) => upto == id::<K>(right),
-                    (Outcome::Conflict(at), Answer::Conflict(right)) => at == right,
-                    (Outcome::HigherVote(vote), Answer::HigherVote) => {
-                        vote == VoteOf::<u64, K>::new_committed(3, 1)
-                    }
-                    _ => false,
-                }
-        }
-        _ => false,
-    }
-}
+/// What the follower has committed.
+const FIRST: Row = Some((1, 1));
 
-/// Whether a follower answers a request as it should, and is then as it should be.
+/// Requests to the follower, what it answers, and then its last log id and the committed one.
+const ROWS: &[(&str, Sent, Answer, Row, Row)] = &[
+    (
+        "a heartbeat commits what both logs have",
+        (3, END, &[], Some((2, 2))),
+        Answer::Matches(END),
+        END,
+        Some((2, 2)),
+    ),
+    (
+        "new entries are appended, and nothing is committed past them",
+        (3, END, &[(3, 4), (3, 5)], Some((3, 9))),
+        Answer::Matches(Some((3, 5))),
+        Some((3, 5)),
+        Some((3, 5)),
+    ),
+    (
+        "a request that comes twice truncates nothing",
+        (3, Some((1, 0)), &[(1, 1)], None),
+        Answer::Matches(FIRST),
+        END,
+        FIRST,
+    ),
+    (
+        "entries from the beginning of the log on need no prev",
+        (3, None, &[(1, 0), (1, 1)], END),
+        Answer::Matches(FIRST),
+        END,
+        FIRST,
+    ),
+    (
+        "entries take the place of those that conflict",
+        (3, FIRST, &[(3, 2)], FIRST),
+        Answer::Matches(Some((3, 2))),
+        Some((3, 2)),
+        FIRST,
+    ),
+    (
+        "an entry that the log has stays, and the next one is appended",
+        (4, Some((2, 2)), &[(2, 3), (4, 4)], Some((2, 3))),
+        Answer::Matches(Some((4, 4))),
+        Some((4, 4)),
+        Some((2, 3)),
+    ),
+    (
+        "the log has another log id at the index of prev",
+        (3, Some((3, 3)), &[], None),
+        Answer::Conflict(3),
+        Some((2, 2)),
+        FIRST,
+    ),
+    (
+        "the log ends before prev",
+        (3, Some((3, 9)), &[(3, 10)], None),
+        Answer::Conflict(9),
+        END,
+        FIRST,
+    ),
+    (
+        "the leader is of an earlier term",
+        (2, END, &[(2, 4)], END),
+        Answer::HigherVote,
+        END,
+        FIRST,
+    ),
+    (
+        "the entries have a gap",
+        (3, END, &[(3, 5)], None),
+        Answer::Refused(HandlerError::NotInOrder),
+        END,
+        FIRST,
+    ),
+    (
+        "the leaders of the entries fall",
+        (3, END, &[(1, 4)], None),
+        Answer::Refused(HandlerError::NotInOrder),
+        END,
+        FIRST,
+    ),
+    (
+        "what is committed conflicts with an entry",
+        (3, Some((1, 0)), &[(3, 1)], None),
+        Answer::Refused(HandlerError::TruncatesCommitted),
+        END,
+        FIRST,
+    ),
+    (
+        "what is committed conflicts with prev",
+        (3, Some((0, 1)), &[], None),
+        Answer::Refused(HandlerError::TruncatesCommitted),
+        END,
+        FIRST,
+    ),
+    (
+        "the log does not have what is to be committed",
+        (3, END, &[], Some((2, 1))),
+        Answer::Refused(HandlerError::CommittedNotLogged),
+        END,
+        FIRST,
+    ),
+];
+
+/// Whether a follower answers a request, which has the number 7, as it should, and is then as it
+/// should be.
 fn answers<K: LeaderKind<u64>>(
+    state: &mut StateOf<K>,
     alloc: Global,
-    sent: Sent<'_>,
-    right: Right,
+    row: &(&str, Sent, Answer, Row, Row),
 ) -> Result<bool, AllocError> {
-    let mut state = follower::<K>(alloc, Some((1, 1)))?;
+    let (_, sent, answer, last, committed) = *row;
     let request = AppendEntries {
         leader_id: VoteOf::<u64, K>::new(sent.0, 1).leader_id,
         request: Some(7),
@@ -52,164 +138,89 @@ fn answers<K: LeaderKind<u64>>(
         entries: entries::<K>(alloc, sent.2)?,
         committed: id::<K>(sent.3),
     };
-    let response = handle_append_entries(&mut state, &request);
-    Ok(
-        answer::<K>(response, K::new_committed(sent.0, 1), right.0)
-            && state.last_log_id().copied() == id::<K>(right.1)
-            && state.committed == id::<K>(right.2)
-            && state.is_sound(),
-    )
+    let is_answered = handle_append_entries(state, &request) == due::<K>(sent.0, answer);
+    Ok(is_answered && is_at::<K>(state, last, committed))
 }
 
-/// Whether each row is answered as it should be.
-fn all_answer<K: LeaderKind<u64>>(alloc: Global) -> Result<bool, AllocError> {
-    let end = Some((2, 3));
-    let first = Some((1, 1));
-    let rows: [(Sent<'_>, Right); 14] = [
-        // A heartbeat commits what the log has in common with the leader's.
-        (
-            (3, end, &[], Some((2, 2))),
-            (Answer::Matches(end), end, Some((2, 2))),
-        ),
-        // New entries are appended, and nothing is committed past them.
-        (
-            (3, end, &[(3, 4), (3, 5)], Some((3, 9))),
-            (Answer::Matches(Some((3, 5))), Some((3, 5)), Some((3, 5))),
-        ),
-        // A request that comes twice truncates nothing.
-        (
-            (3, Some((1, 0)), &[(1, 1)], None),
-            (Answer::Matches(first), end, first),
-        ),
-        // Entries from the beginning of the log on need no `prev`.
-        (
-            (3, None, &[(1, 0), (1, 1)], end),
-            (Answer::Matches(first), end, first),
-        ),
-        // Entries take the place of those that conflict.
-        (
-            (3, first, &[(3, 2)], first),
-            (Answer::Matches(Some((3, 2))), Some((3, 2)), first),
-        ),
-        (
-            (4, Some((2, 2)), &[(2, 3), (4, 4)], Some((2, 3))),
-            (Answer::Matches(Some((4, 4))), Some((4, 4)), Some((2, 3))),
-        ),
-        // The log has another log id at the index of `prev`, or ends before it.
-        (
-            (3, Some((3, 3)), &[], None),
-            (Answer::Conflict(3), Some((2, 2)), first),
-        ),
-        (
-            (3, Some((3, 9)), &[(3, 10)], None),
-            (Answer::Conflict(9), end, first),
-        ),
-        // The leader is of an earlier term.
-        ((2, end, &[(2, 4)], end), (Answer::HigherVote, end, first)),
-        // The entries have a gap, or their leaders fall.
-        (
-            (3, end, &[(3, 5)], None),
-            (Answer::Refused(HandlerError::NotInOrder), end, first),
-        ),
-        (
-            (3, end, &[(1, 4)], None),
-            (Answer::Refused(HandlerError::NotInOrder), end, first),
-        ),
-        // What is committed conflicts with an entry, or with `prev`.
-        (
-            (3, Some((1, 0)), &[(3, 1)], None),
-            (
-                Answer::Refused(HandlerError::TruncatesCommitted),
-                end,
-                first,
-            ),
-        ),
-        (
-            (3, Some((0, 1)), &[], None),
-            (
-                Answer::Refused(HandlerError::TruncatesCommitted),
-                end,
-                first,
-            ),
-        ),
-        // The log does not have what is to be committed.
-        (
-            (3, end, &[], Some((2, 1))),
-            (
-                Answer::Refused(HandlerError::CommittedNotLogged),
-                end,
-                first,
-            ),
-        ),
-    ];
-    let mut is_right = true;
-    for (sent, right) in rows {
-        is_right &= answers::<K>(alloc, sent, right)?;
+/// Returns the name of the first row that a follower does not answer as it should.
+fn fails<K: LeaderKind<u64>>(alloc: Global) -> Result<Option<&'static str>, AllocError> {
+    for row in ROWS {
+        let is_right = on(
+            follower::<K>(alloc, FIRST),
+            |state| answers::<K>(state, alloc, row),
+        )?;
+        if !is_right {
+            return Ok(Some(row.0));
+        }
     }
-    Ok(is_right)
+    Ok(None)
 }
 
 #[test]
 fn entries_are_answered(rt: HostRuntime) -> Result<(), Fail> {
-    assert!(rt; all_answer::<LeaderAdv>(rt.alloc())?);
-    assert!(rt; all_answer::<LeaderStd>(rt.alloc())?);
+    assert_right(&rt, fails::<LeaderAdv>(rt.alloc())?);
+    assert_right(&rt, fails::<LeaderStd>(rt.alloc())?);
     Ok(())
 }
 
-/// Appends an entry with a membership at a row, after (2, 3), and commits it.
+/// Appends an entry with a membership at (3, 4), after (2, 3), and commits it.
 fn append_members<K: LeaderKind<u64>>(
-    alloc: Global,
     state: &mut StateOf<K>,
-    prev: (u64, u64),
-    at: (u64, u64),
+    alloc: Global,
 ) -> Result<Response<K::Leader, K::Committed>, HandlerError> {
-    let entry = Entry::<K> {
-        log_id: LogIdOf::new(K::new_committed(at.0, 1), at.1),
-        payload: EntryPayload::Membership(members(alloc)?),
-    };
-    let mut entries = Vec::new(alloc);
-    entries.extend(Some(entry))?;
+    let at = Some((3, 4));
     let request = AppendEntries {
         leader_id: VoteOf::<u64, K>::new(3, 1).leader_id,
         request: None,
-        prev: id::<K>(Some(prev)),
-        entries,
-        committed: id::<K>(Some(at)),
+        prev: id::<K>(END),
+        entries: entry_of_members::<K>(alloc, at)?,
+        committed: id::<K>(at),
     };
     handle_append_entries(state, &request)
 }
 
 /// Whether a membership is effective once it is appended, and committed with its entry.
-fn takes_members<K: LeaderKind<u64>>(alloc: Global) -> Result<bool, HandlerError> {
-    let mut state = follower::<K>(alloc, None)?;
-    let _response = append_members::<K>(alloc, &mut state, (2, 3), (3, 4))?;
+fn takes_members<K: LeaderKind<u64>>(
+    state: &mut StateOf<K>,
+    alloc: Global,
+) -> Result<bool, HandlerError> {
+    let _response = append_members::<K>(state, alloc)?;
     let at = id::<K>(Some((3, 4)));
-    Ok(
-        state.is_voter(&2)
-            && *state.membership_state.effective().log_id() == at
-            && *state.membership_state.committed().log_id() == at
-            && state.committed == at
-            && state.is_sound(),
-    )
+    let are_right = [
+        state.is_voter(&2),
+        *state.membership_state.effective().log_id() == at,
+        *state.membership_state.committed().log_id() == at,
+        state.committed == at,
+        state.is_sound(),
+    ];
+    Ok(are_right == [true; 5])
 }
 
 #[test]
 fn memberships_are_effective_at_once(rt: HostRuntime) -> Result<(), Fail> {
-    assert!(rt; takes_members::<LeaderAdv>(rt.alloc()) == Ok(true));
-    assert!(rt; takes_members::<LeaderStd>(rt.alloc()) == Ok(true));
+    let alloc = rt.alloc();
+    let default = follower::<LeaderAdv>(alloc, None);
+    assert!(rt; on(default, |state| takes_members::<LeaderAdv>(state, alloc)) == Ok(true));
+    let standard = follower::<LeaderStd>(alloc, None);
+    assert!(rt; on(standard, |state| takes_members::<LeaderStd>(state, alloc)) == Ok(true));
     Ok(())
 }
 
 /// Why a membership at (3, 4) is not appended, if the effective one is of a later leader.
-fn refusal<K: LeaderKind<u64>>(alloc: Global) -> Result<Option<HandlerError>, HandlerError> {
-    let mut state = follower::<K>(alloc, None)?;
+fn refusal<K: LeaderKind<u64>>(
+    state: &mut StateOf<K>,
+    alloc: Global,
+) -> Result<Option<HandlerError>, HandlerError> {
     let later = EffectiveMembershipOf::new_arc(id::<K>(Some((9, 1))), members(alloc)?)?;
     state.membership_state = MembershipStateOf::new(later.clone()?, later);
-    Ok(append_members::<K>(alloc, &mut state, (2, 3), (3, 4)).err())
+    Ok(append_members::<K>(state, alloc).err())
 }
 
 #[test]
 fn memberships_rise(rt: HostRuntime) -> Result<(), Fail> {
-    assert!(rt; refusal::<LeaderAdv>(rt.alloc())? == Some(HandlerError::MembershipNotInOrder));
+    let alloc = rt.alloc();
+    let state = follower::<LeaderAdv>(alloc, None);
+    let refused = on(state, |state| refusal::<LeaderAdv>(state, alloc))?;
+    assert!(rt; refused == Some(HandlerError::MembershipNotInOrder));
     Ok(())
 }

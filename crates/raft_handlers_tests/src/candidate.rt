@@ -1,10 +1,11 @@
 //! A candidate of the voters 1, 2 and 3.
 
-use crate::leader::Led;
+use crate::asserts::assert_right;
 use crate::states::{StateOf, id, voter};
 use raft_base::{EmptyNode, LeaderAdv, LeaderKind, LeaderStd, VoteOf};
-use raft_handlers::{Candidate, HandlerError, VoteResponse};
-use std::alloc::Global;
+use raft_handlers::{Candidate, HandlerError, Leader, VoteResponse};
+use raft_testing::memory::on;
+use std::alloc::{AllocError, Global};
 use std::test::Fail;
 
 /// A candidate over a kind of leader ids.
@@ -52,29 +53,36 @@ pub fn candidate<K: LeaderKind<u64>>(
 /// Whether the candidate of term 6 is elected by votes exactly if it should, and leads then. Term 5
 /// is the greatest that it has heard of, and its own vote is of term 3.
 fn elects<K: LeaderKind<u64>>(
-    alloc: Global,
+    state: &mut StateOf<K>,
     votes: Votes,
     elected: bool,
 ) -> Result<bool, HandlerError> {
-    let mut state = voter::<K>(alloc)?;
-    let mut candidate = Candidate::campaign(1, 5, &mut state)?;
+    let mut candidate = Candidate::campaign(1, 5, state)?;
     let vote = VoteOf::<u64, K>::new(6, 1);
     let request = candidate.request();
-    let is_asked = request.vote == vote
-        && request.last_log_id == id::<K>(Some((2, 4)))
-        && *state.vote.get() == vote;
-    let is_right = count::<K>(&mut candidate, votes) == elected;
-    let leads = match Led::<K>::elected(state, &candidate) {
-        Ok(led) => led.leader.leads(&led.state),
+    let promised = *state.vote.get();
+    let is_elected = count::<K>(&mut candidate, votes);
+    let leads = match Leader::new(state, &candidate) {
+        Ok(leader) => leader.leads(state),
         Err(refused) => refused != HandlerError::NotElected,
     };
-    Ok(is_asked && is_right && leads == elected)
+    let are_right = [
+        request.vote == vote,
+        request.last_log_id == id::<K>(Some((2, 4))),
+        promised == vote,
+        is_elected == elected,
+        leads == elected,
+    ];
+    Ok(are_right == [true; 5])
 }
 
 /// Returns the name of the first row that does not elect exactly if it should.
 fn fails<K: LeaderKind<u64>>(alloc: Global) -> Result<Option<&'static str>, HandlerError> {
     for (name, votes, elected) in ROWS {
-        if !elects::<K>(alloc, *votes, *elected)? {
+        if !on(
+            voter::<K>(alloc),
+            |state| elects::<K>(state, *votes, *elected),
+        )? {
             return Ok(Some(*name));
         }
     }
@@ -83,26 +91,29 @@ fn fails<K: LeaderKind<u64>>(alloc: Global) -> Result<Option<&'static str>, Hand
 
 #[test]
 fn votes_elect(rt: HostRuntime) -> Result<(), Fail> {
-    assert_eq!(rt; fails::<LeaderAdv>(rt.alloc())?, None);
-    assert_eq!(rt; fails::<LeaderStd>(rt.alloc())?, None);
+    assert_right(&rt, fails::<LeaderAdv>(rt.alloc())?);
+    assert_right(&rt, fails::<LeaderStd>(rt.alloc())?);
     Ok(())
 }
 
 /// Why a node that has heard of a term may not campaign, if it may not.
 fn refusal<K: LeaderKind<u64>>(
-    alloc: Global,
+    state: &mut StateOf<K>,
     node: u64,
     term: u64,
-) -> Result<Option<HandlerError>, HandlerError> {
-    let mut state: StateOf<K> = voter::<K>(alloc)?;
-    Ok(Candidate::campaign(node, term, &mut state).err())
+) -> Result<Option<HandlerError>, AllocError> {
+    Ok(Candidate::campaign(node, term, state).err())
 }
 
 #[test]
 fn campaigns_are_refused(rt: HostRuntime) -> Result<(), Fail> {
-    let stranger = refusal::<LeaderStd>(rt.alloc(), 4, 5)?;
-    let last_term = refusal::<LeaderStd>(rt.alloc(), 1, u64::MAX)?;
-    let expected = (Some(HandlerError::NotVoter), Some(HandlerError::NoNextTerm));
-    assert!(rt; (stranger, last_term) == expected);
+    for (node, term, refused) in [
+        (4, 5, HandlerError::NotVoter),
+        (1, u64::MAX, HandlerError::NoNextTerm),
+    ] {
+        let state = voter::<LeaderStd>(rt.alloc());
+        let refusal = on(state, |state| refusal::<LeaderStd>(state, node, term))?;
+        assert!(rt; refusal == Some(refused));
+    }
     Ok(())
 }

@@ -1,12 +1,11 @@
 //! A leader of the voters 1, 2 and 3: what it sends, takes and commits.
 
+use crate::asserts::assert_right;
+use crate::snapshot::request;
 use crate::states::{Entry, Row, StateOf, id, voter};
 use raft_base::{EmptyNode, LeaderAdv, LeaderKind, LeaderStd, VoteOf};
-use raft_handlers::{
-    Candidate, HandlerError, InstallSnapshot, Leader, Outcome, Response, handle_install_snapshot,
-};
+use raft_handlers::{HandlerError, Leader, Outcome, Response, handle_install_snapshot};
 use raft_progress::{InflightError, InflightOf};
-use raft_state::SnapshotMetaOf;
 use std::alloc::Global;
 use std::test::Fail;
 
@@ -58,15 +57,6 @@ enum Right {
     Refused(HandlerError),
 }
 
-/// Whether an answer is right.
-fn is(answer: Result<(), HandlerError>, right: Right) -> bool {
-    match right {
-        Right::Done => answer == Ok(()),
-        Right::Refused(refusal) => answer == Err(refusal),
-        _ => false,
-    }
-}
-
 /// What is sent, if it is right.
 fn sent<K: LeaderKind<u64>>(right: Right) -> Option<InflightOf<K::Committed>> {
     match right {
@@ -81,22 +71,19 @@ fn sent<K: LeaderKind<u64>>(right: Right) -> Option<InflightOf<K::Committed>> {
     }
 }
 
+/// Makes a state's node the leader again, which appends a blank entry (3, 5) and has it on disk.
+fn leader_of<K: LeaderKind<u64>>(state: &mut StateOf<K>) -> Result<LeaderOf<K>, HandlerError> {
+    let mut leader = Leader::resume(1, state)?;
+    let _entry: Entry<K> = leader.propose_blank(state)?;
+    leader.handle_flushed(state, id::<K>(Some((3, 5))))?;
+    Ok(leader)
+}
+
 impl<K: LeaderKind<u64>> Led<K> {
     /// The leader 1 of term 3, whose log is that of `voter` and a blank entry (3, 5), which is on
     /// disk.
     pub fn new(mut state: StateOf<K>) -> Result<Self, HandlerError> {
-        let mut leader = Leader::resume(1, &state)?;
-        let _entry: Entry<K> = leader.propose_blank(&mut state)?;
-        leader.handle_flushed(&state, id::<K>(Some((3, 5))))?;
-        Ok(Led { state, leader })
-    }
-
-    /// An elected candidate, as the leader.
-    pub fn elected(
-        mut state: StateOf<K>,
-        candidate: &Candidate<u64, EmptyNode, K::Leader, K::Committed>,
-    ) -> Result<Self, HandlerError> {
-        let leader = Leader::new(&mut state, candidate)?;
+        let leader = leader_of::<K>(&mut state)?;
         Ok(Led { state, leader })
     }
 
@@ -120,61 +107,65 @@ impl<K: LeaderKind<u64>> Led<K> {
         self.leader.propose(&mut self.state, 7)
     }
 
-    /// Whether something new is committed exactly if that is right.
-    fn commit(&mut self, right: Right) -> bool {
-        match self.leader.commit(&mut self.state) {
-            Ok(more) => more == matches!(right, Right::Done),
-            Err(_) => false,
+    /// Commits, and returns whether something new is committed.
+    fn commit(&mut self) -> Option<bool> {
+        self.leader.commit(&mut self.state).ok()
+    }
+
+    /// Hears of a higher vote, and returns whether the leader must step down then, and not before.
+    fn promise(&mut self) -> bool {
+        let before = self.leader.must_step_down(&self.state);
+        let is_promised = self.state.promise(VoteOf::<u64, K>::new(4, 2));
+        let then = self.leader.must_step_down(&self.state);
+        (before, is_promised, then) == (false, true, true)
+    }
+
+    /// Takes the response of a node to a request of the leader of term 2.
+    fn take_foreign(&mut self, from: u64, request: u64, upto: Row) -> Result<(), HandlerError> {
+        let response = Response::<K::Leader, K::Committed> {
+            leader_id: K::new_committed(2, 2),
+            request: Some(request),
+            outcome: Outcome::Matches(id::<K>(upto)),
+        };
+        self.leader.handle_response(&from, &response)
+    }
+
+    /// Makes a step that is done or refused.
+    fn make(&mut self, step: Step) -> Result<(), HandlerError> {
+        match step {
+            Step::Take(from, request, upto) => {
+                self.take(from, request, Outcome::Matches(id::<K>(upto)))
+            }
+            Step::Conflict(from, request, at) => self.take(from, request, Outcome::Conflict(at)),
+            Step::Depose(from) => {
+                let vote = VoteOf::<u64, K>::new(4, 2);
+                self.take(from, 1, Outcome::HigherVote(vote))
+            }
+            Step::Foreign(from, request, upto) => self.take_foreign(from, request, upto),
+            Step::Flush(upto) => self.leader.handle_flushed(&self.state, id::<K>(upto)),
+            Step::GiveUp(to) => {
+                self.leader.give_up(&to);
+                Ok(())
+            }
+            Step::Propose => {
+                let _entry = self.propose()?;
+                Ok(())
+            }
+            // `meets` compares what these return.
+            Step::Send(_) | Step::Commit | Step::Promise => Ok(()),
         }
     }
 
     /// Whether a step has the right result.
     fn meets(&mut self, step: Step, right: Right) -> bool {
-        match step {
-            Step::Send(to) => self.leader.next_request(&self.state, &to, 8) == sent::<K>(right),
-            Step::Take(from, request, upto) => {
-                is(
-                    self.take(from, request, Outcome::Matches(id::<K>(upto))),
-                    right,
-                )
+        match (step, right) {
+            (Step::Send(to), _) => {
+                self.leader.next_request(&self.state, &to, 8) == sent::<K>(right)
             }
-            Step::Conflict(from, request, at) => {
-                is(self.take(from, request, Outcome::Conflict(at)), right)
-            }
-            Step::Depose(from) => {
-                let vote = VoteOf::<u64, K>::new(4, 2);
-                is(self.take(from, 1, Outcome::HigherVote(vote)), right)
-            }
-            Step::Foreign(from, request, upto) => {
-                let response = Response::<K::Leader, K::Committed> {
-                    leader_id: K::new_committed(2, 2),
-                    request: Some(request),
-                    outcome: Outcome::Matches(id::<K>(upto)),
-                };
-                is(self.leader.handle_response(&from, &response), right)
-            }
-            Step::GiveUp(to) => {
-                self.leader.give_up(&to);
-                true
-            }
-            Step::Flush(upto) => {
-                is(
-                    self.leader.handle_flushed(&self.state, id::<K>(upto)),
-                    right,
-                )
-            }
-            Step::Commit => self.commit(right),
-            Step::Propose => {
-                match self.propose() {
-                    Ok(_) => is(Ok(()), right),
-                    Err(refusal) => is(Err(refusal), right),
-                }
-            }
-            Step::Promise => {
-                !self.leader.must_step_down(&self.state)
-                    && self.state.promise(VoteOf::<u64, K>::new(4, 2))
-                    && self.leader.must_step_down(&self.state)
-            }
+            (Step::Commit, _) => self.commit() == Some(matches!(right, Right::Done)),
+            (Step::Promise, _) => self.promise(),
+            (_, Right::Refused(refusal)) => self.make(step) == Err(refusal),
+            _ => self.make(step) == Ok(()),
         }
     }
 
@@ -302,31 +293,30 @@ fn life<K: LeaderKind<u64>>(alloc: Global) -> Result<Option<&'static str>, Handl
     Ok(led.fails(LIFE))
 }
 
+/// Installs the snapshot from which the leader's log begins.
+fn install<K: LeaderKind<u64>>(state: &mut StateOf<K>, alloc: Global) -> Result<(), HandlerError> {
+    let _response = handle_install_snapshot(state, &request::<K>(alloc, 3, START)?)?;
+    Ok(())
+}
+
 /// Returns the name of the first row of a snapshot that is lost with another result.
 fn lost_snapshot<K: LeaderKind<u64>>(alloc: Global) -> Result<Option<&'static str>, HandlerError> {
     let mut state = voter::<K>(alloc)?;
-    let mut meta = SnapshotMetaOf::<K::Committed, _, _>::try_default(alloc)?;
-    meta.last_log_id = id::<K>(START);
-    let request = InstallSnapshot {
-        leader_id: VoteOf::<u64, K>::new(3, 1).leader_id,
-        request: 1,
-        meta,
-    };
-    let _response = handle_install_snapshot(&mut state, &request)?;
+    install::<K>(&mut state, alloc)?;
     let mut led = Led::<K>::new(state)?;
     Ok(led.fails(SNAPSHOT))
 }
 
 #[test]
 fn a_leader_sends_and_commits(rt: HostRuntime) -> Result<(), Fail> {
-    assert_eq!(rt; life::<LeaderAdv>(rt.alloc())?, None);
-    assert_eq!(rt; life::<LeaderStd>(rt.alloc())?, None);
+    assert_right(&rt, life::<LeaderAdv>(rt.alloc())?);
+    assert_right(&rt, life::<LeaderStd>(rt.alloc())?);
     Ok(())
 }
 
 #[test]
 fn a_lost_snapshot_is_sent_again(rt: HostRuntime) -> Result<(), Fail> {
-    assert_eq!(rt; lost_snapshot::<LeaderAdv>(rt.alloc())?, None);
-    assert_eq!(rt; lost_snapshot::<LeaderStd>(rt.alloc())?, None);
+    assert_right(&rt, lost_snapshot::<LeaderAdv>(rt.alloc())?);
+    assert_right(&rt, lost_snapshot::<LeaderStd>(rt.alloc())?);
     Ok(())
 }

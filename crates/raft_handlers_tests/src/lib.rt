@@ -6,6 +6,8 @@ mod allocations;
 #[cfg(test)]
 mod append;
 #[cfg(test)]
+mod asserts;
+#[cfg(test)]
 mod candidate;
 #[cfg(test)]
 mod change;

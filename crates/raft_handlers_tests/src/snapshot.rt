@@ -1,86 +1,127 @@
 //! Requests to install a snapshot.
 
-use crate::states::{Answer, Row, follower, id};
-use raft_base::{LeaderAdv, LeaderKind, LeaderStd, LogStateReader, VoteOf};
-use raft_handlers::{HandlerError, InstallSnapshot, Outcome, handle_install_snapshot};
+use crate::asserts::assert_right;
+use crate::states::{Answer, Row, StateOf, due, follower, id, is_at};
+use raft_base::{EmptyNode, LeaderAdv, LeaderKind, LeaderStd, VoteOf};
+use raft_handlers::{HandlerError, InstallSnapshot, handle_install_snapshot};
 use raft_state::SnapshotMetaOf;
+use raft_testing::memory::on;
 use std::alloc::{AllocError, Global};
 use std::test::Fail;
 
-/// Whether a follower answers a snapshot up to a row, which the leader 1 of a term sends, as it
-/// should, and then has this last log id, this committed one, and this index after the purged ones.
-fn answers<K: LeaderKind<u64>>(
+/// A request over a kind of leader ids.
+pub type Install<K> = InstallSnapshot<
+    <K as LeaderKind<u64>>::Leader,
+    <K as LeaderKind<u64>>::Committed,
+    u64,
+    EmptyNode,
+>;
+
+/// The last log id of the follower, the committed one, and the last log id of a snapshot past them.
+const END: Row = Some((2, 3));
+
+const FIRST: Row = Some((1, 1));
+
+const PAST: Row = Some((3, 9));
+
+/// The term of the leader 1 that sends a snapshot up to a row, what the follower answers, and then
+/// its last log id, the committed one, and the index after the purged ones.
+const ROWS: &[(&str, u64, Row, Answer, Row, Row, u64)] = &[
+    (
+        "a snapshot past the log takes its place",
+        3,
+        PAST,
+        Answer::Matches(PAST),
+        PAST,
+        PAST,
+        10,
+    ),
+    (
+        "a snapshot within the log stays before the rest",
+        3,
+        Some((2, 2)),
+        Answer::Matches(Some((2, 2))),
+        END,
+        Some((2, 2)),
+        3,
+    ),
+    (
+        "all of the snapshot is committed",
+        3,
+        FIRST,
+        Answer::Matches(FIRST),
+        END,
+        FIRST,
+        0,
+    ),
+    (
+        "the leader is of an earlier term",
+        2,
+        PAST,
+        Answer::HigherVote,
+        END,
+        FIRST,
+        0,
+    ),
+    (
+        "no index is after the snapshot",
+        3,
+        Some((3, u64::MAX)),
+        Answer::Refused(HandlerError::SnapshotDoesNotFit),
+        END,
+        FIRST,
+        0,
+    ),
+];
+
+/// The request 7 of the leader 1 of a term to install the snapshot up to a row.
+pub fn request<K: LeaderKind<u64>>(
     alloc: Global,
-    (term, upto): (u64, Row),
-    right: (Answer, Row, Row, u64),
-) -> Result<bool, AllocError> {
-    let mut state = follower::<K>(alloc, Some((1, 1)))?;
-    let mut meta = SnapshotMetaOf::<K::Committed, _, _>::try_default(alloc)?;
+    term: u64,
+    upto: Row,
+) -> Result<Install<K>, AllocError> {
+    let mut meta = SnapshotMetaOf::try_default(alloc)?;
     meta.last_log_id = id::<K>(upto);
-    let request = InstallSnapshot {
+    Ok(InstallSnapshot {
         leader_id: VoteOf::<u64, K>::new(term, 1).leader_id,
         request: 7,
         meta,
-    };
-    let is_answered = match (handle_install_snapshot(&mut state, &request), right.0) {
-        (Ok(response), right) => {
-            response.request == Some(7)
-                && match (response.outcome, right) {
-                    (Outcome::Matches(upto), Answer::Matches(right)) => upto == id::<K>(right),
-                    (Outcome::HigherVote(_), Answer::HigherVote) => true,
-                    _ => false,
-                }
-        }
-        (Err(refused), Answer::Refused(right)) => refused == right,
-        _ => false,
-    };
-    Ok(
-        is_answered
-            && state.last_log_id().copied() == id::<K>(right.1)
-            && state.committed == id::<K>(right.2)
-            && state.purged_next == right.3
-            && state.is_sound(),
-    )
+    })
 }
 
-/// Whether each row is answered as it should be.
-fn all_answer<K: LeaderKind<u64>>(alloc: Global) -> Result<bool, AllocError> {
-    let end = Some((2, 3));
-    let first = Some((1, 1));
-    let past = Some((3, 9));
-    let last = Some((3, u64::MAX));
-    let rows = [
-        // A snapshot past the log takes its place, and one within it stays before the rest.
-        ((3, past), (Answer::Matches(past), past, past, 10)),
-        (
-            (3, Some((2, 2))),
-            (Answer::Matches(Some((2, 2))), end, Some((2, 2)), 3),
-        ),
-        // All of it is committed.
-        ((3, first), (Answer::Matches(first), end, first, 0)),
-        // The leader is of an earlier term.
-        ((2, past), (Answer::HigherVote, end, first, 0)),
-        // No index is after it.
-        (
-            (3, last),
-            (
-                Answer::Refused(HandlerError::SnapshotDoesNotFit),
-                end,
-                first,
-                0,
-            ),
-        ),
+/// Whether a follower answers a request as it should, and is then as it should be.
+fn answers<K: LeaderKind<u64>>(
+    state: &mut StateOf<K>,
+    alloc: Global,
+    row: &(&str, u64, Row, Answer, Row, Row, u64),
+) -> Result<bool, AllocError> {
+    let (_, term, upto, answer, last, committed, purged_next) = *row;
+    let made = handle_install_snapshot(state, &request::<K>(alloc, term, upto)?);
+    let are_right = [
+        made == due::<K>(term, answer),
+        state.purged_next == purged_next,
+        is_at::<K>(state, last, committed),
     ];
-    let mut is_right = true;
-    for (sent, right) in rows {
-        is_right &= answers::<K>(alloc, sent, right)?;
+    Ok(are_right == [true; 3])
+}
+
+/// Returns the name of the first row that a follower does not answer as it should.
+fn fails<K: LeaderKind<u64>>(alloc: Global) -> Result<Option<&'static str>, AllocError> {
+    for row in ROWS {
+        let is_right = on(
+            follower::<K>(alloc, FIRST),
+            |state| answers::<K>(state, alloc, row),
+        )?;
+        if !is_right {
+            return Ok(Some(row.0));
+        }
     }
-    Ok(is_right)
+    Ok(None)
 }
 
 #[test]
 fn snapshots_are_answered(rt: HostRuntime) -> Result<(), Fail> {
-    assert!(rt; all_answer::<LeaderAdv>(rt.alloc())?);
-    assert!(rt; all_answer::<LeaderStd>(rt.alloc())?);
+    assert_right(&rt, fails::<LeaderAdv>(rt.alloc())?);
+    assert_right(&rt, fails::<LeaderStd>(rt.alloc())?);
     Ok(())
 }

@@ -1,34 +1,54 @@
 //! The start of a cluster, and a restart.
 
-use crate::states::{StateOf, entries, id, members};
-use raft_base::{EmptyNode, LeaderAdv, LeaderKind, LeaderStd, LogStateReader, VoteOf};
+use crate::states::{StateOf, entries, id, is_at, members};
+use raft_base::{EmptyNode, LeaderAdv, LeaderKind, LeaderStd, LogIdOf, LogStateReader, VoteOf};
 use raft_handlers::{HandlerError, Stored, restart_server, start_cluster};
 use raft_members::Membership;
 use raft_state::SnapshotMetaOf;
+use raft_testing::memory::{both, on};
 use std::alloc::{AllocError, Global};
 use std::collections::{BTreeMap, BTreeSet};
 use std::test::Fail;
 
+/// Starts a cluster, and returns the log id of its only entry.
+fn start<K: LeaderKind<u64>>(
+    state: &mut StateOf<K>,
+    id: u64,
+    members: Membership<u64, EmptyNode>,
+) -> Result<Option<LogIdOf<K::Committed>>, HandlerError> {
+    let entries = start_cluster::<_, _, _, _, u64>(state, &id, members)?;
+    match entries.as_slice() {
+        [entry] => Ok(Some(entry.log_id)),
+        _ => Ok(None),
+    }
+}
+
 /// Whether a new server that is a member starts a cluster, once.
-fn starts_once<K: LeaderKind<u64>>(alloc: Global) -> Result<bool, HandlerError> {
-    let mut state = StateOf::<K>::try_default(alloc)?;
-    let other = start_cluster::<_, _, _, _, u64>(&mut state, &4, members(alloc)?);
-    let entries = start_cluster::<_, _, _, _, u64>(&mut state, &1, members(alloc)?)?;
-    let again = start_cluster::<_, _, _, _, u64>(&mut state, &1, members(alloc)?);
-    Ok(
-        other.is_err()
-            && again.is_err()
-            && entries.len() == 1
-            && state.last_log_id().copied() == entries.last().map(|entry| entry.log_id)
-            && state.is_voter(&2)
-            && state.is_sound(),
-    )
+fn starts_once<K: LeaderKind<u64>>(
+    state: &mut StateOf<K>,
+    alloc: Global,
+) -> Result<bool, HandlerError> {
+    let other = start::<K>(state, 4, members(alloc)?);
+    let first = start::<K>(state, 1, members(alloc)?);
+    let again = start::<K>(state, 1, members(alloc)?);
+    let are_right = [
+        other.is_err(),
+        first == Ok(state.last_log_id().copied()),
+        state.last_log_id().is_some(),
+        again.is_err(),
+        state.is_voter(&2),
+        state.is_sound(),
+    ];
+    Ok(are_right == [true; 6])
 }
 
 #[test]
 fn a_cluster_starts_once(rt: HostRuntime) -> Result<(), Fail> {
-    assert!(rt; starts_once::<LeaderAdv>(rt.alloc()) == Ok(true));
-    assert!(rt; starts_once::<LeaderStd>(rt.alloc()) == Ok(true));
+    let alloc = rt.alloc();
+    let default = StateOf::<LeaderAdv>::try_default(alloc);
+    assert!(rt; on(default, |state| starts_once::<LeaderAdv>(state, alloc)) == Ok(true));
+    let standard = StateOf::<LeaderStd>::try_default(alloc);
+    assert!(rt; on(standard, |state| starts_once::<LeaderStd>(state, alloc)) == Ok(true));
     Ok(())
 }
 
@@ -38,40 +58,53 @@ fn no_voter(alloc: Global) -> Result<Membership<u64, EmptyNode>, AllocError> {
     Membership::new_unchecked(vec![in alloc; BTreeSet::new(alloc)]?, nodes)
 }
 
-/// Why a cluster without a voter is not started.
-fn refusal<K: LeaderKind<u64>>(alloc: Global) -> Result<Option<HandlerError>, HandlerError> {
-    let mut state = StateOf::<K>::try_default(alloc)?;
-    Ok(start_cluster::<_, _, _, _, u64>(&mut state, &1, no_voter(alloc)?).err())
-}
-
 #[test]
 fn a_cluster_needs_voters(rt: HostRuntime) -> Result<(), Fail> {
-    assert!(rt; refusal::<LeaderAdv>(rt.alloc())? == Some(HandlerError::InvalidMembership));
+    let alloc = rt.alloc();
+    let state = StateOf::<LeaderAdv>::try_default(alloc);
+    let refused = on(
+        state,
+        |state| start::<LeaderAdv>(state, 1, no_voter(alloc)?),
+    );
+    assert!(rt; refused == Err(HandlerError::InvalidMembership));
     Ok(())
 }
 
-/// Whether a server that restarts with three entries has its vote and its log again, and what was
-/// applied of it is committed.
-fn restarts<K: LeaderKind<u64>>(alloc: Global) -> Result<bool, HandlerError> {
-    let vote = VoteOf::<u64, K>::new(3, 2);
-    let stored = Stored {
-        vote,
-        snapshot: SnapshotMetaOf::try_default(alloc)?,
-        entries: entries::<K>(alloc, &[(1, 0), (1, 1), (2, 2)])?,
+/// What a server has on disk, over a kind of leader ids.
+type StoredOf<K> = Stored<
+    <K as LeaderKind<u64>>::Leader,
+    <K as LeaderKind<u64>>::Committed,
+    u64,
+    EmptyNode,
+    u64,
+>;
+
+/// Three entries on disk, of which all up to (1, 1) is applied.
+fn stored<K: LeaderKind<u64>>(alloc: Global) -> Result<StoredOf<K>, AllocError> {
+    let entries = entries::<K>(alloc, &[(1, 0), (1, 1), (2, 2)]);
+    let (snapshot, entries) = both(SnapshotMetaOf::try_default(alloc), entries)?;
+    Ok(Stored {
+        vote: VoteOf::<u64, K>::new(3, 2),
+        snapshot,
+        entries,
         committed: id::<K>(Some((1, 1))),
-    };
-    let state: StateOf<K> = restart_server(alloc, &stored)?;
-    Ok(
-        *state.vote.get() == vote
-            && state.last_log_id().copied() == id::<K>(Some((2, 2)))
-            && state.committed == stored.committed
-            && state.is_sound(),
-    )
+    })
+}
+
+/// Whether a server that restarts with these entries has its vote and its log again, and what was
+/// applied of it is committed.
+fn restarts<K: LeaderKind<u64>>(alloc: Global, stored: &StoredOf<K>) -> Result<bool, HandlerError> {
+    let state: StateOf<K> = restart_server(alloc, stored)?;
+    let is_voted = *state.vote.get() == stored.vote;
+    Ok(is_voted && is_at::<K>(&state, Some((2, 2)), Some((1, 1))))
 }
 
 #[test]
 fn a_restart_keeps_vote_and_log(rt: HostRuntime) -> Result<(), Fail> {
-    assert!(rt; restarts::<LeaderAdv>(rt.alloc()) == Ok(true));
-    assert!(rt; restarts::<LeaderStd>(rt.alloc()) == Ok(true));
+    let alloc = rt.alloc();
+    let default = stored::<LeaderAdv>(alloc);
+    assert!(rt; on(default, |stored| restarts::<LeaderAdv>(alloc, stored)) == Ok(true));
+    let standard = stored::<LeaderStd>(alloc);
+    assert!(rt; on(standard, |stored| restarts::<LeaderStd>(alloc, stored)) == Ok(true));
     Ok(())
 }

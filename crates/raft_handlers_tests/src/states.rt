@@ -1,9 +1,10 @@
 //! States of servers, as plain rows over any kind of leader ids. The nodes are 1, 2 and 3.
 
-use raft_base::{EmptyNode, LeaderKind, LogIdOf, UTime, VoteOf};
-use raft_handlers::{HandlerError, State};
+use raft_base::{EmptyNode, LeaderKind, LogIdOf, LogStateReader, UTime, VoteOf};
+use raft_handlers::{HandlerError, Outcome, Response, State};
 use raft_members::Membership;
 use raft_state::{EntryOf, EntryPayload, LogIdListOf, is_key_list};
+use raft_testing::memory::both;
 use std::alloc::{AllocError, Global};
 use std::collections::{BTreeMap, BTreeSet};
 
@@ -65,22 +66,50 @@ pub fn follower<K: LeaderKind<u64>>(
     Ok(state)
 }
 
+/// The entry at a row with a membership of the voters 1, 2 and 3.
+pub fn entry_of_members<K: LeaderKind<u64>>(
+    alloc: Global,
+    at: Row,
+) -> Result<Vec<Entry<K>>, AllocError> {
+    let payload = EntryPayload::Membership(members(alloc)?);
+    let mut entries = Vec::new(alloc);
+    if let Some(log_id) = id::<K>(at) {
+        entries.extend(Some(Entry::<K> { log_id, payload }))?;
+    }
+    Ok(entries)
+}
+
+/// Appends entries, if they may be appended.
+fn extend<K: LeaderKind<u64>>(
+    state: &mut StateOf<K>,
+    entries: &[Entry<K>],
+) -> Result<(), AllocError> {
+    if state.can_append_entries(entries) {
+        state.append_entries(entries)?;
+    }
+    Ok(())
+}
+
 /// The server `follower`, with a membership of the voters 1, 2 and 3 at (2, 4), which is effective.
 pub fn voter<K: LeaderKind<u64>>(alloc: Global) -> Result<StateOf<K>, AllocError> {
-    let mut state = follower::<K>(alloc, None)?;
-    let mut entries = Vec::new(alloc);
-    entries.extend(Some(Entry::<K> {
-        log_id: LogIdOf::new(K::new_committed(2, 1), 4),
-        payload: EntryPayload::Membership(members(alloc)?),
-    }))?;
-    if state.can_append_entries(&entries) {
-        state.append_entries(&entries)?;
-    }
+    let entries = entry_of_members::<K>(alloc, Some((2, 4)));
+    let (mut state, entries) = both(follower::<K>(alloc, None), entries)?;
+    extend::<K>(&mut state, &entries)?;
     Ok(state)
 }
 
+/// Whether a server is sound, and has the last log id and the committed one of these rows.
+pub fn is_at<K: LeaderKind<u64>>(state: &StateOf<K>, last: Row, committed: Row) -> bool {
+    let are_right = [
+        state.last_log_id().copied() == id::<K>(last),
+        state.committed == id::<K>(committed),
+        state.is_sound(),
+    ];
+    are_right == [true; 3]
+}
+
 /// What a server answers to a request.
-#[derive(Debug, Clone, Copy, PartialEq, Eq)]
+#[derive(Clone, Copy)]
 pub enum Answer {
     /// Its log matches up to this row.
     Matches(Row),
@@ -90,4 +119,22 @@ pub enum Answer {
     HigherVote,
     /// It refuses.
     Refused(HandlerError),
+}
+
+/// The response of the server `follower` to the request 7 of the leader 1 of a term.
+pub fn due<K: LeaderKind<u64>>(
+    term: u64,
+    answer: Answer,
+) -> Result<Response<K::Leader, K::Committed>, HandlerError> {
+    let outcome = match answer {
+        Answer::Matches(upto) => Outcome::Matches(id::<K>(upto)),
+        Answer::Conflict(at) => Outcome::Conflict(at),
+        Answer::HigherVote => Outcome::HigherVote(VoteOf::<u64, K>::new_committed(3, 1)),
+        Answer::Refused(refusal) => return Err(refusal),
+    };
+    Ok(Response {
+        leader_id: K::new_committed(term, 1),
+        request: Some(7),
+        outcome,
+    })
 }

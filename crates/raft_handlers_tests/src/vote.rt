@@ -1,57 +1,72 @@
 //! Requests for a vote.
 
-use crate::states::{Row, follower, id};
+use crate::asserts::assert_right;
+use crate::states::{Row, StateOf, follower, id};
 use raft_base::{LeaderAdv, LeaderKind, LeaderStd, VoteOf};
-use raft_handlers::{VoteRequest, handle_vote_request};
+use raft_handlers::{VoteRequest, VoteResponse, handle_vote_request};
+use raft_testing::memory::on;
 use std::alloc::{AllocError, Global};
 use std::test::Fail;
 
-/// Whether a server that has promised term 3 to node 1, and whose last log id is (2, 3), grants a
-/// vote to a node in a term, whose last log id is the row, exactly if it should.
+/// The term and the node of a vote, the last log id of the candidate, and whether a server grants
+/// the vote that has promised term 3 to node 1, and whose last log id is (2, 3).
+const ROWS: &[(&str, (u64, u64), Row, bool)] = &[
+    ("a log as long", (4, 2), Some((2, 3)), true),
+    (
+        "a log that ends with a later term",
+        (4, 2),
+        Some((3, 0)),
+        true,
+    ),
+    ("a shorter log", (4, 2), Some((2, 2)), false),
+    (
+        "a log that ends with an earlier term",
+        (4, 2),
+        Some((1, 9)),
+        false,
+    ),
+    ("an empty log", (4, 2), None, false),
+    ("an earlier term", (2, 2), Some((2, 3)), false),
+    (
+        "its own vote, which is committed",
+        (3, 1),
+        Some((2, 3)),
+        false,
+    ),
+];
+
+/// Whether a server grants the vote of a row exactly if it should, and has promised it exactly then.
 fn answers<K: LeaderKind<u64>>(
-    alloc: Global,
-    (term, node): (u64, u64),
-    last: Row,
-    granted: bool,
+    state: &mut StateOf<K>,
+    row: &(&str, (u64, u64), Row, bool),
 ) -> Result<bool, AllocError> {
-    let mut state = follower::<K>(alloc, None)?;
+    let (_, (term, node), last, granted) = *row;
     let request = VoteRequest {
         vote: VoteOf::<u64, K>::new(term, node),
         last_log_id: id::<K>(last),
     };
-    let response = handle_vote_request(&mut state, &request);
     let vote = if granted {
         request.vote
     } else {
         VoteOf::<u64, K>::new_committed(3, 1)
     };
-    Ok(response.granted == granted && response.vote == vote && *state.vote.get() == vote)
+    let is_right = handle_vote_request(state, &request) == VoteResponse { vote, granted };
+    Ok(is_right && *state.vote.get() == vote)
 }
 
-/// Whether each row is answered as it should be.
-fn all_answer<K: LeaderKind<u64>>(alloc: Global) -> Result<bool, AllocError> {
-    let rows = [
-        // The vote is above its own, and the log is as long, or ends with a later term.
-        ((4, 2), Some((2, 3)), true),
-        ((4, 2), Some((3, 0)), true),
-        // The log is shorter, ends with an earlier term, or is empty.
-        ((4, 2), Some((2, 2)), false),
-        ((4, 2), Some((1, 9)), false),
-        ((4, 2), None, false),
-        // The vote is below its own: the term is, or its own is committed.
-        ((2, 2), Some((2, 3)), false),
-        ((3, 1), Some((2, 3)), false),
-    ];
-    let mut is_right = true;
-    for (vote, last, granted) in rows {
-        is_right &= answers::<K>(alloc, vote, last, granted)?;
+/// Returns the name of the first row that is not answered as it should be.
+fn fails<K: LeaderKind<u64>>(alloc: Global) -> Result<Option<&'static str>, AllocError> {
+    for row in ROWS {
+        if !on(follower::<K>(alloc, None), |state| answers::<K>(state, row))? {
+            return Ok(Some(row.0));
+        }
     }
-    Ok(is_right)
+    Ok(None)
 }
 
 #[test]
 fn votes_are_granted_by_vote_and_log(rt: HostRuntime) -> Result<(), Fail> {
-    assert!(rt; all_answer::<LeaderAdv>(rt.alloc())?);
-    assert!(rt; all_answer::<LeaderStd>(rt.alloc())?);
+    assert_right(&rt, fails::<LeaderAdv>(rt.alloc())?);
+    assert_right(&rt, fails::<LeaderStd>(rt.alloc())?);
     Ok(())
 }
