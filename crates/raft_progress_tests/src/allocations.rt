@@ -1,6 +1,8 @@
 //! Progresses, replays and searches, with each allocation refused in turn or all of them.
 
 use super::{catch_up, entry, inflight, search, vec_progress};
+use crate::search::wrong_search;
+use crate::support::entry_rows::wrong_row;
 use crate::support::members::{TrackedNumbers, members};
 use crate::support::quorums::of_five;
 use crate::support::rows::{self, Numbers};
@@ -15,7 +17,7 @@ use raft_testing::allocations::{
     Allocation, is_free, is_free_on, is_swept, is_swept_by, refuse_each,
 };
 use raft_testing::memory::both;
-use raft_testing::plain_log::{PlainLog, log_below};
+use raft_testing::plain_log::{PlainLog, id, log_below};
 use std::alloc::{AllocError, Global};
 use std::io;
 use std::process::Abort;
@@ -382,38 +384,29 @@ fn no_allocations_of_quorums(rt: HostRuntime) -> Result<(), Fail> {
 
 type Leader = LeaderId<u64>;
 
-/// Whether responses, sends and searches of entries are as worked, and entries are validated.
-fn searches_are_as_worked(log: &PlainLog<Leader>, purged: &PlainLog<Leader>) -> bool {
-    let are_right = [
-        entry::searches(log),
-        entry::takes_heartbeats(log),
-        entry::stands_strangers(log),
-        entry::is_validated::<Leader>(),
-        entry::reads_back::<Leader>(),
-        search::halves(log),
-        search::ends_with_a_snapshot(purged, log),
-        catch_up::can_be_caught_up(log, purged),
-    ];
-    !are_right.contains(&false)
+/// Returns which row of entries or of searches is wrong, over a log from 0 to 99, and over one from
+/// 0 to 20 that is to be purged up to index 4.
+fn wrong_of_searches<'a>(log: &PlainLog<Leader>, purged: &PlainLog<Leader>) -> Option<&'a str> {
+    wrong_row(log, entry::HUNDRED)
+        .or(wrong_row(log, catch_up::HUNDRED))
+        .or(wrong_row(purged, catch_up::PURGED))
+        .or(wrong_search(log, log, search::HALVES))
+        .or(wrong_search(purged, log, search::ENDS))
 }
 
 #[test]
 fn no_allocations_of_searches(rt: HostRuntime) -> Result<(), Fail> {
     let alloc = rt.alloc();
     let name = "ProgressEntry and search_run";
-    let logs = both(log_below(alloc, 100, None), purged_log(alloc));
+    let purged = purged_log(alloc, 21, 4, id(1, 6));
+    let logs = both(log_below(alloc, 100, None), purged);
     let is_right = is_free_on(&rt, alloc, name, logs, |logs| {
-        searches_are_as_worked(&logs.0, &logs.1)
+        wrong_of_searches(&logs.0, &logs.1).is_none() && entry::are_made::<Leader>()
     })?;
     assert!(rt; is_right);
     refuse_each(alloc);
-    let are_right = [
-        inflight::acks_are_answered::<Leader>(),
-        inflight::conflicts_are_answered::<Leader>(),
-        inflight::logs_read_back(),
-        inflight::others_read_back(),
-    ];
-    let is_right = !are_right.contains(&false);
+    let wrong = inflight::wrong_response::<Leader>().or(inflight::wrong_read());
+    let is_right = wrong.is_none() && inflight::is_made();
     assert!(rt; is_free(&rt, alloc, "Inflight, responses and reads", is_right)?);
     Ok(())
 }

@@ -3,6 +3,7 @@
 
 pub mod asserts;
 pub mod entry_calls;
+pub mod entry_rows;
 pub mod members;
 pub mod quorums;
 pub mod rows;

@@ -43,10 +43,15 @@ pub fn at<C: Numbered>(
     }
 }
 
-/// A log from 0 to 20, to be purged up to index 4, with a snapshot up to index 6.
-pub fn purged_log<C: Numbered>(alloc: Global) -> Result<PlainLog<C>, AllocError> {
-    let mut log = log_below(alloc, 21, None)?;
-    log.purge_upto = id(1, 4);
-    log.snapshot = id(1, 6);
+/// A log of leader 1 below an end, to be purged up to an index, with a snapshot up to a log id.
+pub fn purged_log<C: Numbered>(
+    alloc: Global,
+    end: u64,
+    purge_upto: u64,
+    snapshot: Option<LogIdOf<C>>,
+) -> Result<PlainLog<C>, AllocError> {
+    let mut log = log_below(alloc, end, None)?;
+    log.purge_upto = id(1, purge_upto);
+    log.snapshot = snapshot;
     Ok(log)
 }
