@@ -1,16 +1,14 @@
 //! Progresses, replays and searches, with each allocation refused in turn or all of them.
 
-use super::{catch_up, entry, inflight, search, vec_progress};
+use super::{catch_up, entry, inflight, search};
 use crate::search::wrong_search;
 use crate::support::entry_rows::wrong_row;
 use crate::support::members::{TrackedNumbers, members};
-use crate::support::quorums::of_five;
-use crate::support::rows::{self, Numbers};
-use crate::support::steps::updated;
+use crate::support::progress_rows::{Numbers, Quorums as _, lived, steps, wrong_row as wrong_call};
 use crate::support::values::purged_log;
 use crate::tracked as worked;
 use raft_base::{EmptyNode, LeaderId};
-use raft_members::quorum::QuorumSet;
+use raft_members::quorum::{AtLeast, QuorumSet};
 use raft_progress::progress::{AnyStep, Progress, Reply, VecProgress, replay_any};
 use raft_progress::tracked::{Step, Tracked, replay};
 use raft_testing::allocations::{
@@ -20,47 +18,29 @@ use raft_testing::memory::both;
 use raft_testing::plain_log::{PlainLog, id, log_below};
 use std::alloc::{AllocError, Global};
 use std::io;
-use std::process::Abort;
 use std::test::Fail;
 
-/// A progress of some voters and one learner at 0.
-fn begun(alloc: Global, voters: &[u64], learner: u64) -> Result<Numbers, AllocError> {
-    let voters = voters.to_vec(alloc)?;
-    if !Numbers::learners_fit(alloc, &voters, &[learner])? {
-        return Err(AllocError);
-    }
-    VecProgress::new(alloc, voters, &[learner], 0)
-}
+/// The voters 1 to 3 and a learner 5 after updates, so that 3 alone is still at 0.
+const MOVED: &str = "
+1,2,3 5 0
+update 1 5 0
+update 2 6 5
+update 5 9 5
+";
 
-/// Updates a progress of the voters 1 to 3 and a learner 5, so that 3 alone is still at 0.
-fn move_on(alloc: Global, progress: &mut Numbers) -> Result<(), AllocError> {
-    let steps = vec![in alloc;
-        AnyStep::Update(1, 5),
-        AnyStep::Update(2, 6),
-        AnyStep::Update(5, 9),
-    ]?;
-    let _replies = replayed(alloc, progress, steps)?;
-    Ok(())
-}
-
-/// The voters 1 to 3 and a learner 5 after these updates.
+/// The progress after these updates.
 fn moved(alloc: Global) -> Result<Numbers, AllocError> {
-    let mut progress = begun(alloc, &[1, 2, 3], 5)?;
-    move_on(alloc, &mut progress)?;
-    Ok(progress)
+    lived(alloc, MOVED)
 }
 
 /// An equal progress, whose learner was 8 and became 5 through `iter_mut` before the updates.
-fn renamed(alloc: Global) -> Result<Numbers, AllocError> {
-    let mut progress = begun(alloc, &[1, 2, 3], 8)?;
-    for entry in progress.iter_mut() {
-        if entry.0 == 8 {
-            entry.0 = 5;
-        }
-    }
-    move_on(alloc, &mut progress)?;
-    Ok(progress)
-}
+const RENAMED: &str = "
+1,2,3 8 0
+rename 8 5
+update 1 5 0
+update 2 6 5
+update 5 9 5
+";
 
 /// Clones a progress.
 fn cloned(allocation: Allocation, progress: &Numbers) -> Result<Numbers, AllocError> {
@@ -103,27 +83,13 @@ fn are_without(replies: &[Reply<u64, u64>], place: usize, others: &[Reply<u64, u
 }
 
 /// Steps of a progress that has moved, with two upgrades.
-const ROWS: [rows::Row; 5] = [
-    rows::Row::Update(3, 4),
-    rows::Row::Upgrade(&[2, 3, 4], &[1], 0),
-    rows::Row::Update(3, 8),
-    rows::Row::Upgrade(&[1, 3], &[], 4),
-    rows::Row::IncreaseTo(3, 9),
-];
-
-/// The steps of the rows without the one at a position.
-fn any_steps(
-    alloc: Global,
-    without: Option<usize>,
-) -> Result<Vec<AnyStep<u64, u64, Vec<u64>>>, AllocError> {
-    let mut steps = Vec::new(alloc);
-    for (place, row) in ROWS.iter().enumerate() {
-        if Some(place) != without {
-            steps.push(rows::step(alloc, row)?)?;
-        }
-    }
-    Ok(steps)
-}
+const STEPS: &str = "
+update 3 4
+upgrade 2,3,4 1 0
+update 3 8
+upgrade 1,3 - 4
+increase 3 9
+";
 
 /// Replays steps of a progress, which has to be in order.
 fn replayed(
@@ -147,8 +113,9 @@ fn others_are_replayed(
         return Ok(false);
     };
     let mut other = moved(alloc)?;
-    let others = replayed(alloc, &mut other, any_steps(alloc, Some(place))?)?;
-    let is_upgrade = matches!(ROWS.get(place), Some(rows::Row::Upgrade(..)));
+    let others = replayed(alloc, &mut other, steps(alloc, STEPS, Some(place))?)?;
+    let row = STEPS.trim().lines().nth(place).unwrap_or("");
+    let is_upgrade = row.starts_with("upgrade");
     Ok(is_upgrade && are_without(replies, place, &others) && other == *left)
 }
 
@@ -177,7 +144,7 @@ fn allocations_of_progresses(rt: HostRuntime) -> Result<(), Fail> {
 fn allocations_of_steps(rt: HostRuntime) -> Result<(), Fail> {
     let begun = |alloc: Global| moved(alloc);
     let call = |allocation: Allocation, progress: &mut Numbers| {
-        let steps = any_steps(allocation.alloc, None)?;
+        let steps = steps(allocation.alloc, STEPS, None)?;
         allocation.refuse();
         replayed(allocation.alloc, progress, steps)
     };
@@ -194,7 +161,7 @@ fn tracked(alloc: Global) -> Result<TrackedNumbers, AllocError> {
 }
 
 /// The worked steps without the one at a position.
-fn steps(
+fn tracked_steps(
     alloc: Global,
     without: Option<usize>,
 ) -> Result<Vec<Step<u64, EmptyNode, u64>>, AllocError> {
@@ -220,7 +187,7 @@ fn others_are_tracked(
         return Ok(false);
     };
     let mut other = tracked(alloc)?;
-    let others = replay(alloc, &mut other, steps(alloc, Some(place))?)?;
+    let others = replay(alloc, &mut other, tracked_steps(alloc, Some(place))?)?;
     let is_change = !matches!(
         worked::ROWS.get(place),
         None | Some((worked::Row::Update(..) | worked::Row::IncreaseTo(..), _))
@@ -260,7 +227,7 @@ fn allocations_of_tracked(rt: HostRuntime) -> Result<(), Fail> {
 fn allocations_of_tracked_steps(rt: HostRuntime) -> Result<(), Fail> {
     let begun = |alloc: Global| tracked(alloc);
     let call = |allocation: Allocation, cluster: &mut TrackedNumbers| {
-        let steps = steps(allocation.alloc, None)?;
+        let steps = tracked_steps(allocation.alloc, None)?;
         allocation.refuse();
         replay(allocation.alloc, cluster, steps)
     };
@@ -279,51 +246,29 @@ fn no_allocations_of_tracked(rt: HostRuntime) -> Result<(), Fail> {
     Ok(())
 }
 
-/// What is granted after a value is increased, where it may be.
-fn increased(progress: &mut Numbers, id: u64, value: u64) -> Option<u64> {
-    if !progress.is_in_order() || progress.would_fall(&id, &value) {
-        return None;
-    }
-    match progress.increase_to(&id, value) {
-        Ok(granted) => Some(*granted),
-        Err(_) => None,
-    }
-}
+/// Calls of the progress that has moved, and what it then reads.
+const GOES_ON: &str = "
+update 1 7 6
+update 9 7 unknown:6
+increase 3 8 7
+write 2 9 8
+set 5 10 yes
+entries 2=9,3=8,1=7,5=10
+value 2 9
+voter 5 no
+index 3 1
+granted 8
+default 0
+counts 7 5
+";
 
-/// What is granted after a value is written by a closure, where it may be.
-fn written(progress: &mut Numbers, id: u64, value: u64) -> Option<u64> {
-    if !progress.is_in_order() || progress.would_fall(&id, &value) {
-        return None;
-    }
-    match progress.update_with(&id, |current| *current = value) {
-        Ok(granted) => Some(*granted),
-        Err(_) => None,
-    }
-}
-
-/// Whether updates of a progress that has moved grant what they should.
-fn are_granted(rt: &impl Abort, progress: &mut Numbers) -> bool {
+/// Whether a progress that has moved goes on as it should, and then differs from what it was.
+fn goes_on(alloc: Global, progress: &mut Numbers, before: &Numbers) -> bool {
+    let was_equal = *progress == *before;
+    let wrong = wrong_call(alloc, progress, GOES_ON, false);
     let are_right = [
-        updated(rt, progress, 1, 7) == Ok(6),
-        updated(rt, progress, 9, 7) == Err(6),
-        increased(progress, 3, 8) == Some(7),
-        written(progress, 2, 9) == Some(8),
-        vec_progress::writes(progress, 5, 10),
-    ];
-    !are_right.contains(&false)
-}
-
-/// Whether it then reads back, and differs from what it was.
-fn reads_back(progress: &Numbers, before: &Numbers) -> bool {
-    let entries = [(2, 9), (3, 8), (1, 7), (5, 10)];
-    let are_right = [
-        progress.iter().copied().eq(entries.iter().copied()),
-        vec_progress::has_value(progress, 2, 9),
-        progress.is_voter(&5) == Some(false),
-        progress.index(&3) == Some(1),
-        *progress.granted() == 8,
-        *progress.default_part() == 0,
-        progress.stat().update_count == 7,
+        was_equal,
+        matches!(wrong, Ok(None)),
         progress.quorum_set().is_quorum(&[1, 3]),
         *progress == *progress,
         *progress != *before,
@@ -331,14 +276,9 @@ fn reads_back(progress: &Numbers, before: &Numbers) -> bool {
     !are_right.contains(&false)
 }
 
-/// Whether it is updated as it should be, and then reads back.
-fn goes_on(rt: &impl Abort, progress: &mut Numbers, before: &Numbers) -> bool {
-    *progress == *before && are_granted(rt, progress) && reads_back(progress, before)
-}
-
 /// Whether a progress that has moved goes on as it should, without an allocation.
 fn goes_on_free(
-    rt: &(impl Abort + Print),
+    rt: &impl Print,
     alloc: Global,
     name: &str,
     progress: Result<Numbers, AllocError>,
@@ -349,7 +289,7 @@ fn goes_on_free(
         alloc,
         name,
         held,
-        |held| goes_on(rt, &mut held.0, &held.1),
+        |held| goes_on(alloc, &mut held.0, &held.1),
     )
 }
 
@@ -360,16 +300,20 @@ fn no_allocations_of_progresses(rt: HostRuntime) -> Result<(), Fail> {
         "VecProgress, updates and reads",
         "VecProgress, those of a clone",
     );
+    let renamed: Numbers = lived(alloc, RENAMED)?;
     assert!(rt; goes_on_free(&rt, alloc, name, moved(alloc))?);
     assert!(rt; goes_on_free(&rt, alloc, of_clone, moved(alloc)?.clone())?);
-    assert!(rt; goes_on_free(&rt, alloc, of_clone, renamed(alloc)?.clone())?);
+    assert!(rt; goes_on_free(&rt, alloc, of_clone, renamed.clone())?);
     Ok(())
 }
 
 #[test]
 fn no_allocations_of_quorums(rt: HostRuntime) -> Result<(), Fail> {
     let alloc = rt.alloc();
-    let (name, three_of_five) = ("is_quorum of an AtLeast", of_five(&rt, alloc, 3));
+    let (name, three_of_five) = (
+        "is_quorum of an AtLeast",
+        AtLeast::of_word(alloc, "3:0,1,2,3,4"),
+    );
     let is_right = is_free_on(&rt, alloc, name, three_of_five, |ids| {
         let are_quorums = [
             ids.is_quorum(&[0, 2, 4]),

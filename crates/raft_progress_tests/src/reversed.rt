@@ -5,11 +5,14 @@ ghost use Rattle.std.specs.Cmp.Rules.{comparing};
 ghost use Rattle.std.specs.Cmp.{partial_order_from_own_ties};
 ghost use Rattle.std.specs.Ordering.{as_partial_cmp, flip_args, nat_cmp, on};
 
-use crate::support::rows::FIRST_RUN;
+use crate::stat::FIRST_RUN;
+use crate::support::asserts::assert_row;
+use crate::support::progress_rows::reply_of;
 use crate::support::steps::{made, updated};
 use raft_base::EmptyNode;
 use raft_members::Membership;
-use raft_progress::progress::{Progress as _, VecProgress};
+use raft_progress::progress::{Progress as _, Reply, VecProgress};
+use raft_testing::words::{number, words};
 use std::alloc::{AllocError, Global};
 use std::cmp::Ordering;
 use std::collections::BTreeSet;
@@ -108,9 +111,14 @@ fn the_order_of_ids_grants_nothing(rt: HostRuntime) -> Result<(), Fail> {
     let alloc = rt.alloc();
     let voters = ids(alloc, &[0, 1, 2, 3, 4])?;
     let mut progress: Progress = made(&rt, alloc, voters, &[Reversed { number: 6 }], 0)?;
-    for (number, value, want) in FIRST_RUN {
-        let answer = updated(&rt, &mut progress, Reversed { number: *number }, *value);
-        assert!(rt; answer == *want, "at ({number}, {value})");
+    for row in FIRST_RUN.trim().lines() {
+        let [_, id, value, ..] = words(row);
+        let number = number(id);
+        let reply = match updated(&rt, &mut progress, Reversed { number }, self::number(value)) {
+            Ok(granted) => Reply::Granted(granted),
+            Err(granted) => Reply::Unknown(granted),
+        };
+        assert_row(&rt, row, reply == reply_of(row));
     }
     Ok(())
 }

@@ -1,12 +1,11 @@
-//! What tests share: assertions, steps of a progress, calls of an entry with a table of their answers,
-//! memberships, quorums of a stated size, values and worked rows.
+//! What tests share: assertions, calls of an entry with a table of their answers, memberships, steps
+//! of a progress, values, and what the words of rows mean.
 
 pub mod asserts;
 pub mod entry_calls;
 pub mod entry_rows;
 pub mod members;
-pub mod quorums;
-pub mod rows;
+pub mod progress_rows;
 pub mod steps;
 pub mod table;
 pub mod values;
