@@ -2,15 +2,18 @@
 
 use super::{catch_up, entry, inflight, search};
 use crate::search::wrong_search;
+use crate::support::asserts::assert_printed;
 use crate::support::entry_rows::wrong_row;
 use crate::support::members::{TrackedNumbers, members};
-use crate::support::progress_rows::{Numbers, Quorums as _, lived, steps, wrong_row as wrong_call};
-use crate::support::values::purged_log;
+use crate::support::progress_rows::{
+    Numbers, Quorums as _, is_step, lived, steps, wrong_row as wrong_call,
+};
+use crate::support::values::{clone_of, purged_log};
 use crate::tracked as worked;
-use raft_base::{EmptyNode, LeaderId};
+use raft_base::LeaderId;
 use raft_members::quorum::{AtLeast, QuorumSet};
 use raft_progress::progress::{AnyStep, Progress, Reply, VecProgress, replay_any};
-use raft_progress::tracked::{Step, Tracked, replay};
+use raft_progress::tracked::{Tracked, replay};
 use raft_testing::allocations::{
     Allocation, is_free, is_free_on, is_swept, is_swept_by, refuse_each,
 };
@@ -67,19 +70,35 @@ type Replies = Vec<Reply<u64, u64>>;
 
 /// The position of the first reply of out of memory.
 fn refused_place(replies: &[Reply<u64, u64>]) -> Option<usize> {
-    replies
-        .iter()
-        .position(|reply| *reply == Reply::OutOfMemory)
+    for (place, reply) in replies.iter().enumerate() {
+        if *reply == Reply::OutOfMemory {
+            return Some(place);
+        }
+    }
+    None
 }
 
 /// Whether replies without the one at a position are others, of which none is out of memory.
 fn are_without(replies: &[Reply<u64, u64>], place: usize, others: &[Reply<u64, u64>]) -> bool {
-    let kept = replies
-        .iter()
-        .enumerate()
-        .filter(|(at, _)| *at != place)
-        .map(|(_, reply)| reply);
-    kept.eq(others.iter()) && refused_place(others).is_none()
+    let mut rest = others.iter();
+    for (at, reply) in replies.iter().enumerate() {
+        if at != place && rest.next() != Some(reply) {
+            return false;
+        }
+    }
+    rest.next().is_none() && refused_place(others).is_none()
+}
+
+/// Whether the step at a position was out of memory, and the other steps replied and left what they
+/// do without it.
+fn are_others<T: PartialEq + Drop>(
+    replies: &Replies,
+    left: &T,
+    place: usize,
+    without: Result<(T, Replies), AllocError>,
+) -> Result<bool, AllocError> {
+    let (other, others) = without?;
+    Ok(are_without(replies, place, &others) && other == *left)
 }
 
 /// Steps of a progress that has moved, with two upgrades.
@@ -103,20 +122,26 @@ fn replayed(
     replay_any(alloc, progress, steps)
 }
 
+/// The progress that has moved, after the steps without the one at a position, and their replies.
+fn replayed_without(alloc: Global, place: usize) -> Result<(Numbers, Replies), AllocError> {
+    let mut progress = moved(alloc)?;
+    let replies = replayed(alloc, &mut progress, steps(alloc, STEPS, Some(place))?)?;
+    Ok((progress, replies))
+}
+
 /// Whether an upgrade was out of memory, and the other steps were carried out as without it.
 fn others_are_replayed(
     alloc: Global,
     replies: &Replies,
     left: &Numbers,
 ) -> Result<bool, AllocError> {
-    let Some(place) = refused_place(replies) else {
-        return Ok(false);
-    };
-    let mut other = moved(alloc)?;
-    let others = replayed(alloc, &mut other, steps(alloc, STEPS, Some(place))?)?;
-    let row = STEPS.trim().lines().nth(place).unwrap_or("");
-    let is_upgrade = row.starts_with("upgrade");
-    Ok(is_upgrade && are_without(replies, place, &others) && other == *left)
+    let place = refused_place(replies).unwrap_or(STEPS.len());
+    match STEPS.trim().lines().nth(place) {
+        Some(row) if row.starts_with("upgrade") => {
+            are_others(replies, left, place, replayed_without(alloc, place))
+        }
+        _ => Ok(false),
+    }
 }
 
 #[test]
@@ -133,17 +158,7 @@ fn allocations_of_progresses(rt: HostRuntime) -> Result<(), Fail> {
     };
     let clone = |allocation: Allocation, progress: &mut Numbers| cloned(allocation, progress);
     let upgrade = |allocation: Allocation, progress: &mut Numbers| upgraded(allocation, progress);
-    let moved = |alloc: Global| moved(alloc);
-    assert!(rt; is_swept(&rt, alloc, "VecProgress::new", nothing, new)?);
-    assert!(rt; is_swept(&rt, alloc, "VecProgress::try_clone", moved, clone)?);
-    assert!(rt; is_swept(&rt, alloc, "Progress::upgrade_quorum_set", moved, upgrade)?);
-    Ok(())
-}
-
-#[test]
-fn allocations_of_steps(rt: HostRuntime) -> Result<(), Fail> {
-    let begun = |alloc: Global| moved(alloc);
-    let call = |allocation: Allocation, progress: &mut Numbers| {
+    let replay = |allocation: Allocation, progress: &mut Numbers| {
         let steps = steps(allocation.alloc, STEPS, None)?;
         allocation.refuse();
         replayed(allocation.alloc, progress, steps)
@@ -151,7 +166,15 @@ fn allocations_of_steps(rt: HostRuntime) -> Result<(), Fail> {
     let is_right = |alloc: Global, made: (&Replies, &Numbers), _: (&Replies, &Numbers)| {
         others_are_replayed(alloc, made.0, made.1)
     };
-    assert!(rt; is_swept_by(&rt, rt.alloc(), "replay_any", begun, call, is_right)?);
+    let moved = |alloc: Global| moved(alloc);
+    let of_new = is_swept(&rt, alloc, "VecProgress::new", nothing, new);
+    assert_printed(&rt, "new", of_new);
+    let of_clone = is_swept(&rt, alloc, "VecProgress::try_clone", moved, clone);
+    assert_printed(&rt, "try_clone", of_clone);
+    let of_upgrade = is_swept(&rt, alloc, "Progress::upgrade_quorum_set", moved, upgrade);
+    assert_printed(&rt, "upgrade_quorum_set", of_upgrade);
+    let of_replay = is_swept_by(&rt, alloc, "replay_any", moved, replay, is_right);
+    assert_printed(&rt, "replay_any", of_replay);
     Ok(())
 }
 
@@ -160,22 +183,16 @@ fn tracked(alloc: Global) -> Result<TrackedNumbers, AllocError> {
     Tracked::new(members(alloc, "1,2")?, 0)
 }
 
-/// The worked steps without the one at a position.
-fn tracked_steps(
-    alloc: Global,
-    without: Option<usize>,
-) -> Result<Vec<Step<u64, EmptyNode, u64>>, AllocError> {
-    let mut steps = Vec::new(alloc);
-    for (place, (row, _)) in worked::ROWS.iter().enumerate() {
-        if Some(place) != without {
-            steps.push(worked::step(alloc, row)?)?;
-        }
-    }
-    Ok(steps)
-}
-
 /// Replies, and what they leave.
 type Left<'a> = (&'a Replies, &'a TrackedNumbers);
+
+/// The membership after the worked steps without the one at a position, and their replies.
+fn tracked_without(alloc: Global, place: usize) -> Result<(TrackedNumbers, Replies), AllocError> {
+    let steps = worked::steps(alloc, worked::STEPS, Some(place))?;
+    let mut cluster = tracked(alloc)?;
+    let replies = replay(alloc, &mut cluster, steps)?;
+    Ok((cluster, replies))
+}
 
 /// Whether a change was out of memory, and the other steps were carried out as without it.
 fn others_are_tracked(
@@ -183,16 +200,13 @@ fn others_are_tracked(
     replies: &Replies,
     left: &TrackedNumbers,
 ) -> Result<bool, AllocError> {
-    let Some(place) = refused_place(replies) else {
-        return Ok(false);
-    };
-    let mut other = tracked(alloc)?;
-    let others = replay(alloc, &mut other, tracked_steps(alloc, Some(place))?)?;
-    let is_change = !matches!(
-        worked::ROWS.get(place),
-        None | Some((worked::Row::Update(..) | worked::Row::IncreaseTo(..), _))
-    );
-    Ok(is_change && are_without(replies, place, &others) && other == *left)
+    let place = refused_place(replies).unwrap_or(worked::STEPS.len());
+    match worked::STEPS.trim().lines().nth(place) {
+        Some(row) if !is_step(row) => {
+            are_others(replies, left, place, tracked_without(alloc, place))
+        }
+        _ => Ok(false),
+    }
 }
 
 #[test]
@@ -216,33 +230,23 @@ fn allocations_of_tracked(rt: HostRuntime) -> Result<(), Fail> {
             reply => Ok(reply),
         }
     };
-    let begun = |alloc: Global| tracked(alloc);
-    assert!(rt; is_swept(&rt, alloc, "Tracked::new", nothing, new)?);
-    assert!(rt; is_swept(&rt, alloc, "Tracked::try_clone", begun, clone)?);
-    assert!(rt; is_swept(&rt, alloc, "Tracked::change_to", begun, change)?);
-    Ok(())
-}
-
-#[test]
-fn allocations_of_tracked_steps(rt: HostRuntime) -> Result<(), Fail> {
-    let begun = |alloc: Global| tracked(alloc);
-    let call = |allocation: Allocation, cluster: &mut TrackedNumbers| {
-        let steps = tracked_steps(allocation.alloc, None)?;
+    let steps = |allocation: Allocation, cluster: &mut TrackedNumbers| {
+        let steps = worked::steps(allocation.alloc, worked::STEPS, None)?;
         allocation.refuse();
         replay(allocation.alloc, cluster, steps)
     };
     let is_right = |alloc: Global, made: Left<'_>, _: Left<'_>| {
         others_are_tracked(alloc, made.0, made.1)
     };
-    assert!(rt; is_swept_by(&rt, rt.alloc(), "replay", begun, call, is_right)?);
-    Ok(())
-}
-
-#[test]
-fn no_allocations_of_tracked(rt: HostRuntime) -> Result<(), Fail> {
-    let alloc = rt.alloc();
-    let both = both(tracked(alloc), tracked(alloc));
-    assert!(rt; is_free_on(&rt, alloc, "Tracked::eq", both, |both| both.0 == both.1)?);
+    let begun = |alloc: Global| tracked(alloc);
+    let of_new = is_swept(&rt, alloc, "Tracked::new", nothing, new);
+    assert_printed(&rt, "new", of_new);
+    let of_clone = is_swept(&rt, alloc, "Tracked::try_clone", begun, clone);
+    assert_printed(&rt, "try_clone", of_clone);
+    let of_change = is_swept(&rt, alloc, "Tracked::change_to", begun, change);
+    assert_printed(&rt, "change_to", of_change);
+    let of_replay = is_swept_by(&rt, alloc, "replay", begun, steps, is_right);
+    assert_printed(&rt, "replay", of_replay);
     Ok(())
 }
 
@@ -293,36 +297,44 @@ fn goes_on_free(
     )
 }
 
-#[test]
-fn no_allocations_of_progresses(rt: HostRuntime) -> Result<(), Fail> {
-    let alloc = rt.alloc();
-    let (name, of_clone) = (
-        "VecProgress, updates and reads",
-        "VecProgress, those of a clone",
-    );
-    let renamed: Numbers = lived(alloc, RENAMED)?;
-    assert!(rt; goes_on_free(&rt, alloc, name, moved(alloc))?);
-    assert!(rt; goes_on_free(&rt, alloc, of_clone, moved(alloc)?.clone())?);
-    assert!(rt; goes_on_free(&rt, alloc, of_clone, renamed.clone())?);
-    Ok(())
+/// Whether some ids are quorums of three of the ids 0 to 4.
+fn are_quorums(three_of_five: &AtLeast<u64>) -> bool {
+    let are_quorums = [
+        three_of_five.is_quorum(&[0, 2, 4]),
+        three_of_five.is_quorum(&[4, 3, 2, 1, 0]),
+        three_of_five.is_quorum(&[0, 2, 9]),
+    ];
+    are_quorums == [true, true, false] && three_of_five.need() == 3
 }
 
 #[test]
-fn no_allocations_of_quorums(rt: HostRuntime) -> Result<(), Fail> {
+fn no_allocations_of_progresses(rt: HostRuntime) -> Result<(), Fail> {
     let alloc = rt.alloc();
-    let (name, three_of_five) = (
+    let name = "VecProgress, updates and reads";
+    assert_printed(&rt, name, goes_on_free(&rt, alloc, name, moved(alloc)));
+    let name = "VecProgress, those of a clone";
+    assert_printed(
+        &rt,
+        name,
+        goes_on_free(&rt, alloc, name, clone_of(moved(alloc))),
+    );
+    let renamed = clone_of(lived(alloc, RENAMED));
+    assert_printed(&rt, name, goes_on_free(&rt, alloc, name, renamed));
+    let (name, three) = (
         "is_quorum of an AtLeast",
         AtLeast::of_word(alloc, "3:0,1,2,3,4"),
     );
-    let is_right = is_free_on(&rt, alloc, name, three_of_five, |ids| {
-        let are_quorums = [
-            ids.is_quorum(&[0, 2, 4]),
-            ids.is_quorum(&[4, 3, 2, 1, 0]),
-            ids.is_quorum(&[0, 2, 9]),
-        ];
-        are_quorums == [true, true, false] && ids.need() == 3
-    })?;
-    assert!(rt; is_right);
+    assert_printed(
+        &rt,
+        name,
+        is_free_on(&rt, alloc, name, three, |three| are_quorums(three)),
+    );
+    let (name, both) = ("Tracked::eq", both(tracked(alloc), tracked(alloc)));
+    assert_printed(
+        &rt,
+        name,
+        is_free_on(&rt, alloc, name, both, |both| both.0 == both.1),
+    );
     Ok(())
 }
 
@@ -342,15 +354,18 @@ fn wrong_of_searches<'a>(log: &PlainLog<Leader>, purged: &PlainLog<Leader>) -> O
 fn no_allocations_of_searches(rt: HostRuntime) -> Result<(), Fail> {
     let alloc = rt.alloc();
     let name = "ProgressEntry and search_run";
-    let purged = purged_log(alloc, 21, 4, id(1, 6));
-    let logs = both(log_below(alloc, 100, None), purged);
-    let is_right = is_free_on(&rt, alloc, name, logs, |logs| {
+    let logs = both(
+        log_below(alloc, 100, None),
+        purged_log(alloc, 21, 4, id(1, 6)),
+    );
+    let of_searches = is_free_on(&rt, alloc, name, logs, |logs| {
         wrong_of_searches(&logs.0, &logs.1).is_none() && entry::are_made::<Leader>()
-    })?;
-    assert!(rt; is_right);
+    });
+    assert_printed(&rt, name, of_searches);
+    let name = "Inflight, responses and reads";
     refuse_each(alloc);
     let wrong = inflight::wrong_response::<Leader>().or(inflight::wrong_read());
     let is_right = wrong.is_none() && inflight::is_made();
-    assert!(rt; is_free(&rt, alloc, "Inflight, responses and reads", is_right)?);
+    assert_printed(&rt, name, is_free(&rt, alloc, name, is_right));
     Ok(())
 }

@@ -49,7 +49,7 @@ fn holds_lease<NID: NodeId, N: Node>(replies: &Tracked<NID, N, u64, u64>, since:
 }
 
 /// A membership of these configs, with a progress from a default on.
-fn cluster<V: ProgressPart<V> + Copy + Ord>(
+pub fn cluster<V: ProgressPart<V> + Copy + Ord>(
     alloc: Global,
     config_word: &str,
     default: V,
