@@ -1,44 +1,72 @@
 //! A progress by a membership, which may go over to another.
 
+use crate::support::asserts::{assert_made, assert_right, assert_row};
 use crate::support::members::members;
-use crate::support::steps::updated;
+use crate::support::progress_rows::{wrong_read, wrong_row};
 use raft_progress::progress::Progress;
 use raft_progress::tracked::MembershipProgress;
+use raft_testing::memory::holds;
+use std::alloc::{AllocError, Global};
 use std::test::Fail;
+
+/// A progress of numbers by a membership.
+type Numbers = MembershipProgress<u64, u64, u64>;
+
+/// A new progress by the membership of the voters 1 and 2.
+fn of_two(alloc: Global, default: u64) -> Result<Numbers, AllocError> {
+    MembershipProgress::of(&members(alloc, "1,2")?, default)
+}
+
+/// Whether a progress may go over to the voters 1 and 3 with a default, as wanted.
+fn is_allowed(
+    alloc: Global,
+    progress: &Numbers,
+    default: u64,
+    want: bool,
+) -> Result<bool, AllocError> {
+    Ok(progress.can_upgrade_to(&members(alloc, "1,3")?, &default)? == want)
+}
 
 #[test]
 fn a_progress_tells_where_it_may_go_over(rt: HostRuntime) -> Result<(), Fail> {
     let alloc = rt.alloc();
-    let progress = MembershipProgress::of(&members(alloc, "1,2")?, 3u64)?;
-    let to = members(alloc, "1,3")?;
-    let is_below = !progress.can_upgrade_to(&to, &4)?;
-    assert!(rt; is_below);
-    let is_allowed = progress.can_upgrade_to(&to, &3)?;
-    assert!(rt; is_allowed);
-    assert!(rt; *progress.granted() == 3);
+    let progress = of_two(alloc, 3)?;
+    assert_row(
+        &rt,
+        "below the default",
+        holds(is_allowed(alloc, &progress, 4, false)),
+    );
+    assert_row(
+        &rt,
+        "at the default",
+        holds(is_allowed(alloc, &progress, 3, true)),
+    );
+    assert_row(&rt, "granted", *progress.granted() == 3);
     Ok(())
 }
 
-/// What a progress over the configs {1,2} and {2,3} has taken over from 1 at 5 and 2 at 3.
-fn has_gone_over(progress: &MembershipProgress<u64, u64, u64>) -> bool {
-    *progress.granted() == 0
-        && progress.iter().copied().eq([(1, 5), (2, 3), (3, 0)])
-        && progress.is_voter(&3) == Some(true)
+/// A progress over the configs {1,2} and {2,3} that has taken over the values of another one.
+fn gone_over(alloc: Global, progress: &mut Numbers) -> Result<Numbers, AllocError> {
+    let to = members(alloc, "1,2/2,3")?;
+    let is_allowed = progress.can_upgrade_to(&to, &0)?;
+    if !is_allowed || !progress.is_in_order() {
+        return Err(AllocError);
+    }
+    progress.upgraded_to(&to, 0)
 }
 
 #[test]
 fn a_progress_goes_over_to_a_membership(rt: HostRuntime) -> Result<(), Fail> {
     let alloc = rt.alloc();
-    let mut progress = MembershipProgress::of(&members(alloc, "1,2")?, 0u64)?;
-    for (id, value) in [(1, 5), (2, 3)] {
-        let granted = updated(&rt, &mut progress, id, value);
-        assert!(rt; granted.is_ok());
-    }
-    let to = members(alloc, "1,2/2,3")?;
-    let can = progress.can_upgrade_to(&to, &0)?;
-    let ordered = progress.is_in_order();
-    assert!(rt; can && ordered);
-    let upgraded = progress.upgraded_to(&to, 0)?;
-    assert!(rt; has_gone_over(&upgraded));
+    let mut progress = of_two(alloc, 0)?;
+    let updates = "update 1 5 0\nupdate 2 3 3";
+    assert_made(
+        &rt,
+        "updates",
+        wrong_row(alloc, &mut progress, updates, false),
+    );
+    let upgraded = gone_over(alloc, &mut progress)?;
+    let reads = "granted 0\nentries 1=5,2=3,3=0\nvoter 3 yes";
+    assert_right(&rt, "reads", wrong_read(&upgraded, reads));
     Ok(())
 }

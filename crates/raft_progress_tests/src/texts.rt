@@ -1,122 +1,98 @@
 //! What a progress, entries, and what is in flight with its refusals print.
 
-use crate::support::steps::{first_ids, made, updated};
-use crate::support::values::{logs, snapshot};
+use crate::support::asserts::{assert_right, assert_row};
+use crate::support::entry_rows::{entry, in_flight, taken};
+use crate::support::progress_rows::{Numbers, lived};
 use raft_base::LeaderId;
 use raft_base::leader_id_std::CommittedLeaderId;
 use raft_progress::entry::ProgressEntry;
-use raft_progress::inflight::{Inflight, InflightError};
-use raft_progress::progress::VecProgress;
-use raft_testing::plain_log::id;
 use raft_testing::printing::{debugs, displays};
-use std::alloc::{AllocError, Global};
+use raft_testing::words::{number, words};
+use std::alloc::Global;
 use std::test::Fail;
 
-/// Example progress 22. The text of a progress.
-#[test]
-fn a_progress_prints(rt: HostRuntime) -> Result<(), Fail> {
-    let alloc = rt.alloc();
-    let mut progress: VecProgress<u64, u64, u64, Vec<u64>> = made(
-        &rt,
-        alloc,
-        first_ids(alloc, 2)?,
-        &[6],
-        0,
-    )?;
-    let _granted = updated(&rt, &mut progress, 1, 3);
-    assert!(rt; displays(alloc, &progress, "{1: 3, 0: 0, 6: 0}"));
-    Ok(())
-}
+/// The words of entries and of what is in flight, and what they display.
+const TEXTS: &str = "
+1.4 5 0 -|{[T1-N0-4, 5), inflight:None}
+- 3 0 2:-|{[None, 3), inflight:Snapshot(id=2):None}
+-|None
+7:->1.3|Logs(id=7):(None, T1-N0-3]
+7:1.3|Snapshot(id=7):T1-N0-3
+7:-|Snapshot(id=7):None
+";
 
-/// Whether entries display as they should.
-fn entries_display(alloc: Global) -> bool {
-    let matched = ProgressEntry::<u64>::new(id(1, 4));
-    let empty = ProgressEntry::<u64>::empty(3).with_inflight(snapshot(2, None));
-    let debug =
-        "ProgressEntry { matching: None, curr_inflight_id: 0, inflight: None, searching_end: 0 }";
-    displays(alloc, &matched, "{[T1-N0-4, 5), inflight:None}")
-        && displays(alloc, &empty, "{[None, 3), inflight:Snapshot(id=2):None}")
-        && debugs(alloc, &ProgressEntry::<u64>::empty(0), debug)
-}
-
-/// Example progress 22. The texts of entries.
-#[test]
-fn entries_print(rt: HostRuntime) -> Result<(), Fail> {
-    assert!(rt; entries_display(rt.alloc()));
-    Ok(())
-}
-
-/// Whether what is in flight displays as it should.
-fn in_flight_displays(alloc: Global) -> bool {
-    let none = Inflight::<u64>::None;
-    let debug = "Snapshot { id: 2, last_log_id: None }";
-    let are_right = [
-        displays(alloc, &none, "None"),
-        displays(
-            alloc,
-            &logs::<LeaderId<u64>>(7, None, id(1, 3)),
-            "Logs(id=7):(None, T1-N0-3]",
-        ),
-        displays(
-            alloc,
-            &snapshot::<LeaderId<u64>>(7, id(1, 3)),
-            "Snapshot(id=7):T1-N0-3",
-        ),
-        displays(
-            alloc,
-            &snapshot::<CommittedLeaderId>(7, id(1, 3)),
-            "Snapshot(id=7):1-3",
-        ),
-        displays(
-            alloc,
-            &snapshot::<LeaderId<u64>>(7, None),
-            "Snapshot(id=7):None",
-        ),
-        debugs(alloc, &snapshot::<LeaderId<u64>>(2, None), debug),
-    ];
-    !are_right.contains(&false)
-}
-
-/// Whether refusals display as they should.
-fn refusals_display(alloc: Global) -> bool {
-    let texts = [
-        (InflightError::AckOutOfRange, "ack out of range"),
-        (InflightError::SnapshotAckRegress, "snapshot ack regresses"),
-        (InflightError::MatchingRegress, "matching regresses"),
-        (InflightError::ConflictNotAtPrev, "conflict is not at prev"),
-        (InflightError::ConflictOnSnapshot, "conflict on a snapshot"),
-        (
-            InflightError::ConflictBelowMatching,
-            "conflict below matching",
-        ),
-        (InflightError::IndexTooLarge, "index too large"),
-        (
-            InflightError::InvalidRequestId {
-                mine: Some(1),
-                received: 9,
-            },
-            "got invalid request id, mine=Some(1), received=9",
-        ),
-        (
-            InflightError::InvalidRequestId {
-                mine: None,
-                received: 0,
-            },
-            "got invalid request id, mine=None, received=0",
-        ),
-    ];
-    for (refusal, text) in &texts {
-        if !displays(alloc, refusal, text) {
-            return false;
+/// Returns the first text that is wrong, if there is one.
+fn wrong_text(alloc: Global) -> Option<&'static str> {
+    for row in TEXTS.trim().lines() {
+        let (value, text) = row.split_once('|').unwrap_or((row, ""));
+        let [first, end, last, inflight, ..] = words(value);
+        let is_right = if end.is_empty() {
+            displays(alloc, &in_flight::<LeaderId<u64>>(first), text)
+        } else {
+            displays(
+                alloc,
+                &entry::<LeaderId<u64>>([first, end, last, inflight]),
+                text,
+            )
+        };
+        if !is_right {
+            return Some(row);
         }
     }
-    true
+    None
 }
 
-/// Example progress 22. The texts of what is in flight and of its refusals.
+/// A request, a refusal of a response to it, and what the refusal displays.
+const REFUSALS: &str = "
+1 AckOutOfRange|ack out of range
+1 SnapshotAckRegress|snapshot ack regresses
+1 MatchingRegress|matching regresses
+1 ConflictNotAtPrev|conflict is not at prev
+1 ConflictOnSnapshot|conflict on a snapshot
+1 ConflictBelowMatching|conflict below matching
+1 IndexTooLarge|index too large
+9 mine:1|got invalid request id, mine=Some(1), received=9
+0 mine:-|got invalid request id, mine=None, received=0
+";
+
+/// Returns the first text of a refusal that is wrong, if there is one.
+fn wrong_refusal(alloc: Global) -> Option<&'static str> {
+    for row in REFUSALS.trim().lines() {
+        let (value, text) = row.split_once('|').unwrap_or((row, ""));
+        let [request, refusal, ..] = words(value);
+        match taken(refusal, number(request)) {
+            Err(refusal) if displays(alloc, &refusal, text) => {}
+            _ => return Some(row),
+        }
+    }
+    None
+}
+
+/// Example progress 22. The texts of a progress, of entries, of what is in flight and of its
+/// refusals.
 #[test]
-fn what_is_in_flight_prints(rt: HostRuntime) -> Result<(), Fail> {
-    assert!(rt; in_flight_displays(rt.alloc()));
-    assert!(rt; refusals_display(rt.alloc()));
+fn values_print(rt: HostRuntime) -> Result<(), Fail> {
+    let alloc = rt.alloc();
+    let progress: Numbers = lived(alloc, "0,1 6 0\nupdate 1 3 0")?;
+    assert_row(
+        &rt,
+        "a progress",
+        displays(alloc, &progress, "{1: 3, 0: 0, 6: 0}"),
+    );
+    assert_right(&rt, "texts", wrong_text(alloc));
+    assert_right(&rt, "refusals", wrong_refusal(alloc));
+    let snapshot = in_flight::<CommittedLeaderId>("7:1.3");
+    assert_row(
+        &rt,
+        "standard Raft",
+        displays(alloc, &snapshot, "Snapshot(id=7):1-3"),
+    );
+    let snapshot = in_flight::<LeaderId<u64>>("2:-");
+    let text = "Snapshot { id: 2, last_log_id: None }";
+    assert_row(&rt, "debug of a snapshot", debugs(alloc, &snapshot, text));
+    let text =
+        "ProgressEntry { matching: None, curr_inflight_id: 0, inflight: None, searching_end: 0 }";
+    let is_right = debugs(alloc, &ProgressEntry::<u64>::empty(0), text);
+    assert_row(&rt, "debug of an entry", is_right);
     Ok(())
 }

@@ -45,8 +45,8 @@ pub fn entry<C: Numbered>(words: [&str; 4]) -> ProgressEntryOf<C> {
     )
 }
 
-/// The number of a request, if the word has one.
-fn request(word: &str) -> Option<u64> {
+/// The number of a word, of a request or an index, if it has one.
+pub fn request(word: &str) -> Option<u64> {
     if word == "-" {
         None
     } else {
