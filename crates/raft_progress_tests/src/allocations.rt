@@ -1,7 +1,6 @@
 //! Progresses, replays and searches, with each allocation refused in turn or all of them.
 
 use super::{catch_up, entry, inflight, search};
-use crate::search::wrong_search;
 use crate::support::asserts::assert_printed;
 use crate::support::entry_rows::wrong_row;
 use crate::support::members::{TrackedNumbers, members};
@@ -15,10 +14,10 @@ use raft_members::quorum::{AtLeast, QuorumSet};
 use raft_progress::progress::{AnyStep, Progress, Reply, VecProgress, replay_any};
 use raft_progress::tracked::{Tracked, replay};
 use raft_testing::allocations::{
-    Allocation, is_free, is_free_on, is_swept, is_swept_by, refuse_each,
+    Allocation, is_as_in_ample_memory, is_free, is_free_on, is_swept_by, refuse_each,
 };
 use raft_testing::memory::both;
-use raft_testing::plain_log::{PlainLog, id, log_below};
+use raft_testing::plain_log::{Numbered, PlainLog, id, log_below};
 use std::alloc::{AllocError, Global};
 use std::io;
 use std::test::Fail;
@@ -45,6 +44,16 @@ update 2 6 5
 update 5 9 5
 ";
 
+/// Makes a progress of the voters 1 to 3 and the learners 5 and 6.
+fn new_one(allocation: Allocation) -> Result<Numbers, AllocError> {
+    let voters = [1, 2, 3].to_vec(allocation.alloc)?;
+    if !Numbers::learners_fit(allocation.alloc, &voters, &[5, 6])? {
+        return Err(AllocError);
+    }
+    allocation.refuse();
+    Numbers::new(allocation.alloc, voters, &[5, 6], 7)
+}
+
 /// Clones a progress.
 fn cloned(allocation: Allocation, progress: &Numbers) -> Result<Numbers, AllocError> {
     allocation.refuse();
@@ -67,6 +76,9 @@ fn upgraded<P: Progress<u64, u64, u64, Vec<u64>>>(
 }
 
 type Replies = Vec<Reply<u64, u64>>;
+
+/// What a call makes: a value, or replies, and else none of them.
+type Made<T> = (Option<T>, Replies);
 
 /// The position of the first reply of out of memory.
 fn refused_place(replies: &[Reply<u64, u64>]) -> Option<usize> {
@@ -144,37 +156,62 @@ fn others_are_replayed(
     }
 }
 
+/// Makes the call of a name.
+fn call_of_progress(
+    name: &str,
+    allocation: Allocation,
+    progress: &mut Numbers,
+) -> Result<Made<Numbers>, AllocError> {
+    if name == "replay_any" {
+        let steps = steps(allocation.alloc, STEPS, None)?;
+        allocation.refuse();
+        return Ok((None, replayed(allocation.alloc, progress, steps)?));
+    }
+    let made = match name {
+        "VecProgress::new" => new_one(allocation)?,
+        "VecProgress::try_clone" => cloned(allocation, progress)?,
+        _ => upgraded(allocation, progress)?,
+    };
+    Ok((Some(made), Vec::new(allocation.alloc)))
+}
+
+/// What a call of a progress made and left.
+type LeftProgress<'a> = (&'a Made<Numbers>, &'a Numbers);
+
+/// Whether a call that returned is right: if it has no replies, it is as in ample memory.
+fn is_call_right(
+    alloc: Global,
+    made: LeftProgress<'_>,
+    ample: LeftProgress<'_>,
+) -> Result<bool, AllocError> {
+    if made.0.1.is_empty() {
+        return is_as_in_ample_memory(alloc, made, ample);
+    }
+    others_are_replayed(alloc, &made.0.1, made.1)
+}
+
 #[test]
 fn allocations_of_progresses(rt: HostRuntime) -> Result<(), Fail> {
     let alloc = rt.alloc();
-    let nothing = |_: Global| Ok(());
-    let new = |allocation: Allocation, _: &mut ()| {
-        let voters = [1, 2, 3].to_vec(allocation.alloc)?;
-        if !Numbers::learners_fit(allocation.alloc, &voters, &[5, 6])? {
-            return Err(AllocError);
-        }
-        allocation.refuse();
-        Numbers::new(allocation.alloc, voters, &[5, 6], 7)
+    let begun = |alloc: Global| moved(alloc);
+    let is_right = |alloc: Global, made: LeftProgress<'_>, ample: LeftProgress<'_>| {
+        is_call_right(alloc, made, ample)
     };
-    let clone = |allocation: Allocation, progress: &mut Numbers| cloned(allocation, progress);
-    let upgrade = |allocation: Allocation, progress: &mut Numbers| upgraded(allocation, progress);
-    let replay = |allocation: Allocation, progress: &mut Numbers| {
-        let steps = steps(allocation.alloc, STEPS, None)?;
-        allocation.refuse();
-        replayed(allocation.alloc, progress, steps)
-    };
-    let is_right = |alloc: Global, made: (&Replies, &Numbers), _: (&Replies, &Numbers)| {
-        others_are_replayed(alloc, made.0, made.1)
-    };
-    let moved = |alloc: Global| moved(alloc);
-    let of_new = is_swept(&rt, alloc, "VecProgress::new", nothing, new);
-    assert_printed(&rt, "new", of_new);
-    let of_clone = is_swept(&rt, alloc, "VecProgress::try_clone", moved, clone);
-    assert_printed(&rt, "try_clone", of_clone);
-    let of_upgrade = is_swept(&rt, alloc, "Progress::upgrade_quorum_set", moved, upgrade);
-    assert_printed(&rt, "upgrade_quorum_set", of_upgrade);
-    let of_replay = is_swept_by(&rt, alloc, "replay_any", moved, replay, is_right);
-    assert_printed(&rt, "replay_any", of_replay);
+    for name in [
+        "VecProgress::new",
+        "VecProgress::try_clone",
+        "Progress::upgrade_quorum_set",
+        "replay_any",
+    ] {
+        let call = |allocation: Allocation, progress: &mut Numbers| {
+            call_of_progress(name, allocation, progress)
+        };
+        assert_printed(
+            &rt,
+            name,
+            is_swept_by(&rt, alloc, name, begun, call, is_right),
+        );
+    }
     Ok(())
 }
 
@@ -182,9 +219,6 @@ fn allocations_of_progresses(rt: HostRuntime) -> Result<(), Fail> {
 fn tracked(alloc: Global) -> Result<TrackedNumbers, AllocError> {
     Tracked::new(members(alloc, "1,2")?, 0)
 }
-
-/// Replies, and what they leave.
-type Left<'a> = (&'a Replies, &'a TrackedNumbers);
 
 /// The membership after the worked steps without the one at a position, and their replies.
 fn tracked_without(alloc: Global, place: usize) -> Result<(TrackedNumbers, Replies), AllocError> {
@@ -209,44 +243,76 @@ fn others_are_tracked(
     }
 }
 
+/// Makes the call of a name.
+fn call_of_tracked(
+    name: &str,
+    allocation: Allocation,
+    cluster: &mut TrackedNumbers,
+) -> Result<Made<TrackedNumbers>, AllocError> {
+    let alloc = allocation.alloc;
+    match name {
+        "Tracked::new" => {
+            let membership = members(alloc, "1,2")?;
+            allocation.refuse();
+            Ok((Some(Tracked::new(membership, 0)?), Vec::new(alloc)))
+        }
+        "Tracked::try_clone" => {
+            allocation.refuse();
+            Ok((Some(cluster.try_clone()?), Vec::new(alloc)))
+        }
+        "Tracked::change_to" => {
+            let to = members(alloc, "1,2/2,3")?;
+            allocation.refuse();
+            match cluster.change_to(to, 0) {
+                Reply::Granted(0) => Ok((None, Vec::new(alloc))),
+                _ => Err(AllocError),
+            }
+        }
+        _ => {
+            let steps = worked::steps(alloc, worked::STEPS, None)?;
+            allocation.refuse();
+            Ok((None, replay(alloc, cluster, steps)?))
+        }
+    }
+}
+
+/// What a call of a membership made and left.
+type LeftTracked<'a> = (&'a Made<TrackedNumbers>, &'a TrackedNumbers);
+
+/// Whether a call that returned is right: if it has no replies, it is as in ample memory.
+fn is_tracked_right(
+    alloc: Global,
+    made: LeftTracked<'_>,
+    ample: LeftTracked<'_>,
+) -> Result<bool, AllocError> {
+    if made.0.1.is_empty() {
+        return is_as_in_ample_memory(alloc, made, ample);
+    }
+    others_are_tracked(alloc, &made.0.1, made.1)
+}
+
 #[test]
 fn allocations_of_tracked(rt: HostRuntime) -> Result<(), Fail> {
     let alloc = rt.alloc();
-    let nothing = |_: Global| Ok(());
-    let new = |allocation: Allocation, _: &mut ()| {
-        let membership = members(allocation.alloc, "1,2")?;
-        allocation.refuse();
-        TrackedNumbers::new(membership, 0)
-    };
-    let clone = |allocation: Allocation, cluster: &mut TrackedNumbers| {
-        allocation.refuse();
-        cluster.try_clone()
-    };
-    let change = |allocation: Allocation, cluster: &mut TrackedNumbers| {
-        let to = members(allocation.alloc, "1,2/2,3")?;
-        allocation.refuse();
-        match cluster.change_to(to, 0) {
-            Reply::OutOfMemory => Err(AllocError),
-            reply => Ok(reply),
-        }
-    };
-    let steps = |allocation: Allocation, cluster: &mut TrackedNumbers| {
-        let steps = worked::steps(allocation.alloc, worked::STEPS, None)?;
-        allocation.refuse();
-        replay(allocation.alloc, cluster, steps)
-    };
-    let is_right = |alloc: Global, made: Left<'_>, _: Left<'_>| {
-        others_are_tracked(alloc, made.0, made.1)
-    };
     let begun = |alloc: Global| tracked(alloc);
-    let of_new = is_swept(&rt, alloc, "Tracked::new", nothing, new);
-    assert_printed(&rt, "new", of_new);
-    let of_clone = is_swept(&rt, alloc, "Tracked::try_clone", begun, clone);
-    assert_printed(&rt, "try_clone", of_clone);
-    let of_change = is_swept(&rt, alloc, "Tracked::change_to", begun, change);
-    assert_printed(&rt, "change_to", of_change);
-    let of_replay = is_swept_by(&rt, alloc, "replay", begun, steps, is_right);
-    assert_printed(&rt, "replay", of_replay);
+    let is_right = |alloc: Global, made: LeftTracked<'_>, ample: LeftTracked<'_>| {
+        is_tracked_right(alloc, made, ample)
+    };
+    for name in [
+        "Tracked::new",
+        "Tracked::try_clone",
+        "Tracked::change_to",
+        "replay",
+    ] {
+        let call = |allocation: Allocation, cluster: &mut TrackedNumbers| {
+            call_of_tracked(name, allocation, cluster)
+        };
+        assert_printed(
+            &rt,
+            name,
+            is_swept_by(&rt, alloc, name, begun, call, is_right),
+        );
+    }
     Ok(())
 }
 
@@ -338,16 +404,28 @@ fn no_allocations_of_progresses(rt: HostRuntime) -> Result<(), Fail> {
     Ok(())
 }
 
-type Leader = LeaderId<u64>;
+/// Whether calls of entries, and searches, are as worked, over a log from 0 to 99, and over one
+/// from 0 to 20 that is to be purged up to index 4.
+fn searches_are_as_worked<C: Numbered>(log: &PlainLog<C>, purged: &PlainLog<C>) -> bool {
+    let are_right = [
+        wrong_row(log, entry::HUNDRED).is_none(),
+        wrong_row(log, catch_up::HUNDRED).is_none(),
+        wrong_row(purged, catch_up::PURGED).is_none(),
+        search::halves(log),
+        search::ends_with_a_snapshot(purged, log),
+        entry::are_made::<C>(),
+    ];
+    !are_right.contains(&false)
+}
 
-/// Returns which row of entries or of searches is wrong, over a log from 0 to 99, and over one from
-/// 0 to 20 that is to be purged up to index 4.
-fn wrong_of_searches<'a>(log: &PlainLog<Leader>, purged: &PlainLog<Leader>) -> Option<&'a str> {
-    wrong_row(log, entry::HUNDRED)
-        .or(wrong_row(log, catch_up::HUNDRED))
-        .or(wrong_row(purged, catch_up::PURGED))
-        .or(wrong_search(log, log, search::HALVES))
-        .or(wrong_search(purged, log, search::ENDS))
+/// Whether responses to what is in flight are as worked, and what is in flight reads back.
+fn is_in_flight_as_worked() -> bool {
+    let are_right = [
+        inflight::wrong_response::<LeaderId<u64>>().is_none(),
+        inflight::logs_read_back(),
+        inflight::others_read_back(),
+    ];
+    !are_right.contains(&false)
 }
 
 #[test]
@@ -359,13 +437,12 @@ fn no_allocations_of_searches(rt: HostRuntime) -> Result<(), Fail> {
         purged_log(alloc, 21, 4, id(1, 6)),
     );
     let of_searches = is_free_on(&rt, alloc, name, logs, |logs| {
-        wrong_of_searches(&logs.0, &logs.1).is_none() && entry::are_made::<Leader>()
+        searches_are_as_worked::<LeaderId<u64>>(&logs.0, &logs.1)
     });
     assert_printed(&rt, name, of_searches);
     let name = "Inflight, responses and reads";
     refuse_each(alloc);
-    let wrong = inflight::wrong_response::<Leader>().or(inflight::wrong_read());
-    let is_right = wrong.is_none() && inflight::is_made();
+    let is_right = is_in_flight_as_worked();
     assert_printed(&rt, name, is_free(&rt, alloc, name, is_right));
     Ok(())
 }

@@ -12,26 +12,26 @@ use std::test::Fail;
 /// Over a log from 0 to 99. The request ids of the second entry just suffice, and those of the
 /// third one do not.
 pub const HUNDRED: &str = "
-at - 100 0 -
+at | - 100 0 -
 catch-up 0 10 yes
 catch-up 100 18446744073709551615 yes
 catch-up 101 10 no
 catch-up 70 0 no
-at 1.99 100 18446744073709551450 -
+at | 1.99 100 18446744073709551450 -
 catch-up 100 1 yes
-at 1.99 100 18446744073709551451 -
+at | 1.99 100 18446744073709551451 -
 catch-up 100 1 no
-at - 100 1 1:1.47>1.57
+at | - 100 1 1:1.47>1.57
 catch-up 70 10 no
-at 2.30 100 1 -
+at | 2.30 100 1 -
 catch-up 70 10 no
-at - 101 0 -
+at | - 101 0 -
 catch-up 70 10 no
 ";
 
 /// Over a log from 0 to 20 that is to be purged up to index 4.
 pub const PURGED: &str = "
-at - 10 0 -
+at | - 10 0 -
 catch-up 5 10 yes
 catch-up 4 10 no
 ";

@@ -10,8 +10,8 @@ ghost use Rattle.raft_progress.specs.progress.VecProgress.{view};
 ghost use Rattle.std.specs.Option.{option_cmp};
 ghost use Rattle.std.specs.Prelude.{◌≡◌, IfSome, IsTrue, None, Ok, Some, false};
 
+use crate::support::asserts::assert_row;
 use crate::support::entry_rows::{compare, entry, in_flight};
-use crate::support::steps::first_ids;
 use crate::support::values::purged_log;
 use raft_base::leader_id_std::CommittedLeaderId;
 use raft_base::{LeaderId, LogIdOf, LogStateReader};
@@ -20,6 +20,7 @@ use raft_progress::entry::{ProgressEntry, ProgressEntryOf};
 use raft_progress::inflight::{Inflight, InflightOf};
 use raft_progress::progress::{Progress, VecProgress};
 use raft_testing::plain_log::{Numbered, id, log_below};
+use raft_testing::words::list;
 use std::alloc::{AllocError, Global};
 use std::process::Abort;
 use std::test::Fail;
@@ -79,63 +80,63 @@ pub fn sent_next<C: Ord + Copy, L: LogStateReader<C>>(
 /// heartbeat leaves an entry that is invalid until the response. The entries after that are refused
 /// by the first relation that they break. The last ones read back.
 pub const HUNDRED: &str = "
-at - 100 0 -
-send - 10 sent - 100 1 1:1.47>1.57
-conflict 1 47 ok - 47 1 -
-send - 10 sent - 47 2 2:1.15>1.25
-conflict 2 15 ok - 15 2 -
-send - 10 sent - 15 3 3:->1.9
+at | - 100 0 -
+send - 10 sent | - 100 1 1:1.47>1.57
+conflict 1 47 ok | - 47 1 -
+send - 10 sent | - 47 2 2:1.15>1.25
+conflict 2 15 ok | - 15 2 -
+send - 10 sent | - 15 3 3:->1.9
 conflict 3 0 ConflictNotAtPrev
-at 1.4 20 0 -
-conflict - 10 ok 1.4 10 0 -
+at | 1.4 20 0 -
+conflict - 10 ok | 1.4 10 0 -
 conflict - 3 ConflictBelowMatching
-conflict - 10 ok 1.4 10 0 -
-conflict - 5 ok 1.4 5 0 -
-at - 100 1 1:1.47>1.57
+conflict - 10 ok | 1.4 10 0 -
+conflict - 5 ok | 1.4 5 0 -
+at | - 100 1 1:1.47>1.57
 ack 2 1.50 mine:1
 ack 1 1.46 AckOutOfRange
 ack 1 1.58 AckOutOfRange
 ack 1 - AckOutOfRange
 conflict 1 46 ConflictNotAtPrev
-conflict - 30 ok - 30 1 1:1.47>1.57
+conflict - 30 ok | - 30 1 1:1.47>1.57
 validate - - PrevPastEnd
-conflict 1 47 ok - 30 1 -
+conflict 1 47 ok | - 30 1 -
 validate - - valid
-at 1.5 5 0 -
+at | 1.5 5 0 -
 validate - - MatchingPastEnd
-at 1.18446744073709551615 18446744073709551615 0 -
+at | 1.18446744073709551615 18446744073709551615 0 -
 validate - - MatchingPastEnd
-at - 9 0 1:1.5>1.4
+at | - 9 0 1:1.5>1.4
 validate - - RangeOrder
-at 1.5 9 0 1:1.4>1.8
+at | 1.5 9 0 1:1.4>1.8
 validate - - MatchingPastPrev
-at - 18446744073709551615 0 1:1.18446744073709551615>2.0
+at | - 18446744073709551615 0 1:1.18446744073709551615>2.0
 validate - - PrevPastEnd
-at 1.8 9 0 2:1.8
+at | 1.8 9 0 2:1.8
 validate - - SnapshotNotPastMatching
-at - 9 0 2:-
+at | - 9 0 2:-
 validate - - SnapshotNotPastMatching
-at 1.4 20 0 -
+at | 1.4 20 0 -
 validate - - valid
-at 1.4 5 1 1:1.4>1.7
+at | 1.4 5 1 1:1.4>1.7
 validate - - valid
-at - 9 2 2:1.8
+at | - 9 2 2:1.8
 validate - - valid
-at 1.4 5 7 1:1.5>1.9
+at | 1.4 5 7 1:1.5>1.9
 holds - 1.6 yes
 holds - 2.3 yes
 holds - 1.5 no
-at 1.4 5 7 -
+at | 1.4 5 7 -
 holds - 1.6 no
-at 1.4 5 7 1:1.9
+at | 1.4 5 7 1:1.9
 holds - 1.6 no
-at - 32 0 -
+at | - 32 0 -
 start 16 32 yes
-at - 15 0 -
+at | - 15 0 -
 start 0 15 yes
-at - 0 0 -
+at | - 0 0 -
 start 0 0 yes
-at 1.4 4 7 -
+at | 1.4 4 7 -
 start - - no
 ";
 
@@ -144,67 +145,67 @@ start - - no
 /// below the match are refused, and what is in flight stays. Responses to a snapshot are taken up
 /// to the greatest index but one.
 const TEN: &str = "
-at 1.4 5 0 -
-send - 3 sent 1.4 5 1 1:1.4>1.7
-at 1.4 5 0 -
-send - 18446744073709551615 sent 1.4 5 1 1:1.4>1.9
-at - 10 0 -
-send - 0 sent - 10 1 1:-
-at 1.9 10 0 -
+at | 1.4 5 0 -
+send - 3 sent | 1.4 5 1 1:1.4>1.7
+at | 1.4 5 0 -
+send - 18446744073709551615 sent | 1.4 5 1 1:1.4>1.9
+at | - 10 0 -
+send - 0 sent | - 10 1 1:-
+at | 1.9 10 0 -
 send - 3 unsent
-at 1.4 5 1 1:1.4>1.7
+at | 1.4 5 1 1:1.4>1.7
 send - 3 unsent
-at - 11 0 -
+at | - 11 0 -
 send - 3 no
-at 1.8 9 0 0:1.2>1.9
+at | 1.8 9 0 0:1.2>1.9
 ack 0 1.5 MatchingRegress
 conflict 0 2 ConflictBelowMatching
-at - 9 0 -
+at | - 9 0 -
 ack 0 - mine:-
-at - 9 0 2:1.8
+at | - 9 0 2:1.8
 ack 2 1.7 SnapshotAckRegress
 ack 2 1.18446744073709551615 IndexTooLarge
 conflict 2 3 ConflictOnSnapshot
-ack 2 1.12 ok 1.12 13 0 -
+ack 2 1.12 ok | 1.12 13 0 -
 send - 3 no
-at - 9 18446744073709551615 -
+at | - 9 18446744073709551615 -
 next - - no
-at 1.8 9 0 -
-next - - sent 1.8 9 1 1:1.8>1.9
+at | 1.8 9 0 -
+next - - sent | 1.8 9 1 1:1.8>1.9
 ";
 
 /// The search in a log of 21, to be purged up to index 4, ends with a snapshot.
 const PURGED: &str = "
-at - 10 0 -
-send - 10 sent - 10 1 1:1.4>1.14
-conflict 1 4 ok - 4 1 -
-send - 10 sent - 4 2 2:1.6
+at | - 10 0 -
+send - 10 sent | - 10 1 1:1.4>1.14
+conflict 1 4 ok | - 4 1 -
+send - 10 sent | - 4 2 2:1.6
 ";
 
 /// If the ids of a log do not rise, a send puts nothing in flight and yet takes a request id.
 const FALLING: &str = "
-at 5.4 5 0 -
-send - 10 sent 5.4 5 1 -
-send - 10 sent 5.4 5 2 -
+at | 5.4 5 0 -
+send - 10 sent | 5.4 5 1 -
+send - 10 sent | 5.4 5 2 -
 ";
 
 /// No send is allowed in a log that is to be purged up to the greatest index.
 const FAR: &str = "
-at - 9 0 -
+at | - 9 0 -
 send - 3 no
 ";
 
 /// A snapshot that is lost is sent once more, and late responses to the first are refused. The log
 /// is purged up to 20, with a snapshot of all of it.
 const WHOLLY_PURGED: &str = "
-at - 21 0 -
-next - - sent - 21 1 1:1.20
+at | - 21 0 -
+next - - sent | - 21 1 1:1.20
 next - - no
-give-up - - ok - 21 1 -
+give-up - - ok | - 21 1 -
 conflict 1 20 mine:-
-next - - sent - 21 2 2:1.20
+next - - sent | - 21 2 2:1.20
 ack 1 1.20 mine:2
-ack 2 1.20 ok 1.20 21 2 -
+ack 2 1.20 ok | 1.20 21 2 -
 ";
 
 /// Compares all calls over a kind of leaders.
@@ -217,6 +218,18 @@ fn compare_all<C: Numbered>(rt: &impl Abort, alloc: Global) {
     compare::<C>(rt, purged_log(alloc, 21, 20, id(1, 20)), WHOLLY_PURGED);
 }
 
+/// Whether entries are made as they should.
+pub fn are_made<C: Numbered>() -> bool {
+    let matched = ProgressEntryOf::<C>::new(id(1, 4)).with_curr_inflight_id(7);
+    let are_right = [
+        matched == entry("1.4 5 7 -"),
+        matched.with_inflight(in_flight("1:1.5>1.9")) == entry("1.4 5 7 1:1.5>1.9"),
+        ProgressEntryOf::<C>::new(None) == ProgressEntryOf::empty(0),
+        ProgressEntryOf::<C>::empty(100) == entry("- 100 0 -"),
+    ];
+    !are_right.contains(&false)
+}
+
 /// Example progress 18. The search by probes at 47 and 15, and the search that ends at purge
 /// point 4; sends after the match, without limit, of no entries and past the end; heartbeats;
 /// responses that nobody asked for; states in which no send is allowed.
@@ -226,31 +239,19 @@ fn compare_all<C: Numbered>(rt: &impl Abort, alloc: Global) {
 fn responses_and_sends_are_as_worked(rt: HostRuntime) -> Result<(), Fail> {
     compare_all::<LeaderId<u64>>(&rt, rt.alloc());
     compare_all::<CommittedLeaderId>(&rt, rt.alloc());
-    Ok(())
-}
-
-/// Whether entries are made as they should.
-pub fn are_made<C: Numbered>() -> bool {
-    let matched = ProgressEntryOf::<C>::new(id(1, 4)).with_curr_inflight_id(7);
-    let are_right = [
-        matched == entry(["1.4", "5", "7", "-"]),
-        matched.with_inflight(in_flight("1:1.5>1.9")) == entry(["1.4", "5", "7", "1:1.5>1.9"]),
-        ProgressEntryOf::<C>::new(None) == ProgressEntryOf::empty(0),
-        ProgressEntryOf::<C>::empty(100) == entry(["-", "100", "0", "-"]),
-    ];
-    !are_right.contains(&false)
-}
-
-#[test]
-fn entries_are_made(rt: HostRuntime) -> Result<(), Fail> {
-    assert!(rt; are_made::<LeaderId<u64>>() && are_made::<CommittedLeaderId>());
+    assert_row(&rt, "entries of any leaders", are_made::<LeaderId<u64>>());
+    assert_row(
+        &rt,
+        "entries of standard Raft",
+        are_made::<CommittedLeaderId>(),
+    );
     Ok(())
 }
 
 /// Whether acks of a snapshot, of which one comes twice and one from nobody, grant as they should.
 fn acks_grant(alloc: Global) -> Result<bool, AllocError> {
     let sent = ProgressEntry::<u64>::empty(4).with_inflight(Inflight::snapshot(None));
-    let voters = first_ids(alloc, 3)?;
+    let voters = list(alloc, "0,1,2")?;
     if !VecProgress::<u64, ProgressEntry<u64>, _, _>::learners_fit(alloc, &voters, &[])? {
         return Ok(false);
     }

@@ -1,9 +1,10 @@
 //! What is in flight: worked responses and reads.
 
-use crate::support::asserts::assert_right;
-use crate::support::entry_rows::{in_flight, relation, taken};
+use crate::support::asserts::{assert_right, assert_row};
+use crate::support::entry_rows::{in_flight, taken};
+use crate::support::values::{logs, wrong_id};
 use raft_base::leader_id_std::CommittedLeaderId;
-use raft_base::{LeaderId, Validate};
+use raft_base::{Invalid, LeaderId, Validate};
 use raft_progress::inflight::{Inflight, RequestId};
 use raft_testing::plain_log::{Numbered, id};
 use raft_testing::words::{log_id, number, words};
@@ -58,56 +59,42 @@ pub fn wrong_response<C: Numbered>() -> Option<&'static str> {
     None
 }
 
-/// What is in flight, its kind, a number, whether logs and whether a snapshot of this number are
-/// its request, what `assert_my_id` of the number answers, and the relation that it breaks.
-const READS: &str = "
-7:1.2>1.5 logs 7 yes no ok valid
-7:1.2>1.5 logs 8 no no mine:7 valid
-7:- snapshot 7 no yes ok valid
-- nothing 0 no no mine:- valid
-1:1.5>1.4 logs 1 yes no ok RangeOrder
-";
-
-/// Whether what is in flight reads back as its row says.
-fn is_read(row: &str) -> bool {
-    let [word, kind, id, logs, snapshot, asserted, broken, ..] = words(row);
-    let (inflight, id) = (in_flight::<LeaderId<u64>>(word), number(id));
+/// Whether logs in flight read back.
+pub fn logs_read_back() -> bool {
+    let logs = Inflight::<u64>::logs(id(1, 2), id(1, 5)).with_id(7);
     let are_right = [
-        inflight.is_none() == (kind == "nothing"),
-        inflight.is_sending_log() == (kind == "logs"),
-        inflight.is_sending_snapshot() == (kind == "snapshot"),
-        inflight.is_my_id(RequestId::AppendEntries { id }) == (logs == "yes"),
-        inflight.is_my_id(RequestId::Snapshot { id }) == (snapshot == "yes"),
-        inflight.assert_my_id(id) == taken(asserted, id),
-        relation(inflight.validate()) == broken,
+        logs.get_id() == Some(7) && logs.id() == 7,
+        !logs.is_none(),
+        logs.is_sending_log(),
+        !logs.is_sending_snapshot(),
+        logs.is_my_id(RequestId::AppendEntries { id: 7 }),
+        !logs.is_my_id(RequestId::AppendEntries { id: 8 }),
+        !logs.is_my_id(RequestId::Snapshot { id: 7 }),
+        logs.assert_my_id(7) == Ok(()),
+        logs.assert_my_id(8) == wrong_id(Some(7), 8),
+        logs.validate() == Ok(()),
+        Inflight::<u64>::logs(id(1, 5), id(1, 5)).is_none(),
     ];
     !are_right.contains(&false)
 }
 
-/// Returns the first row of reads that is wrong, if there is one.
-pub fn wrong_read() -> Option<&'static str> {
-    for row in READS.trim().lines() {
-        if !is_read(row) {
-            return Some(row);
-        }
-    }
-    None
-}
-
-/// Whether what is in flight is made as it should.
-pub fn is_made() -> bool {
-    let logs = Inflight::<u64>::logs(id(1, 2), id(1, 5)).with_id(7);
+/// Whether a snapshot in flight, and nothing, read back.
+pub fn others_read_back() -> bool {
     let snapshot = Inflight::<u64>::snapshot(None).with_id(7);
     let none = Inflight::<u64>::None;
     let are_right = [
-        logs == in_flight("7:1.2>1.5"),
-        logs.get_id() == Some(7),
-        logs.id() == 7,
-        snapshot == in_flight("7:-"),
         snapshot.get_id() == Some(7),
-        none.with_id(7) == none,
+        snapshot.is_sending_snapshot(),
+        !snapshot.is_sending_log(),
+        snapshot.is_my_id(RequestId::Snapshot { id: 7 }),
+        snapshot.validate() == Ok(()),
         none.get_id() == None,
-        Inflight::<u64>::logs(id(1, 5), id(1, 5)) == none,
+        none.with_id(7) == none,
+        none.is_none(),
+        !none.is_my_id(RequestId::Snapshot { id: 0 }),
+        none.assert_my_id(0) == wrong_id(None, 0),
+        none.validate() == Ok(()),
+        logs::<LeaderId<u64>>(1, id(1, 5), id(1, 4)).validate() == Err(Invalid::RangeOrder),
     ];
     !are_right.contains(&false)
 }
@@ -118,7 +105,7 @@ pub fn is_made() -> bool {
 fn responses_are_answered_case_by_case(rt: HostRuntime) -> Result<(), Fail> {
     assert_right(&rt, "responses", wrong_response::<LeaderId<u64>>());
     assert_right(&rt, "responses", wrong_response::<CommittedLeaderId>());
-    assert_right(&rt, "reads", wrong_read());
-    assert!(rt; is_made());
+    assert_row(&rt, "logs", logs_read_back());
+    assert_row(&rt, "others", others_read_back());
     Ok(())
 }

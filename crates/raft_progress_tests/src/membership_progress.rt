@@ -27,22 +27,13 @@ fn is_allowed(
     Ok(progress.can_upgrade_to(&members(alloc, "1,3")?, &default)? == want)
 }
 
-#[test]
-fn a_progress_tells_where_it_may_go_over(rt: HostRuntime) -> Result<(), Fail> {
-    let alloc = rt.alloc();
-    let progress = of_two(alloc, 3)?;
-    assert_row(
-        &rt,
-        "below the default",
-        holds(is_allowed(alloc, &progress, 4, false)),
-    );
-    assert_row(
-        &rt,
-        "at the default",
-        holds(is_allowed(alloc, &progress, 3, true)),
-    );
-    assert_row(&rt, "granted", *progress.granted() == 3);
-    Ok(())
+/// Whether a new progress at 3 may go over where it may.
+fn is_told(alloc: Global, progress: &Numbers) -> Result<bool, AllocError> {
+    Ok(
+        is_allowed(alloc, progress, 4, false)?
+            && is_allowed(alloc, progress, 3, true)?
+            && *progress.granted() == 3,
+    )
 }
 
 /// A progress over the configs {1,2} and {2,3} that has taken over the values of another one.
@@ -58,6 +49,11 @@ fn gone_over(alloc: Global, progress: &mut Numbers) -> Result<Numbers, AllocErro
 #[test]
 fn a_progress_goes_over_to_a_membership(rt: HostRuntime) -> Result<(), Fail> {
     let alloc = rt.alloc();
+    assert_row(
+        &rt,
+        "where it may go over",
+        holds(is_told(alloc, &of_two(alloc, 3)?)),
+    );
     let mut progress = of_two(alloc, 0)?;
     let updates = "update 1 5 0\nupdate 2 3 3";
     assert_made(

@@ -7,9 +7,12 @@ ghost use Rattle.raft_progress.specs.progress.Steps.{IsRun};
 ghost use Rattle.std.specs.Prelude.{◌≡◌, IfOk, IfSome, List, None, Ok, Some};
 
 use crate::support::asserts::assert_row;
-use crate::support::progress_rows::{Numbers, begun, is_step, lived, reply_of, steps, wrong_row};
+use crate::support::progress_rows::{
+    Numbers, begun, lived, reply_of, steps, wrong_read, wrong_row,
+};
 use raft_members::quorum::QuorumSet;
 use raft_progress::{AnyStep, Progress, ProgressPart, Reply, VecProgress, replay_any};
+use raft_testing::memory::{holds, on};
 use raft_testing::words::list;
 use std::alloc::{AllocError, Global};
 use std::test::Fail;
@@ -44,8 +47,8 @@ pub fn granted_after<
     Ok(Some(*progress.granted()))
 }
 
-/// Lives whose steps are replayed as one list: increases, an upgrade, upgrades that are refused, and
-/// updates, of which the one that would have lowered a value is no update. In the last one the
+/// Lives whose steps are replayed as one list: increases, an upgrade, upgrades that are refused,
+/// and updates, of which the one that would have lowered a value is no update. In the last one the
 /// voters 1 to 3, which were learners, each move up past those before.
 const LIVES: &str = "
 0,1,2 7 0
@@ -54,6 +57,7 @@ increase 0 4 0
 increase 1 6 5
 increase 1 6 5
 increase 9 6 unknown:5
+then
 entries 1=6,0=5,2=0,7=0
 counts 5 2
 
@@ -61,6 +65,7 @@ counts 5 2
 update 0 5 0
 update 1 6 5
 upgrade 2,3,4 1 0 0
+then
 entries 2=0,3=0,4=0,1=6
 counts 5 2
 
@@ -71,17 +76,16 @@ update 5 9 5
 upgrade 0,1,2 5 1 below:2
 upgrade 0,1,2 5,5 1 bad
 upgrade 0,1,2 2 0 bad
+then
 entries 1=6,0=5,2=0,5=9
 counts 3 2
-may-upgrade 0,1,2 5 0 yes
-may-upgrade 0,1,2 5 1 no
-may-upgrade 0,1,2 - 0 yes
 
 1,2,3 - 0
 update 1 4 0
 update 2 6 4
 update 2 5 falls
 update 7 1 unknown:4
+then
 entries 2=6,1=4,3=0
 counts 3 2
 
@@ -90,37 +94,41 @@ update 1 5 0
 update 2 6 0
 update 3 7 0
 upgrade 1,2,3 - 0 6
+then
 entries 3=7,2=6,1=5
 counts 7 3
 ";
 
-/// Whether the replies to the steps of rows are those of the rows.
+/// Whether replies are those of rows.
 fn are_replies(replies: &[Reply<u64, u64>], rows: &str) -> bool {
     let mut replies = replies.iter();
-    for row in rows.lines() {
-        if is_step(row) && replies.next() != Some(&reply_of(row)) {
+    for row in rows.trim().lines() {
+        if replies.next() != Some(&reply_of(row)) {
             return false;
         }
     }
     replies.next().is_none()
 }
 
-/// Whether the steps of a life, as one list, are replied to and leave what they should, and no steps
+/// Whether steps, as one list, are replied to, and leave what the reads after them say. No steps
 /// leave that too.
-fn is_replayed(alloc: Global, life: &str) -> Result<bool, AllocError> {
-    let (first, rows) = life.split_once('\n').unwrap_or((life, ""));
-    let mut progress: Numbers = begun(alloc, first)?;
+fn is_replayed(alloc: Global, progress: &mut Numbers, rows: &str) -> Result<bool, AllocError> {
     if !progress.is_in_order() {
         return Ok(false);
     }
-    let replies = replay_any(alloc, &mut progress, steps(alloc, rows, None)?)?;
-    let none = replay_any(alloc, &mut progress, Vec::new(alloc))?;
-    for row in rows.lines() {
-        if !is_step(row) && wrong_row(alloc, &mut progress, row, false)?.is_some() {
-            return Ok(false);
-        }
-    }
-    Ok(are_replies(&replies, rows) && none.is_empty())
+    let (step_rows, reads) = rows.split_once("then").unwrap_or((rows, ""));
+    let steps = steps(alloc, step_rows, None)?;
+    let are_right = are_replies(&replay_any(alloc, progress, steps)?, step_rows);
+    let is_empty = replay_any(alloc, progress, Vec::new(alloc))?.is_empty();
+    Ok(are_right && is_empty && wrong_read(progress, reads).is_none())
+}
+
+/// Whether refused steps leave a progress as it was.
+fn stays(alloc: Global, life: &str, refused: &str) -> Result<bool, AllocError> {
+    let mut progress: Numbers = lived(alloc, life)?;
+    let before = progress.clone()?;
+    let wrong = wrong_row(alloc, &mut progress, refused, true)?;
+    Ok(wrong.is_none() && progress == before)
 }
 
 // An upgrade that always lacks memory fails here, and so does a replay.
@@ -133,38 +141,39 @@ fn is_replayed(alloc: Global, life: &str) -> Result<bool, AllocError> {
 #[test]
 fn replays_are_as_worked(rt: HostRuntime) -> Result<(), Fail> {
     for life in LIVES.trim().split("\n\n") {
-        assert_row(&rt, life, is_replayed(rt.alloc(), life)?);
+        let (first, rows) = life.split_once('\n').unwrap_or((life, ""));
+        let progress = begun(rt.alloc(), first);
+        let is_right = on(progress, |progress| is_replayed(rt.alloc(), progress, rows));
+        assert_row(&rt, life, holds(is_right));
     }
-    Ok(())
-}
-
-/// Whether refused steps leave a progress as it was.
-fn stays(alloc: Global, life: &str, refused: &str) -> Result<bool, AllocError> {
-    let mut progress: Numbers = lived(alloc, life)?;
-    let before = progress.clone()?;
-    let wrong = wrong_row(alloc, &mut progress, refused, true)?;
-    Ok(wrong.is_none() && progress == before)
-}
-
-#[test]
-fn refused_upgrades_change_nothing(rt: HostRuntime) -> Result<(), Fail> {
     let life = "0,1,2 5 0\nupdate 0 5 0\nupdate 1 6 5\nupdate 5 9 5";
     let refused = "upgrade 0,1,2 5 1 below:2\nupgrade 0,1,2 5,5 1 bad\nupgrade 0,1,2 2 0 bad";
-    assert!(rt; stays(rt.alloc(), life, refused)?);
+    assert_row(&rt, refused, holds(stays(rt.alloc(), life, refused)));
     Ok(())
+}
+
+/// Whether this is granted after some steps of a new progress at 0.
+fn is_granted(
+    alloc: Global,
+    voters: &str,
+    learners: &[u64],
+    rows: &str,
+    want: Option<u64>,
+) -> Result<bool, AllocError> {
+    let (voters, steps) = (list(alloc, voters)?, steps(alloc, rows, None)?);
+    Ok(granted_after(alloc, voters, learners, 0u64, steps)? == want)
 }
 
 #[test]
 fn a_caller_grants(rt: HostRuntime) -> Result<(), Fail> {
     let alloc = rt.alloc();
-    let steps = steps(
-        alloc,
-        "update 1 4\nupdate 2 6\nupdate 2 5\nupdate 7 1",
-        None,
-    )?;
-    let granted = granted_after(alloc, list(alloc, "1,2,3")?, &[], 0u64, steps)?;
-    assert_row(&rt, "granted", granted == Some(4));
-    let unfit = granted_after(alloc, list(alloc, "0,1,2")?, &[2], 0u64, Vec::new(alloc))?;
-    assert_row(&rt, "learners that do not fit", unfit == None);
+    let rows = "update 1 4\nupdate 2 6\nupdate 2 5\nupdate 7 1";
+    assert_row(
+        &rt,
+        "granted",
+        holds(is_granted(alloc, "1,2,3", &[], rows, Some(4))),
+    );
+    let unfit = is_granted(alloc, "0,1,2", &[2], "", None);
+    assert_row(&rt, "learners that do not fit", holds(unfit));
     Ok(())
 }

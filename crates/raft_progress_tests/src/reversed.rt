@@ -6,18 +6,17 @@ ghost use Rattle.std.specs.Cmp.{partial_order_from_own_ties};
 ghost use Rattle.std.specs.Ordering.{as_partial_cmp, flip_args, nat_cmp, on};
 
 use crate::stat::FIRST_RUN;
-use crate::support::asserts::{assert_right, assert_row};
-use crate::support::progress_rows::reply_of;
+use crate::support::asserts::assert_row;
+use crate::support::progress_rows::{reply_of, reply_to};
 use crate::support::steps::{made, updated};
 use raft_base::EmptyNode;
 use raft_members::Membership;
-use raft_progress::progress::{Progress as _, Reply, VecProgress};
+use raft_progress::progress::{Progress as _, VecProgress};
 use raft_testing::words::{number, words};
 use std::alloc::{AllocError, Global};
 use std::cmp::Ordering;
 use std::collections::BTreeSet;
 use std::fmt;
-use std::process::Abort;
 use std::test::Fail;
 
 /// An id of which the greater number comes first.
@@ -84,31 +83,21 @@ fn the_first_voter_without_a_node_is_the_greatest_number(rt: HostRuntime) -> Res
 /// A progress over such ids.
 type Progress = VecProgress<Reversed, u64, u64, Vec<Reversed>>;
 
+/// Whether a progress has the ids of these numbers, in this order.
+fn has_ids(progress: &Progress, want: &[u64]) -> bool {
+    progress
+        .iter()
+        .map(|entry| entry.0.number)
+        .eq(want.iter().copied())
+}
+
 /// Example progress 14. If the order of ids is reversed, a new progress has 2 before 1.
 #[test]
 fn a_new_progress_has_the_greatest_number_first(rt: HostRuntime) -> Result<(), Fail> {
     let alloc = rt.alloc();
     let progress: Progress = made(&rt, alloc, ids(alloc, "1,2")?, &[], 0)?;
-    assert_row(&rt, "2", progress.index(&Reversed { number: 2 }) == Some(0));
-    assert_row(&rt, "1", progress.index(&Reversed { number: 1 }) == Some(1));
-    assert_row(&rt, "all", progress.iter().count() == 2);
+    assert_row(&rt, "the ids", has_ids(&progress, &[2, 1]));
     Ok(())
-}
-
-/// Makes the first run by such ids, and returns the first row that is wrong, if there is one.
-fn wrong_update(rt: &impl Abort, progress: &mut Progress) -> Option<&'static str> {
-    for row in FIRST_RUN.trim().lines() {
-        let [_, id, value, ..] = words(row);
-        let id = Reversed { number: number(id) };
-        let reply = match updated(rt, progress, id, number(value)) {
-            Ok(granted) => Reply::Granted(granted),
-            Err(granted) => Reply::Unknown(granted),
-        };
-        if reply != reply_of(row) {
-            return Some(row);
-        }
-    }
-    None
 }
 
 /// Example progress 1. If the order of ids is reversed, granted is the same.
@@ -117,6 +106,11 @@ fn the_order_of_ids_grants_nothing(rt: HostRuntime) -> Result<(), Fail> {
     let alloc = rt.alloc();
     let (voters, learners) = (ids(alloc, "0,1,2,3,4")?, [Reversed { number: 6 }]);
     let mut progress: Progress = made(&rt, alloc, voters, &learners, 0)?;
-    assert_right(&rt, "the first run", wrong_update(&rt, &mut progress));
+    for row in FIRST_RUN.trim().lines() {
+        let [_, id, value, ..] = words(row);
+        let id = Reversed { number: number(id) };
+        let reply = reply_to(updated(&rt, &mut progress, id, number(value)));
+        assert_row(&rt, row, reply == reply_of(row));
+    }
     Ok(())
 }

@@ -2,17 +2,15 @@
 ghost use Rattle.raft_progress.specs.search.Search.{CanSearch, stretch};
 ghost use Rattle.std.specs.Prelude.{◌<◌, ◌≤◌};
 
-use crate::support::asserts::assert_right;
-use crate::support::entry_rows::entry;
-use crate::support::values::purged_log;
+use crate::support::asserts::assert_row;
+use crate::support::values::{at, logs, purged_log, snapshot};
 use raft_base::LeaderId;
 use raft_base::leader_id_std::CommittedLeaderId;
 use raft_progress::entry::ProgressEntryOf;
 use raft_progress::search::{SearchEvent, search_run};
+use raft_testing::memory::holds;
 use raft_testing::plain_log::{Numbered, PlainLog, id, log_below};
-use raft_testing::words::{number, words};
 use std::alloc::{AllocError, Global};
-use std::process::Abort;
 use std::test::Fail;
 
 type Events<'a, 'e, C> = &'e [SearchEvent<'a, PlainLog<C>>];
@@ -27,92 +25,85 @@ fn conflicts_of<C: Ord + Copy>(entry: &mut ProgressEntryOf<C>, events: Events<'_
     search_run(entry, events)
 }
 
-/// The event of a word. A conflict has its request and its index, and a send its greatest number of
-/// logs.
-fn event<'a, C>(
-    log: &'a PlainLog<C>,
-    whole: &'a PlainLog<C>,
-    word: &str,
-) -> SearchEvent<'a, PlainLog<C>> {
-    let (name, argument) = word.split_once('=').unwrap_or((word, ""));
-    let (request, index) = argument.split_once('.').unwrap_or(("", argument));
-    match name {
-        "send" => SearchEvent::Send {
-            log,
-            max_entries: number(argument),
-        },
-        "send-whole" => SearchEvent::Send {
-            log: whole,
-            max_entries: number(argument),
-        },
-        "heartbeat" => SearchEvent::Heartbeat {
-            conflict: number(argument),
-        },
-        _ => SearchEvent::Conflict {
-            request_id: number(request),
-            conflict: number(index),
-        },
+/// Whether a search in a log that ends before an index accepts so many conflicts, and leaves the
+/// entry as wanted.
+fn accepts<C: Numbered>(
+    end: u64,
+    events: Events<'_, '_, C>,
+    want: u64,
+    to: ProgressEntryOf<C>,
+) -> bool
+    requires { end < 1024 }
+{
+    let mut entry = ProgressEntryOf::empty(end);
+    conflicts_of(&mut entry, events) == want && entry == to
+}
+
+/// A send of at most so many logs.
+fn send<C>(log: &PlainLog<C>, max_entries: u64) -> SearchEvent<'_, PlainLog<C>> {
+    SearchEvent::Send { log, max_entries }
+}
+
+/// A conflict under a request.
+fn conflict<'a, C>(request_id: u64, conflict: u64) -> SearchEvent<'a, PlainLog<C>> {
+    SearchEvent::Conflict {
+        request_id,
+        conflict,
     }
 }
 
-/// Whether a search accepts so many conflicts and leaves the entry as its row says.
-fn is_run<C: Numbered>(log: &PlainLog<C>, whole: &PlainLog<C>, row: &str) -> bool {
-    let (result, event_words) = row.split_once('|').unwrap_or((row, ""));
-    let [end, accepted, matching, searching_end, last, inflight, ..] = words(result);
-    let [first, second, third, fourth, fifth, sixth, seventh, ..] = words(event_words);
-    let events = [
-        event(log, whole, first),
-        event(log, whole, second),
-        event(log, whole, third),
-        event(log, whole, fourth),
-        event(log, whole, fifth),
-        event(log, whole, sixth),
-        event(log, whole, seventh),
+/// Whether searches over a log from 0 to 99 halve the stretch, with a heartbeat in between and
+/// without.
+pub fn halves<C: Numbered>(log: &PlainLog<C>) -> bool {
+    let probes = [
+        send(log, 10),
+        conflict(1, 47),
+        send(log, 10),
+        conflict(2, 15),
+        send(log, 10),
+        conflict(3, 0),
     ];
-    let count = event_words.split_whitespace().count().min(events.len());
-    let end = number(end).min(1023);
-    let mut current = ProgressEntryOf::empty(end);
-    conflicts_of(&mut current, &events[..count]) == number(accepted)
-        && current == entry([matching, searching_end, last, inflight])
+    let shortened = [
+        send(log, 10),
+        SearchEvent::Heartbeat { conflict: 30 },
+        conflict(1, 47),
+        send(log, 10),
+        conflict(2, 7),
+        send(log, 10),
+        conflict(3, 0),
+    ];
+    let first = logs(3, None, id::<C>(1, 9));
+    accepts(100, &probes, 2, at(None, 15, 3, first))
+        && accepts(100, &shortened, 2, at(None, 7, 3, first))
+        && accepts::<C>(100, &[], 0, ProgressEntryOf::empty(100))
 }
 
-/// Searches over a log from 0 to 99, which halve the stretch, with a heartbeat in between and
-/// without. A row has the end of the search, how many conflicts are accepted, the entry that is
-/// left, and the events.
-pub const HALVES: &str = "
-100 2 - 15 3 3:->1.9 | send=10 conflict=1.47 send=10 conflict=2.15 send=10 conflict=3.0
-100 2 - 7 3 3:->1.9 | send=10 heartbeat=30 conflict=1.47 send=10 conflict=2.7 send=10 conflict=3.0
-100 0 - 100 0 - |
-";
-
-/// Searches at a purge point, which end with a snapshot, also where a send over a whole log is
-/// skipped since its purge point has gone back.
-pub const ENDS: &str = "
-10 1 - 4 2 2:1.6 | send=18446744073709551615 conflict=1.4 send=18446744073709551615
-10 1 - 4 2 2:1.6 | send=3 conflict=1.4 send-whole=3 conflict=1.4 send=3 conflict=2.4
-";
-
-/// Returns the first search that is wrong, if there is one.
-pub fn wrong_search<'a, C: Numbered>(
-    log: &PlainLog<C>,
-    whole: &PlainLog<C>,
-    table: &'a str,
-) -> Option<&'a str> {
-    for row in table.trim().lines() {
-        if !is_run(log, whole, row) {
-            return Some(row);
-        }
-    }
-    None
+/// Whether searches at a purge point end with a snapshot, also where a send is skipped since its
+/// purge point has gone back.
+pub fn ends_with_a_snapshot<C: Numbered>(purged: &PlainLog<C>, whole: &PlainLog<C>) -> bool {
+    let probe = [
+        send(purged, u64::MAX),
+        conflict(1, 4),
+        send(purged, u64::MAX),
+    ];
+    let gone_back = [
+        send(purged, 3),
+        conflict(1, 4),
+        send(whole, 3),
+        conflict(1, 4),
+        send(purged, 3),
+        conflict(2, 4),
+    ];
+    let end = at(None, 4, 2, snapshot(2, id(1, 6)));
+    accepts(10, &probe, 1, end) && accepts(10, &gone_back, 1, end)
 }
 
-/// Stops the test at a search over a kind of leaders that is wrong.
-fn compare<C: Numbered>(rt: &impl Abort, alloc: Global) -> Result<(), AllocError> {
-    let whole = log_below::<C>(alloc, 100, None)?;
+/// Whether all worked searches over a kind of leaders are as they should be.
+fn is_as_worked<C: Numbered>(alloc: Global) -> Result<bool, AllocError> {
+    let hundred = log_below::<C>(alloc, 100, None)?;
+    let whole = log_below::<C>(alloc, 21, None)?;
     let purged = purged_log::<C>(alloc, 21, 4, id(1, 6))?;
-    assert_right(rt, "a search", wrong_search(&whole, &whole, HALVES));
-    assert_right(rt, "a search", wrong_search(&purged, &whole, ENDS));
-    Ok(())
+    Ok(halves(&hundred) && ends_with_a_snapshot(&purged, &whole))
 }
 
 /// Example progress 20. The searches of `entry.rt` as lists of events: 2, 2, 1 and 1 conflicts
@@ -120,7 +111,15 @@ fn compare<C: Numbered>(rt: &impl Abort, alloc: Global) -> Result<(), AllocError
 /// purge point has gone back.
 #[test]
 fn searches_are_as_worked(rt: HostRuntime) -> Result<(), Fail> {
-    compare::<LeaderId<u64>>(&rt, rt.alloc())?;
-    compare::<CommittedLeaderId>(&rt, rt.alloc())?;
+    assert_row(
+        &rt,
+        "any leaders",
+        holds(is_as_worked::<LeaderId<u64>>(rt.alloc())),
+    );
+    assert_row(
+        &rt,
+        "standard Raft",
+        holds(is_as_worked::<CommittedLeaderId>(rt.alloc())),
+    );
     Ok(())
 }

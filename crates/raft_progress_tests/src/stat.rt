@@ -5,7 +5,7 @@ ghost use Rattle.raft_members.specs.quorum.MajorityLawful.{is_majority-superset}
 ghost use Rattle.std.specs.Prelude.{nat_eq};
 ghost use Rattle.std.specs.Set.{is_member};
 
-use crate::support::asserts::assert_row;
+use crate::support::asserts::{assert_made, assert_row};
 use crate::support::progress_rows::{
     ProgressOf, Quorums, answer, begun, is_step, reply_of, wrong_row,
 };
@@ -71,9 +71,9 @@ update 1 4 4
 update 9 1 unknown:4
 ";
 
-/// Lives. The first row of each ends with the number of binary digits of the number of voters. In an
-/// upgrade each old id counts an update, and each voter that rises past what was granted by then a
-/// move.
+/// Lives. The first row of each ends with the number of binary digits of the number of voters. In
+/// an upgrade each old id counts an update, and each voter that rises past what was granted by then
+/// a move.
 const LIVES: &str = "
 0,1,2,3,4 - 0 3
 update 0 5 0
@@ -150,7 +150,28 @@ fn is_counted(
     Ok(reply == Some(reply_of(row)) && tests == calls && (is_upgrade || tests <= most))
 }
 
-/// Stops the test at a row that is wrong, and returns what was counted.
+/// Returns the first row that is wrong, if there is one. A step makes at most so many quorum tests.
+fn wrong_count<'a>(
+    alloc: Global,
+    progress: &mut Progress,
+    rows: &'a str,
+    most: u64,
+    by_replay: bool,
+) -> Result<Option<&'a str>, AllocError> {
+    for row in rows.trim().lines() {
+        let is_right = if is_step(row) {
+            is_counted(alloc, progress, row, most, by_replay)?
+        } else {
+            wrong_row(alloc, progress, row, by_replay)?.is_none()
+        };
+        if !is_right {
+            return Ok(Some(row));
+        }
+    }
+    Ok(None)
+}
+
+/// Stops the test at a row of a life that is wrong, and returns what was counted.
 fn compare(
     rt: &impl Abort,
     alloc: Global,
@@ -161,14 +182,12 @@ fn compare(
     let [_, _, _, digits, ..] = words(first);
     let mut progress: Progress = begun(alloc, first)?;
     assert_row(rt, first, progress.quorum_set().calls.get() == 0);
-    for row in rows.trim().lines() {
-        let is_right = if is_step(row) {
-            is_counted(alloc, &mut progress, row, number(digits), by_replay)?
-        } else {
-            wrong_row(alloc, &mut progress, row, by_replay)?.is_none()
-        };
-        assert_row(rt, row, is_right);
-    }
+    let most = number(digits);
+    assert_made(
+        rt,
+        first,
+        wrong_count(alloc, &mut progress, rows, most, by_replay),
+    );
     progress.stat().clone()
 }
 

@@ -1,5 +1,5 @@
-//! What tests share: assertions, calls of an entry with a table of their answers, memberships, steps
-//! of a progress, values, and what the words of rows mean.
+//! What tests share: assertions, calls of an entry with a table of their answers, memberships,
+//! steps of a progress, values, and what the words of rows mean.
 
 pub mod asserts;
 pub mod entry_calls;

@@ -25,15 +25,10 @@ const TEXTS: &str = "
 fn wrong_text(alloc: Global) -> Option<&'static str> {
     for row in TEXTS.trim().lines() {
         let (value, text) = row.split_once('|').unwrap_or((row, ""));
-        let [first, end, last, inflight, ..] = words(value);
-        let is_right = if end.is_empty() {
-            displays(alloc, &in_flight::<LeaderId<u64>>(first), text)
+        let is_right = if value.contains(' ') {
+            displays(alloc, &entry::<LeaderId<u64>>(value), text)
         } else {
-            displays(
-                alloc,
-                &entry::<LeaderId<u64>>([first, end, last, inflight]),
-                text,
-            )
+            displays(alloc, &in_flight::<LeaderId<u64>>(value), text)
         };
         if !is_right {
             return Some(row);

@@ -7,8 +7,8 @@
 //! | nothing in flight | `-` | `-` |
 //!
 //! An entry is four words: its match, the end of the search, the last request, and what is in
-//! flight, as `1.4 5 0 -`. A refusal is the name of its error. If it names the request in flight, it
-//! is `mine` with that request, as `mine:1` or `mine:-`.
+//! flight, as `1.4 5 0 -`. A refusal is the name of its error. If it names the request in flight,
+//! it is `mine` with that request, as `mine:1` or `mine:-`.
 
 use crate::entry::sent_next;
 use crate::support::asserts::assert_right;
@@ -34,9 +34,9 @@ pub fn in_flight<C: Numbered>(word: &str) -> InflightOf<C> {
     }
 }
 
-/// An entry.
-pub fn entry<C: Numbered>(words: [&str; 4]) -> ProgressEntryOf<C> {
-    let [matching, searching_end, request, inflight] = words;
+/// An entry by its four words.
+pub fn entry<C: Numbered>(text: &str) -> ProgressEntryOf<C> {
+    let [matching, searching_end, request, inflight, ..] = words(text);
     at(
         log_id(matching),
         number(searching_end),
@@ -106,39 +106,57 @@ fn answer<C: Numbered>(word: &str, received: u64, left: InflightOf<C>) -> Answer
     }
 }
 
-/// Whether a call of an entry, which leaves this in flight, is answered as its last word says.
+/// Whether an entry is read as a call's words say.
+fn is_read<C: Numbered>(entry: &ProgressEntryOf<C>, log: &PlainLog<C>, call: &str) -> bool {
+    let [name, first, second, want, ..] = words(call);
+    let is_yes = want == "yes";
+    let (from, upto) = (number(first), number(second));
+    match name {
+        "validate" => relation(entry.validate()) == want,
+        "holds" => match log_id(second) {
+            Some(id) => entry.is_log_range_inflight(&id) == is_yes,
+            None => false,
+        },
+        "start" if entry.can_start() => is_yes && entry.sending_start() == (from, upto),
+        "start" => !is_yes,
+        "catch-up" => can_catch_up_entry(log, entry, from, upto) == is_yes,
+        _ => false,
+    }
+}
+
+/// Whether a call of an entry, which is to leave another one, is answered as its last word says.
 fn is_answered<C: Numbered>(
     entry: &mut ProgressEntryOf<C>,
     log: &PlainLog<C>,
-    words: [&str; 4],
-    left: InflightOf<C>,
+    words_of_call: &str,
+    left: ProgressEntryOf<C>,
 ) -> bool {
-    let [name, first, second, want] = words;
-    let is_yes = want == "yes";
+    let [name, first, second, want, ..] = words(words_of_call);
     match name {
-        "next" => sent_next(entry, log) == if want == "sent" { Some(left) } else { None },
-        "give-up" => {
-            entry.give_up();
-            true
+        "at" => *entry = left,
+        "give-up" => entry.give_up(),
+        "next" => {
+            let sending = if want == "sent" {
+                Some(left.inflight)
+            } else {
+                None
+            };
+            return sent_next(entry, log) == sending;
         }
-        "validate" => relation(entry.validate()) == want,
-        "holds" => match log_id(second) {
-            Some(upto) => entry.is_log_range_inflight(&upto) == is_yes,
-            None => false,
-        },
-        "start" if entry.can_start() => {
-            is_yes && entry.sending_start() == (number(first), number(second))
+        "send" | "ack" | "conflict" => {
+            let want = answer(want, number(first), left.inflight);
+            return answer_of(entry, log, call(name, first, second)) == want;
         }
-        "start" => !is_yes,
-        "catch-up" => can_catch_up_entry(log, entry, number(first), number(second)) == is_yes,
-        _ => answer_of(entry, log, call(name, first, second)) == answer(want, number(first), left),
+        _ => return is_read(entry, log, words_of_call),
     }
+    true
 }
 
 /// Returns the first row of a table that is wrong, if there is one.
 ///
-/// A row `at` has the entry of the rows below it. Another row has a call, its two arguments and its
-/// answer, and then the entry that it leaves, unless that is the one before. The calls are:
+/// A row has a call, its two arguments and its answer, and behind a `|` the entry that it leaves,
+/// unless that is the one before. The row `at` makes the entry for the rows below it. The calls
+/// are:
 ///
 /// | call | its arguments | its answer |
 /// |---|---|---|
@@ -149,28 +167,18 @@ fn is_answered<C: Numbered>(
 /// | `give-up` | none | `ok` |
 /// | `validate` | none | the first relation that the entry breaks, or `valid` |
 /// | `holds` | `-`, and a log id that may be among the logs in flight | `yes` or `no` |
-/// | `start` | where the next probe starts, and the end of the search | `yes`, or `no` if none may |
+/// | `start` | where the next probe starts, and the searching end | `yes`, or `no` if none may |
 /// | `catch-up` | how far the logs agree, and the greatest number of logs | `yes` or `no` |
 pub fn wrong_row<'a, C: Numbered>(log: &PlainLog<C>, table: &'a str) -> Option<&'a str> {
     let mut current = ProgressEntryOf::empty(0);
     for row in table.trim().lines() {
-        let [name, first, second, want, matching, end, last, inflight, _] = words(row);
-        if name == "at" {
-            current = entry([first, second, want, matching]);
-            continue;
-        }
-        let left = if matching.is_empty() {
+        let (call, left) = row.split_once('|').unwrap_or((row, ""));
+        let left = if left.is_empty() {
             current
         } else {
-            entry([matching, end, last, inflight])
+            entry(left)
         };
-        let is_right = is_answered(
-            &mut current,
-            log,
-            [name, first, second, want],
-            left.inflight,
-        );
-        if !is_right || current != left {
+        if !is_answered(&mut current, log, call, left) || current != left {
             return Some(row);
         }
     }

@@ -7,8 +7,6 @@
 //! |---|---|---|
 //! | `update`, `increase`, `write` | an id and a value | the reply |
 //! | `upgrade` | voters, learners and a default | the reply |
-//! | `may-upgrade` | voters, learners and a default | `yes` or `no` |
-//! | `fits` | voters and learners | `yes` or `no` |
 //! | `set` | an id and a value, by `get_mut` | `yes`, or `no` if the id is unknown |
 //! | `fill` | the values of all entries, by `iter_mut` | none |
 //! | `rename` | an id and another one, by `iter_mut` | none |
@@ -16,12 +14,11 @@
 //! | `value`, `voter`, `index` | an id | the value, `yes` or `no`, the position; `-` if unknown |
 //! | `granted`, `default` | none | the part |
 //! | `counts` | none | the updates and the moves |
-//! | `voters` | none | the ids of the quorum set |
 //! | `entries` | none | all of them in their order, as `1=6,0=5` |
 //!
 //! A reply is the number that is granted, `unknown:GRANTED`, `falls`, `below:ID`, `bad` for bad
-//! learners, or `refused:ID`, with `-` for a config that would be empty. The word of a quorum set is
-//! the list of its voters; in a joint a `/` is between them. Of quorums of a stated size it is
+//! learners, or `refused:ID`, with `-` for a config that would be empty. The word of a quorum set
+//! is the list of its voters; in a joint a `/` is between them. Of quorums of a stated size it is
 //! `SIZE:IDS`.
 
 ghost use Rattle.raft_progress.specs.progress.InOrder.{IsInOrder};
@@ -31,7 +28,7 @@ ghost use Rattle.std.specs.Prelude.{nat_eq};
 
 use crate::support::asserts::assert_made;
 use raft_members::quorum::{AtLeast, Joint, QuorumSet};
-use raft_progress::progress::{AnyStep, Progress, Reply, VecProgress, replay_any};
+use raft_progress::progress::{AnyStep, Progress, Reply, Stat, VecProgress, replay_any};
 use raft_testing::words::{list, lists, number, words};
 use std::alloc::{AllocError, Global};
 use std::process::Abort;
@@ -139,15 +136,15 @@ pub fn steps<QS: Quorums>(
 ) -> Result<Vec<AnyStep<u64, u64, QS>>, AllocError> {
     let mut steps = Vec::new(alloc);
     for (place, row) in rows.trim().lines().enumerate() {
-        if is_step(row) && Some(place) != without {
+        if Some(place) != without {
             steps.push(step(alloc, row)?)?;
         }
     }
     Ok(steps)
 }
 
-/// The reply to a step of a progress in order: by a replay of this step, or by a call of its own. An
-/// upgrade is always replayed, and `write` is an update by a closure.
+/// The reply to a step of a progress in order: by a replay of this step, or by a call of its own.
+/// An upgrade is always replayed, and `write` is an update by a closure.
 pub fn answer<QS: Quorums>(
     alloc: Global,
     progress: &mut ProgressOf<QS>,
@@ -166,40 +163,65 @@ pub fn answer<QS: Quorums>(
     if progress.would_fall(&id, &value) {
         return Ok(Some(Reply::WouldFall));
     }
-    let granted = match name {
-        "update" => progress.update(&id, value),
-        "increase" => progress.increase_to(&id, value),
-        _ => progress.update_with(&id, |current| *current = value),
-    };
-    Ok(Some(match granted {
-        Ok(granted) => Reply::Granted(*granted),
-        Err(granted) => Reply::Unknown(*granted),
+    Ok(Some(match name {
+        "update" => reply_of_lent(progress.update(&id, value)),
+        "increase" => reply_of_lent(progress.increase_to(&id, value)),
+        _ => reply_of_lent(progress.update_with(&id, |current| *current = value)),
     }))
 }
 
-/// Writes in place, and answers whether there was anything to write.
-fn is_written<QS: QuorumSet<u64>>(
-    progress: &mut ProgressOf<QS>,
-    name: &str,
-    first: &str,
-    second: &str,
-) -> bool {
-    if name == "set" {
-        return match progress.get_mut(&number(first)) {
-            Some(current) => {
-                *current = number(second);
-                true
-            }
-            None => false,
-        };
+/// The reply to an update, by what is granted.
+pub fn reply_to(granted: Result<u64, u64>) -> Reply<u64, u64> {
+    match granted {
+        Ok(granted) => Reply::Granted(granted),
+        Err(granted) => Reply::Unknown(granted),
     }
-    let mut values = first.split(',');
-    for entry in progress.iter_mut() {
-        if name == "fill" {
-            entry.1 = number(values.next().unwrap_or(""));
-        } else if entry.0 == number(first) {
-            entry.0 = number(second);
+}
+
+/// What an update lends, as a reply.
+fn reply_of_lent(granted: Result<&u64, &u64>) -> Reply<u64, u64> {
+    match granted {
+        Ok(granted) => Reply::Granted(*granted),
+        Err(granted) => Reply::Unknown(*granted),
+    }
+}
+
+/// Writes by `get_mut`, and answers whether the id is known.
+fn is_set<QS: QuorumSet<u64>>(progress: &mut ProgressOf<QS>, id: u64, value: u64) -> bool {
+    match progress.get_mut(&id) {
+        Some(current) => {
+            *current = value;
+            true
         }
+        None => false,
+    }
+}
+
+/// Writes the values of a word by `iter_mut`.
+fn fill<QS: QuorumSet<u64>>(progress: &mut ProgressOf<QS>, values: &str) {
+    let mut values = values.split(',');
+    for entry in progress.iter_mut() {
+        entry.1 = number(values.next().unwrap_or(""));
+    }
+}
+
+/// Changes an id to another one by `iter_mut`.
+fn rename<QS: QuorumSet<u64>>(progress: &mut ProgressOf<QS>, from: u64, to: u64) {
+    for entry in progress.iter_mut() {
+        if entry.0 == from {
+            entry.0 = to;
+        }
+    }
+}
+
+/// Whether a write in place, or a test of the order, is answered as its row says.
+fn is_written<QS: QuorumSet<u64>>(progress: &mut ProgressOf<QS>, row: &str) -> bool {
+    let [name, first, second, want, ..] = words(row);
+    match name {
+        "order" => return progress.is_in_order() == (first == "yes"),
+        "set" => return is_set(progress, number(first), number(second)) == (want == "yes"),
+        "fill" => fill(progress, first),
+        _ => rename(progress, number(first), number(second)),
     }
     true
 }
@@ -227,11 +249,16 @@ pub fn has_entries<QS: QuorumSet<u64>>(progress: &ProgressOf<QS>, word: &str) ->
     entries.next().is_none()
 }
 
+/// Whether so many updates and moves were counted.
+fn has_counts(stat: &Stat, updates: u64, moves: u64) -> bool {
+    stat.update_count == updates && stat.move_count == moves
+}
+
 /// Whether a progress is read as a row says.
 fn is_read<QS: QuorumSet<u64>>(progress: &ProgressOf<QS>, row: &str) -> bool {
     let [name, first, second, ..] = words(row);
     let id = number(first);
-    let (stat, is_known) = (progress.stat(), second != "-");
+    let is_known = second != "-";
     match name {
         "value" => has_value(progress, id, second),
         "voter" if is_known => progress.is_voter(&id) == Some(second == "yes"),
@@ -240,7 +267,7 @@ fn is_read<QS: QuorumSet<u64>>(progress: &ProgressOf<QS>, row: &str) -> bool {
         "index" => progress.index(&id) == None,
         "granted" => *progress.granted() == id,
         "default" => *progress.default_part() == id,
-        "counts" => stat.update_count == id && stat.move_count == number(second),
+        "counts" => has_counts(progress.stat(), id, number(second)),
         "entries" => has_entries(progress, first),
         _ => false,
     }
@@ -266,25 +293,17 @@ fn is_answered<QS: Quorums>(
     row: &str,
     by_replay: bool,
 ) -> Result<bool, AllocError> {
-    let [name, first, second, third, fourth, ..] = words(row);
-    Ok(match name {
+    let [name, ..] = words(row);
+    match name {
         "update" | "increase" | "write" | "upgrade" => {
-            progress.is_in_order()
-                && answer(alloc, progress, row, by_replay)? == Some(reply_of(row))
+            if !progress.is_in_order() {
+                return Ok(false);
+            }
+            Ok(answer(alloc, progress, row, by_replay)? == Some(reply_of(row)))
         }
-        "may-upgrade" => {
-            let (voters, learners) = (QS::of_word(alloc, first)?, list(alloc, second)?);
-            progress.can_upgrade(&voters, &learners, &number(third))? == (fourth == "yes")
-        }
-        "fits" => {
-            let (voters, learners) = (QS::of_word(alloc, first)?, list(alloc, second)?);
-            ProgressOf::<QS>::learners_fit(alloc, &voters, &learners)? == (third == "yes")
-        }
-        "set" | "fill" | "rename" => is_written(progress, name, first, second) == (third != "no"),
-        "order" => progress.is_in_order() == (first == "yes"),
-        "voters" => progress.quorum_set().ids(alloc)? == list(alloc, first)?,
-        _ => is_read(progress, row),
-    })
+        "set" | "fill" | "rename" | "order" => Ok(is_written(progress, row)),
+        _ => Ok(is_read(progress, row)),
+    }
 }
 
 /// Returns the first row that a progress answers otherwise, if there is one.
@@ -312,8 +331,8 @@ pub fn lived<QS: Quorums>(alloc: Global, life: &str) -> Result<ProgressOf<QS>, A
     Ok(progress)
 }
 
-/// Stops the test at a row of a life that is wrong: once with calls, and once with replays of a step
-/// each. A life is the row of a new progress, and rows of its calls.
+/// Stops the test at a row of a life that is wrong: once with calls, and once with replays of a
+/// step each. A life is the row of a new progress, and rows of its calls.
 pub fn play<QS: Quorums>(rt: &impl Abort, alloc: Global, life: &str) -> Result<(), AllocError> {
     let (first, rows) = life.trim().split_once('\n').unwrap_or((life, ""));
     for by_replay in [false, true] {

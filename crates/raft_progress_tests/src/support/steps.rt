@@ -1,10 +1,10 @@
-//! Steps of a progress in order: how one is made, moved and asked.
+//! A progress of any values, in order: how one is made and moved.
 ghost use Rattle.raft_progress.specs.progress.InOrder.{IsInOrder};
 ghost use Rattle.raft_progress.specs.progress.VecProgress.{view};
 ghost use Rattle.std.specs.Prelude.{◌≡◌, IfOk};
 
 use raft_members::quorum::QuorumSet;
-use raft_progress::progress::{AnyStep, Progress, ProgressPart, Reply, VecProgress, replay_any};
+use raft_progress::progress::{Progress, ProgressPart, VecProgress};
 use std::alloc::{AllocError, Global};
 use std::process::Abort;
 
@@ -40,31 +40,4 @@ pub fn updated<ID: Copy + Ord, V: ProgressPart<P>, P: Copy + Ord, QS: QuorumSet<
         Ok(granted) => Ok(*granted),
         Err(granted) => Err(*granted),
     }
-}
-
-/// The ids from 0 to n - 1.
-pub fn first_ids(alloc: Global, n: u64) -> Result<Vec<u64>, AllocError> {
-    (0..n).collect(alloc)
-}
-
-/// The reply of a progress in order to one step.
-pub fn replied<
-    ID: Copy + Ord,
-    V: ProgressPart<P> + PartialOrd + Clone,
-    P: Copy + Ord,
-    QS: QuorumSet<ID>,
->(
-    rt: &impl Abort,
-    alloc: Global,
-    progress: &mut VecProgress<ID, V, P, QS>,
-    step: AnyStep<ID, V, QS>,
-) -> Result<Option<Reply<ID, P>>, AllocError>
-    requires clones_have_the_part { (v w : V) → V.is_clone v w → V.part_of w ≡ V.part_of v }
-{
-    let ordered = progress.is_in_order();
-    assert!(rt; ordered);
-    let mut steps = Vec::new(alloc);
-    steps.push(step)?;
-    let mut replies = replay_any(alloc, progress, steps)?;
-    Ok(replies.pop())
 }

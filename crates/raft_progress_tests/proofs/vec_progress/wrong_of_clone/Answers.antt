@@ -1,7 +1,7 @@
 use Rattle.std.proofs.Common.{nat_eq, ◌≡◌, true, subst, sym, ℕ}
 use Rattle.std.specs.Cmp.{nat_eq_equiv}
 use Rattle.raft_progress.proofs.lemmas.progress.CloneLemmas.{list_is_equal}
-use Rattle.raft_progress_tests.proofs.vec_progress.has_equal_clone.Goals as goal
+use Rattle.raft_progress_tests.proofs.vec_progress.wrong_of_clone.Goals as goal
 
 pub try_clone-requires-clause-quorum_sets : goal.try_clone-requires-clause-quorum_sets
 try_clone-requires-clause-quorum_sets c =
