@@ -1,7 +1,7 @@
-//! Leader ids. Their order stands with that of votes, in `vote.rt`.
+//! Leader ids. Their order is in `order.rt`, with that of votes.
 
+use crate::asserts::assert_row;
 use raft_base::{CommittedLeaderId, LeaderId, Vote};
-use std::test::Fail;
 
 /// Whether the leader of node 4 in a term is committed as told,
 /// and in any term by a committed vote.
@@ -19,9 +19,8 @@ fn is_committed_in(term: u64, is_given: bool) -> bool {
 
 // Nobody has to grant the leader of term 0.
 #[test]
-fn a_leader_is_committed_by_its_vote_or_by_term_zero(rt: HostRuntime) -> Result<(), Fail> {
-    for (term, is_given) in [(0, true), (1, false), (2, false)] {
-        assert!(rt; is_committed_in(term, is_given), "in term {term}");
-    }
-    Ok(())
+fn a_leader_is_committed_by_its_vote_or_by_term_zero(rt: HostRuntime) {
+    assert_row(&rt, "term 0", is_committed_in(0, true));
+    assert_row(&rt, "term 1", is_committed_in(1, false));
+    assert_row(&rt, "term 2", is_committed_in(2, false));
 }

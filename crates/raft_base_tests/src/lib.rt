@@ -1,11 +1,11 @@
 //! The tests of `raft_base`, through its public calls alone. It ships nothing.
 //!
-//! A file has the tests of the module of `raft_base` that has its name. Those that go over all
-//! modules have the name of what they test: `texts`, and `allocations` for allocations that are
-//! refused.
+//! A file has the tests of the module of `raft_base` that has its name, and `order` has those of all
+//! comparisons. Those that go over all modules have the name of what they test: `texts`, and
+//! `allocations` for allocations that are refused.
 //!
-//! A test builds its values, one function that borrows them says whether all is right, and the test
-//! asserts that once, because an assertion beside values that a test owns is expensive to prove.
+//! A function makes the values and says which of them is wrong, and the test asserts that once,
+//! because an assertion beside values that a test owns is expensive to prove.
 #![tactic(auto)]
 
 #[cfg(test)]

@@ -1,39 +1,26 @@
-//! Log ids.
+//! Log ids. Their order is in `order.rt`.
 
-use raft_base::{CommittedLeaderId, LeaderId, LogId};
-use raft_testing::allocations::{is_free, refuse_each};
-use std::cmp::Ordering;
-use std::test::Fail;
+use crate::asserts::assert_right;
+use raft_base::{CommittedLeaderId, LeaderId, LogId, RaftLogId};
+use raft_testing::facts::first_wrong;
 
-/// A log id as its term, node and index.
-type Numbered = (u64, u64, u64);
-
-/// Whether two log ids, alone and as optional ones, compare as wanted.
-fn log_ids_compare(a: Numbered, b: Numbered, want: Ordering) -> bool {
-    let id = LogId::new(CommittedLeaderId::new(a.0, a.1), a.2);
-    let other = LogId::new(CommittedLeaderId::new(b.0, b.1), b.2);
-    id.cmp(&other) == want && Some(id).cmp(&Some(other)) == want && None < Some(id)
+/// Returns what is wrong of the default log id, which is at index 0, and of one that takes another.
+fn wrong_log_id() -> Option<&'static str> {
+    let mut id = LogId::new(CommittedLeaderId::new(1, 2u64), 3);
+    let next = LogId::new(CommittedLeaderId::new(4, 5u64), 6);
+    let leader = *id.committed_leader_id();
+    id.set_log_id(&next);
+    first_wrong(&[
+        ("its leader", leader == LeaderId::new(1, 2)),
+        ("another log id", *id.get_log_id() == next),
+        (
+            "the default",
+            LogId::<u64>::default() == LogId::new(LeaderId::new(0, 0), 0),
+        ),
+    ])
 }
 
 #[test]
-fn a_leader_decides_then_the_index(rt: HostRuntime) -> Result<(), Fail> {
-    let rows: [(Numbered, Numbered, Ordering); 5] = [
-        ((1, 2, 3), (1, 2, 3), Ordering::Equal),
-        ((1, 2, 3), (1, 2, 4), Ordering::Less),
-        ((2, 1, 3), (1, 2, 9), Ordering::Greater),
-        ((1, 2, 3), (1, 1, 9), Ordering::Greater),
-        ((0, 0, 0), (0, 0, 1), Ordering::Less),
-    ];
-    refuse_each(rt.alloc());
-    for (a, b, want) in rows {
-        assert!(rt; log_ids_compare(a, b, want), "at {a:?} and {b:?}");
-    }
-    assert!(rt; is_free(&rt, rt.alloc(), "comparison of log ids", true)?);
-    Ok(())
-}
-
-#[test]
-fn the_default_is_at_index_zero(rt: HostRuntime) -> Result<(), Fail> {
-    assert!(rt; LogId::<u64>::default() == LogId::new(LeaderId::new(0, 0), 0));
-    Ok(())
+fn a_log_id_takes_another(rt: HostRuntime) {
+    assert_right(&rt, "a log id", wrong_log_id());
 }

@@ -2,9 +2,8 @@
 ghost use Rattle.std.specs.Prelude.{◌≡◌};
 
 use crate::asserts::assert_right;
-use raft_base::{CommittedLeaderId, LeaderId, LogId, RaftLogId};
+use raft_base::{LeaderId, LogId, RaftLogId};
 use raft_testing::facts::first_wrong;
-use std::test::Fail;
 
 /// A log entry.
 #[derive(Clone, Copy)]
@@ -77,17 +76,6 @@ fn wrong_of_renumbered() -> Option<&'static str> {
 }
 
 #[test]
-fn an_entry_is_renumbered(rt: HostRuntime) -> Result<(), Fail> {
+fn an_entry_is_renumbered(rt: HostRuntime) {
     assert_right(&rt, "an entry", wrong_of_renumbered());
-    Ok(())
-}
-
-#[test]
-fn a_log_id_takes_another(rt: HostRuntime) -> Result<(), Fail> {
-    let mut id = LogId::new(CommittedLeaderId::new(1, 2u64), 3);
-    let next = LogId::new(CommittedLeaderId::new(4, 5u64), 6);
-    assert!(rt; *id.committed_leader_id() == LeaderId::new(1, 2));
-    id.set_log_id(&next);
-    assert!(rt; *id.get_log_id() == next);
-    Ok(())
 }

@@ -1,4 +1,4 @@
-//! Votes, and a caller that grants them over any kind of leader ids.
+//! Votes, and a caller that grants them over any kind of leader ids. Their order is in `order.rt`.
 ghost use Rattle.raft_base.specs.LogId.{log_id_cmp};
 ghost use Rattle.raft_base.specs.Vote.{vote_cmp};
 ghost use Rattle.std.specs.Option.{option_cmp};
@@ -9,10 +9,7 @@ use crate::asserts::assert_right;
 use raft_base::{
     CommittedLeaderId, LeaderAdv, LeaderId, LeaderKind, LogId, LogIdOf, NodeId, Vote, VoteOf,
 };
-use raft_testing::allocations::{is_free, refuse_each};
 use raft_testing::facts::first_wrong;
-use std::cmp::Ordering;
-use std::test::Fail;
 
 /// What a node has promised, over any kind of leader ids.
 #[derive(Drop)]
@@ -83,63 +80,12 @@ fn wrong_of_granted() -> Option<&'static str> {
     ])
 }
 
-#[test]
-fn a_vote_is_granted_once(rt: HostRuntime) -> Result<(), Fail> {
-    assert_right(&rt, "a promise", wrong_of_granted());
-    Ok(())
-}
-
-/// A leader as its term and node, and whether its vote is committed.
-type Voted = (u64, u64, bool);
-
-/// Returns what is wrong if two leaders and their votes should compare so.
-fn wrong_order(a: Voted, b: Voted, want: Ordering) -> Option<&'static str> {
-    let (leader, other) = (LeaderId::new(a.0, a.1), LeaderId::new(b.0, b.1));
-    let vote = Vote {
-        leader_id: leader,
-        committed: a.2,
-    };
-    let other_vote = Vote {
-        leader_id: other,
-        committed: b.2,
-    };
-    let is_same = want == Ordering::Equal;
-    let decides_later = a.2 != b.2;
-    first_wrong(&[
-        ("the votes", vote.partial_cmp(&other_vote) == Some(want)),
-        ("equality of the votes", (vote == other_vote) == is_same),
-        ("the leaders", decides_later || leader.cmp(&other) == want),
-        (
-            "equality of the leaders",
-            decides_later || (leader == other) == is_same,
-        ),
-    ])
-}
-
-/// Example base 1. Leader and vote (2, 2) are above (1, 2) and (2, 1), and equal themselves.
-/// The vote is below itself committed.
-#[test]
-fn a_term_decides_then_the_node_then_being_committed(rt: HostRuntime) -> Result<(), Fail> {
-    let rows: [(Voted, Voted, Ordering); 8] = [
-        ((2, 2, false), (1, 2, false), Ordering::Greater),
-        ((2, 2, false), (2, 1, false), Ordering::Greater),
-        ((2, 2, false), (2, 2, false), Ordering::Equal),
-        ((2, 1, false), (2, 2, false), Ordering::Less),
-        ((1, 9, false), (2, 2, false), Ordering::Less),
-        ((2, 2, true), (2, 2, false), Ordering::Greater),
-        ((1, 2, true), (2, 1, false), Ordering::Less),
-        ((2, 2, true), (2, 2, true), Ordering::Equal),
-    ];
-    refuse_each(rt.alloc());
-    for (a, b, want) in rows {
-        assert!(rt; wrong_order(a, b, want) == None, "at {a:?} and {b:?}");
-    }
-    assert!(rt; is_free(&rt, rt.alloc(), "comparison of votes", true)?);
-    Ok(())
-}
-
-/// Returns which read of a vote for node 7 in term 3 is wrong, before it is committed.
-fn wrong_read(vote: &Vote<u64>) -> Option<&'static str> {
+/// Returns which read of a vote for node 7 in term 3 is wrong, before it is committed and then, or
+/// which default is not zero and uncommitted.
+fn wrong_read() -> Option<&'static str> {
+    let vote = Vote::new(3, 7u64);
+    let mut committed = vote;
+    committed.commit();
     first_wrong(&[
         ("whether it is committed", !vote.is_committed()),
         ("its leader", *vote.leader_id() == LeaderId::new(3, 7)),
@@ -157,22 +103,18 @@ fn wrong_read(vote: &Vote<u64>) -> Option<&'static str> {
             "another term",
             !vote.is_same_leader(&CommittedLeaderId::new(2, 7)),
         ),
+        ("being committed", committed.is_committed()),
+        ("a committed vote", committed == Vote::new_committed(3, 7)),
+        (
+            "the default leader",
+            LeaderId::<u64>::default() == LeaderId::new(0, 0),
+        ),
+        ("the default", Vote::<u64>::default() == Vote::new(0, 0)),
     ])
 }
 
 #[test]
-fn votes_read_back(rt: HostRuntime) -> Result<(), Fail> {
-    let mut vote = Vote::new(3, 7u64);
-    assert_right(&rt, "a vote", wrong_read(&vote));
-    vote.commit();
-    assert!(rt; vote.is_committed());
-    assert!(rt; vote == Vote::new_committed(3, 7));
-    Ok(())
-}
-
-#[test]
-fn defaults_are_zero_and_not_committed(rt: HostRuntime) -> Result<(), Fail> {
-    assert!(rt; LeaderId::<u64>::default() == LeaderId::new(0, 0));
-    assert!(rt; Vote::<u64>::default() == Vote::new(0, 0));
-    Ok(())
+fn a_vote_is_granted_once_and_reads_back(rt: HostRuntime) {
+    assert_right(&rt, "a promise", wrong_of_granted());
+    assert_right(&rt, "a vote", wrong_read());
 }
