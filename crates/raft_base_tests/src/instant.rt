@@ -1,12 +1,11 @@
 //! Moments.
 
+use crate::asserts::assert_row;
 use raft_base::Instant;
-use std::test::Fail;
 
 /// Example base 5. From 5 to 9 pass 4 ticks. From 9 to 5 passes none.
 #[test]
-fn moments_pass(rt: HostRuntime) -> Result<(), Fail> {
+fn moments_pass(rt: HostRuntime) {
     let read = [5u64.elapsed(9), 9u64.elapsed(5), 5u64.ticks()];
-    assert!(rt; read == [4, 0, 5]);
-    Ok(())
+    assert_row(&rt, "moments", read == [4, 0, 5]);
 }

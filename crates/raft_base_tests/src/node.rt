@@ -1,7 +1,7 @@
 //! Node ids of a caller's own, and nodes with their defaults.
 ghost use Rattle.std.specs.Prelude.{◌≡◌, IfOk};
 
-use crate::asserts::assert_right;
+use crate::asserts::{are_equal, assert_call, assert_right, assert_row, equals};
 use raft_base::{BasicNode, EmptyNode, LeaderId, Node, NodeDefault, Vote};
 use raft_testing::address::Address;
 use raft_testing::allocations::is_compared;
@@ -9,7 +9,6 @@ use raft_testing::facts::first_wrong;
 use raft_testing::printing::displays;
 use std::alloc::{AllocError, Global};
 use std::fmt;
-use std::test::Fail;
 
 /// A node id of two numbers.
 #[derive(Debug, Clone, Copy, Default, PartialEq, Eq, PartialOrd, Ord, Hash)]
@@ -26,7 +25,10 @@ impl fmt::Display for Rack {
 }
 
 /// Returns what is wrong of votes and leaders over racks.
-fn wrong_rack(vote: &Vote<Rack>, near: Rack, far: Rack) -> Option<&'static str> {
+fn wrong_rack(alloc: Global) -> Option<&'static str> {
+    let near = Rack { row: 1, place: 9 };
+    let far = Rack { row: 2, place: 0 };
+    let vote = Vote::new(1, far);
     first_wrong(&[
         (
             "leaders of a term",
@@ -36,22 +38,18 @@ fn wrong_rack(vote: &Vote<Rack>, near: Rack, far: Rack) -> Option<&'static str> 
             "leaders of two terms",
             LeaderId::new(2, near) > LeaderId::new(1, far),
         ),
-        ("votes", Vote::new_committed(1, near) < *vote),
+        ("votes", Vote::new_committed(1, near) < vote),
         (
             "who is voted for",
             vote.leader_id().voted_for() == Some(far),
         ),
+        ("text", displays(alloc, &vote, "T1-N2/0:uncommitted")),
     ])
 }
 
 #[test]
-fn any_node_id_will_do(rt: HostRuntime) -> Result<(), Fail> {
-    let near = Rack { row: 1, place: 9 };
-    let far = Rack { row: 2, place: 0 };
-    let vote = Vote::new(1, far);
-    assert_right(&rt, "racks", wrong_rack(&vote, near, far));
-    assert!(rt; displays(rt.alloc(), &vote, "T1-N2/0:uncommitted"));
-    Ok(())
+fn any_node_id_will_do(rt: HostRuntime) {
+    assert_right(&rt, "racks", wrong_rack(rt.alloc()));
 }
 
 fn zero(alloc: Global) -> Result<u64, AllocError>
@@ -66,63 +64,52 @@ fn any_default<N: Node>(alloc: Global) -> Result<N, AllocError>
     N::default_node(alloc)
 }
 
-/// Returns the kind of nodes whose default is wrong, by their own calls.
-fn wrong_own_default(alloc: Global) -> Result<Option<&'static str>, AllocError> {
-    let facts = [
-        ("numbers", u64::default_node(alloc)? == 0),
-        ("nothing", <()>::default_node(alloc)? == ()),
+/// Returns the kind of nodes whose default is wrong, by their own calls and by a bound.
+fn wrong_default(alloc: Global) -> Option<&'static str> {
+    let text = String::new(alloc);
+    first_wrong(&[
+        ("texts", are_equal(any_default(alloc), Ok(Address { text }))),
+        ("zero", are_equal(zero(alloc), Ok(0))),
+        ("numbers", are_equal(u64::default_node(alloc), Ok(0))),
+        ("nothing", are_equal(<()>::default_node(alloc), Ok(()))),
         (
             "empty nodes",
-            EmptyNode::default_node(alloc)? == EmptyNode::new(),
+            are_equal(EmptyNode::default_node(alloc), Ok(EmptyNode::new())),
         ),
         (
             "empty nodes by Default",
-            EmptyNode::default() == EmptyNode {},
+            are_equal(Ok(EmptyNode::default()), Ok(EmptyNode {})),
         ),
         (
             "addresses",
-            BasicNode::default_node(alloc)? == BasicNode::new(alloc, "")?,
+            are_equal(BasicNode::default_node(alloc), BasicNode::new(alloc, "")),
         ),
-    ];
-    Ok(first_wrong(&facts))
-}
-
-/// Returns the kind of nodes whose default is wrong, by a bound.
-fn wrong_default(alloc: Global) -> Result<Option<&'static str>, AllocError> {
-    let facts = [
-        ("texts", any_default::<Address>(alloc)?.text.is_empty()),
-        ("zero", zero(alloc)? == 0),
-        ("numbers", any_default::<u64>(alloc)? == 0),
-        ("nothing", any_default::<()>(alloc)? == ()),
         (
-            "empty nodes",
-            any_default::<EmptyNode>(alloc)? == EmptyNode {},
+            "numbers, by a bound",
+            are_equal(any_default::<u64>(alloc), Ok(0)),
         ),
-    ];
-    Ok(first_wrong(&facts))
+        (
+            "nothing, by a bound",
+            are_equal(any_default::<()>(alloc), Ok(())),
+        ),
+        (
+            "empty nodes, by a bound",
+            are_equal(any_default::<EmptyNode>(alloc), Ok(EmptyNode {})),
+        ),
+    ])
 }
 
 #[test]
-fn nodes_have_defaults(rt: HostRuntime) -> Result<(), Fail> {
-    assert_right(&rt, "own calls", wrong_own_default(rt.alloc())?);
-    assert_right(&rt, "a bound", wrong_default(rt.alloc())?);
-    Ok(())
-}
-
-/// Whether a node with an address equals its clone.
-fn equals_its_clone(alloc: Global) -> Result<bool, AllocError> {
-    let here = BasicNode::new(alloc, "here")?;
-    Ok(here.clone()? == here)
-}
-
-#[test]
-fn nodes_are_cloned_and_compared(rt: HostRuntime) -> Result<(), Fail> {
+fn nodes_have_defaults_and_clones(rt: HostRuntime) {
     let alloc = rt.alloc();
-    let (here, there) = (
-        BasicNode::new(alloc, "here"),
-        BasicNode::new(alloc, "there"),
-    );
-    assert!(rt; equals_its_clone(alloc)?);
-    assert!(rt; is_compared(&rt, alloc, "comparison of nodes", here, there)?);
-    Ok(())
+    assert_right(&rt, "defaults", wrong_default(alloc));
+    let is_cloned = match BasicNode::new(alloc, "here") {
+        Ok(here) => equals(here.clone(), &here),
+        Err(_) => false,
+    };
+    assert_row(&rt, "a clone", is_cloned);
+    let name = "comparison of nodes";
+    let here = BasicNode::new(alloc, "here");
+    let there = BasicNode::new(alloc, "there");
+    assert_call(&rt, name, is_compared(&rt, alloc, name, here, there));
 }

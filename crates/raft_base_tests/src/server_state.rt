@@ -1,7 +1,7 @@
 //! What a node is.
 
+use crate::asserts::assert_row;
 use raft_base::ServerState;
-use std::test::Fail;
 
 /// Whether a state is exactly what its tests say: a learner, a follower, a candidate, the leader.
 fn is_exactly(state: ServerState, want: [bool; 4]) -> bool {
@@ -14,15 +14,35 @@ fn is_exactly(state: ServerState, want: [bool; 4]) -> bool {
 }
 
 #[test]
-fn states_are_told_apart(rt: HostRuntime) -> Result<(), Fail> {
-    for (state, want) in [
-        (ServerState::default(), [true, false, false, false]),
-        (ServerState::Follower, [false, true, false, false]),
-        (ServerState::Candidate, [false, false, true, false]),
-        (ServerState::Leader, [false, false, false, true]),
-        (ServerState::Shutdown, [false, false, false, false]),
-    ] {
-        assert!(rt; is_exactly(state, want), "{state:?}");
-    }
-    Ok(())
+fn states_are_told_apart(rt: HostRuntime) {
+    let default = ServerState::default();
+    assert_row(
+        &rt,
+        "learner",
+        is_exactly(default, [true, false, false, false]),
+    );
+    let follower = ServerState::Follower;
+    assert_row(
+        &rt,
+        "follower",
+        is_exactly(follower, [false, true, false, false]),
+    );
+    let candidate = ServerState::Candidate;
+    assert_row(
+        &rt,
+        "candidate",
+        is_exactly(candidate, [false, false, true, false]),
+    );
+    let leader = ServerState::Leader;
+    assert_row(
+        &rt,
+        "leader",
+        is_exactly(leader, [false, false, false, true]),
+    );
+    let shutdown = ServerState::Shutdown;
+    assert_row(
+        &rt,
+        "shutdown",
+        is_exactly(shutdown, [false, false, false, false]),
+    );
 }

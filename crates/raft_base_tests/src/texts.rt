@@ -1,84 +1,107 @@
-//! What leaders, votes, log ids, nodes, stamped values and broken relations print.
+//! What leaders, votes, log ids, nodes, stamped values, ranges and broken relations print.
 
+use crate::asserts::{assert_right, assert_row, prints};
 use raft_base::{
-    BasicNode, DisplayOption, EmptyNode, Invalid, LeaderId, LeaderStd, LogId, LogIdOf, UTime, Vote,
-    VoteOf, leader_id_std,
+    BasicNode, DisplayOption, EmptyNode, Invalid, LeaderId, LeaderStd, LogId, LogIdOf, LogIdRange,
+    UTime, Vote, VoteOf, leader_id_std,
 };
 use raft_testing::printing::{debugs, displays, sums_up};
-use std::alloc::{AllocError, Global};
-use std::test::Fail;
+use std::alloc::Global;
 
 type StdLeader = leader_id_std::LeaderId<u64>;
 
 type StdCommitted = leader_id_std::CommittedLeaderId;
 
-/// Whether the values print themselves.
-fn display(alloc: Global) -> Result<bool, AllocError> {
+/// Whether leaders, votes and log ids have their texts. The two texts of a value are how it
+/// displays, and its debug form.
+fn ids_print(alloc: Global) -> [bool; 10] {
     let leader = LeaderId::new(1, 2u64);
     let id = LogId::new(leader, 3);
-    let are_right = [
-        displays(alloc, &leader, "T1-N2"),
-        displays(alloc, &Vote::new(1, 2u64), "T1-N2:uncommitted"),
-        displays(alloc, &Vote::new_committed(1, 2u64), "T1-N2:committed"),
-        displays(alloc, &id, "T1-N2-3"),
-        displays(alloc, &LogId::new(leader, 0), "T1-N2-0"),
+    let first = LogId::new(leader, 0);
+    let vote = Vote::new(1, 2u64);
+    let committed = Vote::new_committed(1, 2u64);
+    let leader_texts = ["T1-N2", "LeaderId { term: 1, node_id: 2 }"];
+    let vote_texts = [
+        "T1-N2:uncommitted",
+        "Vote { leader_id: LeaderId { term: 1, node_id: 2 }, committed: false }",
+    ];
+    let committed_texts = [
+        "T1-N2:committed",
+        "Vote { leader_id: LeaderId { term: 1, node_id: 2 }, committed: true }",
+    ];
+    let id_texts = [
+        "T1-N2-3",
+        "LogId { leader_id: LeaderId { term: 1, node_id: 2 }, index: 3 }",
+    ];
+    let optional = "Some(LogId { leader_id: LeaderId { term: 1, node_id: 2 }, index: 0 })";
+    [
+        prints(alloc, Ok(leader), leader_texts),
+        prints(alloc, Ok(vote), vote_texts),
+        sums_up(alloc, &vote, "T1-N2:uncommitted"),
+        prints(alloc, Ok(committed), committed_texts),
+        prints(alloc, Ok(id), id_texts),
+        sums_up(alloc, &id, "T1-N2-3"),
+        displays(alloc, &first, "T1-N2-0"),
+        debugs(alloc, &Some(first), optional),
         displays(alloc, &DisplayOption(&Some(id)), "T1-N2-3"),
         displays(alloc, &DisplayOption::<LogId<u64>>(&None), "None"),
-        sums_up(alloc, &id, "T1-N2-3"),
-        sums_up(alloc, &Vote::new(1, 2u64), "T1-N2:uncommitted"),
-        displays(alloc, &EmptyNode::new(), "{}"),
-        displays(alloc, &BasicNode::new(alloc, "10.0.0.1:80")?, "10.0.0.1:80"),
-        displays(alloc, &BasicNode::new(alloc, "")?, ""),
-        displays(alloc, &UTime::new(9u64, id), "T1-N2-3@9"),
-        displays(alloc, &UTime::<_, u64>::without_utime(id), "T1-N2-3"),
-    ];
-    Ok(!are_right.contains(&false))
+    ]
 }
 
-/// Whether values with standard leader ids print themselves.
-fn display_standard(alloc: Global) -> bool {
-    let vote = VoteOf::<u64, LeaderStd>::new_committed(1, 2);
+/// Whether leaders, votes and log ids of standard Raft have their texts.
+fn standard_ids_print(alloc: Global) -> [bool; 7] {
+    let leader = StdCommitted { term: 1 };
+    let vote = VoteOf::<u64, LeaderStd>::new(1, 2);
+    let committed = VoteOf::<u64, LeaderStd>::new_committed(1, 2);
     let none = VoteOf::<u64, LeaderStd>::default();
-    let are_right = [
-        displays(alloc, vote.leader_id(), "T1-N2"),
-        displays(alloc, &StdLeader::default(), "T0-NNone"),
-        displays(alloc, &StdCommitted { term: 1 }, "1"),
-        displays(alloc, &vote, "T1-N2:committed"),
+    let vote_texts = [
+        "T1-N2:uncommitted",
+        "Vote { leader_id: LeaderId { term: 1, voted_for: Some(2) }, committed: false }",
+    ];
+    let committed_texts = [
+        "T1-N2:committed",
+        "Vote { leader_id: LeaderId { term: 1, voted_for: Some(2) }, committed: true }",
+    ];
+    let no_leader = ["T0-NNone", "LeaderId { term: 0, voted_for: None }"];
+    let leader_texts = ["1", "CommittedLeaderId { term: 1 }"];
+    [
+        displays(alloc, committed.leader_id(), "T1-N2"),
+        prints(alloc, Ok(vote), vote_texts),
+        prints(alloc, Ok(committed), committed_texts),
+        prints(alloc, Ok(StdLeader::default()), no_leader),
+        prints(alloc, Ok(leader), leader_texts),
         sums_up(alloc, &none, "T0-NNone:uncommitted"),
-        sums_up(alloc, &LogIdOf::new(StdCommitted { term: 1 }, 3), "1-3"),
-    ];
-    !are_right.contains(&false)
+        sums_up(alloc, &LogIdOf::new(leader, 3), "1-3"),
+    ]
 }
 
-/// Whether their debug forms are those of the original.
-fn debug(alloc: Global) -> Result<bool, AllocError> {
-    let leader = LeaderId::new(1, 2u64);
-    let uncommitted = "Vote { leader_id: LeaderId { term: 1, node_id: 2 }, committed: false }";
-    let committed = "Vote { leader_id: LeaderId { term: 1, node_id: 2 }, committed: true }";
-    let id = "LogId { leader_id: LeaderId { term: 1, node_id: 2 }, index: 3 }";
-    let first = "Some(LogId { leader_id: LeaderId { term: 1, node_id: 2 }, index: 0 })";
-    let standard = "Vote { leader_id: LeaderId { term: 1, voted_for: Some(2) }, committed: false }";
-    let none = "LeaderId { term: 0, voted_for: None }";
-    let are_right = [
-        debugs(alloc, &leader, "LeaderId { term: 1, node_id: 2 }"),
-        debugs(alloc, &Vote::new(1, 2u64), uncommitted),
-        debugs(alloc, &Vote::new_committed(1, 2u64), committed),
-        debugs(alloc, &LogId::new(leader, 3), id),
-        debugs(alloc, &Some(LogId::new(leader, 0)), first),
-        debugs(alloc, &VoteOf::<u64, LeaderStd>::new(1, 2), standard),
-        debugs(alloc, &StdLeader::default(), none),
-        debugs(alloc, &EmptyNode::new(), "EmptyNode"),
-        debugs(
-            alloc,
-            &BasicNode::new(alloc, "here")?,
-            "BasicNode { addr: \"here\" }",
-        ),
-    ];
-    Ok(!are_right.contains(&false))
+/// Whether nodes, stamped values and ranges have their texts.
+fn values_print(alloc: Global) -> [bool; 9] {
+    let id = LogId::new(LeaderId::new(1, 2u64), 3);
+    let later = LogId::new(LeaderId::new(1, 2u64), 9);
+    let address = ["10.0.0.1:80", "BasicNode { addr: \"10.0.0.1:80\" }"];
+    let here = ["here", "BasicNode { addr: \"here\" }"];
+    let empty = ["", "BasicNode { addr: \"\" }"];
+    let stamped = UTime::new(9u64, id);
+    let without = UTime::<_, u64>::without_utime(id);
+    let range = LogIdRange::new(Some(id), Some(later));
+    let from_none = LogIdRange::new(None, Some(id));
+    let none = LogIdRange::<u64>::new(None, None);
+    [
+        prints(alloc, Ok(EmptyNode::new()), ["{}", "EmptyNode"]),
+        prints(alloc, BasicNode::new(alloc, "10.0.0.1:80"), address),
+        prints(alloc, BasicNode::new(alloc, "here"), here),
+        prints(alloc, BasicNode::new(alloc, ""), empty),
+        displays(alloc, &stamped, "T1-N2-3@9"),
+        displays(alloc, &without, "T1-N2-3"),
+        displays(alloc, &range, "(T1-N2-3, T1-N2-9]"),
+        displays(alloc, &from_none, "(None, T1-N2-3]"),
+        debugs(alloc, &none, "LogIdRange { prev: None, last: None }"),
+    ]
 }
 
-/// Whether each broken relation prints its name.
-fn invalid_displays(alloc: Global) -> bool {
+/// Returns which broken relation does not print its name.
+fn wrong_relation(alloc: Global) -> Option<&'static str> {
     let texts = [
         (Invalid::RangeOrder, "invalid: RangeOrder"),
         (Invalid::MatchingPastEnd, "invalid: MatchingPastEnd"),
@@ -102,19 +125,19 @@ fn invalid_displays(alloc: Global) -> bool {
     ];
     for (broken, text) in &texts {
         if !displays(alloc, broken, text) {
-            return false;
+            return Some(*text);
         }
     }
-    true
+    None
 }
 
-/// Example base 6. The texts of leaders, votes, log ids, nodes, stamped values and broken
+/// Example base 6. The texts of leaders, votes, log ids, nodes, stamped values, ranges and broken
 /// relations.
 #[test]
-fn texts(rt: HostRuntime) -> Result<(), Fail> {
-    assert!(rt; display(rt.alloc())?);
-    assert!(rt; display_standard(rt.alloc()));
-    assert!(rt; debug(rt.alloc())?);
-    assert!(rt; invalid_displays(rt.alloc()));
-    Ok(())
+fn texts(rt: HostRuntime) {
+    let alloc = rt.alloc();
+    assert_row(&rt, "ids", ids_print(alloc) == [true; 10]);
+    assert_row(&rt, "standard ids", standard_ids_print(alloc) == [true; 7]);
+    assert_row(&rt, "values", values_print(alloc) == [true; 9]);
+    assert_right(&rt, "broken relations", wrong_relation(alloc));
 }

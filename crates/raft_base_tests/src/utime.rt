@@ -4,12 +4,12 @@ ghost use Rattle.std.specs.Option.{option_cmp};
 ghost use Rattle.std.specs.Ordering.{is_ge};
 ghost use Rattle.std.specs.Prelude.{if◌then◌else◌, ◌≡◌, Some};
 
-use crate::asserts::assert_right;
+use crate::asserts::{assert_call, assert_right, assert_row, equals};
 use raft_base::{Instant, UTime};
 use raft_testing::allocations::{is_free, refuse_each};
 use raft_testing::facts::first_wrong;
+use raft_testing::memory::holds;
 use std::alloc::{AllocError, Global};
-use std::test::Fail;
 
 /// Marks a value as updated now, unless it was updated later than that.
 fn touch_in_turn<T: Drop, I: Instant>(value: &mut UTime<T, I>, now: I)
@@ -64,18 +64,22 @@ fn wrong_of_stamped() -> Option<&'static str> {
     ])
 }
 
-/// Whether a list of texts is cloned with its moment.
+/// Whether a text is cloned with its moment.
 fn is_cloned(alloc: Global) -> Result<bool, AllocError> {
     let stamped = UTime::new(3u64, String::from_str(alloc, "voted")?);
-    Ok(stamped.try_clone()? == stamped && stamped.clone()? == stamped)
+    let are_equal = [
+        equals(stamped.try_clone(), &stamped),
+        equals(stamped.clone(), &stamped),
+    ];
+    Ok(are_equal == [true, true])
 }
 
 #[test]
-fn values_are_stamped(rt: HostRuntime) -> Result<(), Fail> {
-    assert!(rt; is_cloned(rt.alloc())?);
+fn values_are_stamped(rt: HostRuntime) {
+    assert_row(&rt, "clones", holds(is_cloned(rt.alloc())));
     refuse_each(rt.alloc());
     let wrong = wrong_of_stamped();
-    assert!(rt; is_free(&rt, rt.alloc(), "UTime", wrong == None)?);
+    let is_free = is_free(&rt, rt.alloc(), "UTime", wrong.is_none());
     assert_right(&rt, "a count", wrong);
-    Ok(())
+    assert_call(&rt, "UTime", is_free);
 }
