@@ -1,198 +1,178 @@
 //! Memberships and quorums, with each allocation refused in turn or all of them.
 
-use super::{quorum_set, texts};
-use crate::support::lines::change;
-use raft_base::{CommittedLeaderId, LogId, MessageSummary};
-use raft_members::quorum::{FindCoherent, Joint, QuorumSet};
-use raft_members::{ChangeMembershipError, EffectiveMembership, Membership};
+use super::error;
+use crate::support::asserts::assert_call;
+use crate::support::lines::{Members, change};
+use crate::support::memberships::{Effective, effective, id};
+use crate::support::quorums::{Configs, joint};
+use raft_base::MessageSummary;
+use raft_members::quorum::{FindCoherent, QuorumSet};
+use raft_members::{ChangeMembershipError, Membership};
 use raft_testing::allocations::{Allocation, is_compared, is_free_on, is_swept};
 use raft_testing::memory::both;
-use raft_testing::words::{configs, ids, members};
+use raft_testing::words::{configs, ids, members, words};
 use std::alloc::{AllocError, Global};
-use std::test::Fail;
+use std::collections::BTreeSet;
 
-type Members = Membership<u64, u64>;
+/// Calls that make a membership, most of them of the one with the voters 1 and 2 and a learner 3.
+/// Behind the name of a call are its kind and a list.
+const CALLS: &str = "
+Membership::change, AddVoterIds: add-ids 3
+Membership::change, AddVoters: add 5=5
+Membership::change, RemoveVoters: remove 1
+Membership::change, ReplaceAllVoters: replace 2,3
+Membership::change, AddNodes: add-nodes 4=4
+Membership::change, SetNodes: set-nodes 3=30,4=40
+Membership::change, RemoveNodes: remove-nodes 3
+Membership::change, ReplaceAllNodes: replace-nodes 1=1,2=2,4=4
+Membership::next_coherent: step 2,3
+Membership::new: new 3
+";
 
-/// The voters 1 and 2 and a learner 3.
-fn voters_and_learner(alloc: Global) -> Result<Members, AllocError> {
-    members(alloc, "1,2", "1=1,2=2,3=3")
-}
-
-/// Two configs with three learners.
-fn two_configs(alloc: Global) -> Result<Members, AllocError> {
-    members(alloc, "1,2/2,4", "1=1,2=2,3=3,4=4")
-}
-
-#[test]
-fn allocations_of_changes(rt: HostRuntime) -> Result<(), Fail> {
-    for (name, kind, list) in [
-        ("Membership::change, AddVoterIds", "add-ids", "3"),
-        ("Membership::change, AddVoters", "add", "5=5"),
-        ("Membership::change, RemoveVoters", "remove", "1"),
-        ("Membership::change, ReplaceAllVoters", "replace", "2,3"),
-        ("Membership::change, AddNodes", "add-nodes", "4=4"),
-        ("Membership::change, SetNodes", "set-nodes", "3=30,4=40"),
-        ("Membership::change, RemoveNodes", "remove-nodes", "3"),
-        (
-            "Membership::change, ReplaceAllNodes",
-            "replace-nodes",
-            "1=1,2=2,4=4",
-        ),
-    ] {
-        let old = |alloc: Global| voters_and_learner(alloc);
-        let call = |allocation: Allocation, old: &mut Members| {
-            let change = change(allocation.alloc, kind, list)?;
+/// Makes the call of a kind. A new membership has learners beside two configs.
+fn call(
+    allocation: Allocation,
+    old: &Members,
+    kind: &str,
+    list: &str,
+) -> Result<Members, ChangeMembershipError<u64>> {
+    let alloc = allocation.alloc;
+    match kind {
+        "new" => {
+            let (configs, learners) = both(configs(alloc, "1,2/2,4"), ids(alloc, list))?;
             allocation.refuse();
-            match old.change(change, true) {
-                Err(ChangeMembershipError::OutOfMemory) => Err(AllocError),
-                made => Ok(made),
-            }
-        };
-        assert!(rt; is_swept(&rt, rt.alloc(), name, old, call)?);
+            Ok(Membership::new(configs, learners)?)
+        }
+        "step" => {
+            let goal = ids(alloc, list)?;
+            allocation.refuse();
+            Ok(old.next_coherent(goal, false)?)
+        }
+        _ => {
+            let change = change(alloc, kind, list)?;
+            allocation.refuse();
+            old.change(change, true)
+        }
     }
-    Ok(())
 }
-
-type Lists = Joint<u64, Vec<u64>, Vec<Vec<u64>>>;
 
 /// Finds the joint that is coherent with one of two lists, on the way to a third.
-fn find(allocation: Allocation, old: &Lists) -> Result<Lists, AllocError> {
+fn find(allocation: Allocation, old: &Configs) -> Result<Configs, AllocError> {
     let goal = [4].to_vec(allocation.alloc)?;
     allocation.refuse();
     old.find_coherent(allocation.alloc, goal)
 }
 
 #[test]
-fn allocations_of_steps(rt: HostRuntime) -> Result<(), Fail> {
-    let old = |alloc: Global| voters_and_learner(alloc);
-    let next = |allocation: Allocation, old: &mut Members| {
-        let goal = ids(allocation.alloc, "2,3")?;
+fn allocations_of_memberships(rt: HostRuntime) {
+    let alloc = rt.alloc();
+    let old = |alloc: Global| members(alloc, "1,2", "1=1,2=2,3=3");
+    for row in CALLS.trim().lines() {
+        let (name, row) = row.split_once(": ").unwrap_or((row, ""));
+        let call = |allocation: Allocation, old: &mut Members| {
+            let [kind, list, ..] = words(row);
+            match call(allocation, old, kind, list) {
+                Err(ChangeMembershipError::OutOfMemory) => Err(AllocError),
+                made => Ok(made),
+            }
+        };
+        assert_call(&rt, name, is_swept(&rt, alloc, name, old, call));
+    }
+    let new = |allocation: Allocation, _: &mut Members| {
+        let membership = members(allocation.alloc, "1,2/2,4", "1=1,2=2,3=3,4=4")?;
         allocation.refuse();
-        old.next_coherent(goal, false)
+        Effective::new(Some(id()), membership)
     };
-    let lists = |alloc: Global| members(alloc, "1,2/2,3", "-")?.to_quorum_set();
-    let find = |allocation: Allocation, old: &mut Lists| find(allocation, old);
-    assert!(rt; is_swept(&rt, rt.alloc(), "Membership::next_coherent", old, next)?);
-    assert!(rt; is_swept(&rt, rt.alloc(), "find_coherent", lists, find)?);
-    Ok(())
-}
-
-type Effective = EffectiveMembership<u64, u64>;
-
-fn log_id() -> Option<LogId<u64>> {
-    Some(LogId::new(CommittedLeaderId::new(1, 1), 2))
-}
-
-#[test]
-fn allocations_of_memberships(rt: HostRuntime) -> Result<(), Fail> {
-    let nothing = |_: Global| Ok(());
-    let new = |allocation: Allocation, _: &mut ()| {
-        let configs = configs(allocation.alloc, "1,2/2,4")?;
-        let learners = ids(allocation.alloc, "3")?;
-        allocation.refuse();
-        Members::new(configs, learners)
-    };
-    let new_effective = |allocation: Allocation, _: &mut ()| {
-        let membership = two_configs(allocation.alloc)?;
-        allocation.refuse();
-        Effective::new(log_id(), membership)
-    };
-    assert!(rt; is_swept(&rt, rt.alloc(), "Membership::new", nothing, new)?);
-    assert!(rt;
-        is_swept(
-            &rt,
-            rt.alloc(),
-            "EffectiveMembership::new",
-            nothing,
-            new_effective
-        )?
-    );
-    Ok(())
+    let name = "EffectiveMembership::new";
+    assert_call(&rt, name, is_swept(&rt, alloc, name, old, new));
 }
 
 #[test]
-fn allocations_of_summaries(rt: HostRuntime) -> Result<(), Fail> {
+fn allocations_of_steps(rt: HostRuntime) {
+    let name = "find_coherent";
+    let old = |alloc: Global| joint(alloc, "1,2/2,3");
+    let find = |allocation: Allocation, old: &mut Configs| find(allocation, old);
+    assert_call(&rt, name, is_swept(&rt, rt.alloc(), name, old, find));
+}
+
+#[test]
+fn allocations_of_summaries(rt: HostRuntime) {
     for name in [
         "Membership::summary",
         "StoredMembership::summary",
         "EffectiveMembership::summary",
     ] {
-        let effective = |alloc: Global| Effective::new(log_id(), two_configs(alloc)?);
-        let call = |allocation: Allocation, effective: &mut Effective| {
+        let old = |alloc: Global| effective(alloc, Some(id()), "1,2/2,4", "1=1,2=2,3=3,4=4");
+        let call = |allocation: Allocation, old: &mut Effective| {
             allocation.refuse();
             match name {
-                "Membership::summary" => effective.membership().summary(allocation.alloc),
-                "StoredMembership::summary" => effective
-                    .stored_membership()
-                    .summary(allocation.alloc),
-                _ => effective.summary(allocation.alloc),
+                "Membership::summary" => old.membership().summary(allocation.alloc),
+                "StoredMembership::summary" => old.stored_membership().summary(allocation.alloc),
+                _ => old.summary(allocation.alloc),
             }
         };
-        assert!(rt; is_swept(&rt, rt.alloc(), name, effective, call)?);
+        assert_call(&rt, name, is_swept(&rt, rt.alloc(), name, old, call));
     }
-    Ok(())
 }
 
 /// Whether two configs as a joint and as an effective membership answer sets of ids, and equal
 /// themselves.
-fn all_answered(joint: &Lists, effective: &Effective) -> bool {
-    for (ids, want) in [
-        ([1, 2, 3].as_slice(), false),
-        ([6, 7].as_slice(), false),
-        ([1, 2, 3, 6, 7].as_slice(), true),
-    ] {
-        if joint.is_quorum(ids) != want || effective.is_quorum(ids) != want {
-            return false;
-        }
-    }
-    *joint == *joint && *effective == *effective
+fn all_answered(joint: &Configs, effective: &Effective) -> bool {
+    let are_right = [
+        !joint.is_quorum(&[1, 2, 3]),
+        !joint.is_quorum(&[6, 7]),
+        joint.is_quorum(&[1, 2, 3, 6, 7]),
+        !effective.is_quorum(&[1, 2, 3]),
+        !effective.is_quorum(&[6, 7]),
+        effective.is_quorum(&[1, 2, 3, 6, 7]),
+        *joint == *joint,
+        *effective == *effective,
+    ];
+    are_right == [true; 8]
+}
+
+/// Whether a list of four ids, a slice and a set of them answer sets of ids.
+fn each_answers(list: &Vec<u64>, set: &BTreeSet<u64>) -> bool {
+    let are_right = [
+        !list.is_quorum(&[1, 2]),
+        !list.as_slice().is_quorum(&[1, 2]),
+        !set.is_quorum(&[1, 2]),
+        list.is_quorum(&[4, 2, 1]),
+        list.as_slice().is_quorum(&[4, 2, 1]),
+        set.is_quorum(&[4, 2, 1]),
+    ];
+    are_right == [true; 6]
 }
 
 #[test]
-fn no_allocations_of_quorums(rt: HostRuntime) -> Result<(), Fail> {
+fn no_allocations_of_quorums(rt: HostRuntime) {
     let alloc = rt.alloc();
-    let lists = || members(alloc, "1,2,3,4,5/6,7,8", "-")?.to_quorum_set();
-    let effective = || Effective::new(log_id(), members(alloc, "1,2,3,4,5/6,7,8", "-")?);
     let name = "is_quorum of a joint and of a membership";
-    assert!(rt;
-        is_free_on(
-            &rt,
-            alloc,
-            name,
-            both(lists(), effective()),
-            |held| all_answered(&held.0, &held.1)
-        )?
+    let held = both(
+        joint(alloc, "1,2,3,4,5/6,7,8"),
+        effective(alloc, Some(id()), "1,2,3,4,5/6,7,8", "-"),
     );
+    let answer = |held: &mut (Configs, Effective)| all_answered(&held.0, &held.1);
+    assert_call(&rt, name, is_free_on(&rt, alloc, name, held, answer));
     let name = "is_quorum of a list and of a set";
     let held = both([1, 2, 3, 4].to_vec(alloc), ids(alloc, "1,2,3,4"));
-    assert!(rt;
-        is_free_on(&rt, alloc, name, held, |held| {
-            quorum_set::each_answers(&held.0, &held.1, &[1, 2], false)
-                && quorum_set::each_answers(&held.0, &held.1, &[4, 2, 1], true)
-        })?
-    );
-    Ok(())
+    let answer = |held: &mut (Vec<u64>, BTreeSet<u64>)| each_answers(&held.0, &held.1);
+    assert_call(&rt, name, is_free_on(&rt, alloc, name, held, answer));
 }
 
 #[test]
-fn no_allocations_of_comparisons(rt: HostRuntime) -> Result<(), Fail> {
+fn no_allocations_of_comparisons(rt: HostRuntime) {
     let alloc = rt.alloc();
-    let (add, other) = (change(alloc, "add", "3=30"), change(alloc, "add", "3=31"));
-    assert!(rt; is_compared(&rt, alloc, "comparison of changes", add, other)?);
-    let (few, other) = (
-        texts::quorum_not_enough(alloc, 1),
-        texts::quorum_not_enough(alloc, 2),
+    let name = "comparison of changes";
+    let (one, other) = (change(alloc, "add", "3=30"), change(alloc, "add", "3=31"));
+    assert_call(&rt, name, is_compared(&rt, alloc, name, one, other));
+    let name = "comparison of errors of a quorum";
+    let (one, other) = (
+        error::quorum_not_enough(alloc, "1"),
+        error::quorum_not_enough(alloc, "2"),
     );
-    assert!(rt; is_compared(&rt, alloc, "comparison of errors of a quorum", few, other)?);
-    let (outside, refused) = (texts::not_in_members(alloc), Ok(texts::not_allowed()));
-    assert!(rt;
-        is_compared(
-            &rt,
-            alloc,
-            "comparison of errors of a start",
-            outside,
-            refused
-        )?
-    );
-    Ok(())
+    assert_call(&rt, name, is_compared(&rt, alloc, name, one, other));
+    let name = "comparison of errors of a start";
+    let (one, other) = (error::not_in_members(alloc), Ok(error::not_allowed()));
+    assert_call(&rt, name, is_compared(&rt, alloc, name, one, other));
 }

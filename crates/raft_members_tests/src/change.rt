@@ -1,11 +1,11 @@
 //! Changes of a membership.
 
 use crate::support::asserts::assert_row;
-use crate::support::lines::{KINDS, change_is_right};
+use crate::support::lines::assert_rows;
 use raft_members::{ChangeMembers, Membership};
 use raft_testing::address::Address;
 use raft_testing::words::configs;
-use std::alloc::{AllocError, Global};
+use std::alloc::Global;
 use std::collections::BTreeMap;
 use std::test::Fail;
 
@@ -36,59 +36,35 @@ const ROWS: &str = "
 5,7/4,9/3 3=3,5=5 replace-nodes 3=3 retain err LearnerNotFound 4
 ";
 
+// A change that always lacks memory fails here: each kind has rows in which it is accepted.
 /// Example members 7. Configs {1, 2} and nodes 1 to 3: each change of voters and of nodes, with
 /// and without `retain`, and each refusal. Two steps lead from {1, 2} to {1, 3} by {2, 3}.
-#[test]
-fn changes_have_their_worked_answers(rt: HostRuntime) -> Result<(), Fail> {
-    for line in ROWS.trim().lines() {
-        assert_row(&rt, line, change_is_right(rt.alloc(), line)?);
-    }
-    Ok(())
-}
-
-/// Whether some row of a kind is accepted.
-fn is_accepted(alloc: Global, kind: &str) -> Result<bool, AllocError> {
-    let words = format!(in alloc; " {kind} ")?;
-    for line in ROWS.trim().lines() {
-        if line.contains(words.as_str()) && line.contains(" ok ") && change_is_right(alloc, line)? {
-            return Ok(true);
-        }
-    }
-    Ok(false)
-}
-
-// A change that always lacks memory fails here: each kind is accepted in ample memory.
 /// Example members 9. Each kind of change is accepted if there is memory.
 #[test]
-fn each_kind_is_accepted(rt: HostRuntime) -> Result<(), Fail> {
-    for kind in KINDS {
-        assert_row(&rt, kind, is_accepted(rt.alloc(), kind)?);
-    }
-    Ok(())
+fn changes_have_their_worked_answers(rt: HostRuntime) {
+    assert_rows(&rt, rt.alloc(), "changes", ROWS);
 }
 
 /// A membership of one voter at the default address, and another node at a given one.
 fn with_address(alloc: Global, text: &str) -> Result<Membership<u64, Address>, Fail> {
-    let from = Membership::new(configs(alloc, "1")?, ())?;
     let text = String::from_str(alloc, text)?;
     let mut nodes = BTreeMap::new(alloc);
     nodes.insert(2, Address { text })?;
+    let from = Membership::new(configs(alloc, "1")?, ())?;
     Ok(from.change(ChangeMembers::AddVoters(nodes), true)?)
 }
 
-/// Whether the address of an id is the text.
-fn has_address(members: &Membership<u64, Address>, id: u64, text: &str) -> bool {
-    match members.get_node(&id) {
-        Some(node) => node.text.as_str() == text,
-        None => false,
+/// Whether the addresses of the nodes 1 and 2 are these texts.
+fn has_addresses(members: &Membership<u64, Address>, first: &str, second: &str) -> bool {
+    match (members.get_node(&1), members.get_node(&2)) {
+        (Some(one), Some(other)) => [one.text.as_str(), other.text.as_str()] == [first, second],
+        _ => false,
     }
 }
 
 #[test]
 fn a_node_may_hold_a_text(rt: HostRuntime) -> Result<(), Fail> {
     let made = with_address(rt.alloc(), "there")?;
-    for (id, text) in [(1, ""), (2, "there")] {
-        assert!(rt; has_address(&made, id, text), "of {id}");
-    }
+    assert_row(&rt, "addresses", has_addresses(&made, "", "there"));
     Ok(())
 }

@@ -1,80 +1,57 @@
 //! Joints that share a child, and the way from one to another.
 
-use crate::support::asserts::assert_row;
-use crate::support::quorums::{Configs, joint};
-use raft_members::quorum::{AsJoint, Coherent, FindCoherent, Joint};
+use crate::support::asserts::assert_made;
+use crate::support::quorums::{BorrowedConfigs, Configs, joint};
+use crate::support::values::{are_equal, equals};
+use raft_members::quorum::{AsJoint, Coherent, FindCoherent};
+use raft_testing::facts::first_wrong;
+use raft_testing::memory::both;
 use raft_testing::words::{list, words};
 use std::alloc::{AllocError, Global};
-use std::test::Fail;
 
-/// Whether a joint equals its clones.
-fn equals_clones(joint: &Configs) -> Result<bool, AllocError> {
-    let clones_are_equal = [joint.try_clone()? == *joint, joint.clone()? == *joint];
-    Ok(clones_are_equal == [true, true])
+/// Each row has two joints, and whether they share a child. Then it has a goal, whether the goal is
+/// a child of the first joint, and the joint to which the step from the first joint to the goal
+/// leads.
+const ROWS: &str = "
+none none no 1 no 1
+1 2/3 no 1 yes 1
+1/2 2/3 yes 1 yes 1
+1/2 2/3 yes 2 yes 2
+1/2 2/3 yes 3 no 2/3
+";
+
+/// Whether two joints, and two borrowed ones, are coherent as wanted.
+fn are_coherent(these: &Configs, others: &Configs, want: bool) -> bool {
+    let owned: bool = these.is_coherent_with(others);
+    let borrowed: BorrowedConfigs<'_> = these.children().as_joint();
+    let others: BorrowedConfigs<'_> = others.children().as_joint();
+    [owned, borrowed.is_coherent_with(&others)] == [want, want]
 }
 
-/// Whether the step from the joint of a row's first word to the goal of its second one leads to the
-/// joint of its third one.
-fn leads_to(alloc: Global, row: &str) -> Result<bool, AllocError> {
-    let [from, goal, want, ..] = words(row);
-    let from = joint(alloc, from)?;
-    let next = from.find_coherent(alloc, list(alloc, goal)?)?;
-    Ok(equals_clones(&from)? && next == joint(alloc, want)?)
+/// Returns what is wrong of the joints of a row.
+fn wrong_joint(alloc: Global, row: &str) -> Result<Option<&'static str>, AllocError> {
+    let [these, others, shares_child, goal, has_goal, next, ..] = words(row);
+    let (these, others) = both(joint(alloc, these), joint(alloc, others))?;
+    let goal = list(alloc, goal)?;
+    let is_child: bool = these.is_coherent_with(&goal);
+    let is_next = are_equal(these.find_coherent(alloc, goal), joint(alloc, next));
+    Ok(first_wrong(&[
+        (
+            "coherence",
+            are_coherent(&these, &others, shares_child == "yes"),
+        ),
+        ("coherence with a child", is_child == (has_goal == "yes")),
+        ("the next joint", is_next),
+        ("try_clone", equals(these.try_clone(), &these)),
+        ("clone", equals(these.clone(), &these)),
+    ]))
 }
 
 /// Example members 5. From two configs the step to a third one gives the second and the third,
 /// and the step to the first gives the first alone. From no config it gives the goal.
 #[test]
-fn the_next_joint_shares_a_child(rt: HostRuntime) -> Result<(), Fail> {
-    for row in ["none 1 1", "1/2 1 1", "1/2 3 2/3"] {
-        assert_row(&rt, row, leads_to(rt.alloc(), row)?);
+fn the_next_joint_shares_a_child(rt: HostRuntime) {
+    for row in ROWS.trim().lines() {
+        assert_made(&rt, row, wrong_joint(rt.alloc(), row));
     }
-    Ok(())
-}
-
-/// Whether two joints, and two borrowed ones, are coherent as wanted.
-fn are_coherent(these: &Configs, others: &Configs, want: bool) -> bool {
-    let owned: bool = these.is_coherent_with(others);
-    let borrowed: Joint<u64, Vec<u64>, &[Vec<u64>]> = these.children().as_joint();
-    let others: Joint<u64, Vec<u64>, &[Vec<u64>]> = others.children().as_joint();
-    [owned, borrowed.is_coherent_with(&others)] == [want, want]
-}
-
-/// Whether the joints of two words are coherent as wanted.
-fn words_are_coherent(
-    alloc: Global,
-    these: &str,
-    others: &str,
-    want: bool,
-) -> Result<bool, AllocError> {
-    Ok(are_coherent(&joint(alloc, these)?, &joint(alloc, others)?, want))
-}
-
-#[test]
-fn coherent_joints_share_a_child(rt: HostRuntime) -> Result<(), Fail> {
-    for (these, others, want) in [
-        ("1/2", "2/3", true),
-        ("1", "2/3", false),
-        ("none", "none", false),
-    ] {
-        assert!(rt;
-            words_are_coherent(rt.alloc(), these, others, want)?,
-            "{these} with {others}"
-        );
-    }
-    Ok(())
-}
-
-/// Whether a joint of 1 and 2 is coherent with the child of a word.
-fn has_child(alloc: Global, word: &str) -> Result<bool, AllocError> {
-    let has_child: bool = joint(alloc, "1/2")?.is_coherent_with(&list(alloc, word)?);
-    Ok(has_child)
-}
-
-#[test]
-fn a_joint_is_coherent_with_its_child(rt: HostRuntime) -> Result<(), Fail> {
-    for (word, want) in [("2", true), ("3", false)] {
-        assert_row(&rt, word, has_child(rt.alloc(), word)? == want);
-    }
-    Ok(())
 }

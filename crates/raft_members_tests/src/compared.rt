@@ -3,9 +3,7 @@
 //! The calls were drawn at random, many of them over several configs, a quarter of the changes
 //! refused; each answer is what the original's own code gave to that call.
 
-use crate::support::asserts::assert_row;
-use crate::support::lines::{change_is_right, read_is_right, step_is_right, test_is_right};
-use std::test::Fail;
+use crate::support::lines::assert_rows;
 
 /// Configs, nodes, the change, its ids or nodes, whether nodes are retained; the answer.
 const CHANGES: &str = "
@@ -430,33 +428,9 @@ none 0=35,1=48,4=22 0 - 0,1,4 true false 35 false
 ";
 
 #[test]
-fn changes_are_those_of_the_original(rt: HostRuntime) -> Result<(), Fail> {
-    for line in CHANGES.trim().lines() {
-        assert_row(&rt, line, change_is_right(rt.alloc(), line)?);
-    }
-    Ok(())
-}
-
-#[test]
-fn steps_are_those_of_the_original(rt: HostRuntime) -> Result<(), Fail> {
-    for line in STEPS.trim().lines() {
-        assert_row(&rt, line, step_is_right(rt.alloc(), line)?);
-    }
-    Ok(())
-}
-
-#[test]
-fn refusals_are_those_of_the_original(rt: HostRuntime) -> Result<(), Fail> {
-    for line in TESTS.trim().lines() {
-        assert_row(&rt, line, test_is_right(rt.alloc(), line)?);
-    }
-    Ok(())
-}
-
-#[test]
-fn reads_are_those_of_the_original(rt: HostRuntime) -> Result<(), Fail> {
-    for line in READS.trim().lines() {
-        assert_row(&rt, line, read_is_right(rt.alloc(), line)?);
-    }
-    Ok(())
+fn answers_are_those_of_the_original(rt: HostRuntime) {
+    assert_rows(&rt, rt.alloc(), "changes", CHANGES);
+    assert_rows(&rt, rt.alloc(), "steps", STEPS);
+    assert_rows(&rt, rt.alloc(), "tests", TESTS);
+    assert_rows(&rt, rt.alloc(), "reads", READS);
 }

@@ -7,6 +7,7 @@ ghost use Rattle.std.specs.List.{IsDistinct};
 ghost use Rattle.std.specs.Prelude.{◌+◌, ◌<◌, ◌≡◌, IfOk, IfSome, IsTrue, false, length, true};
 ghost use Rattle.std.specs.Set.{ClonesAreEqual, distinct_count, is_member};
 
+use crate::support::asserts::assert_row;
 use raft_base::{Node, NodeId};
 use raft_members::membership::laws::change_keeps_reached;
 use raft_members::quorum::laws::{
@@ -18,7 +19,6 @@ use raft_members::quorum::{AtLeast, Joint, QuorumSet};
 use raft_members::{ChangeMembers, ChangeMembershipError, Membership, StoredMembershipOf};
 use raft_testing::words::{ids, members};
 use std::alloc::{AllocError, Global};
-use std::test::Fail;
 
 /// Whether ids are a majority of a config. Then one of them is in it: no one but voters decides.
 fn has_decided<ID: Copy + Ord>(config: &Vec<ID>, ids: &[ID]) -> bool
@@ -156,14 +156,21 @@ fn change_once_held<NID: NodeId, N: Node>(
     Ok(Some(to))
 }
 
-#[test]
-fn members_change_once_a_quorum_holds_an_entry(rt: HostRuntime) -> Result<(), Fail> {
-    let alloc = rt.alloc();
-    let from = members(alloc, "1,2,3", "1=1,2=2,3=3,4=4")?;
+/// Whether node 4 is a voter beside 1, 2 and 3, once the members have changed. They change only if
+/// a quorum of them holds an entry.
+fn has_voter(alloc: Global, holders: &[u64]) -> Result<Option<bool>, ChangeMembershipError<u64>> {
     let change = ChangeMembers::AddVoterIds(ids(alloc, "4")?);
-    let early = change_once_held(&from, &[1], change.try_clone(alloc)?, true)?;
-    assert!(rt; early.is_none());
-    let late = change_once_held(&from, &[1, 3], change, true)?;
-    assert!(rt; late.is_some_and(|to| to.is_voter(&4)));
-    Ok(())
+    let from = members(alloc, "1,2,3", "1=1,2=2,3=3,4=4")?;
+    Ok(match change_once_held(&from, holders, change, true)? {
+        Some(to) => Some(to.is_voter(&4)),
+        None => None,
+    })
+}
+
+#[test]
+fn members_change_once_a_quorum_holds_an_entry(rt: HostRuntime) {
+    let early = has_voter(rt.alloc(), &[1]);
+    assert_row(&rt, "held by 1", early == Ok(None));
+    let late = has_voter(rt.alloc(), &[1, 3]);
+    assert_row(&rt, "held by 1 and 3", late == Ok(Some(true)));
 }

@@ -3,7 +3,7 @@
 //!
 //! A file has the tests of the module of `raft_members` that has its name. Those that go over all
 //! modules have the name of what they test: `compared` with the original, `allocations` for
-//! allocations that are refused, `laws` by their callers, and `texts`.
+//! allocations that are refused, `laws` by their callers, and `texts` of memberships.
 #![tactic(auto)]
 
 #[cfg(test)]
@@ -24,8 +24,6 @@ mod effective;
 mod error;
 #[cfg(test)]
 mod first_caller;
-#[cfg(test)]
-mod into_nodes;
 #[cfg(test)]
 mod joint;
 #[cfg(test)]

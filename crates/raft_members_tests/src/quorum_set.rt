@@ -1,97 +1,75 @@
 //! Quorums of lists and sets.
 
-use crate::support::asserts::assert_row;
-use crate::support::quorums::{Configs, has_ids, joint};
-use raft_members::quorum::{AsJoint, Joint, QuorumSet};
-use raft_testing::words::{ids as set, list};
+use crate::support::asserts::assert_made;
+use crate::support::quorums::has_ids;
+use raft_members::quorum::QuorumSet;
+use raft_testing::facts::first_wrong;
+use raft_testing::memory::both;
+use raft_testing::words::{ids as set, list, number, words};
 use std::alloc::{AllocError, Global};
-use std::collections::BTreeSet;
-use std::rc::Rc;
-use std::test::Fail;
 
-/// Whether a vector, a slice and a set of the voters answer a set of ids as wanted.
-pub fn each_answers(vector: &Vec<u64>, set: &BTreeSet<u64>, ids: &[u64], want: bool) -> bool {
-    let answers = [
-        vector.is_quorum(ids),
-        vector.as_slice().is_quorum(ids),
-        set.is_quorum(ids),
+/// Each row has voters and ids. Then it says of the list of the voters, and of their set, whether
+/// the ids are a quorum, and which size each quorum has at least. The last word has the voters,
+/// each once. A list measures by its length. No contract speaks of repeated ids: each is counted.
+const ROWS: &str = "
+1,2,3,4,5 1,2 no 3 no 3 1,2,3,4,5
+1,2,3,4,5 1,2,3 yes 3 yes 3 1,2,3,4,5
+1,2,3,4 1,2 no 3 no 3 1,2,3,4
+1,2,3,4 4,2,1 yes 3 yes 3 1,2,3,4
+1,2,3 1,4,5 no 2 no 2 1,2,3
+1,2,3 - no 2 no 2 1,2,3
+- 1 no 1 no 1 -
+- - no 1 no 1 -
+1,2,3 1,1 yes 2 yes 2 1,2,3
+1,1,1,1,2 1,2 no 3 yes 2 1,2
+3,1,2,3,1,9 - no 4 no 3 1,2,3,9
+";
+
+/// Whether a quorum set answers ids as the first word says, and has the least size of the second
+/// one and the ids of the third one.
+fn is_set<QS: QuorumSet<u64>>(
+    alloc: Global,
+    set: &QS,
+    asked: &[u64],
+    [answer, size, ids]: [&str; 3],
+) -> bool {
+    let are_right = [
+        set.is_quorum(asked) == (answer == "yes"),
+        set.least_quorum_size() as u64 == number(size),
+        has_ids(alloc, set, ids),
     ];
-    answers == [want; 3]
+    are_right == [true; 3]
 }
 
-/// Whether a list and a set of the voters of a word answer a set of ids as wanted.
-fn word_answers(alloc: Global, voters: &str, ids: &[u64], want: bool) -> Result<bool, AllocError> {
-    Ok(each_answers(&list(alloc, voters)?, &set(alloc, voters)?, ids, want))
+/// Returns which quorum set of the voters of a row is wrong.
+fn wrong_set(alloc: Global, row: &str) -> Result<Option<&'static str>, AllocError> {
+    let [
+        voters,
+        asked,
+        answer,
+        size,
+        answer_of_set,
+        size_of_set,
+        ids,
+        ..
+    ] = words(row);
+    let of_list = [answer, size, ids];
+    let of_set = [answer_of_set, size_of_set, ids];
+    let (list, asked) = both(list(alloc, voters), list(alloc, asked))?;
+    let asked = asked.as_slice();
+    Ok(first_wrong(&[
+        ("list", is_set(alloc, &list, asked, of_list)),
+        ("slice", is_set(alloc, &list.as_slice(), asked, of_list)),
+        ("set", is_set(alloc, &set(alloc, voters)?, asked, of_set)),
+    ]))
 }
 
-// Voters, ids, whether they are a quorum. No contract speaks of repeated ids: each is counted.
-/// Example members 2. Of an empty list [1] is no quorum.
+/// Example members 2. Of an empty list [1] is no quorum. Of the list [1, 1, 1, 1, 2] the ids [1, 2]
+/// are no quorum.
 /// Example members 3. Of the list [1, 2, 3] the ids [1, 1] are a quorum.
 #[test]
-fn a_quorum_is_more_than_half(rt: HostRuntime) -> Result<(), Fail> {
-    let rows: [(&str, &[u64], bool); 9] = [
-        ("1,2,3,4,5", &[1, 2], false),
-        ("1,2,3,4,5", &[1, 2, 3], true),
-        ("1,2,3,4", &[1, 2], false),
-        ("1,2,3,4", &[4, 2, 1], true),
-        ("1,2,3", &[1, 4, 5], false),
-        ("1,2,3", &[], false),
-        ("-", &[1], false),
-        ("-", &[], false),
-        ("1,2,3", &[1, 1], true),
-    ];
-    for (voters, ids, want) in rows {
-        assert!(rt;
-            word_answers(rt.alloc(), voters, ids, want)?,
-            "{ids:?} of {voters}"
-        );
+fn a_quorum_is_more_than_half(rt: HostRuntime) {
+    for row in ROWS.trim().lines() {
+        assert_made(&rt, row, wrong_set(rt.alloc(), row));
     }
-    Ok(())
-}
-
-/// Example members 2. Of the list [1, 1, 1, 1, 2] the ids [1, 2] are no quorum.
-#[test]
-fn a_list_measures_by_its_length(rt: HostRuntime) -> Result<(), Fail> {
-    let voters: [u64; 5] = [1, 1, 1, 1, 2];
-    assert!(rt; !voters.as_slice().is_quorum(&[1, 2]));
-    assert!(rt; !voters.to_vec(rt.alloc())?.is_quorum(&[1, 2]));
-    Ok(())
-}
-
-#[test]
-fn ids_are_sorted_and_distinct(rt: HostRuntime) -> Result<(), Fail> {
-    let alloc = rt.alloc();
-    let given = "3,1,2,3,1,9";
-    assert!(rt; has_ids(alloc, &list(alloc, given)?, &[1, 2, 3, 9])?);
-    assert!(rt; has_ids(alloc, &[3, 1, 2, 3, 1, 9].as_slice(), &[1, 2, 3, 9])?);
-    assert!(rt; has_ids(alloc, &set(alloc, given)?, &[1, 2, 3, 9])?);
-    Ok(())
-}
-
-/// The least sizes of the quorums of a list, of a slice and of a set of the voters of a word.
-fn sizes(alloc: Global, voters: &str) -> Result<[usize; 3], AllocError> {
-    let list = list(alloc, voters)?;
-    Ok([
-        list.least_quorum_size(),
-        list.as_slice().least_quorum_size(),
-        set(alloc, voters)?.least_quorum_size(),
-    ])
-}
-
-/// The least sizes of the quorums of a joint, shared and borrowed.
-fn joint_sizes(shared: &Rc<Configs>) -> [usize; 2] {
-    let borrowed: Joint<u64, Vec<u64>, &[Vec<u64>]> = shared.children().as_joint();
-    [shared.least_quorum_size(), borrowed.least_quorum_size()]
-}
-
-// Worked values of `majority_size`, and of the greatest one of several.
-#[test]
-fn the_least_size_of_a_quorum(rt: HostRuntime) -> Result<(), Fail> {
-    let alloc = rt.alloc();
-    for (voters, want) in [("-", 1), ("1,2,3,4", 3)] {
-        assert_row(&rt, voters, sizes(alloc, voters)? == [want; 3]);
-    }
-    let shared = Rc::new(alloc, joint(alloc, "1,2/1,2,3,4,5,6/7")?)?;
-    assert!(rt; joint_sizes(&shared) == [4, 4]);
-    Ok(())
 }

@@ -1,38 +1,34 @@
 //! Stored memberships.
 
-use crate::support::asserts::assert_right;
+use crate::support::asserts::assert_made;
 use crate::support::memberships::{Stored, id, stored};
+use crate::support::values::{are_equal, equals};
 use raft_testing::facts::first_wrong;
-use std::alloc::AllocError;
-use std::test::Fail;
+use raft_testing::memory::both;
+use std::alloc::{AllocError, Global};
 
-/// Returns which read of a stored membership is wrong.
-fn wrong_read(stored: &Stored) -> Result<Option<&'static str>, AllocError> {
+/// Returns which read or clone is wrong of a stored membership, or which clone of the default.
+fn wrong_read(alloc: Global) -> Result<Option<&'static str>, AllocError> {
+    let (stored, default) = both(stored(alloc), Stored::try_default(alloc))?;
     Ok(first_wrong(&[
         ("log id", *stored.log_id() == Some(id())),
         ("nodes", stored.nodes().count() == 4),
         ("joint", stored.membership().is_in_joint_consensus()),
         (
             "voters",
-            stored.voter_ids()?.as_slice() == [1, 2, 4].as_slice(),
+            are_equal(stored.voter_ids(), [1, 2, 4].to_vec(alloc)),
         ),
+        ("try_clone", equals(stored.try_clone(), &stored)),
+        ("clone", equals(stored.clone(), &stored)),
+        (
+            "try_clone of the default",
+            equals(default.try_clone(), &default),
+        ),
+        ("clone of the default", equals(default.clone(), &default)),
     ]))
 }
 
 #[test]
-fn a_stored_membership_reads_back(rt: HostRuntime) -> Result<(), Fail> {
-    assert_right(&rt, "reads", wrong_read(&stored(rt.alloc())?)?);
-    Ok(())
-}
-
-/// Whether clones of a stored membership equal it.
-fn clones_equal(stored: &Stored) -> Result<[bool; 2], AllocError> {
-    Ok([stored.try_clone()? == *stored, stored.clone()? == *stored])
-}
-
-#[test]
-fn clones_are_equal(rt: HostRuntime) -> Result<(), Fail> {
-    assert!(rt; clones_equal(&stored(rt.alloc())?)? == [true, true]);
-    assert!(rt; clones_equal(&Stored::try_default(rt.alloc())?)? == [true, true]);
-    Ok(())
+fn a_stored_membership_reads_back(rt: HostRuntime) {
+    assert_made(&rt, "reads", wrong_read(rt.alloc()));
 }

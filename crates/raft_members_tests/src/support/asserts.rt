@@ -1,6 +1,8 @@
 //! Assertions in functions of their own. In a test each of them would be an exit path, on which all
 //! values of the test are dropped, and each drop is proved.
 
+use std::alloc::AllocError;
+use std::io;
 use std::process::Abort;
 
 /// Stops the test if a row is wrong, and prints the row.
@@ -12,4 +14,15 @@ pub fn assert_row(rt: &impl Abort, row: &str, is_right: bool) {
 pub fn assert_right(rt: &impl Abort, row: &str, wrong: Option<&str>) {
     let what = wrong.unwrap_or("");
     assert!(rt; wrong.is_none(), "at {row}: {what}");
+}
+
+/// Stops the test if something is wrong in a row, as `assert_right` does, or there was no memory
+/// for it.
+pub fn assert_made(rt: &impl Abort, row: &str, wrong: Result<Option<&str>, AllocError>) {
+    assert_right(rt, row, wrong.unwrap_or(Some("out of memory")));
+}
+
+/// Stops the test if a call is wrong with its allocations refused, and prints its name.
+pub fn assert_call(rt: &impl Abort, name: &str, is_right: io::Result<bool>) {
+    assert_row(rt, name, is_right.unwrap_or(false));
 }

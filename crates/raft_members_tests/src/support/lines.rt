@@ -1,23 +1,19 @@
-//! Rows of changes, steps, tests and reads, with the answers of a membership.
+//! Rows of changes, steps, tests, differences and reads, with the answers of a membership. The
+//! first two words of a row are the membership's configs and nodes.
 
+use crate::support::asserts::assert_row;
+use crate::support::values::{are_equal, differs, equals};
 use raft_members::{
     ChangeMembers, ChangeMembershipError, EmptyMembership, LearnerNotFound, Membership,
 };
-use raft_testing::words::{ids, members, nodes, number, words};
+use raft_testing::memory::holds;
+use raft_testing::words::{ids, list, members, nodes, number, words};
 use std::alloc::{AllocError, Global};
 use std::collections::{BTreeMap, BTreeSet};
+use std::process::Abort;
 
-/// The kinds of changes, as words.
-pub const KINDS: [&str; 8] = [
-    "add-ids",
-    "add",
-    "remove",
-    "replace",
-    "add-nodes",
-    "set-nodes",
-    "remove-nodes",
-    "replace-nodes",
-];
+/// A membership whose nodes are numbers.
+pub type Members = Membership<u64, u64>;
 
 /// A change of the nodes that a word has.
 fn change_of_nodes(kind: &str, nodes: BTreeMap<u64, u64>) -> ChangeMembers<u64, u64> {
@@ -64,99 +60,85 @@ fn is_refusal(refused: &ChangeMembershipError<u64>, name: &str, id: &str) -> boo
     }
 }
 
-/// Whether a membership is the one of its words, or a refusal the one of its words.
-fn is_answer(
-    alloc: Global,
-    made: &Result<Membership<u64, u64>, ChangeMembershipError<u64>>,
-    [verdict, first, second]: [&str; 3],
-) -> Result<bool, AllocError> {
-    match made {
-        Ok(made) => Ok(verdict == "ok" && *made == members(alloc, first, second)?),
-        Err(refused) => Ok(verdict == "err" && is_refusal(refused, first, second)),
+/// Whether a change equals its clones, and has the answer of its row: the row has the change, its
+/// ids or nodes, whether nodes are retained, and the next configs and nodes or a refusal.
+fn change_is_right(alloc: Global, from: &Members, row: [&str; 9]) -> Result<bool, AllocError> {
+    let [_, _, kind, list, retain, verdict, first, second, ..] = row;
+    let change = change(alloc, kind, list)?;
+    let are_clones = [
+        equals(change.try_clone(alloc), &change),
+        equals(change.clone(), &change),
+    ];
+    let is_answer = match from.change(change, retain == "retain") {
+        Ok(made) => verdict == "ok" && equals(members(alloc, first, second), &made),
+        Err(refused) => verdict == "err" && is_refusal(&refused, first, second),
+    };
+    Ok(is_answer && are_clones == [true, true])
+}
+
+/// Whether a step has the answer of its row: the row has the goal, whether nodes are retained, and
+/// the next configs and nodes.
+fn step_is_right(alloc: Global, from: &Members, row: [&str; 9]) -> Result<bool, AllocError> {
+    let [_, _, goal, retain, configs, nodes, ..] = row;
+    let made = from.next_coherent(ids(alloc, goal)?, retain == "retain");
+    Ok(are_equal(made, members(alloc, configs, nodes)))
+}
+
+/// Whether a membership is valid or refused as its row says.
+fn test_is_right(from: &Members, row: [&str; 9]) -> bool {
+    let [_, _, verdict, name, id, ..] = row;
+    match from.ensure_valid() {
+        Ok(()) => verdict == "ok",
+        Err(refused) => verdict == "err" && is_refusal(&refused, name, id),
     }
 }
 
-/// Whether the change of a row has the row's answer. The row has configs, nodes, the change, its
-/// ids or nodes, whether nodes are retained, and the answer.
-pub fn change_is_right(alloc: Global, row: &str) -> Result<bool, AllocError> {
+/// Whether the reads of a membership are those of its row: the row has an id, then the voters, the
+/// learners, whether the id has a node, whether it is a voter, its node, and whether there are
+/// several configs.
+fn reads_are_right(alloc: Global, from: &Members, row: [&str; 9]) -> Result<bool, AllocError> {
     let [
-        configs,
-        nodes,
-        kind,
-        list,
-        retain,
-        verdict,
-        first,
-        second,
-        ..
-    ] = words(row);
-    let from = members(alloc, configs, nodes)?;
-    let made = from.change(change(alloc, kind, list)?, retain == "retain");
-    is_answer(alloc, &made, [verdict, first, second])
-}
-
-/// Whether the step of a row leads to the row's answer. The row has configs, nodes, the goal,
-/// whether nodes are retained, and the next configs and nodes.
-pub fn step_is_right(alloc: Global, row: &str) -> Result<bool, AllocError> {
-    let [configs, nodes, goal, retain, next_configs, next_nodes, ..] = words(row);
-    let from = members(alloc, configs, nodes)?;
-    let made = from.next_coherent(ids(alloc, goal)?, retain == "retain")?;
-    Ok(made == members(alloc, next_configs, next_nodes)?)
-}
-
-/// Whether the test of a row has the row's answer. The row has configs, nodes, and the answer.
-pub fn test_is_right(alloc: Global, row: &str) -> Result<bool, AllocError> {
-    let [configs, nodes, verdict, name, id, ..] = words(row);
-    Ok(match members(alloc, configs, nodes)?.ensure_valid() {
-        Ok(()) => verdict == "ok",
-        Err(refused) => verdict == "err" && is_refusal(&refused, name, id),
-    })
-}
-
-/// Whether the reads of a row give the row's answers. The row has configs, nodes and an id, then
-/// the voters, the learners, whether the id has a node, whether it is a voter, its node, and
-/// whether there are several configs.
-pub fn read_is_right(alloc: Global, row: &str) -> Result<bool, AllocError> {
-    let [
-        configs,
-        nodes,
+        _,
+        _,
         id,
         voters,
         learners,
-        contains,
+        has_node,
         is_voter,
         node,
         is_joint,
-    ] = words(row);
-    let read = members(alloc, configs, nodes)?;
-    let (voters, learners) = (ids(alloc, voters)?, ids(alloc, learners)?);
+    ] = row;
+    let learners = list(alloc, learners)?;
+    let id = number(id);
     let are_right = [
-        read.voter_ids()?.iter().eq(voters.iter()),
-        read.learner_ids().eq(learners.iter().copied()),
-        reads_as(&read, number(id), [contains, is_voter, node, is_joint]),
+        are_equal(from.voter_ids(), list(alloc, voters)),
+        from.learner_ids().eq(learners.iter().copied()),
+        from.contains(&id) == (has_node == "true"),
+        from.is_voter(&id) == (is_voter == "true"),
+        from.get_node(&id).copied() == node.parse::<u64>().ok(),
+        from.is_in_joint_consensus() == (is_joint == "true"),
+        equals(from.try_clone(), from),
+        equals(from.clone(), from),
     ];
     Ok(!are_right.contains(&false))
 }
 
-/// Whether what a membership says of an id, and whether it is joint, are these words.
-fn reads_as(
-    read: &Membership<u64, u64>,
-    id: u64,
-    [contains, is_voter, node, is_joint]: [&str; 4],
-) -> bool {
-    let are_right = [
-        read.contains(&id) == (contains == "true"),
-        read.is_voter(&id) == (is_voter == "true"),
-        node_is(read.get_node(&id), node),
-        read.is_in_joint_consensus() == (is_joint == "true"),
-    ];
-    !are_right.contains(&false)
+/// Whether a row of a kind has its answer.
+fn is_right(alloc: Global, kind: &str, row: &str) -> Result<bool, AllocError> {
+    let row = words(row);
+    let from = members(alloc, row[0], row[1])?;
+    match kind {
+        "changes" => change_is_right(alloc, &from, row),
+        "steps" => step_is_right(alloc, &from, row),
+        "tests" => Ok(test_is_right(&from, row)),
+        "differences" => Ok(differs(members(alloc, row[2], row[3]), &from)),
+        _ => reads_are_right(alloc, &from, row),
+    }
 }
 
-/// Whether a node is that of the word.
-fn node_is(node: Option<&u64>, word: &str) -> bool {
-    match node {
-        Some(there) => word != "-" && *there == number(word),
-        None => word == "-",
+/// Stops the test at the first of some rows of a kind that is wrong, and prints the row.
+pub fn assert_rows(rt: &impl Abort, alloc: Global, kind: &str, rows: &str) {
+    for row in rows.trim().lines() {
+        assert_row(rt, row, holds(is_right(alloc, kind, row)));
     }
 }

@@ -1,7 +1,7 @@
-//! A stored and an effective membership of two configs, under a log id.
+//! Stored and effective memberships whose nodes are numbers.
 
 use raft_base::{CommittedLeaderId, LogId};
-use raft_members::{EffectiveMembership, Membership, StoredMembership};
+use raft_members::{EffectiveMembership, StoredMembership};
 use raft_testing::words::members;
 use std::alloc::{AllocError, Global};
 
@@ -11,22 +11,24 @@ pub type Stored = StoredMembership<u64, u64>;
 /// An effective one.
 pub type Effective = EffectiveMembership<u64, u64>;
 
-/// The log id of both.
+/// A log id that is there.
 pub fn id() -> LogId<u64> {
     LogId::new(CommittedLeaderId::new(1, 2), 3)
 }
 
-/// What they hold: the configs {1,2} and {2,4}, and the learners 3 and 5.
-pub fn membership(alloc: Global) -> Result<Membership<u64, u64>, AllocError> {
-    members(alloc, "1,2/2,4", "1=10,2=20,3=30,5=50")
-}
-
-/// The stored membership.
+/// The stored membership with the configs {1,2} and {2,4} and the learners 3 and 5, under the log
+/// id.
 pub fn stored(alloc: Global) -> Result<Stored, AllocError> {
-    Ok(Stored::new(Some(id()), membership(alloc)?))
+    let membership = members(alloc, "1,2/2,4", "1=10,2=20,3=30,5=50")?;
+    Ok(Stored::new(Some(id()), membership))
 }
 
-/// The effective membership.
-pub fn effective(alloc: Global) -> Result<Effective, AllocError> {
-    Effective::new_from_stored_membership(stored(alloc)?)
+/// The effective membership of the words of its configs and nodes, under a log id or none.
+pub fn effective(
+    alloc: Global,
+    log_id: Option<LogId<u64>>,
+    configs: &str,
+    nodes: &str,
+) -> Result<Effective, AllocError> {
+    Effective::new(log_id, members(alloc, configs, nodes)?)
 }

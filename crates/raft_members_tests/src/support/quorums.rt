@@ -1,19 +1,19 @@
 //! Quorum sets of some ids.
 
+use crate::support::values::are_equal;
 use raft_members::quorum::{Joint, QuorumSet};
-use raft_testing::words::lists;
+use raft_testing::words::{list, lists};
 use std::alloc::{AllocError, Global};
 
 /// Two configs of a cluster as one.
 pub type Configs = Joint<u64, Vec<u64>, Vec<Vec<u64>>>;
 
-/// Whether the ids of a quorum set are these.
-pub fn has_ids<QS: QuorumSet<u64>>(
-    alloc: Global,
-    set: &QS,
-    want: &[u64],
-) -> Result<bool, AllocError> {
-    Ok(set.ids(alloc)?.as_slice() == want)
+/// Two borrowed configs as one.
+pub type BorrowedConfigs<'a> = Joint<u64, Vec<u64>, &'a [Vec<u64>]>;
+
+/// Whether the ids of a quorum set are those of a word.
+pub fn has_ids<QS: QuorumSet<u64>>(alloc: Global, set: &QS, word: &str) -> bool {
+    are_equal(set.ids(alloc), list(alloc, word))
 }
 
 /// The joint of the configs of a word.
