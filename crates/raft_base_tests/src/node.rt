@@ -1,11 +1,12 @@
 //! Node ids of a caller's own, and nodes with their defaults.
 ghost use Rattle.std.specs.Prelude.{◌≡◌, IfOk};
 
-use crate::asserts::{are_equal, assert_call, assert_right, assert_row, equals};
+use crate::asserts::{assert_call, assert_right, assert_row};
 use raft_base::{BasicNode, EmptyNode, LeaderId, Node, NodeDefault, Vote};
 use raft_testing::address::Address;
 use raft_testing::allocations::is_compared;
 use raft_testing::facts::first_wrong;
+use raft_testing::memory::{are_equal, equals};
 use raft_testing::printing::displays;
 use std::alloc::{AllocError, Global};
 use std::fmt;

@@ -1,11 +1,11 @@
 //! What leaders, votes, log ids, nodes, stamped values, ranges and broken relations print.
 
-use crate::asserts::{assert_right, assert_row, prints};
+use crate::asserts::{assert_right, assert_row};
 use raft_base::{
     BasicNode, DisplayOption, EmptyNode, Invalid, LeaderId, LeaderStd, LogId, LogIdOf, LogIdRange,
     UTime, Vote, VoteOf, leader_id_std,
 };
-use raft_testing::printing::{debugs, displays, sums_up};
+use raft_testing::printing::{debugs, displays, prints, sums_up};
 use std::alloc::Global;
 
 type StdLeader = leader_id_std::LeaderId<u64>;

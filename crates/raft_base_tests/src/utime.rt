@@ -4,11 +4,11 @@ ghost use Rattle.std.specs.Option.{option_cmp};
 ghost use Rattle.std.specs.Ordering.{is_ge};
 ghost use Rattle.std.specs.Prelude.{if◌then◌else◌, ◌≡◌, Some};
 
-use crate::asserts::{assert_call, assert_right, assert_row, equals};
+use crate::asserts::{assert_call, assert_right, assert_row};
 use raft_base::{Instant, UTime};
 use raft_testing::allocations::{is_free, refuse_each};
 use raft_testing::facts::first_wrong;
-use raft_testing::memory::holds;
+use raft_testing::memory::{equals, holds};
 use std::alloc::{AllocError, Global};
 
 /// Marks a value as updated now, unless it was updated later than that.

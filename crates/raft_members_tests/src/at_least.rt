@@ -2,10 +2,9 @@
 
 use crate::support::asserts::assert_made;
 use crate::support::quorums::has_ids;
-use crate::support::values::equals;
 use raft_members::quorum::{AtLeast, QuorumSet};
 use raft_testing::facts::first_wrong;
-use raft_testing::memory::both;
+use raft_testing::memory::{both, equals};
 use raft_testing::printing::displays;
 use raft_testing::words::{list, number, words};
 use std::alloc::{AllocError, Global};

@@ -2,7 +2,6 @@
 
 use crate::support::asserts::assert_row;
 use crate::support::lines::change;
-use crate::support::values::are_equal;
 use raft_members::ChangeMembers;
 
 #[test]
@@ -17,3 +16,5 @@ fn all_voters_are_replaced_by_a_list(rt: HostRuntime) {
     let none = ChangeMembers::replace_all(alloc, &[]);
     assert_row(&rt, "none", are_equal(none, change(alloc, "replace", "-")));
 }
+
+use raft_testing::memory::are_equal;

@@ -2,10 +2,9 @@
 
 use crate::support::asserts::assert_made;
 use crate::support::quorums::{BorrowedConfigs, Configs, joint};
-use crate::support::values::{are_equal, equals};
 use raft_members::quorum::{AsJoint, Coherent, FindCoherent};
 use raft_testing::facts::first_wrong;
-use raft_testing::memory::both;
+use raft_testing::memory::{are_equal, both, equals};
 use raft_testing::words::{list, words};
 use std::alloc::{AllocError, Global};
 

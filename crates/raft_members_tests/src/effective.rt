@@ -3,12 +3,11 @@
 use crate::support::asserts::{assert_made, assert_row};
 use crate::support::memberships::{Effective, effective, id, stored};
 use crate::support::quorums::has_ids;
-use crate::support::values::{differs, equals};
 use raft_base::LogId;
 use raft_members::quorum::QuorumSet;
 use raft_members::{EffectiveMembership, Membership};
 use raft_testing::facts::first_wrong;
-use raft_testing::memory::{both, holds};
+use raft_testing::memory::{both, differs, equals, holds};
 use raft_testing::words::{list, members, words};
 use std::alloc::{AllocError, Global};
 

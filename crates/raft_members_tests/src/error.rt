@@ -2,14 +2,14 @@
 
 use crate::support::asserts::{assert_right, assert_row};
 use crate::support::memberships::id;
-use crate::support::values::{differs, equals, prints};
 use raft_base::{LeaderStd, LogId, LogIdOf, Vote, leader_id_std};
 use raft_members::{
     ChangeMembershipError, EmptyMembership, InProgress, InitializeError, LackEntry,
     LearnerNotFound, NotAllowed, NotAllowedOf, NotInMembers, QuorumNotEnough,
 };
 use raft_testing::facts::first_wrong;
-use raft_testing::memory::{both, holds};
+use raft_testing::memory::{both, differs, equals, holds};
+use raft_testing::printing::prints;
 use raft_testing::words::{ids, members};
 use std::alloc::{AllocError, Global};
 

@@ -3,11 +3,10 @@ ghost use Rattle.std.specs.Prelude.{IfOk, IsTrue};
 
 use crate::support::asserts::{assert_call, assert_made, assert_row};
 use crate::support::quorums::{BorrowedConfigs, Configs, has_ids, joint};
-use crate::support::values::equals;
 use raft_members::quorum::{AsJoint, AtLeast, Joint, QuorumSet};
 use raft_testing::allocations::is_free_on;
 use raft_testing::facts::first_wrong;
-use raft_testing::memory::{both, holds};
+use raft_testing::memory::{both, equals, holds};
 use raft_testing::words::{configs, list, words};
 use std::alloc::{AllocError, Global};
 use std::collections::BTreeSet;

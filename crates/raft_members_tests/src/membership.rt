@@ -2,11 +2,10 @@
 
 use crate::support::asserts::{assert_call, assert_made, assert_right};
 use crate::support::lines::{Members, assert_rows};
-use crate::support::values::are_equal;
 use raft_members::{EmptyMembership, IntoNodes, Membership};
 use raft_testing::allocations::is_free_on;
 use raft_testing::facts::first_wrong;
-use raft_testing::memory::both;
+use raft_testing::memory::{are_equal, both};
 use raft_testing::words::{configs, ids, members, nodes};
 use std::alloc::{AllocError, Global};
 use std::collections::BTreeSet;

@@ -2,9 +2,8 @@
 
 use crate::support::asserts::assert_made;
 use crate::support::memberships::{Stored, id, stored};
-use crate::support::values::{are_equal, equals};
 use raft_testing::facts::first_wrong;
-use raft_testing::memory::both;
+use raft_testing::memory::{are_equal, both, equals};
 use std::alloc::{AllocError, Global};
 
 /// Returns which read or clone is wrong of a stored membership, or which clone of the default.

@@ -2,11 +2,10 @@
 
 use crate::support::asserts::assert_row;
 use crate::support::memberships::{Effective, Stored, effective};
-use crate::support::values::prints;
 use raft_base::BasicNode;
 use raft_members::Membership;
 use raft_testing::memory::holds;
-use raft_testing::printing::{debugs, displays, sums_up};
+use raft_testing::printing::{debugs, displays, prints, sums_up};
 use raft_testing::words::{log_id, words};
 use std::alloc::{AllocError, Global};
 use std::collections::BTreeMap;

@@ -7,7 +7,7 @@ use crate::support::members::{TrackedNumbers, members};
 use crate::support::progress_rows::{
     Numbers, Quorums as _, is_step, lived, steps, wrong_row as wrong_call,
 };
-use crate::support::values::{clone_of, purged_log};
+use crate::support::values::purged_log;
 use crate::tracked as worked;
 use raft_base::LeaderId;
 use raft_members::quorum::{AtLeast, QuorumSet};
@@ -16,7 +16,7 @@ use raft_progress::tracked::{Tracked, replay};
 use raft_testing::allocations::{
     Allocation, is_as_in_ample_memory, is_free, is_free_on, is_swept_by, refuse_each,
 };
-use raft_testing::memory::both;
+use raft_testing::memory::{both, clone_of};
 use raft_testing::plain_log::{Numbered, PlainLog, id, log_below};
 use std::alloc::{AllocError, Global};
 use std::io;

@@ -11,7 +11,6 @@ ghost use Rattle.std.specs.Set.{ClonesAreEqual};
 use crate::support::asserts::{assert_made, assert_printed, assert_row};
 use crate::support::members::{TrackedNumbers, members};
 use crate::support::progress_rows::{reply_of, wrong_read};
-use crate::support::values::is_equal;
 use crate::uses::cluster;
 use raft_base::{EmptyNode, Node, NodeId};
 use raft_members::change_members::ChangeMembers;
@@ -19,6 +18,7 @@ use raft_members::membership::Membership;
 use raft_progress::progress::{Progress, ProgressPart, Reply};
 use raft_progress::tracked::{Step, Tracked, replay};
 use raft_testing::allocations::is_free_on;
+use raft_testing::memory::equals;
 use raft_testing::words::{ids, number, words};
 use std::alloc::{AllocError, Global};
 use std::collections::BTreeMap;
@@ -124,8 +124,8 @@ counts 8 6
 fn is_ended(alloc: Global, cluster: &TrackedNumbers) -> bool {
     let are_right = [
         wrong_read(cluster.progress(), END).is_none(),
-        is_equal(members(alloc, "1,2/1,2,3"), cluster.membership()),
-        is_equal(cluster.try_clone(), cluster),
+        equals(members(alloc, "1,2/1,2,3"), cluster.membership()),
+        equals(cluster.try_clone(), cluster),
     ];
     !are_right.contains(&false)
 }

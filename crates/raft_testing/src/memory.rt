@@ -1,5 +1,6 @@
-//! What is made where there is memory, as tests always have it: a value that was refused makes the
-//! test fail as a wrong one does. Values that are let go here cost less to prove than in each test.
+//! Values that are made in ample memory, as tests always have it. If an allocation of a value
+//! failed, the test fails as it does at a wrong value. A value that a test hands to one of these
+//! functions is dropped there, where a drop costs less to prove than in the test.
 
 use std::alloc::AllocError;
 
@@ -27,4 +28,36 @@ pub fn on<T: Drop, A, E: From<AllocError>, C: FnOnce(&mut T) -> Result<A, E>>(
 {
     let mut value = value?;
     call(&mut value)
+}
+
+/// Whether two values are equal, if there was memory for both.
+pub fn are_equal<T: PartialEq + Drop>(
+    made: Result<T, AllocError>,
+    want: Result<T, AllocError>,
+) -> bool {
+    match both(made, want) {
+        Ok(values) => values.0 == values.1,
+        Err(_) => false,
+    }
+}
+
+/// Whether a value equals another one, if there was memory for it.
+pub fn equals<T: PartialEq + Drop>(made: Result<T, AllocError>, other: &T) -> bool {
+    match made {
+        Ok(made) => made == *other,
+        Err(_) => false,
+    }
+}
+
+/// Whether a value differs from another one, if there was memory for it.
+pub fn differs<T: PartialEq + Drop>(made: Result<T, AllocError>, other: &T) -> bool {
+    match made {
+        Ok(made) => made != *other,
+        Err(_) => false,
+    }
+}
+
+/// The clone of a value, if there was memory for both.
+pub fn clone_of<T: Clone + Drop>(value: Result<T, AllocError>) -> Result<T, AllocError> {
+    value?.clone()
 }

@@ -26,3 +26,16 @@ pub fn debugs<T: Debug>(alloc: Global, value: &T, text: &str) -> bool {
 pub fn sums_up<T: MessageSummary<T>>(alloc: Global, value: &T, text: &str) -> bool {
     is(value.summary(alloc), text)
 }
+
+/// Whether a value, for which there was memory, displays as the first text and has the debug form
+/// of the second one.
+pub fn prints<T: Debug + Display + Drop>(
+    alloc: Global,
+    made: Result<T, AllocError>,
+    [display, debug]: [&str; 2],
+) -> bool {
+    match made {
+        Ok(made) => displays(alloc, &made, display) && debugs(alloc, &made, debug),
+        Err(_) => false,
+    }
+}

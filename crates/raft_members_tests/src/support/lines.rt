@@ -2,11 +2,10 @@
 //! first two words of a row are the membership's configs and nodes.
 
 use crate::support::asserts::assert_row;
-use crate::support::values::{are_equal, differs, equals};
 use raft_members::{
     ChangeMembers, ChangeMembershipError, EmptyMembership, LearnerNotFound, Membership,
 };
-use raft_testing::memory::holds;
+use raft_testing::memory::{are_equal, differs, equals, holds};
 use raft_testing::words::{ids, list, members, nodes, number, words};
 use std::alloc::{AllocError, Global};
 use std::collections::{BTreeMap, BTreeSet};

@@ -1,7 +1,7 @@
 //! Quorum sets of some ids.
 
-use crate::support::values::are_equal;
 use raft_members::quorum::{Joint, QuorumSet};
+use raft_testing::memory::are_equal;
 use raft_testing::words::{list, lists};
 use std::alloc::{AllocError, Global};
 

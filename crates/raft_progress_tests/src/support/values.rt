@@ -55,16 +55,3 @@ pub fn purged_log<C: Numbered>(
     log.snapshot = snapshot;
     Ok(log)
 }
-
-/// Whether a value, if there was memory for it, equals another one.
-pub fn is_equal<T: PartialEq + Drop>(made: Result<T, AllocError>, want: &T) -> bool {
-    match made {
-        Ok(made) => made == *want,
-        Err(_) => false,
-    }
-}
-
-/// The clone of a value, if there was memory for both.
-pub fn clone_of<T: Clone + Drop>(value: Result<T, AllocError>) -> Result<T, AllocError> {
-    value?.clone()
-}
