@@ -1,11 +1,12 @@
 //! What a node has accepted of a leader.
 
-use crate::support::states::{StandardLeader, State};
-use raft_base::{LeaderId, LeaderIdentity, LogIdOf, UTime, VoteIn};
+use crate::over_kinds::assert_over_both;
+use crate::support::states::{NEW, State};
+use raft_base::{LeaderIdentity, LogIdOf, UTime, VoteIn};
 use raft_state::{AcceptedIn, VoteStateReader};
-use raft_testing::allocations::is_free_on;
+use raft_testing::allocations::{is_free, refuse_each};
+use raft_testing::plain_log::Numbered;
 use std::alloc::Global;
-use std::io;
 use std::test::Fail;
 
 /// Whether what was accepted is known of the first one of these leaders alone, by their terms and
@@ -29,26 +30,28 @@ fn is_of_first<L: LeaderIdentity<Id = u64>, C: Eq + Copy>(
 /// Takes what is accepted of the vote's leader, if that may be.
 fn accept<
     L: LeaderIdentity<Id = u64, Committed = C> + Drop,
-    C: Ord + Copy + Default + Drop + 'static,
+    C: Numbered + Default + Drop + 'static,
 >(state: &mut State<L, C>, log_id: Option<LogIdOf<C>>) {
     if state.can_accept() {
         state.update_accepted(log_id);
     }
 }
 
-/// Whether a new node's vote, and what it has accepted of the leader, read as they should.
-fn accepts<
+/// Whether a new node's vote, and what it has accepted of the leader, read as they should, without
+/// an allocation.
+pub fn accepts<
     L: LeaderIdentity<Id = u64, Committed = C> + Drop,
-    C: Ord + Copy + Default + Drop + 'static,
->(state: &mut State<L, C>) -> bool {
+    C: Numbered + Default + Drop + 'static,
+>(rt: &impl Print, alloc: Global, state: &mut State<L, C>) -> bool {
+    refuse_each(alloc);
     let log_id = Some(LogIdOf::new(L::new_committed(6, 2), 3));
     let leader = L::new_leader(5, 10);
-    let leaders = [(5, 10), (6, 10), (4, 10), (5, 9)];
-    let unset = state.accepted().is_none() && !state.is_initialized();
+    let is_unset = state.accepted().is_none() && !state.is_initialized();
     state.vote = UTime::new(7, VoteIn::new_committed(5, 10));
     accept(state, log_id);
+    let leaders = [(5, 10), (6, 10), (4, 10), (5, 9)];
     let are_right = [
-        unset,
+        is_unset,
         state.accepted == AcceptedIn::new(leader, log_id),
         is_of_first(&state.accepted, &leaders, log_id),
         state.accepted().copied() == log_id,
@@ -58,24 +61,15 @@ fn accepts<
     ];
     // A lesser leader's vote, as a node never has it: nothing is accepted of that leader.
     *state.vote.get_mut() = VoteIn::new_committed(4, 10);
-    !are_right.contains(&false) && !state.can_accept()
-}
-
-/// Whether a new state takes what is accepted, without an allocation.
-fn takes_accepted<
-    L: LeaderIdentity<Id = u64, Committed = C> + Drop,
-    C: Ord + Copy + Default + Drop + 'static,
->(rt: &impl Print, alloc: Global) -> io::Result<bool> {
+    let is_right = !are_right.contains(&false) && !state.can_accept();
     let name = "Accepted, RaftState::{can_accept, update_accepted}";
-    let state = State::<L, C>::try_default(alloc);
-    is_free_on(rt, alloc, name, state, |state| accepts(state))
+    is_free(rt, alloc, name, is_right).unwrap_or(false)
 }
 
 /// Example state 5. Leader (5, 10) has sent the log id of leader (6, 2) at index 3: accepted is
 /// this log id for leader (5, 10), and none for (6, 10) and (4, 10).
 #[test]
 fn what_is_accepted_is_of_its_leader(rt: HostRuntime) -> Result<(), Fail> {
-    assert!(rt; takes_accepted::<LeaderId<u64>, _>(&rt, rt.alloc())?);
-    assert!(rt; takes_accepted::<StandardLeader, _>(&rt, rt.alloc())?);
+    assert_over_both(&rt, rt.alloc(), ["accepts", NEW, NEW, "the leader 5.10"])?;
     Ok(())
 }

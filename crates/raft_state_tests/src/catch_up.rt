@@ -1,15 +1,15 @@
 //! Followers that are caught up with a leader's state.
 
+use crate::over_kinds::assert_over_both;
 use crate::support::followers::{Followers, caught_up, followers};
 use crate::support::rows::{Row, id};
-use crate::support::states::{StandardLeader, State, VALID, hundred, state};
-use raft_base::{LeaderId, LeaderIdentity, LogStateReader};
+use crate::support::states::{NEW, State, VALID, log_of};
+use raft_base::LogStateReader;
 use raft_progress::{Progress, ProgressEntryOf};
-use raft_testing::allocations::is_free_on;
+use raft_testing::allocations::{is_free, refuse_each};
 use raft_testing::memory::both;
 use raft_testing::plain_log::Numbered;
-use std::alloc::Global;
-use std::io;
+use std::alloc::{AllocError, Global};
 use std::process::Abort;
 use std::test::Fail;
 
@@ -45,10 +45,7 @@ fn rounds<L: Drop, C: Numbered + Drop + 'static>(
 
 /// Whether a follower alone is caught up as it should be, over a log of a hundred and over a purged
 /// one.
-fn catches_up_right<L: Drop, C: Ord + Copy + Drop>(
-    state: &State<L, C>,
-    purged: &State<L, C>,
-) -> bool {
+fn alone_right<L: Drop, C: Ord + Copy + Drop>(state: &State<L, C>, purged: &State<L, C>) -> bool {
     let are_right = [
         catches_up(state, 100, 70, Some((1, 6))),
         catches_up(state, 100, 0, Some((2, 10))),
@@ -75,17 +72,31 @@ fn rounds_right<L: Drop, C: Numbered + Drop + 'static>(
 
 /// Whether followers are caught up as they should be, one alone and in rounds, without an
 /// allocation.
-pub fn is_as_worked<
-    L: LeaderIdentity<Id = u64, Committed = C> + Drop,
-    C: Numbered + Default + Drop + 'static,
->(rt: &(impl Abort + Print), alloc: Global) -> io::Result<bool> {
-    let states = both(hundred::<L, C>(alloc), state::<L, C>(alloc, VALID));
-    let held = both(states, followers::<C>(rt, alloc, &[4], 100));
+fn are_caught_up<L: Drop, C: Numbered + Drop + 'static>(
+    rt: &impl Print,
+    alloc: Global,
+    state: &State<L, C>,
+    purged: &State<L, C>,
+    progress: &mut Followers<C>,
+) -> bool {
+    refuse_each(alloc);
+    let is_right = rounds_right(state, progress) && alone_right(state, purged);
     let name = "RaftState::{can_catch_up, catch_up, catch_up_all}";
-    is_free_on(rt, alloc, name, held, |held| {
-        let (state, purged) = (&held.0.0, &held.0.1);
-        rounds_right(state, &mut held.1) && catches_up_right(state, purged)
-    })
+    is_free(rt, alloc, name, is_right).unwrap_or(false)
+}
+
+/// Whether followers are caught up so, by a state with a log of leader 1 from 0 to 99, and by one
+/// with a purged log.
+pub fn catches_up_right<L: Drop, C: Numbered + Drop + 'static>(
+    rt: &(impl Abort + Print),
+    alloc: Global,
+    state: &mut State<L, C>,
+    purged: &State<L, C>,
+) -> Result<bool, AllocError> {
+    let followers = followers(rt, alloc, &[4], 100);
+    let (log_ids, mut progress) = both(log_of(alloc, "1.0,1.99"), followers)?;
+    state.log_ids = log_ids;
+    Ok(are_caught_up(rt, alloc, state, purged, &mut progress))
 }
 
 /// Example state 7. A log from 0 to 99: a follower that agrees up to 70 takes 1 conflict and 6
@@ -93,7 +104,6 @@ pub fn is_as_worked<
 /// granted is none, then (1, 99).
 #[test]
 fn followers_are_caught_up(rt: HostRuntime) -> Result<(), Fail> {
-    assert!(rt; is_as_worked::<LeaderId<u64>, _>(&rt, rt.alloc())?);
-    assert!(rt; is_as_worked::<StandardLeader, _>(&rt, rt.alloc())?);
+    assert_over_both(&rt, rt.alloc(), ["catches up", NEW, VALID, "1.0,1.99"])?;
     Ok(())
 }

@@ -5,7 +5,8 @@
 //! `raft_state` are in `whole_state`. Those that go over several modules have the name of what they
 //! test: `clones`, `compared` with the original, `allocations` for allocations that are refused,
 //! `imports` of each public name, `laws` by their callers, short `lives` of one state, a kind of
-//! leaders by their `region`, and `texts`.
+//! leaders by their `region`, and `texts`. Tests of a whole state are run by `over_kinds`, over each
+//! kind of leader ids.
 #![tactic(auto)]
 
 #[cfg(test)]
@@ -36,6 +37,8 @@ mod lives;
 mod log_id_list;
 #[cfg(test)]
 mod membership_state;
+#[cfg(test)]
+mod over_kinds;
 #[cfg(test)]
 mod region;
 #[cfg(test)]

@@ -1,16 +1,18 @@
 //! Short lives of one state, compared after each call with a plain list of its log ids and a scan
 //! of its memberships.
 
+use crate::laws::purge_to;
+use crate::over_kinds::assert_over_both;
 use crate::support::asserts::assert_right;
 use crate::support::messages::{Entry, Snapshot};
 use crate::support::rows::{Row, id, row};
-use crate::support::states::{DefaultState, StandardState, State};
+use crate::support::states::{NEW, State};
 use raft_base::{LeaderIdentity, LogIdOf, LogStateReader, VoteIn};
 use raft_members::{Membership, StoredMembershipOf};
 use raft_state::{EntryOf, EntryPayload, SnapshotMetaOf, is_key_list};
-use raft_testing::memory::on;
+use raft_testing::memory::holds;
 use raft_testing::plain_log::Numbered;
-use raft_testing::words::{number, words};
+use raft_testing::words::{log_ids, number, words};
 use std::alloc::{AllocError, Global};
 use std::collections::{BTreeMap, BTreeSet};
 use std::process::Abort;
@@ -149,12 +151,17 @@ fn member(word: &str) -> (Row, u64) {
     }
 }
 
-/// What a state has to hold.
+/// Keeps the entries whose index is below another one, or those that are not.
+fn keep(entries: &mut Vec<(Row, u64)>, below: bool, index: u64) {
+    entries.retain(|entry| starts_before(entry.0, index) == below);
+}
+
+/// What a state has to hold. An entry is a log id and the voter of its membership, or 0.
 #[derive(Drop)]
-struct Plain {
-    /// The log ids, from the last purged one on.
-    log: Vec<(u64, u64)>,
-    /// The memberships by log id and voter: the last one that is purged, and those in the log.
+pub struct Plain {
+    /// The entries, from the last purged one on.
+    log: Vec<(Row, u64)>,
+    /// The entries with a membership: the last one that is purged, and those in the log.
     members: Vec<(Row, u64)>,
     /// How many of these memberships are not known to be committed.
     pending: usize,
@@ -166,7 +173,7 @@ struct Plain {
 
 impl Plain {
     /// Nothing.
-    fn new(alloc: Global) -> Result<Self, AllocError> {
+    pub fn new(alloc: Global) -> Result<Self, AllocError> {
         Ok(Plain {
             log: Vec::new(alloc),
             members: vec![in alloc; (None, 0)]?,
@@ -178,12 +185,20 @@ impl Plain {
         })
     }
 
+    /// The last log id.
+    fn last(&self) -> Row {
+        match self.log.last() {
+            Some(entry) => entry.0,
+            None => None,
+        }
+    }
+
     fn append(&mut self, entries: &str) -> Result<(), AllocError> {
-        for entry in entries.split(',') {
-            let (at, voter) = member(entry);
-            self.log.push(at.unwrap_or((0, 0)))?;
-            if voter != 0 {
-                self.members.push((at, voter))?;
+        for word in entries.split(',') {
+            let entry = member(word);
+            self.log.push(entry)?;
+            if entry.1 != 0 {
+                self.members.push(entry)?;
                 self.pending = 1;
             }
         }
@@ -191,13 +206,13 @@ impl Plain {
     }
 
     fn truncate(&mut self, since: u64) {
-        self.log.retain(|row| row.1 < since);
+        keep(&mut self.log, true, since);
         let before = self.members.len();
-        self.members.retain(|member| starts_before(member.0, since));
+        keep(&mut self.members, true, since);
         if self.members.len() < before {
             self.pending = 0;
         }
-        self.accepted = self.accepted.min(self.log.last().copied());
+        self.accepted = self.accepted.min(self.last());
     }
 
     fn commit(&mut self, upto: Row) {
@@ -207,35 +222,31 @@ impl Plain {
         }
     }
 
-    fn purge(&mut self, upto: (u64, u64)) {
-        self.log.retain(|row| row.1 >= upto.1);
-    }
-
     /// Installs a snapshot up to a log id, with a membership at a log id and its voter.
     fn install(&mut self, upto: (u64, u64), members: (Row, u64)) -> Result<(), AllocError> {
-        if self.log.contains(&upto) {
-            self.purge(upto);
-            let next = upto.1.saturating_add(1);
-            self.members.retain(|member| !starts_before(member.0, next));
+        let last = Some(upto);
+        if self.at(upto.1) == last {
+            keep(&mut self.log, false, upto.1);
+            keep(&mut self.members, false, upto.1.saturating_add(1));
         } else {
             self.log.clear();
-            self.log.push(upto)?;
+            self.log.push((last, 0))?;
             self.members.clear();
         }
         self.pending = self.pending.min(self.members.len());
         self.members.insert(0, members)?;
-        self.committed = Some(upto);
-        self.snapshot = Some(upto);
-        self.purge_upto = Some(upto);
-        self.accepted = self.accepted.max(Some(upto)).min(self.log.last().copied());
+        self.committed = last;
+        self.snapshot = last;
+        self.purge_upto = last;
+        self.accepted = self.accepted.max(last).min(self.last());
         Ok(())
     }
 
     /// The log id at an index.
     fn at(&self, index: u64) -> Row {
-        for row in &self.log {
-            if row.1 == index {
-                return Some(*row);
+        for (at, _) in &self.log {
+            if starts_before(*at, index.saturating_add(1)) && !starts_before(*at, index) {
+                return *at;
             }
         }
         None
@@ -259,7 +270,7 @@ impl Plain {
             "install" => self.install(upto.unwrap_or((0, 0)), member(second))?,
             "build" => self.snapshot = upto,
             "schedule" => self.purge_upto = upto,
-            "purge" => self.purge(upto.unwrap_or((0, 0))),
+            "purge" => keep(&mut self.log, false, upto.unwrap_or((0, 0)).1),
             _ => {}
         }
         Ok(())
@@ -291,7 +302,7 @@ impl Plain {
                 return false;
             }
         }
-        state.last_log_id().copied() == id(self.log.last().copied())
+        state.last_log_id().copied() == id(self.last())
     }
 }
 
@@ -309,22 +320,18 @@ fn of_voter(alloc: Global, voter: u64) -> Result<Membership<u64, u64>, AllocErro
     Membership::new_unchecked(vec![in alloc; voters]?, BTreeMap::new(alloc))
 }
 
-/// The payload of an entry, by the voter of its membership.
-fn payload(alloc: Global, voter: u64) -> Result<EntryPayload<u64, u64, u64>, AllocError> {
-    if voter == 0 {
-        return Ok(EntryPayload::Blank);
-    }
-    Ok(EntryPayload::Membership(of_voter(alloc, voter)?))
-}
-
 /// The entries of a word.
 fn entries<C: Numbered + Drop>(alloc: Global, word: &str) -> Result<Vec<Entry<C>>, AllocError> {
     let mut entries = Vec::new(alloc);
     for entry in word.split(',') {
         let (at, voter) = member(entry);
-        let payload = payload(alloc, voter)?;
+        let payload = if voter == 0 {
+            EntryPayload::Blank
+        } else {
+            EntryPayload::Membership(of_voter(alloc, voter)?)
+        };
         if let Some(log_id) = id(at) {
-            entries.push(EntryOf { log_id, payload })?;
+            entries.extend(Some(EntryOf { log_id, payload }))?;
         }
     }
     Ok(entries)
@@ -345,23 +352,44 @@ fn snapshot<C: Numbered + Drop>(
     })
 }
 
+// A value that may have been refused is handed on as it is, so that the callers, which own nothing,
+// have one exit path.
+
 /// Appends entries, if that may be.
-fn append<L: Drop, C: Ord + Copy + Drop>(
+pub fn append<L: Drop, C: Ord + Copy + Drop>(
     state: &mut State<L, C>,
-    entries: &[EntryOf<C, u64, u64, u64>],
+    entries: Result<Vec<Entry<C>>, AllocError>,
 ) -> Result<bool, AllocError> {
-    if !state.can_append_entries(entries) {
+    let entries = &entries?;
+    let may = state.can_append_entries(entries);
+    if may {
+        state.append_entries(entries)?;
+    }
+    Ok(may)
+}
+
+/// Appends log ids, of one leader or of several, if that may be.
+pub fn extend<L: Drop, C: Ord + Copy + Drop>(
+    state: &mut State<L, C>,
+    ids: Result<Vec<LogIdOf<C>>, AllocError>,
+) -> Result<bool, AllocError> {
+    let ids = &ids?;
+    if state.log_ids.can_extend_from_same_leader(ids) {
+        state.extend_log_ids_from_same_leader(ids)?;
+    } else if state.log_ids.can_extend(ids) {
+        state.extend_log_ids(ids)?;
+    } else {
         return Ok(false);
     }
-    state.append_entries(entries)?;
     Ok(true)
 }
 
 /// Installs a snapshot, if that may be.
-fn install<
+pub fn install<
     L: LeaderIdentity<Id = u64, Committed = C> + Drop,
     C: Ord + Copy + Default + Drop + 'static,
->(state: &mut State<L, C>, snapshot: Snapshot<C>) -> Result<bool, AllocError> {
+>(state: &mut State<L, C>, snapshot: Result<Snapshot<C>, AllocError>) -> Result<bool, AllocError> {
+    let snapshot = snapshot?;
     if !state.can_install_snapshot(&snapshot) {
         return Ok(false);
     }
@@ -372,13 +400,14 @@ fn install<
 /// Records a snapshot that was built, if that may be.
 fn build<L: Drop, C: Ord + Copy + Drop>(
     state: &mut State<L, C>,
-    snapshot: SnapshotMetaOf<C, u64, u64>,
-) -> bool {
+    snapshot: Result<Snapshot<C>, AllocError>,
+) -> Result<bool, AllocError> {
+    let snapshot = snapshot?;
     let may = state.can_build_snapshot(&snapshot);
     if may {
         state.build_snapshot(snapshot);
     }
-    may
+    Ok(may)
 }
 
 /// Truncates the log, if that may be, and answers whether that is told of the effective membership.
@@ -406,18 +435,6 @@ fn commit<L: Drop, C: Ord + Copy + Drop>(
     Ok(state.update_committed(&upto)? == Some(committed))
 }
 
-/// Accepts a log id of the leader, if that may be.
-fn accept<
-    L: LeaderIdentity<Id = u64, Committed = C> + Drop,
-    C: Ord + Copy + Default + Drop + 'static,
->(state: &mut State<L, C>, log_id: Option<LogIdOf<C>>) -> bool {
-    let may = state.can_accept() && state.is_logged(&log_id);
-    if may {
-        state.update_accepted(log_id);
-    }
-    may
-}
-
 /// Schedules a purge, if that may be.
 fn schedule<L: Drop, C: Ord + Copy + Drop>(state: &mut State<L, C>, upto: &LogIdOf<C>) -> bool {
     let may = state.can_schedule_purge(upto);
@@ -428,25 +445,15 @@ fn schedule<L: Drop, C: Ord + Copy + Drop>(state: &mut State<L, C>, upto: &LogId
 }
 
 /// Purges, if that may be.
-fn purge<L: Drop, C: Ord + Copy + Drop>(
+pub fn purge<L: Drop, C: Ord + Copy + Drop>(
     state: &mut State<L, C>,
     upto: &LogIdOf<C>,
 ) -> Result<bool, AllocError> {
     if !state.can_purge_log(upto) {
         return Ok(false);
     }
-    state.purge_log(upto)?;
+    purge_to(state, upto)?;
     Ok(true)
-}
-
-/// Promises the vote of a leader, which is committed or not.
-fn promise<
-    L: LeaderIdentity<Id = u64, Committed = C> + Drop,
-    C: Ord + Copy + Default + Drop + 'static,
->(state: &mut State<L, C>, leader: u64, is_committed: bool) -> bool {
-    let mut vote = VoteIn::new(leader, 1);
-    vote.committed = is_committed;
-    state.promise(vote)
 }
 
 /// Makes a call of a state's log, if that may be.
@@ -457,14 +464,30 @@ fn make<L: Drop, C: Numbered + Drop>(
 ) -> Result<bool, AllocError> {
     let upto = row(first);
     match (name, id(upto)) {
-        ("append", _) => append(state, &entries(alloc, first)?),
+        ("append", _) => append(state, entries(alloc, first)),
+        ("extend", _) => extend(state, log_ids(alloc, first)),
         ("truncate", _) => truncate(state, number(first)),
         ("commit", upto) => commit(state, upto),
-        ("build", _) => Ok(build(state, snapshot(alloc, upto, second)?)),
+        ("build", _) => build(state, snapshot(alloc, upto, second)),
         ("schedule", Some(upto)) => Ok(schedule(state, &upto)),
         ("purge", Some(upto)) => purge(state, &upto),
         _ => Ok(false),
     }
+}
+
+/// Whether calls of a state's log may be made as wanted, or not be made.
+pub fn makes<L: Drop, C: Numbered + Drop>(
+    alloc: Global,
+    state: &mut State<L, C>,
+    calls: &str,
+) -> bool {
+    for call in calls.trim().lines() {
+        let [may, name, first, second, ..] = words(call);
+        if holds(make(alloc, state, [name, first, second])) != (may == "ok") {
+            return false;
+        }
+    }
+    true
 }
 
 /// Makes a call of a state, if that may be.
@@ -477,62 +500,60 @@ fn make_any<
     [name, first, second]: [&str; 3],
 ) -> Result<bool, AllocError> {
     match name {
-        "promise" => Ok(promise(state, number(first), second == "committed")),
-        "accept" => Ok(accept(state, id(row(first)))),
-        "install" => install(state, snapshot(alloc, row(first), second)?),
+        "promise" => {
+            let mut vote = VoteIn::new(number(first), 1);
+            vote.committed = second == "committed";
+            Ok(state.promise(vote))
+        }
+        "accept" => {
+            let log_id = id(row(first));
+            let may = state.can_accept() && state.is_logged(&log_id);
+            if may {
+                state.update_accepted(log_id);
+            }
+            Ok(may)
+        }
+        "install" => install(state, snapshot(alloc, row(first), second)),
         _ => make(alloc, state, [name, first, second]),
     }
 }
 
-/// Whether a call may be made as wanted, and a state is then what it has to be.
-fn is_right<
-    L: LeaderIdentity<Id = u64, Committed = C> + Drop,
-    C: Numbered + Default + Drop + 'static,
->(
-    alloc: Global,
-    state: &mut State<L, C>,
+/// Whether a call was made as wanted, and a state is then what it has to be.
+fn is_right<L: Drop, C: Numbered + Drop>(
+    state: &State<L, C>,
+    accepted: Option<LogIdOf<C>>,
     plain: &mut Plain,
-    call: &str,
+    made: Result<bool, AllocError>,
+    [may, name, first, second]: [&str; 4],
 ) -> Result<bool, AllocError> {
-    let [may, name, first, second, ..] = words(call);
-    let is_made = make_any(alloc, state, [name, first, second])?;
+    let is_made = made?;
     if is_made {
         plain.make(name, first, second)?;
     }
-    let is_accepted = state.accepted().copied() == id(plain.accepted);
-    Ok(is_made == (may == "ok") && is_accepted && plain.is_of(state))
+    Ok(is_made == (may == "ok") && accepted == id(plain.accepted) && plain.is_of(state))
 }
 
 /// Makes the calls of a life, and stops the test at the first one that is wrong.
-fn live<L: LeaderIdentity<Id = u64, Committed = C> + Drop, C: Numbered + Default + Drop + 'static>(
-    rt: &impl Abort,
-    alloc: Global,
-    state: &mut State<L, C>,
-    life: (&str, &str),
-) -> Result<(), AllocError> {
-    let mut plain = Plain::new(alloc)?;
-    let _is_promised = promise(state, 9, true);
-    let (name, calls) = life;
+pub fn live<
+    L: LeaderIdentity<Id = u64, Committed = C> + Drop,
+    C: Numbered + Default + Drop + 'static,
+>(rt: &impl Abort, alloc: Global, state: &mut State<L, C>, plain: &mut Plain, life: &str) -> bool {
+    let (title, calls) = life.split_once('\n').unwrap_or((life, ""));
+    let is_promised = holds(make_any(alloc, state, ["promise", "9", "committed"]));
     for call in calls.lines() {
-        let is_right = is_right(alloc, state, &mut plain, call)?;
-        assert_right(rt, name, if is_right { None } else { Some(call) });
+        let [may, name, first, second, ..] = words(call);
+        let made = make_any(alloc, state, [name, first, second]);
+        let accepted = state.accepted().copied();
+        let is_right = is_right(state, accepted, plain, made, [may, name, first, second]);
+        assert_right(rt, title, if holds(is_right) { None } else { Some(call) });
     }
-    Ok(())
+    is_promised
 }
 
 #[test]
 fn states_live_as_plain_lists_do(rt: HostRuntime) -> Result<(), Fail> {
-    let alloc = rt.alloc();
     for life in LIVES.trim().split("\n\n") {
-        let life = life.split_once('\n').unwrap_or((life, ""));
-        on(
-            DefaultState::try_default(alloc),
-            |state| live(&rt, alloc, state, life),
-        )?;
-        on(
-            StandardState::try_default(alloc),
-            |state| live(&rt, alloc, state, life),
-        )?;
+        assert_over_both(&rt, rt.alloc(), ["lives", NEW, NEW, life])?;
     }
     Ok(())
 }

@@ -6,13 +6,15 @@ ghost use Rattle.std.specs.Cmp.{po};
 ghost use Rattle.std.specs.Ordering.{nat_cmp};
 ghost use Rattle.std.specs.Prelude.{◌/◌, Some, refl};
 
-use crate::catch_up::is_as_worked;
-use crate::support::states::hundred;
+use crate::over_kinds::assert_over;
+use crate::support::states::{NEW, VALID, log_of};
 use raft_base::{LeaderIdentity, LeaderKind};
 use raft_progress::ProgressEntryOf;
 use raft_progress::search::{SearchEvent, search_run};
 use raft_state::RaftStateOf;
+use raft_testing::memory::on;
 use raft_testing::plain_log::Numbered;
+use std::alloc::{AllocError, Global};
 use std::cmp::Ordering;
 use std::fmt;
 use std::test::Fail;
@@ -121,25 +123,35 @@ impl LeaderKind<u64> for Regions {
     type Committed = RegionLeader;
 }
 
+type State = RaftStateOf<u64, u64, u64, Regions>;
+
 /// Whether a search over a log from 0 to 99 accepts two conflicts of two, and then sends from the
 /// first.
-fn searches(state: &RaftStateOf<u64, u64, u64, Regions>) -> bool {
+fn searches(alloc: Global, log: &mut State) -> Result<bool, AllocError> {
+    log.log_ids = log_of(alloc, "1.0,1.99")?;
+    let log = &*log;
+    let max_entries = 10;
     let mut entry = ProgressEntryOf::empty(100);
-    let send = || SearchEvent::Send {
-        log: state,
-        max_entries: 10,
-    };
-    let conflict = |request_id: u64, conflict: u64| SearchEvent::Conflict {
-        request_id,
-        conflict,
-    };
-    let events = [send(), conflict(1, 47), send(), conflict(2, 15), send()];
-    search_run(&mut entry, &events) == 2 && entry.searching_end == 15
+    let events = [
+        SearchEvent::Send { log, max_entries },
+        SearchEvent::Conflict {
+            request_id: 1,
+            conflict: 47,
+        },
+        SearchEvent::Send { log, max_entries },
+        SearchEvent::Conflict {
+            request_id: 2,
+            conflict: 15,
+        },
+        SearchEvent::Send { log, max_entries },
+    ];
+    Ok(search_run(&mut entry, &events) == 2 && entry.searching_end == 15)
 }
 
 #[test]
 fn leaders_of_ones_own_will_do(rt: HostRuntime) -> Result<(), Fail> {
-    assert!(rt; searches(&hundred(rt.alloc())?));
-    assert!(rt; is_as_worked::<RegionLeader, _>(&rt, rt.alloc())?);
+    let alloc = rt.alloc();
+    assert!(rt; on(State::try_default(alloc), |state| searches(alloc, state))?);
+    assert_over::<RegionLeader, _>(&rt, alloc, ["catches up", NEW, VALID, "1.0,1.99"])?;
     Ok(())
 }

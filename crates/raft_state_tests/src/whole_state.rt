@@ -11,28 +11,27 @@ ghost use Rattle.raft_state.specs.raft_state.Valid.{broken_relation};
 ghost use Rattle.std.specs.List.{list_all};
 ghost use Rattle.std.specs.Prelude.{◌≡◌, IfOk, IfSome, IsTrue, None, OnErr, false, slice_get};
 
-use crate::laws::{purge_to, send};
-use crate::support::asserts::assert_row;
+use crate::laws::send;
+use crate::lives::makes;
+use crate::over_kinds::assert_over_both;
 use crate::support::followers::{Followers, caught_up, followers};
-use crate::support::rows::{Row, id, log_id, row};
-use crate::support::states::{
-    DefaultState, StandardLeader, StandardState, State, UNLOGGED, VALID, state,
-};
+use crate::support::memory::equals;
+use crate::support::rows::{Row, id, row};
+use crate::support::states::{NEW, StandardState, State, UNLOGGED, VALID, fill};
 use raft_base::order::log_id_at_most;
 use raft_base::{
-    Instant, LeaderId, LeaderIdentity, LogIdOf, LogIdOptionExt, LogIdRangeOf, LogStateReader, Node,
-    NodeId, RaftLogId, ServerState, UTime, Validate, VoteIn, leader_id_std,
+    Instant, LeaderIdentity, LogIdOf, LogIdOptionExt, LogIdRangeOf, LogStateReader, Node, NodeId,
+    RaftLogId, ServerState, UTime, Validate, VoteIn, leader_id_std,
 };
 use raft_members::quorum::QuorumSet;
 use raft_progress::{InflightOf, Progress, ProgressEntryOf};
-use raft_state::{Accepted, FollowersOf, RaftStateIn};
-use raft_testing::allocations::{is_free, is_free_on, refuse_each};
-use raft_testing::memory::{both, holds, on};
+use raft_state::{AcceptedIn, FollowersOf, ForwardToLeader, RaftStateIn};
+use raft_testing::allocations::{is_free, refuse_each};
+use raft_testing::memory::{holds, on};
 use raft_testing::plain_log::Numbered;
 use raft_testing::printing::debugs;
 use raft_testing::words::{log_ids, number, words};
 use std::alloc::{AllocError, Global};
-use std::io;
 use std::process::Abort;
 use std::test::Fail;
 
@@ -103,20 +102,16 @@ const RELATIONS: &str = "
 3 - 1.1 - - - PurgedNext
 ";
 
-/// The first log id of that log, and its last one.
-const FIRST: Row = Some((1, 1));
-
-const LAST: Row = Some((3, 4));
-
-/// Whether a state is found valid, or its first broken relation has the name.
-fn is_found<L: Drop, C: Numbered + Drop>(
+/// Whether the state of a row is found valid, or its first broken relation has the row's name.
+pub fn validates<L: Drop, C: Numbered + Drop>(
     alloc: Global,
-    state: Result<State<L, C>, AllocError>,
-    name: &str,
-) -> Result<bool, AllocError> {
-    match state?.validate() {
-        Ok(()) => Ok(name == "ok"),
-        Err(broken) => Ok(debugs(alloc, &broken, name)),
+    state: &State<L, C>,
+    row: &str,
+) -> bool {
+    let [_, _, _, _, _, _, name, ..] = words(row);
+    match state.validate() {
+        Ok(()) => name == "ok",
+        Err(broken) => debugs(alloc, &broken, name),
     }
 }
 
@@ -153,19 +148,27 @@ fn wrong_of(is_sound: bool, has_purge_point: bool, has_committed: bool) -> &'sta
 }
 
 /// Whether the state of a row is valid, has what is wrong of it, and may not be truncated at the
-/// committed index.
-fn is_sound_as(alloc: Global, of: &str) -> Result<bool, AllocError> {
+/// committed index. What it has accepted is of this leader.
+pub fn is_sound_as<L: Eq + Copy + Drop, C: Numbered + Drop>(
+    state: &mut State<L, C>,
+    leader: L,
+    of: &str,
+) -> bool {
     let [_, _, _, _, _, _, accepted, wrong, _] = words(of);
-    let mut state: DefaultState = state(alloc, of)?;
-    state.accepted = Accepted::new(LeaderId::new(2, 1), id(row(accepted)));
+    state.accepted = AcceptedIn::new(leader, id(row(accepted)));
     let is_wrong = wrong_of(
         state.is_sound(),
         state.purge_upto_is_logged(),
         state.committed_is_logged(),
     );
     let committed = state.committed.index().unwrap_or(0);
-    Ok(is_wrong == wrong && state.validate() == Ok(()) && !state.can_truncate_log(committed))
+    is_wrong == wrong && state.validate() == Ok(()) && !state.can_truncate_log(committed)
 }
+
+/// The first log id of the valid state's log, and its last one.
+const FIRST: Row = Some((1, 1));
+
+const LAST: Row = Some((3, 4));
 
 /// Whether a log id is that of the row.
 fn is<C: Numbered>(read: Option<LogIdOf<C>>, want: Row) -> bool {
@@ -177,7 +180,7 @@ fn is_lent<C: Numbered>(read: Option<&LogIdOf<C>>, want: Row) -> bool {
     read.copied() == id(want)
 }
 
-/// Whether a valid state reads as it should, and equals itself and no other, and a log whose
+/// Whether the valid state reads as it should, and equals itself and no other, and a log whose
 /// committed log id (3,0) it does not have is not truncated where all that stays is below that.
 fn reads<L: Eq + Drop, C: Numbered + Drop>(state: &State<L, C>, other: &State<L, C>) -> bool {
     let are_right = [
@@ -202,20 +205,17 @@ fn reads<L: Eq + Drop, C: Numbered + Drop>(state: &State<L, C>, other: &State<L,
     !are_right.contains(&false)
 }
 
-/// Whether the first of two states reads so, and no read allocates.
-fn reads_right<
-    L: LeaderIdentity<Id = u64, Committed = C> + Drop,
-    C: Numbered + Default + Drop + 'static,
->(rt: &impl Print, alloc: Global) -> io::Result<bool> {
-    let states = both(state::<L, C>(alloc, VALID), state::<L, C>(alloc, UNLOGGED));
+/// Whether the valid state reads so beside another one, and no read allocates.
+pub fn reads_right<L: Eq + Drop, C: Numbered + Drop>(
+    rt: &impl Print,
+    alloc: Global,
+    state: &State<L, C>,
+    other: &State<L, C>,
+) -> bool {
+    refuse_each(alloc);
+    let are_read = reads(state, other);
     let name = "RaftState::{validate, eq}, get_log_id and other reads";
-    is_free_on(
-        rt,
-        alloc,
-        name,
-        states,
-        |states| reads(&states.0, &states.1),
-    )
+    is_free(rt, alloc, name, are_read).unwrap_or(false)
 }
 
 /// Entries, and how many of them a follower has before the first one that it lacks. It may not be
@@ -233,161 +233,108 @@ const ASKED: &str = "
 1.2,2.1 no
 ";
 
-/// Whether a state has as many entries as a row says.
-fn has<L: Drop, C: Numbered + Drop>(
+/// Whether the valid state has as many entries as a row says before the first one that it lacks.
+pub fn has_before<L: Drop, C: Numbered + Drop>(
     alloc: Global,
-    state: Result<State<L, C>, AllocError>,
+    state: &State<L, C>,
     row: &str,
 ) -> Result<bool, AllocError> {
     let [entries, count, ..] = words(row);
-    let (state, entries) = both(state, log_ids(alloc, entries))?;
+    let entries = log_ids(alloc, entries)?;
     if !state.can_ask_all(&entries) {
         return Ok(count == "no");
     }
-    let lacking = lacking(&state, &entries).len() as u64;
+    let lacking = lacking(state, &entries).len() as u64;
     Ok(count != "no" && entries.len() as u64 == lacking.saturating_add(number(count)))
 }
 
-/// Commits up to a row, if that may be, and answers what was committed before.
-fn committed_before<L: Drop, C: Numbered + Drop>(
+/// Commits of the valid state: a log id is committed once.
+const COMMITS: &str = "
+ok commit 3.4
+no commit 3.4
+";
+
+/// Then its log grows, by log ids of one leader and of two, and is purged.
+const GROWS: &str = "
+ok extend 4.6,4.8
+ok extend 5.9,6.10
+ok purge 3.5
+no purge 3.4
+no purge 9.18446744073709551615
+";
+
+/// Whether the valid state commits without an allocation, grows, and is purged up to (3,5).
+pub fn grows<L: Drop, C: Numbered + Drop>(
+    rt: &impl Print,
+    alloc: Global,
     state: &mut State<L, C>,
-    upto: Row,
-) -> Result<Option<Option<LogIdOf<C>>>, AllocError> {
-    let upto = id(upto);
-    if state.can_commit(&upto) {
-        state.update_committed(&upto)
-    } else {
-        Ok(None)
-    }
-}
-
-/// Whether a log id is committed once, with the answer of before.
-fn commits<L: Drop, C: Numbered + Drop>(state: &mut State<L, C>) -> Result<bool, AllocError> {
-    let before = committed_before(state, LAST)?;
-    let again = committed_before(state, LAST)?;
-    Ok(before == Some(id(FIRST)) && again == None && is(state.committed, LAST))
-}
-
-/// Appends log ids, of one leader or of several, if that may be.
-fn extend<L: Drop, C: Ord + Copy + Drop>(
-    state: &mut State<L, C>,
-    ids: &[LogIdOf<C>],
-) -> Result<(), AllocError> {
-    if state.log_ids.can_extend_from_same_leader(ids) {
-        state.extend_log_ids_from_same_leader(ids)
-    } else if state.log_ids.can_extend(ids) {
-        state.extend_log_ids(ids)
-    } else {
-        Ok(())
-    }
-}
-
-/// Purges up to a log id, if that may be.
-fn purge<L: Drop, C: Ord + Copy + Drop>(
-    state: &mut State<L, C>,
-    upto: &LogIdOf<C>,
-) -> Result<(), AllocError> {
-    if state.can_purge_log(upto) {
-        purge_to(state, upto)?;
-    }
-    Ok(())
-}
-
-/// Whether a log is purged up to (3,5), and may not be to (3,4), nor to the greatest index.
-fn is_purged<L: Drop, C: Numbered + Drop>(state: &State<L, C>) -> bool {
+) -> bool {
+    refuse_each(alloc);
+    let commits = makes(alloc, state, COMMITS);
+    let are_free = is_free(rt, alloc, "RaftState::update_committed", commits);
+    let grows = makes(alloc, state, GROWS);
     let are_right = [
+        are_free.unwrap_or(false),
+        grows,
+        is(state.committed, LAST),
         state.purged_next == 6,
         is_lent(state.last_purged_log_id(), Some((3, 5))),
         is(state.get_log_id(7), Some((4, 7))),
         is_lent(state.last_log_id(), Some((6, 10))),
-        !state.can_purge_log(&log_id(3, 4)),
-        !state.can_purge_log(&log_id(9, u64::MAX)),
     ];
     !are_right.contains(&false)
 }
 
-/// Whether a state commits without an allocation, and its log grows, by log ids of one leader and
-/// then of two, and is purged.
-fn grows<L: Drop, C: Numbered + Drop>(
-    rt: &impl Print,
-    alloc: Global,
-    state: &mut State<L, C>,
-) -> io::Result<bool> {
-    refuse_each(alloc);
-    let commits = holds(commits(state));
-    let is_committed = is_free(rt, alloc, "RaftState::update_committed", commits)?;
-    extend(state, &log_ids(alloc, "4.6,4.8")?)?;
-    extend(state, &log_ids(alloc, "5.9,6.10")?)?;
-    purge(state, &log_id(3, 5))?;
-    Ok(is_committed && is_purged(state))
-}
+/// Votes by term and node and whether they are committed, the node to which requests are forwarded,
+/// with its id and what it is, and the role of the node 3. The voters are 1 and 2, and 3 is a
+/// learner.
+const LEADS: &str = "
+1.3 committed 3 6 Leader
+1.3 uncommitted - - Candidate
+1.9 committed - - Learner
+";
 
-/// Whether requests are forwarded as wanted, and the nodes 1, 3 and 9 are what they should be.
-fn leads<
+/// Whether the valid state leads with a vote as a row says. The nodes 1 and 9 are a follower and a
+/// learner.
+fn leads_with<
     L: LeaderIdentity<Id = u64, Committed = C> + Drop,
-    C: Ord + Copy + Default + Drop + 'static,
->(
-    state: &State<L, C>,
-    to: (Option<u64>, Option<u64>),
-    want: [ServerState; 3],
-) -> Result<bool, AllocError> {
-    let forward = state.forward_to_leader()?;
-    let are = [
-        state.calc_server_state(&1),
-        state.calc_server_state(&3),
-        state.calc_server_state(&9),
-    ];
+    C: Numbered + Default + Drop + 'static,
+>(alloc: Global, state: &mut State<L, C>, vote: VoteIn<L>, row: &str) -> bool {
+    let [_, _, leader_id, leader_node, role, ..] = words(row);
+    state.vote = UTime::without_utime(vote);
+    let forward = ForwardToLeader {
+        leader_id: leader_id.parse::<u64>().ok(),
+        leader_node: leader_node.parse::<u64>().ok(),
+    };
+    let third = state.calc_server_state(&3);
     let are_right = [
-        forward.leader_id == to.0,
-        forward.leader_node == to.1,
-        are == want,
-        state.is_leading(&3) == (want[1] != ServerState::Learner),
-        state.is_leader(&3) == want[1].is_leader(),
+        holds(equals(state.forward_to_leader(), &forward)),
+        state.calc_server_state(&1) == ServerState::Follower,
+        debugs(alloc, &third, role),
+        state.calc_server_state(&9) == ServerState::Learner,
+        state.is_leading(&3) == (third != ServerState::Learner),
+        state.is_leader(&3) == third.is_leader(),
         state.is_voter(&1),
         !state.is_voter(&3),
     ];
-    Ok(!are_right.contains(&false))
+    !are_right.contains(&false)
 }
 
-/// Whether a state leads so with a vote.
-fn leads_with<
+/// Whether the valid state leads with the vote of a row as the row says.
+pub fn leads<
     L: LeaderIdentity<Id = u64, Committed = C> + Drop,
-    C: Ord + Copy + Default + Drop + 'static,
->(
-    state: &mut State<L, C>,
-    vote: VoteIn<L>,
-    to: (Option<u64>, Option<u64>),
-    second: ServerState,
-) -> Result<bool, AllocError> {
-    state.vote = UTime::without_utime(vote);
-    leads(
-        state,
-        to,
-        [ServerState::Follower, second, ServerState::Learner],
-    )
-}
-
-/// Whether requests go to the node that a committed vote is for.
-fn leads_right<
-    L: LeaderIdentity<Id = u64, Committed = C> + Drop,
-    C: Ord + Copy + Default + Drop + 'static,
->(state: &mut State<L, C>) -> Result<bool, AllocError> {
-    let (none, to) = ((None, None), (Some(3), Some(6)));
-    let are_right = [
-        leads_with(state, VoteIn::new_committed(1, 3), to, ServerState::Leader)?,
-        leads_with(state, VoteIn::new(1, 3), none, ServerState::Candidate)?,
-        leads_with(
-            state,
-            VoteIn::new_committed(1, 9),
-            none,
-            ServerState::Learner,
-        )?,
-    ];
-    Ok(!are_right.contains(&false))
+    C: Numbered + Default + Drop + 'static,
+>(alloc: Global, state: &mut State<L, C>, of: &str) -> bool {
+    let [vote, is_committed, ..] = words(of);
+    let (term, node) = row(vote).unwrap_or((0, 0));
+    let mut vote = VoteIn::new(term, node);
+    vote.committed = is_committed == "committed";
+    leads_with(alloc, state, vote, of)
 }
 
 /// Whether a committed vote of term 1 for nobody leads no one.
-fn nobody_leads(state: &mut StandardState) -> Result<bool, AllocError> {
+fn nobody_leads(alloc: Global, state: &mut StandardState) -> Result<bool, AllocError> {
+    fill(alloc, state, VALID)?;
     let leader_id = leader_id_std::LeaderId {
         term: 1,
         voted_for: None,
@@ -396,23 +343,18 @@ fn nobody_leads(state: &mut StandardState) -> Result<bool, AllocError> {
         leader_id,
         committed: true,
     };
-    leads_with(state, vote, (None, None), ServerState::Learner)
+    Ok(leads_with(alloc, state, vote, "1 committed - - Learner"))
 }
 
 /// Example state 3. Keys (1, 1), (3, 4), the valid state; `purged_next` 3; purge point (3, 0),
 /// and (3, 0) committed too, which is valid and not in the log.
 #[test]
 fn a_state_validates_and_is_sound(rt: HostRuntime) -> Result<(), Fail> {
-    let alloc = rt.alloc();
     for row in RELATIONS.trim().lines() {
-        let [_, _, _, _, _, _, name, ..] = words(row);
-        let made: Result<DefaultState, AllocError> = state(alloc, row);
-        assert_row(&rt, row, is_found(alloc, made, name)?);
-        let made: Result<StandardState, AllocError> = state(alloc, row);
-        assert_row(&rt, row, is_found(alloc, made, name)?);
+        assert_over_both(&rt, rt.alloc(), ["validates", row, NEW, row])?;
     }
     for row in SOUND.trim().lines() {
-        assert_row(&rt, row, is_sound_as(alloc, row)?);
+        assert_over_both(&rt, rt.alloc(), ["is sound", row, NEW, row])?;
     }
     Ok(())
 }
@@ -422,29 +364,20 @@ fn a_state_validates_and_is_sound(rt: HostRuntime) -> Result<(), Fail> {
 #[test]
 fn a_state_reads_and_moves(rt: HostRuntime) -> Result<(), Fail> {
     let alloc = rt.alloc();
-    let default = || state::<LeaderId<u64>, _>(alloc, VALID);
-    let standard = || state::<StandardLeader, _>(alloc, VALID);
-    let are_right = [
-        reads_right::<LeaderId<u64>, _>(&rt, alloc)?,
-        reads_right::<StandardLeader, _>(&rt, alloc)?,
-        on(default(), |state| grows(&rt, alloc, state))?,
-        on(standard(), |state| grows(&rt, alloc, state))?,
-        on(default(), |state| leads_right(state))?,
-        on(standard(), |state| leads_right(state))?,
-        on(standard(), |state| nobody_leads(state))?,
-    ];
-    assert!(rt; are_right == [true; 7]);
+    assert_over_both(&rt, alloc, ["reads", VALID, UNLOGGED, VALID])?;
+    assert_over_both(&rt, alloc, ["grows", VALID, NEW, GROWS])?;
+    for row in LEADS.trim().lines() {
+        assert_over_both(&rt, alloc, ["leads", VALID, NEW, row])?;
+    }
+    let standard = StandardState::try_default(alloc);
+    assert!(rt; on(standard, |state| nobody_leads(alloc, state))?);
     Ok(())
 }
 
 #[test]
 fn a_follower_lacks_what_conflicts(rt: HostRuntime) -> Result<(), Fail> {
-    let alloc = rt.alloc();
     for row in ASKED.trim().lines() {
-        let made: Result<DefaultState, AllocError> = state(alloc, VALID);
-        assert_row(&rt, row, has(alloc, made, row)?);
-        let made: Result<StandardState, AllocError> = state(alloc, VALID);
-        assert_row(&rt, row, has(alloc, made, row)?);
+        assert_over_both(&rt, rt.alloc(), ["lacks", VALID, NEW, row])?;
     }
     Ok(())
 }
@@ -470,36 +403,31 @@ fn sends_right<L: Drop, C: Numbered + Drop + 'static>(state: &State<L, C>) -> bo
 fn commits_once<L: Drop, C: Numbered + Drop + 'static>(
     state: &mut State<L, C>,
     followers: &mut Followers<C>,
-) -> Result<bool, AllocError> {
-    let caught_up = caught_up(state, followers, &[(1, 3), (2, 3)]);
-    let first = commit_granted(state, followers)?;
-    let second = commit_granted(state, followers)?;
-    Ok(caught_up == Some(2) && first && !second && state.committed == id(Some((3, 4))))
+) -> bool {
+    let are_right = [
+        caught_up(state, followers, &[(1, 3), (2, 3)]) == Some(2),
+        commit_granted(state, followers) == Ok(true),
+        commit_granted(state, followers) == Ok(false),
+        state.committed == id(Some((3, 4))),
+    ];
+    are_right == [true; 4]
 }
 
-/// Whether a leader sends as it should, and commits what two followers match up to.
-fn sends_and_commits<L: Drop, C: Numbered + Drop + 'static>(
+/// Whether a leader with the valid state sends as it should, and commits what two followers match
+/// up to.
+pub fn sends_and_commits<L: Drop, C: Numbered + Drop + 'static>(
     rt: &impl Abort,
     alloc: Global,
     state: &mut State<L, C>,
 ) -> Result<bool, AllocError> {
-    if !sends_right(state) {
-        return Ok(false);
-    }
-    commits_once(state, &mut followers(rt, alloc, &[], 5)?)
+    let followers = &mut followers(rt, alloc, &[], 5)?;
+    Ok(sends_right(state) && commits_once(state, followers))
 }
 
 /// Example state 6. The valid state sends logs from (1, 1) to (3, 4), takes the conflict at 1,
 /// and sends an absent snapshot.
 #[test]
 fn a_leader_sends_and_commits(rt: HostRuntime) -> Result<(), Fail> {
-    let alloc = rt.alloc();
-    let default = state::<LeaderId<u64>, _>(alloc, VALID);
-    assert!(rt; on(default, |state| sends_and_commits(&rt, alloc, state))?);
-    let standard = state::<StandardLeader, _>(alloc, VALID);
-    assert!(rt;
-        on(standard, |state| sends_and_commits(&rt, alloc, state))?,
-        "by terms"
-    );
+    assert_over_both(&rt, rt.alloc(), ["sends", VALID, NEW, VALID])?;
     Ok(())
 }

@@ -3,10 +3,10 @@
 //! The row of a state has `purged_next`, the purge point, what is committed, the snapshot's last
 //! log id, and the log ids of the committed and of the effective membership.
 
+use crate::support::memory::put;
 use crate::support::rows::{Row, effective, id, row};
-use raft_base::{LeaderIdentity, UTime, VoteIn, leader_id_std};
+use raft_base::{UTime, VoteIn, leader_id_std};
 use raft_state::{LogIdListOf, MembershipStateOf, RaftState, RaftStateIn, is_key_list};
-use raft_testing::memory::both;
 use raft_testing::plain_log::Numbered;
 use raft_testing::words::{log_ids, number, words};
 use std::alloc::{AllocError, Global};
@@ -30,6 +30,9 @@ pub const VALID: &str = "2 1.1 1.1 - - -";
 /// The row of a valid state of whose log neither the purge point nor what is committed is one.
 pub const UNLOGGED: &str = "2 3.0 3.0 - - -";
 
+/// The row of a new state.
+pub const NEW: &str = "";
+
 /// Memberships of the voters 1 and 2 and a node 3, at these log ids.
 fn memberships<C: Numbered + Drop>(
     alloc: Global,
@@ -50,12 +53,16 @@ pub fn log_of<C: Numbered>(alloc: Global, keys: &str) -> Result<LogIdListOf<C>, 
     }
 }
 
-/// Gives a state the log of the keys (1,1) and (3,4), and the log ids and memberships of a row.
-fn fill<L: Drop, C: Numbered + Drop>(
+/// Gives a state the log of the keys (1,1) and (3,4), and the log ids and memberships of a row. A
+/// new state stays as it is.
+pub fn fill<L: Drop, C: Numbered + Drop>(
     alloc: Global,
     state: &mut State<L, C>,
     of: &str,
 ) -> Result<(), AllocError> {
+    if of == NEW {
+        return Ok(());
+    }
     let [
         purged_next,
         purge_upto,
@@ -66,9 +73,8 @@ fn fill<L: Drop, C: Numbered + Drop>(
         ..
     ] = words(of);
     let memberships = memberships(alloc, row(members), row(in_effect));
-    let (log_ids, membership_state) = both(log_of(alloc, "1.1,3.4"), memberships)?;
-    state.log_ids = log_ids;
-    state.membership_state = membership_state;
+    put(&mut state.log_ids, log_of(alloc, "1.1,3.4"))?;
+    put(&mut state.membership_state, memberships)?;
     state.purged_next = number(purged_next);
     state.purge_upto = id(row(purge_upto));
     state.committed = id(row(committed));
@@ -76,32 +82,16 @@ fn fill<L: Drop, C: Numbered + Drop>(
     Ok(())
 }
 
-/// The state of a row, with the log of the keys (1,1) and (3,4).
-pub fn state<
-    L: LeaderIdentity<Id = u64, Committed = C> + Drop,
-    C: Numbered + Default + Drop + 'static,
->(alloc: Global, row: &str) -> Result<State<L, C>, AllocError> {
-    let mut state = State::<L, C>::try_default(alloc)?;
+/// The state of a row with the default leader ids.
+pub fn state(alloc: Global, row: &str) -> Result<DefaultState, AllocError> {
+    let mut state = DefaultState::try_default(alloc)?;
     fill(alloc, &mut state, row)?;
     Ok(state)
 }
 
-/// A valid state with a log of leader 1 from 0 to 99, of which nothing was purged.
-pub fn hundred<
-    L: LeaderIdentity<Id = u64, Committed = C> + Drop,
-    C: Numbered + Default + Drop + 'static,
->(alloc: Global) -> Result<State<L, C>, AllocError> {
-    let mut state = State::<L, C>::try_default(alloc)?;
-    state.log_ids = log_of(alloc, "1.0,1.99")?;
-    Ok(state)
-}
-
 /// A state of a row that has accepted nothing, with the committed vote of node 1 in term 9.
-pub fn follower<
-    L: LeaderIdentity<Id = u64, Committed = C> + Drop,
-    C: Numbered + Default + Drop + 'static,
->(alloc: Global, row: &str) -> Result<State<L, C>, AllocError> {
-    let mut state = state::<L, C>(alloc, row)?;
+pub fn follower(alloc: Global, row: &str) -> Result<DefaultState, AllocError> {
+    let mut state = state(alloc, row)?;
     state.vote = UTime::without_utime(VoteIn::new_committed(9, 1));
     Ok(state)
 }
