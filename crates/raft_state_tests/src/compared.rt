@@ -4,8 +4,7 @@
 //! missing and at the greatest u64, some over leader ids of standard Raft; those outside of a
 //! call's condition were left out. Each answer is what the original's own code gave to that call.
 
-use crate::support::asserts::assert_row;
-use crate::support::words::call_is_right;
+use crate::support::words::assert_calls;
 use raft_base::LeaderId;
 use raft_base::leader_id_std::CommittedLeaderId;
 use std::test::Fail;
@@ -417,15 +416,7 @@ by_last_leader 1.0,2.85 - 2.85
 
 #[test]
 fn calls_are_those_of_the_original(rt: HostRuntime) -> Result<(), Fail> {
-    for line in CALLS.trim().lines() {
-        assert_row(&rt, line, call_is_right::<LeaderId<u64>>(rt.alloc(), line)?);
-    }
-    for line in STD_CALLS.trim().lines() {
-        assert_row(
-            &rt,
-            line,
-            call_is_right::<CommittedLeaderId>(rt.alloc(), line)?,
-        );
-    }
+    assert_calls::<LeaderId<u64>>(&rt, rt.alloc(), CALLS);
+    assert_calls::<CommittedLeaderId>(&rt, rt.alloc(), STD_CALLS);
     Ok(())
 }

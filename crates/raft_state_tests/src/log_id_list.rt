@@ -4,14 +4,15 @@ ghost use Rattle.raft_state.specs.log_id_list.LogEdits.{front, log_after_append}
 ghost use Rattle.std.specs.Prelude.{◌≡◌, IfOk, IsTrue, OnErr, false};
 
 use crate::laws::{is_up_to_date, logs_are_same, take_both};
-use crate::support::asserts::assert_row;
-use crate::support::words::call_is_right;
+use crate::support::memory::equals;
+use crate::support::states::log_of;
+use crate::support::words::assert_calls;
 use raft_base::leader_id_std::CommittedLeaderId;
 use raft_base::{LeaderId, LogIdOf};
 use raft_state::log_id_list::laws::{have_equal_keys, truncate_twice};
-use raft_state::{LogIdList, LogIdListOf, is_key_list};
+use raft_state::{LogIdList, LogIdListOf};
+use raft_testing::memory::holds;
 use raft_testing::printing::debugs;
-use raft_testing::words::log_ids;
 use std::alloc::{AllocError, Global};
 use std::test::Fail;
 
@@ -93,30 +94,14 @@ is_key_list 1.1,3.2,2.3 - false
 /// `extend`, `get`, the keys of the last leader, and the tests of preconditions.
 #[test]
 fn calls_are_right(rt: HostRuntime) -> Result<(), Fail> {
-    for line in ROWS.trim().lines() {
-        assert_row(&rt, line, call_is_right::<LeaderId<u64>>(rt.alloc(), line)?);
-        assert_row(
-            &rt,
-            line,
-            call_is_right::<CommittedLeaderId>(rt.alloc(), line)?,
-        );
-    }
+    assert_calls::<LeaderId<u64>>(&rt, rt.alloc(), ROWS);
+    assert_calls::<CommittedLeaderId>(&rt, rt.alloc(), ROWS);
     Ok(())
-}
-
-/// The list with these keys, or the empty one where they are no keys.
-fn list_of(alloc: Global, word: &str) -> Result<LogIdList<u64>, AllocError> {
-    let keys = log_ids::<LeaderId<u64>>(alloc, word)?;
-    if is_key_list(&keys) {
-        Ok(LogIdList::new(keys))
-    } else {
-        LogIdList::try_default(alloc)
-    }
 }
 
 /// Whether a list is that of a word.
 fn is(list: &LogIdList<u64>, alloc: Global, word: &str) -> Result<bool, AllocError> {
-    Ok(*list == list_of(alloc, word)?)
+    equals(log_of(alloc, word), list)
 }
 
 /// Whether a list, the list that is cut at index 9, and one that equals the latter compare as their
@@ -138,14 +123,14 @@ fn compare(list: &LogIdList<u64>, cut: &LogIdList<u64>, shorter: &LogIdList<u64>
 fn clones_compare(alloc: Global, list: &LogIdList<u64>) -> Result<bool, AllocError> {
     let mut cut = list.try_clone()?;
     truncate_twice(&mut cut, 9);
-    Ok(compare(list, &cut, &list_of(alloc, "1.1,2.3,2.8")?))
+    Ok(compare(list, &cut, &log_of(alloc, "1.1,2.3,2.8")?))
 }
 
 /// Whether a clone of a list takes a log id in place of its own.
 fn is_replaced(alloc: Global, list: &LogIdList<u64>) -> Result<bool, AllocError> {
     let mut taken = list.clone()?;
-    let is_taken = replace_from(&mut taken, LogIdOf::new(LeaderId::new(3, 0), 6))?;
-    Ok(is_taken && is(&taken, alloc, "1.1,2.3,3.6")?)
+    let is_taken = replace_from(&mut taken, LogIdOf::new(LeaderId::new(3, 0), 6));
+    Ok(holds(is_taken) && holds(is(&taken, alloc, "1.1,2.3,3.6")))
 }
 
 /// Whether an empty list takes two log ids.
@@ -159,12 +144,12 @@ fn both_are_taken(alloc: Global) -> Result<bool, AllocError> {
 /// Whether lists with equal logs are equal, and no others, and whether a caller is answered.
 fn lists_compare(alloc: Global, list: &LogIdList<u64>) -> Result<bool, AllocError> {
     let are_right = [
-        is(list, alloc, "1.1,2.3,2.9")?,
-        !is(list, alloc, "1.1,3.3,3.9")?,
-        clones_compare(alloc, list)?,
-        is_replaced(alloc, list)?,
-        both_are_taken(alloc)?,
-        is(&LogIdList::try_default(alloc)?, alloc, "-")?,
+        holds(is(list, alloc, "1.1,2.3,2.9")),
+        is(list, alloc, "1.1,3.3,3.9") == Ok(false),
+        holds(clones_compare(alloc, list)),
+        holds(is_replaced(alloc, list)),
+        holds(both_are_taken(alloc)),
+        holds(is(&LogIdList::try_default(alloc)?, alloc, "-")),
     ];
     Ok(!are_right.contains(&false))
 }
@@ -174,7 +159,7 @@ fn lists_are_their_logs(rt: HostRuntime) -> Result<(), Fail> {
     let alloc = rt.alloc();
     let text = "LogIdList { key_log_ids: [LogId { leader_id: LeaderId { term: 1, node_id: 2 }, \
         index: 3 }] }";
-    assert!(rt; lists_compare(alloc, &list_of(alloc, "1.1,2.3,2.9")?.clone()?)?);
-    assert!(rt; debugs(alloc, &list_of(alloc, "1.2.3")?, text));
+    assert!(rt; lists_compare(alloc, &log_of(alloc, "1.1,2.3,2.9")?.clone()?)?);
+    assert!(rt; debugs(alloc, &log_of::<LeaderId<u64>>(alloc, "1.2.3")?, text));
     Ok(())
 }

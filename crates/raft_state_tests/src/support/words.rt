@@ -1,14 +1,17 @@
 //! Calls of a list of log ids as rows of words: the call, the keys, its argument, the answer.
 
+use crate::support::asserts::assert_row;
+use crate::support::states::log_of;
 use raft_base::LogIdOf;
-use raft_state::{LogIdListOf, is_key_list};
-use raft_testing::memory::both;
+use raft_state::LogIdListOf;
+use raft_testing::memory::{both, holds};
 use raft_testing::plain_log::Numbered;
 use raft_testing::words::{log_ids, number, words};
 use std::alloc::{AllocError, Global};
+use std::process::Abort;
 
 /// Makes a call that changes the list, if it may be made: with the first of these log ids, or all.
-fn edit<C: Ord + Copy>(
+pub fn edit<C: Ord + Copy>(
     list: &mut LogIdListOf<C>,
     call: &str,
     argument: &str,
@@ -40,16 +43,21 @@ fn answer_of<C: Ord + Copy>(list: &LogIdListOf<C>, test: &str, ids: &[LogIdOf<C>
     }
 }
 
-/// The log id that a call reads.
-fn read<C: Ord + Copy>(list: &LogIdListOf<C>, call: &str, index: &str) -> Option<LogIdOf<C>> {
+/// The log id that a call reads, if it reads one.
+fn read<C: Ord + Copy>(
+    list: &LogIdListOf<C>,
+    call: &str,
+    index: &str,
+) -> Option<Option<LogIdOf<C>>> {
     match call {
-        "get" => list.get(number(index)),
-        "first" => list.first().copied(),
-        _ => list.last().copied(),
+        "get" => Some(list.get(number(index))),
+        "first" => Some(list.first().copied()),
+        "last" => Some(list.last().copied()),
+        _ => None,
     }
 }
 
-/// The keys that a call reads.
+/// The keys that a call reads, which are those of the last leader or all.
 fn keys<'a, C: Ord + Copy>(list: &'a LogIdListOf<C>, call: &str) -> &'a [LogIdOf<C>] {
     match call {
         "by_last_leader" => list.by_last_leader(),
@@ -58,7 +66,7 @@ fn keys<'a, C: Ord + Copy>(list: &'a LogIdListOf<C>, call: &str) -> &'a [LogIdOf
 }
 
 /// Whether a call with these log ids leads to the answer, or the list to these keys.
-fn leads_to<C: Ord + Copy>(
+pub fn leads_to<C: Ord + Copy>(
     list: &mut LogIdListOf<C>,
     call: &str,
     argument: (&str, &[LogIdOf<C>]),
@@ -66,24 +74,27 @@ fn leads_to<C: Ord + Copy>(
 ) -> bool {
     let (word, ids) = argument;
     let (said, wanted) = answer;
-    match call {
-        "get" | "first" | "last" => read(list, call, word) == wanted.first().copied(),
-        "key_log_ids" | "by_last_leader" => keys(list, call) == wanted,
-        "append" | "extend" | "extend_same" | "purge" | "truncate" => {
-            edit(list, call, word, ids).is_ok() && list.key_log_ids() == wanted
-        }
-        _ => answer_of(list, call, ids) == Some(said == "true"),
+    if let Some(answer) = answer_of(list, call, ids) {
+        return answer == (said == "true");
     }
+    if let Some(read) = read(list, call, word) {
+        return read == wanted.first().copied();
+    }
+    edit(list, call, word, ids).is_ok() && keys(list, call) == wanted
 }
 
-/// Whether the call of a row has the row's answer.
-pub fn call_is_right<C: Numbered + Drop>(alloc: Global, row: &str) -> Result<bool, AllocError> {
+/// Whether the call of a row has the row's answer. Of words that are no keys, for which
+/// `is_key_list` has to answer `false`, `log_of` makes an empty list.
+fn call_is_right<C: Numbered + Drop>(alloc: Global, row: &str) -> Result<bool, AllocError> {
     let [call, keys, argument, answer, ..] = words(row);
     let ids = both(log_ids::<C>(alloc, argument), log_ids::<C>(alloc, answer));
-    let (keys, (ids, wanted)) = both(log_ids::<C>(alloc, keys), ids)?;
-    if !is_key_list(&keys) {
-        return Ok(call == "is_key_list" && answer == "false");
-    }
-    let mut list = LogIdListOf::new(keys);
+    let (mut list, (ids, wanted)) = both(log_of::<C>(alloc, keys), ids)?;
     Ok(leads_to(&mut list, call, (argument, &ids), (answer, &wanted)))
+}
+
+/// Stops the test at the first row whose call has not the row's answer, and prints the row.
+pub fn assert_calls<C: Numbered + Drop>(rt: &impl Abort, alloc: Global, rows: &str) {
+    for row in rows.trim().lines() {
+        assert_row(rt, row, holds(call_is_right::<C>(alloc, row)));
+    }
 }
