@@ -1,17 +1,18 @@
 //! The memberships of a node, and a change of the effective one.
 
-use crate::support::rows::{Effective, Row, effective, id};
+use crate::support::memory::equals;
+use crate::support::rows::{Effective, effective, id, row};
 use raft_base::leader_id_std::CommittedLeaderId;
-use raft_base::{Invalid, LeaderId, LogIdOptionExt, Validate};
+use raft_base::{Invalid, LeaderId, LogIdOf, LogIdOptionExt, Validate};
 use raft_members::{ChangeMembers, ChangeMembershipErrorOf, InProgressOf};
 use raft_state::MembershipStateOf;
 use raft_testing::allocations::{is_free, refuse_each};
-use raft_testing::memory::{both, holds};
+use raft_testing::memory::{both, holds, on};
 use raft_testing::plain_log::Numbered;
-use raft_testing::words::ids;
+use raft_testing::words::{ids, number, words};
 use std::alloc::{AllocError, Global};
+use std::collections::BTreeSet;
 use std::fmt::Debug;
-use std::io;
 use std::rc::Rc;
 use std::test::Fail;
 
@@ -23,96 +24,103 @@ pub fn state<C: Numbered + Drop>(alloc: Global) -> Result<State<C>, AllocError> 
     Ok(MembershipStateOf::new(committed, effective(alloc, Some((2, 10)), "2,3")?))
 }
 
-/// Whether the two memberships are those at these log ids.
-fn are_at<C: Numbered + Drop>(state: &State<C>, committed: Row, effective: Row) -> bool {
-    *state.committed().log_id() == id(committed) && *state.effective().log_id() == id(effective)
-}
+/// Calls of these memberships. A row has the call, its argument, the log id and the voters of the
+/// membership of a snapshot or of an entry, the log id that is answered or `no` if the call may not
+/// be made, and then the log ids of both memberships and whether they are in order. Equal
+/// memberships under another log id are no news, so nothing is answered.
+const MOVES: &str = "
+update 4 10.5 3 - 10.5 2.10 no
+update 10 10.5 3 10.5 10.5 10.5 ok
+update 10 10.5 2,3 - 10.5 10.5 ok
+truncate 10 - none 1.1 1.1 1.1 ok
+truncate 2 - none 1.1 1.1 1.1 ok
+truncate 11 - none - 1.1 2.10 ok
+commit 2.10 - none - 2.10 2.10 ok
+commit 2.9 - none - 1.1 2.10 ok
+commit 3.9 - none no
+append - 2.11 3 - 2.10 2.11 ok
+append - 3.10 3 no
+append - 1.11 3 no
+";
 
-/// Whether an answer is the membership at a log id, or nothing.
-fn answers<C: Numbered + Drop>(answer: Option<&Rc<Effective<C>>>, want: Row) -> bool {
-    match answer {
-        Some(effective) => want.is_some() && *effective.log_id() == id(want),
-        None => want.is_none(),
-    }
-}
-
-/// Whether a snapshot up to an index, with a membership, leads where it should.
-fn snapshot_leads<C: Numbered + Drop>(
-    from: &State<C>,
-    new: &Rc<Effective<C>>,
-    upto: u64,
-    answer: Row,
-    leads: (Row, Row),
-    valid: Result<(), Invalid>,
-) -> Result<bool, AllocError> {
-    let mut state = from.try_clone()?;
-    let answered = answers(state.update_committed(new.clone()?, upto)?, answer);
-    Ok(answered && are_at(&state, leads.0, leads.1) && state.validate() == valid)
-}
-
-/// Whether a log that is cut off from an index on leads where it should.
-fn cut_leads<C: Numbered + Drop>(
-    from: &State<C>,
-    since: u64,
-    answer: Row,
-    effective: Row,
-) -> Result<bool, AllocError> {
-    let mut state = from.try_clone()?;
-    if !state.can_truncate(since) {
-        return Ok(false);
-    }
-    let answered = answers(state.truncate(since)?, answer);
-    Ok(answered && are_at(&state, Some((1, 1)), effective))
-}
-
-/// Whether a committed log id leads where it should, or may not be given.
-fn commit_leads<C: Numbered + Drop>(
-    from: &State<C>,
-    upto: Row,
-    committed: Option<Row>,
-) -> Result<bool, AllocError> {
-    let mut state = from.clone()?;
-    let upto = id(upto);
-    if !state.can_commit(&upto) {
-        return Ok(committed.is_none());
-    }
-    state.commit(&upto)?;
-    Ok(match committed {
-        Some(committed) => are_at(&state, committed, Some((2, 10))),
-        None => false,
-    })
-}
-
-/// Whether a membership may be appended as wanted, and is then effective.
-fn append_leads<C: Numbered + Drop>(
-    from: &State<C>,
-    new: &Rc<Effective<C>>,
-    want: Row,
-) -> Result<bool, AllocError> {
-    let mut state = from.try_clone()?;
-    if !state.can_append(new) {
-        return Ok(want == None);
-    }
-    state.append(new.clone()?);
-    Ok(are_at(&state, Some((2, 10)), want) && state != *from)
-}
-
-/// The log ids and the voters of the memberships of two snapshots and of three entries.
-const NEW: [(Row, &str); 5] = [
-    (Some((10, 5)), "3"),
-    (Some((10, 5)), "2,3"),
-    (Some((2, 11)), "3"),
-    (Some((3, 10)), "3"),
-    (Some((1, 11)), "3"),
-];
-
-/// These memberships.
+/// The memberships of the rows.
 fn news<C: Numbered + Drop>(alloc: Global) -> Result<Vec<Rc<Effective<C>>>, AllocError> {
     let mut news = Vec::new(alloc);
-    for (at, voters) in NEW {
-        news.push(effective(alloc, at, voters)?)?;
+    for move_row in MOVES.trim().lines() {
+        let [_, _, at, voters, ..] = words(move_row);
+        news.extend(Some(effective(alloc, row(at), voters)?))?;
     }
     Ok(news)
+}
+
+/// The log id of a membership that is answered.
+fn answered<C: Copy + Drop>(answer: Option<&Rc<Effective<C>>>) -> Option<LogIdOf<C>> {
+    match answer {
+        Some(effective) => *effective.log_id(),
+        None => None,
+    }
+}
+
+/// Makes a call with its argument and a membership, and returns the log id that it answers, or
+/// `None` if it may not be made.
+fn make<C: Numbered + Drop>(
+    state: &mut State<C>,
+    new: Result<Rc<Effective<C>>, AllocError>,
+    call: &str,
+    argument: &str,
+) -> Result<Option<Option<LogIdOf<C>>>, AllocError> {
+    let (index, upto) = (number(argument), id(row(argument)));
+    let new = new?;
+    match call {
+        "update" => Ok(Some(answered(state.update_committed(new, index)?))),
+        "truncate" if state.can_truncate(index) => Ok(Some(answered(state.truncate(index)?))),
+        "commit" if state.can_commit(&upto) => {
+            state.commit(&upto)?;
+            Ok(Some(None))
+        }
+        "append" if state.can_append(&new) => {
+            state.append(new);
+            Ok(Some(None))
+        }
+        _ => Ok(None),
+    }
+}
+
+/// Whether the memberships are at these log ids and in order as wanted. They equal those before
+/// exactly if both have the same log ids.
+fn are_at<C: Numbered + Drop>(
+    state: &State<C>,
+    from: &State<C>,
+    [committed, in_effect, valid]: [&str; 3],
+) -> bool {
+    let is_in_order = match state.validate() {
+        Ok(()) => valid == "ok",
+        Err(broken) => valid == "no" && broken == Invalid::MembershipLogId,
+    };
+    let are_right = [
+        is_in_order,
+        *state.committed().log_id() == id(row(committed)),
+        *state.effective().log_id() == id(row(in_effect)),
+        (*state == *from) == ([committed, in_effect] == ["1.1", "2.10"]),
+    ];
+    !are_right.contains(&false)
+}
+
+/// Whether a call leads where its row says.
+fn leads<C: Numbered + Drop>(
+    state: &mut State<C>,
+    from: &State<C>,
+    new: &Rc<Effective<C>>,
+    move_row: &str,
+) -> Result<bool, AllocError> {
+    let [call, argument, _, _, answer, committed, in_effect, valid, _] = words(move_row);
+    match make(state, new.clone(), call, argument)? {
+        None => Ok(answer == "no"),
+        Some(answered) => {
+            let is_answered = answer != "no" && answered == id(row(answer));
+            Ok(is_answered && are_at(state, from, [committed, in_effect, valid]))
+        }
+    }
 }
 
 /// Whether each move leads where it should, and leaves the memberships that it is made from.
@@ -120,73 +128,66 @@ fn move_right<C: Numbered + Drop>(
     from: &State<C>,
     same: &State<C>,
     news: &[Rc<Effective<C>>],
-) -> bool {
-    let [other, equal, next, not_past, below] = news else {
-        return false;
-    };
-    let first = Some((1, 1));
-    let second = Some((2, 10));
-    let new = Some((10, 5));
-    let over = Err(Invalid::MembershipLogId);
-    let are_right = [
-        holds(snapshot_leads(from, other, 4, None, (new, second), over)),
-        holds(snapshot_leads(from, other, 10, new, (new, new), Ok(()))),
-        // Equal memberships under another log id are no news.
-        holds(snapshot_leads(from, equal, 10, None, (new, new), Ok(()))),
-        holds(cut_leads(from, 10, first, first)),
-        holds(cut_leads(from, 2, first, first)),
-        holds(cut_leads(from, 11, None, second)),
-        holds(commit_leads(from, second, Some(second))),
-        holds(commit_leads(from, Some((2, 9)), Some(first))),
-        holds(commit_leads(from, Some((3, 9)), None)),
-        holds(append_leads(from, next, Some((2, 11)))),
-        holds(append_leads(from, not_past, None)),
-        holds(append_leads(from, below, None)),
-        from.validate() == Ok(()),
-        *from == *same,
-    ];
-    !are_right.contains(&false)
+) -> Result<bool, AllocError> {
+    for (row, new) in MOVES.trim().lines().zip(news) {
+        if !on(from.try_clone(), |state| leads(state, from, new, row))? {
+            return Ok(false);
+        }
+    }
+    Ok(from.validate() == Ok(()) && *from == *same && equals(from.clone(), same)?)
 }
 
 /// Whether a change is refused while the effective membership is not committed.
 fn is_early<C: Numbered + Default + Debug + Drop>(
     state: &State<C>,
-    change: ChangeMembers<u64, u64>,
-) -> bool {
+    added: Result<BTreeSet<u64>, AllocError>,
+) -> Result<bool, AllocError> {
     let want = InProgressOf {
         committed: id(Some((1, 1))),
         membership_log_id: id(Some((2, 10))),
     };
-    state.change_handler().apply(change, true) == Err(ChangeMembershipErrorOf::InProgress(want))
+    let change = ChangeMembers::AddVoterIds(added?);
+    let changed = state.change_handler().apply(change, true);
+    Ok(changed == Err(ChangeMembershipErrorOf::InProgress(want)))
 }
 
-/// Whether the members after a change are these voters, or there may be none.
-fn are_changed<C: Numbered + Default + Debug + Drop>(
+/// Whether removed voters leave none, which is refused.
+fn are_removed<C: Numbered + Default + Debug + Drop>(
     state: &State<C>,
-    change: ChangeMembers<u64, u64>,
-    voters: &[u64],
-) -> bool {
+    removed: Result<BTreeSet<u64>, AllocError>,
+) -> Result<bool, AllocError> {
+    let change = ChangeMembers::RemoveVoters(removed?);
     match state.change_handler().apply(change, true) {
-        Ok(made) => voters.iter().all(|id| made.is_voter(id)) && !voters.is_empty(),
-        Err(ChangeMembershipErrorOf::EmptyMembership(_)) => voters.is_empty(),
-        Err(_) => false,
+        Err(ChangeMembershipErrorOf::EmptyMembership(_)) => Ok(true),
+        _ => Ok(false),
+    }
+}
+
+/// Whether added voters lead to the voters 1 and 3.
+fn are_added<C: Numbered + Default + Debug + Drop>(
+    state: &State<C>,
+    added: Result<BTreeSet<u64>, AllocError>,
+) -> Result<bool, AllocError> {
+    let change = ChangeMembers::AddVoterIds(added?);
+    match state.change_handler().apply(change, true) {
+        Ok(made) => Ok(made.is_voter(&1) && made.is_voter(&3)),
+        Err(_) => Ok(false),
     }
 }
 
 /// Whether a change is refused while the effective membership is not committed, and made
 /// afterwards.
-fn apply_right<C: Numbered + Default + Debug + Drop>(
-    alloc: Global,
-    state: &mut State<C>,
-) -> Result<bool, AllocError> {
-    let is_early = is_early(state, ChangeMembers::AddVoterIds(ids(alloc, "1")?));
+fn apply_right<C: Numbered + Default + Debug + Drop>(alloc: Global, state: &mut State<C>) -> bool {
+    let is_early = holds(is_early(state, ids(alloc, "1")));
     let upto = id(Some((2, 10)));
-    if state.can_commit(&upto) {
-        state.commit(&upto)?;
-    }
-    let none = are_changed(state, ChangeMembers::RemoveVoters(ids(alloc, "2,3")?), &[]);
-    let add = are_changed(state, ChangeMembers::AddVoterIds(ids(alloc, "1")?), &[1, 3]);
-    Ok(is_early && none && add)
+    let is_committed = state.can_commit(&upto) && state.commit(&upto) == Ok(());
+    let are_right = [
+        is_early,
+        is_committed,
+        holds(are_removed(state, ids(alloc, "2,3"))),
+        holds(are_added(state, ids(alloc, "1"))),
+    ];
+    are_right == [true; 4]
 }
 
 /// Whether the memberships of a node move as they should, without an allocation because they are
@@ -194,13 +195,23 @@ fn apply_right<C: Numbered + Default + Debug + Drop>(
 fn memberships_right<C: Numbered + Default + Debug + Drop>(
     rt: &impl Print,
     alloc: Global,
-) -> io::Result<bool> {
-    let states = both(state::<C>(alloc), state::<C>(alloc));
-    let ((mut from, same), news) = both(states, news(alloc))?;
+    (from, same): &mut (State<C>, State<C>),
+    news: &[Rc<Effective<C>>],
+) -> Result<bool, AllocError> {
     refuse_each(alloc);
-    let is_right = move_right(&from, &same, &news);
-    let are_free = is_free(rt, alloc, "MembershipState, its moves and reads", is_right)?;
-    Ok(are_free && holds(apply_right(alloc, &mut from)))
+    let is_right = holds(move_right(from, same, news));
+    let are_free = is_free(rt, alloc, "MembershipState, its moves and reads", is_right);
+    Ok(are_free.unwrap_or(false) && apply_right(alloc, from))
+}
+
+/// Whether new memberships of a node do so.
+fn all_right<C: Numbered + Default + Debug + Drop>(rt: &impl Print, alloc: Global) -> bool {
+    let states = both(state::<C>(alloc), state::<C>(alloc));
+    let held = both(states, news(alloc));
+    holds(on(
+        held,
+        |held| memberships_right(rt, alloc, &mut held.0, &held.1),
+    ))
 }
 
 /// Example state 2. Committed at (1, 1), effective at (2, 10): the membership of a snapshot at
@@ -208,7 +219,7 @@ fn memberships_right<C: Numbered + Default + Debug + Drop>(
 #[test]
 fn memberships_move(rt: HostRuntime) -> Result<(), Fail> {
     let alloc = rt.alloc();
-    assert!(rt; memberships_right::<LeaderId<u64>>(&rt, alloc)?);
-    assert!(rt; memberships_right::<CommittedLeaderId>(&rt, alloc)?);
+    assert!(rt; all_right::<LeaderId<u64>>(&rt, alloc));
+    assert!(rt; all_right::<CommittedLeaderId>(&rt, alloc));
     Ok(())
 }
