@@ -1,24 +1,32 @@
 //! The list of log ids, the memberships of a node and its whole state, with each allocation refused
 //! in turn or all of them.
 
+use crate::lives::{append, extend, install, purge};
 use crate::membership_state;
-use crate::support::messages::{entries, snapshot};
-use crate::support::rows::log_id;
-use crate::support::states::{VALID, follower, state};
+use crate::support::asserts::assert_row;
+use crate::support::memory::equals;
+use crate::support::messages::snapshot;
+use crate::support::rows::{log_id, row};
+use crate::support::states::{follower, state};
+use crate::support::words::{edit, leads_to};
 use raft_base::{LogId, LogStateReader, MessageSummary};
 use raft_members::{Membership, StoredMembership};
 use raft_state::{
-    Entry, EntryPayload, FromAppData, LogIdList, MembershipState, RaftState, SnapshotMeta,
-    is_key_list,
+    Entry, EntryPayload, FromAppData, LogIdList, MembershipState, RaftEntry, RaftState,
+    SnapshotMeta, is_key_list,
 };
 use raft_testing::allocations::{Allocation, is_compared, is_free_on, is_swept};
-use raft_testing::words::{log_ids, members};
+use raft_testing::memory::both;
+use raft_testing::words::{log_ids, members, number, words};
 use std::alloc::{AllocError, Global};
+use std::io;
 use std::test::Fail;
 
 type List = LogIdList<u64>;
 
 type State = RaftState<u64, u64, u64>;
+
+type Data = Entry<u64, u64, u64>;
 
 /// A list with the keys of a word, that has room for so many more.
 fn list(alloc: Global, keys: &str, room: usize) -> Result<List, AllocError> {
@@ -32,94 +40,35 @@ fn list(alloc: Global, keys: &str, room: usize) -> Result<List, AllocError> {
     }
 }
 
-/// Keys, log ids of a leader each, and log ids of one.
-const KEYS: &str = "1.1,2.3";
+/// Calls by what they are printed as. A call has its name, the log ids that it is given, how many
+/// keys these add, and the keys of the list.
+const EDITS: &str = "
+LogIdList::append: append 3.7,3.8,3.9 1 of 1.1,2.3
+LogIdList::extend: extend 3.7,4.8,5.9,6.10 4 of 1.1,2.3
+LogIdList::extend_from_same_leader: extend_same 3.7,3.8,3.9 2 of 1.1,2.3
+LogIdList::purge of an empty list: purge 3.7,3.8,3.9 1 of -
+RaftState::extend_log_ids: extend_log 3.7,4.8,5.9,6.10 4 of 1.1,2.3
+RaftState::extend_log_ids_from_same_leader: extend_log 3.7,3.8,3.9 2 of 1.1,2.3
+RaftState::purge_log of an empty log: purge_log 3.7,3.8,3.9 1 of -
+";
 
-const SEVERAL: &str = "3.7,4.8,5.9,6.10";
-
-const OF_ONE: &str = "3.7,3.8,3.9";
-
-/// Calls by name, each with the keys of a list, the log ids that it is given, and how many keys
-/// these add.
-const EDITS: [(&str, &str, &str, usize); 7] = [
-    ("LogIdList::append", KEYS, OF_ONE, 1),
-    ("LogIdList::extend", KEYS, SEVERAL, 4),
-    ("LogIdList::extend_from_same_leader", KEYS, OF_ONE, 2),
-    ("LogIdList::purge of an empty list", "-", OF_ONE, 1),
-    ("RaftState::extend_log_ids", KEYS, SEVERAL, 4),
-    (
-        "RaftState::extend_log_ids_from_same_leader",
-        KEYS,
-        OF_ONE,
-        2,
-    ),
-    ("RaftState::purge_log of an empty log", "-", OF_ONE, 1),
-];
-
-/// Makes a call of a list by its name, if that may be.
-fn edit_list(list: &mut List, name: &str, ids: &[LogId<u64>]) -> Result<(), AllocError> {
-    match (name, ids.first()) {
-        ("LogIdList::append", Some(id)) if list.can_append(*id) => list.append(*id),
-        ("LogIdList::extend", _) if list.can_extend(ids) => list.extend(ids),
-        ("LogIdList::purge of an empty list", Some(id)) if list.can_purge(id) => list.purge(id),
-        ("LogIdList::extend_from_same_leader", _) if list.can_extend_from_same_leader(ids) => {
-            list.extend_from_same_leader(ids)
-        }
-        _ => Ok(()),
-    }
-}
-
-/// Makes a call of a state or of its list by its name, if that may be.
-fn edit(state: &mut State, name: &str, ids: &[LogId<u64>]) -> Result<(), AllocError> {
-    match (name, ids.first()) {
-        ("RaftState::extend_log_ids", _) if state.log_ids.can_extend(ids) => {
-            state.extend_log_ids(ids)
-        }
-        ("RaftState::extend_log_ids_from_same_leader", _)
-            if state.log_ids.can_extend_from_same_leader(ids) => {
-            state.extend_log_ids_from_same_leader(ids)
-        }
-        ("RaftState::purge_log of an empty log", Some(id)) if state.can_purge_log(id) => {
-            state.purge_log(id)
-        }
-        _ => edit_list(&mut state.log_ids, name, ids),
-    }
-}
-
-/// A state with such a list.
-fn logged(alloc: Global, keys: &str, room: usize) -> Result<State, AllocError> {
-    let mut state = State::try_default(alloc)?;
-    state.log_ids = list(alloc, keys, room)?;
-    Ok(state)
-}
-
-// Each call is made with every capacity that is too small. With some, an earlier key fits and a
-// later one doesn't.
-#[test]
-fn allocations_of_lists(rt: HostRuntime) -> Result<(), Fail> {
-    for (name, keys, ids, need) in EDITS {
-        for room in 0..need {
-            let state = |alloc: Global| logged(alloc, keys, room);
-            let call = |allocation: Allocation, state: &mut State| {
-                let ids = log_ids(allocation.alloc, ids)?;
-                allocation.refuse();
-                edit(state, name, &ids)
-            };
-            let is_right = is_swept(&rt, rt.alloc(), name, state, call)?;
-            assert!(rt; is_right, "{name}, room for {room}");
-        }
-    }
-    Ok(())
-}
+/// Calls of a state by what they are printed as, each of which is made once. A call has its name,
+/// the last log id of a snapshot, a 1, and the row of the state.
+const CALLS: &str = "
+RaftState::try_clone: clone - 1 of 2 1.1 1.1 - - -
+RaftState::append_entries: append_entries - 1 of 2 1.1 1.1 - - 1.2
+RaftState::install_snapshot, logged: install 1.3 1 of 2 1.1 1.1 - - 3.4
+RaftState::install_snapshot, not logged: install 2.4 1 of 2 1.1 1.1 - - 3.4
+";
 
 /// Two configs with three learners.
 fn two_configs(alloc: Global) -> Result<Membership<u64, u64>, AllocError> {
     members(alloc, "1,2/2,4", "1=1,2=2,3=3,4=4")
 }
 
-/// A state with a snapshot.
-fn with_snapshot(alloc: Global) -> Result<State, AllocError> {
-    let mut state: State = state(alloc, VALID)?;
+/// A state of a row with a snapshot.
+fn with_snapshot(alloc: Global, row: &str) -> Result<State, AllocError> {
+    let mut state = state(alloc, row)?;
     state.snapshot_meta = SnapshotMeta {
         last_log_id: None,
         last_membership: StoredMembership::new(None, two_configs(alloc)?),
@@ -128,75 +77,108 @@ fn with_snapshot(alloc: Global) -> Result<State, AllocError> {
     Ok(state)
 }
 
-/// A follower with a membership at a log id that its log has.
-fn follower_at_two(alloc: Global) -> Result<State, AllocError> {
-    follower(alloc, "2 1.1 1.1 - - 1.2")
+/// A new state with a list of keys that has room for so many more.
+fn logged(alloc: Global, keys: &str, room: usize) -> Result<State, AllocError> {
+    let mut state = State::try_default(alloc)?;
+    state.log_ids = list(alloc, keys, room)?;
+    Ok(state)
 }
 
-/// A follower with a membership at its last log id.
-fn follower_at_last(alloc: Global) -> Result<State, AllocError> {
-    follower(alloc, "2 1.1 1.1 - - 3.4")
-}
-
-/// Clones a state.
-fn cloned(allocation: Allocation, state: &State) -> Result<State, AllocError> {
-    allocation.refuse();
-    state.try_clone()
-}
-
-/// Appends entries of a leader to a follower's log, with a membership among them.
-fn append(allocation: Allocation, state: &mut State) -> Result<(), AllocError> {
-    let entries = entries(allocation.alloc, 4, 5)?;
-    allocation.refuse();
-    if !state.can_append_entries(&entries) {
-        return Ok(());
+/// The state that a call of a name borrows.
+fn borrowed(alloc: Global, name: &str, of: &str, room: usize) -> Result<State, AllocError> {
+    match name {
+        "clone" => with_snapshot(alloc, of),
+        "append_entries" | "install" => follower(alloc, of),
+        _ => logged(alloc, of, room),
     }
-    state.append_entries(&entries)
 }
 
-/// Installs a snapshot up to a log id.
-fn install(allocation: Allocation, state: &mut State, upto: (u64, u64)) -> Result<(), AllocError> {
-    let meta = snapshot(allocation.alloc, Some(upto), Some((1, 2)))?;
-    allocation.refuse();
-    if !state.can_install_snapshot(&meta) {
-        return Ok(());
+/// Purges the log of a state, or makes a call of its list by its name, if that may be.
+fn edit_log(state: &mut State, name: &str, ids: &[LogId<u64>]) -> Result<bool, AllocError> {
+    match (name, ids.first()) {
+        ("purge_log", Some(upto)) => purge(state, upto),
+        _ => {
+            edit(&mut state.log_ids, name, "", ids)?;
+            Ok(true)
+        }
     }
-    state.install_snapshot(meta)
+}
+
+/// An entry of leader 4 of each kind, one after the other from index 5 on.
+fn entries(alloc: Global) -> Result<Vec<Data>, AllocError> {
+    let membership = members(alloc, "1,2", "1=4,2=5,3=6")?;
+    let entries = [
+        Data::new_blank(log_id(4, 5)),
+        Data::new_membership(log_id(4, 6), membership),
+        Data {
+            log_id: log_id(4, 7),
+            payload: EntryPayload::Normal(7),
+        },
+    ];
+    Ok(Vec::from_array(alloc, entries)?)
+}
+
+/// Makes a call of a name, with an allocation refused once its arguments are made. Returns whether
+/// it was made, and of a clone whether it equals the state.
+fn call(
+    allocation: Allocation,
+    state: &mut State,
+    name: &str,
+    argument: &str,
+) -> Result<bool, AllocError> {
+    match name {
+        "clone" => {
+            allocation.refuse();
+            equals(state.try_clone(), state)
+        }
+        "append_entries" => {
+            let entries = entries(allocation.alloc);
+            allocation.refuse();
+            append(state, entries)
+        }
+        "install" => {
+            let meta = snapshot(allocation.alloc, row(argument), Some((1, 2)));
+            allocation.refuse();
+            install(state, meta)
+        }
+        "extend_log" => {
+            let ids = log_ids(allocation.alloc, argument);
+            allocation.refuse();
+            extend(state, ids)
+        }
+        _ => {
+            let ids = log_ids(allocation.alloc, argument)?;
+            allocation.refuse();
+            edit_log(state, name, &ids)
+        }
+    }
+}
+
+/// Whether the call of a row is right with each allocation refused in turn. A list is edited with
+/// every capacity that is too small. With some, an earlier key fits and a later one doesn't.
+fn is_right(rt: &impl Print, alloc: Global, row: &str) -> bool {
+    let (printed, rest) = row.split_once(": ").unwrap_or((row, ""));
+    let (call_words, of) = rest.split_once(" of ").unwrap_or((rest, ""));
+    let [name, argument, need, ..] = words(call_words);
+    for room in 0..number(need) {
+        let state = |alloc: Global| borrowed(alloc, name, of, room as usize);
+        let call = |allocation: Allocation, state: &mut State| {
+            call(allocation, state, name, argument)
+        };
+        if !is_swept(rt, alloc, printed, state, call).unwrap_or(false) {
+            return false;
+        }
+    }
+    true
 }
 
 #[test]
-fn allocations_of_states(rt: HostRuntime) -> Result<(), Fail> {
-    let state = |alloc: Global| with_snapshot(alloc);
-    let clone = |allocation: Allocation, state: &mut State| cloned(allocation, state);
-    let follower = |alloc: Global| follower_at_two(alloc);
-    let append = |allocation: Allocation, state: &mut State| append(allocation, state);
-    assert!(rt; is_swept(&rt, rt.alloc(), "RaftState::try_clone", state, clone)?);
-    assert!(rt;
-        is_swept(
-            &rt,
-            rt.alloc(),
-            "RaftState::append_entries",
-            follower,
-            append
-        )?
-    );
-    Ok(())
-}
-
-#[test]
-fn allocations_of_snapshots(rt: HostRuntime) -> Result<(), Fail> {
-    for (name, upto) in [
-        ("RaftState::install_snapshot, logged", (1, 3)),
-        ("RaftState::install_snapshot, not logged", (2, 4)),
-    ] {
-        let state = |alloc: Global| follower_at_last(alloc);
-        let install = |allocation: Allocation, state: &mut State| install(allocation, state, upto);
-        assert!(rt; is_swept(&rt, rt.alloc(), name, state, install)?);
+fn allocations_of_lists_and_states(rt: HostRuntime) -> Result<(), Fail> {
+    for row in EDITS.trim().lines().chain(CALLS.trim().lines()) {
+        assert_row(&rt, row, is_right(&rt, rt.alloc(), row));
     }
     Ok(())
 }
-
-type Data = Entry<u64, u64, u64>;
 
 /// An entry with a membership.
 fn entry(alloc: Global) -> Result<Data, AllocError> {
@@ -206,70 +188,91 @@ fn entry(alloc: Global) -> Result<Data, AllocError> {
     })
 }
 
+/// The memberships of a node and an entry.
+type Summed = (MembershipState<u64, u64>, Data);
+
+/// The summary that a call of a name makes, with an allocation refused.
+fn sum_up(allocation: Allocation, of: &Summed, name: &str) -> Result<String, AllocError> {
+    allocation.refuse();
+    let (memberships, entry) = of;
+    match name {
+        "MembershipState::summary" => memberships.summary(allocation.alloc),
+        "Entry::summary" => entry.summary(allocation.alloc),
+        _ => entry.payload.summary(allocation.alloc),
+    }
+}
+
 #[test]
 fn allocations_of_summaries(rt: HostRuntime) -> Result<(), Fail> {
-    let memberships = |alloc: Global| membership_state::state(alloc);
-    let sum_up = |allocation: Allocation, memberships: &mut MembershipState<u64, u64>| {
-        allocation.refuse();
-        memberships.summary(allocation.alloc)
-    };
-    let new = |alloc: Global| entry(alloc);
-    let sum_up_entry = |allocation: Allocation, entry: &mut Data| {
-        allocation.refuse();
-        entry.summary(allocation.alloc)
-    };
-    let sum_up_payload = |allocation: Allocation, entry: &mut Data| {
-        allocation.refuse();
-        entry.payload.summary(allocation.alloc)
-    };
-    let alloc = rt.alloc();
-    assert!(rt; is_swept(&rt, alloc, "MembershipState::summary", memberships, sum_up)?);
-    assert!(rt; is_swept(&rt, alloc, "Entry::summary", new, sum_up_entry)?);
-    assert!(rt; is_swept(&rt, alloc, "EntryPayload::summary", new, sum_up_payload)?);
+    for name in [
+        "MembershipState::summary",
+        "Entry::summary",
+        "EntryPayload::summary",
+    ] {
+        let summed = |alloc: Global| both(membership_state::state(alloc), entry(alloc));
+        let sum_up = |allocation: Allocation, of: &mut Summed| sum_up(allocation, of, name);
+        assert!(rt; is_swept(&rt, rt.alloc(), name, summed, sum_up)?);
+    }
     Ok(())
 }
 
-/// Whether the list of the keys (1,1), (2,3) and (2,9) is read as it should be.
-fn is_read(list: &List) -> bool {
-    let of_log = [log_id(2, 10), log_id(2, 11)];
-    let are_right = [
-        list.get(2) == Some(log_id(1, 2)),
-        list.get(10) == None,
-        list.first() == Some(&log_id(1, 1)),
-        list.last() == Some(&log_id(2, 9)),
-        list.key_log_ids().len() == 3,
-        list.by_last_leader().len() == 2,
-        is_key_list(list.key_log_ids()),
-        list.can_append(log_id(2, 10)),
-        list.can_extend(&of_log),
-        list.can_extend_from_same_leader(&of_log),
-        !list.can_purge(&log_id(1, 12)),
-    ];
-    !are_right.contains(&false)
+/// Reads of a list of the keys (1,1), (2,3) and (2,9), with their arguments and answers.
+const READS: &str = "
+get 2 1.2
+get 10 -
+first - 1.1
+last - 2.9
+key_log_ids - 1.1,2.3,2.9
+by_last_leader - 2.3,2.9
+can_append 2.10 true
+can_extend 2.10,2.11 true
+can_extend_same 2.10,2.11 true
+can_purge 1.12 false
+";
+
+/// Calls that truncate such a list and purge it, and the keys afterwards.
+const CUTS: &str = "
+truncate 5 1.1,2.3,2.4
+can_purge 2.3 true
+purge 2.3 2.3,2.4
+";
+
+/// The log ids of an argument and of an answer.
+type Ids = (Vec<LogId<u64>>, Vec<LogId<u64>>);
+
+/// The log ids of each row.
+fn ids_of(alloc: Global, rows: &str) -> Result<Vec<Ids>, AllocError> {
+    let mut all = Vec::new(alloc);
+    for row in rows.trim().lines() {
+        let [_, argument, answer, ..] = words(row);
+        all.extend(Some(both(log_ids(alloc, argument), log_ids(alloc, answer))?))?;
+    }
+    Ok(all)
 }
 
-/// Whether that list is truncated and then purged as it should be.
-fn is_cut(list: &mut List) -> bool {
-    let (first, second) = (log_id(1, 1), log_id(2, 3));
-    let last = log_id(2, 4);
-    list.truncate(5);
-    let is_truncated = list.key_log_ids() == [first, second, last].as_slice();
-    let is_purged = list.can_purge(&second) && list.purge(&second) == Ok(());
-    is_truncated && is_purged && list.key_log_ids() == [second, last].as_slice()
+/// Whether the calls of the rows lead to their answers in turn, and the list keeps its keys in
+/// order.
+fn all_lead(list: &mut List, rows: &str, all: &[Ids]) -> bool {
+    for (row, (ids, wanted)) in rows.trim().lines().zip(all) {
+        let [call, argument, answer, ..] = words(row);
+        let leads = leads_to(list, call, (argument, ids), (answer, wanted));
+        if !leads || !is_key_list(list.key_log_ids()) {
+            return false;
+        }
+    }
+    true
 }
 
-#[test]
-fn no_allocations_of_lists(rt: HostRuntime) -> Result<(), Fail> {
-    let alloc = rt.alloc();
-    let new = || list(alloc, "1.1,2.3,2.9", 0);
-    let (name, cuts) = (
-        "LogIdList, get, can_append and other reads",
-        "LogIdList, its cuts",
-    );
-    assert!(rt; is_free_on(&rt, alloc, name, new(), |list| is_read(list))?);
-    assert!(rt; is_free_on(&rt, alloc, cuts, new(), |list| is_cut(list))?);
-    assert!(rt; is_compared(&rt, alloc, "LogIdList::eq", new(), list(alloc, KEYS, 0))?);
-    Ok(())
+/// Whether the calls of the rows are right, and do not allocate.
+fn are_free(rt: &impl Print, alloc: Global, name: &str, rows: &str) -> io::Result<bool> {
+    let made = both(list(alloc, "1.1,2.3,2.9", 0), ids_of(alloc, rows));
+    is_free_on(
+        rt,
+        alloc,
+        name,
+        made,
+        |made| all_lead(&mut made.0, rows, &made.1),
+    )
 }
 
 /// Whether a log is truncated as it should be, with its effective membership.
@@ -279,14 +282,31 @@ fn is_truncated(state: &mut State) -> bool {
 }
 
 #[test]
-fn no_allocations_of_entries(rt: HostRuntime) -> Result<(), Fail> {
+fn no_allocations(rt: HostRuntime) -> Result<(), Fail> {
     let alloc = rt.alloc();
-    let data = Ok(Data::from_app_data(7));
-    assert!(rt; is_compared(&rt, alloc, "comparison of entries", entry(alloc), data)?);
-    let (name, state) = (
-        "RaftState::truncate_log",
-        follower(alloc, "2 1.1 1.1 - - 1.3"),
+    let (reads, cuts) = (
+        "LogIdList, get, can_append and other reads",
+        "LogIdList, its cuts",
     );
-    assert!(rt; is_free_on(&rt, alloc, name, state, |state| is_truncated(state))?);
+    let lists = is_compared(
+        &rt,
+        alloc,
+        "LogIdList::eq",
+        list(alloc, "1.1,2.3,2.9", 0),
+        list(alloc, "1.1,2.3", 0),
+    );
+    let data = Ok(Data::from_app_data(7));
+    let entries = is_compared(&rt, alloc, "comparison of entries", entry(alloc), data);
+    let state = follower(alloc, "2 1.1 1.1 - - 1.3");
+    let name = "RaftState::truncate_log";
+    let truncated = is_free_on(&rt, alloc, name, state, |state| is_truncated(state));
+    let are_right = [
+        are_free(&rt, alloc, reads, READS).unwrap_or(false),
+        are_free(&rt, alloc, cuts, CUTS).unwrap_or(false),
+        lists.unwrap_or(false),
+        entries.unwrap_or(false),
+        truncated.unwrap_or(false),
+    ];
+    assert!(rt; are_right == [true; 5]);
     Ok(())
 }
