@@ -1,9 +1,11 @@
 //! Log entries.
 ghost use Rattle.std.specs.Prelude.{◌≡◌};
 
+use crate::support::memory::equals;
 use raft_base::{CommittedLeaderId, LogId, LogIdOf, RaftLogId, leader_id_std};
 use raft_members::Membership;
 use raft_state::{Entry, EntryOf, EntryPayload, FromAppData, RaftEntry, RaftPayload};
+use raft_testing::memory::{both, holds, on};
 use raft_testing::words::members;
 use std::alloc::{AllocError, Global};
 use std::test::Fail;
@@ -15,10 +17,10 @@ type Data = Entry<u64, u64, u64>;
 /// Whether a blank entry and one with a membership are what they are made as, over any entry type.
 fn are_as_made<C: Copy + Eq, E: RaftEntry<C, Members> + Drop>(
     log_id: LogIdOf<C>,
-    membership: Members,
-) -> bool {
+    membership: Result<Members, AllocError>,
+) -> Result<bool, AllocError> {
     let blank = E::new_blank(log_id);
-    let stores = E::new_membership(log_id, membership);
+    let stores = E::new_membership(log_id, membership?);
     let are_right = [
         blank.is_blank(),
         blank.get_membership().is_none(),
@@ -27,7 +29,7 @@ fn are_as_made<C: Copy + Eq, E: RaftEntry<C, Members> + Drop>(
         stores.get_membership().is_some(),
         *stores.get_log_id() == log_id,
     ];
-    !are_right.contains(&false)
+    Ok(!are_right.contains(&false))
 }
 
 /// Whether an entry with a membership keeps it under another log id, over any entry type.
@@ -45,8 +47,8 @@ fn keeps_membership<C: Copy + Eq, E: RaftEntry<C, Members> + Drop>(
 /// Whether entries are what they are made as, over an entry type with the default leader ids.
 fn are_made<E: RaftEntry<CommittedLeaderId<u64>, Members> + Drop>(
     log_id: LogId<u64>,
-    membership: Members,
-) -> bool {
+    membership: Result<Members, AllocError>,
+) -> Result<bool, AllocError> {
     are_as_made::<CommittedLeaderId<u64>, E>(log_id, membership)
 }
 
@@ -61,43 +63,59 @@ fn takes_log_id(data: &mut Data, log_id: LogId<u64>) -> bool {
         && *data.as_ref().get_log_id() == log_id
 }
 
-/// Whether the default entry is blank, and it, one of data and one of a
-/// membership equal their clones alone.
-fn are_cloned(data: &Data, stores: &Data, blank: &Data) -> Result<bool, AllocError> {
+/// Whether the default entry is blank, and it, one of data and one of a membership equal their
+/// clones alone.
+fn are_cloned(data: &Data, stores: &Data, blank: &Data) -> bool {
     let are_right = [
         *stores != *data,
         *blank != *data,
         *blank == Data::new_blank(LogId::default()),
-        data.try_clone()? == *data,
-        stores.try_clone()? == *stores,
-        blank.clone()? == *blank,
+        holds(equals(data.try_clone(), data)),
+        holds(equals(stores.try_clone(), stores)),
+        holds(equals(blank.clone(), blank)),
     ];
-    Ok(!are_right.contains(&false))
+    !are_right.contains(&false)
 }
 
-/// Whether entries of a program's data, and the default entry, are as they should be.
-fn data_is_kept(alloc: Global, log_id: LogId<u64>) -> Result<bool, AllocError> {
-    let mut data = Data::from_app_data(7);
-    if !takes_log_id(&mut data, log_id) {
-        return Ok(false);
-    }
-    let payload = EntryPayload::Membership(members(alloc, "1,2", "1=4,3=6")?);
-    let mut stores = Data {
+/// An entry with a membership and the default log id.
+fn stores(alloc: Global) -> Result<Data, AllocError> {
+    Ok(Data {
         log_id: LogId::default(),
-        payload,
-    };
-    let is_kept = keeps_membership::<CommittedLeaderId<u64>, Data>(&mut stores, log_id);
-    Ok(is_kept && are_cloned(&data, &stores, &Data::default())?)
+        payload: EntryPayload::Membership(members(alloc, "1,2", "1=4,3=6")?),
+    })
+}
+
+/// Whether an entry of a program's data, one with a membership and the default one are as they
+/// should be.
+fn data_is_kept(
+    data: &mut Data,
+    (stores, blank): (&mut Data, &Data),
+    log_id: LogId<u64>,
+) -> Result<bool, AllocError> {
+    let are_right = [
+        takes_log_id(data, log_id),
+        keeps_membership::<CommittedLeaderId<u64>, Data>(stores, log_id),
+        are_cloned(data, stores, blank),
+    ];
+    Ok(are_right == [true; 3])
 }
 
 #[test]
 fn entries_are_as_made(rt: HostRuntime) -> Result<(), Fail> {
+    let alloc = rt.alloc();
     let log_id = LogId::new(CommittedLeaderId::new(1, 2u64), 3);
-    let membership = members(rt.alloc(), "1,2", "1=4,3=6")?;
-    assert!(rt; are_made::<Data>(log_id, membership));
     let standard = LogIdOf::new(leader_id_std::CommittedLeaderId { term: 1 }, 3);
-    let membership = members(rt.alloc(), "none", "-")?;
-    assert!(rt; are_as_made::<_, EntryOf<_, u64, u64, u64>>(standard, membership));
-    assert!(rt; data_is_kept(rt.alloc(), log_id)?);
+    let none = members(alloc, "none", "-");
+    let default = both(stores(alloc), Ok(Data::default()));
+    let entries = both(Ok(Data::from_app_data(7)), default);
+    let are_right = [
+        are_made::<Data>(log_id, members(alloc, "1,2", "1=4,3=6")),
+        are_as_made::<_, EntryOf<_, u64, u64, u64>>(standard, none),
+        on(
+            entries,
+            |of| data_is_kept(&mut of.0, (&mut of.1.0, &of.1.1), log_id),
+        ),
+    ];
+    assert!(rt; are_right == [Ok(true), Ok(true), Ok(true)]);
     Ok(())
 }

@@ -7,31 +7,55 @@ use raft_state::{
     Entry, EntryPayload, ForwardToLeader, LogIOId, LogIOIdOf, MembershipState, RaftState,
     SnapshotMeta,
 };
+use raft_testing::memory::holds;
 use raft_testing::printing::{debugs, displays, sums_up};
 use raft_testing::words::members;
 use std::alloc::{AllocError, Global};
 use std::test::Fail;
 
-/// Whether an entry with a payload prints itself with the payload's summary,
-/// and its debug form has the payload's.
+/// Whether a payload sums up as the first text and prints the second one, and an entry with it at
+/// (1,2,3) displays and sums up as the third and prints the last.
 fn entry_prints(
     alloc: Global,
     payload: EntryPayload<u64, u64, u64>,
-    texts: (&str, &str),
-) -> Result<bool, AllocError> {
-    let has_summary = sums_up(alloc, &payload, texts.0) && debugs(alloc, &payload, texts.1);
+    [summary, debug, entry_summary, entry_debug]: [&str; 4],
+) -> bool {
+    let has_summary = sums_up(alloc, &payload, summary) && debugs(alloc, &payload, debug);
     let log_id = LogId::new(CommittedLeaderId::new(1, 2u64), 3);
     let entry: Entry<u64, u64, u64> = Entry { log_id, payload };
-    let text = format!(in alloc; "T1-N2-3:{}", texts.0)?;
-    let debug = format!(in alloc; "Entry {{ log_id: {log_id:?}, payload: {} }}", texts.1)?;
     let are_right = [
         has_summary,
-        displays(alloc, &entry, text.as_str()),
-        sums_up(alloc, &entry, text.as_str()),
-        debugs(alloc, &entry, debug.as_str()),
+        displays(alloc, &entry, entry_summary),
+        sums_up(alloc, &entry, entry_summary),
+        debugs(alloc, &entry, entry_debug),
     ];
-    Ok(!are_right.contains(&false))
+    !are_right.contains(&false)
 }
+
+/// The texts of a blank entry, of an entry of data and of one with a membership.
+const BLANK: [&str; 4] = [
+    "blank",
+    "blank",
+    "T1-N2-3:blank",
+    "Entry { log_id: LogId { leader_id: LeaderId { term: 1, node_id: 2 }, index: 3 }, \
+        payload: blank }",
+];
+
+const NORMAL: [&str; 4] = [
+    "normal",
+    "normal",
+    "T1-N2-3:normal",
+    "Entry { log_id: LogId { leader_id: LeaderId { term: 1, node_id: 2 }, index: 3 }, \
+        payload: normal }",
+];
+
+const MEMBERSHIP: [&str; 4] = [
+    "membership: {voters:[{1:4,2:5}], learners:[3:6]}",
+    "membership:Membership { configs: [{1, 2}], nodes: {1: 4, 2: 5, 3: 6} }",
+    "T1-N2-3:membership: {voters:[{1:4,2:5}], learners:[3:6]}",
+    "Entry { log_id: LogId { leader_id: LeaderId { term: 1, node_id: 2 }, index: 3 }, \
+        payload: membership:Membership { configs: [{1, 2}], nodes: {1: 4, 2: 5, 3: 6} } }",
+];
 
 /// The memberships of a new node.
 fn new_memberships(alloc: Global) -> Result<MembershipState<u64, u64>, AllocError> {
@@ -81,13 +105,15 @@ fn written_log_prints(alloc: Global) -> bool {
 #[test]
 fn texts(rt: HostRuntime) -> Result<(), Fail> {
     let alloc = rt.alloc();
-    assert!(rt; entry_prints(alloc, EntryPayload::Blank, ("blank", "blank"))?);
-    assert!(rt; entry_prints(alloc, EntryPayload::Normal(7), ("normal", "normal"))?);
     let membership = EntryPayload::Membership(members(alloc, "1,2", "1=4,2=5,3=6")?);
-    let text = "membership: {voters:[{1:4,2:5}], learners:[3:6]}";
-    let debug = "membership:Membership { configs: [{1, 2}], nodes: {1: 4, 2: 5, 3: 6} }";
-    assert!(rt; entry_prints(alloc, membership, (text, debug))?);
-    assert!(rt; memberships_sum_up(alloc)? && written_log_prints(alloc));
+    let are_right = [
+        entry_prints(alloc, EntryPayload::Blank, BLANK),
+        entry_prints(alloc, EntryPayload::Normal(7), NORMAL),
+        entry_prints(alloc, membership, MEMBERSHIP),
+        holds(memberships_sum_up(alloc)),
+        written_log_prints(alloc),
+    ];
+    assert!(rt; are_right == [true; 5]);
     Ok(())
 }
 
