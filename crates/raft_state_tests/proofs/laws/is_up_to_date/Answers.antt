@@ -1,6 +1,5 @@
-use Rattle.std.proofs.Common.{ap, subst, sym, ◌∙◌, IsTrue}
-use Rattle.std.specs.Option.{option_cmp}
-use Rattle.raft_base.specs.LogId.{id_le, log_id_cmp}
+use Rattle.std.proofs.Common.{ap, sym, ◌∙◌}
+use Rattle.raft_base.specs.LogId.{id_le}
 use Rattle.raft_base.specs.LogIdLawful.{optional-log_id_cmp-total}
 use Rattle.raft_progress.proofs.lemmas.OrderLemmas.{AtMost-trans}
 use Rattle.raft_state.specs.log_id_list.FullLog.{full_log}
