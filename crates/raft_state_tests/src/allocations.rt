@@ -4,7 +4,7 @@
 use crate::lives::{append, extend, install, purge};
 use crate::membership_state;
 use crate::support::asserts::assert_row;
-use crate::support::memory::equals;
+use crate::support::memory::try_equals;
 use crate::support::messages::snapshot;
 use crate::support::rows::{log_id, row};
 use crate::support::states::{follower, state};
@@ -129,7 +129,7 @@ fn call(
     match name {
         "clone" => {
             allocation.refuse();
-            equals(state.try_clone(), state)
+            try_equals(state.try_clone(), state)
         }
         "append_entries" => {
             let entries = entries(allocation.alloc);

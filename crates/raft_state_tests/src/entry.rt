@@ -1,11 +1,10 @@
 //! Log entries.
 ghost use Rattle.std.specs.Prelude.{◌≡◌};
 
-use crate::support::memory::equals;
 use raft_base::{CommittedLeaderId, LogId, LogIdOf, RaftLogId, leader_id_std};
 use raft_members::Membership;
 use raft_state::{Entry, EntryOf, EntryPayload, FromAppData, RaftEntry, RaftPayload};
-use raft_testing::memory::{both, holds, on};
+use raft_testing::memory::{both, equals, on};
 use raft_testing::words::members;
 use std::alloc::{AllocError, Global};
 use std::test::Fail;
@@ -70,9 +69,9 @@ fn are_cloned(data: &Data, stores: &Data, blank: &Data) -> bool {
         *stores != *data,
         *blank != *data,
         *blank == Data::new_blank(LogId::default()),
-        holds(equals(data.try_clone(), data)),
-        holds(equals(stores.try_clone(), stores)),
-        holds(equals(blank.clone(), blank)),
+        equals(data.try_clone(), data),
+        equals(stores.try_clone(), stores),
+        equals(blank.clone(), blank),
     ];
     !are_right.contains(&false)
 }

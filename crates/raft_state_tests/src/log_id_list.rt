@@ -4,14 +4,13 @@ ghost use Rattle.raft_state.specs.log_id_list.LogEdits.{front, log_after_append}
 ghost use Rattle.std.specs.Prelude.{◌≡◌, IfOk, IsTrue, OnErr, false};
 
 use crate::laws::{is_up_to_date, logs_are_same, take_both};
-use crate::support::memory::equals;
 use crate::support::states::log_of;
 use crate::support::words::assert_calls;
 use raft_base::leader_id_std::CommittedLeaderId;
 use raft_base::{LeaderId, LogIdOf};
 use raft_state::log_id_list::laws::{have_equal_keys, truncate_twice};
 use raft_state::{LogIdList, LogIdListOf};
-use raft_testing::memory::holds;
+use raft_testing::memory::{differs, equals, holds};
 use raft_testing::printing::debugs;
 use std::alloc::{AllocError, Global};
 use std::test::Fail;
@@ -100,7 +99,7 @@ fn calls_are_right(rt: HostRuntime) -> Result<(), Fail> {
 }
 
 /// Whether a list is that of a word.
-fn is(list: &LogIdList<u64>, alloc: Global, word: &str) -> Result<bool, AllocError> {
+fn is(list: &LogIdList<u64>, alloc: Global, word: &str) -> bool {
     equals(log_of(alloc, word), list)
 }
 
@@ -130,7 +129,7 @@ fn clones_compare(alloc: Global, list: &LogIdList<u64>) -> Result<bool, AllocErr
 fn is_replaced(alloc: Global, list: &LogIdList<u64>) -> Result<bool, AllocError> {
     let mut taken = list.clone()?;
     let is_taken = replace_from(&mut taken, LogIdOf::new(LeaderId::new(3, 0), 6));
-    Ok(holds(is_taken) && holds(is(&taken, alloc, "1.1,2.3,3.6")))
+    Ok(holds(is_taken) && is(&taken, alloc, "1.1,2.3,3.6"))
 }
 
 /// Whether an empty list takes two log ids.
@@ -138,18 +137,18 @@ fn both_are_taken(alloc: Global) -> Result<bool, AllocError> {
     let mut list = LogIdList::try_default(alloc)?;
     let first = LogIdOf::new(LeaderId::new(3, 0), 6);
     take_both(&mut list, first, LogIdOf::new(LeaderId::new(3, 0), 8))?;
-    is(&list, alloc, "3.6,3.8")
+    Ok(is(&list, alloc, "3.6,3.8"))
 }
 
 /// Whether lists with equal logs are equal, and no others, and whether a caller is answered.
 fn lists_compare(alloc: Global, list: &LogIdList<u64>) -> Result<bool, AllocError> {
     let are_right = [
-        holds(is(list, alloc, "1.1,2.3,2.9")),
-        is(list, alloc, "1.1,3.3,3.9") == Ok(false),
+        is(list, alloc, "1.1,2.3,2.9"),
+        differs(log_of(alloc, "1.1,3.3,3.9"), list),
         holds(clones_compare(alloc, list)),
         holds(is_replaced(alloc, list)),
         holds(both_are_taken(alloc)),
-        holds(is(&LogIdList::try_default(alloc)?, alloc, "-")),
+        is(&LogIdList::try_default(alloc)?, alloc, "-"),
     ];
     Ok(!are_right.contains(&false))
 }

@@ -1,13 +1,12 @@
 //! The memberships of a node, and a change of the effective one.
 
-use crate::support::memory::equals;
 use crate::support::rows::{Effective, effective, id, row};
 use raft_base::leader_id_std::CommittedLeaderId;
 use raft_base::{Invalid, LeaderId, LogIdOf, LogIdOptionExt, Validate};
 use raft_members::{ChangeMembers, ChangeMembershipErrorOf, InProgressOf};
 use raft_state::MembershipStateOf;
 use raft_testing::allocations::{is_free, refuse_each};
-use raft_testing::memory::{both, holds, on};
+use raft_testing::memory::{both, equals, holds, on};
 use raft_testing::plain_log::Numbered;
 use raft_testing::words::{ids, number, words};
 use std::alloc::{AllocError, Global};
@@ -134,7 +133,7 @@ fn move_right<C: Numbered + Drop>(
             return Ok(false);
         }
     }
-    Ok(from.validate() == Ok(()) && *from == *same && equals(from.clone(), same)?)
+    Ok(from.validate() == Ok(()) && *from == *same && equals(from.clone(), same))
 }
 
 /// Whether a change is refused while the effective membership is not committed.

@@ -15,7 +15,6 @@ use crate::laws::send;
 use crate::lives::makes;
 use crate::over_kinds::assert_over_both;
 use crate::support::followers::{Followers, caught_up, followers};
-use crate::support::memory::equals;
 use crate::support::rows::{Row, id, row};
 use crate::support::states::{NEW, StandardState, State, UNLOGGED, VALID, fill};
 use raft_base::order::log_id_at_most;
@@ -27,7 +26,7 @@ use raft_members::quorum::QuorumSet;
 use raft_progress::{InflightOf, Progress, ProgressEntryOf};
 use raft_state::{AcceptedIn, FollowersOf, ForwardToLeader, RaftStateIn};
 use raft_testing::allocations::{is_free, refuse_each};
-use raft_testing::memory::{holds, on};
+use raft_testing::memory::{equals, on};
 use raft_testing::plain_log::Numbered;
 use raft_testing::printing::debugs;
 use raft_testing::words::{log_ids, number, words};
@@ -308,7 +307,7 @@ fn leads_with<
     };
     let third = state.calc_server_state(&3);
     let are_right = [
-        holds(equals(state.forward_to_leader(), &forward)),
+        equals(state.forward_to_leader(), &forward),
         state.calc_server_state(&1) == ServerState::Follower,
         debugs(alloc, &third, role),
         state.calc_server_state(&9) == ServerState::Learner,

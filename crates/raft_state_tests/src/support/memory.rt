@@ -9,8 +9,8 @@ pub fn put<T: Drop>(place: &mut T, value: Result<T, AllocError>) -> Result<(), A
     Ok(())
 }
 
-/// Whether a value that was made equals another one.
-pub fn equals<T: PartialEq + Drop>(
+/// Whether a value equals another one, or the allocation error of the value.
+pub fn try_equals<T: PartialEq + Drop>(
     made: Result<T, AllocError>,
     other: &T,
 ) -> Result<bool, AllocError> {
