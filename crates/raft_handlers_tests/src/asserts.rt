@@ -3,8 +3,8 @@
 
 use std::process::Abort;
 
-/// Stops the test if a row is wrong, and prints its name.
-pub fn assert_right(rt: &impl Abort, wrong: Option<&str>) {
-    let name = wrong.unwrap_or("");
-    assert!(rt; wrong.is_none(), "at {name}");
+/// Stops the test if something is wrong in a row, and prints the row and what is wrong.
+pub fn assert_right(rt: &impl Abort, row: &str, wrong: Option<&str>) {
+    let what = wrong.unwrap_or("");
+    assert!(rt; wrong.is_none(), "at {row}: {what}");
 }

@@ -142,7 +142,7 @@ fn fails<K: LeaderKind<u64>>(alloc: Global) -> Result<Option<&'static str>, Hand
 
 #[test]
 fn a_member_leaves_in_two_steps(rt: HostRuntime) -> Result<(), Fail> {
-    assert_right(&rt, fails::<LeaderAdv>(rt.alloc())?);
-    assert_right(&rt, fails::<LeaderStd>(rt.alloc())?);
+    assert_right(&rt, "default leader ids", fails::<LeaderAdv>(rt.alloc())?);
+    assert_right(&rt, "standard leader ids", fails::<LeaderStd>(rt.alloc())?);
     Ok(())
 }

@@ -309,14 +309,22 @@ fn lost_snapshot<K: LeaderKind<u64>>(alloc: Global) -> Result<Option<&'static st
 
 #[test]
 fn a_leader_sends_and_commits(rt: HostRuntime) -> Result<(), Fail> {
-    assert_right(&rt, life::<LeaderAdv>(rt.alloc())?);
-    assert_right(&rt, life::<LeaderStd>(rt.alloc())?);
+    assert_right(&rt, "default leader ids", life::<LeaderAdv>(rt.alloc())?);
+    assert_right(&rt, "standard leader ids", life::<LeaderStd>(rt.alloc())?);
     Ok(())
 }
 
 #[test]
 fn a_lost_snapshot_is_sent_again(rt: HostRuntime) -> Result<(), Fail> {
-    assert_right(&rt, lost_snapshot::<LeaderAdv>(rt.alloc())?);
-    assert_right(&rt, lost_snapshot::<LeaderStd>(rt.alloc())?);
+    assert_right(
+        &rt,
+        "default leader ids",
+        lost_snapshot::<LeaderAdv>(rt.alloc())?,
+    );
+    assert_right(
+        &rt,
+        "standard leader ids",
+        lost_snapshot::<LeaderStd>(rt.alloc())?,
+    );
     Ok(())
 }

@@ -121,7 +121,7 @@ fn fails<K: LeaderKind<u64>>(alloc: Global) -> Result<Option<&'static str>, Allo
 
 #[test]
 fn snapshots_are_answered(rt: HostRuntime) -> Result<(), Fail> {
-    assert_right(&rt, fails::<LeaderAdv>(rt.alloc())?);
-    assert_right(&rt, fails::<LeaderStd>(rt.alloc())?);
+    assert_right(&rt, "default leader ids", fails::<LeaderAdv>(rt.alloc())?);
+    assert_right(&rt, "standard leader ids", fails::<LeaderStd>(rt.alloc())?);
     Ok(())
 }

@@ -1,7 +1,7 @@
 //! Progresses, replays and searches, with each allocation refused in turn or all of them.
 
 use super::{catch_up, entry, inflight, search};
-use crate::support::asserts::assert_printed;
+use crate::support::asserts::assert_call;
 use crate::support::entry_rows::wrong_row;
 use crate::support::members::{TrackedNumbers, members};
 use crate::support::progress_rows::{
@@ -206,7 +206,7 @@ fn allocations_of_progresses(rt: HostRuntime) -> Result<(), Fail> {
         let call = |allocation: Allocation, progress: &mut Numbers| {
             call_of_progress(name, allocation, progress)
         };
-        assert_printed(
+        assert_call(
             &rt,
             name,
             is_swept_by(&rt, alloc, name, begun, call, is_right),
@@ -307,7 +307,7 @@ fn allocations_of_tracked(rt: HostRuntime) -> Result<(), Fail> {
         let call = |allocation: Allocation, cluster: &mut TrackedNumbers| {
             call_of_tracked(name, allocation, cluster)
         };
-        assert_printed(
+        assert_call(
             &rt,
             name,
             is_swept_by(&rt, alloc, name, begun, call, is_right),
@@ -377,26 +377,26 @@ fn are_quorums(three_of_five: &AtLeast<u64>) -> bool {
 fn no_allocations_of_progresses(rt: HostRuntime) -> Result<(), Fail> {
     let alloc = rt.alloc();
     let name = "VecProgress, updates and reads";
-    assert_printed(&rt, name, goes_on_free(&rt, alloc, name, moved(alloc)));
+    assert_call(&rt, name, goes_on_free(&rt, alloc, name, moved(alloc)));
     let name = "VecProgress, those of a clone";
-    assert_printed(
+    assert_call(
         &rt,
         name,
         goes_on_free(&rt, alloc, name, clone_of(moved(alloc))),
     );
     let renamed = clone_of(lived(alloc, RENAMED));
-    assert_printed(&rt, name, goes_on_free(&rt, alloc, name, renamed));
+    assert_call(&rt, name, goes_on_free(&rt, alloc, name, renamed));
     let (name, three) = (
         "is_quorum of an AtLeast",
         AtLeast::of_word(alloc, "3:0,1,2,3,4"),
     );
-    assert_printed(
+    assert_call(
         &rt,
         name,
         is_free_on(&rt, alloc, name, three, |three| are_quorums(three)),
     );
     let (name, both) = ("Tracked::eq", both(tracked(alloc), tracked(alloc)));
-    assert_printed(
+    assert_call(
         &rt,
         name,
         is_free_on(&rt, alloc, name, both, |both| both.0 == both.1),
@@ -439,10 +439,10 @@ fn no_allocations_of_searches(rt: HostRuntime) -> Result<(), Fail> {
     let of_searches = is_free_on(&rt, alloc, name, logs, |logs| {
         searches_are_as_worked::<LeaderId<u64>>(&logs.0, &logs.1)
     });
-    assert_printed(&rt, name, of_searches);
+    assert_call(&rt, name, of_searches);
     let name = "Inflight, responses and reads";
     refuse_each(alloc);
     let is_right = is_in_flight_as_worked();
-    assert_printed(&rt, name, is_free(&rt, alloc, name, is_right));
+    assert_call(&rt, name, is_free(&rt, alloc, name, is_right));
     Ok(())
 }

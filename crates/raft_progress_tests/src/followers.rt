@@ -1,6 +1,6 @@
 //! What a leader sends to its members, and what it learns from their responses, by a `Tracked`.
 
-use crate::support::asserts::assert_printed;
+use crate::support::asserts::assert_call;
 use crate::support::members::members;
 use raft_base::leader_id_std::CommittedLeaderId;
 use raft_base::{EmptyNode, LeaderId, LogIdOf, LogIdOptionExt};
@@ -127,12 +127,12 @@ fn are_followed<C: Numbered + Drop>(rt: &impl Print, alloc: Global) -> io::Resul
 #[test]
 fn a_leader_sends_and_takes_responses(rt: HostRuntime) -> Result<(), Fail> {
     let alloc = rt.alloc();
-    assert_printed(
+    assert_call(
         &rt,
         "any leaders",
         are_followed::<LeaderId<u64>>(&rt, alloc),
     );
-    assert_printed(
+    assert_call(
         &rt,
         "standard Raft",
         are_followed::<CommittedLeaderId>(&rt, alloc),

@@ -8,7 +8,7 @@ ghost use Rattle.std.specs.Ordering.{nat_cmp};
 ghost use Rattle.std.specs.Prelude.{◌≡◌, IfOk, List, Ok, ℕ};
 ghost use Rattle.std.specs.Set.{ClonesAreEqual};
 
-use crate::support::asserts::{assert_made, assert_printed, assert_row};
+use crate::support::asserts::{assert_call, assert_made, assert_row};
 use crate::support::members::{TrackedNumbers, members};
 use crate::support::progress_rows::{reply_of, wrong_read};
 use crate::uses::cluster;
@@ -186,7 +186,7 @@ fn are_counted(ballot: &mut Ballot) -> bool {
 fn a_quorum_of_each_config_elects(rt: HostRuntime) -> Result<(), Fail> {
     let (alloc, name) = (rt.alloc(), "Tracked::update");
     let ballot = cluster(alloc, "1,2,3/3,4,5", false);
-    assert_printed(
+    assert_call(
         &rt,
         name,
         is_free_on(&rt, alloc, name, ballot, |ballot| are_counted(ballot)),

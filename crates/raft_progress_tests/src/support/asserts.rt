@@ -21,7 +21,7 @@ pub fn assert_made(rt: &impl Abort, row: &str, wrong: Result<Option<&str>, Alloc
     assert_right(rt, row, wrong.unwrap_or(Some("out of memory")));
 }
 
-/// Stops the test if the calls of a line that is printed are wrong.
-pub fn assert_printed(rt: &impl Abort, row: &str, is_right: io::Result<bool>) {
-    assert_row(rt, row, is_right.unwrap_or(false));
+/// Stops the test if a call is wrong with its allocations refused, and prints its name.
+pub fn assert_call(rt: &impl Abort, name: &str, is_right: io::Result<bool>) {
+    assert_row(rt, name, is_right.unwrap_or(false));
 }
