@@ -129,12 +129,12 @@ fn a_leader_sends_and_takes_responses(rt: HostRuntime) -> Result<(), Fail> {
     let alloc = rt.alloc();
     assert_call(
         &rt,
-        "any leaders",
+        "default leader ids",
         are_followed::<LeaderId<u64>>(&rt, alloc),
     );
     assert_call(
         &rt,
-        "standard Raft",
+        "standard leader ids",
         are_followed::<CommittedLeaderId>(&rt, alloc),
     );
     Ok(())

@@ -113,12 +113,12 @@ fn is_as_worked<C: Numbered>(alloc: Global) -> Result<bool, AllocError> {
 fn searches_are_as_worked(rt: HostRuntime) -> Result<(), Fail> {
     assert_row(
         &rt,
-        "any leaders",
+        "default leader ids",
         holds(is_as_worked::<LeaderId<u64>>(rt.alloc())),
     );
     assert_row(
         &rt,
-        "standard Raft",
+        "standard leader ids",
         holds(is_as_worked::<CommittedLeaderId>(rt.alloc())),
     );
     Ok(())

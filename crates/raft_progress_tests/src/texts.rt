@@ -79,7 +79,7 @@ fn values_print(rt: HostRuntime) -> Result<(), Fail> {
     let snapshot = in_flight::<CommittedLeaderId>("7:1.3");
     assert_row(
         &rt,
-        "standard Raft",
+        "standard leader ids",
         displays(alloc, &snapshot, "Snapshot(id=7):1-3"),
     );
     let snapshot = in_flight::<LeaderId<u64>>("2:-");

@@ -99,7 +99,8 @@ pub fn steps(
     Ok(steps)
 }
 
-/// Replays the steps as one list, and returns the first one whose reply is wrong, if there is one.
+/// Replays the steps as one list, and returns the first one whose reply is wrong, or that there are
+/// more replies than steps.
 fn wrong_reply(
     alloc: Global,
     cluster: &mut TrackedNumbers,
@@ -110,7 +111,8 @@ fn wrong_reply(
             return Ok(Some(row));
         }
     }
-    Ok(None)
+    let has_more = replies.len() > STEPS.trim().lines().count();
+    Ok(has_more.then_some("more replies than steps"))
 }
 
 /// What the steps leave. A change counts each node as an update, and each that rises as a move.

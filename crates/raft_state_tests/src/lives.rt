@@ -483,7 +483,7 @@ pub fn makes<L: Drop, C: Numbered + Drop>(
 ) -> bool {
     for call in calls.trim().lines() {
         let [may, name, first, second, ..] = words(call);
-        if holds(make(alloc, state, [name, first, second])) != (may == "ok") {
+        if make(alloc, state, [name, first, second]) != Ok(may == "ok") {
             return false;
         }
     }
