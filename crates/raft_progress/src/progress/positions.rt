@@ -55,11 +55,10 @@ impl<ID: Copy + Ord> Positions<ID> {
         ensures ranks { IfOk result (λ made. made.ranks.items ≡ self.now.ranks.items) }
         ensures stale { IfOk result (λ made. made.stale ≡ self.now.stale) }
     {
-        let sorted = Vec::from_slice(self.sorted.allocator().clone()?, &self.sorted)?;
-        let ranks = self.ranks.clone()?;
+        let alloc = *self.sorted.allocator();
         Ok(Positions {
-            sorted,
-            ranks,
+            sorted: Vec::from_slice(alloc, &self.sorted)?,
+            ranks: Vec::from_slice(alloc, &self.ranks)?,
             stale: self.stale,
         })
     }
