@@ -21,7 +21,7 @@ use crate::snapshot_meta::SnapshotMetaOf;
 use raft_base::order::{index_at_most, index_below, log_id_at_most, log_id_below};
 use raft_base::{Instant, LeaderIdentity, LogIdOf, LogIdOptionExt, Node, NodeId};
 use raft_members::{EffectiveMembershipOf, StoredMembershipOf};
-use std::alloc::AllocError;
+use std::alloc::{AllocError, Global};
 use std::rc::Rc;
 
 impl<
@@ -109,7 +109,9 @@ impl<
         // This read is for the proof: by its contract the keys are in order.
         let _keys = self.log_ids.key_log_ids();
         let copy = last_membership.try_clone()?;
-        let (log_ids, membership_state) = self.log_and_memberships_after(upto, last_membership)?;
+        let alloc = *last_membership.membership().get_joint_config().allocator();
+        let log_ids = self.log_after_install(alloc, upto)?;
+        let membership_state = self.memberships_after_install(upto, last_membership)?;
         self.update_accepted(Some(upto));
         self.committed = Some(upto);
         self.purged_next = upto.index + 1;
@@ -157,34 +159,43 @@ impl<NID: NodeId, N: Node, I: Instant, L: Drop, C: Ord + Copy + Drop> RaftStateI
             || log_id_at_most(*stored.log_id(), effective)
     }
 
-    /// Returns the log ids and the memberships after a snapshot with this membership is installed.
-    /// If the log has its last log id, the log is purged to it, and what is past it stays.
-    /// Otherwise nothing of the log and of its memberships stays.
-    fn log_and_memberships_after(
+    /// Returns the log ids after a snapshot is installed. If the log has the snapshot's last log id,
+    /// the log is purged to it, and what is past it stays. Otherwise nothing of the log stays.
+    fn log_after_install(
+        &self,
+        alloc: Global,
+        upto: LogIdOf<C>,
+    ) -> Result<LogIdListOf<C>, AllocError>
+        requires { IsTrue (can_purge C.cmp (last_id (log_to_keep C.eq upto self.now)) upto) }
+        ensures { IfOk result (λ log. full_log log ≡ log_after_install C.eq upto self.now) }
+    {
+        let mut log_ids = if self.is_logged(&Some(upto)) {
+            self.log_ids.try_clone()?
+        } else {
+            LogIdListOf::try_default(alloc)?
+        };
+        log_ids.purge(&upto)?;
+        Ok(log_ids)
+    }
+
+    /// Returns the memberships after a snapshot with this membership is installed. If the log has
+    /// the snapshot's last log id, the membership is taken over. Otherwise no other one stays.
+    fn memberships_after_install(
         &self,
         upto: LogIdOf<C>,
         stored: StoredMembershipOf<C, NID, N>,
-    ) -> Result<(LogIdListOf<C>, MembershipStateOf<C, NID, N>), AllocError>
-        requires { IsTrue (can_purge C.cmp (last_id (log_to_keep C.eq upto self.now)) upto) }
-        ensures log { IfOk result (λ both.
-            full_log both.0 ≡ log_after_install C.eq upto self.now) }
-        ensures memberships { IfOk result (λ both. both.1
-            ≡ memberships_after_install C.cmp C.eq upto stored self.now) }
+    ) -> Result<MembershipStateOf<C, NID, N>, AllocError>
+        ensures { IfOk result (λ m. m ≡ memberships_after_install C.cmp C.eq upto stored self.now) }
     {
         let alloc = *stored.membership().get_joint_config().allocator();
         let effective = EffectiveMembershipOf::new_from_stored_membership(stored)?;
         let membership = Rc::new(alloc, effective)?;
         if !self.is_logged(&Some(upto)) {
-            let mut log_ids = LogIdListOf::try_default(alloc)?;
-            log_ids.purge(&upto)?;
-            let memberships = MembershipStateOf::new(membership.clone()?, membership);
-            return Ok((log_ids, memberships));
+            return Ok(MembershipStateOf::new(membership.clone()?, membership));
         }
-        let mut log_ids = self.log_ids.try_clone()?;
-        log_ids.purge(&upto)?;
         let mut memberships = self.membership_state.try_clone()?;
         memberships.take_over(membership, upto.index)?;
-        Ok((log_ids, memberships))
+        Ok(memberships)
     }
 }
 
