@@ -13,6 +13,7 @@ ghost use Rattle.raft_state.specs.raft_state.VoteAndLog.{vote_of};
 
 use crate::error::HandlerError;
 use crate::log::append_new;
+use crate::snapshot::install;
 use crate::state::State;
 use raft_base::{Instant, LeaderIdentity, LogIdOf, Node, NodeId, VoteIn};
 use raft_state::{AcceptedIn, EntryOf, RaftStateIn, SnapshotMetaOf, VoteStateReader};
@@ -118,17 +119,13 @@ fn from_snapshot<NID: NodeId, N: Node, I: Instant, L: LeaderIdentity<Id = NID> +
     ensures sound { IfOk result (IsSound L.Committed.eq L.Committed.cmp) }
 {
     let mut state = State::<NID, N, I, L>::try_default(alloc)?;
-    if snapshot.last_log_id.is_none() {
-        return Ok(state);
+    if snapshot.last_log_id.is_some() {
+        // An install takes a committed vote.
+        let mut vote = *state.vote_ref();
+        vote.commit();
+        let _promised = state.promise(vote);
+        install(&mut state, snapshot)?;
     }
-    // An install takes a committed vote.
-    let mut vote = *state.vote_ref();
-    vote.commit();
-    let _promised = state.promise(vote);
-    if !state.can_install_snapshot(snapshot) {
-        return Err(HandlerError::SnapshotDoesNotFit);
-    }
-    state.install_snapshot(snapshot.try_clone()?)?;
     Ok(state)
 }
 

@@ -99,7 +99,7 @@ pub fn handle_install_snapshot<
 }
 
 /// Installs a snapshot of the leader that the vote is for, unless all of it is committed.
-fn install<NID: NodeId, N: Node, I: Instant, L: LeaderIdentity<Id = NID> + Drop>(
+pub(crate) fn install<NID: NodeId, N: Node, I: Instant, L: LeaderIdentity<Id = NID> + Drop>(
     state: &mut State<NID, N, I, L>,
     meta: &SnapshotMetaOf<L::Committed, NID, N>,
 ) -> Result<(), HandlerError>

@@ -29,11 +29,11 @@ use Rattle.std.proofs.Common.{
   true≢false,
   ◌∙◌,
 }
-use Rattle.std.proofs.Math.Bool.{and-true}
+use Rattle.std.proofs.Math.Bool.{and-false, and-true}
 use Rattle.std.proofs.lemmas.Bool.Decides.{nat_tests}
 use Rattle.std.proofs.lemmas.List.{append-nil}
 use Rattle.std.specs.Cmp.{IsEquivalence, IsPartialOrder, IsTotalOrder}
-use Rattle.std.specs.Prelude.{is_some, IfSome}
+use Rattle.std.specs.Prelude.{is_some, Result, Ok, Err}
 use Rattle.std.specs.declared.cmp.Ordering.{Ordering}
 use Rattle.std.specs.declared.cmp.Ordering.TheVariants.{Equal}
 use Rattle.std.specs.Cmp.Derive.{both_true}
@@ -74,12 +74,14 @@ use Rattle.raft_handlers.specs.Restart.{
   IsRestartRefusal,
   IsSnapshotAt,
 }
+use Rattle.raft_handlers.specs.Entries.{RefusedUnless}
+use Rattle.raft_handlers.specs.Snapshot.{install_refusal, InstallsSnapshot, RefusedFor}
 use Rattle.raft_handlers.specs.declared.error.HandlerError.{HandlerError}
+use Rattle.raft_handlers.specs.declared.error.HandlerError.TheVariants.{SnapshotDoesNotFit}
 use Rattle.raft_members.specs.membership.Stored.{log_id_of}
 use Rattle.raft_state.proofs.lemmas.log_id_list.IdOrderLemmas.{none_at_most}
 use Rattle.raft_progress.proofs.lemmas.OrderLemmas.{AtMost-refl, not_lt-from_AtMost}
 use Rattle.raft_state.specs.Accepted.{accepted_from}
-use Rattle.raft_state.specs.SnapshotMeta.{IsSnapshotCopy}
 use Rattle.raft_state.specs.log_id_list.FullLog.{full_log}
 use Rattle.raft_state.specs.log_id_list.LogEdits.{front}
 use Rattle.raft_state.specs.log_id_list.LogReads.{last_id}
@@ -110,6 +112,10 @@ pub some_there : {X : Type 0} (o : Option X) → is_some o ≡ true → (x : X) 
 some_there None h = absurd (true≢false (sym h))
 some_there (Some x) h = (x, refl)
 
+pub none_there : {X : Type 0} (o : Option X) → is_some o ≡ false → o ≡ None
+none_there None h = refl
+none_there (Some x) h = cc
+
 -- a committed vote is at least the vote for the same leader
 pub promises_own : {L : Type 0} (eq : L → L → Bool) (order : L → L → Option Ordering) → IsEquivalence eq → IsPartialOrder eq order
     → (leader : L) → partial_ge (vote_cmp order) (record { leader_id = leader; committed = true })
@@ -139,30 +145,24 @@ module _ {K N I L C : Type 0} (id_eq : K → K → Bool) (same : N → N → Boo
   }
 
   -- after an install it has that snapshot
-  pub alone_installed : (same_leader : L → L → Bool) (cmp : C → C → Ordering) (eq : C → C → Bool) (meta copy : SnapshotMetaOf C K N)
+  pub alone_installed : (same_leader : L → L → Bool) (cmp : C → C → Ordering) (eq : C → C → Bool) (meta : SnapshotMetaOf C K N)
       (old new : RaftStateIn K N I L C) (last : LogIdOf C) → meta.last_log_id ≡ Some last → full_log old.log_ids ≡ []
-      → IsSnapshotCopy id_eq same meta copy
-      → IfSome copy.last_log_id (λ upto. full_log new.log_ids ≡ log_after_install eq upto old)
-      → IsSnapshotCopy id_eq same meta new.snapshot_meta
-      → IfSome copy.last_log_id (λ upto. new ≡ record (state_after_install same_leader cmp eq upto copy.last_membership old) {
-        log_ids = new.log_ids;
-        snapshot_meta = new.snapshot_meta;
-      }) → HasSnapshotAlone id_eq same meta new
-  alone_installed same_leader cmp eq meta copy old new last is empty copied log snapshot ok =
-      let upto : copy.last_log_id ≡ Some last = copied.last_log_id ∙ is in
-      let state = rw upto at ok in
+      → InstallsSnapshot id_eq same same_leader cmp eq meta old new → HasSnapshotAlone id_eq same meta new
+  alone_installed same_leader cmp eq meta old new last is empty installed =
+      let rest = rw is at installed.rest in
+      let copied = rest.1 in
       let kept : is_logged eq last old ≡ false = rw empty refl in
-      let purged = rw upto at log in
+      let log = rw is at installed.log in
       let begins : nat_le 0 last.index ≡ true = grind (arith, nat_tests) in
-      let members : new.membership_state ≡ record { committed = copy.last_membership; effective = copy.last_membership } =
-      ap (λ s. s.membership_state) state ∙ rw kept refl in
+      let members : new.membership_state ≡ record { committed = rest.0.last_membership; effective = rest.0.last_membership } =
+      ap (λ s. s.membership_state) rest.2 ∙ rw kept refl in
       record {
-        log = rw is (purged ∙ rw (kept, begins) refl);
-        committed = rw is (ap (λ s. s.committed) state);
-        purged_next = rw is (ap (λ s. s.purged_next) state);
-        purge_point = rw is (ap (λ s. s.purge_upto) state);
+        log = rw is (log ∙ rw (kept, begins) refl);
+        committed = rw is (ap (λ s. s.committed) rest.2);
+        purged_next = rw is (ap (λ s. s.purged_next) rest.2);
+        purge_point = rw is (ap (λ s. s.purge_upto) rest.2);
         memberships = rw (is, members) ((copied.log_id, copied.membership), (copied.log_id, copied.membership));
-        snapshot = subst (λ (o : Option (LogIdOf C)). IsSnapshotAt id_eq same o meta new.snapshot_meta) (sym is) snapshot;
+        snapshot = subst (λ (o : Option (LogIdOf C)). IsSnapshotAt id_eq same o meta new.snapshot_meta) (sym is) installed.snapshot;
       }
 
   -- and it may be installed exactly if it fits
@@ -202,6 +202,45 @@ module _ {K N I L C : Type 0} (id_eq : K → K → Bool) (same : N → N → Boo
       (ap (λ t. (vote_of t).committed) promised ∙ ap (λ v. v.committed) made) (ap (λ t. t.accepted) promised ∙ own.accepted) in
       fits_alone id_eq same order cmp eq meta new there.0 there.1 (rw promised fresh.log)
       (ap (λ t. t.committed) promised ∙ fresh.committed) (rw promised fresh.committed_membership) accept
+
+  -- it has committed nothing, so each snapshot is past what it has committed
+  pub past_promised : (o : Option (LogIdOf C)) → is_some o ≡ true → id_lt cmp new.committed o ≡ true
+  past_promised None h = cc
+  past_promised (Some last) h = rw (promised, fresh.committed) refl
+
+  -- so an install into it is refused exactly if the snapshot does not fit
+  pub refusal_promised : (meta : SnapshotMetaOf C K N) → is_some meta.last_log_id ≡ true
+      → install_refusal order cmp eq meta new
+      ≡ (if not (snapshot_fits cmp meta.last_log_id meta.last_membership) then Some SnapshotDoesNotFit else None)
+  refusal_promised meta some = rw (past_promised meta.last_log_id some, fits_promised meta some) refl
+
+-- what the result of such an install says of the snapshot
+pub fits_if_taken : (fits : Bool) → RefusedFor (if not fits then Some SnapshotDoesNotFit else None)
+    (let taken : Result (Unit {0}) HandlerError = Ok tt in taken) → fits ≡ true
+fits_if_taken true h = refl
+fits_if_taken false h = cc
+
+pub refused_if_not : (fits : Bool) (e : HandlerError) → RefusedFor (if not fits then Some SnapshotDoesNotFit else None)
+    (let refused : Result (Unit {0}) HandlerError = Err e in refused) → RefusedUnless fits true true true true e
+refused_if_not true e h = rw h tt
+refused_if_not false e h = let is : e ≡ SnapshotDoesNotFit = cc in rw is refl
+
+-- an entry up to the last log id of a snapshot is not past it. If another leader has it at that index,
+-- no entry is past it
+module _ {C K N D : Type 0} (eq : C → C → Bool) (last : LogIdOf C) (e : EntryOf C K N D) (es : List (EntryOf C K N D))
+    (le : e.log_id.index ≤ last.index) where
+  low : nat_lt last.index e.log_id.index ≡ false
+  low = grind (arith, nat_tests)
+
+  pub past_later : nat_eq e.log_id.index last.index ≡ false → entries_past eq (Some last) (e ∷ es) ≡ entries_past eq (Some last) es
+  past_later apart = rw (low, apart) refl
+
+  pub past_same : not (eq e.log_id.leader_id last.leader_id) ≡ false → entries_past eq (Some last) (e ∷ es) ≡ entries_past eq (Some last) es
+  past_same same = rw (low, same) (rw (and-false (nat_eq e.log_id.index last.index)) refl)
+
+  pub past_other : nat_eq e.log_id.index last.index ≡ true → not (eq e.log_id.leader_id last.leader_id) ≡ true
+      → entries_past eq (Some last) (e ∷ es) ≡ []
+  past_other here other = rw (low, here, other) refl
 
 -- entries past a snapshot are past its last log id
 pub past_begin : {C K N D : Type 0} (eq : C → C → Bool) (last : Option (LogIdOf C)) (es rest : List (EntryOf C K N D)) (e : EntryOf C K N D)

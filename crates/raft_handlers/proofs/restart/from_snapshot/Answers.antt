@@ -1,49 +1,73 @@
-use Rattle.std.proofs.Common.{◌≡◌, true, ap, not, sym, ◌∙◌}
-use Rattle.raft_handlers.proofs.lemmas.RestartLemmas.{alone_installed, fits_promised, promised, some_there}
-use Rattle.raft_handlers.proofs.lemmas.SnapshotLemmas.{copy_of_copy}
+use Rattle.std.proofs.Common.{◌≡◌, ap, rules, sym, true, ◌∙◌}
 use Rattle.raft_base.specs.declared.vote.VoteIn.{VoteIn}
+use Rattle.raft_handlers.proofs.lemmas.RestartLemmas.{
+  alone_installed,
+  alone_new,
+  fits_if_taken,
+  none_there,
+  past_promised,
+  promised,
+  refusal_promised,
+  refused_if_not,
+  some_there,
+}
+use Rattle.raft_handlers.specs.Restart.{snapshot_fits}
 use Rattle.raft_state.specs.raft_state.VoteAndLog.{vote_of}
 use Rattle.raft_handlers.proofs.restart.from_snapshot.Goals as goal
+use Rattle.raft_handlers.proofs.restart.from_snapshot.Goals.{then-is_some+in_ok-install, else-is_some}
 
-pub returns-then-not-can_install_snapshot-clause-refused : goal.returns-then-not-can_install_snapshot-clause-refused
-returns-then-not-can_install_snapshot-clause-refused g c =
+pub returns-in_err-install-clause-refused : goal.returns-in_err-install-clause-refused
+returns-in_err-install-clause-refused g c =
     let s = c.in_ok-state.state in
     let own = c.in_ok-state.ensures.new_vote in
     let vote : c.commit.new.self ≡ record (vote_of s) { committed = true } =
     c.commit.ensures.committed ∙ ap (λ (v : VoteIn g.row.L.Denot). record v { committed = true }) c.vote_ref.ensures in
-    let fits = fits_promised g.NID.PartialEq.eq g.N.PartialEq.eq g.L.PartialEq.eq g.L.LeaderIdentity.order g.L.Committed.Ord.cmp
+    let refusal = refusal_promised g.NID.PartialEq.eq g.N.PartialEq.eq g.L.PartialEq.eq g.L.LeaderIdentity.order g.L.Committed.Ord.cmp
     g.L.Committed.PartialEq.eq g.met.L.Eq.laws g.met.L.LeaderIdentity.partial own.0 own.1 s c.promise-promised.new.self
     c.in_ok-state.ensures.new own.4 c.commit.new.self vote c.promise-promised.result c.promise-promised.ensures.answer
-    c.promise-promised.ensures.taken c.args.snapshot.now (c.is_none.ensures ∙ ap not c.if-is_none.false) in
-    sym fits ∙ (sym c.can_install_snapshot.ensures ∙ c.if-not-can_install_snapshot.true)
+    c.promise-promised.ensures.taken c.args.snapshot.now
+    (sym c.is_some.ensures ∙ c.if-is_some.true) in
+    let why = refused_if_not (snapshot_fits g.L.Committed.Ord.cmp c.args.snapshot.now.last_log_id c.args.snapshot.now.last_membership) _
+    (rw refusal at c.in_err-install.ensures.refused) in
+    search (rules, why)
 
 pub returns-clause-fits : goal.returns-clause-fits
-returns-clause-fits g c =
-    let s = c.in_ok-state.state in
-    let own = c.in_ok-state.ensures.new_vote in
-    let vote : c.commit.new.self ≡ record (vote_of s) { committed = true } =
-    c.commit.ensures.committed ∙ ap (λ (v : VoteIn g.row.L.Denot). record v { committed = true }) c.vote_ref.ensures in
-    let fits = fits_promised g.NID.PartialEq.eq g.N.PartialEq.eq g.L.PartialEq.eq g.L.LeaderIdentity.order g.L.Committed.Ord.cmp
-    g.L.Committed.PartialEq.eq g.met.L.Eq.laws g.met.L.LeaderIdentity.partial own.0 own.1 s c.promise-promised.new.self
-    c.in_ok-state.ensures.new own.4 c.commit.new.self vote c.promise-promised.result c.promise-promised.ensures.answer
-    c.promise-promised.ensures.taken c.args.snapshot.now (c.is_none.ensures ∙ ap not c.if-is_none.false) in
-    sym fits ∙ (sym c.can_install_snapshot.ensures ∙ c.if-not-can_install_snapshot.false)
+returns-clause-fits g c = elim c.if-is_some.branch [
+  | then-is_some+in_ok-install w ↦
+      let s = c.in_ok-state.state in
+      let own = c.in_ok-state.ensures.new_vote in
+      let vote : w.commit.new.self ≡ record (vote_of s) { committed = true } =
+      w.commit.ensures.committed ∙ ap (λ (v : VoteIn g.row.L.Denot). record v { committed = true }) w.vote_ref.ensures in
+      let refusal = refusal_promised g.NID.PartialEq.eq g.N.PartialEq.eq g.L.PartialEq.eq g.L.LeaderIdentity.order g.L.Committed.Ord.cmp
+      g.L.Committed.PartialEq.eq g.met.L.Eq.laws g.met.L.LeaderIdentity.partial own.0 own.1 s w.promise-promised.new.self
+      c.in_ok-state.ensures.new own.4 w.commit.new.self vote w.promise-promised.result w.promise-promised.ensures.answer
+      w.promise-promised.ensures.taken c.args.snapshot.now
+      (sym c.is_some.ensures ∙ w.if-is_some.true) in
+      fits_if_taken (snapshot_fits g.L.Committed.Ord.cmp c.args.snapshot.now.last_log_id c.args.snapshot.now.last_membership)
+      (rw refusal at w.in_ok-install.ensures.refused)
+  | else-is_some w ↦ rw (none_there c.args.snapshot.now.last_log_id (sym c.is_some.ensures ∙ w.if-is_some.false))
+]
 
 pub returns-clause-snapshot : goal.returns-clause-snapshot
-returns-clause-snapshot g c =
-    let s = c.in_ok-state.state in
-    let own = c.in_ok-state.ensures.new_vote in
-    let vote : c.commit.new.self ≡ record (vote_of s) { committed = true } =
-    c.commit.ensures.committed ∙ ap (λ (v : VoteIn g.row.L.Denot). record v { committed = true }) c.vote_ref.ensures in
-    let is = promised g.NID.PartialEq.eq g.N.PartialEq.eq g.L.PartialEq.eq g.L.LeaderIdentity.order g.L.Committed.Ord.cmp
-    g.L.Committed.PartialEq.eq g.met.L.Eq.laws g.met.L.LeaderIdentity.partial own.0 own.1 s c.promise-promised.new.self
-    c.in_ok-state.ensures.new own.4 c.commit.new.self vote c.promise-promised.result c.promise-promised.ensures.answer
-    c.promise-promised.ensures.taken in
-    let there = some_there c.args.snapshot.now.last_log_id (c.is_none.ensures ∙ ap not c.if-is_none.false) in
-    let meta = c.args.snapshot.now in
-    let copy = c.in_ok-try_clone.field-0 in
-    let copied = copy_of_copy g.NID.PartialEq.eq g.N.PartialEq.eq g.met.NID.Eq.laws g.met.N.Eq.laws meta copy
-    c.install_snapshot.new.self.snapshot_meta c.in_ok-try_clone.ensures c.in_ok-install_snapshot.ensures.snapshot in
-    alone_installed g.NID.PartialEq.eq g.N.PartialEq.eq g.L.PartialEq.eq g.L.Committed.Ord.cmp g.L.Committed.PartialEq.eq meta copy
-    c.promise-promised.new.self c.install_snapshot.new.self there.0 there.1 (rw is c.in_ok-state.ensures.new.log)
-    c.in_ok-try_clone.ensures c.in_ok-install_snapshot.ensures.log copied c.in_ok-install_snapshot.ensures.ok
+returns-clause-snapshot g c = elim c.if-is_some.branch [
+  | then-is_some+in_ok-install w ↦
+      let s = c.in_ok-state.state in
+      let own = c.in_ok-state.ensures.new_vote in
+      let vote : w.commit.new.self ≡ record (vote_of s) { committed = true } =
+      w.commit.ensures.committed ∙ ap (λ (v : VoteIn g.row.L.Denot). record v { committed = true }) w.vote_ref.ensures in
+      let is = promised g.NID.PartialEq.eq g.N.PartialEq.eq g.L.PartialEq.eq g.L.LeaderIdentity.order g.L.Committed.Ord.cmp
+      g.L.Committed.PartialEq.eq g.met.L.Eq.laws g.met.L.LeaderIdentity.partial own.0 own.1 s w.promise-promised.new.self
+      c.in_ok-state.ensures.new own.4 w.commit.new.self vote w.promise-promised.result w.promise-promised.ensures.answer
+      w.promise-promised.ensures.taken in
+      let some = sym c.is_some.ensures ∙ w.if-is_some.true in
+      let past = past_promised g.NID.PartialEq.eq g.N.PartialEq.eq g.L.PartialEq.eq g.L.LeaderIdentity.order g.L.Committed.Ord.cmp
+      g.L.Committed.PartialEq.eq g.met.L.Eq.laws g.met.L.LeaderIdentity.partial own.0 own.1 s w.promise-promised.new.self
+      c.in_ok-state.ensures.new own.4 w.commit.new.self vote w.promise-promised.result w.promise-promised.ensures.answer
+      w.promise-promised.ensures.taken c.args.snapshot.now.last_log_id some in
+      let there = some_there c.args.snapshot.now.last_log_id some in
+      rw w.state-is (alone_installed g.NID.PartialEq.eq g.N.PartialEq.eq g.L.PartialEq.eq g.L.Committed.Ord.cmp
+      g.L.Committed.PartialEq.eq c.args.snapshot.now w.promise-promised.new.self w.install.new.state there.0 there.1
+      (rw is c.in_ok-state.ensures.new.log) (w.in_ok-install.ensures.installed past))
+  | else-is_some w ↦ rw w.state-is (alone_new g.NID.PartialEq.eq g.N.PartialEq.eq c.args.snapshot.now c.in_ok-state.state
+      (none_there c.args.snapshot.now.last_log_id (sym c.is_some.ensures ∙ w.if-is_some.false)) c.in_ok-state.ensures.new)
+]
