@@ -1,5 +1,6 @@
 #!/usr/bin/env bash
-# Runs every test and each program as they are, without a proof. The last line has their number.
+# Runs every test and each program as they are, without a proof. Prints a line for each crate as it
+# ends, with its time. The last line has their number.
 #
 # Usage: tools/test.sh
 set -u -o pipefail
@@ -9,7 +10,7 @@ failed=0
 
 # Runs a crate's tests, and counts them.
 run_tests() {
-    local said counts
+    local began=$SECONDS said counts
     said=$(cd "$1" && rt try --test 2>&1)
     counts=$(grep -oE '[0-9]+ passed; [0-9]+ failed' <<< "$said" | tail -n 1)
     if [ -z "$counts" ]; then
@@ -18,7 +19,7 @@ run_tests() {
     elif [[ $counts != *" 0 failed" ]]; then
         echo "$said"
     fi
-    echo "$1: $counts"
+    echo "$1: $counts, $((SECONDS - began)) s"
     read -r more _ less _ <<< "$counts"
     passed=$((passed + more))
     failed=$((failed + less))
@@ -26,7 +27,7 @@ run_tests() {
 
 # Runs a program on its input, and compares what it prints.
 run_program() {
-    local input=/dev/null
+    local began=$SECONDS input=/dev/null is="prints its file stdout"
     [ -e "$1/stdin" ] && input=$1/stdin
     local words=()
     [ -e "$1/args" ] && mapfile -t words < "$1/args"
@@ -34,11 +35,12 @@ run_program() {
         passed=$((passed + 1))
     else
         failed=$((failed + 1))
-        echo "$1: prints something else than its file stdout"
+        is="prints something else than its file stdout"
     fi
+    echo "$1: $is, $((SECONDS - began)) s"
 }
 
 for tests in *_tests raft_script; do run_tests "$tests"; done
 for program in raft_script first_example cluster; do run_program "$program"; done
-echo "$passed passed, $failed failed, none proved"
+echo "$passed passed, $failed failed, none proved, $SECONDS s"
 [ "$failed" = 0 ]
