@@ -4,9 +4,10 @@
 # Usage: tools/programs.sh [statuses | seeds]
 #
 # `statuses` compares the exit status, the output and the standard error of `raft-state`, also for odd
-# input. `seeds` runs the simulated cluster: 2,000 seeds and two long runs for each kind of leader ids, each
-# of which must be safe and converge, and 300 seeds with each planted fault, which some must show. Without a
-# word the tool does both.
+# input. `seeds` runs the simulated cluster: 2,000 seeds and two long runs, each of which must be safe and
+# converge, and 300 seeds with each planted fault, which some must show. It also runs 50 seeds over
+# openraft's default leader ids, by a copy of the sources that is not proved. Without a word the tool does
+# both.
 set -u -o pipefail
 cd "$(dirname "$0")/.."
 crate=crates/raft_script
@@ -82,18 +83,36 @@ run_seeds() {
     count "seeds $*" $is "status $status, $(tail -n 3 <<< "$said")"
 }
 
+# Runs the cluster over openraft's default leader ids: a copy of the sources with two other aliases.
+run_default_leader_ids() {
+    local copy said is=wrong
+    copy=$(mktemp -d)
+    mkdir "$copy/.git"
+    cp crates.txt HANDLES "$copy"
+    tar --exclude=out -c crates | tar -x -C "$copy"
+    sed -i 's/raft_base::leader_id_std::LeaderId<u64>;/raft_base::LeaderId<u64>;/
+        s/raft_base::leader_id_std::CommittedLeaderId;/raft_base::CommittedLeaderId<u64>;/' \
+        "$copy/crates/cluster/src/types.rt"
+    said=$(cd "$copy/crates/cluster" && rt try --seconds 600 -- chart=0 seeds=50 events=1500 2>&1)
+    echo "seeds over the default leader ids:"
+    grep -E '^[0-9,]+ (elections|of)' <<< "$said" | sed 's/^/    /'
+    grep -q '^50 of 50 clusters safe and converged' <<< "$said" \
+        && [ "$(grep -c '_std::' "$copy/crates/cluster/src/types.rt")" = 0 ] && is=right
+    count "the default leader ids" $is "$(tail -n 3 <<< "$said")"
+    rm -rf "$copy"
+}
+
 seeds() {
-    local leaders fault faults is=wrong
+    local fault faults is=wrong
     faults=$(crates/cluster/out/cluster --help | sed -n 's/^ \{6,\}\([A-Z][A-Za-z]*\)$/\1/p')
     [ "$(wc -w <<< "$faults")" -ge 10 ] && is=right
     count "faults" $is "there are less than ten: $faults"
-    for leaders in advanced standard; do
-        run_seeds healthy leaders=$leaders seeds=2000 events=1500
-        run_seeds healthy leaders=$leaders seeds=2 events=200000
-        for fault in $faults; do
-            run_seeds failing leaders=$leaders seeds=300 events=1500 "fault=$fault"
-        done
+    run_seeds healthy seeds=2000 events=1500
+    run_seeds healthy seeds=2 events=200000
+    for fault in $faults; do
+        run_seeds failing seeds=300 events=1500 "fault=$fault"
     done
+    run_default_leader_ids
 }
 
 case "$*" in

@@ -3,31 +3,31 @@
 use crate::deed::Deed;
 use crate::fault::Fault;
 use crate::server::{Role, Server};
-use crate::types::{Candidate, Leader, LeaderIds};
-use raft_base::VoteIn;
-use raft_handlers::{HandlerError, VoteRequest, VoteResponse, handle_vote_request};
+use crate::types::{Candidate, Leader, VoteRequest, VoteResponse};
+use raft_handlers::{HandlerError, handle_vote_request};
 
-impl<L: LeaderIds> Server<L, L::Committed> {
+impl Server {
     /// Campaigns in a term that is greater than any that the server has heard of, and votes for
     /// itself.
     pub fn campaign(&mut self) -> Result<(), HandlerError> {
         self.follow();
         let candidate = Candidate::campaign(self.id, self.term, &mut self.state)?;
-        self.term = L::term(&self.vote().leader_id);
-        self.take_role(Role::Candidate(candidate));
+        self.term = self.vote().leader_id.get_term();
+        self.role = Role::Candidate(candidate);
         self.lead_if_elected()
     }
 
     /// Answers a candidate. If the server votes for it, the server waits anew.
-    pub fn vote_for(&mut self, request: &VoteRequest<L, L::Committed>) -> VoteResponse<L> {
+    pub fn vote_for(&mut self, request: &VoteRequest) -> VoteResponse {
         let own = self.vote();
         let mut request = *request;
-        self.term = self.term.max(L::term(&request.vote.leader_id));
+        let term = request.vote.leader_id.get_term();
+        self.term = self.term.max(term);
         match self.fault {
-            Some(Fault::IgnoreLastLog) => request.last_log_id = request
-                .last_log_id
-                .max(self.last()),
-            Some(Fault::VoteTwice) if !own.committed && is_same_term(&own, &request.vote) => {
+            Some(Fault::IgnoreLastLog) => {
+                request.last_log_id = request.last_log_id.max(self.last());
+            }
+            Some(Fault::VoteTwice) if !own.committed && own.leader_id.get_term() == term => {
                 *self.state.vote.get_mut() = request.vote;
             }
             _ => {}
@@ -40,11 +40,7 @@ impl<L: LeaderIds> Server<L, L::Committed> {
     }
 
     /// Counts the vote of another server.
-    pub fn count_vote(
-        &mut self,
-        from: u64,
-        response: &VoteResponse<L>,
-    ) -> Result<(), HandlerError> {
+    pub fn count_vote(&mut self, from: u64, response: &VoteResponse) -> Result<(), HandlerError> {
         let own = self.vote();
         let mut response = *response;
         if self.fault == Some(Fault::CountRefusal) {
@@ -73,14 +69,9 @@ impl<L: LeaderIds> Server<L, L::Committed> {
     }
 
     /// Leads, and begins with a blank entry: only an entry of its own lets a leader commit.
-    pub fn lead(&mut self, leader: Leader<L::Committed>) -> Result<(), HandlerError> {
+    pub fn lead(&mut self, leader: Leader) -> Result<(), HandlerError> {
         let entry = leader.propose_blank(&mut self.state)?;
-        self.take_role(Role::Leader(leader));
+        self.role = Role::Leader(leader);
         self.write_own(entry)
     }
-}
-
-/// Whether two votes are of one term.
-fn is_same_term<L: LeaderIds>(one: &VoteIn<L>, other: &VoteIn<L>) -> bool {
-    L::term(&one.leader_id) == L::term(&other.leader_id)
 }

@@ -2,7 +2,7 @@
 
 use crate::cluster::Cluster;
 use crate::server::{Role, Server};
-use crate::types::{LeaderIds, Members, end};
+use crate::types::{CommittedLeaderId, Members, end};
 use raft_base::LogStateReader;
 use std::alloc::AllocError;
 use std::ops::Range;
@@ -20,7 +20,7 @@ configs) and + learners.
 event server 1     server 2     server 3     server 4     server 5     members    what happens
 ";
 
-impl<L: LeaderIds> Cluster<L, L::Committed> {
+impl Cluster {
     /// Draws a row if something of note has happened, or so many events after the last one.
     pub fn draw_if_due(&self, interval: u64, chart: &mut String) -> Result<(), AllocError> {
         let is_due = self.news.is_some() || self.tally.events.checked_rem(interval) == Some(0);
@@ -54,12 +54,7 @@ impl<L: LeaderIds> Cluster<L, L::Committed> {
 
     /// Draws the part of a log that begins at an index, with a bar after what is known to be
     /// committed.
-    fn draw_log(
-        &self,
-        server: &Server<L, L::Committed>,
-        first: u64,
-        chart: &mut String,
-    ) -> Result<(), AllocError> {
+    fn draw_log(&self, server: &Server, first: u64, chart: &mut String) -> Result<(), AllocError> {
         let end_of_row = first.saturating_add(WIDTH);
         let bar = end(server.state.committed).max(first).min(end_of_row);
         self.draw_entries(server, first..bar, chart)?;
@@ -70,7 +65,7 @@ impl<L: LeaderIds> Cluster<L, L::Committed> {
     /// Draws a letter for each index of a log.
     fn draw_entries(
         &self,
-        server: &Server<L, L::Committed>,
+        server: &Server,
         indexes: Range<u64>,
         chart: &mut String,
     ) -> Result<(), AllocError> {
@@ -81,7 +76,7 @@ impl<L: LeaderIds> Cluster<L, L::Committed> {
     }
 
     /// Returns the sign of an index of a log.
-    fn sign_at(&self, server: &Server<L, L::Committed>, index: u64) -> char {
+    fn sign_at(&self, server: &Server, index: u64) -> char {
         if index < server.state.purged_next {
             return '.';
         }
@@ -93,7 +88,7 @@ impl<L: LeaderIds> Cluster<L, L::Committed> {
 
     /// Returns the letter of a leader: `a` for the one that has started the cluster, and the next
     /// letters for those that were elected.
-    fn letter(&self, leader_id: L::Committed) -> char {
+    fn letter(&self, leader_id: CommittedLeaderId) -> char {
         match self.history.leaders.get(&leader_id) {
             Some(leader) => char::from(b'b' + (leader.number % 25) as u8),
             None => 'a',
@@ -102,7 +97,7 @@ impl<L: LeaderIds> Cluster<L, L::Committed> {
 }
 
 /// Returns the letter of a server's role.
-fn letter_of<L: Copy + Eq + Drop, C: Ord + Copy + Drop>(server: &Server<L, C>) -> char {
+fn letter_of(server: &Server) -> char {
     match &server.role {
         Role::Leader(_) => 'L',
         Role::Candidate(_) => 'C',

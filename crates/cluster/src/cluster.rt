@@ -9,10 +9,9 @@ use crate::safety::{History, Violation};
 use crate::server::{SERVERS, Server};
 use crate::tally::Tally;
 use crate::trace::{Said, Trace};
-use crate::types::{Leader, LeaderIds, Members};
+use crate::types::{ChangeMembers, Members};
 use crate::view::said_by;
 use raft_base::EmptyNode;
-use raft_members::ChangeMembers;
 use raft_safety::check::Refused;
 use rand::RngExt;
 use rand_pcg::Pcg32;
@@ -28,12 +27,12 @@ const RECORDED: u64 = 10_000;
 /// After how many events what is recorded is checked. It is checked at the end of the run, too.
 const CHECKED_EVERY: u64 = 500;
 
-/// Servers and the network between them. `F` is always its default, as for a `Server`.
+/// Servers and the network between them.
 #[derive(Drop)]
-pub struct Cluster<L, C: Ord + Copy, F = Leader<C>> {
-    pub servers: Vec<Server<L, C, F>>,
-    pub network: Network<L, C>,
-    pub history: History<C>,
+pub struct Cluster {
+    pub servers: Vec<Server>,
+    pub network: Network,
+    pub history: History,
     pub tally: Tally,
     pub trace: Trace,
     /// What has happened in this event that is of note.
@@ -54,7 +53,7 @@ pub struct Verdict {
     pub rules: Result<(), Refused>,
 }
 
-impl<L: LeaderIds> Cluster<L, L::Committed> {
+impl Cluster {
     /// Runs the cluster of a seed, draws its chart, and counts what has happened.
     pub fn simulate(
         alloc: Global,
@@ -63,7 +62,7 @@ impl<L: LeaderIds> Cluster<L, L::Committed> {
         tally: &mut Tally,
         chart: &mut String,
     ) -> Result<Verdict, Violation> {
-        let mut cluster = Cluster::<L, L::Committed>::new(alloc, seed, options)?;
+        let mut cluster = Cluster::new(alloc, seed, options)?;
         let found = cluster.run(options, chart);
         tally.add(&cluster.tally);
         Ok(Verdict {
@@ -196,15 +195,11 @@ impl<L: LeaderIds> Cluster<L, L::Committed> {
             };
             done.map_err(|error| Violation::Failure(server.id, error))?;
         }
-        let has_restarted = event == Event::Restart;
-        self.check(
-            place,
-            if has_restarted {
-                Said::Restarted
-            } else {
-                Said::Nothing
-            },
-        )
+        let said = match event {
+            Event::Restart => Said::Restarted,
+            _ => Said::Nothing,
+        };
+        self.check(place, said)
     }
 
     /// Takes note of what has happened at a server, and checks the cluster.
@@ -234,9 +229,7 @@ impl<L: LeaderIds> Cluster<L, L::Committed> {
         }
         Ok(())
     }
-}
 
-impl<L: Copy + Eq + Drop, C: Ord + Copy + Drop> Cluster<L, C> {
     /// Whether a leader and all its members have committed its whole log, and no change is half
     /// done.
     fn has_converged(&self) -> bool {
@@ -254,7 +247,7 @@ impl<L: Copy + Eq + Drop, C: Ord + Copy + Drop> Cluster<L, C> {
     }
 
     /// Returns the leader that was elected last, if one leads.
-    pub fn last_leader(&self) -> Option<&Server<L, C>> {
+    pub fn last_leader(&self) -> Option<&Server> {
         let mut last = self.servers.first()?;
         for server in &self.servers {
             if server.leader_id() > last.leader_id() {
@@ -272,10 +265,7 @@ fn first_members(alloc: Global) -> Result<Members, AllocError> {
 }
 
 /// Returns a random change of members, which the leader may refuse.
-fn some_change(
-    alloc: Global,
-    random: &mut Pcg32,
-) -> Result<ChangeMembers<u64, EmptyNode>, AllocError> {
+fn some_change(alloc: Global, random: &mut Pcg32) -> Result<ChangeMembers, AllocError> {
     let mut ids = BTreeSet::new(alloc);
     let mut nodes = BTreeMap::new(alloc);
     for id in 1..=SERVERS {

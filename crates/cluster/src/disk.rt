@@ -4,27 +4,25 @@
 use crate::deed::Deed;
 use crate::fault::Fault;
 use crate::server::Server;
-use crate::types::{Entry, Leader, LeaderIds, State, end};
-use raft_base::{LogStateReader, VoteIn};
+use crate::types::{Entry, Leader, SnapshotMeta, State, Vote, end};
+use raft_base::LogStateReader;
 use raft_handlers::{HandlerError, Stored, restart_server};
-use raft_state::SnapshotMetaOf;
-use std::mem;
 
-impl<L: Copy + Eq + Drop, C: Ord + Copy + Drop> Server<L, C> {
+impl Server {
     /// Returns the place of an index on disk.
     pub fn place(&self, index: u64) -> usize {
         index.saturating_sub(self.state.purged_next) as usize
     }
 
     /// Returns the entry of an index, if it is on disk and in the log.
-    pub fn entry(&self, index: u64) -> Option<&Entry<C>> {
+    pub fn entry(&self, index: u64) -> Option<&Entry> {
         let entry = self.disk.get(self.place(index))?;
         (self.state.get_log_id(index) == Some(entry.log_id)).then_some(entry)
     }
 
     /// Writes to disk what a step has changed in the log: removes what is truncated, and adds those
     /// of the entries that are new.
-    pub fn write(&mut self, entries: &[Entry<C>]) -> Result<(), HandlerError> {
+    pub fn write(&mut self, entries: &[Entry]) -> Result<(), HandlerError> {
         let truncated = self.trim();
         if truncated > 0 {
             self.deed = Some(Deed::Truncates(truncated));
@@ -50,7 +48,7 @@ impl<L: Copy + Eq + Drop, C: Ord + Copy + Drop> Server<L, C> {
     /// message needs a purged entry, because a message carries its entries.
     pub fn compact(&mut self, keep: u64) -> Result<(), HandlerError> {
         let members = self.state.membership_state.committed();
-        let snapshot = SnapshotMetaOf {
+        let snapshot = SnapshotMeta {
             last_log_id: self.state.committed,
             last_membership: members.stored_membership().try_clone()?,
             snapshot_id: String::new(*self.disk.allocator()),
@@ -76,22 +74,19 @@ impl<L: Copy + Eq + Drop, C: Ord + Copy + Drop> Server<L, C> {
         }
         Ok(())
     }
-}
 
-impl<L: LeaderIds> Server<L, L::Committed> {
     /// Crashes, and starts again with what is on disk. If the server is the elected leader of its
     /// vote, it leads on.
     pub fn restart(&mut self) -> Result<(), HandlerError> {
         let mut vote = self.vote();
         if self.fault == Some(Fault::ForgetVote) {
-            vote = VoteIn::default();
+            vote = Vote::default();
             self.term = 0;
         }
-        let state = self.restarted(vote)?;
-        drop(mem::replace(&mut self.state, state));
+        self.state = self.restarted(vote)?;
         self.trim();
         self.follow();
-        // One that is known to be removed has its committed vote still.
+        // A server that is known to be removed still has its committed vote.
         if self.state.is_leader(&self.id) && self.may_lead() {
             let leader = Leader::resume(self.id, &self.state)?;
             self.lead(leader)?;
@@ -101,7 +96,7 @@ impl<L: LeaderIds> Server<L, L::Committed> {
     }
 
     /// Returns the state that a server with this vote has after a restart.
-    fn restarted(&self, vote: VoteIn<L>) -> Result<State<L, L::Committed>, HandlerError> {
+    fn restarted(&self, vote: Vote) -> Result<State, HandlerError> {
         let alloc = *self.disk.allocator();
         let stored = Stored {
             vote,

@@ -3,22 +3,16 @@
 use crate::deed::Deed;
 use crate::fault::Fault;
 use crate::server::Server;
-use crate::types::{AppendEntries, InstallSnapshot, LeaderIds};
-use raft_base::VoteIn;
-use raft_handlers::{
-    HandlerError, Outcome, Response, handle_append_entries, handle_install_snapshot,
-};
+use crate::types::{AppendEntries, InstallSnapshot, LeaderId, Response, Vote};
+use raft_handlers::{HandlerError, Outcome, handle_append_entries, handle_install_snapshot};
 
-impl<L: LeaderIds> Server<L, L::Committed> {
+impl Server {
     /// Takes a leader's entries, and writes them to disk before it answers.
-    pub fn take_entries(
-        &mut self,
-        request: &AppendEntries<L, L::Committed>,
-    ) -> Result<Response<L, L::Committed>, HandlerError> {
+    pub fn take_entries(&mut self, request: &AppendEntries) -> Result<Response, HandlerError> {
         let last = request.last_log_id();
         if self.heeds(request.leader_id) && self.acknowledges_untaken(last) {
             return Ok(Response {
-                leader_id: L::to_committed(&request.leader_id),
+                leader_id: request.leader_id.to_committed(),
                 request: request.request,
                 outcome: Outcome::Matches(last),
             });
@@ -29,13 +23,10 @@ impl<L: LeaderIds> Server<L, L::Committed> {
     }
 
     /// Takes a leader's snapshot in place of the log, unless as much is committed already.
-    pub fn take_snapshot(
-        &mut self,
-        request: &InstallSnapshot<L, L::Committed>,
-    ) -> Result<Response<L, L::Committed>, HandlerError> {
+    pub fn take_snapshot(&mut self, request: &InstallSnapshot) -> Result<Response, HandlerError> {
         if self.heeds(request.leader_id) && self.fault == Some(Fault::AcknowledgeUninstalled) {
             return Ok(Response {
-                leader_id: L::to_committed(&request.leader_id),
+                leader_id: request.leader_id.to_committed(),
                 request: Some(request.request),
                 outcome: Outcome::Matches(request.meta.last_log_id),
             });
@@ -50,8 +41,8 @@ impl<L: LeaderIds> Server<L, L::Committed> {
     }
 
     /// Follows a leader, unless the server has passed its term. Returns whether it follows.
-    fn heeds(&mut self, leader_id: L) -> bool {
-        let vote = VoteIn {
+    fn heeds(&mut self, leader_id: LeaderId) -> bool {
+        let vote = Vote {
             leader_id,
             committed: true,
         };

@@ -5,19 +5,20 @@ use crate::deed::Deed;
 use crate::fault::Fault;
 use crate::message::Content;
 use crate::server::{Role, Server};
-use crate::types::{AppendEntries, Entry, InstallSnapshot, LeaderIds, end};
-use raft_base::{EmptyNode, LogIdRangeOf};
-use raft_handlers::{HandlerError, Outcome, Response};
-use raft_members::ChangeMembers;
+use crate::types::{
+    AppendEntries, ChangeMembers, Entry, InstallSnapshot, LogIdRange, Response, end,
+};
+use raft_handlers::{HandlerError, Outcome};
 use raft_progress::InflightOf;
+use std::alloc::AllocError;
 
 /// How many entries are sent at once.
 const MAX_ENTRIES: u64 = 4;
 
-impl<L: LeaderIds> Server<L, L::Committed> {
+impl Server {
     /// Returns what the leader sends next to a follower: entries, a snapshot, or a heartbeat if
     /// there is nothing to send or something is in flight. Without memory it sends nothing.
-    pub fn next_request(&mut self, to: u64) -> Option<Content<L, L::Committed>> {
+    pub fn next_request(&mut self, to: u64) -> Option<Content> {
         let last = self.last();
         let Role::Leader(leader) = &mut self.role else {
             return None;
@@ -25,16 +26,12 @@ impl<L: LeaderIds> Server<L, L::Committed> {
         match leader.next_request(&self.state, &to, MAX_ENTRIES)? {
             InflightOf::Logs { id, log_id_range } => self.entries(Some(id), log_id_range),
             InflightOf::Snapshot { id, .. } => self.snapshot(id),
-            InflightOf::None => self.entries(None, LogIdRangeOf::new(last, last)),
+            InflightOf::None => self.entries(None, LogIdRange::new(last, last)),
         }
     }
 
     /// Returns a request to append the entries of a range.
-    fn entries(
-        &self,
-        request: Option<u64>,
-        range: LogIdRangeOf<L::Committed>,
-    ) -> Option<Content<L, L::Committed>> {
+    fn entries(&self, request: Option<u64>, range: LogIdRange) -> Option<Content> {
         let places = self.place(end(range.prev))..self.place(end(range.last));
         Some(Content::Append(AppendEntries {
             leader_id: self.vote().leader_id,
@@ -46,7 +43,7 @@ impl<L: LeaderIds> Server<L, L::Committed> {
     }
 
     /// Returns a request to install the leader's snapshot.
-    fn snapshot(&self, request: u64) -> Option<Content<L, L::Committed>> {
+    fn snapshot(&self, request: u64) -> Option<Content> {
         Some(Content::Install(InstallSnapshot {
             leader_id: self.vote().leader_id,
             request,
@@ -55,11 +52,7 @@ impl<L: LeaderIds> Server<L, L::Committed> {
     }
 
     /// Takes the response of a follower.
-    pub fn take_response(
-        &mut self,
-        from: u64,
-        response: &Response<L, L::Committed>,
-    ) -> Result<(), HandlerError> {
+    pub fn take_response(&mut self, from: u64, response: &Response) -> Result<(), HandlerError> {
         if let Outcome::HigherVote(vote) = response.outcome {
             self.hear_of(vote);
         }
@@ -90,8 +83,8 @@ impl<L: LeaderIds> Server<L, L::Committed> {
     }
 
     /// Writes an entry of the leader's own to disk, and counts the leader among those that have it.
-    pub fn write_own(&mut self, entry: Entry<L::Committed>) -> Result<(), HandlerError> {
-        self.disk.extend(Some(entry))?;
+    pub fn write_own(&mut self, entry: Entry) -> Result<(), HandlerError> {
+        self.disk.push(entry).map_err(AllocError::from)?;
         let last = self.last();
         if let Role::Leader(leader) = &mut self.role {
             leader.handle_flushed(&self.state, last)?;
@@ -112,11 +105,7 @@ impl<L: LeaderIds> Server<L, L::Committed> {
     }
 
     /// Proposes a change of members, if the server leads and the change is allowed now.
-    pub fn change(
-        &mut self,
-        change: ChangeMembers<u64, EmptyNode>,
-        retain: bool,
-    ) -> Result<(), HandlerError> {
+    pub fn change(&mut self, change: ChangeMembers, retain: bool) -> Result<(), HandlerError> {
         if self.changes_wrongly() {
             return self.change_wrongly(change, retain);
         }

@@ -31,20 +31,18 @@ mod view;
 use anyhow::{Result, ensure};
 use cluster::Cluster;
 use options::Options;
-use raft_base::{LeaderId, leader_id_std};
 use std::env;
 use tally::{Number, Tally};
-use types::LeaderIds;
 
 /// Runs a cluster of each seed, and says what was found. Returns whether all were safe and have
 /// converged.
-fn run<L: LeaderIds>(rt: &HostRuntime, options: &Options) -> Result<bool> {
+fn run(rt: &HostRuntime, options: &Options) -> Result<bool> {
     let mut tally = Tally::default();
     let mut healthy = 0u64;
     let seeds = Number(options.seeds);
     for number in 0..options.seeds {
         let seed = options.seed.saturating_add(number);
-        let is_healthy = run_one::<L>(rt, options, seed, &mut tally)?;
+        let is_healthy = run_one(rt, options, seed, &mut tally)?;
         healthy = healthy.saturating_add(u64::from(is_healthy));
         if number % 500 == 499 {
             eprintln!(rt;
@@ -63,20 +61,9 @@ fn run<L: LeaderIds>(rt: &HostRuntime, options: &Options) -> Result<bool> {
 }
 
 /// Runs the cluster of a seed, and prints its chart and what is wrong. Returns whether nothing is.
-fn run_one<L: LeaderIds>(
-    rt: &HostRuntime,
-    options: &Options,
-    seed: u64,
-    tally: &mut Tally,
-) -> Result<bool> {
+fn run_one(rt: &HostRuntime, options: &Options, seed: u64, tally: &mut Tally) -> Result<bool> {
     let mut chart = String::new(rt.alloc());
-    let verdict = Cluster::<L, L::Committed>::simulate(
-        rt.alloc(),
-        seed,
-        options,
-        tally,
-        &mut chart,
-    )?;
+    let verdict = Cluster::simulate(rt.alloc(), seed, options, tally, &mut chart)?;
     print!(rt; "{chart}")?;
     if let Err(violation) = verdict.found {
         println!(rt; "seed {seed}, event {}: {violation}", verdict.events)?;
@@ -100,11 +87,7 @@ fn main(rt: HostRuntime) -> Result<()> {
     if options.chart > 0 {
         print!(rt; "{}", chart::LEGEND)?;
     }
-    let is_healthy = if options.is_standard {
-        run::<leader_id_std::LeaderId<u64>>(&rt, &options)?
-    } else {
-        run::<LeaderId<u64>>(&rt, &options)?
-    };
+    let is_healthy = run(&rt, &options)?;
     ensure!(is_healthy, "not all clusters are safe and converge");
     Ok(())
 }

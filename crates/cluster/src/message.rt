@@ -1,11 +1,10 @@
 //! What servers send to one another.
 
-use crate::types::{AppendEntries, InstallSnapshot};
-use raft_handlers::{Response, VoteRequest, VoteResponse};
+use crate::types::{AppendEntries, InstallSnapshot, Response, VoteRequest, VoteResponse};
 
 /// A message on its way.
 #[derive(Drop)]
-pub struct Message<L, C> {
+pub struct Message {
     /// The server that has sent it.
     pub from: u64,
     /// The server to which it is sent.
@@ -13,20 +12,20 @@ pub struct Message<L, C> {
     /// How many events had happened when it was sent.
     pub sent: u64,
     /// What it says.
-    pub content: Content<L, C>,
+    pub content: Content,
 }
 
 /// What a message says.
 #[derive(Drop)]
-pub enum Content<L, C> {
+pub enum Content {
     /// A candidate asks for a vote.
-    AskVote(VoteRequest<L, C>),
+    AskVote(VoteRequest),
     /// A voter answers a candidate.
-    Vote(VoteResponse<L>),
+    Vote(VoteResponse),
     /// A leader sends entries, or a heartbeat.
-    Append(AppendEntries<L, C>),
+    Append(AppendEntries),
     /// A leader sends a snapshot.
-    Install(InstallSnapshot<L, C>),
+    Install(InstallSnapshot),
     /// A follower answers a leader.
-    Respond(Response<L, C>),
+    Respond(Response),
 }

@@ -11,13 +11,13 @@ const MAX_AGE: u64 = 200;
 
 /// The messages that are on their way, and the partition.
 #[derive(Drop)]
-pub struct Network<L, C> {
-    messages: Vec<Message<L, C>>,
+pub struct Network {
+    messages: Vec<Message>,
     /// Whether each server is cut off. Servers reach each other if both are, or neither.
     cut_off: [bool; 5],
 }
 
-impl<L: Drop, C: Drop> Network<L, C> {
+impl Network {
     /// Returns a network that is whole and has no message on its way.
     pub fn new(alloc: Global) -> Self {
         Network {
@@ -27,18 +27,18 @@ impl<L: Drop, C: Drop> Network<L, C> {
     }
 
     /// Sends a message. It is lost if there is no memory for it.
-    pub fn send(&mut self, from: u64, to: u64, sent: u64, content: Content<L, C>) {
+    pub fn send(&mut self, from: u64, to: u64, sent: u64, content: Content) {
         let message = Message {
             from,
             to,
             sent,
             content,
         };
-        let _ = self.messages.extend(Some(message));
+        let _ = self.messages.push(message);
     }
 
     /// Takes a random message from the network: it arrives, or it is lost.
-    pub fn take(&mut self, random: &mut Pcg32) -> Option<Message<L, C>> {
+    pub fn take(&mut self, random: &mut Pcg32) -> Option<Message> {
         if self.messages.is_empty() {
             return None;
         }

@@ -13,7 +13,6 @@ Simulates clusters of five servers, one for each seed, and checks that they are 
     seeds=1           how many clusters: one for this seed and for each that follows it
     events=1000       how many events happen to a cluster before its network is mended
     chart=50          draw a row for each thing of note, and after so many events; 0 draws nothing
-    leaders=advanced  the leader ids: `advanced` as openraft has them, `standard` as Raft has them
     fault=NAME        plant a fault in all servers:
 ";
 
@@ -28,8 +27,6 @@ pub struct Options {
     pub events: u64,
     /// After how many events a row of the chart is drawn, or 0 if there is no chart.
     pub chart: u64,
-    /// Whether the leader ids are those of standard Raft.
-    pub is_standard: bool,
     /// What all servers do wrong.
     pub fault: Option<Fault>,
 }
@@ -46,7 +43,6 @@ impl Options {
             seeds: 1,
             events: 1000,
             chart: 50,
-            is_standard: false,
             fault: None,
         };
         for word in words {
@@ -56,7 +52,6 @@ impl Options {
                 "seeds" => options.seeds = number(word, value)?,
                 "events" => options.events = number(word, value)?,
                 "chart" => options.chart = number(word, value)?,
-                "leaders" => options.is_standard = is_standard(word, value)?,
                 "fault" => options.fault = Some(fault(word, value)?),
                 _ => bail!("'{word}' is no option; `--help` lists the options"),
             }
@@ -70,15 +65,6 @@ fn number(word: &str, value: &str) -> Result<u64> {
     value
         .parse()
         .context(format_args!("'{word}' has no number as its value"))
-}
-
-/// Reads the name of the leader ids.
-fn is_standard(word: &str, value: &str) -> Result<bool> {
-    match value {
-        "advanced" => Ok(false),
-        "standard" => Ok(true),
-        _ => bail!("'{word}' is neither `advanced` nor `standard`"),
-    }
 }
 
 /// Reads the name of a fault.

@@ -3,16 +3,14 @@
 use crate::deed::Deed;
 use crate::fault::Fault;
 use crate::server::{Role, Server};
-use crate::types::{Entry, Leader, LeaderIds, Members, end};
-use raft_base::{EmptyNode, LogIdOf};
+use crate::types::{ChangeMembers, Entry, Leader, LogId, Members, Payload, end};
 use raft_handlers::HandlerError;
-use raft_members::ChangeMembers;
-use raft_state::EntryPayload;
 use std::collections::BTreeSet;
+use std::slice;
 
-impl<L: Copy + Eq + Drop, C: Ord + Copy + Drop> Server<L, C> {
+impl Server {
     /// Whether a planted fault lets it acknowledge entries up to a log id without taking them.
-    pub fn acknowledges_untaken(&self, last: Option<LogIdOf<C>>) -> bool {
+    pub fn acknowledges_untaken(&self, last: Option<LogId>) -> bool {
         match (self.fault, last) {
             (Some(Fault::AcknowledgeUnwritten), Some(last)) => last.index % 8 == 7,
             (Some(Fault::KeepConflicts), Some(last)) => {
@@ -21,9 +19,7 @@ impl<L: Copy + Eq + Drop, C: Ord + Copy + Drop> Server<L, C> {
             _ => false,
         }
     }
-}
 
-impl<L: LeaderIds> Server<L, L::Committed> {
     /// Whether a planted fault has another way to change members.
     pub fn changes_wrongly(&self) -> bool {
         match (self.fault, &self.role) {
@@ -38,41 +34,31 @@ impl<L: LeaderIds> Server<L, L::Committed> {
     /// Changes members as a planted fault has it.
     pub fn change_wrongly(
         &mut self,
-        change: ChangeMembers<u64, EmptyNode>,
+        change: ChangeMembers,
         retain: bool,
     ) -> Result<(), HandlerError> {
         let Some(members) = self.members_after(change, retain) else {
             return Ok(());
         };
         let entry = Entry {
-            log_id: LogIdOf::new(L::to_committed(&self.vote().leader_id), end(self.last())),
-            payload: EntryPayload::Membership(members),
+            log_id: LogId::new(self.vote().leader_id.to_committed(), end(self.last())),
+            payload: Payload::Membership(members),
         };
-        let mut entries = Vec::new(*self.disk.allocator());
-        entries.extend(Some(entry))?;
-        if !self.state.can_append_entries(&entries)
-            || self.state.append_entries(&entries).is_err()
-        {
+        let entries = slice::from_ref(&entry);
+        if !self.state.can_append_entries(entries) || self.state.append_entries(entries).is_err() {
             return Ok(());
         }
         if self.fault != Some(Fault::CountOldMembers) {
             let leader = Leader::resume(self.id, &self.state)?;
-            self.take_role(Role::Leader(leader));
+            self.role = Role::Leader(leader);
         }
         self.deed = Some(Deed::Changes);
-        match entries.pop() {
-            Some(entry) => self.write_own(entry),
-            None => Ok(()),
-        }
+        self.write_own(entry)
     }
 
     /// Returns the members that a change leads to, if it is allowed now: those of the last
     /// configuration at once, if the planted fault skips the joint one.
-    fn members_after(
-        &self,
-        change: ChangeMembers<u64, EmptyNode>,
-        retain: bool,
-    ) -> Option<Members> {
+    fn members_after(&self, change: ChangeMembers, retain: bool) -> Option<Members> {
         let handler = self.state.membership_state.change_handler();
         let Ok(members) = handler.apply(change, retain) else {
             return None;

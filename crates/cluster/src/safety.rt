@@ -1,8 +1,8 @@
 //! What Raft promises of a cluster, checked after each event.
 
 use crate::server::{Role, Server};
-use crate::types::end;
-use raft_base::{LogIdOf, LogStateReader};
+use crate::types::{CommittedLeaderId, LogId, end};
+use raft_base::LogStateReader;
 use raft_handlers::HandlerError;
 use raft_safety::check::Refused;
 use raft_safety::checker;
@@ -13,7 +13,7 @@ use thiserror::Error;
 /// What is wrong with a cluster.
 #[derive(Debug, Clone, Copy, PartialEq, Eq, Error)]
 pub enum Violation {
-    /// Two servers have led with one leader id. In standard Raft that is one term.
+    /// Two servers have led with one committed leader id, that is, in one term.
     #[error("election safety: servers {0} and {1} lead with one leader id")]
     ElectionSafety(u64, u64),
     /// A leader's log does not have what it had before.
@@ -46,19 +46,13 @@ pub enum Violation {
     Convergence,
     /// An allocation failed.
     #[error("out of memory")]
-    OutOfMemory,
-}
-
-impl From<AllocError> for Violation {
-    fn from(_refused: AllocError) -> Self {
-        Violation::OutOfMemory
-    }
+    OutOfMemory(#[from(alloc)] AllocError),
 }
 
 impl From<Refused> for Violation {
     fn from(refused: Refused) -> Self {
         match refused.violation {
-            checker::Violation::OutOfMemory => Violation::OutOfMemory,
+            checker::Violation::OutOfMemory => AllocError.into(),
             checker::Violation::Rule(_) => Violation::BrokenRule,
         }
     }
@@ -66,34 +60,34 @@ impl From<Refused> for Violation {
 
 /// A leader that was elected.
 #[derive(Clone, Copy)]
-pub struct Leadership<C> {
+pub struct Leadership {
     /// The server.
     pub server: u64,
     /// How many were elected before.
     pub number: usize,
     /// The last log id of the server when it was last seen to lead.
-    last: Option<LogIdOf<C>>,
+    last: Option<LogId>,
 }
 
 /// An entry that was committed.
 #[derive(Clone, Copy)]
-pub struct CommittedEntry<C> {
+pub struct CommittedEntry {
     /// Its log id.
-    pub log_id: LogIdOf<C>,
+    pub log_id: LogId,
     /// The committed leader id of the leader that was the first to commit it.
-    pub by: C,
+    pub by: CommittedLeaderId,
 }
 
 /// Who has led, and what was committed.
 #[derive(Drop)]
-pub struct History<C: Ord> {
+pub struct History {
     /// Each leader that was elected.
-    pub leaders: BTreeMap<C, Leadership<C>>,
+    pub leaders: BTreeMap<CommittedLeaderId, Leadership>,
     /// Each entry that was committed, by its index.
-    pub committed: Vec<CommittedEntry<C>>,
+    pub committed: Vec<CommittedEntry>,
 }
 
-impl<C: Ord + Copy + Drop> History<C> {
+impl History {
     /// Returns a history in which nothing has happened.
     pub fn new(alloc: Global) -> Self {
         History {
@@ -103,11 +97,7 @@ impl<C: Ord + Copy + Drop> History<C> {
     }
 
     /// Checks all that Raft promises, after something has happened at one server.
-    pub fn check<L: Copy + Eq + Drop>(
-        &mut self,
-        server: &Server<L, C>,
-        all: &[Server<L, C>],
-    ) -> Result<(), Violation> {
+    pub fn check(&mut self, server: &Server, all: &[Server]) -> Result<(), Violation> {
         check_alone(server)?;
         self.check_committed(server)?;
         for other in all {
@@ -122,10 +112,7 @@ impl<C: Ord + Copy + Drop> History<C> {
 
     /// **State machine safety**: what a server knows to be committed is in its log, and is what
     /// others have committed at that index. A leader is the first to know it.
-    fn check_committed<L: Copy + Eq + Drop>(
-        &mut self,
-        server: &Server<L, C>,
-    ) -> Result<(), Violation> {
+    fn check_committed(&mut self, server: &Server) -> Result<(), Violation> {
         let state = &server.state;
         for index in state.purged_next.saturating_sub(1)..end(state.committed) {
             let violation = Violation::StateMachineSafety(server.id, index);
@@ -135,7 +122,7 @@ impl<C: Ord + Copy + Drop> History<C> {
                 Some(_) => return Err(violation),
                 None => {
                     let by = server.leader_id().ok_or(violation)?;
-                    self.committed.extend(Some(CommittedEntry { log_id, by }))?;
+                    self.committed.push(CommittedEntry { log_id, by })?;
                 }
             }
         }
@@ -144,10 +131,10 @@ impl<C: Ord + Copy + Drop> History<C> {
 
     /// **Election safety**: no other server leads with the leader id, and **leader append-only**: a
     /// leader's log has all that it had before.
-    fn check_leader<L: Copy + Eq + Drop>(
+    fn check_leader(
         &mut self,
-        server: &Server<L, C>,
-        leader_id: C,
+        server: &Server,
+        leader_id: CommittedLeaderId,
     ) -> Result<(), Violation> {
         let last = server.last();
         let Some(before) = self.leaders.get_mut(&leader_id) else {
@@ -157,9 +144,7 @@ impl<C: Ord + Copy + Drop> History<C> {
                 number,
                 last,
             };
-            if self.leaders.insert(leader_id, leadership).is_err() {
-                return Err(Violation::OutOfMemory);
-            }
+            self.leaders.insert(leader_id, leadership)?;
             return Ok(());
         };
         if before.server != server.id {
@@ -173,10 +158,10 @@ impl<C: Ord + Copy + Drop> History<C> {
     }
 
     /// **Leader completeness**: a leader has each entry that an earlier leader has committed.
-    fn check_completeness<L: Copy + Eq + Drop>(
+    fn check_completeness(
         &self,
-        server: &Server<L, C>,
-        leader_id: C,
+        server: &Server,
+        leader_id: CommittedLeaderId,
     ) -> Result<(), Violation> {
         for entry in self
             .committed
@@ -192,9 +177,7 @@ impl<C: Ord + Copy + Drop> History<C> {
 }
 
 /// A server's state is sound, and its disk has the entries of its log.
-fn check_alone<L: Copy + Eq + Drop, C: Ord + Copy + Drop>(
-    server: &Server<L, C>,
-) -> Result<(), Violation> {
+fn check_alone(server: &Server) -> Result<(), Violation> {
     if !server.state.is_sound() {
         return Err(Violation::Soundness(server.id));
     }
@@ -205,10 +188,7 @@ fn check_alone<L: Copy + Eq + Drop, C: Ord + Copy + Drop>(
 }
 
 /// **Log matching**: two logs are equal up to the last log id that both have.
-fn check_log_matching<L: Copy + Eq + Drop, C: Ord + Copy + Drop>(
-    one: &Server<L, C>,
-    other: &Server<L, C>,
-) -> Result<(), Violation> {
+fn check_log_matching(one: &Server, other: &Server) -> Result<(), Violation> {
     let first = one.state.purged_next.max(other.state.purged_next);
     let mut do_match = false;
     for index in (first..end(one.last()).min(end(other.last()))).rev() {

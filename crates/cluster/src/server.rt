@@ -3,103 +3,52 @@
 use crate::deed::Deed;
 use crate::fault::Fault;
 use crate::message::Content;
-use crate::types::{Candidate, Entry, Leader, LeaderIds, Members, State};
-use raft_base::{LogIdOf, LogStateReader, VoteIn};
+use crate::types::{Candidate, CommittedLeaderId, Entry, Leader, LogId, Members, State, Vote};
+use raft_base::LogStateReader;
 use raft_handlers::{HandlerError, start_cluster};
 use rand::RngExt;
 use rand_pcg::Pcg32;
 use std::alloc::{AllocError, Global};
-use std::mem;
 
 /// How many servers there are. The first three are the first voters.
 pub const SERVERS: u64 = 5;
 
 /// What a server does.
 #[derive(Drop)]
-pub enum Role<L, C, F> {
+pub enum Role {
     /// It waits for entries of a leader.
     Follower,
     /// It counts the votes for it.
-    Candidate(Candidate<L, C>),
+    Candidate(Candidate),
     /// It leads, and knows how far its followers are.
-    Leader(F),
+    Leader(Leader),
 }
 
-/// A server. `F` is always its default: a struct that names `Leader<C>` in a field has to repeat
-/// the bounds of `Leader`.
+/// A server.
 #[derive(Drop)]
-pub struct Server<L, C: Ord + Copy, F = Leader<C>> {
+pub struct Server {
     pub id: u64,
     /// What it does wrong.
     pub fault: Option<Fault>,
-    pub role: Role<L, C, F>,
+    pub role: Role,
     /// For how many more ticks it waits for a leader before it campaigns.
     pub patience: u64,
     /// The greatest term that it has heard of. Like its vote it is on disk.
     pub term: u64,
-    pub state: State<L, C>,
+    pub state: State,
     /// The entries of its log that are not purged, as they are on its disk.
-    pub disk: Vec<Entry<C>>,
+    pub disk: Vec<Entry>,
     /// What it has done in this event.
     pub deed: Option<Deed>,
     random: Pcg32,
 }
 
-impl<L: Copy + Eq + Drop, C: Ord + Copy + Drop> Server<L, C> {
-    /// Returns the vote that the server has promised.
-    pub fn vote(&self) -> VoteIn<L> {
-        *self.state.vote_ref()
-    }
-
-    /// Returns the last log id of its log.
-    pub fn last(&self) -> Option<LogIdOf<C>> {
-        self.state.last_log_id().copied()
-    }
-
-    /// Returns the effective membership: the last one of its log, committed or not.
-    pub fn members(&self) -> &Members {
-        self.state.membership_state.effective().membership()
-    }
-
-    /// Returns its committed leader id, if it leads.
-    pub fn leader_id(&self) -> Option<C> {
-        match &self.role {
-            Role::Leader(leader) => Some(leader.leader_id()),
-            _ => None,
-        }
-    }
-
-    /// Whether its log has a log id, or the index of the log id is purged.
-    pub fn has(&self, log_id: LogIdOf<C>) -> bool {
-        log_id.index < self.state.purged_next || self.state.get_log_id(log_id.index) == Some(log_id)
-    }
-
-    /// Whether the server may campaign and lead: it is a voter, or it was one before a change that
-    /// is not committed, and its log may be needed to commit the change.
-    pub fn may_lead(&self) -> bool {
-        let memberships = &self.state.membership_state;
-        memberships.is_voter(&self.id) || memberships.committed().is_voter(&self.id)
-    }
-
-    /// Takes a role in place of the one before.
-    // `drop` is generic in any type, and in such a function the drop of a role costs no proof.
-    pub fn take_role(&mut self, role: Role<L, C, Leader<C>>) {
-        drop(mem::replace(&mut self.role, role));
-    }
-
-    /// Becomes a follower, and waits anew for a leader.
-    pub fn follow(&mut self) {
-        self.take_role(Role::Follower);
-        self.patience = self.random.random_range(3..6u64);
-    }
-}
-
-impl<L: LeaderIds> Server<L, L::Committed> {
+impl Server {
     /// Returns all servers of a cluster.
     pub fn all(alloc: Global, seed: u64, fault: Option<Fault>) -> Result<Vec<Self>, AllocError> {
         let mut servers = Vec::with_capacity(alloc, SERVERS as usize)?;
         for id in 1..=SERVERS {
-            servers.extend(Some(Server::new(alloc, id, seed, fault)?))?;
+            servers.push(Server::new(alloc, id, seed, fault)?)?;
         }
         Ok(servers)
     }
@@ -125,12 +74,53 @@ impl<L: LeaderIds> Server<L, L::Committed> {
         Ok(())
     }
 
+    /// Returns the vote that the server has promised.
+    pub fn vote(&self) -> Vote {
+        *self.state.vote_ref()
+    }
+
+    /// Returns the last log id of its log.
+    pub fn last(&self) -> Option<LogId> {
+        self.state.last_log_id().copied()
+    }
+
+    /// Returns the effective membership: the last one of its log, committed or not.
+    pub fn members(&self) -> &Members {
+        self.state.membership_state.effective().membership()
+    }
+
+    /// Returns its committed leader id, if it leads.
+    pub fn leader_id(&self) -> Option<CommittedLeaderId> {
+        match &self.role {
+            Role::Leader(leader) => Some(leader.leader_id()),
+            _ => None,
+        }
+    }
+
+    /// Whether its log has a log id, or the index of the log id is purged.
+    pub fn has(&self, log_id: LogId) -> bool {
+        log_id.index < self.state.purged_next || self.state.get_log_id(log_id.index) == Some(log_id)
+    }
+
+    /// Whether the server may campaign and lead: it is a voter, or it was one before a change that
+    /// is not committed, and its log may be needed to commit the change.
+    pub fn may_lead(&self) -> bool {
+        let memberships = &self.state.membership_state;
+        memberships.is_voter(&self.id) || memberships.committed().is_voter(&self.id)
+    }
+
+    /// Becomes a follower, and waits anew for a leader.
+    pub fn follow(&mut self) {
+        self.role = Role::Follower;
+        self.patience = self.random.random_range(3..6u64);
+    }
+
     /// Takes a message of another server, and may answer it.
     pub fn receive(
         &mut self,
         from: u64,
-        content: &Content<L, L::Committed>,
-    ) -> Result<Option<Content<L, L::Committed>>, HandlerError> {
+        content: &Content,
+    ) -> Result<Option<Content>, HandlerError> {
         match content {
             Content::AskVote(request) => Ok(Some(Content::Vote(self.vote_for(request)))),
             Content::Vote(response) => {
@@ -167,7 +157,7 @@ impl<L: LeaderIds> Server<L, L::Committed> {
     }
 
     /// Returns what the server sends to another one on its tick.
-    pub fn next(&mut self, to: u64) -> Option<Content<L, L::Committed>> {
+    pub fn next(&mut self, to: u64) -> Option<Content> {
         match &self.role {
             Role::Follower => None,
             Role::Candidate(candidate) => {
@@ -182,8 +172,8 @@ impl<L: LeaderIds> Server<L, L::Committed> {
 
     /// Takes note of a vote. If the vote is greater than its own, the server promises it and
     /// follows.
-    pub fn hear_of(&mut self, vote: VoteIn<L>) {
-        self.term = self.term.max(L::term(&vote.leader_id));
+    pub fn hear_of(&mut self, vote: Vote) {
+        self.term = self.term.max(vote.leader_id.get_term());
         if vote > self.vote() {
             *self.state.vote.get_mut() = vote;
             self.follow();

@@ -3,6 +3,7 @@
 //! `raft_safety` proves: if each recorded act was allowed by those before it, the cluster is safe.
 //! Its checker says whether they were. A log of the laws has no entry 0, which starts the cluster.
 
+use crate::types::CommittedLeaderId;
 use raft_safety::check::{Refused, check};
 use raft_safety::checker::Violation;
 use raft_safety::entry::Entry as LawEntry;
@@ -10,10 +11,10 @@ use raft_safety::event::Event as LawEvent;
 use raft_safety::memberships::Memberships;
 use std::alloc::{AllocError, Global};
 
-/// A leader id: a term, and a node if a term can have several leaders.
-pub type Term = (u64, u64);
+/// A term of the laws: the committed leader id of a leader.
+pub type Term = CommittedLeaderId;
 
-/// An entry: its leader, and a number for what it holds.
+/// An entry: its term, and a number for what it holds.
 pub type Entry = LawEntry<Term, u64>;
 
 /// An act of a server.
@@ -37,7 +38,7 @@ pub enum Said {
 pub struct View {
     /// Its id.
     pub server: u64,
-    /// The leader id of its vote.
+    /// The term of its vote.
     pub term: Term,
     /// The node that its vote is for.
     pub leader: u64,
@@ -82,12 +83,12 @@ impl Trace {
     pub fn new(alloc: Global, servers: u64) -> Result<Self, AllocError> {
         let mut recorded = Vec::new(alloc);
         for _ in 0..servers {
-            recorded.extend(Some(Recorded {
-                campaigned: (0, 0),
-                voted: ((0, 0), 0),
+            recorded.push(Recorded {
+                campaigned: Term::default(),
+                voted: (Term::default(), 0),
                 log: Vec::new(alloc),
                 applied: 0,
-            }))?;
+            })?;
         }
         Ok(Trace {
             acts: Vec::new(alloc),
@@ -100,8 +101,10 @@ impl Trace {
     /// Records what a membership's number means.
     pub fn name(&mut self, number: u64, configs: Vec<Vec<u64>>) -> Result<(), AllocError> {
         let is_known = self.memberships.iter().any(|known| known.0 == number);
-        self.memberships
-            .extend((!is_known).then_some((number, configs)))
+        if !is_known {
+            self.memberships.push((number, configs))?;
+        }
+        Ok(())
     }
 
     /// Records what a server has done in an event.
@@ -141,10 +144,9 @@ impl Trace {
         let alloc = *self.acts.allocator();
         let mut held = Vec::new(alloc);
         for (number, configs) in &self.memberships {
-            held.extend(Some((*number, copy_of(configs)?)))?;
+            held.push((*number, copy_of(configs)?))?;
         }
-        let mut initial = Vec::new(alloc);
-        initial.extend(Some((1..=3).collect(alloc)?))?;
+        let initial = vec![in alloc; (1..=3).collect(alloc)?]?;
         Ok(Memberships { initial, held })
     }
 }
@@ -162,21 +164,21 @@ impl Recorded {
             // A leader that leads on has written an entry since.
             let len = view.purged.saturating_add(view.entries.len());
             let len = len.min(self.log.len());
-            acts.extend(Some(LawEvent::Restarted { server, len }))?;
+            acts.push(LawEvent::Restarted { server, len })?;
         }
         if view.campaigns && self.campaigned != term {
             self.campaigned = term;
-            acts.extend(Some(LawEvent::Campaigned { server, term }))?;
+            acts.push(LawEvent::Campaigned { server, term })?;
         }
         if let Said::Voted(term, candidate) = said
             && self.voted != (term, candidate)
         {
             self.voted = (term, candidate);
-            acts.extend(Some(LawEvent::Granted {
+            acts.push(LawEvent::Granted {
                 server,
                 term,
                 candidate,
-            }))?;
+            })?;
         }
         Ok(())
     }
@@ -197,11 +199,11 @@ impl Recorded {
         let mut acknowledged = None;
         if view.leads && has_changed {
             for entry in new {
-                acts.extend(Some(LawEvent::Wrote {
+                acts.push(LawEvent::Wrote {
                     leader,
                     term,
                     entry: *entry,
-                }))?;
+                })?;
             }
             acknowledged = Some(log.len());
         }
@@ -210,21 +212,21 @@ impl Recorded {
         }
         if has_changed || acknowledged.is_some() {
             let entries = new.to_vec(*log.allocator())?;
-            acts.extend(Some(LawEvent::Appended {
+            acts.push(LawEvent::Appended {
                 server,
                 term,
                 leader,
                 keep,
                 entries,
-            }))?;
+            })?;
         }
         if let Some(len) = acknowledged {
-            acts.extend(Some(LawEvent::Acked {
+            acts.push(LawEvent::Acked {
                 server,
                 term,
                 leader,
                 len,
-            }))?;
+            })?;
         }
         self.log = log;
         Ok(())
@@ -248,19 +250,20 @@ impl Recorded {
         }
         self.applied = len;
         if view.leads {
-            acts.extend(Some(LawEvent::Committed {
+            acts.push(LawEvent::Committed {
                 leader,
                 term,
                 len,
                 counted_at: self.log.len(),
-            }))?;
+            })?;
         }
-        acts.extend(Some(LawEvent::Applied {
+        acts.push(LawEvent::Applied {
             server,
             term,
             leader,
             len,
-        }))
+        })?;
+        Ok(())
     }
 }
 
@@ -277,7 +280,7 @@ fn copy_of(configs: &Vec<Vec<u64>>) -> Result<Vec<Vec<u64>>, AllocError> {
     let alloc = *configs.allocator();
     let mut copy = Vec::new(alloc);
     for voters in configs {
-        copy.extend(Some(voters.to_vec(alloc)?))?;
+        copy.push(voters.to_vec(alloc)?)?;
     }
     Ok(copy)
 }

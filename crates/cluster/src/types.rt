@@ -1,15 +1,31 @@
-//! The types of the layer as the servers of the cluster have them: a node id is a number, a node
-//! has no address, and a command is a number. `L` is the leader id of a vote, and `C` the committed
-//! leader id of a log id.
+//! The types of the layer for the servers of the cluster. Node ids and commands are numbers, nodes
+//! have no addresses, and leader ids are those of standard Raft: a term has at most one leader.
+//!
+//! `LeaderId` and `CommittedLeaderId` choose the kind of leader ids, and nothing else depends on it.
+//! If they are `raft_base::LeaderId<u64>` and `raft_base::CommittedLeaderId<u64>`, the cluster runs
+//! over openraft's default leader ids, but `rt check` does not prove it.
 
-use crate::trace::Term;
-use raft_base::{CommittedLeaderId, EmptyNode, LeaderId, LeaderIdentity, LogIdOf, leader_id_std};
+use raft_base::{EmptyNode, LogIdOf, LogIdRangeOf, VoteIn};
 use raft_members::Membership;
-use raft_state::{EntryOf, EntryPayload, RaftStateIn};
-use std::fmt::Debug;
+use raft_state::{EntryOf, EntryPayload, RaftStateIn, SnapshotMetaOf};
+
+/// The leader id of a vote: the term, and the node that the vote is for.
+pub type LeaderId = raft_base::leader_id_std::LeaderId<u64>;
+
+/// The committed leader id of a log id: the term of the leader that wrote the entry.
+pub type CommittedLeaderId = raft_base::leader_id_std::CommittedLeaderId;
+
+/// A vote: a leader id, and whether a quorum has elected the leader.
+pub type Vote = VoteIn<LeaderId>;
+
+/// A log id: a committed leader id and an index.
+pub type LogId = LogIdOf<CommittedLeaderId>;
+
+/// A range of log ids.
+pub type LogIdRange = LogIdRangeOf<CommittedLeaderId>;
 
 /// A log entry.
-pub type Entry<C> = EntryOf<C, u64, EmptyNode, u64>;
+pub type Entry = EntryOf<CommittedLeaderId, u64, EmptyNode, u64>;
 
 /// What an entry holds.
 pub type Payload = EntryPayload<u64, EmptyNode, u64>;
@@ -17,43 +33,49 @@ pub type Payload = EntryPayload<u64, EmptyNode, u64>;
 /// Voters and learners.
 pub type Members = Membership<u64, EmptyNode>;
 
+/// A change of the voters or the learners.
+pub type ChangeMembers = raft_members::ChangeMembers<u64, EmptyNode>;
+
+/// What is known of a snapshot.
+pub type SnapshotMeta = SnapshotMetaOf<CommittedLeaderId, u64, EmptyNode>;
+
 /// The state of a server.
-pub type State<L, C> = RaftStateIn<u64, EmptyNode, u64, L, C>;
+pub type State = RaftStateIn<u64, EmptyNode, u64, LeaderId, CommittedLeaderId>;
 
 /// A candidate, with the votes for it.
-pub type Candidate<L, C> = raft_handlers::Candidate<u64, EmptyNode, L, C>;
+pub type Candidate = raft_handlers::Candidate<u64, EmptyNode, LeaderId, CommittedLeaderId>;
 
 /// A leader, with what it knows of its followers and of itself.
-pub type Leader<C> = raft_handlers::Leader<u64, EmptyNode, C>;
+pub type Leader = raft_handlers::Leader<u64, EmptyNode, CommittedLeaderId>;
+
+/// A candidate's request for a vote.
+pub type VoteRequest = raft_handlers::VoteRequest<LeaderId, CommittedLeaderId>;
+
+/// A voter's response to a candidate.
+pub type VoteResponse = raft_handlers::VoteResponse<LeaderId>;
 
 /// A leader's request to append entries.
-pub type AppendEntries<L, C> = raft_handlers::AppendEntries<L, C, u64, EmptyNode, u64>;
+pub type AppendEntries = raft_handlers::AppendEntries<
+    LeaderId,
+    CommittedLeaderId,
+    u64,
+    EmptyNode,
+    u64,
+>;
 
 /// A leader's request to install its snapshot.
-pub type InstallSnapshot<L, C> = raft_handlers::InstallSnapshot<L, C, u64, EmptyNode>;
+pub type InstallSnapshot = raft_handlers::InstallSnapshot<
+    LeaderId,
+    CommittedLeaderId,
+    u64,
+    EmptyNode,
+>;
 
-/// The leader ids of a cluster.
-pub trait LeaderIds: LeaderIdentity<Id = u64, Committed: Debug> + Drop {
-    /// A committed leader id, as the laws of safety have it.
-    fn law_term(committed: &Self::Committed) -> Term;
-}
+/// A follower's response to a leader.
+pub type Response = raft_handlers::Response<LeaderId, CommittedLeaderId>;
 
-/// Openraft's leader ids: a term may have several leaders.
-impl LeaderIds for LeaderId<u64> {
-    fn law_term(committed: &CommittedLeaderId<u64>) -> Term {
-        (committed.term, committed.node_id)
-    }
-}
-
-/// The leader ids of standard Raft: a term has one leader at most.
-impl LeaderIds for leader_id_std::LeaderId<u64> {
-    fn law_term(committed: &leader_id_std::CommittedLeaderId) -> Term {
-        (committed.term, 0)
-    }
-}
-
-/// The index after a log id, or 0 after none.
-pub fn end<C: Copy>(last: Option<LogIdOf<C>>) -> u64 {
+/// Returns the index after a log id, or 0 after none.
+pub fn end(last: Option<LogId>) -> u64 {
     match last {
         Some(log_id) => log_id.index.saturating_add(1),
         None => 0,

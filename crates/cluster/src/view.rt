@@ -2,15 +2,15 @@
 
 use crate::message::Content;
 use crate::server::{Role, Server};
-use crate::trace::{Entry, Said, Term, Trace, View};
-use crate::types::{LeaderIds, Members, Payload, end};
+use crate::trace::{Entry, Said, Trace, View};
+use crate::types::{Members, Payload, end};
 use raft_handlers::Outcome;
 use std::alloc::AllocError;
 
 /// The number of the first membership: no command has a number that is as great.
 const FIRST_MEMBERSHIP: u64 = 1_000_000_000_000;
 
-impl<L: LeaderIds> Server<L, L::Committed> {
+impl Server {
     /// Records what the server has said and done.
     pub fn record(&self, said: Said, trace: &mut Trace) -> Result<(), AllocError> {
         let (number, configs) = self.named_members()?;
@@ -23,17 +23,17 @@ impl<L: LeaderIds> Server<L, L::Committed> {
         let mut entries = Vec::new(*self.disk.allocator());
         for entry in &self.disk {
             if entry.log_id.index > 0 {
-                entries.extend(Some(Entry {
-                    term: L::law_term(&entry.log_id.leader_id),
+                entries.push(Entry {
+                    term: entry.log_id.leader_id,
                     content: number_of(&entry.payload),
-                }))?;
+                })?;
             }
         }
         let vote = self.vote();
         Ok(View {
             server: self.id,
-            term: L::law_term(&L::to_committed(&vote.leader_id)),
-            leader: L::voted_for(&vote.leader_id).unwrap_or(0),
+            term: vote.leader_id.to_committed(),
+            leader: vote.leader_id.voted_for().unwrap_or(0),
             campaigns: !matches!(self.role, Role::Follower),
             leads: matches!(self.role, Role::Leader(_)),
             purged: self.state.purged_next.saturating_sub(1) as usize,
@@ -49,19 +49,19 @@ impl<L: LeaderIds> Server<L, L::Committed> {
         let mut configs = Vec::new(alloc);
         for config in members.get_joint_config() {
             let voters: Vec<u64> = config.iter().copied().collect(alloc)?;
-            configs.extend(Some(voters))?;
+            configs.push(voters)?;
         }
         Ok((number_of_members(members), configs))
     }
 }
 
 /// Returns what an answer says that the state of the server does not show.
-pub fn said_by<L: LeaderIds>(answer: &Option<Content<L, L::Committed>>) -> Said {
+pub fn said_by(answer: &Option<Content>) -> Said {
     match answer {
         Some(Content::Vote(response)) if response.granted => {
             let leader_id = response.vote.leader_id;
-            let term = L::law_term(&L::to_committed(&leader_id));
-            Said::Voted(term, L::voted_for(&leader_id).unwrap_or(0))
+            let candidate = leader_id.voted_for().unwrap_or(0);
+            Said::Voted(leader_id.to_committed(), candidate)
         }
         Some(Content::Respond(response)) => match response.outcome {
             Outcome::Matches(Some(upto)) => Said::Matches(upto.index as usize),
