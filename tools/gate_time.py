@@ -1,15 +1,16 @@
 #!/usr/bin/env python3
 """Runs the gate and prints what each of its phases took.
 
-    tools/gate_time.py [COMMAND ..]
+    tools/gate_time.py [--write] COMMAND ..
 
-The command is `rt ci` if none is given. Its output passes through, and its status is this
-program's. A phase is the proof of a crate, the proof of its tests, or the trying of its mutants.
-The wall time of a phase goes from its first process to its last. Its processor time is the sum of
-all its processes, read from /proc until each has ended.
+The output of the command passes through, and its status is this program's. A phase is the proof of
+a crate, the proof of its tests, or the trying of its mutants. The wall time of a phase goes from its
+first process to its last. Its processor time is the sum of all its processes, read from /proc until
+each has ended. With `--write` a run that passes writes its times, beside the budget of each crate,
+into docs/GATE.md.
 """
 import os
-import re
+import resource
 import subprocess
 import sys
 import threading
@@ -17,6 +18,21 @@ import time
 
 PERIOD = 0.25
 TICK = os.sysconf("SC_CLK_TCK")
+PAGE = "docs/GATE.md"
+BEGIN, END = "<!-- tools/gate_time.py writes from here -->", "<!-- to here -->"
+# What proof, tests and mutants of a crate may take together, in seconds of processor time.
+BUDGETS = {
+    "raft_base": 0,
+    "raft_members": 0,
+    "raft_progress": 0,
+    "raft_state": 0,
+    "raft_handlers": 0,
+    "raft_safety": 0,
+    "raft_script": 0,
+    "cluster": 0,
+    "raft_testing": 0,
+    "first_example": 0,
+}
 
 
 def processes():
@@ -88,14 +104,60 @@ class Times:
         for phase in sorted(self.first, key=self.first.get):
             from_, wall = self.first[phase] - self.began, self.last[phase] - self.first[phase]
             rows.append(f"{' '.join(phase):28} {from_:6.0f} {wall:6.0f} {self.of(phase):10.0f}")
-        whole = sum(self.of(phase) for phase in self.first)
+        whole = time_of_children()
+        rest = whole - sum(self.of(phase) for phase in self.first)
+        rows.append(f"{'everything else':28} {'':6} {'':6} {rest:10.0f}")
         rows.append(f"{'all':28} {0:6.0f} {time.time() - self.began:6.0f} {whole:10.0f}")
         return "\n".join(rows)
+
+    def by_crate(self):
+        """The phases by crate, as lines for the page. The tests of a library are in a crate beside it."""
+        lines = ["| crate | proof | its tests | its mutants | together | budget |", "|---|---|---|---|---|---|"]
+        counted = 0
+        for crate, budget in BUDGETS.items():
+            beside = f"{crate}_tests"
+            parts = [
+                [(crate, "proof")],
+                [(crate, "tests"), (beside, "proof"), (beside, "tests")],
+                [(crate, "edits"), (beside, "edits")],
+            ]
+            spent = [sum(self.of(phase) for phase in phases) for phases in parts]
+            counted += sum(spent)
+            cells = [f"{it:.0f}" if it else "" for it in spent]
+            lines.append(f"| `{crate}` | {' | '.join(cells)} | {sum(spent):.0f} | {budget} |")
+        lines.append(f"| everything else | | | | {time_of_children() - counted:.0f} | |")
+        return lines
+
+
+def time_of_children():
+    """The processor time of all processes that this one has started, once they have ended."""
+    used = resource.getrusage(resource.RUSAGE_CHILDREN)
+    return used.ru_utime + used.ru_stime
+
+
+def write_page(times):
+    """Writes the times of a run into the page."""
+    with open(PAGE, encoding="utf-8") as file:
+        text = file.read()
+    before, _, rest = text.partition(BEGIN)
+    _, _, after = rest.partition(END)
+    minutes, wall = time_of_children() / 60, (time.time() - times.began) / 60
+    said = [
+        f"A whole run on {time.strftime('%-d %B %Y')} took {minutes:.0f} minutes of processor time, and",
+        f"{wall:.0f} minutes on {len(os.sched_getaffinity(0))} cores. The table has seconds of processor time.",
+    ]
+    with open(PAGE, "w", encoding="utf-8") as file:
+        file.write("\n".join([before + BEGIN, *said, "", *times.by_crate(), END + after]))
 
 
 def main(command):
     """Runs the command, looks at its processes as they run, and prints the table behind its output."""
-    gate = subprocess.Popen(command or ["rt", "ci"])
+    is_written = command[:1] == ["--write"]
+    if is_written:
+        command = command[1:]
+    if not command:
+        sys.exit(__doc__)
+    gate = subprocess.Popen(command)
     times = Times(gate.pid)
     ended = threading.Event()
 
@@ -111,6 +173,8 @@ def main(command):
         ended.set()
         watching.join()
     print(times.table(), file=sys.stderr)
+    if is_written and status == 0:
+        write_page(times)
     return status
 
 
