@@ -2,14 +2,16 @@
 """Runs the gate and prints what each of its phases took.
 
     tools/gate_time.py [--write] COMMAND ..
+    tools/gate_time.py --from LOG
 
 The output of the command passes through, and its status is this program's. A phase is the proof of
 a crate, the proof of its tests, or the trying of its mutants. The wall time of a phase goes from its
 first process to its last. Its processor time is the sum of all its processes, read from /proc until
 each has ended. With `--write` a run that passes writes its times, beside the budget of each crate,
-into docs/GATE.md.
+into docs/GATE.md. With `--from` the page gets the times that a run has printed into a log.
 """
 import os
+import re
 import resource
 import subprocess
 import sys
@@ -22,16 +24,16 @@ PAGE = "docs/GATE.md"
 BEGIN, END = "<!-- tools/gate_time.py writes from here -->", "<!-- to here -->"
 # What proof, tests and mutants of a crate may take together, in seconds of processor time.
 BUDGETS = {
-    "raft_base": 0,
-    "raft_members": 0,
-    "raft_progress": 0,
-    "raft_state": 0,
-    "raft_handlers": 0,
-    "raft_safety": 0,
-    "raft_script": 0,
-    "cluster": 0,
-    "raft_testing": 0,
-    "first_example": 0,
+    "raft_base": 290,
+    "raft_members": 1520,
+    "raft_progress": 2300,
+    "raft_state": 2220,
+    "raft_handlers": 1220,
+    "raft_safety": 260,
+    "raft_script": 380,
+    "cluster": 460,
+    "raft_testing": 110,
+    "first_example": 40,
 }
 
 
@@ -110,24 +112,6 @@ class Times:
         rows.append(f"{'all':28} {0:6.0f} {time.time() - self.began:6.0f} {whole:10.0f}")
         return "\n".join(rows)
 
-    def by_crate(self):
-        """The phases by crate, as lines for the page. The tests of a library are in a crate beside it."""
-        lines = ["| crate | proof | its tests | its mutants | together | budget |", "|---|---|---|---|---|---|"]
-        counted = 0
-        for crate, budget in BUDGETS.items():
-            beside = f"{crate}_tests"
-            parts = [
-                [(crate, "proof")],
-                [(crate, "tests"), (beside, "proof"), (beside, "tests")],
-                [(crate, "edits"), (beside, "edits")],
-            ]
-            spent = [sum(self.of(phase) for phase in phases) for phases in parts]
-            counted += sum(spent)
-            cells = [f"{it:.0f}" if it else "" for it in spent]
-            lines.append(f"| `{crate}` | {' | '.join(cells)} | {sum(spent):.0f} | {budget} |")
-        lines.append(f"| everything else | | | | {time_of_children() - counted:.0f} | |")
-        return lines
-
 
 def time_of_children():
     """The processor time of all processes that this one has started, once they have ended."""
@@ -135,23 +119,47 @@ def time_of_children():
     return used.ru_utime + used.ru_stime
 
 
-def write_page(times):
-    """Writes the times of a run into the page."""
+def by_crate(spent, whole):
+    """The phases by crate, as lines for the page. The tests of a library are in a crate beside it."""
+    lines = ["| crate | proof | its tests | its mutants | together | budget |", "|---|---|---|---|---|---|"]
+    counted = 0
+    for crate, budget in BUDGETS.items():
+        beside = f"{crate}_tests"
+        parts = [
+            [(crate, "proof")],
+            [(crate, "tests"), (beside, "proof"), (beside, "tests")],
+            [(crate, "edits"), (beside, "edits")],
+        ]
+        times = [sum(spent.get(phase, 0) for phase in phases) for phases in parts]
+        counted += sum(times)
+        cells = [str(it) if it else "" for it in times]
+        lines.append(f"| `{crate}` | {' | '.join(cells)} | {sum(times)} | {budget} |")
+    lines.append(f"| everything else | | | | {whole - counted} | |")
+    return lines
+
+
+def write_page(table):
+    """Writes the times of a run into the page, from the table that the run has printed."""
+    rows = re.findall(r"^\W*(\w+) (proof|tests|edits) +\d+ +\d+ +(\d+)$", table, re.M)
+    spent = {(crate, kind): int(seconds) for crate, kind, seconds in rows}
+    wall, whole = map(int, re.search(r"^\W*all +0 +(\d+) +(\d+)$", table, re.M).groups())
     with open(PAGE, encoding="utf-8") as file:
         text = file.read()
     before, _, rest = text.partition(BEGIN)
     _, _, after = rest.partition(END)
-    minutes, wall = time_of_children() / 60, (time.time() - times.began) / 60
     said = [
-        f"A whole run on {time.strftime('%-d %B %Y')} took {minutes:.0f} minutes of processor time, and",
-        f"{wall:.0f} minutes on {len(os.sched_getaffinity(0))} cores. The table has seconds of processor time.",
+        f"A whole run on {time.strftime('%-d %B %Y')} took {whole / 60:.0f} minutes of processor time, and",
+        f"{wall / 60:.0f} minutes on {len(os.sched_getaffinity(0))} cores. The table has seconds of processor time.",
     ]
     with open(PAGE, "w", encoding="utf-8") as file:
-        file.write("\n".join([before + BEGIN, *said, "", *times.by_crate(), END + after]))
+        file.write("\n".join([before + BEGIN, *said, "", *by_crate(spent, whole), END + after]))
 
 
 def main(command):
     """Runs the command, looks at its processes as they run, and prints the table behind its output."""
+    if command[:1] == ["--from"] and len(command) == 2:
+        with open(command[1], encoding="utf-8", errors="replace") as file:
+            return write_page(file.read())
     is_written = command[:1] == ["--write"]
     if is_written:
         command = command[1:]
@@ -174,7 +182,7 @@ def main(command):
         watching.join()
     print(times.table(), file=sys.stderr)
     if is_written and status == 0:
-        write_page(times)
+        write_page(times.table())
     return status
 
 
