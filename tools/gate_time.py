@@ -8,7 +8,8 @@ The output of the command passes through, and its status is this program's. A ph
 a crate, the proof of its tests, or the trying of its mutants. The wall time of a phase goes from its
 first process to its last. Its processor time is the sum of all its processes, read from /proc until
 each has ended. With `--write` a run that passes writes its times, beside the budget of each crate,
-into docs/GATE.md. With `--from` the page gets the times that a run has printed into a log.
+into docs/GATE.md. With `--from` the page gets the times that a run has printed into a log, and says so
+if that run did not pass.
 """
 import os
 import re
@@ -138,8 +139,14 @@ def by_crate(spent, whole):
     return lines
 
 
+def how_it_ended(status):
+    """The line behind the table: whether the run passed, when, and on how many cores."""
+    ended = "passed" if status == 0 else "failed"
+    return f"{ended} on {time.strftime('%-d %B %Y')} with {len(os.sched_getaffinity(0))} cores"
+
+
 def write_page(table):
-    """Writes the times of a run into the page, from the table that the run has printed."""
+    """Writes the times of a run into the page, from the table and the line that the run has printed."""
     rows = re.findall(r"^\W*(\w+) (proof|tests|edits) +\d+ +\d+ +(\d+)$", table, re.M)
     spent = {(crate, kind): int(seconds) for crate, kind, seconds in rows}
     wall, whole = map(int, re.search(r"^\W*all +0 +(\d+) +(\d+)$", table, re.M).groups())
@@ -147,9 +154,14 @@ def write_page(table):
         text = file.read()
     before, _, rest = text.partition(BEGIN)
     _, _, after = rest.partition(END)
+    passed = re.search(r"^\W*passed on (.*) with (\d+) cores$", table, re.M)
+    run, cores = (f"A whole run on {passed[1]}", f"on {passed[2]} cores.") if passed else (
+        "A run that did not pass", "of wall time. What it did not reach is not counted."
+    )
     said = [
-        f"A whole run on {time.strftime('%-d %B %Y')} took {whole / 60:.0f} minutes of processor time, and",
-        f"{wall / 60:.0f} minutes on {len(os.sched_getaffinity(0))} cores. The table has seconds of processor time.",
+        f"{run} took {whole / 60:.0f} minutes of processor time, and",
+        f"{wall / 60:.0f} minutes {cores}",
+        "The table has seconds of processor time.",
     ]
     with open(PAGE, "w", encoding="utf-8") as file:
         file.write("\n".join([before + BEGIN, *said, "", *by_crate(spent, whole), END + after]))
@@ -180,9 +192,10 @@ def main(command):
     finally:
         ended.set()
         watching.join()
-    print(times.table(), file=sys.stderr)
+    printed = f"{times.table()}\n{how_it_ended(status)}"
+    print(printed, file=sys.stderr)
     if is_written and status == 0:
-        write_page(times.table())
+        write_page(printed)
     return status
 
 
