@@ -1,9 +1,10 @@
 #!/usr/bin/env python3
 """Writes the pages of docs/reference from the sources, and compares all documents with the sources.
 
-    tools/docs.py              writes the pages, and then checks
-    tools/docs.py --check      only checks
-    tools/docs.py --examples   lists the examples of the tests, each with its test
+    tools/docs.py               writes the pages, and then checks
+    tools/docs.py --check       only checks
+    tools/docs.py --self-test   plants faults into copies of the documents, and checks that each is found
+    tools/docs.py --examples    lists the examples of the tests, each with its test
 
 The check refuses
 - a page of docs/reference that is not what the sources give, or that no library has;
@@ -15,13 +16,18 @@ The check refuses
   other in a circle;
 - a name in the tables of that page without a file, and a definition's file that neither a table nor
   a name says;
-- counts of the definitions of the main theorem that are not those of its page.
+- counts of the definitions of the main theorem that are not those of its page;
+- a number that COUNTED counts in the sources, if a document has another one;
+- rows that a document shows of a program's output, and what it says that a program prints, if the
+  file `stdout` of the program does not have them;
+- a quotation that no doc comment of the sources has.
 
 Sources are laid out by `rt fmt`: an item begins at the indentation of the items beside it, and ends
 at a line of that indentation, or with a semicolon.
 """
 import collections
 import dataclasses
+import functools
 import itertools
 import pathlib
 import re
@@ -658,10 +664,10 @@ def reached(arrows, start):
     return found
 
 
-def pictures():
-    """Yields the pictures: the line of each, its boxes with their crates and modules, and its arrows."""
+def pictures(text):
+    """Yields the pictures of the map: the line of each, its boxes with their crates and modules, and its arrows."""
     crate, picture = None, None
-    for number, line in enumerate(MAP.read_text().splitlines(), 1):
+    for number, line in enumerate(text.splitlines(), 1):
         if heading := re.match(r"## (?:Inside `(\w+)`)?", line):
             crate = heading[1]
         elif line == "```mermaid":
@@ -678,15 +684,15 @@ def pictures():
             picture[1][box[1]] = (crate, box[2].split(", "))
 
 
-def picture_faults(modules):
-    """Yields circles of imports, and what is wrong in the pictures.
+def picture_faults(modules, text):
+    """Yields circles of imports, and what is wrong in the pictures of the map.
 
     A box begins with the names of modules. It means these modules and all below them. An arrow points
     from a box to one that is built on it.
     """
     imports = imports_among(modules)
     yield from (f"{'::'.join(place)} imports what imports it" for place in sorted(modules) if place in reached(imports, place))
-    for number, boxes, arrows in pictures():
+    for number, boxes, arrows in pictures(text):
         named, at = {}, {}
         for box, (crate, names) in boxes.items():
             for name in names:
@@ -703,10 +709,10 @@ def picture_faults(modules):
         yield from (f"line {number}: {box} reaches itself" for box in boxes if box in reached(arrows, box))
 
 
-def table_cells():
-    """Yields the cells of the tables of files, each with its crate and the folder of its column."""
+def table_cells(text):
+    """Yields the cells of the map's tables of files, each with its crate and the folder of its column."""
     crate, folders = None, []
-    for line in MAP.read_text().splitlines():
+    for line in text.splitlines():
         if heading := re.match(r"### `(\w+)`", line):
             crate, folders = heading[1], []
         elif line.startswith("#"):
@@ -724,13 +730,13 @@ def plain(name):
     return name.replace("_", "").lower()
 
 
-def table_faults():
-    """Yields the names in the tables without a file, and the definitions that are not found by a name.
+def table_faults(text):
+    """Yields the names in the map's tables without a file, and the definitions that are not found by a name.
 
     A file of definitions is found by a table, or because it or its folder has the name of a module.
     """
     named = collections.defaultdict(set)
-    for crate, folder, cell in table_cells():
+    for crate, folder, cell in table_cells(text):
         above = CRATES / crate / folder
         for name in re.findall(r"`([^`]*)`", cell):
             if name.endswith("/"):
@@ -825,16 +831,24 @@ def scripts_of(text):
         yield [line for line, _ in rows], [reply for _, reply in rows if reply]
 
 
+@functools.cache
+def files_of_crates():
+    """Returns the files of the crates, by their paths."""
+    return {path: File(path) for path in sorted(CRATES.glob("*/src/**/*.rt"))}
+
+
+RUST = re.compile(r"^```rust\n(.*?)^```", re.M | re.S)
+
+
 def program_faults(documents):
     """Yields the programs and scripts of documents that no file has, and names that a program lacks."""
-    files = [File(path) for path in sorted(CRATES.glob("*/src/**/*.rt"))]
     scripts = [
         [name.read_text().splitlines() for name in (path, path.with_name(path.name.replace("stdin", "stdout")))]
         for path in CRATES.glob("*/*stdin*")
     ]
     for path, text in documents.items():
-        for place, block in enumerate(re.findall(r"^```rust\n(.*?)^```", text, re.M | re.S), 1):
-            having = [file for file in files if file.has(block)]
+        for place, block in enumerate(RUST.findall(text), 1):
+            having = [file for file in files_of_crates().values() if file.has(block)]
             if not having:
                 yield f"{path.relative_to(ROOT)}: no file has the program {place}"
             elif path.name == "CALLING.md":
@@ -877,15 +891,204 @@ def list_examples():
         print(f"{crate} {number}: {place} {test}: {text}")
 
 
+# ---- What documents count, show and quote.
+
+
+def guides_of(documents):
+    """Returns the documents without the pages of the reference and the notes."""
+    return {path: text for path, text in documents.items() if path.parent not in (PAGES, ROOT / "docs" / "notes")}
+
+
+WORDS_FOR_NUMBERS = (
+    "one two three four five six seven eight nine ten eleven twelve thirteen fourteen fifteen sixteen seventeen"
+    " eighteen nineteen twenty"
+).split()
+NUMBER = rf"\b(\d[\d,]*|(?i:{'|'.join(WORDS_FOR_NUMBERS)}))\b"
+
+
+def number_of(text):
+    """Returns the number that a text has, in figures or as a word."""
+    word = text.lower()
+    return WORDS_FOR_NUMBERS.index(word) + 1 if word in WORDS_FOR_NUMBERS else int(re.sub("[,_]", "", text))
+
+
+def number_in(path, pattern):
+    """Returns the number that the group of a pattern has in a file."""
+    return number_of(re.search(pattern, (ROOT / path).read_text(), re.M)[1])
+
+
+def lines_in(path, pattern, within=r".*"):
+    """Returns how many lines of a file, or of the part of it that a pattern finds, match a pattern."""
+    part = re.search(within, (ROOT / path).read_text(), re.M | re.S)[0]
+    return len(re.findall(pattern, part, re.M))
+
+
+def mutants_in(folder):
+    """Returns how many mutants the folders of a name have, without those that change nothing."""
+    return len([path for path in CRATES.glob(f"*/{folder}/*.edit") if path.stem != "control"])
+
+
+def recorded_calls():
+    """Returns how many calls of the original are recorded: the rows in files `compared.rt`.
+
+    A row may go on in the next line.
+    """
+    texts = [path.read_text() for path in CRATES.glob("*_tests/src/**/compared.rt")]
+    tables = [table for text in texts for table in re.findall(r'&str = "\n(.*?)^";', text, re.M | re.S)]
+    return sum(table.replace("\\\n", "").count("\n") for table in tables)
+
+
+# What documents say, with N for a number in figures or as a word, and how the number is counted.
+COUNTED = [
+    ("refuses N mutants", lambda: mutants_in("must-fail")),
+    ("the N faults that were named", lambda: mutants_in("must-fail")),
+    ("N further mutants", lambda: mutants_in("mutants")),
+    ("N recorded calls", recorded_calls),
+    ("N planted faults|N faults to plant", lambda: number_in("crates/cluster/src/fault.rt", r"; (\d+)\] = \[$")),
+    (
+        "N kinds of membership change|`ChangeMembers` has N kinds",
+        lambda: lines_in("crates/raft_members/src/change_members.rt", r"^    [A-Z]\w+\(", r"^pub enum ChangeMembers.*?^}"),
+    ),
+    (
+        "must meet N laws of its leader type|with its N laws|the N laws of a kind",
+        lambda: lines_in("crates/raft_base/src/kind.rt", r"^    ghost \w+: ", r"    ghost partial: .*?^}"),
+    ),
+    ("N simulated clusters over standard", lambda: number_in("tools/programs.sh", r"healthy seeds=(\d+) events=1500")),
+    ("N over openraft's", lambda: number_in("tools/programs.sh", r"chart=0 seeds=(\d+)")),
+    ("N clusters with each planted fault", lambda: number_in("tools/programs.sh", r"failing seeds=(\d+)")),
+    ("runs N servers", lambda: number_in("crates/cluster/src/server.rt", r"SERVERS: u64 = (\d+)")),
+    ("records the first N events", lambda: number_in("crates/cluster/src/cluster.rt", r"RECORDED: u64 = ([\d_]+)")),
+    (
+        "(?:checks|checked|record) every N events",
+        lambda: number_in("crates/cluster/src/cluster.rt", r"CHECKED_EVERY: u64 = ([\d_]+)"),
+    ),
+    ("rows of seed N", lambda: number_in("crates/cluster/args", r"seed=(\d+)")),
+    ("`first_example`, of N lines", lambda: lines_in("crates/first_example/src/main.rt", r"\n")),
+]
+
+
+def numbers_in(documents):
+    """Yields the numbers that documents have of what is counted: the document, where, the words, and what is due."""
+    for words, count in COUNTED:
+        pattern = re.compile(re.sub(r"\bN\b", lambda _: NUMBER, words).replace(" ", r"\s+"))
+        for path, text in documents.items():
+            for found in pattern.finditer(text):
+                group = next(group for group, number in enumerate(found.groups(), 1) if number)
+                yield path, found.span(group), words, count()
+
+
+def number_faults(documents):
+    """Yields the numbers of documents that are not what is counted, and what is counted for no document."""
+    used = set()
+    for path, (begin, end), words, due in numbers_in(documents):
+        used.add(words)
+        said = documents[path][begin:end]
+        if number_of(said) != due:
+            yield f"{path.relative_to(ROOT)}: `{words}` is {due}, and not {said}"
+    for words, _ in COUNTED:
+        if words not in used:
+            yield f"tools/docs.py: COUNTED has `{words}`, and no document says that"
+
+
+# The programs whose output README shows. Each has a file `stdout`, which the gate compares with a run.
+SHOWN_IN_README = {"first_example", "cluster"}
+TEXT = re.compile(r"^```text\n(.*?)^```", re.M | re.S)
+
+
+@functools.cache
+def outputs():
+    """Returns what programs print, by their crates: the lines without spaces at their ends."""
+    texts = {path.parent.name: path.read_text() for path in sorted(CRATES.glob("*/stdout"))}
+    return {crate: [line.rstrip() for line in text.splitlines()] for crate, text in texts.items()}
+
+
+def has_in_order(lines, shown):
+    """Whether some lines are in other lines, in their order."""
+    rest = iter(lines)
+    return all(line in rest for line in shown)
+
+
+def shown_outputs(documents):
+    """Yields the outputs that documents show: the document, where, the crate, and whether it prints that.
+
+    These are blocks that have a line of an output, and what a document says, after a program, that it prints.
+    """
+    mains = {path.parts[-3]: file for path, file in files_of_crates().items() if path.name == "main.rt"}
+    for path, text in documents.items():
+        for block in TEXT.finditer(text):
+            shown = [line.rstrip() for line in block[1].splitlines()]
+            crates = [crate for crate, lines in outputs().items() if set(filter(None, shown)) & set(lines)]
+            showing = [crate for crate in crates if has_in_order(outputs()[crate], shown)]
+            yield from ((path, block.span(1), crate, bool(showing)) for crate in (showing or crates)[:1])
+        for block in RUST.finditer(text):
+            said = re.compile(r"prints `([^`\n]*)`").search(text, block.end())
+            for crate in outputs().keys() & mains.keys():
+                if said and mains[crate].has(block[1]):
+                    yield path, said.span(1), crate, said[1] in outputs()[crate]
+
+
+def output_faults(documents):
+    """Yields what documents show of outputs that is not in them, and programs whose output README does not show."""
+    seen = set()
+    for path, (begin, end), crate, is_right in shown_outputs(documents):
+        seen |= {crate} if path == ROOT / "README.md" else set()
+        if not is_right:
+            line = documents[path].count("\n", 0, begin) + 1
+            yield f"{path.relative_to(ROOT)}:{line}: not what crates/{crate}/stdout has"
+    yield from (f"README.md: shows nothing of crates/{crate}/stdout" for crate in sorted(SHOWN_IN_README - seen))
+
+
+def words_alone(text):
+    """Returns the words of a text, without the marks of emphasis and code."""
+    return " ".join(re.sub("[*`]", "", text).split())
+
+
+@functools.cache
+def doc_comments():
+    """Returns the words of the doc comments of the libraries."""
+    runs = [re.findall(r"(?:^ *///.*\n)+", path.read_text(), re.M) for path in files_of_crates()]
+    return [words_alone(run.replace("///", "")) for run in itertools.chain(*runs)]
+
+
+def quotations(documents):
+    """Yields the quotations of guides: the document, where, and the words."""
+    for path, text in guides_of(documents).items():
+        for block in re.finditer(r"^(?:> .*\n)+", text, re.M):
+            yield path, block.span(), words_alone(re.sub(r"^> ", "", block[0], flags=re.M))
+
+
+def quotation_faults(documents):
+    """Yields the quotations that no doc comment has, and README if it has none."""
+    quoting = set()
+    for path, (begin, _), words in quotations(documents):
+        quoting.add(path)
+        if not any(words in comment for comment in doc_comments()):
+            line = documents[path].count("\n", 0, begin) + 1
+            yield f"{path.relative_to(ROOT)}:{line}: no doc comment has this quotation"
+    if ROOT / "README.md" not in quoting:
+        yield "README.md: does not quote what is proved"
+
+
 # ---- All documents.
+
+
+def without_code(text):
+    """Returns a text with spaces in place of its blocks of code."""
+    return re.sub(r"^```.*?^```", lambda block: " " * len(block[0]), text, flags=re.M | re.S)
+
+
+@functools.cache
+def links_and_anchors(text):
+    """Returns the links of a document, and the anchors of its headings."""
+    plain = without_code(text)
+    return re.findall(r"\]\(([^)\s]+)\)", plain), {anchor(head) for head in re.findall(r"^#+(.*)", plain, re.M)}
 
 
 def link_faults(documents):
     """Yields the links between documents that lead nowhere."""
-    plain = {path: re.sub(r"^```.*?^```", "", text, flags=re.M | re.S) for path, text in documents.items()}
-    anchors = {path: {anchor(head) for head in re.findall(r"^#+(.*)", text, re.M)} for path, text in plain.items()}
-    for path, text in plain.items():
-        for link in re.findall(r"\]\(([^)\s]+)\)", text):
+    anchors = {path: links_and_anchors(text)[1] for path, text in documents.items()}
+    for path, text in documents.items():
+        for link in links_and_anchors(text)[0]:
             file, _, place = link.partition("#")
             target = (path.parent / file).resolve() if file else path
             if "://" not in link and (not target.exists() or place and place not in anchors.get(target, {place})):
@@ -900,9 +1103,79 @@ def count_faults(documents, counts):
                 yield f"{path.relative_to(ROOT)}: not the counts of the theorem's page: {' '.join(claimed[0].split())}"
 
 
+def page_faults(documents, pages):
+    """Yields the pages that are not what the sources give, and those that no library has."""
+    for path, text in pages.items():
+        if documents.get(path) != text:
+            yield f"{path.relative_to(ROOT)}: not what the sources give; run tools/docs.py"
+    for path in documents:
+        if path.parent == PAGES and path not in pages:
+            yield f"{path.relative_to(ROOT)}: no library has this page"
+
+
+def map_faults(documents, modules):
+    """Yields what is wrong in the pictures and the tables of the map."""
+    for fault in [*picture_faults(modules, documents[MAP]), *table_faults(documents[MAP])]:
+        yield f"{MAP.relative_to(ROOT)}: {fault}"
+
+
+def checks(modules, pages, counts):
+    """Returns the checks of documents by their names, each as a function of the documents."""
+    return {
+        "pages": lambda documents: page_faults(documents, pages),
+        "links": link_faults,
+        "counts": lambda documents: count_faults(documents, counts),
+        "programs": lambda documents: program_faults(guides_of(documents)),
+        "numbers": number_faults,
+        "outputs": output_faults,
+        "quotations": quotation_faults,
+        "map": lambda documents: map_faults(documents, modules),
+    }
+
+
+LINK = re.compile(r"\]\([\w./]+\.md()(?:#[\w-]+())?\)")
+SCRIPT_ROW = re.compile(r"^\| line \| reply \| why \|\n\|[-|]+\n\|[^|]*()\|", re.M)
+
+
+def planted(documents):
+    """Yields faults to plant: the check that has to find it, the document, where, and the text to put there."""
+    for path, (begin, end), _, _ in numbers_in(documents):
+        yield "numbers", path, (begin, end), str(number_of(documents[path][begin:end]) + 1)
+    for path, (begin, end), _, _ in shown_outputs(documents):
+        yield "outputs", path, (begin, begin + 1), "x"
+        yield "outputs", path, (end - 1, end), "x" + documents[path][end - 1]
+    for path, (_, end), _ in quotations(documents):
+        yield "quotations", path, (end, end), "> again\n"
+    for path, text in documents.items():
+        if link := LINK.search(without_code(text)):
+            yield from (("links", path, link.span(group), "x") for group in (1, 2) if link[group] is not None)
+        if path.parent == PAGES:
+            yield "pages", path, (len(text), len(text)), "more\n"
+    for path, text in guides_of(documents).items():
+        yield from (("programs", path, (block.end(1), block.end(1)), "fn more() {}\n") for block in RUST.finditer(text))
+        yield from (("programs", path, row.span(1), "more ") for row in SCRIPT_ROW.finditer(text))
+    theorem = PAGES / "theorem.md"
+    yield "counts", theorem, re.search(r"\d+()(?= definitions)", documents[theorem]).span(1), "0"
+    for pattern in (r"^ *node -- .*()", r"^\|[^|]*\| `\w+()[`/]"):
+        yield "map", MAP, re.search(pattern, documents[MAP], re.M).span(1), "x"
+
+
+def missed_faults(documents, tests):
+    """Plants faults into copies of single documents, and yields those that are not found."""
+    count = collections.Counter()
+    for name, path, (begin, end), new in planted(documents):
+        text, check = documents[path], tests[name]
+        count[name] += 1
+        others = documents if name == "links" else {}
+        if not set(check(others | {path: text[:begin] + new + text[end:]})) - set(check(others | {path: text})):
+            yield f"{path.relative_to(ROOT)}:{text.count(chr(10), 0, begin) + 1}: a planted fault of {name} is not found"
+    yield from (f"no fault of {name} was planted" for name in tests if not count[name])
+    print(f"docs: {sum(count.values())} planted faults: {', '.join(f'{number} of {name}' for name, number in count.items())}")
+
+
 def main():
     """Writes the pages, if they are not only to be checked, and prints what is wrong."""
-    if sys.argv[1:] not in ([], ["--check"], ["--examples"]):
+    if sys.argv[1:] not in ([], ["--check"], ["--self-test"], ["--examples"]):
         return print(__doc__) or 2
     if sys.argv[1:] == ["--examples"]:
         return list_examples()
@@ -915,22 +1188,13 @@ def main():
         PAGES.mkdir(exist_ok=True)
         for path, text in pages.items():
             path.write_text(text)
-    faults = [
-        f"{path.relative_to(ROOT)}: not what the sources give; run tools/docs.py"
-        for path, text in pages.items()
-        if not path.exists() or path.read_text() != text
-    ]
-    faults += [f"{path.relative_to(ROOT)}: no library has this page" for path in PAGES.glob("*.md") if path not in pages]
     paths = [*ROOT.glob("*.md"), *ROOT.glob("docs/**/*.md"), *CRATES.glob("*/*.md")]
     documents = {path: path.read_text() for path in sorted(paths)}
-    guides = {path: text for path, text in documents.items() if path.parent not in (PAGES, ROOT / "docs" / "notes")}
-    faults += itertools.chain(
-        link_faults(documents),
-        count_faults(documents, counts),
-        program_faults(guides),
-        example_faults(),
-        (f"docs/ARCHITECTURE.md: {fault}" for fault in [*picture_faults(modules), *table_faults()]),
-    )
+    tests = checks(modules, pages, counts)
+    if sys.argv[1:] == ["--self-test"]:
+        faults = list(missed_faults(documents, tests))
+    else:
+        faults = [*itertools.chain.from_iterable(check(documents) for check in tests.values()), *example_faults()]
     for fault in faults:
         print(f"docs: {fault}")
     print(f"docs: {len(pages)} pages, {len(documents)} documents, {len(faults)} faults")

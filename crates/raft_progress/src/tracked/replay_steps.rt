@@ -45,9 +45,12 @@ impl<NID: NodeId, N: Node, V: ProgressPart<P> + PartialOrd + Clone, P: Copy + Or
 /// The replies are allocated first, so an allocation error leaves all as it was. A refused step
 /// changes nothing either, and the next one is made.
 ///
-/// At the end granted is recomputed from the values and the membership as they are then. It never
-/// falls if no step is a change. If that membership has a config, every quorum of it, and every
-/// quorum of what one change makes of it, has a voter whose part is at least granted.
+/// After any list of steps, granted is the greatest of its last default and of those current voter
+/// values that a quorum of its voters has reached, recomputed from all values. If the membership
+/// has a config, every quorum of it, and every quorum of any membership that one change makes of
+/// it, has a voter whose value is at least granted.
+///
+/// Values are compared by their parts. Granted never falls if no step is a change.
 pub fn replay<NID: NodeId, N: Node, V: ProgressPart<P> + PartialOrd + Clone, P: Copy + Ord>(
     alloc: Global,
     cluster: &mut Tracked<NID, N, V, P>,
