@@ -20,7 +20,8 @@ The check refuses
 - a number that COUNTED counts in the sources, if a document has another one;
 - rows that a document shows of a program's output, and what it says that a program prints, if the
   file `stdout` of the program does not have them;
-- a quotation that no doc comment of the sources has.
+- a quotation that no doc comment of the sources has;
+- a line of prose that has more than 100 columns and could be broken.
 
 Sources are laid out by `rt fmt`: an item begins at the indentation of the items beside it, and ends
 at a line of that indentation, or with a semicolon.
@@ -311,13 +312,14 @@ def read_impl(modules, place, item):
 def own_names():
     """Returns for each crate the names that docs/DIFFERENCES.md lists as this project's own.
 
-    A name after `of` only says what another name belongs to, and is not listed by that.
+    A name after `of` only says what another name belongs to, and is not listed by that. A call after
+    the name of its type, as in `Tracked::update`, is listed for that type alone.
     """
     own, text = collections.defaultdict(set), (ROOT / "docs" / "DIFFERENCES.md").read_text()
     for crate, section in re.findall(r"^## `(\w+)`\n(.*?)(?=^## |\Z)", text, re.M | re.S):
         listed = " ".join(re.findall(r"^Own items:.*?(?=\n\n|\Z)", section, re.M | re.S))
         listed = re.sub(r"\b[oO]f\s+(?:(?:a|an|the|the\s+trait)\s+)?`[^`]*`", "", listed)
-        own[crate] = {name.split("::")[-1] for name in re.findall(r"`([\w:]+)`", listed)}
+        own[crate] = {re.sub(r"^([a-z]\w*::)*", "", name) for name in re.findall(r"`([\w:]+)`", listed)}
     return own
 
 
@@ -347,7 +349,8 @@ class Reference:
 
     def star(self, target, call=None):
         """Returns the mark of an item, or of a call, that is this project's own."""
-        return "\\*" if self.own[target[0]] & ({call} if call else {*target[1:]}) else ""
+        names = {call, f"{target[-1]}::{call}"} if call else {*target[1:]}
+        return "\\*" if self.own[target[0]] & names else ""
 
     def link(self, target, crate):
         """Returns a link to an item from the page of a crate."""
@@ -1073,8 +1076,8 @@ def quotation_faults(documents):
 
 
 def without_code(text):
-    """Returns a text with spaces in place of its blocks of code."""
-    return re.sub(r"^```.*?^```", lambda block: " " * len(block[0]), text, flags=re.M | re.S)
+    """Returns a text with spaces in place of its blocks of code, so that what follows stays where it is."""
+    return re.sub(r"^```.*?^```", lambda block: re.sub(r"[^\n]", " ", block[0]), text, flags=re.M | re.S)
 
 
 @functools.cache
@@ -1093,6 +1096,16 @@ def link_faults(documents):
             target = (path.parent / file).resolve() if file else path
             if "://" not in link and (not target.exists() or place and place not in anchors.get(target, {place})):
                 yield f"{path.relative_to(ROOT)}: a link leads nowhere: {link}"
+
+
+def width_faults(documents):
+    """Yields the lines of prose that have more than 100 columns, and a space at which they could be broken."""
+    for path, text in documents.items():
+        if path.parent != PAGES:
+            for number, line in enumerate(without_code(text).splitlines(), 1):
+                prose = re.sub(r"^ *(?:- |\d+\. )?", "", line)
+                if len(line) > 100 and not line.startswith("|") and " " in prose.strip():
+                    yield f"{path.relative_to(ROOT)}:{number}: the line has {len(line)} columns"
 
 
 def count_faults(documents, counts):
@@ -1124,6 +1137,7 @@ def checks(modules, pages, counts):
     return {
         "pages": lambda documents: page_faults(documents, pages),
         "links": link_faults,
+        "widths": width_faults,
         "counts": lambda documents: count_faults(documents, counts),
         "programs": lambda documents: program_faults(guides_of(documents)),
         "numbers": number_faults,
@@ -1154,6 +1168,7 @@ def planted(documents):
     for path, text in guides_of(documents).items():
         yield from (("programs", path, (block.end(1), block.end(1)), "fn more() {}\n") for block in RUST.finditer(text))
         yield from (("programs", path, row.span(1), "more ") for row in SCRIPT_ROW.finditer(text))
+        yield "widths", path, (text.index("\n"),) * 2, " wide" * 25
     theorem = PAGES / "theorem.md"
     yield "counts", theorem, re.search(r"\d+()(?= definitions)", documents[theorem]).span(1), "0"
     for pattern in (r"^ *node -- .*()", r"^\|[^|]*\| `\w+()[`/]"):

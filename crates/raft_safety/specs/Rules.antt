@@ -16,11 +16,10 @@ module _ {T ID D : Type 0} (rank : T → ℕ) (quorum : List (Entry T D) → (ID
     (h : History T ID D) where
   -- a server grants its vote only in a term that is greater than the one that it has reached, and
   -- only to a candidate whose log is at least as up to date as its own. The log with which a
-  -- candidate asks for votes is its log as it is.
-  --
-  -- So a server votes once in a term, and not after it has taken entries from that term's leader. The
-  -- Raft paper lets a server vote that has heard from the leader of the term and has not voted. Etcd,
-  -- hashicorp's Raft and openraft do not
+  -- candidate asks for votes is its log as it is. So a server votes once in a term, and not after it
+  -- has taken entries from that term's leader. The Raft paper allows such a vote, if it is the first
+  -- one of the server in the term. Etcd's and hashicorp's Raft grant some of these votes, and
+  -- openraft grants none
   pub record MayGrantVote (s : ID) (es : List (Event T ID D)) (t : T) (c : ID) : Type 0 where
     pub term : term_after rank es < rank t
     pub up_to_date : IsUpToDate rank (h.candidate_log t c) (log_after es)

@@ -231,9 +231,9 @@ impl<
     /// that was accepted from this leader. What was accepted from another leader is replaced. It
     /// requires `can_accept`. If the log id is not past the log, a sound state stays sound.
     ///
-    /// A follower calls this after it has appended a leader's entries, or has found that it has
-    /// them. Up to that log id, and no further, its log is the leader's, so it may commit what is
-    /// committed up to there. A leader calls it for each entry that it appends to its own log.
+    /// A leader calls this for each entry that it appends to its own log. A follower may call it
+    /// after it has appended a leader's entries, or has found that it has them: up to that log id,
+    /// and no further, its log is the leader's.
     pub fn update_accepted(&mut self, accepted: Option<LogIdOf<C>>)
         requires committed { (vote_of self.old).committed ≡ true }
         requires no_lesser_leader { IsTrue (partial_ge L.order (vote_of self.old).leader_id
