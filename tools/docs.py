@@ -948,6 +948,7 @@ COUNTED = [
     ("N further mutants", lambda: mutants_in("mutants")),
     ("N recorded calls", recorded_calls),
     ("N planted faults|N faults to plant", lambda: number_in("crates/cluster/src/fault.rt", r"; (\d+)\] = \[$")),
+    ("N faults of openraft", lambda: lines_in("docs/FAULTS.md", r"^\| (?!fault |-)")),
     (
         "N kinds of membership change|`ChangeMembers` has N kinds",
         lambda: lines_in("crates/raft_members/src/change_members.rt", r"^    [A-Z]\w+\(", r"^pub enum ChangeMembers.*?^}"),
