@@ -21,6 +21,7 @@ The check refuses
 - rows that a document shows of a program's output, and what it says that a program prints, if the
   file `stdout` of the program does not have them;
 - a quotation that no doc comment of the sources has;
+- a word that a document says is defined in a file, if the file does not define it;
 - a line of prose that has more than 100 columns and could be broken.
 
 Sources are laid out by `rt fmt`: an item begins at the indentation of the items beside it, and ends
@@ -487,7 +488,7 @@ CRATE, CALL = "raft_progress", "replay"
 CLAUSES = ("granted", "quorums", "changed_quorums", "ready")
 IMPORT = re.compile(r"^(?:pub |ghost )*use ([\w.]+)\.\{(.*?)\}", re.M | re.S)
 RENAMED = re.compile(r"^(?:pub |ghost )*use ([\w.]+) as (\w+)", re.M)
-DEFINED = re.compile(r"( *)(?:abbrev pub|pub record|pub) (?!mod |use )(\S+)")
+DEFINED = re.compile(r"( *)(?:abbrev pub|pub record|pub data|pub) (?!mod |use )(\S+)")
 CLAIMED = re.compile(r"(\d+) definitions\W[^.;|]{0,30}?(\d+)\s+lines\W+(?:in\s+)?(\d+)\s+files")
 THEOREM = """# The main theorem, word by word: {count} definitions, {lines} lines in {files} files
 
@@ -1073,6 +1074,24 @@ def quotation_faults(documents):
         yield "README.md: does not quote what is proved"
 
 
+# ---- The files of definitions.
+
+# Words with the file that defines them, as in: `reached`, `AtMost` (`CountedValue.antt`).
+PLACED = re.compile(r"((?:`[\w.]+`,?\s+(?:and\s+)?)+)\(`([\w/]+\.antt)`\)")
+
+
+def place_faults(documents, definitions):
+    """Yields the words that a document says are defined in a file that does not define them."""
+    defined = collections.defaultdict(set)
+    for path, name in definitions.all:
+        defined[path.name].add(name)
+    for path, text in documents.items():
+        for words, file in PLACED.findall(text):
+            for word in re.findall(r"`([\w.]+)`", words):
+                if word not in defined[file.rpartition("/")[2]]:
+                    yield f"{path.relative_to(ROOT)}: {file} does not define `{word}`"
+
+
 # ---- All documents.
 
 
@@ -1133,7 +1152,7 @@ def map_faults(documents, modules):
         yield f"{MAP.relative_to(ROOT)}: {fault}"
 
 
-def checks(modules, pages, counts):
+def checks(modules, definitions, pages, counts):
     """Returns the checks of documents by their names, each as a function of the documents."""
     return {
         "pages": lambda documents: page_faults(documents, pages),
@@ -1144,6 +1163,7 @@ def checks(modules, pages, counts):
         "numbers": number_faults,
         "outputs": output_faults,
         "quotations": quotation_faults,
+        "places": lambda documents: place_faults(guides_of(documents), definitions),
         "map": lambda documents: map_faults(documents, modules),
     }
 
@@ -1169,6 +1189,8 @@ def planted(documents):
     for path, text in guides_of(documents).items():
         yield from (("programs", path, (block.end(1), block.end(1)), "fn more() {}\n") for block in RUST.finditer(text))
         yield from (("programs", path, row.span(1), "more ") for row in SCRIPT_ROW.finditer(text))
+        if place := PLACED.search(text):
+            yield "places", path, (place.start(2),) * 2, "No"
         yield "widths", path, (text.index("\n"),) * 2, " wide" * 25
     theorem = PAGES / "theorem.md"
     yield "counts", theorem, re.search(r"\d+()(?= definitions)", documents[theorem]).span(1), "0"
@@ -1206,7 +1228,7 @@ def main():
             path.write_text(text)
     paths = [*ROOT.glob("*.md"), *ROOT.glob("docs/**/*.md"), *CRATES.glob("*/*.md")]
     documents = {path: path.read_text() for path in sorted(paths)}
-    tests = checks(modules, pages, counts)
+    tests = checks(modules, definitions, pages, counts)
     if sys.argv[1:] == ["--self-test"]:
         faults = list(missed_faults(documents, tests))
     else:
