@@ -932,6 +932,12 @@ def mutants_in(folder):
     return len([path for path in CRATES.glob(f"*/{folder}/*.edit") if path.stem != "control"])
 
 
+def mutants_of_rules():
+    """Returns how many mutants of `raft_safety` change a file of its definitions."""
+    paths = (CRATES / "raft_safety" / "mutants").glob("*.edit")
+    return len([path for path in paths if re.search(r"^file: specs/", path.read_text(), re.M)])
+
+
 def recorded_calls():
     """Returns how many calls of the original are recorded: the rows in files `compared.rt`.
 
@@ -947,6 +953,7 @@ COUNTED = [
     ("refuses N mutants", lambda: mutants_in("must-fail")),
     ("the N faults that were named", lambda: mutants_in("must-fail")),
     ("N further mutants", lambda: mutants_in("mutants")),
+    ("the N mutants of `raft_safety` that change a rule", mutants_of_rules),
     ("N recorded calls", recorded_calls),
     ("N planted faults|N faults to plant", lambda: number_in("crates/cluster/src/fault.rt", r"; (\d+)\] = \[$")),
     ("N faults of openraft", lambda: lines_in("docs/FAULTS.md", r"^\| (?!fault |-)")),
@@ -957,6 +964,10 @@ COUNTED = [
     (
         "must meet N laws of its leader type|with its N laws|the N laws of a kind",
         lambda: lines_in("crates/raft_base/src/kind.rt", r"^    ghost \w+: ", r"    ghost partial: .*?^}"),
+    ),
+    (
+        "N further cases of `InflightError`",
+        lambda: lines_in("crates/raft_progress/src/inflight.rt", r"^    [A-Z]\w+(?: \{|,)$", r"^pub enum InflightError.*?^}") - 1,
     ),
     ("N simulated clusters over standard", lambda: number_in("tools/programs.sh", r"healthy seeds=(\d+) events=1500")),
     ("N over openraft's", lambda: number_in("tools/programs.sh", r"chart=0 seeds=(\d+)")),
