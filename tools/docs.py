@@ -1118,14 +1118,21 @@ def links_and_anchors(text):
     return re.findall(r"\]\(([^)\s]+)\)", plain), {anchor(head) for head in re.findall(r"^#+(.*)", plain, re.M)}
 
 
+@functools.cache
+def target_of(folder, file):
+    """Returns the path of a file that a document of a folder names, if it is there."""
+    target = (folder / file).resolve()
+    return target if target.exists() else None
+
+
 def link_faults(documents):
     """Yields the links between documents that lead nowhere."""
     anchors = {path: links_and_anchors(text)[1] for path, text in documents.items()}
     for path, text in documents.items():
         for link in links_and_anchors(text)[0]:
             file, _, place = link.partition("#")
-            target = (path.parent / file).resolve() if file else path
-            if "://" not in link and (not target.exists() or place and place not in anchors.get(target, {place})):
+            target = target_of(path.parent, file) if file else path
+            if "://" not in link and (not target or place and place not in anchors.get(target, {place})):
                 yield f"{path.relative_to(ROOT)}: a link leads nowhere: {link}"
 
 
@@ -1187,9 +1194,8 @@ def planted(documents):
     """Yields faults to plant: the check that has to find it, the document, where, and the text to put there."""
     for path, (begin, end), _, _ in numbers_in(documents):
         yield "numbers", path, (begin, end), str(number_of(documents[path][begin:end]) + 1)
-    for path, (begin, end), _, _ in shown_outputs(documents):
-        yield "outputs", path, (begin, begin + 1), "x"
-        yield "outputs", path, (end - 1, end), "x" + documents[path][end - 1]
+    for path, (_, end), _, _ in shown_outputs(documents):
+        yield "outputs", path, (end, end), "x\n" if documents[path][end - 1] == "\n" else "x"
     for path, (_, end), _ in quotations(documents):
         yield "quotations", path, (end, end), "> again\n"
     for path, text in documents.items():
@@ -1211,13 +1217,18 @@ def planted(documents):
 
 def missed_faults(documents, tests):
     """Plants faults into copies of single documents, and yields those that are not found."""
-    count = collections.Counter()
+    count, before = collections.Counter(), {}
     for name, path, (begin, end), new in planted(documents):
         text, check = documents[path], tests[name]
         count[name] += 1
+        # A link needs the headings of other documents. Every other check takes a document by itself.
         others = documents if name == "links" else {}
-        if not set(check(others | {path: text[:begin] + new + text[end:]})) - set(check(others | {path: text})):
-            yield f"{path.relative_to(ROOT)}:{text.count(chr(10), 0, begin) + 1}: a planted fault of {name} is not found"
+        key = name, path if not others else None
+        if key not in before:
+            before[key] = set(check(others | {path: text}))
+        if not set(check(others | {path: text[:begin] + new + text[end:]})) - before[key]:
+            line = text.count("\n", 0, begin) + 1
+            yield f"{path.relative_to(ROOT)}:{line}: a planted fault of {name} is not found"
     yield from (f"no fault of {name} was planted" for name in tests if not count[name])
     print(f"docs: {sum(count.values())} planted faults: {', '.join(f'{number} of {name}' for name, number in count.items())}")
 
