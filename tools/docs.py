@@ -979,6 +979,10 @@ COUNTED = [
         lambda: number_in("crates/cluster/src/cluster.rt", r"CHECKED_EVERY: u64 = ([\d_]+)"),
     ),
     ("rows of seed N", lambda: number_in("crates/cluster/args", r"seed=(\d+)")),
+    (
+        "The layer has N crates, which the first picture shows",
+        lambda: lines_in("docs/ARCHITECTURE.md", r"^  subgraph ", r"^flowchart BT\n.*?^```"),
+    ),
     ("`first_example`, of N lines", lambda: lines_in("crates/first_example/src/main.rt", r"\n")),
 ]
 
