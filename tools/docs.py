@@ -1010,8 +1010,8 @@ def number_faults(documents):
             yield f"tools/docs.py: COUNTED has `{words}`, and no document says that"
 
 
-# The programs whose output README shows. Each has a file `stdout`, which the gate compares with a run.
-SHOWN_IN_README = {"first_example", "cluster"}
+# The programs whose output a document has to show. Each has a file `stdout`, which the gate compares with a run.
+SHOWN = {"first_example": "README.md", "cluster": "crates/cluster/README.md"}
 TEXT = re.compile(r"^```text\n(.*?)^```", re.M | re.S)
 
 
@@ -1048,14 +1048,15 @@ def shown_outputs(documents):
 
 
 def output_faults(documents):
-    """Yields what documents show of outputs that is not in them, and programs whose output README does not show."""
+    """Yields what documents show of outputs that is not in them, and programs whose output no document shows."""
     seen = set()
     for path, (begin, end), crate, is_right in shown_outputs(documents):
-        seen |= {crate} if path == ROOT / "README.md" else set()
+        seen.add((crate, str(path.relative_to(ROOT))))
         if not is_right:
             line = documents[path].count("\n", 0, begin) + 1
             yield f"{path.relative_to(ROOT)}:{line}: not what crates/{crate}/stdout has"
-    yield from (f"README.md: shows nothing of crates/{crate}/stdout" for crate in sorted(SHOWN_IN_README - seen))
+    for crate, page in sorted(SHOWN.items() - seen):
+        yield f"{page}: shows nothing of crates/{crate}/stdout"
 
 
 def words_alone(text):
